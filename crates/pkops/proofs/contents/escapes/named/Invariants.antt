@@ -1,0 +1,13 @@
+use Rattle.std.proofs.Common.{◌≡◌, drop}
+use Rattle.std.specs.Prelude.{string_bytes, encode_utf8_all}
+use Rattle.std.specs.Option.{option_map}
+use Rattle.pkops.specs.Escapes.{code_points, text_named, IsSmall}
+use Rattle.pkops.proofs.Texts.{joined}
+use Rattle.pkops.proofs.contents.escapes.named.Given as goal
+
+-- the text so far and what is left give what all names
+abbrev pub invariant-loop-byte : goal.invariant-loop-byte
+invariant-loop-byte l = record {
+  kept : joined (string_bytes l.text) (code_points l.state (drop l.byte-index l.line)) ≡ option_map encode_utf8_all (text_named l.line);
+  small : IsSmall l.state;
+}

@@ -1,0 +1,5 @@
+use Rattle.pkops.proofs.Sole.{one_answer}
+use Rattle.pkops.proofs.laws.one_answer.Goals as goal
+
+pub returns : goal.returns
+returns c = one_answer

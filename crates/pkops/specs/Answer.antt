@@ -1,0 +1,39 @@
+-- What a scan answers.
+use Rattle.std.specs.Prelude.{◌≡◌, ℕ, ◌≤◌, List, length, take}
+use Rattle.pkops.specs.declared.found.Scan.{Scan}
+use Rattle.pkops.specs.declared.found.Scan.TheVariants as scan
+use Rattle.pkops.specs.declared.fault.Fault.{Fault}
+use Rattle.pkops.specs.declared.fault.Stop.{Stop}
+use Rattle.pkops.specs.declared.fault.Stop.TheVariants as stop
+use Rattle.pkops.specs.Inst.{instruction_of}
+use Rattle.pkops.specs.Spelling.{Instruction}
+use Rattle.pkops.specs.Scanning.{IsWithin, Spells, Begun, HasFault}
+
+-- an answer, without where its bytes lie in memory
+pub data Answer : Type 0 where
+  Whole : Instruction → ℕ → Answer
+  More : Answer
+  Bad : Fault → Answer
+
+-- the program's answer as that of the definitions
+abbrev pub shown_scan : Scan → Answer
+shown_scan (scan.Whole inst n) = Whole (instruction_of inst) n
+shown_scan scan.More = More
+shown_scan (scan.Bad fault) = Bad fault
+
+-- a front of that length spells the instruction, within the limit
+pub record IsWhole (limit : ℕ) (bytes : List ℕ) (i : Instruction) (n : ℕ) : Type 0 where
+  pub fits : n ≤ length bytes
+  pub spells : Spells i (take n bytes)
+  pub within : IsWithin limit i.arg
+
+-- the answer is right, where a payload may have as many bytes as the limit says
+abbrev pub Answers : ℕ → List ℕ → Answer → Type 0
+Answers limit bytes (Whole i n) = IsWhole limit bytes i n
+Answers limit bytes More = Begun limit bytes
+Answers limit bytes (Bad fault) = HasFault limit fault bytes
+
+-- what a scan answers where no argument was read
+abbrev pub IsStopped : Stop → Answer → Type 0
+IsStopped stop.Short result = result ≡ More
+IsStopped (stop.Bad fault) result = result ≡ Bad fault

@@ -1,0 +1,6 @@
+-- The program's instruction as that of the definitions.
+use Rattle.pkops.specs.declared.inst.Inst.{Inst}
+use Rattle.pkops.specs.Spelling.{Instruction, instruction, shown_arg}
+
+abbrev pub instruction_of : Inst → Instruction
+instruction_of inst = instruction inst.op (shown_arg inst.arg)

@@ -1,0 +1,13 @@
+pub mod Table
+pub mod Spelling
+pub mod Inst
+pub mod Contents
+pub mod Numerals
+pub mod Escapes
+pub mod Text
+pub mod Operands
+pub mod Admitted
+pub mod Limits
+pub mod Scanning
+pub mod Answer
+pub mod Reading

@@ -1,0 +1,48 @@
+-- What the arguments of some instructions name.
+use Rattle.std.specs.Prelude.{ℕ, Bool, true, false, ◌&&◌, ◌||◌, ◌==◌, if◌then◌else◌, List, [], ◌∷◌, Option, Some, None}
+use Rattle.std.specs.Str.Parse.{digits_value}
+use Rattle.pkops.specs.declared.op.Op.{Op}
+use Rattle.pkops.specs.declared.op.Op.TheVariants as op
+use Rattle.pkops.specs.Spelling.{Argument, Number, Line, Pair, Instruction}
+
+-- the opcodes whose argument is the number of a memo entry
+abbrev pub names_memo_entry : Op → Bool
+names_memo_entry op.Get = true
+names_memo_entry op.BinGet = true
+names_memo_entry op.LongBinGet = true
+names_memo_entry op.Put = true
+names_memo_entry op.BinPut = true
+names_memo_entry op.LongBinPut = true
+names_memo_entry _ = false
+
+-- the number that an argument says, in binary or in decimal digits
+abbrev pub number_said : Argument → ℕ
+number_said (Number width number) = number
+number_said (Line digits) = digits_value 10 digits
+number_said _ = 0
+
+-- the number of the memo entry that an instruction names, 0 where it names none
+abbrev pub memo_number : Instruction → ℕ
+memo_number i = if names_memo_entry i.op then number_said i.arg else 0
+
+-- the lines that INT spells False and True as: 00 and 01
+abbrev pub is_truth_line : List ℕ → Bool
+is_truth_line (first ∷ last ∷ []) = (first == 48) && (last == 48 || last == 49)
+is_truth_line _ = false
+
+abbrev pub is_truth_by : Op → Argument → Bool
+is_truth_by op.Int (Line line) = is_truth_line line
+is_truth_by _ _ = false
+
+-- the instruction makes a bool of a line of INT
+abbrev pub is_truth : Instruction → Bool
+is_truth i = is_truth_by i.op i.arg
+
+-- the module and the name of an argument of two lines
+abbrev pub lines_named : Argument → Option (List ℕ × List ℕ)
+lines_named (Pair first second) = Some (first, second)
+lines_named _ = None
+
+-- the pair that GLOBAL and INST name: a module and a name in it
+abbrev pub pair_named : Instruction → Option (List ℕ × List ℕ)
+pair_named i = lines_named i.arg

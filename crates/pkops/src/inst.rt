@@ -1,0 +1,206 @@
+//! One instruction.
+
+ghost use Rattle.std.specs.Prelude.{◌≡◌, MatchBool, SomeIff, ◌+◌, ◌^◌, ◌<◌, ◌≤◌, length};
+ghost use Rattle.pkops.specs.Spelling.{IsLine, Suits, instruction, laid, layout_at, shown_arg};
+ghost use Rattle.pkops.specs.Scanning.{count_len};
+ghost use Rattle.pkops.specs.Contents.{IsGood};
+ghost use Rattle.pkops.specs.Operands.{names_memo_entry};
+
+use crate::arg::Arg;
+use crate::contents::{keeps, numeral};
+use crate::layout::{Layout, is_count};
+use crate::op::Op;
+use crate::table::kind;
+
+/// An instruction: an opcode with an argument of its kind, whose contents keep the kind's rules.
+#[derive(Clone, Copy, Debug)]
+pub struct Inst<'a> {
+    op: Op,
+    arg: Arg<'a>,
+    ghost good: { ∥ IsGood (instruction op (shown_arg arg)) ∥₁ },
+}
+
+impl<'a> Inst<'a> {
+    ghost use Rattle.std.specs.Prelude.{length};
+    ghost use Rattle.std.specs.Option.{option_map};
+    ghost use Rattle.pkops.specs.Admitted.{is_admitted};
+    ghost use Rattle.pkops.specs.Inst.{instruction_of};
+    ghost use Rattle.pkops.specs.Operands.{is_truth, memo_number, pair_named};
+    ghost use Rattle.pkops.specs.Spelling.{spelling};
+
+    /// The instruction of an opcode and an argument, where the argument is of the opcode's kind,
+    /// its lines are within their limits, its count fits the count field and its contents keep
+    /// the kind's rules.
+    pub fn new(op: Op, arg: Arg<'a>) -> Option<Inst<'a>>
+        ensures { SomeIff (option_map instruction_of result)
+            (IsGood (instruction op (shown_arg arg.entry))) (instruction op (shown_arg arg.entry)) }
+    {
+        if suits(Layout::of(kind(op)), arg) && keeps(op, arg) {
+            Some(Inst { op, arg })
+        } else {
+            None
+        }
+    }
+
+    /// The opcode.
+    pub fn op(&self) -> Op
+        ensures { result ≡ (instruction_of self.now).op }
+    {
+        self.op
+    }
+
+    /// The argument.
+    pub fn arg(&self) -> Arg<'a>
+        ensures arg { shown_arg result ≡ (instruction_of self.now).arg }
+        ensures good { IsGood (instruction_of self.now) }
+    {
+        self.arg
+    }
+
+    /// How many bytes spell the instruction.
+    pub fn len(&self) -> u64
+        ensures { result ≡ length (spelling (instruction_of self.now)) }
+    {
+        1 + argument_len(self.op, self.arg)
+    }
+
+    /// The number of the memo entry that GET, BINGET, LONG_BINGET, PUT, BINPUT and LONG_BINPUT
+    /// name; 0 for all others.
+    pub fn memo_number(&self) -> u32
+        ensures { result ≡ memo_number (instruction_of self.now) }
+    {
+        if !names_memo_entry(self.op) {
+            return 0;
+        }
+        match self.arg {
+            Arg::U1(number) => u32::from(number),
+            Arg::U4(number) => number,
+            Arg::Line(digits) => match numeral::memo_number(digits) {
+                Some(number) => number,
+                None => unreachable!(),
+            },
+            _ => unreachable!(),
+        }
+    }
+
+    /// Whether the instruction is an INT that makes a bool: `00` and `01`.
+    pub fn names_bool(&self) -> bool
+        ensures { result ≡ is_truth (instruction_of self.now) }
+    {
+        match (self.op, self.arg) {
+            (Op::Int, Arg::Line(line)) => matches!(line, [b'0', b'0' | b'1']),
+            _ => false,
+        }
+    }
+
+    /// The module and the name that GLOBAL and INST name; `None` for all others.
+    pub fn pair(&self) -> Option<(&'a str, &'a str)>
+        ensures { option_map (λ pair. (pair.0.now, pair.1.now)) result ≡ pair_named (instruction_of self.now) }
+    {
+        let Arg::Pair(module, name) = self.arg else {
+            return None;
+        };
+        let Ok(module) = str::from_utf8(module) else {
+            unreachable!()
+        };
+        let Ok(name) = str::from_utf8(name) else {
+            unreachable!()
+        };
+        Some((module, name))
+    }
+
+    /// Whether a reader admits the instruction: not EXT1, EXT2, EXT4 or a PROTO above 5.
+    pub fn admitted(&self) -> bool
+        ensures { result ≡ is_admitted (instruction_of self.now) }
+    {
+        match (self.op, self.arg) {
+            (Op::Ext1 | Op::Ext2 | Op::Ext4, _) => false,
+            (Op::Proto, Arg::U1(protocol)) => protocol <= 5,
+            _ => true,
+        }
+    }
+}
+
+/// Whether the argument of an opcode is the number of a memo entry.
+fn names_memo_entry(op: Op) -> bool
+    ensures { result ≡ names_memo_entry op }
+{
+    matches!(
+        op,
+        Op::Get | Op::BinGet | Op::LongBinGet | Op::Put | Op::BinPut | Op::LongBinPut
+    )
+}
+
+/// The bytes of an argument.
+fn argument_len(op: Op, arg: Arg<'_>) -> u64
+    requires { Suits (layout_at op) (shown_arg arg) }
+    ensures is { result ≡ length (laid (layout_at op) (shown_arg arg.entry)) }
+    ensures small { result < 2 ^ 63 + 8 }
+{
+    match arg {
+        Arg::None => 0,
+        Arg::U1(_) => 1,
+        Arg::U2(_) => 2,
+        Arg::I4(_) | Arg::U4(_) => 4,
+        Arg::U8(_) | Arg::F8(_) => 8,
+        Arg::Line(text) => line_len(text),
+        Arg::Pair(first, second) => line_len(first) + line_len(second),
+        Arg::Counted(payload) => count_len(op) + payload_len(payload),
+    }
+}
+
+/// The bytes of a line, its end among them.
+fn line_len(text: &[u8]) -> u64
+    ensures is { result ≡ length text.now + 1 }
+    ensures small { result ≤ 2 ^ 63 }
+{
+    text.len() as u64 + 1
+}
+
+/// The bytes of a payload, without its count.
+fn payload_len(payload: &[u8]) -> u64
+    ensures is { result ≡ length payload.now }
+    ensures small { result < 2 ^ 63 }
+{
+    payload.len() as u64
+}
+
+/// The bytes of the count of an opcode, 0 where it has none.
+fn count_len(op: Op) -> u64
+    ensures is { result ≡ count_len (layout_at op) }
+    ensures small { result ≤ 8 }
+{
+    match Layout::of(kind(op)) {
+        Layout::Counted(width, _) => width.size() as u64,
+        _ => 0,
+    }
+}
+
+/// Whether the argument is one of the layout.
+fn suits(layout: Layout, arg: Arg<'_>) -> bool
+    ensures { MatchBool result (Suits layout (shown_arg arg.entry)) (¬ (Suits layout (shown_arg arg.entry))) }
+{
+    match (layout, arg) {
+        (Layout::Nothing, Arg::None)
+        | (Layout::U1, Arg::U1(_))
+        | (Layout::U2, Arg::U2(_))
+        | (Layout::I4, Arg::I4(_))
+        | (Layout::U4, Arg::U4(_))
+        | (Layout::U8, Arg::U8(_)) => true,
+        (Layout::F8, Arg::F8(bytes)) => bytes.len() == 8,
+        (Layout::Line(most), Arg::Line(text)) => is_line(most, text),
+        (Layout::Pair(most), Arg::Pair(first, second)) => {
+            is_line(most, first) && is_line(most, second)
+        }
+        (Layout::Counted(width, signed), Arg::Counted(payload)) => {
+            is_count(width, signed, payload.len() as u64)
+        }
+        _ => false,
+    }
+}
+
+fn is_line(most: usize, text: &[u8]) -> bool
+    ensures { MatchBool result (IsLine most text.now) (¬ (IsLine most text.now)) }
+{
+    text.len() <= most && text.iter().all(|byte| *byte != b'\n')
+}

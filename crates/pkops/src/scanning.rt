@@ -1,0 +1,50 @@
+//! The instruction at the front of bytes.
+
+ghost use Rattle.std.specs.Prelude.{◌≡◌};
+ghost use Rattle.pkops.specs.Answer.{Answer, Answers, IsStopped, shown_scan};
+
+use crate::fault::{Fault, Stop};
+use crate::found::Scan;
+use crate::inst::Inst;
+use crate::layout::Layout;
+use crate::limits::Limits;
+use crate::reading::argument;
+use crate::table::{kind, op_of_byte};
+
+/// Reads the instruction at the front.
+pub fn scan<'a>(bytes: &'a [u8], limits: &Limits) -> Scan<'a>
+    // The answer is right.
+    ensures answer { Answers limits.now.counted bytes.now (shown_scan result) }
+    // No other answer is.
+    ensures only { (other : Answer) → Answers limits.now.counted bytes.now other → other ≡ shown_scan result }
+{
+    front(bytes, limits)
+}
+
+fn front<'a>(bytes: &'a [u8], limits: &Limits) -> Scan<'a>
+    ensures { Answers limits.now.counted bytes.now (shown_scan result) }
+{
+    let [code, from @ ..] = bytes else {
+        return Scan::More;
+    };
+    let Some(op) = op_of_byte(*code) else {
+        return Scan::Bad(Fault::UnknownOpcode(*code));
+    };
+    match argument(limits.counted(), Layout::of(kind(op)), from) {
+        Ok((arg, rest)) => match Inst::new(op, arg) {
+            Some(inst) => Scan::Whole(inst, bytes.len() - rest.len()),
+            None => Scan::Bad(Fault::BadArgument),
+        },
+        Err(stop) => stopped(stop),
+    }
+}
+
+// What a scan answers where no argument was read.
+fn stopped<'a>(stop: Stop) -> Scan<'a>
+    ensures { IsStopped stop (shown_scan result) }
+{
+    match stop {
+        Stop::Short => Scan::More,
+        Stop::Bad(fault) => Scan::Bad(fault),
+    }
+}
