@@ -1,0 +1,74 @@
+-- One call of `next`.
+use Rattle.std.proofs.Common.{◌≡◌, ℕ, ◌+◌, ◌≤◌, List, length, Result, refl, sym, ap, ◌∙◌, subst, arith}
+use Rattle.std.specs.Prelude.{max, None}
+use Rattle.std.specs.Result.{MatchResult}
+use Rattle.std.proofs.lemmas.List.{take_all}
+use Rattle.pkops.specs.Answer.{Answer, Answers, IsWhole, Whole, shown_scan}
+use Rattle.pkops.specs.Inst.{instruction_of}
+use Rattle.pkops.specs.Spelling.{Instruction, spelling}
+use Rattle.pkops.specs.declared.found.Scan.{Scan}
+use Rattle.pkops.specs.declared.found.Scan.TheVariants as scan
+use Rattle.pkops.specs.declared.inst.Inst.{Inst}
+use Rattle.pkops.specs.declared.op.Op.{Op}
+use Rattle.pkread.proofs.Objections.{no_objection}
+use Rattle.pkread.specs.Admission.{IsAllowed, objection}
+use Rattle.pkread.specs.Core.{phase_after}
+use Rattle.pkread.specs.Gathering.{Gathers, HoldsTaken, IsGathered}
+use Rattle.pkread.specs.Reading.{State, Gives, GivesNext, Raises, RefusesAt, StepsFrom, ShowsNext, ShowsFrom}
+use Rattle.pkread.specs.Rows.{all_bytes}
+use Rattle.pkread.specs.declared.reader.Next.{Next}
+use Rattle.pkread.specs.declared.reader.Phase.{Phase}
+use Rattle.pkread.specs.declared.reader.Phase.TheVariants.{Open}
+use Rattle.pkread.specs.declared.refusal.Reason.{Reason}
+use Rattle.pkread.specs.declared.refusal.Refusal.{Refusal}
+
+-- an instruction that all the bytes are is the one that a scan of them finds
+pub found : (limit l : ℕ) (b c : List ℕ) (r : Answer) (i : Instruction) → l ≡ limit → c ≡ b → ((other : Answer) → Answers l c other → other ≡ r) → IsWhole limit b i (length b) → Whole i (length b) ≡ r
+found limit l b c r i e f only w = only (Whole i (length b)) (rw (e, f) w)
+
+pub found_inst : (i : Instruction) (n m : ℕ) (r : Scan) (inst : Inst) → Whole i n ≡ shown_scan r → r ≡ scan.Whole inst m → instruction_of inst ≡ i
+found_inst i n m r inst e f =
+    let g : Whole i n ≡ Whole (instruction_of inst) m = e ∙ ap shown_scan f in
+    cc
+
+pub finds_one : (i : Instruction) (n : ℕ) (r : Scan) → Whole i n ≡ shown_scan r → ((inst : Inst) (m : ℕ) → r ≡ scan.Whole inst m → ⊥) → ⊥
+finds_one i n (scan.Whole inst m) e none_is = none_is inst m refl
+finds_one i n scan.More e none_is = cc
+finds_one i n (scan.Bad fault) e none_is = cc
+
+spelled : (limit : ℕ) (b : List ℕ) (i : Instruction) → IsWhole limit b i (length b) → b ≡ spelling i
+spelled limit b i w = sym (take_all (length b) b (omega arith)) ∙ w.spells.spelled
+
+allowed : (limit : ℕ) (b : List ℕ) (i : Instruction) (n : ℕ) → IsWhole limit b i n → objection i ≡ None → IsAllowed limit i
+allowed limit b i n w e = record { good = w.spells.good; within = w.within; admitted = no_objection i w.spells.good e }
+
+pub is_allowed : (limit : ℕ) (b : List ℕ) (op : Op) (j : Instruction) (t : IsGathered limit b op) → j ≡ t.0 → IsAllowed limit j
+is_allowed limit b op j t e = rw e (allowed limit b t.0 (length b) t.1 t.2)
+
+pub gives_whole : (old new : State) (at : ℕ) (b : List ℕ) (op : Op) (j : Instruction) (w : IsGathered old.limit b op) → j ≡ w.0 → at ≡ old.taken → Gathers old.limit old.source new.source b old.taken new.taken → new.phase ≡ phase_after op → new.taken ≤ all_bytes → new.most ≡ max old.most (length b) → Gives old at j new
+gives_whole old new at b op j w same t g p l m =
+    rw same (
+    let s = spelled old.limit b w.0 w.1 in
+    record {
+      place = t;
+      allowed = allowed old.limit b w.0 (length b) w.1 w.2;
+      bytes = rw s at g.source;
+      taken = g.taken ∙ ap (λ (l : List ℕ). old.taken + length l) s;
+      within = l;
+      most = m ∙ ap (λ (l : List ℕ). max old.most (length l)) s;
+      phase = p ∙ ap phase_after (sym w.3);
+    })
+
+-- the most bytes ever held, where the buffer holds those taken
+pub raises : (old new : ℕ) (b held : List ℕ) (r : Reason) → HoldsTaken r b held → new ≡ max old (length held) → Raises old b r new
+raises old new b held r h e = record {
+  exact = λ ne. e ∙ ap (λ (l : List ℕ). max old (length l)) (h.exact ne);
+  least = omega (arith, e);
+  most = omega (arith, e, h.within);
+}
+
+pub steps_open : (old new : State) (r : Result Next Refusal) → old.phase ≡ Open → MatchResult r (GivesNext old new) (λ x. RefusesAt old x new) → StepsFrom old.phase old r new
+steps_open old new r e h = subst (λ (p : Phase). StepsFrom p old r new) (sym e) h
+
+pub shows_open : (old : State) (r : Result Next Refusal) → old.phase ≡ Open → MatchResult r (ShowsNext old) (λ x. x.at ≡ old.taken) → ShowsFrom old.phase old r
+shows_open old r e h = subst (λ (p : Phase). ShowsFrom p old r) (sym e) h

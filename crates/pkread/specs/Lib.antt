@@ -1,0 +1,11 @@
+pub mod Pull
+pub mod Framing
+pub mod Pieces
+pub mod Admission
+pub mod Rows
+pub mod Held
+pub mod Gathering
+pub mod Core
+pub mod Reading
+pub mod Sequence
+pub mod Genops

@@ -1,0 +1,105 @@
+-- What contracts see of a reader, and what a call of `next` does.
+use Rattle.std.specs.Prelude.{◌≡◌, ◌≢◌, ℕ, ◌+◌, ◌≤◌, Bool, true, false, List, length, max, Option, Result, Ok, Err, MatchResult}
+use base.Fml.{GName}
+use Rattle.pkops.specs.Inst.{instruction_of}
+use Rattle.pkops.specs.Spelling.{Instruction, spelling}
+use Rattle.pkread.specs.Admission.{IsAllowed}
+use Rattle.pkread.specs.Core.{CoreView, phase_after}
+use Rattle.pkread.specs.Rows.{Sight, Takes, Refuses, sight, all_bytes}
+use Rattle.pkread.specs.declared.reader.Next.{Next}
+use Rattle.pkread.specs.declared.reader.Next.TheVariants as next
+use Rattle.pkread.specs.declared.reader.Phase.{Phase}
+use Rattle.pkread.specs.declared.reader.Phase.TheVariants.{Open, Ended, Refused}
+use Rattle.pkread.specs.declared.reader.Reader.{Reader}
+use Rattle.pkread.specs.declared.refusal.Reason.{Reason}
+use Rattle.pkread.specs.declared.refusal.Reason.TheVariants.{OutOfMemory}
+use Rattle.pkread.specs.declared.refusal.Refusal.{Refusal}
+
+-- the source behind the `&mut` that the reader holds, and that reference's ghost name
+abbrev pub source_of : {R B : Type 0} → Reader R B → R
+source_of r = r.source.now
+
+abbrev pub source_name : {R B : Type 0} → Reader R B → GName
+source_name r = r.source.ghost_name
+
+-- the sight of the source, the number of bytes taken, the limit on payloads, the most bytes ever held, and how the reader goes on
+pub record State : Type 0 where
+  pub source : Sight
+  pub taken : ℕ
+  pub limit : ℕ
+  pub most : ℕ
+  pub phase : Phase
+
+-- the state of a reader, by the ghost members of its source's type
+abbrev pub state : {R : Type 0} → (R → Option (List ℕ)) → (R → ℕ) → Reader R CoreView → State
+state left failures r = record { source = sight left failures (source_of r); taken = r.core.taken; limit = r.core.limit; most = r.core.held.most; phase = r.core.phase }
+
+-- the state of a new reader
+abbrev pub begun : Sight → ℕ → State
+begun source limit = record { source = source; taken = 0; limit = limit; most = 0; phase = Open }
+
+abbrev pub is_ended : Phase → Bool
+is_ended Open = false
+is_ended Ended = true
+is_ended (Refused r) = false
+
+-- the last instruction given was STOP, and nothing was refused since
+abbrev pub has_ended : State → Bool
+has_ended s = is_ended s.phase
+
+-- the reader holds the same `&mut`
+abbrev pub KeepsSource : {R : Type 0} → Reader R CoreView → Reader R CoreView → Type 0
+KeepsSource old new = source_name new ≡ source_name old
+
+-- nothing is asked of the source once the reader has ended or refused
+abbrev pub LeavesSource : {R : Type 0} → Reader R CoreView → Reader R CoreView → Type 0
+LeavesSource old new = old.core.phase ≢ Open → source_of new ≡ source_of old
+
+-- the instruction given is the one that the bytes taken spell, at the place where they begin
+pub record Gives (old : State) (at : ℕ) (i : Instruction) (new : State) : Type 0 where
+  pub place : at ≡ old.taken
+  pub allowed : IsAllowed old.limit i
+  pub bytes : Takes old.source new.source (spelling i)
+  pub taken : new.taken ≡ old.taken + length (spelling i)
+  pub within : new.taken ≤ all_bytes
+  pub most : new.most ≡ max old.most (length (spelling i))
+  pub phase : new.phase ≡ phase_after i.op
+
+-- the most bytes ever held, once these were taken for an instruction that is refused
+pub record Raises (old : ℕ) (bytes : List ℕ) (reason : Reason) (new : ℕ) : Type 0 where
+  pub exact : reason ≢ OutOfMemory → new ≡ max old (length bytes)
+  pub least : old ≤ new
+  pub most : new ≤ max old (length bytes)
+
+-- the bytes from the place on were taken, and show the reason
+pub record RefusesAt (old : State) (r : Refusal) (new : State) : Type 0 where
+  pub place : r.at ≡ old.taken
+  pub why : (bytes : List ℕ) × Refuses old.limit old.source new.source bytes old.taken new.taken r.reason × Raises old.most bytes r.reason new.most
+  pub phase : new.phase ≡ Refused r
+
+abbrev pub GivesNext : State → State → Next → Type 0
+GivesNext old new (next.Inst at inst) = Gives old at (instruction_of inst) new
+GivesNext old new next.Ended = ⊥
+
+-- a call goes by the phase: an open reader gives or refuses; after STOP and after a refusal it answers the same for ever, and nothing changes
+abbrev pub StepsFrom : Phase → State → Result Next Refusal → State → Type 0
+StepsFrom Open old result new = MatchResult result (GivesNext old new) (λ r. RefusesAt old r new)
+StepsFrom Ended old result new = (result ≡ Ok next.Ended) × (new ≡ old)
+StepsFrom (Refused r) old result new = (result ≡ Err r) × (new ≡ old)
+
+-- one call of `next`
+abbrev pub Steps : State → Result Next Refusal → State → Type 0
+Steps old result new = (new.limit ≡ old.limit) × StepsFrom old.phase old result new
+
+abbrev pub ShowsNext : State → Next → Type 0
+ShowsNext old (next.Inst at inst) = (at ≡ old.taken) × IsAllowed old.limit (instruction_of inst)
+ShowsNext old next.Ended = ⊥
+
+abbrev pub ShowsFrom : Phase → State → Result Next Refusal → Type 0
+ShowsFrom Open old result = MatchResult result (ShowsNext old) (λ r. r.at ≡ old.taken)
+ShowsFrom Ended old result = result ≡ Ok next.Ended
+ShowsFrom (Refused r) old result = result ≡ Err r
+
+-- what is known of an answer while its instruction is still lent
+abbrev pub Shows : State → Result Next Refusal → Type 0
+Shows old result = ShowsFrom old.phase old result

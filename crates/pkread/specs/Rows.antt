@@ -1,0 +1,70 @@
+-- What holds of the bytes where a reader refuses them: a row for each reason.
+use Rattle.std.specs.Prelude.{◌≡◌, ◌≢◌, ℕ, ◌+◌, ◌-◌, ◌^◌, ◌%◌, ◌<◌, ◌⊎◌, List, length, take, max, Option, Some}
+use Rattle.std.specs.Io.KnownBytes.{Consumes, IsAtEnd}
+use Rattle.pkops.specs.Answer.{IsWhole}
+use Rattle.pkops.specs.Scanning.{Begun, HasFault}
+use Rattle.pkops.specs.Spelling.{Instruction}
+use Rattle.pkops.specs.declared.fault.Fault.TheVariants as fault
+use Rattle.pkread.specs.Admission.{objection}
+use Rattle.pkread.specs.declared.refusal.Reason.{Reason}
+use Rattle.pkread.specs.declared.refusal.Reason.TheVariants.{Source, Truncated, UnknownOpcode, BadArgument, TooLarge, ExtensionCode, UnsupportedProtocol, OutOfMemory}
+
+-- what contracts see of a source: the bytes left, where it tells them, and its count of failures
+pub record Sight : Type 0 where
+  pub left : Option (List ℕ)
+  pub failures : ℕ
+
+-- the sight of a source, by the ghost members of its type
+abbrev pub sight : {R : Type 0} → (R → Option (List ℕ)) → (R → ℕ) → R → Sight
+sight left failures r = record { left = left r; failures = failures r }
+
+-- a run of bytes was taken, and no read failed
+pub record Takes (old new : Sight) (run : List ℕ) : Type 0 where
+  pub bytes : Consumes old.left new.left run
+  pub count : new.failures ≡ old.failures
+
+-- a run of bytes was taken, and then one read failed, of which nothing more is said
+pub record Fails (old new : Sight) (run : List ℕ) : Type 0 where
+  pub between : Option (List ℕ)
+  pub bytes : Consumes old.left between run
+  pub count : new.failures ≡ (old.failures + 1) % (2 ^ 64)
+
+-- the most bytes that a reader takes
+abbrev pub all_bytes : ℕ
+all_bytes = 2 ^ 64 - 1
+
+-- the most bytes that a reader's buffer holds: the longest counted argument with its code and count, or two lines with their code
+abbrev pub bound : ℕ → ℕ
+bound limit = max (limit + 9) 131_075
+
+-- a front of the bytes is an instruction, which is not admitted for the reason
+abbrev pub IsBarred : ℕ → List ℕ → Reason → Type 0
+IsBarred limit bytes reason = (i : Instruction) × (n : ℕ) × IsWhole limit bytes i n × (objection i ≡ Some reason)
+
+-- what the bytes from an instruction's first one on show to be amiss, for each reason that they can show
+abbrev pub IsAmiss : ℕ → List ℕ → Reason → Type 0
+IsAmiss limit bytes (UnknownOpcode code) = HasFault limit (fault.UnknownOpcode code) bytes
+IsAmiss limit bytes BadArgument = HasFault limit fault.BadArgument bytes
+IsAmiss limit bytes TooLarge = HasFault limit fault.TooLarge bytes
+IsAmiss limit bytes ExtensionCode = IsBarred limit bytes ExtensionCode
+IsAmiss limit bytes (UnsupportedProtocol protocol) = IsBarred limit bytes (UnsupportedProtocol protocol)
+IsAmiss limit bytes _ = ⊥
+
+-- what each reason says of the bytes that were taken from the instruction's first one on, where `taken` is the number of all bytes taken
+abbrev pub Row : ℕ → Sight → Sight → List ℕ → ℕ → Reason → Type 0
+Row limit old new bytes taken Source = Fails old new bytes × Begun limit bytes
+Row limit old new bytes taken Truncated = Takes old new bytes × IsAtEnd new.left × (taken < all_bytes) × Begun limit bytes
+Row limit old new bytes taken TooLarge = Takes old new bytes × (IsAmiss limit bytes TooLarge ⊎ (Begun limit bytes × (taken ≡ all_bytes)))
+Row limit old new bytes taken OutOfMemory = Takes old new bytes
+Row limit old new bytes taken reason = Takes old new bytes × IsAmiss limit bytes reason
+
+-- each shorter front only begins an instruction
+abbrev pub FrontsBegin : ℕ → List ℕ → Type 0
+FrontsBegin limit bytes = (k : ℕ) → k < length bytes → Begun limit (take k bytes)
+
+-- the bytes were taken before a refusal for this reason: no more than show it, and they show no other (want of memory aside, which may stand in place of any)
+pub record Refuses (limit : ℕ) (old new : Sight) (bytes : List ℕ) (before after : ℕ) (reason : Reason) : Type 0 where
+  pub taken : after ≡ before + length bytes
+  pub fronts : FrontsBegin limit bytes
+  pub row : Row limit old new bytes after reason
+  pub alone : reason ≢ OutOfMemory → (other : Reason) → other ≢ OutOfMemory → Row limit old new bytes after other → other ≡ reason

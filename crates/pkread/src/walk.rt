@@ -1,0 +1,101 @@
+//! A walk over the instructions of a slice.
+
+ghost use Rattle.std.specs.Prelude.{◌≡◌, ℕ, IfOk, IfErr, ◌≤◌, length};
+ghost use Rattle.pkops.specs.Answer.{IsWhole};
+ghost use Rattle.pkops.specs.Inst.{instruction_of};
+ghost use Rattle.pkops.specs.Spelling.{Instruction};
+ghost use Rattle.pkread.specs.Admission.{objection};
+ghost use Rattle.pkread.specs.Genops.{IsRefused, is_stop, walk_of};
+
+use crate::admission::{objection_to, reason_of};
+use crate::refusal::{Reason, Refusal};
+use pkops::{Inst, Limits, Op, Scan, scan};
+use std::marker::Model;
+
+/// The instructions of a slice with their offsets, up to STOP or a refusal. Made by `genops`.
+#[derive(Debug, Drop)]
+pub struct Genops<'a> {
+    rest: &'a [u8],
+    at: u64,
+    limits: Limits,
+    done: bool,
+}
+
+impl<'a> Model for Genops<'a> {
+    ghost use Rattle.std.specs.Prelude.{◌+◌, ◌^◌, ◌<◌, length};
+    ghost use Rattle.pkread.specs.Genops.{Walk};
+
+    ghost Value = { Walk };
+
+    ghost view = { λ g. record { bytes = g.rest.now; at = g.at; limit = g.limits.counted; done = g.done } };
+
+    ghost invariant = { λ g. g.at + length g.rest.now < 2 ^ 64 };
+}
+
+impl<'a> Genops<'a> {
+    /// Before the first instruction of the bytes.
+    pub(crate) fn new(bytes: &'a [u8], limits: &Limits) -> Genops<'a>
+        ensures { result ≡ walk_of bytes.now limits.now.counted }
+    {
+        Genops {
+            rest: bytes,
+            at: 0,
+            limits: *limits,
+            done: false,
+        }
+    }
+}
+
+impl<'a> Iterator for Genops<'a> {
+    ghost use Rattle.pkread.specs.Genops.{Walks, most_items};
+
+    type Item = Result<(u64, Inst<'a>), Refusal>;
+
+    ghost next_gives = { Walks };
+
+    ghost remaining = { most_items };
+
+    /// The next instruction and the offset of its first byte, or the refusal of what stands
+    /// there. It refuses by the reasons from `Truncated` to `UnsupportedProtocol` that `Reason`
+    /// lists.
+    fn next(&mut self) -> Option<Result<(u64, Inst<'a>), Refusal>> {
+        if self.done {
+            return None;
+        }
+        let at = self.at;
+        match front(self.rest, &self.limits) {
+            Ok((inst, length)) => {
+                self.rest = &self.rest[length..];
+                self.at += length as u64;
+                self.done = is_stop(inst.op());
+                Some(Ok((at, inst)))
+            }
+            Err(reason) => {
+                self.done = true;
+                Some(Err(Refusal { at, reason }))
+            }
+        }
+    }
+}
+
+/// It is STOP.
+fn is_stop(op: Op) -> bool
+    ensures { result ≡ is_stop op }
+{
+    matches!(op, Op::Stop)
+}
+
+/// The instruction that a front of the bytes spells, and how many bytes that front has.
+fn front<'a>(bytes: &'a [u8], limits: &Limits) -> Result<(Inst<'a>, usize), Reason>
+    ensures ok { IfOk result (λ given. IsWhole limits.now.counted bytes.now (instruction_of given.0) given.1 × (objection (instruction_of given.0) ≡ None)) }
+    ensures err { IfErr result (λ reason. IsRefused limits.now.counted bytes.now reason × ((other : Reason) → IsRefused limits.now.counted bytes.now other → other ≡ reason)) }
+{
+    match scan(bytes, limits) {
+        Scan::Whole(inst, length) => match objection_to(inst) {
+            Some(reason) => Err(reason),
+            None => Ok((inst, length)),
+        },
+        Scan::More => Err(Reason::Truncated),
+        Scan::Bad(fault) => Err(reason_of(fault)),
+    }
+}
