@@ -1,13 +1,15 @@
 -- That an instruction is good is known wherever it is known to be so in some way.
-use Rattle.std.proofs.Common.{◌≡◌, ◌≢◌, ℕ, ◌^◌, ◌<◌, ◌≤◌, Bool, true, false, List, [], ◌∷◌, refl, IsTrue}
+use Rattle.std.proofs.Common.{◌≡◌, ◌≢◌, ℕ, ◌^◌, ◌<◌, ◌≤◌, List, [], ◌∷◌}
 use Rattle.std.specs.List.{AllByRecursion}
 use Rattle.std.specs.Coded.{Coded-set, coded_ℕ, le_prop}
 use Rattle.std.proofs.Math.Logic.{∥∥₁_elim, ∥∥₁_map}
-use Rattle.std.proofs.lemmas.Str.{IsUtf8-had}
 use Rattle.pkops.specs.declared.layout.Layout.{Layout}
 use Rattle.pkops.specs.declared.layout.Layout.TheVariants as layout
 use Rattle.pkops.specs.Spelling.{Argument, Nothing, Number, Signed, Float, Line, Pair, Counted, Instruction, IsLine, Suits, layout_at}
-use Rattle.pkops.specs.Contents.{Rule, Anything, MemoNumber, Names, Utf8, Escaped, rule_of, IsName, Keeps, IsGood}
+use Rattle.pkops.specs.declared.contents.Rule.{Rule}
+use Rattle.pkops.specs.Contents.{rule_of, Keeps, IsGood}
+use Rattle.pkops.proofs.Decided.{keeps_is, passes_of}
+use Rattle.std.proofs.Math.Bool.{Bool-set}
 
 had_le : {a b : ℕ} → ∥ a ≤ b ∥₁ → a ≤ b
 had_le h = ∥∥₁_elim h le_prop (λ x. x)
@@ -21,10 +23,6 @@ had_none h = ∥∥₁_elim h (λ x y. absurd x) (λ x. x)
 had_clean : (text : List ℕ) → ∥ AllByRecursion (λ byte. byte ≢ 10) text ∥₁ → AllByRecursion (λ byte. byte ≢ 10) text
 had_clean [] h = tt
 had_clean (x ∷ text) h = (λ e. had_none (∥∥₁_map h (λ c. c.0 e)), had_clean text (∥∥₁_map h (λ c. c.1)))
-
-had_ascii : (text : List ℕ) → ∥ AllByRecursion (λ byte. byte < 128) text ∥₁ → AllByRecursion (λ byte. byte < 128) text
-had_ascii [] h = tt
-had_ascii (x ∷ text) h = (had_le (∥∥₁_map h (λ c. c.0)), had_ascii text (∥∥₁_map h (λ c. c.1)))
 
 had_line : (most : ℕ) (text : List ℕ) → ∥ IsLine most text ∥₁ → IsLine most text
 had_line most text h = record { short = had_le (∥∥₁_map h (λ l. l.short)); whole = had_clean text (∥∥₁_map h (λ l. l.whole)) }
@@ -54,26 +52,8 @@ had_suits (layout.Pair most) _ h = absurd (had_none h)
 had_suits (layout.Counted size signed) (Counted payload) h = had_le h
 had_suits (layout.Counted size signed) _ h = absurd (had_none h)
 
-not_true : IsTrue false → ⊥
-not_true e = cc
-
-had_true : (b : Bool) → ∥ IsTrue b ∥₁ → IsTrue b
-had_true true h = refl
-had_true false h = absurd (had_none (∥∥₁_map h not_true))
-
-had_name : (text : List ℕ) → ∥ IsName text ∥₁ → IsName text
-had_name text h = record { ascii = had_ascii text (∥∥₁_map h (λ n. n.ascii)); some = had_le (∥∥₁_map h (λ n. n.some)) }
-
-had_keeps : (rule : Rule) (a : Argument) → ∥ Keeps rule a ∥₁ → Keeps rule a
-had_keeps Anything a h = tt
-had_keeps MemoNumber (Line line) h = record { digits = had_true _ (∥∥₁_map h (λ n. n.digits)); small = had_le (∥∥₁_map h (λ n. n.small)) }
-had_keeps MemoNumber _ h = absurd (had_none h)
-had_keeps Names (Pair first second) h = (had_name first (∥∥₁_map h (λ p. p.0)), had_name second (∥∥₁_map h (λ p. p.1)))
-had_keeps Names _ h = absurd (had_none h)
-had_keeps Utf8 (Counted payload) h = IsUtf8-had payload h
-had_keeps Utf8 _ h = absurd (had_none h)
-had_keeps Escaped (Line line) h = had_true _ h
-had_keeps Escaped _ h = absurd (had_none h)
+had_keeps : (r : Rule) (a : Argument) → ∥ Keeps r a ∥₁ → Keeps r a
+had_keeps r a h = keeps_is r a (∥∥₁_elim h (Bool-set _ _) (passes_of r a))
 
 pub had_good : (i : Instruction) → ∥ IsGood i ∥₁ → IsGood i
 had_good i h = record {

@@ -1,45 +1,90 @@
-use Rattle.std.proofs.Common.{◌≡◌, ℕ, ◌^◌, ◌<◌, ◌≤◌, Bool, true, false, not, ◌&&◌, eqb, List, [], ◌∷◌, refl, ap, ◌∙◌, arith, rules}
+-- A line is parsed exactly where it is the number of a memo entry.
+use Rattle.std.proofs.Common.{◌≡◌, ℕ, ◌^◌, ◌<◌, true, false, ◌&&◌, cond, eqb, leb, List, [], ◌∷◌, refl, ap, subst, ◌∙◌, arith, rules, inl, inr, Option, Some, None}
 use Rattle.std.specs.List.{list_all}
 use Rattle.std.specs.Char.{is_ascii_digit, digit_value}
 use Rattle.std.specs.Str.{IsUtf8}
 use Rattle.std.specs.Str.Parse.{IsNumeral, AllDigits, digits_value, without_leading_plus}
 use Rattle.std.proofs.lemmas.Str.{IsUtf8-from_ascii}
 use Rattle.std.proofs.lemmas.Fmt.{IsAscii-from_digits}
-use Rattle.pkops.specs.Numerals.{is_natural, IsMemoNumber}
-
-digit_range : (c : ℕ) → is_ascii_digit c ≡ true → (48 ≤ c) × (c ≤ 57)
-digit_range c h = (grind (arith), grind (arith))
+use Rattle.std.proofs.lemmas.Bool.{and_parts, cases_Bool, ltb-true, leb-true}
+use Rattle.std.proofs.lemmas.List.Sums.{list_all-from_AllPass}
+use Rattle.pkops.specs.Deciding.{is_natural, is_memo_number}
+use Rattle.pkops.specs.declared.op.Op.{Op}
+use Rattle.pkops.specs.declared.op.Op.TheVariants as op
+use Rattle.pkops.specs.declared.inst.Inst.{Inst}
+use Rattle.pkops.specs.declared.arg.Arg.TheVariants as arg
+use Rattle.pkops.specs.Inst.{instruction_of}
+use Rattle.pkops.specs.Spelling.{Argument, Line, instruction, shown_arg}
+use Rattle.pkops.specs.Contents.{IsGood}
+use Rattle.pkops.specs.Operands.{names_memo_entry}
+use Rattle.pkops.specs.Numerals.{IsNatural, IsMemoNumber}
+use Rattle.pkops.proofs.Numerals.{natural_is, is_memo_number_of}
 
 digit_is : (c : ℕ) → is_ascii_digit c ≡ true → digit_value c < 10
-digit_is c h = let r = digit_range c h in search rules
-
-both : (a b : Bool) → (a && b) ≡ true → (a ≡ true) × (b ≡ true)
-both true b h = (refl, h)
-both false b h = absurd cc
+digit_is c h =
+    let p = and_parts (leb 48 c) (leb c 57) h in
+    let low = leb-true _ _ p.0 in
+    let high = leb-true _ _ p.1 in
+    search rules
 
 all_digits : (ds : List ℕ) → list_all is_ascii_digit ds ≡ true → AllDigits 10 ds
 all_digits [] h = tt
-all_digits (c ∷ cs) h = let p = both (is_ascii_digit c) (list_all is_ascii_digit cs) h in (digit_is c p.0, all_digits cs p.1)
+all_digits (c ∷ cs) h = let p = and_parts (is_ascii_digit c) (list_all is_ascii_digit cs) h in (digit_is c p.0, all_digits cs p.1)
 
-no_plus : (c : ℕ) (cs : List ℕ) → list_all is_ascii_digit (c ∷ cs) ≡ true → without_leading_plus (c ∷ cs) ≡ c ∷ cs
-no_plus c cs h =
-    let p = both (is_ascii_digit c) (list_all is_ascii_digit cs) h in
-    let r = digit_range c p.0 in
-    let other : eqb c 43 ≡ false = grind arith in
-    rw other refl
+-- the digits of a number, which is not spelled with a plus
+record AreDigits (line : List ℕ) : Type 0 where
+  numeral : IsNumeral 10 line
+  no_plus : without_leading_plus line ≡ line
 
-pub numeral : (ds : List ℕ) → is_natural ds ≡ true → IsNumeral 10 ds × (without_leading_plus ds ≡ ds)
-numeral [] h = absurd cc
-numeral (c ∷ []) h = ((omega arith, all_digits (c ∷ []) h), no_plus c [] h)
-numeral (c ∷ d ∷ ds) h =
-    let p = both (list_all is_ascii_digit (c ∷ d ∷ ds)) (not (eqb c 48)) h in
-    ((omega arith, all_digits (c ∷ d ∷ ds) p.0), no_plus c (d ∷ ds) p.0)
+nonzero_is : (c : ℕ) → (leb 49 c && leb c 57) ≡ true → (is_ascii_digit c ≡ true) × (eqb c 43 ≡ false)
+nonzero_is c h =
+    let p = and_parts (leb 49 c) (leb c 57) h in
+    let low = leb-true _ _ p.0 in
+    let high = leb-true _ _ p.1 in
+    (grind (arith), grind (arith))
 
-pub is_text : (ds : List ℕ) → IsMemoNumber ds → IsUtf8 ds
-is_text ds h = IsUtf8-from_ascii ds (IsAscii-from_digits ds (numeral ds h.digits).0.1)
+natural_digits : (line : List ℕ) → IsNatural line → AreDigits line
+natural_digits line (inl e) = rw e (record { numeral = (omega arith, (omega arith, tt)); no_plus = refl })
+natural_digits line (inr (first, rest, nonzero, digits, e)) =
+    let n = nonzero_is first nonzero in
+    rw e (record {
+      numeral = (omega arith, (digit_is first n.0, all_digits rest (list_all-from_AllPass is_ascii_digit rest digits)));
+      no_plus = rw n.1 refl;
+    })
 
-pub not_parsed : (text ds : List ℕ) → text ≡ ds → (IsNumeral 10 (without_leading_plus text) × (digits_value 10 (without_leading_plus text) < 2 ^ 32) → ⊥) → IsMemoNumber ds → ⊥
-not_parsed text ds e h m =
-    let n = numeral ds m.digits in
-    let same : without_leading_plus text ≡ ds = ap without_leading_plus e ∙ n.1 in
-    h (rw same (n.0, m.small))
+pub is_text : (line : List ℕ) → is_natural line ≡ true → IsUtf8 line
+is_text line h = IsUtf8-from_ascii line (IsAscii-from_digits line (natural_digits line (natural_is line h)).numeral.1)
+
+abbrev number_of : List ℕ → Option ℕ
+number_of line = cond (is_memo_number line) (Some (digits_value 10 line)) None
+
+pub not_parsed : (text line : List ℕ) → text ≡ line → (IsNumeral 10 (without_leading_plus text) × (digits_value 10 (without_leading_plus text) < 2 ^ 32) → ⊥) → None ≡ number_of line
+not_parsed text line e h = elim (cases_Bool (is_memo_number line)) [
+  | inr out ↦ rw out refl
+  | inl holds ↦
+      let p = and_parts (is_natural line) _ holds in
+      let n = natural_digits line (natural_is line p.0) in
+      let same : without_leading_plus text ≡ line = ap without_leading_plus e ∙ n.no_plus in
+      absurd (h (rw same (n.numeral, ltb-true _ _ p.1)))
+]
+
+pub not_text : (line : List ℕ) → (IsUtf8 line → ⊥) → None ≡ number_of line
+not_text line h = elim (cases_Bool (is_memo_number line)) [
+  | inr out ↦ rw out refl
+  | inl holds ↦ absurd (h (is_text line (and_parts (is_natural line) _ holds).0))
+]
+
+-- a line that names a memo entry is the number of one
+memo_line : (o : Op) (line : List ℕ) → names_memo_entry o ≡ true → IsGood (instruction o (Line line)) → IsMemoNumber line
+memo_line op.Get line e h = h.contents
+memo_line op.Put line e h = h.contents
+memo_line op.BinGet line e h = absurd h.suits
+memo_line op.LongBinGet line e h = absurd h.suits
+memo_line op.BinPut line e h = absurd h.suits
+memo_line op.LongBinPut line e h = absurd h.suits
+memo_line _ line e h = absurd cc
+
+pub parsed : (inst : Inst) (line : _) → inst.arg ≡ arg.Line line → names_memo_entry inst.op ≡ true → IsGood (instruction_of inst) → None ≡ number_of line.now → ⊥
+parsed inst line e names good none =
+    let is : is_memo_number line.now ≡ true = is_memo_number_of line.now (memo_line inst.op line.now names (subst (λ (a : Argument). IsGood (instruction inst.op a)) (ap shown_arg e) good)) in
+    let f = rw is at none in cc

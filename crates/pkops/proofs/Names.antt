@@ -1,7 +1,9 @@
--- The two lines of a pair are text.
-use Rattle.std.proofs.Common.{◌≡◌, ℕ, zero, suc, ◌<◌, arith, List, [], ◌∷◌, ap, subst}
-use Rattle.std.specs.List.{AllByRecursion}
-use Rattle.std.specs.Str.{IsUtf8, IsAscii}
+-- The tests of ASCII and of names, and that names are text.
+use Rattle.std.proofs.Common.{◌≡◌, ℕ, zero, suc, true, nat_lt, List, [], ◌∷◌, length, refl, ap, subst, arith}
+use Rattle.std.specs.List.{list_all}
+use Rattle.std.specs.Char.{is_ascii}
+use Rattle.std.specs.Str.{IsAscii, IsUtf8}
+use Rattle.std.proofs.lemmas.Bool.{and_parts, and_from, ltb-true, lt-ltb}
 use Rattle.std.proofs.lemmas.Str.{IsUtf8-from_ascii}
 use Rattle.pkops.specs.declared.op.Op.{Op}
 use Rattle.pkops.specs.declared.op.Op.TheVariants as op
@@ -10,14 +12,24 @@ use Rattle.pkops.specs.declared.arg.Arg.TheVariants as arg
 use Rattle.pkops.specs.Inst.{instruction_of}
 use Rattle.pkops.specs.Spelling.{Argument, Pair, instruction, shown_arg}
 use Rattle.pkops.specs.Contents.{IsName, IsGood}
+use Rattle.pkops.specs.Deciding.{is_name}
 
-is_ascii : (text : List ℕ) → AllByRecursion (λ byte. byte < 128) text → IsAscii text
-is_ascii [] h i = omega arith
-is_ascii (x ∷ text) h zero = h.0
-is_ascii (x ∷ text) h (suc i) = is_ascii text h.1 i
+pub ascii_is : (line : List ℕ) → list_all is_ascii line ≡ true → IsAscii line
+ascii_is [] e i = omega arith
+ascii_is (x ∷ line) e zero = ltb-true x 128 (and_parts (is_ascii x) (list_all is_ascii line) e).0
+ascii_is (x ∷ line) e (suc i) = ascii_is line (and_parts (is_ascii x) (list_all is_ascii line) e).1 i
 
-name_text : (text : List ℕ) → IsName text → IsUtf8 text
-name_text text h = IsUtf8-from_ascii text (is_ascii text h.ascii)
+pub is_ascii_of : (line : List ℕ) → IsAscii line → list_all is_ascii line ≡ true
+is_ascii_of [] h = refl
+is_ascii_of (x ∷ line) h = and_from (is_ascii x) _ (lt-ltb x 128 (h 0)) (is_ascii_of line (λ i. h (suc i)))
+
+pub name_is : (line : List ℕ) → is_name line ≡ true → IsName line
+name_is line e =
+    let p = and_parts (nat_lt 0 (length line)) (list_all is_ascii line) e in
+    record { ascii = ascii_is line p.1; some = ltb-true 0 (length line) p.0 }
+
+pub is_name_of : (line : List ℕ) → IsName line → is_name line ≡ true
+is_name_of line h = and_from _ _ (lt-ltb 0 (length line) h.some) (is_ascii_of line h.ascii)
 
 -- no other opcode has two lines
 pair_names : (o : Op) (first second : List ℕ) → IsGood (instruction o (Pair first second)) → IsName first × IsName second
@@ -25,7 +37,7 @@ pair_names op.Global first second h = h.contents
 pair_names op.Inst first second h = h.contents
 pair_names _ first second h = absurd h.suits
 
-pub are_names : (inst : Inst) (first second : _) → inst.arg ≡ arg.Pair first second → IsGood (instruction_of inst) → IsUtf8 first.now × IsUtf8 second.now
-are_names inst first second e h =
+pub are_text : (inst : Inst) (first second : _) → inst.arg ≡ arg.Pair first second → IsGood (instruction_of inst) → IsUtf8 first.now × IsUtf8 second.now
+are_text inst first second e h =
     let n = pair_names inst.op first.now second.now (subst (λ (a : Argument). IsGood (instruction inst.op a)) (ap shown_arg e) h) in
-    (name_text first.now n.0, name_text second.now n.1)
+    (IsUtf8-from_ascii first.now n.0.ascii, IsUtf8-from_ascii second.now n.1.ascii)

@@ -5,12 +5,12 @@ use Rattle.std.specs.Option.{option_map, option_and_then}
 use Rattle.std.proofs.lemmas.List.{append-nil, nil_from_length, length-drop}
 use Rattle.pkops.specs.declared.contents.escapes.State.{State}
 use Rattle.pkops.specs.declared.contents.escapes.State.TheVariants.{Outside, Behind, Digits}
-use Rattle.pkops.specs.Escapes.{step_of, with_point, code_points}
+use Rattle.pkops.specs.EscapeSteps.{step_of, with_point, code_points}
 
 abbrev pub joined : List ℕ → Option (List ℕ) → Option (List ℕ)
 joined front rest = option_map (λ cs. front ++ encode_utf8_all cs) rest
 
-one_step : (state : State) (byte : ℕ) (bytes : List ℕ) → code_points state (byte ∷ bytes) ≡ option_and_then (λ next. option_map (with_point next.1) (code_points next.0 bytes)) (step_of state byte)
+pub one_step : (state : State) (byte : ℕ) (bytes : List ℕ) → code_points state (byte ∷ bytes) ≡ option_and_then (λ next. option_map (with_point next.1) (code_points next.0 bytes)) (step_of state byte)
 unfolding code_points
 one_step Outside byte bytes = refl
 one_step Behind byte bytes = refl

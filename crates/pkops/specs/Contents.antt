@@ -1,46 +1,53 @@
--- What an argument may contain.
-use Rattle.std.specs.Prelude.{ℕ, ◌<◌, List, length}
-use Rattle.std.specs.List.{AllByRecursion}
-use Rattle.std.specs.Str.{IsUtf8}
-use Rattle.std.specs.Prelude.{IsSome}
-use Rattle.pkops.specs.Escapes.{text_named}
-use Rattle.pkops.specs.Numerals.{IsMemoNumber}
+-- What an argument may contain: the rules that hold beyond its layout.
+use Rattle.std.specs.Prelude.{ℕ, ◌<◌, List, length, ⊤}
+use Rattle.std.specs.Str.{IsAscii, IsUtf8}
 use Rattle.pkops.specs.declared.op.Op.{Op}
 use Rattle.pkops.specs.declared.op.Op.TheVariants as op
+use Rattle.pkops.specs.declared.contents.Rule.{Rule}
+use Rattle.pkops.specs.declared.contents.Rule.TheVariants as rule
+use Rattle.pkops.specs.Escapes.{IsTextLine}
+use Rattle.pkops.specs.Floats.{IsFloatLine}
+use Rattle.pkops.specs.Numerals.{IsIntLine, IsLongLine, IsMemoNumber}
+use Rattle.pkops.specs.OldStrings.{IsStringLine}
 use Rattle.pkops.specs.Spelling.{Argument, Line, Pair, Counted, Instruction, Suits, layout_at}
 
--- a line of ASCII that is not empty
-pub record IsName (text : List ℕ) : Type 0 where
-  pub ascii : AllByRecursion (λ byte. byte < 128) text
-  pub some : 0 < length text
+-- the module or the name of a global: ASCII, and not empty
+pub record IsName (line : List ℕ) : Type 0 where
+  pub ascii : IsAscii line
+  pub some : 0 < length line
 
--- the rules for what an argument contains
-pub data Rule : Type 0 where
-  Anything MemoNumber Names Utf8 Escaped : Rule
-
+-- the rule of each opcode; any argument of its layout is good for the others
 abbrev pub rule_of : Op → Rule
-rule_of op.Get = MemoNumber
-rule_of op.Put = MemoNumber
-rule_of op.Global = Names
-rule_of op.Inst = Names
-rule_of op.ShortBinUnicode = Utf8
-rule_of op.BinUnicode = Utf8
-rule_of op.BinUnicode8 = Utf8
-rule_of op.Unicode = Escaped
-rule_of _ = Anything
+rule_of op.Int = rule.Int
+rule_of op.Long = rule.Long
+rule_of op.Get = rule.MemoNumber
+rule_of op.Put = rule.MemoNumber
+rule_of op.Float = rule.Float
+rule_of op.String = rule.OldString
+rule_of op.Unicode = rule.Escapes
+rule_of op.ShortBinUnicode = rule.Utf8
+rule_of op.BinUnicode = rule.Utf8
+rule_of op.BinUnicode8 = rule.Utf8
+rule_of op.Global = rule.Names
+rule_of op.Inst = rule.Names
+rule_of op.PersId = rule.Ascii
+rule_of _ = rule.Anything
 
+-- the argument keeps the rule
 abbrev pub Keeps : Rule → Argument → Type 0
-Keeps MemoNumber (Line line) = IsMemoNumber line
-Keeps MemoNumber _ = ⊥
-Keeps Names (Pair first second) = IsName first × IsName second
-Keeps Names _ = ⊥
-Keeps Utf8 (Counted payload) = IsUtf8 payload
-Keeps Utf8 _ = ⊥
-Keeps Escaped (Line line) = IsSome (text_named line)
-Keeps Escaped _ = ⊥
-Keeps Anything _ = Unit {0}
+Keeps rule.Anything _ = ⊤
+Keeps rule.Int (Line line) = IsIntLine line
+Keeps rule.Long (Line line) = IsLongLine line
+Keeps rule.MemoNumber (Line line) = IsMemoNumber line
+Keeps rule.Float (Line line) = IsFloatLine line
+Keeps rule.OldString (Line line) = IsStringLine line
+Keeps rule.Escapes (Line line) = IsTextLine line
+Keeps rule.Utf8 (Counted payload) = IsUtf8 payload
+Keeps rule.Names (Pair first second) = IsName first × IsName second
+Keeps rule.Ascii (Line line) = IsAscii line
+Keeps _ _ = ⊥
 
--- the argument is of the opcode's kind, and keeps the rules for what it contains
+-- the argument is of the opcode's kind, and keeps the opcode's rule
 pub record IsGood (i : Instruction) : Type 0 where
   pub suits : Suits (layout_at i.op) i.arg
   pub contents : Keeps (rule_of i.op) i.arg

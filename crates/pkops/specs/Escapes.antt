@@ -1,37 +1,48 @@
--- Text with escapes of code points.
-use Rattle.std.specs.Prelude.{ℕ, ◌+◌, ◌-◌, ◌*◌, ◌<◌, Bool, ◌&&◌, ◌||◌, ◌==◌, nat_lt, if◌then◌else◌, List, [], ◌∷◌, Option, Some, None, ⊤}
-use Rattle.std.specs.Option.{option_map, option_and_then}
-use Rattle.std.specs.Char.{is_ascii_hexdigit, digit_value}
-use Rattle.pkops.specs.declared.contents.escapes.State.{State}
-use Rattle.pkops.specs.declared.contents.escapes.State.TheVariants.{Outside, Behind, Digits}
+-- Text with escapes, as protocol 0 spells it: the line of UNICODE, the argument `unicodestringnl` of
+-- CPython's `pickletools`, in Python's codec raw-unicode-escape. A form is a tree, a printer from
+-- the tree to its bytes, and which trees are valid; each tree stands for one character.
+-- Refused beyond the codec: a backslash that begins no escape, and surrogates.
+use Rattle.std.specs.Prelude.{◌≡◌, ◌≢◌, ℕ, List, [], ◌∷◌, ◌++◌, length, map, codes}
+use Rattle.std.specs.List.{All, AllPass, flat_map}
+use Rattle.std.specs.Char.{IsScalar, is_ascii_hexdigit}
+use Rattle.std.specs.Str.Parse.{digits_value}
 
--- a code point that is no surrogate
-abbrev pub is_scalar : ℕ → Bool
-is_scalar n = nat_lt n 0xd800 || (nat_lt 0xdfff n && nat_lt n 0x11_0000)
+-- a character: a byte as it is, or the digits of its number behind \u or \U
+pub data Character : Type 0 where
+  plain : (byte : ℕ) → Character
+  short : (digits : List ℕ) → Character
+  long : (digits : List ℕ) → Character
 
--- where a byte leads, and the code point that it ends, if it ends one
-abbrev pub step_of : State → ℕ → Option (State × Option ℕ)
-step_of Outside byte = if byte == 92 then Some (Behind, None) else Some (Outside, Some byte)
-step_of Behind byte = if byte == 117 then Some (Digits 4 0, None) else (if byte == 85 then Some (Digits 8 0, None) else None)
-step_of (Digits left value) byte =
-    if is_ascii_hexdigit byte then (if nat_lt left 2 then (if is_scalar (value * 16 + digit_value byte) then Some (Outside, Some (value * 16 + digit_value byte)) else None) else (if nat_lt (value * 16 + digit_value byte) 0x11_0000 then Some (Digits (left - 1) (value * 16 + digit_value byte), None) else None)) else None
+-- the bytes of a character
+abbrev pub print_character : Character → List ℕ
+print_character (plain byte) = byte ∷ []
+print_character (short digits) = codes "\\u" ++ digits
+print_character (long digits) = codes "\\U" ++ digits
 
-abbrev pub with_point : Option ℕ → List ℕ → List ℕ
-with_point None points = points
-with_point (Some point) points = point ∷ points
+-- the code point that a character stands for: a byte that of its own number, as in Latin-1
+abbrev pub code_point : Character → ℕ
+code_point (plain byte) = byte
+code_point (short digits) = digits_value 16 digits
+code_point (long digits) = digits_value 16 digits
 
--- the code points that bytes name from a state on
-unfoldable pub code_points : State → List ℕ → Option (List ℕ)
-code_points Outside [] = Some []
-code_points Behind [] = None
-code_points (Digits left value) [] = None
-code_points state (byte ∷ bytes) = option_and_then (λ next. option_map (with_point next.1) (code_points next.0 bytes)) (step_of state byte)
+-- so many hexadecimal digits, of either case, of a code point that is no surrogate
+pub record IsEscape (n : ℕ) (digits : List ℕ) : Type 0 where
+  pub count : length digits ≡ n
+  pub hexadecimal : AllPass is_ascii_hexdigit digits
+  pub scalar : IsScalar (digits_value 16 digits)
 
--- the text that a line names
-abbrev pub text_named : List ℕ → Option (List ℕ)
-text_named line = code_points Outside line
+abbrev pub IsCharacter : Character → Type 0
+IsCharacter (plain byte) = byte ≢ 92
+IsCharacter (short digits) = IsEscape 4 digits
+IsCharacter (long digits) = IsEscape 8 digits
 
-abbrev pub IsSmall : State → Type 0
-IsSmall Outside = ⊤
-IsSmall Behind = ⊤
-IsSmall (Digits left value) = value < 0x11_0000
+-- the line spells the text of these code points
+abbrev pub SpellsText : (line points : List ℕ) → Type 0
+SpellsText line points =
+    (characters : List Character)
+    × All IsCharacter characters
+    × (line ≡ flat_map print_character characters) × (points ≡ map code_point characters)
+
+-- the line of UNICODE: it spells some text
+abbrev pub IsTextLine : List ℕ → Type 0
+IsTextLine line = (points : List ℕ) × SpellsText line points

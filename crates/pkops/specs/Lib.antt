@@ -3,6 +3,8 @@ pub mod Spelling
 pub mod Inst
 pub mod Contents
 pub mod Numerals
+pub mod Floats
+pub mod OldStrings
 pub mod Escapes
 pub mod Text
 pub mod Operands
@@ -11,3 +13,5 @@ pub mod Limits
 pub mod Scanning
 pub mod Answer
 pub mod Reading
+pub mod Deciding
+pub mod EscapeSteps

@@ -1,25 +1,54 @@
--- Numbers in decimal digits.
-use Rattle.std.specs.Prelude.{ℕ, ◌^◌, ◌<◌, Bool, false, not, ◌&&◌, ◌==◌, if◌then◌else◌, List, [], ◌∷◌, IsTrue}
-use Rattle.std.specs.List.{list_all}
+-- Numbers in decimal digits, as protocol 0 spells them: the lines of INT, LONG, GET and PUT, the
+-- arguments `decimalnl_short` and `decimalnl_long` of CPython's `pickletools`.
+-- A number has one spelling, the one that CPython's pickler writes: a plus, needless zeros, spaces
+-- and underscores, which Python's `int` takes, are refused.
+use Rattle.std.specs.Prelude.{◌≡◌, ◌⊎◌, ℕ, ◌^◌, ◌<◌, Bool, true, false, ◌&&◌, ◌||◌, ◌==◌, List, [], ◌∷◌, ◌++◌, codes}
+use Rattle.std.specs.Int.{is_in_range}
+use Rattle.std.specs.List.{AllPass}
 use Rattle.std.specs.Char.{is_ascii_digit}
 use Rattle.std.specs.Str.Parse.{digits_value}
 
--- digits, with no zero before others
-abbrev pub is_natural : List ℕ → Bool
-is_natural [] = false
-is_natural (digit ∷ []) = list_all is_ascii_digit (digit ∷ [])
-is_natural (digit ∷ next ∷ digits) = list_all is_ascii_digit (digit ∷ next ∷ digits) && not (digit == 48)
+-- nonzero = "1" to "9"
+abbrev pub is_nonzero_digit : ℕ → Bool
+is_nonzero_digit byte = is_in_range 49 57 byte
 
-abbrev first_is_zero : List ℕ → Bool
-first_is_zero [] = false
-first_is_zero (digit ∷ digits) = digit == 48
+-- positive = nonzero *digit
+abbrev pub IsPositive : List ℕ → Type 0
+IsPositive text =
+    (first : ℕ) × (rest : List ℕ)
+    × (is_nonzero_digit first ≡ true) × AllPass is_ascii_digit rest × (text ≡ first ∷ rest)
 
--- such digits, or a minus and such digits that are not a zero
-abbrev pub is_numeral : List ℕ → Bool
-is_numeral [] = false
-is_numeral (byte ∷ rest) = if byte == 45 then is_natural rest && not (first_is_zero rest) else is_natural (byte ∷ rest)
+-- natural = "0" / positive
+abbrev pub IsNatural : List ℕ → Type 0
+IsNatural text = (text ≡ codes "0") ⊎ IsPositive text
 
--- a number that a memo entry may have
-pub record IsMemoNumber (text : List ℕ) : Type 0 where
-  pub digits : IsTrue (is_natural text)
-  pub small : digits_value 10 text < 2 ^ 32
+-- numeral = natural / "-" positive
+abbrev pub IsNumeral : List ℕ → Type 0
+IsNumeral text =
+    IsNatural text ⊎ ((digits : List ℕ) × IsPositive digits × (text ≡ codes "-" ++ digits))
+
+-- how INT says False and True to readers of protocol 0 (PEP 307, which gave them opcodes)
+abbrev pub false_line : List ℕ
+false_line = codes "00"
+
+abbrev pub true_line : List ℕ
+true_line = codes "01"
+
+-- whether a line is one of these two
+abbrev pub is_bool_line : List ℕ → Bool
+is_bool_line (first ∷ last ∷ []) = (first == 48) && (last == 48 || last == 49)
+is_bool_line _ = false
+
+-- the line of INT: False, True or a numeral
+abbrev pub IsIntLine : List ℕ → Type 0
+IsIntLine line = (line ≡ false_line) ⊎ (line ≡ true_line) ⊎ IsNumeral line
+
+-- the line of LONG: a numeral, and then perhaps an L, as Python 2 printed long numbers
+abbrev pub IsLongLine : List ℕ → Type 0
+IsLongLine line =
+    IsNumeral line ⊎ ((numeral : List ℕ) × IsNumeral numeral × (line ≡ numeral ++ codes "L"))
+
+-- the line of GET and PUT: a natural number that 32 bits hold, as LONG_BINGET's argument does
+pub record IsMemoNumber (line : List ℕ) : Type 0 where
+  pub natural : IsNatural line
+  pub small : digits_value 10 line < 2 ^ 32

@@ -1,8 +1,9 @@
 -- What the arguments of some instructions name.
-use Rattle.std.specs.Prelude.{ℕ, Bool, true, false, ◌&&◌, ◌||◌, ◌==◌, if◌then◌else◌, List, [], ◌∷◌, Option, Some, None}
+use Rattle.std.specs.Prelude.{ℕ, Bool, true, false, if◌then◌else◌, List, Option, Some, None}
 use Rattle.std.specs.Str.Parse.{digits_value}
 use Rattle.pkops.specs.declared.op.Op.{Op}
 use Rattle.pkops.specs.declared.op.Op.TheVariants as op
+use Rattle.pkops.specs.Numerals.{is_bool_line}
 use Rattle.pkops.specs.Spelling.{Argument, Number, Line, Pair, Instruction}
 
 -- the opcodes whose argument is the number of a memo entry
@@ -25,13 +26,8 @@ number_said _ = 0
 abbrev pub memo_number : Instruction → ℕ
 memo_number i = if names_memo_entry i.op then number_said i.arg else 0
 
--- the lines that INT spells False and True as: 00 and 01
-abbrev pub is_truth_line : List ℕ → Bool
-is_truth_line (first ∷ last ∷ []) = (first == 48) && (last == 48 || last == 49)
-is_truth_line _ = false
-
 abbrev pub is_truth_by : Op → Argument → Bool
-is_truth_by op.Int (Line line) = is_truth_line line
+is_truth_by op.Int (Line line) = is_bool_line line
 is_truth_by _ _ = false
 
 -- the instruction makes a bool of a line of INT

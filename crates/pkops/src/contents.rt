@@ -1,35 +1,100 @@
-//! What an argument may contain.
+//! What an argument may contain: a rule for each opcode, and whether an argument keeps it.
 
-ghost use Rattle.std.specs.Prelude.{◌≡◌, MatchBool, ◌+◌, ◌<◌, ◌≤◌, length};
-ghost use Rattle.pkops.specs.Contents.{IsName, Keeps, rule_of};
-ghost use Rattle.pkops.specs.Spelling.{Suits, layout_at, shown_arg};
+ghost use Rattle.std.specs.Prelude.{◌≡◌, MatchBool};
+ghost use Rattle.std.specs.Str.{is_utf8};
+ghost use Rattle.pkops.specs.Contents.{Keeps, rule_of};
+ghost use Rattle.pkops.specs.Deciding.{passes};
+ghost use Rattle.pkops.specs.Spelling.{shown_arg};
 
 use crate::arg::Arg;
 use crate::contents::escapes::names_text;
-use crate::contents::numeral::memo_number;
+use crate::contents::float::is_float_line;
+use crate::contents::name::{is_ascii, is_name};
+use crate::contents::numeral::{is_int_line, is_long_line, memo_number};
+use crate::contents::old_string::is_string_line;
 use crate::op::Op;
 
 pub mod escapes;
+pub mod float;
+pub mod name;
 pub mod numeral;
+pub mod old_string;
 
-/// Whether the contents of an argument keep the rule of the opcode.
-pub fn keeps(op: Op, arg: Arg<'_>) -> bool
-    requires { Suits (layout_at op) (shown_arg arg) }
-    ensures { MatchBool result (Keeps (rule_of op) (shown_arg arg.entry)) (¬ (Keeps (rule_of op) (shown_arg arg.entry))) }
-{
-    match (op, arg) {
-        (Op::Get | Op::Put, Arg::Line(digits)) => memo_number(digits).is_some(),
-        (Op::Global | Op::Inst, Arg::Pair(module, name)) => is_name(module) && is_name(name),
-        (Op::ShortBinUnicode | Op::BinUnicode | Op::BinUnicode8, Arg::Counted(payload)) => {
-            str::from_utf8(payload).is_ok()
+/// A rule for what an argument may contain.
+#[derive(Clone, Copy)]
+pub enum Rule {
+    /// Any argument of the layout is good.
+    Anything,
+    /// The line is `00`, `01` or a numeral.
+    Int,
+    /// The line is a numeral, perhaps with an `L` behind it.
+    Long,
+    /// The line is the number of a memo entry.
+    MemoNumber,
+    /// The line is a float in decimal digits.
+    Float,
+    /// The line is a string in quotes.
+    OldString,
+    /// The line is text with escapes.
+    Escapes,
+    /// The payload is UTF-8.
+    Utf8,
+    /// Both lines are names.
+    Names,
+    /// The line is ASCII.
+    Ascii,
+}
+
+impl Rule {
+    /// The rule of an opcode.
+    pub fn of(op: Op) -> Rule
+        ensures { result ≡ rule_of op }
+    {
+        match op {
+            Op::Int => Rule::Int,
+            Op::Long => Rule::Long,
+            Op::Get | Op::Put => Rule::MemoNumber,
+            Op::Float => Rule::Float,
+            Op::String => Rule::OldString,
+            Op::Unicode => Rule::Escapes,
+            Op::ShortBinUnicode | Op::BinUnicode | Op::BinUnicode8 => Rule::Utf8,
+            Op::Global | Op::Inst => Rule::Names,
+            Op::PersId => Rule::Ascii,
+            _ => Rule::Anything,
         }
-        (Op::Unicode, Arg::Line(line)) => names_text(line),
-        _ => true,
     }
 }
 
-fn is_name(text: &[u8]) -> bool
-    ensures { MatchBool result (IsName text.now) (¬ (IsName text.now)) }
+/// Whether the argument keeps the rule.
+pub fn keeps(rule: Rule, arg: Arg<'_>) -> bool
+    ensures { MatchBool result (Keeps rule (shown_arg arg.entry)) (¬ (Keeps rule (shown_arg arg.entry))) }
 {
-    !text.is_empty() && text.iter().all(|byte| *byte < 128)
+    passes(rule, arg)
+}
+
+fn passes(rule: Rule, arg: Arg<'_>) -> bool
+    ensures { result ≡ passes rule (shown_arg arg.entry) }
+{
+    match (rule, arg) {
+        (Rule::Anything, _) => true,
+        (Rule::Int, Arg::Line(line)) => is_int_line(line),
+        (Rule::Long, Arg::Line(line)) => is_long_line(line),
+        (Rule::MemoNumber, Arg::Line(line)) => memo_number(line).is_some(),
+        (Rule::Float, Arg::Line(line)) => is_float_line(line),
+        (Rule::OldString, Arg::Line(line)) => is_string_line(line),
+        (Rule::Escapes, Arg::Line(line)) => names_text(line),
+        (Rule::Utf8, Arg::Counted(payload)) => is_utf8(payload),
+        (Rule::Names, Arg::Pair(module, name)) => is_name(module) && is_name(name),
+        (Rule::Ascii, Arg::Line(line)) => is_ascii(line),
+        _ => false,
+    }
+}
+
+fn is_utf8(payload: &[u8]) -> bool
+    ensures { result ≡ is_utf8 payload.now }
+{
+    match str::from_utf8(payload) {
+        Ok(_) => true,
+        Err(_) => false,
+    }
 }

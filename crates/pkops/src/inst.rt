@@ -7,7 +7,7 @@ ghost use Rattle.pkops.specs.Contents.{IsGood};
 ghost use Rattle.pkops.specs.Operands.{names_memo_entry};
 
 use crate::arg::Arg;
-use crate::contents::{keeps, numeral};
+use crate::contents::{Rule, keeps, numeral};
 use crate::layout::{Layout, is_count};
 use crate::op::Op;
 use crate::table::kind;
@@ -35,7 +35,7 @@ impl<'a> Inst<'a> {
         ensures { SomeIff (option_map instruction_of result)
             (IsGood (instruction op (shown_arg arg.entry))) (instruction op (shown_arg arg.entry)) }
     {
-        if suits(Layout::of(kind(op)), arg) && keeps(op, arg) {
+        if suits(Layout::of(kind(op)), arg) && keeps(Rule::of(op), arg) {
             Some(Inst { op, arg })
         } else {
             None
@@ -88,7 +88,7 @@ impl<'a> Inst<'a> {
         ensures { result ≡ is_truth (instruction_of self.now) }
     {
         match (self.op, self.arg) {
-            (Op::Int, Arg::Line(line)) => matches!(line, [b'0', b'0' | b'1']),
+            (Op::Int, Arg::Line(line)) => numeral::is_bool_line(line),
             _ => false,
         }
     }

@@ -15,11 +15,13 @@ use Rattle.pkread.specs.Admission.{IsAllowed, objection}
 use Rattle.pkread.specs.Core.{phase_after}
 use Rattle.pkread.specs.Gathering.{Gathers, HoldsTaken, IsGathered}
 use Rattle.pkread.specs.Reading.{State, Gives, GivesNext, Raises, RefusesAt, StepsFrom, ShowsNext, ShowsFrom}
-use Rattle.pkread.specs.Rows.{all_bytes}
+use Rattle.pkread.specs.Rows.{Refuses, Row, Sight, all_bytes}
+use Rattle.pkread.specs.Sequence.{CountsAt}
 use Rattle.pkread.specs.declared.reader.Next.{Next}
 use Rattle.pkread.specs.declared.reader.Phase.{Phase}
-use Rattle.pkread.specs.declared.reader.Phase.TheVariants.{Open}
+use Rattle.pkread.specs.declared.reader.Phase.TheVariants.{Open, Refused}
 use Rattle.pkread.specs.declared.refusal.Reason.{Reason}
+use Rattle.pkread.specs.declared.refusal.Reason.TheVariants.{Source, OutOfMemory}
 use Rattle.pkread.specs.declared.refusal.Refusal.{Refusal}
 
 -- an instruction that all the bytes are is the one that a scan of them finds
@@ -72,3 +74,9 @@ steps_open old new r e h = subst (λ (p : Phase). StepsFrom p old r new) (sym e)
 
 pub shows_open : (old : State) (r : Result Next Refusal) → old.phase ≡ Open → MatchResult r (ShowsNext old) (λ x. x.at ≡ old.taken) → ShowsFrom old.phase old r
 shows_open old r e h = subst (λ (p : Phase). ShowsFrom p old r) (sym e) h
+
+-- the count of failures is as the reason says
+pub counts_at : (limit : ℕ) (old new : Sight) (b : List ℕ) (t : ℕ) (r : Reason) → Row limit old new b t r → CountsAt r old.failures new.failures
+counts_at limit old new b t Source w = w.0.count
+counts_at limit old new b t OutOfMemory w = w.count
+counts_at limit old new b t _ w = w.0.count

@@ -11,14 +11,12 @@ use Rattle.pkread.proofs.Gathering.{Takes-more}
 use Rattle.pkread.specs.Admission.{IsAllowed}
 use Rattle.pkread.specs.Core.{phase_after}
 use Rattle.pkread.specs.Reading.{State, begun, Gives, RefusesAt, Steps, StepsFrom}
-use Rattle.pkread.specs.Rows.{Row, Sight, Takes}
-use Rattle.pkread.specs.Sequence.{CountsAt, IsSequence, spellings}
+use Rattle.pkread.specs.Rows.{Sight, Takes}
+use Rattle.pkread.specs.Sequence.{IsSequence, spellings}
 use Rattle.pkread.specs.declared.reader.Next.{Next}
 use Rattle.pkread.specs.declared.reader.Next.TheVariants as next
 use Rattle.pkread.specs.declared.reader.Phase.{Phase}
 use Rattle.pkread.specs.declared.reader.Phase.TheVariants.{Open, Ended, Refused}
-use Rattle.pkread.specs.declared.refusal.Reason.{Reason}
-use Rattle.pkread.specs.declared.refusal.Reason.TheVariants.{Source, OutOfMemory}
 use Rattle.pkread.specs.declared.refusal.Refusal.{Refusal}
 
 -- the instructions were read so far, and then the reader goes on or has ended
@@ -66,12 +64,6 @@ refused p s t r x o h e =
     let h' = rw (o, e) at h in
     h'
 
--- the count of failures is as the reason says
-pub counts_at : (limit : ℕ) (old new : Sight) (b : List ℕ) (t : ℕ) (r : Reason) → Row limit old new b t r → CountsAt r old.failures new.failures
-counts_at limit old new b t Source w = w.0.count
-counts_at limit old new b t OutOfMemory w = w.count
-counts_at limit old new b t _ w = w.0.count
-
 phase_cases : (limit : ℕ) (p : List Instruction) (i : Instruction) → All (λ j. j.op ≢ op.Stop) p → (o : Op) → i.op ≡ o → SoFar limit (p ++ i ∷ []) (phase_after o)
 phase_cases limit p i a op.Stop e = (p, i, refl, e, a)
 phase_cases limit p i a _ e = All-push (λ j. j.op ≢ op.Stop) p _ a (λ f. cc)
@@ -86,7 +78,8 @@ pub takes_none : (left : Option (List ℕ)) (f : ℕ) → let s : Sight = record
 takes_none None f = record { bytes = tt; count = refl }
 takes_none (Some xs) f = record { bytes = refl; count = refl }
 
-stopped : (limit : ℕ) (p : List Instruction) (f : Phase) → f ≡ Ended → SoFar limit p f → (q : List Instruction) × (last : Instruction) × (p ≡ q ++ last ∷ []) × (last.op ≡ op.Stop) × All (λ i. i.op ≢ op.Stop) q
+-- a reader that has ended has given STOP last
+pub stopped : (limit : ℕ) (p : List Instruction) (f : Phase) → f ≡ Ended → SoFar limit p f → (q : List Instruction) × (last : Instruction) × (p ≡ q ++ last ∷ []) × (last.op ≡ op.Stop) × All (λ i. i.op ≢ op.Stop) q
 stopped limit p f e h = rw e at h
 
 -- one instruction more was given

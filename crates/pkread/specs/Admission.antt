@@ -19,9 +19,11 @@ reason_of fault.TooLarge = TooLarge
 
 -- why a PROTO with this argument is not admitted, if it is not
 abbrev pub protocol_objection : Argument → Option Reason
-protocol_objection (Number width protocol) = if nat_le protocol highest_protocol then None else Some (UnsupportedProtocol protocol)
+protocol_objection (Number width protocol) =
+    if nat_le protocol highest_protocol then None else Some (UnsupportedProtocol protocol)
 protocol_objection _ = None
 
+-- the same, by the parts of an instruction
 abbrev pub objection_by : Op → Argument → Option Reason
 objection_by op.Ext1 _ = Some ExtensionCode
 objection_by op.Ext2 _ = Some ExtensionCode
@@ -29,7 +31,8 @@ objection_by op.Ext4 _ = Some ExtensionCode
 objection_by op.Proto arg = protocol_objection arg
 objection_by _ _ = None
 
--- why a good instruction is not admitted, if it is not: it is an extension code, or a PROTO above the highest protocol
+-- why a good instruction is not admitted, if it is not: it is an extension code, or a PROTO above
+-- the highest protocol
 abbrev pub objection : Instruction → Option Reason
 objection i = objection_by i.op i.arg
 

@@ -1,4 +1,5 @@
--- Frames (PEP 3154): first as intervals of offsets, and then as the rule that counts the bytes of a frame still open.
+-- Frames (PEP 3154): first as intervals of offsets, and then as the rule that counts the bytes of a
+-- frame that are still open.
 use Rattle.std.specs.Prelude.{◌≡◌, ℕ, ◌+◌, ◌-◌, ◌<◌, ◌≤◌, cond, nat_lt, nat_eq, List, [], ◌∷◌, ◌++◌, length, All, Contains, ◌⊎◌, Option, None, Some, MatchOption, MatchResult, Result, option_map}
 
 -- the part of an instruction in the frame rules: a FRAME with its argument, STOP, or any other
@@ -34,7 +35,8 @@ abbrev pub total : List Piece → ℕ
 total [] = 0
 total (p ∷ ps) = p.length + total ps
 
--- the contents of an instruction whose span ends at `from`: those of a FRAME are as many bytes as its argument says
+-- the contents of an instruction whose span ends at `from`: those of a FRAME are as many bytes as
+-- its argument says
 abbrev pub contents_of : ℕ → Role → List Span
 contents_of from (frame n) = record { from = from; to = from + n } ∷ []
 contents_of from stop = []
@@ -48,6 +50,10 @@ contents at (p ∷ ps) = contents_of (at + p.length) p.role ++ contents (at + p.
 -- the span of a piece that stands behind others
 abbrev pub span_after : List Piece → Piece → Span
 span_after before p = record { from = total before; to = total before + p.length }
+
+-- the span lies inside one of the others
+abbrev pub LiesInOne : Span → List Span → Type 0
+LiesInOne s cs = (c : Span) × Contains cs c × LiesInside s c
 
 -- the span meets none of the others
 abbrev pub MeetsNone : Span → List Span → Type 0
@@ -65,23 +71,28 @@ IsStop (frame n) = ⊥
 IsStop stop = Unit {0}
 IsStop other = ⊥
 
--- p is framed in the list before ++ p ∷ after: it lies inside the contents of one earlier FRAME or meets no contents;
--- a FRAME meets none; and at STOP no earlier contents go on behind it
+-- p is framed in the list before ++ p ∷ after: it lies inside the contents of one earlier FRAME, or
+-- meets no contents; a FRAME meets none; and at STOP no earlier contents go on behind it
 pub record IsFramed (before : List Piece) (p : Piece) (after : List Piece) : Type 0 where
-  pub whole : ((c : Span) × Contains (contents 0 before) c × LiesInside (span_after before p) c) ⊎ MeetsNone (span_after before p) (contents 0 (before ++ p ∷ after))
+  pub whole :
+      LiesInOne (span_after before p) (contents 0 before)
+      ⊎ MeetsNone (span_after before p) (contents 0 (before ++ p ∷ after))
   pub frame : IsFrame p.role → MeetsNone (span_after before p) (contents 0 (before ++ p ∷ after))
   pub stop : IsStop p.role → (c : Span) → Contains (contents 0 before) c → c.to ≤ (span_after before p).to
 
 -- each piece is framed
 abbrev pub Framed : List Piece → Type 0
-Framed ps = (before : List Piece) (p : Piece) (after : List Piece) → ps ≡ before ++ p ∷ after → IsFramed before p after
+Framed ps = (before : List Piece) (p : Piece) (after : List Piece) →
+    ps ≡ before ++ p ∷ after → IsFramed before p after
 
 -- the piece at k isn't framed, and each earlier one is
 pub record FirstUnframed (ps : List Piece) (k : ℕ) : Type 0 where
-  pub here : (before : List Piece) × (p : Piece) × (after : List Piece) × (ps ≡ before ++ p ∷ after) × (length before ≡ k) × (IsFramed before p after → ⊥)
-  pub earlier : (before : List Piece) (p : Piece) (after : List Piece) → ps ≡ before ++ p ∷ after → length before < k → IsFramed before p after
+  pub here : (before : List Piece) × (p : Piece) × (after : List Piece) ×
+      (ps ≡ before ++ p ∷ after) × (length before ≡ k) × (IsFramed before p after → ⊥)
+  pub earlier : (before : List Piece) (p : Piece) (after : List Piece) →
+      ps ≡ before ++ p ∷ after → length before < k → IsFramed before p after
 
--- The counting rule.
+-- The counting rule: it knows one number, the bytes of a frame that are still open.
 
 -- the bytes that a FRAME opens
 abbrev pub opened : Role → ℕ
@@ -111,8 +122,10 @@ refused_at n (p ∷ ps) = one_later (counted n p) (λ m. refused_at m ps)
 
 -- along any list the rule refuses first exactly at the first piece that isn't framed
 abbrev pub CountingIsExact : Type 0
-CountingIsExact = (ps : List Piece) → All (λ p. 0 < p.length) ps → MatchOption (refused_at 0 ps) (Framed ps) (FirstUnframed ps)
+CountingIsExact = (ps : List Piece) → All (λ p. 0 < p.length) ps →
+    MatchOption (refused_at 0 ps) (Framed ps) (FirstUnframed ps)
 
 -- what a call does that takes the piece, where `old` bytes were open and then `new` are
 abbrev pub Took : {A E : Type 0} → ℕ → Piece → Result A E → ℕ → Type 0
-Took old p result new = MatchResult result (λ _. counted old p ≡ Some new) (λ _. (counted old p ≡ None) × (new ≡ old))
+Took old p result new =
+    MatchResult result (λ _. counted old p ≡ Some new) (λ _. (counted old p ≡ None) × (new ≡ old))

@@ -17,7 +17,8 @@ pub record Gathers (limit : ℕ) (old new : Sight) (bytes : List ℕ) (before af
 
 -- the bytes are one admitted instruction of the opcode
 abbrev pub IsGathered : ℕ → List ℕ → Op → Type 0
-IsGathered limit bytes op = (i : Instruction) × IsWhole limit bytes i (length bytes) × (objection i ≡ None) × (i.op ≡ op)
+IsGathered limit bytes op =
+    (i : Instruction) × IsWhole limit bytes i (length bytes) × (objection i ≡ None) × (i.op ≡ op)
 
 -- why one byte more could not be taken, or not be held
 abbrev pub TakesNone : Sight → Sight → ℕ → ℕ → Reason → Type 0

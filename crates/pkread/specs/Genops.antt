@@ -13,7 +13,8 @@ use Rattle.pkread.specs.declared.refusal.Reason.{Reason}
 use Rattle.pkread.specs.declared.refusal.Reason.TheVariants.{Truncated}
 use Rattle.pkread.specs.declared.refusal.Refusal.{Refusal}
 
--- what contracts see of the iterator: the bytes from the next instruction on, the offset of the first of them, the limit on payloads, and whether STOP or a refusal was given
+-- what contracts see of the iterator: the bytes from the next instruction on, the offset of the
+-- first of them, the limit on payloads, and whether STOP or a refusal was given
 pub record Walk : Type 0 where
   pub bytes : List ℕ
   pub at : ℕ
@@ -38,25 +39,30 @@ pub record GivesItem (old : Walk) (at : ℕ) (i : Instruction) (new : Walk) : Ty
   pub limit : new.limit ≡ old.limit
   pub done : new.done ≡ is_stop i.op
 
--- what each reason says of the bytes that are left: that they end too early, or what they show
+-- what each reason says of the bytes that are left: that they end too early, or what is amiss
 abbrev pub IsRefused : ℕ → List ℕ → Reason → Type 0
 IsRefused limit bytes Truncated = Begun limit bytes
 IsRefused limit bytes reason = IsAmiss limit bytes reason
 
--- the bytes from the place on show the reason, and no other
+-- the bytes from the place on show the reason and no other, and nothing more will be given
 pub record RefusesItem (old : Walk) (r : Refusal) (new : Walk) : Type 0 where
   pub place : r.at ≡ old.at
   pub why : IsRefused old.limit old.bytes r.reason
   pub alone : (other : Reason) → IsRefused old.limit old.bytes other → other ≡ r.reason
-  pub done : new.done ≡ true
+  pub done : new ≡ record old { done = true }
 
 -- an item is an instruction with its place, or a refusal
 abbrev pub Yields : Walk → Result (ℕ × Inst) Refusal → Walk → Type 0
-Yields old item new = MatchResult item (λ given. GivesItem old given.0 (instruction_of given.1) new) (λ r. RefusesItem old r new)
+Yields old item new =
+    MatchResult item
+    (λ given. GivesItem old given.0 (instruction_of given.1) new)
+    (λ r. RefusesItem old r new)
 
--- one call of `next`: an item where neither STOP nor a refusal was given, and afterwards none, and nothing changes
+-- one call of `next`: an item where neither STOP nor a refusal was given, and afterwards none, and
+-- nothing changes
 abbrev pub Walks : Walk → Option (Result (ℕ × Inst) Refusal) → Walk → Type 0
-Walks old item new = MatchBool old.done ((item ≡ None) × (new ≡ old)) (MatchOption item ⊥ (λ x. Yields old x new))
+Walks old item new =
+    MatchBool old.done ((item ≡ None) × (new ≡ old)) (MatchOption item ⊥ (λ x. Yields old x new))
 
 -- the most items that are left: each takes a byte at least, and then there may be a refusal
 abbrev pub most_items : Walk → Count

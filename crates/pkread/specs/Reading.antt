@@ -6,6 +6,7 @@ use Rattle.pkops.specs.Spelling.{Instruction, spelling}
 use Rattle.pkread.specs.Admission.{IsAllowed}
 use Rattle.pkread.specs.Core.{CoreView, phase_after}
 use Rattle.pkread.specs.Rows.{Sight, Takes, Refuses, sight, all_bytes}
+use Rattle.pkread.specs.Sequence.{CountsAt}
 use Rattle.pkread.specs.declared.reader.Next.{Next}
 use Rattle.pkread.specs.declared.reader.Next.TheVariants as next
 use Rattle.pkread.specs.declared.reader.Phase.{Phase}
@@ -15,14 +16,16 @@ use Rattle.pkread.specs.declared.refusal.Reason.{Reason}
 use Rattle.pkread.specs.declared.refusal.Reason.TheVariants.{OutOfMemory}
 use Rattle.pkread.specs.declared.refusal.Refusal.{Refusal}
 
--- the source behind the `&mut` that the reader holds, and that reference's ghost name
+-- the source behind the `&mut` that the reader holds
 abbrev pub source_of : {R B : Type 0} → Reader R B → R
 source_of r = r.source.now
 
+-- the ghost name of that `&mut`
 abbrev pub source_name : {R B : Type 0} → Reader R B → GName
 source_name r = r.source.ghost_name
 
--- the sight of the source, the number of bytes taken, the limit on payloads, the most bytes ever held, and how the reader goes on
+-- the sight of the source, the number of bytes taken, the limit on payloads, the most bytes ever
+-- held, and how the reader goes on
 pub record State : Type 0 where
   pub source : Sight
   pub taken : ℕ
@@ -32,12 +35,19 @@ pub record State : Type 0 where
 
 -- the state of a reader, by the ghost members of its source's type
 abbrev pub state : {R : Type 0} → (R → Option (List ℕ)) → (R → ℕ) → Reader R CoreView → State
-state left failures r = record { source = sight left failures (source_of r); taken = r.core.taken; limit = r.core.limit; most = r.core.held.most; phase = r.core.phase }
+state left failures r = record {
+  source = sight left failures (source_of r);
+  taken = r.core.taken;
+  limit = r.core.limit;
+  most = r.core.held.most;
+  phase = r.core.phase;
+}
 
 -- the state of a new reader
 abbrev pub begun : Sight → ℕ → State
 begun source limit = record { source = source; taken = 0; limit = limit; most = 0; phase = Open }
 
+-- STOP was given
 abbrev pub is_ended : Phase → Bool
 is_ended Open = false
 is_ended Ended = true
@@ -71,17 +81,23 @@ pub record Raises (old : ℕ) (bytes : List ℕ) (reason : Reason) (new : ℕ) :
   pub least : old ≤ new
   pub most : new ≤ max old (length bytes)
 
--- the bytes from the place on were taken, and show the reason
+-- the bytes from the place on were taken, and show the reason; the count of failures goes up by one
+-- at Source alone
 pub record RefusesAt (old : State) (r : Refusal) (new : State) : Type 0 where
   pub place : r.at ≡ old.taken
-  pub why : (bytes : List ℕ) × Refuses old.limit old.source new.source bytes old.taken new.taken r.reason × Raises old.most bytes r.reason new.most
+  pub why : (bytes : List ℕ) ×
+      Refuses old.limit old.source new.source bytes old.taken new.taken r.reason ×
+      Raises old.most bytes r.reason new.most
+  pub failures : CountsAt r.reason old.source.failures new.source.failures
   pub phase : new.phase ≡ Refused r
 
+-- an open reader gives an instruction, and never that it has ended
 abbrev pub GivesNext : State → State → Next → Type 0
 GivesNext old new (next.Inst at inst) = Gives old at (instruction_of inst) new
 GivesNext old new next.Ended = ⊥
 
--- a call goes by the phase: an open reader gives or refuses; after STOP and after a refusal it answers the same for ever, and nothing changes
+-- a call goes by the phase: an open reader gives or refuses; after STOP and after a refusal it answers
+-- the same for ever, and nothing changes
 abbrev pub StepsFrom : Phase → State → Result Next Refusal → State → Type 0
 StepsFrom Open old result new = MatchResult result (GivesNext old new) (λ r. RefusesAt old r new)
 StepsFrom Ended old result new = (result ≡ Ok next.Ended) × (new ≡ old)
@@ -91,10 +107,12 @@ StepsFrom (Refused r) old result new = (result ≡ Err r) × (new ≡ old)
 abbrev pub Steps : State → Result Next Refusal → State → Type 0
 Steps old result new = (new.limit ≡ old.limit) × StepsFrom old.phase old result new
 
+-- the place is known at once, and that the instruction is allowed
 abbrev pub ShowsNext : State → Next → Type 0
 ShowsNext old (next.Inst at inst) = (at ≡ old.taken) × IsAllowed old.limit (instruction_of inst)
 ShowsNext old next.Ended = ⊥
 
+-- the answer by the phase, with no word of the state after
 abbrev pub ShowsFrom : Phase → State → Result Next Refusal → Type 0
 ShowsFrom Open old result = MatchResult result (ShowsNext old) (λ r. r.at ≡ old.taken)
 ShowsFrom Ended old result = result ≡ Ok next.Ended

@@ -33,13 +33,15 @@ pub record Fails (old new : Sight) (run : List ℕ) : Type 0 where
 abbrev pub all_bytes : ℕ
 all_bytes = 2 ^ 64 - 1
 
--- the most bytes that a reader's buffer holds: the longest counted argument with its code and count, or two lines with their code
+-- the most bytes that a reader's buffer holds: the longest counted argument with its code and count,
+-- or two lines with their code
 abbrev pub bound : ℕ → ℕ
 bound limit = max (limit + 9) 131_075
 
 -- a front of the bytes is an instruction, which is not admitted for the reason
 abbrev pub IsBarred : ℕ → List ℕ → Reason → Type 0
-IsBarred limit bytes reason = (i : Instruction) × (n : ℕ) × IsWhole limit bytes i n × (objection i ≡ Some reason)
+IsBarred limit bytes reason =
+    (i : Instruction) × (n : ℕ) × IsWhole limit bytes i n × (objection i ≡ Some reason)
 
 -- what the bytes from an instruction's first one on show to be amiss, for each reason that they can show
 abbrev pub IsAmiss : ℕ → List ℕ → Reason → Type 0
@@ -50,11 +52,14 @@ IsAmiss limit bytes ExtensionCode = IsBarred limit bytes ExtensionCode
 IsAmiss limit bytes (UnsupportedProtocol protocol) = IsBarred limit bytes (UnsupportedProtocol protocol)
 IsAmiss limit bytes _ = ⊥
 
--- what each reason says of the bytes that were taken from the instruction's first one on, where `taken` is the number of all bytes taken
+-- what each reason says of the bytes that were taken from the instruction's first one on, where
+-- `taken` is the number of all bytes taken
 abbrev pub Row : ℕ → Sight → Sight → List ℕ → ℕ → Reason → Type 0
 Row limit old new bytes taken Source = Fails old new bytes × Begun limit bytes
-Row limit old new bytes taken Truncated = Takes old new bytes × IsAtEnd new.left × (taken < all_bytes) × Begun limit bytes
-Row limit old new bytes taken TooLarge = Takes old new bytes × (IsAmiss limit bytes TooLarge ⊎ (Begun limit bytes × (taken ≡ all_bytes)))
+Row limit old new bytes taken Truncated =
+    Takes old new bytes × IsAtEnd new.left × (taken < all_bytes) × Begun limit bytes
+Row limit old new bytes taken TooLarge =
+    Takes old new bytes × (IsAmiss limit bytes TooLarge ⊎ (Begun limit bytes × (taken ≡ all_bytes)))
 Row limit old new bytes taken OutOfMemory = Takes old new bytes
 Row limit old new bytes taken reason = Takes old new bytes × IsAmiss limit bytes reason
 
@@ -62,9 +67,11 @@ Row limit old new bytes taken reason = Takes old new bytes × IsAmiss limit byte
 abbrev pub FrontsBegin : ℕ → List ℕ → Type 0
 FrontsBegin limit bytes = (k : ℕ) → k < length bytes → Begun limit (take k bytes)
 
--- the bytes were taken before a refusal for this reason: no more than show it, and they show no other (want of memory aside, which may stand in place of any)
+-- the bytes were taken before a refusal for this reason: no more than show it, and they show no other
+-- (want of memory aside, which may stand in place of any)
 pub record Refuses (limit : ℕ) (old new : Sight) (bytes : List ℕ) (before after : ℕ) (reason : Reason) : Type 0 where
   pub taken : after ≡ before + length bytes
   pub fronts : FrontsBegin limit bytes
   pub row : Row limit old new bytes after reason
-  pub alone : reason ≢ OutOfMemory → (other : Reason) → other ≢ OutOfMemory → Row limit old new bytes after other → other ≡ reason
+  pub alone : reason ≢ OutOfMemory → (other : Reason) → other ≢ OutOfMemory →
+      Row limit old new bytes after other → other ≡ reason

@@ -15,7 +15,8 @@ spellings instructions = flat_map spelling instructions
 -- each instruction is good, admitted and within the limits, the last is STOP, and no other is
 pub record IsSequence (limit : ℕ) (instructions : List Instruction) : Type 0 where
   pub each : All (IsAllowed limit) instructions
-  pub stops : (front : List Instruction) × (last : Instruction) × (instructions ≡ front ++ last ∷ []) × (last.op ≡ Stop) × All (λ i. i.op ≢ Stop) front
+  pub stops : (front : List Instruction) × (last : Instruction) ×
+      (instructions ≡ front ++ last ∷ []) × (last.op ≡ Stop) × All (λ i. i.op ≢ Stop) front
 
 -- the bytes taken between the two sights are one sequence, of n bytes
 pub record TakesSequence (limit : ℕ) (old new : Sight) (n : ℕ) : Type 0 where

@@ -40,7 +40,8 @@ impl Frames {
     /// the frame rules is refused and leaves everything as it was.
     pub fn take(&mut self, op: Op, length: u64, arg: u64) -> Result<(), BrokenFrame>
         requires { 0 < length }
-        ensures { Took self.old (record { length = length; role = role_of op arg }) result self.new }
+        ensures { Took self.old (record { length = length; role = role_of op arg })
+            result self.new }
     {
         if self.open == 0 {
             self.open = match op {

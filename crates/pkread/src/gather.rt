@@ -1,6 +1,7 @@
 //! Takes the bytes of one instruction from a source.
 
-ghost use Rattle.std.specs.Prelude.{◌≡◌, ◌+◌, ◌++◌, ◌∷◌, ◌≤◌, [], ℕ, List, IfOk, IfErr, length, max};
+ghost use Rattle.std.specs.Prelude.{◌≡◌, ◌+◌, ◌++◌, ◌∷◌, ◌≤◌, [], ℕ, List, IfOk, IfErr};
+ghost use Rattle.std.specs.Prelude.{length, max};
 ghost use Rattle.pkread.specs.Gathering.{Gathers, HoldsTaken, IsGathered, TakesNone};
 ghost use Rattle.pkread.specs.Rows.{Refuses, Takes, bound, sight};
 
@@ -20,8 +21,12 @@ pub(crate) fn gather<R: Source>(
 ) -> Result<Op, Reason>
     requires { buffer.old.bytes ≡ [] }
     ensures whole { IfOk result (λ op. IsGathered limits.now.counted buffer.new.bytes op) }
-    ensures ok { IfOk result (λ _. Gathers limits.now.counted (sight R.left R.failures source.old) (sight R.left R.failures source.new) buffer.new.bytes taken.old taken.new) }
-    ensures err { IfErr result (λ reason. (bytes : List ℕ) × Refuses limits.now.counted (sight R.left R.failures source.old) (sight R.left R.failures source.new) bytes taken.old taken.new reason × HoldsTaken reason bytes buffer.new.bytes) }
+    ensures ok { IfOk result (λ _. Gathers limits.now.counted
+        (sight R.left R.failures source.old) (sight R.left R.failures source.new)
+        buffer.new.bytes taken.old taken.new) }
+    ensures err { IfErr result (λ reason. (bytes : List ℕ) × Refuses limits.now.counted
+        (sight R.left R.failures source.old) (sight R.left R.failures source.new)
+        bytes taken.old taken.new reason × HoldsTaken reason bytes buffer.new.bytes) }
     ensures most { buffer.new.most ≡ max buffer.old.most (length buffer.new.bytes) }
     ensures bound { length buffer.new.bytes ≤ bound limits.now.counted }
 {
@@ -40,10 +45,14 @@ pub(crate) fn gather<R: Source>(
 
 /// Takes one byte more.
 fn take_one<R: Source>(source: &mut R, buffer: &mut Buffer, taken: &mut u64) -> Result<(), Reason>
-    ensures ok { IfOk result (λ _. (x : ℕ) × (buffer.new.bytes ≡ buffer.old.bytes ++ x ∷ []) × (taken.new ≡ taken.old + 1)
+    ensures ok { IfOk result (λ _. (x : ℕ) × (buffer.new.bytes ≡ buffer.old.bytes ++ x ∷ [])
+        × (taken.new ≡ taken.old + 1)
         × Takes (sight R.left R.failures source.old) (sight R.left R.failures source.new) (x ∷ [])) }
-    ensures most { IfOk result (λ _. buffer.new.most ≡ max buffer.old.most (length buffer.new.bytes)) }
-    ensures err { IfErr result (TakesNone (sight R.left R.failures source.old) (sight R.left R.failures source.new) taken.old taken.new) }
+    ensures most { IfOk result (λ _.
+        buffer.new.most ≡ max buffer.old.most (length buffer.new.bytes)) }
+    ensures err { IfErr result (TakesNone
+        (sight R.left R.failures source.old) (sight R.left R.failures source.new)
+        taken.old taken.new) }
     ensures same { IfErr result (λ _. buffer.new ≡ buffer.old) }
 {
     if *taken == u64::MAX {

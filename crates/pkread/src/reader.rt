@@ -66,7 +66,12 @@ impl Model for Core {
 
     ghost Value = { CoreView };
 
-    ghost view = { λ c. record { held = c.buffer; taken = c.taken; limit = c.limits.counted; phase = c.phase } };
+    ghost view = { λ c. record {
+      held = c.buffer;
+      taken = c.taken;
+      limit = c.limits.counted;
+      phase = c.phase;
+    } };
 
     ghost invariant = { λ c. c.buffer.most ≤ bound c.limits.counted };
 }
@@ -78,7 +83,12 @@ impl Core {
     ghost use Rattle.pkread.specs.declared.reader.Phase.TheVariants as phase;
 
     fn new(alloc: Global, limits: &Limits) -> Core
-        ensures { result ≡ record { held = none_held; taken = 0; limit = limits.now.counted; phase = phase.Open } }
+        ensures { result ≡ record {
+          held = none_held;
+          taken = 0;
+          limit = limits.now.counted;
+          phase = phase.Open;
+        } }
     {
         Core {
             buffer: Buffer::new(alloc),
@@ -109,8 +119,11 @@ impl Core {
 
     /// The instruction that the bytes held spell.
     fn instruction(&self) -> Inst<'_>
-        requires { (i : Instruction) × IsWhole self.now.limit self.now.held.bytes i (length self.now.held.bytes) }
-        ensures { (i : Instruction) → IsWhole self.now.limit self.now.held.bytes i (length self.now.held.bytes) → instruction_of result ≡ i }
+        requires { (i : Instruction)
+            × IsWhole self.now.limit self.now.held.bytes i (length self.now.held.bytes) }
+        ensures { (i : Instruction)
+            → IsWhole self.now.limit self.now.held.bytes i (length self.now.held.bytes)
+            → instruction_of result ≡ i }
     {
         match scan(self.buffer.bytes(), &self.limits) {
             Scan::Whole(inst, _) => inst,
@@ -122,12 +135,21 @@ impl Core {
     fn collect<R: Source>(&mut self, source: &mut R) -> Result<(), Refusal>
         requires { self.old.phase ≡ phase.Open }
         ensures limit { self.new.limit ≡ self.old.limit }
-        ensures whole { IfOk result (λ _. (op : Op) × IsGathered self.old.limit self.new.held.bytes op × (self.new.phase ≡ phase_after op)) }
-        ensures ok { IfOk result (λ _. Gathers self.old.limit (sight R.left R.failures source.old) (sight R.left R.failures source.new) self.new.held.bytes self.old.taken self.new.taken) }
-        ensures most { IfOk result (λ _. self.new.held.most ≡ max self.old.held.most (length self.new.held.bytes)) }
+        ensures whole { IfOk result (λ _. (op : Op)
+            × IsGathered self.old.limit self.new.held.bytes op
+            × (self.new.phase ≡ phase_after op)) }
+        ensures ok { IfOk result (λ _. Gathers self.old.limit
+            (sight R.left R.failures source.old) (sight R.left R.failures source.new)
+            self.new.held.bytes self.old.taken self.new.taken) }
+        ensures most { IfOk result (λ _.
+            self.new.held.most ≡ max self.old.held.most (length self.new.held.bytes)) }
         ensures within { self.new.taken ≤ all_bytes }
-        ensures place { IfErr result (λ r. (r.at ≡ self.old.taken) × (self.new.phase ≡ phase.Refused r)) }
-        ensures err { IfErr result (λ r. (bytes : List ℕ) × Refuses self.old.limit (sight R.left R.failures source.old) (sight R.left R.failures source.new) bytes self.old.taken self.new.taken r.reason × Raises self.old.held.most bytes r.reason self.new.held.most) }
+        ensures place { IfErr result (λ r.
+            (r.at ≡ self.old.taken) × (self.new.phase ≡ phase.Refused r)) }
+        ensures err { IfErr result (λ r. (bytes : List ℕ) × Refuses self.old.limit
+            (sight R.left R.failures source.old) (sight R.left R.failures source.new)
+            bytes self.old.taken self.new.taken r.reason
+            × Raises self.old.held.most bytes r.reason self.new.held.most) }
     {
         let at = self.taken;
         self.buffer.clear();
@@ -170,12 +192,14 @@ impl<'r, R: Source> Reader<'r, R> {
     ghost use Rattle.std.specs.Io.BufRead.{Rests};
     ghost use Rattle.pkread.specs.contracts.reader.Reader.{the_row};
     ghost use Rattle.pkread.specs.contracts.reader.Core.{the_row as core_row};
-    ghost use Rattle.pkread.specs.Reading.{KeepsSource, LeavesSource, Shows, Steps, begun, has_ended, state};
+    ghost use Rattle.pkread.specs.Reading.{KeepsSource, LeavesSource, Shows, Steps};
+    ghost use Rattle.pkread.specs.Reading.{begun, has_ended, state};
 
     /// A reader of the source, which has taken nothing yet.
     pub fn new(alloc: Global, source: &'r mut R, limits: &Limits) -> Reader<'r, R>
         ensures source { source_name result ≡ source.entry.ghost_name }
-        ensures state { state R.left R.failures result ≡ begun (sight R.left R.failures source.old) limits.now.counted }
+        ensures state { state R.left R.failures result
+            ≡ begun (sight R.left R.failures source.old) limits.now.counted }
     {
         Reader {
             source,
@@ -213,15 +237,17 @@ impl<'r, R: Source> Reader<'r, R> {
     /// where memory runs out. No read is tried again.
     pub fn next(&mut self) -> Result<Next<'_>, Refusal>
         ensures shows { Shows (state R.left R.failures self.old) result }
-        ensures* after { sem 𝓛 (Rests (the_row (record { mir = named 1; lft = [] }) R.row core_row) self.entry (λ new.
-            KeepsSource self.old new × Steps (state R.left R.failures self.old) result (state R.left R.failures new) × LeavesSource self.old new)) }
+        ensures* after { sem 𝓛 (Rests (the_row (record { mir = named 1; lft = [] }) R.row core_row)
+            self.entry (λ new. KeepsSource self.old new
+            × Steps (state R.left R.failures self.old) result (state R.left R.failures new)
+            × LeavesSource self.old new)) }
     {
         match self.core.phase() {
             Phase::Ended => return Ok(Next::Ended),
             Phase::Refused(refusal) => return Err(refusal),
             Phase::Open => {}
         }
-        let at = self.core.taken();
+        let at = self.taken();
         self.core.collect(self.source)?;
         Ok(Next::Inst {
             at,

@@ -27,7 +27,12 @@ impl<'a> Model for Genops<'a> {
 
     ghost Value = { Walk };
 
-    ghost view = { λ g. record { bytes = g.rest.now; at = g.at; limit = g.limits.counted; done = g.done } };
+    ghost view = { λ g. record {
+      bytes = g.rest.now;
+      at = g.at;
+      limit = g.limits.counted;
+      done = g.done;
+    } };
 
     ghost invariant = { λ g. g.at + length g.rest.now < 2 ^ 64 };
 }
@@ -87,8 +92,11 @@ fn is_stop(op: Op) -> bool
 
 /// The instruction that a front of the bytes spells, and how many bytes that front has.
 fn front<'a>(bytes: &'a [u8], limits: &Limits) -> Result<(Inst<'a>, usize), Reason>
-    ensures ok { IfOk result (λ given. IsWhole limits.now.counted bytes.now (instruction_of given.0) given.1 × (objection (instruction_of given.0) ≡ None)) }
-    ensures err { IfErr result (λ reason. IsRefused limits.now.counted bytes.now reason × ((other : Reason) → IsRefused limits.now.counted bytes.now other → other ≡ reason)) }
+    ensures ok { IfOk result (λ given.
+        IsWhole limits.now.counted bytes.now (instruction_of given.0) given.1
+        × (objection (instruction_of given.0) ≡ None)) }
+    ensures err { IfErr result (λ reason. IsRefused limits.now.counted bytes.now reason
+        × ((other : Reason) → IsRefused limits.now.counted bytes.now other → other ≡ reason)) }
 {
     match scan(bytes, limits) {
         Scan::Whole(inst, length) => match objection_to(inst) {

@@ -3,7 +3,7 @@
 ghost use Rattle.std.specs.Prelude.{◌≡◌, ℕ, Some, None, if◌then◌else◌, encode_utf8_all, IfOk, IfSome, is_some, string_bytes, ◌<◌};
 ghost use Rattle.std.specs.Option.{option_map};
 ghost use Rattle.std.specs.Char.{is_ascii_hexdigit, digit_value};
-ghost use Rattle.pkops.specs.Escapes.{text_named, step_of, IsSmall};
+ghost use Rattle.pkops.specs.EscapeSteps.{text_named, step_of, IsSmall};
 
 use std::alloc::{AllocError, Global};
 

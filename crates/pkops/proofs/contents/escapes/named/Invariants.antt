@@ -1,7 +1,7 @@
 use Rattle.std.proofs.Common.{◌≡◌, drop}
 use Rattle.std.specs.Prelude.{string_bytes, encode_utf8_all}
 use Rattle.std.specs.Option.{option_map}
-use Rattle.pkops.specs.Escapes.{code_points, text_named, IsSmall}
+use Rattle.pkops.specs.EscapeSteps.{code_points, text_named, IsSmall}
 use Rattle.pkops.proofs.Texts.{joined}
 use Rattle.pkops.proofs.contents.escapes.named.Given as goal
 

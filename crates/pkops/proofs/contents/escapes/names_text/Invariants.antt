@@ -1,6 +1,6 @@
 use Rattle.std.proofs.Common.{◌≡◌, drop}
 use Rattle.std.specs.Prelude.{is_some}
-use Rattle.pkops.specs.Escapes.{code_points, text_named, IsSmall}
+use Rattle.pkops.specs.EscapeSteps.{code_points, text_named, IsSmall}
 use Rattle.pkops.proofs.contents.escapes.names_text.Given as goal
 
 abbrev pub invariant-loop-byte : goal.invariant-loop-byte

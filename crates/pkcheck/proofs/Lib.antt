@@ -1,0 +1,23 @@
+pub mod Alike
+pub mod Step
+pub mod Fault
+pub mod Exact
+pub mod Sound
+pub mod Alarm
+pub mod Shown
+pub mod Popping
+pub mod Errs
+pub mod Limited
+pub mod Settled
+pub mod Placed
+pub mod Begins
+pub mod Room
+pub mod Judged
+pub mod Going
+pub mod Marks
+pub mod CoveredStep
+pub mod Examples
+pub mod ListFaults
+pub mod Items
+pub mod ListBound
+mod ListRows

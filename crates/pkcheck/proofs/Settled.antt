@@ -1,0 +1,35 @@
+-- An entry in the place of others.
+use Rattle.std.proofs.Common.{◌≡◌, ℕ, suc, ◌+◌, ◌%◌, ◌<◌, ◌≤◌, not, eqb, List, [], ◌∷◌, ◌++◌, length, take, get_or, refl, sym, ap, ◌∙◌, arith, add-one, append-nil, length-append}
+use Rattle.std.proofs.Math.ListN.{set}
+use Rattle.std.proofs.Math.Seq.{take-suc-set, take-length, take-suc}
+use Rattle.std.proofs.lemmas.Bool.Decides.{nat_tests}
+use Rattle.pkcheck.specs.declared.entry.Value.{Value}
+use Rattle.pkcheck.specs.declared.entry.Slot.{Slot}
+use Rattle.pkcheck.specs.declared.entry.Slot.TheVariants.{Bar, Object}
+use Rattle.pkcheck.specs.Shape.{is_even}
+use Rattle.pkcheck.specs.Slots.{known, entry_of, shown, values_of}
+use Rattle.pkcheck.proofs.Shown.{shown_append}
+
+pub shown_settled : (xs : List Slot) (n : ℕ) (s : Slot) → n < length xs → shown (take (n + 1) (set xs n s)) [] ≡ entry_of s ∷ shown (take n xs) []
+shown_settled xs n s h = rw (add-one, take-suc-set xs n s) (shown_append (take n xs) (s ∷ []) [])
+
+pub shown_pushed : (xs : List Slot) (n : ℕ) → n ≤ length xs → length xs ≤ n → shown (take n xs) [] ≡ shown xs []
+shown_pushed xs n h g = let e : n ≡ length xs = omega arith in rw (e, take-length xs) refl
+
+pub values_append : (xs ys : List Slot) → values_of (xs ++ ys) ≡ values_of xs ++ values_of ys
+values_append [] ys = refl
+values_append (Bar ∷ xs) ys = values_append xs ys
+values_append (Object v ∷ xs) ys = ap (λ l. known v ∷ l) (values_append xs ys)
+
+parity : (n : ℕ) → eqb (suc n % 2) 0 ≡ not (eqb (n % 2) 0)
+parity n = grind (arith, nat_tests)
+
+pub is_even_length : {A : Type 0} (xs : List A) → is_even xs ≡ eqb (length xs % 2) 0
+is_even_length [] = refl
+is_even_length (x ∷ xs) = ap not (is_even_length xs) ∙ sym (parity (length xs))
+
+pub count_bar : (xs : List Slot) (n : ℕ) (d : Slot) → n < length xs → get_or xs n d ≡ Bar → length (values_of (take (n + 1) xs)) ≡ length (values_of (take n xs))
+count_bar xs n d h e = rw (add-one, take-suc xs n d, e, values_append (take n xs) (Bar ∷ []), append-nil) refl
+
+pub count_object : (xs : List Slot) (n : ℕ) (d : Slot) (v : Value) → n < length xs → get_or xs n d ≡ Object v → length (values_of (take (n + 1) xs)) ≡ length (values_of (take n xs)) + 1
+count_object xs n d v h e = rw (add-one, take-suc xs n d, e, values_append (take n xs) (Object v ∷ []), length-append (values_of (take n xs)) (known v ∷ [])) refl

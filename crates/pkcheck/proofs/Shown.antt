@@ -1,0 +1,65 @@
+-- What the machine's fields say, as they change.
+use Rattle.std.proofs.Common.{◌≡◌, ℕ, suc, ◌<◌, List, [], ◌∷◌, ◌++◌, length, take, drop, get_or, Ok, Err, refl, ◌+◌, arith, length-drop}
+use Rattle.std.specs.Ordering.{nat_cmp}
+use Rattle.std.specs.BTreeMap.{insert_entry}
+use Rattle.std.proofs.Math.Seq.{take-suc, drop-cons}
+use Rattle.pkcheck.specs.declared.entry.Value.{Value}
+use Rattle.pkcheck.specs.declared.entry.Slot.{Slot}
+use Rattle.pkcheck.specs.declared.entry.Slot.TheVariants.{Bar, Object}
+use Rattle.pkcheck.specs.Shape.{NoItem, Entry, slice, items}
+use Rattle.pkcheck.specs.Knowledge.{Known}
+use Rattle.pkcheck.specs.Covers.{Pointwise, AlikeCell}
+use Rattle.pkcheck.specs.Slots.{AllObjects, FirstObject, known, entry_of, shown, values_of, remembered}
+use Rattle.pkcheck.proofs.Alike.{insert_alike}
+
+pub shown_append : (xs ys : List Slot) (below : List (Entry Known)) → shown (xs ++ ys) below ≡ shown ys (shown xs below)
+shown_append [] ys below = refl
+shown_append (x ∷ xs) ys below = shown_append xs ys (entry_of x ∷ below)
+
+-- the topmost of the first ones
+pub shown_take : (xs : List Slot) (m n : ℕ) (d x : Slot) → m ≡ suc n → n < length xs → get_or xs n d ≡ x → shown (take m xs) [] ≡ entry_of x ∷ shown (take n xs) []
+shown_take xs m n d x is h e = rw (is, take-suc xs n d, e) (shown_append (take n xs) (x ∷ []) [])
+
+pub values_drop : (xs : List Slot) (m n : ℕ) (d x : Slot) → m ≡ suc n → n < length xs → get_or xs n d ≡ x → values_of (drop n xs) ≡ values_of (x ∷ drop m xs)
+values_drop xs m n d x is h e = rw (is, drop-cons xs n d, e) refl
+
+module _ (xs : List Slot) (m n : ℕ) (d : Slot) (is : m ≡ suc n) (h : n < length xs) where
+  pub slice_at_bar : get_or xs n d ≡ Bar → slice (shown (take m xs) []) (values_of (drop m xs)) ≡ Ok (record { operands = values_of (drop n xs); below = shown (take n xs) [] })
+  slice_at_bar e = rw (shown_take xs m n d Bar is h e, values_drop xs m n d Bar is h e) refl
+
+  pub slice_at_object : (v : Value) → get_or xs n d ≡ Object v → slice (shown (take m xs) []) (values_of (drop m xs)) ≡ slice (shown (take n xs) []) (values_of (drop n xs))
+  slice_at_object v e = rw (shown_take xs m n d (Object v) is h e, values_drop xs m n d (Object v) is h e) refl
+
+  pub items_at_bar : (k : ℕ) (j : ℕ) → k ≡ suc j → get_or xs n d ≡ Bar → items k (shown (take m xs) []) (values_of (drop m xs)) ≡ Err NoItem
+  items_at_bar k j e g = rw (e, shown_take xs m n d Bar is h g) refl
+
+  pub items_at_object : (k j : ℕ) (v : Value) → k ≡ suc j → get_or xs n d ≡ Object v → items k (shown (take m xs) []) (values_of (drop m xs)) ≡ items j (shown (take n xs) []) (values_of (drop n xs))
+  items_at_object k j v e g = rw (e, shown_take xs m n d (Object v) is h g, values_drop xs m n d (Object v) is h g) refl
+
+pub items_at_bottom : (xs : List Slot) (m k j : ℕ) → m ≡ 0 → k ≡ suc j → items k (shown (take m xs) []) (values_of (drop m xs)) ≡ Err NoItem
+items_at_bottom xs m k j e g = rw (g, e) refl
+
+pub items_done : (xs : List Slot) (m k : ℕ) → k ≡ 0 → items k (shown (take m xs) []) (values_of (drop m xs)) ≡ Ok (record { operands = values_of (drop m xs); below = shown (take m xs) [] })
+items_done xs m k e = rw e refl
+
+remembered_alike : (es : List (ℕ × Value)) → Pointwise (AlikeCell (λ v k. known v ≡ k)) es (remembered es)
+remembered_alike [] = tt
+remembered_alike (e ∷ es) = ((refl, refl), remembered_alike es)
+
+alike_remembered : (es : List (ℕ × Value)) (fs : List (ℕ × Known)) → Pointwise (AlikeCell (λ v k. known v ≡ k)) es fs → remembered es ≡ fs
+alike_remembered [] [] h = refl
+alike_remembered (e ∷ es) (f ∷ fs) h = λ i. (h.0.0 i, h.0.1 i) ∷ alike_remembered es fs h.1 i
+alike_remembered [] (f ∷ fs) h = absurd h
+alike_remembered (e ∷ es) [] h = absurd h
+
+pub remembered_insert : (es : List (ℕ × Value)) (n : ℕ) (v : Value) → remembered (insert_entry nat_cmp es n v) ≡ insert_entry nat_cmp (remembered es) n (known v)
+remembered_insert es n v = alike_remembered _ _ (insert_alike (λ v k. known v ≡ k) n v (known v) es (remembered es) refl (remembered_alike es))
+
+pub starts_well : (xs : List Slot) (n k : ℕ) → n + k ≡ length xs → length (drop n xs) ≡ k
+starts_well xs n k e = omega (arith, length-drop n xs)
+
+pub all_objects : (xs : List Slot) (m n : ℕ) (d : Slot) → m ≡ suc n → n < length xs → (v : Value) → get_or xs n d ≡ Object v → AllObjects (drop m xs) → AllObjects (drop n xs)
+all_objects xs m n d is h v e a = rw (drop-cons xs n d, e, ← is) a
+
+pub first_object : (xs : List Slot) (n : ℕ) (d : Slot) → n < length xs → (v : Value) → get_or xs n d ≡ Object v → FirstObject (drop n xs)
+first_object xs n d h v e = rw (drop-cons xs n d, e) tt

@@ -1,0 +1,19 @@
+-- the subject
+pub mod Effects
+pub mod Shape
+pub mod Runs
+pub mod Knowledge
+pub mod Covers
+pub mod Faults
+pub mod WholeRuns
+pub mod Verdicts
+pub mod Exact
+-- the machine and its calls
+pub mod ListFile
+pub mod Allow
+pub mod Import
+pub mod View
+pub mod Memory
+-- the parts of the machine
+pub mod Slots
+pub mod Denials

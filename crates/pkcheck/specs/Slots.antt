@@ -1,0 +1,115 @@
+-- What the fields of the machine say.
+use Rattle.std.specs.Prelude.{ℕ, List, [], ◌∷◌, Some, None, map, ◌≡◌, ◌<◌, ◌≤◌, ◌⊎◌, length, Result, Ok, Err}
+use Rattle.std.specs.String.{string_bytes}
+use Rattle.pkcheck.specs.declared.entry.Value.{Value}
+use Rattle.pkcheck.specs.declared.entry.Value.TheVariants.{Unknown, Made, Chars}
+use Rattle.pkcheck.specs.declared.entry.Slot.{Slot}
+use Rattle.pkcheck.specs.declared.entry.Slot.TheVariants.{Bar, Object}
+use Rattle.pkcheck.specs.Runs.{Text, Plain}
+use Rattle.pkread.specs.declared.refusal.Reason.{Reason}
+use Rattle.pkread.specs.declared.refusal.Reason.TheVariants as reason
+use Rattle.pkcheck.specs.declared.effects.Takes.{Takes}
+use Rattle.pkcheck.specs.declared.effects.Takes.TheVariants.{Objects, Slice, SliceAndReceiver}
+use Rattle.pkcheck.specs.declared.effects.Names.{Names}
+use Rattle.pkcheck.specs.declared.effects.Names.TheVariants.{OfOperands}
+use Rattle.pkcheck.specs.declared.effects.Gives.{Gives}
+use Rattle.pkcheck.specs.declared.effects.Gives.TheVariants.{Leaves}
+use Rattle.pkcheck.specs.declared.effects.Effect.{Effect}
+use Rattle.pkcheck.specs.declared.effects.Effect.TheVariants.{Operates, Moves, Stops}
+use Rattle.pkcheck.specs.declared.effects.Move.{Move}
+use Rattle.pkcheck.specs.declared.effects.Move.TheVariants.{Pops, PopsMark, Passes, Extends}
+use Rattle.pkops.specs.Limits.{Bounds}
+use Rattle.pkcheck.specs.Shape.{Breach, Entry, Mark, Item}
+use Rattle.pkcheck.specs.Knowledge.{Known, Knowledge, Lacks, reason_of}
+
+abbrev pub known : Value → Known
+known Unknown = None
+known (Made s) = Some (Plain s)
+known (Chars t) = Some (Text (string_bytes t))
+
+abbrev pub entry_of : Slot → Entry Known
+entry_of Bar = Mark
+entry_of (Object v) = Item (known v)
+
+-- these entries, the last of them on top, over the others
+abbrev pub shown : List Slot → List (Entry Known) → List (Entry Known)
+shown [] below = below
+shown (s ∷ ss) below = shown ss (entry_of s ∷ below)
+
+-- the objects among them, in order
+abbrev pub values_of : List Slot → List Known
+values_of [] = []
+values_of (Bar ∷ ss) = values_of ss
+values_of (Object v ∷ ss) = known v ∷ values_of ss
+
+abbrev pub remembered : List (ℕ × Value) → List (ℕ × Known)
+remembered es = map (λ e. (e.0, known e.1)) es
+
+abbrev pub shape_of : List Slot → List (ℕ × Value) → Knowledge
+shape_of slots memo = record { entries = shown slots []; memo = remembered memo }
+
+-- the reason of a breach
+abbrev pub IsLack : {A : Type 0} → Result A Breach → Reason → Type 0
+IsLack x r = (b : Breach) × (x ≡ Err b) × (r ≡ reason_of (Lacks b))
+
+-- a move that only takes away, or changes nothing, wants no memory
+abbrev pub MayWant : Move → Type 0
+MayWant Pops = ⊥
+MayWant PopsMark = ⊥
+MayWant Passes = ⊥
+MayWant Extends = ⊥
+MayWant m = Unit {0}
+
+-- there is no room for one more than these, or no memory for it
+abbrev pub WantsRoom : ℕ → ℕ → Reason → Type 0
+WantsRoom limit count r = ((r ≡ reason.TooLarge) × (limit ≤ count)) ⊎ (r ≡ reason.OutOfMemory)
+
+-- these would be too many, or there is no memory for them
+abbrev pub WantsMemo : ℕ → List (ℕ × Known) → Reason → Type 0
+WantsMemo limit cells r = ((r ≡ reason.TooLarge) × (limit < length cells)) ⊎ (r ≡ reason.OutOfMemory)
+
+-- it leaves more than the limits
+abbrev pub IsPast : Bounds → Result Knowledge Breach → Type 0
+IsPast l x = (k : Knowledge) × (x ≡ Ok k) × ((l.stack < length k.entries) ⊎ (l.memo < length k.memo))
+
+-- the reason of a breach, or of want of room
+abbrev pub IsFault : Bounds → Result Knowledge Breach → Reason → Type 0
+IsFault l x r = IsLack x r ⊎ (((r ≡ reason.TooLarge) × IsPast l x) ⊎ (r ≡ reason.OutOfMemory))
+
+abbrev pub IsFaultOf : Move → Bounds → Result Knowledge Breach → Reason → Type 0
+IsFaultOf m l x r = IsLack x r ⊎ (((r ≡ reason.TooLarge) × IsPast l x) ⊎ (MayWant m × (r ≡ reason.OutOfMemory)))
+
+abbrev pub AllObjects : List Slot → Type 0
+AllObjects [] = Unit {0}
+AllObjects (Bar ∷ ss) = ⊥
+AllObjects (Object v ∷ ss) = AllObjects ss
+
+abbrev pub FirstObject : List Slot → Type 0
+FirstObject (Object v ∷ ss) = Unit {0}
+FirstObject ss = ⊥
+
+-- which of these are objects
+abbrev pub StartsWell : Takes → List Slot → Type 0
+StartsWell (Objects k) ss = (length ss ≡ k) × AllObjects ss
+StartsWell (Slice rule) ss = Unit {0}
+StartsWell (SliceAndReceiver rule) ss = FirstObject ss
+
+abbrev pub HasFirst : Takes → Type 0
+HasFirst (Objects k) = 0 < k
+HasFirst (Slice rule) = ⊥
+HasFirst (SliceAndReceiver rule) = Unit {0}
+
+-- what is left is there
+abbrev pub WellGiven : Gives → Takes → Type 0
+WellGiven (Leaves w) takes = HasFirst takes
+WellGiven gives takes = Unit {0}
+
+-- of_two operands name an import
+abbrev pub WellNamed : Names → Takes → Type 0
+WellNamed OfOperands takes = takes ≡ Objects 2
+WellNamed names takes = Unit {0}
+
+abbrev pub IsWell : Effect → Type 0
+IsWell (Operates takes names gives) = WellNamed names takes × WellGiven gives takes
+IsWell (Moves m) = Unit {0}
+IsWell Stops = Unit {0}

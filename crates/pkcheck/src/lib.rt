@@ -1,0 +1,20 @@
+//! Which imports a pickle makes, and whether a pickle can go wrong, over all that its operations may answer.
+#![tactic(auto)]
+
+mod allow;
+mod effects;
+mod entry;
+mod import;
+pub mod laws;
+mod machine;
+mod moves;
+mod operate;
+mod place;
+mod policy;
+mod turn;
+
+pub use allow::{Allow, AllowError, Where};
+pub use import::Asked;
+pub use machine::Machine;
+pub use policy::Policy;
+pub use turn::Moved;

@@ -1,0 +1,119 @@
+-- The tests of numerals hold exactly of the numerals.
+use Rattle.std.proofs.Common.{◌≡◌, ◌⊎◌, ℕ, suc, ◌+◌, ◌-◌, ◌<◌, Bool, true, false, ◌||◌, eqb, List, [], ◌∷◌, ◌++◌, length, take, get_or, refl, sym, ap, ◌∙◌, arith, inl, inr}
+use Rattle.std.specs.Prelude.{codes}
+use Rattle.std.specs.Char.{is_ascii_digit}
+use Rattle.std.proofs.lemmas.Bool.{and_parts, and_from, or_cases, eqb-true, ltb-true, lt-ltb}
+use Rattle.std.proofs.lemmas.List.{take_at, length-append}
+use Rattle.std.proofs.lemmas.List.Sums.{AllPass-from_list_all, list_all-from_AllPass}
+use Rattle.std.proofs.Math.Seq.{get_or-append_seam}
+use Rattle.pkops.specs.Numerals.{is_bool_line, IsPositive, IsNatural, IsNumeral, IsIntLine, IsLongLine, IsMemoNumber}
+use Rattle.pkops.specs.Deciding.{is_zero, is_positive, is_natural, is_negative, is_numeral, is_int_line, ends_in_l, is_marked_numeral, is_long_line, is_memo_number}
+
+pub or_left : (a b : Bool) → a ≡ true → (a || b) ≡ true
+or_left a b e = rw e refl
+
+pub or_right : (a b : Bool) → b ≡ true → (a || b) ≡ true
+or_right true b e = refl
+or_right false b e = e
+
+positive_is : (text : List ℕ) → is_positive text ≡ true → IsPositive text
+positive_is [] e = absurd cc
+positive_is (first ∷ rest) e =
+    let p = and_parts _ _ e in
+    (first, rest, p.0, AllPass-from_list_all is_ascii_digit rest p.1, refl)
+
+is_positive_of : (text : List ℕ) → IsPositive text → is_positive text ≡ true
+is_positive_of text (first, rest, nonzero, digits, e) =
+    ap is_positive e ∙ and_from _ _ nonzero (list_all-from_AllPass is_ascii_digit rest digits)
+
+zero_is : (text : List ℕ) → is_zero text ≡ true → text ≡ codes "0"
+zero_is [] e = absurd cc
+zero_is (digit ∷ []) e = ap (λ (d : ℕ). d ∷ []) (eqb-true digit 48 e)
+zero_is (digit ∷ next ∷ rest) e = absurd cc
+
+pub natural_is : (text : List ℕ) → is_natural text ≡ true → IsNatural text
+natural_is text e = elim (or_cases (is_zero text) (is_positive text) e) [
+  | inl z ↦ inl (zero_is text z)
+  | inr p ↦ inr (positive_is text p)
+]
+
+pub is_natural_of : (text : List ℕ) → IsNatural text → is_natural text ≡ true
+is_natural_of text (inl e) = ap is_natural e
+is_natural_of text (inr p) = or_right (is_zero text) _ (is_positive_of text p)
+
+negative_is : (text : List ℕ) → is_negative text ≡ true → (digits : List ℕ) × IsPositive digits × (text ≡ codes "-" ++ digits)
+negative_is [] e = absurd cc
+negative_is (sign ∷ digits) e =
+    let p = and_parts _ _ e in
+    (digits, positive_is digits p.1, ap (λ (s : ℕ). s ∷ digits) (eqb-true sign 45 p.0))
+
+numeral_is : (text : List ℕ) → is_numeral text ≡ true → IsNumeral text
+numeral_is text e = elim (or_cases (is_natural text) (is_negative text) e) [
+  | inl n ↦ inl (natural_is text n)
+  | inr n ↦ inr (negative_is text n)
+]
+
+is_numeral_of : (text : List ℕ) → IsNumeral text → is_numeral text ≡ true
+is_numeral_of text (inl n) = or_left (is_natural text) _ (is_natural_of text n)
+is_numeral_of text (inr (digits, p, e)) = or_right (is_natural text) _ (ap is_negative e ∙ is_positive_of digits p)
+
+bool_is : (line : List ℕ) → is_bool_line line ≡ true → (line ≡ codes "00") ⊎ (line ≡ codes "01")
+bool_is [] e = absurd cc
+bool_is (a ∷ []) e = absurd cc
+bool_is (a ∷ b ∷ []) e =
+    let p = and_parts (eqb a 48) _ e in
+    let first = eqb-true a 48 p.0 in
+    elim (or_cases (eqb b 48) (eqb b 49) p.1) [
+      | inl z ↦ inl (ap (λ (x : ℕ). x ∷ b ∷ []) first ∙ ap (λ (y : ℕ). 48 ∷ y ∷ []) (eqb-true b 48 z))
+      | inr o ↦ inr (ap (λ (x : ℕ). x ∷ b ∷ []) first ∙ ap (λ (y : ℕ). 48 ∷ y ∷ []) (eqb-true b 49 o))
+    ]
+bool_is (a ∷ b ∷ c ∷ rest) e = absurd cc
+
+pub int_is : (line : List ℕ) → is_int_line line ≡ true → IsIntLine line
+int_is line e = elim (or_cases (is_bool_line line) (is_numeral line) e) [
+  | inl b ↦ elim (bool_is line b) [ inl f ↦ inl f | inr t ↦ inr (inl t) ]
+  | inr n ↦ inr (inr (numeral_is line n))
+]
+
+pub is_int_of : (line : List ℕ) → IsIntLine line → is_int_line line ≡ true
+is_int_of line (inl e) = ap is_int_line e
+is_int_of line (inr (inl e)) = ap is_int_line e
+is_int_of line (inr (inr n)) = or_right (is_bool_line line) _ (is_numeral_of line n)
+
+-- a line that ends in an L is what is before it, and the L
+marked : (line : List ℕ) → 0 < length line → get_or line (length line - 1) 0 ≡ 76 → line ≡ take (length line - 1) line ++ 76 ∷ []
+marked [] some e = absurd (omega arith)
+marked (a ∷ []) some e = ap (λ (x : ℕ). x ∷ []) e
+marked (a ∷ b ∷ rest) some e =
+    let i : length (a ∷ b ∷ rest) - 1 ≡ suc (length (b ∷ rest) - 1) = omega arith in
+    let last = sym (ap (λ (n : ℕ). get_or (a ∷ b ∷ rest) n 0) i) ∙ e in
+    rw i (ap (λ (t : List ℕ). a ∷ t) (marked (b ∷ rest) (omega arith) last))
+
+pub long_is : (line : List ℕ) → is_long_line line ≡ true → IsLongLine line
+long_is line e = elim (or_cases (is_numeral line) (is_marked_numeral line) e) [
+  | inl n ↦ inl (numeral_is line n)
+  | inr m ↦
+      let p = and_parts (ends_in_l line) _ m in
+      let q = and_parts _ (eqb (get_or line (length line - 1) 0) 76) p.0 in
+      inr (take (length line - 1) line, numeral_is _ p.1, marked line (ltb-true 0 (length line) q.0) (eqb-true _ 76 q.1))
+]
+
+is_marked_of : (numeral : List ℕ) → IsNumeral numeral → is_marked_numeral (numeral ++ 76 ∷ []) ≡ true
+is_marked_of numeral n =
+    let len : length (numeral ++ 76 ∷ []) ≡ length numeral + 1 = length-append numeral (76 ∷ []) in
+    let before : length (numeral ++ 76 ∷ []) - 1 ≡ length numeral = omega (arith, len) in
+    let some : 0 < length (numeral ++ 76 ∷ []) = omega (arith, len) in
+    let last : get_or (numeral ++ 76 ∷ []) (length numeral) 0 ≡ 76 = get_or-append_seam numeral 76 [] 0 in
+    rw (lt-ltb 0 _ some, before, last, take_at numeral (76 ∷ []) (length numeral) refl, is_numeral_of numeral n) refl
+
+pub is_long_of : (line : List ℕ) → IsLongLine line → is_long_line line ≡ true
+is_long_of line (inl n) = or_left (is_numeral line) _ (is_numeral_of line n)
+is_long_of line (inr (numeral, n, e)) = or_right (is_numeral line) _ (ap is_marked_numeral e ∙ is_marked_of numeral n)
+
+pub memo_number_is : (line : List ℕ) → is_memo_number line ≡ true → IsMemoNumber line
+memo_number_is line e =
+    let p = and_parts (is_natural line) _ e in
+    record { natural = natural_is line p.0; small = ltb-true _ _ p.1 }
+
+pub is_memo_number_of : (line : List ℕ) → IsMemoNumber line → is_memo_number line ≡ true
+is_memo_number_of line h = and_from _ _ (is_natural_of line h.natural) (lt-ltb _ _ h.small)

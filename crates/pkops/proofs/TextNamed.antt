@@ -1,0 +1,34 @@
+-- The text of an instruction as a function is the one that it names.
+use Rattle.std.proofs.Common.{◌≡◌, ◌↔◌, ℕ, List, Option, Some, None, refl, sym, ap, ◌∙◌}
+use Rattle.std.specs.Prelude.{encode_utf8_all}
+use Rattle.std.specs.Option.{option_map}
+use Rattle.pkops.specs.declared.contents.Rule.{Rule}
+use Rattle.pkops.specs.declared.contents.Rule.TheVariants as rule
+use Rattle.pkops.specs.Spelling.{Argument, Line, Counted, Instruction}
+use Rattle.pkops.specs.Contents.{rule_of}
+use Rattle.pkops.specs.Escapes.{SpellsText}
+use Rattle.pkops.specs.EscapeSteps.{text_named}
+use Rattle.pkops.specs.Text.{NamesTextBy, NamesText, text_by, text_bytes}
+use Rattle.pkops.proofs.EscapesRead.{read_is_spelled, spelled_is_read}
+
+-- the two sides of a line of UNICODE, given what is read of it
+line_forth : (line text : List ℕ) → (points : List ℕ) × SpellsText line points × (text ≡ encode_utf8_all points) → option_map encode_utf8_all (text_named line) ≡ Some text
+line_forth line text (points, spelled, e) =
+    ap (option_map encode_utf8_all) (spelled_is_read line points spelled) ∙ ap (λ (t : List ℕ). Some t) (sym e)
+
+line_back : (line text : List ℕ) (read : Option (List ℕ)) → text_named line ≡ read → option_map encode_utf8_all read ≡ Some text → (points : List ℕ) × SpellsText line points × (text ≡ encode_utf8_all points)
+line_back line text None is e = absurd cc
+line_back line text (Some points) is e = (points, read_is_spelled line points is, cc)
+
+forth : (r : Rule) (a : Argument) (text : List ℕ) → NamesTextBy r a text → text_by r a ≡ Some text
+forth rule.Escapes (Line line) text h = line_forth line text h
+forth rule.Utf8 (Counted payload) text h = ap (λ (t : List ℕ). Some t) (sym h)
+forth _ _ text h = absurd h
+
+back : (r : Rule) (a : Argument) (text : List ℕ) → text_by r a ≡ Some text → NamesTextBy r a text
+back rule.Escapes (Line line) text e = line_back line text (text_named line) refl e
+back rule.Utf8 (Counted payload) text e = cc
+back _ _ text e = absurd cc
+
+pub text_is_named : (i : Instruction) (text : List ℕ) → NamesText i text ↔ (text_bytes i ≡ Some text)
+text_is_named i text = (forth (rule_of i.op) i.arg text, back (rule_of i.op) i.arg text)

@@ -1,0 +1,5 @@
+use Rattle.pkops.proofs.TextNamed.{text_is_named}
+use Rattle.pkops.proofs.laws.text_is_named.Goals as goal
+
+pub returns : goal.returns
+returns c = text_is_named

@@ -1,0 +1,148 @@
+-- How the code decides the rules of contents, from left to right. Only private functions cite these
+-- tests; `proofs/Decided.antt` shows that each holds exactly where its rule does.
+use Rattle.std.specs.Prelude.{ℕ, ◌-◌, ◌^◌, Bool, true, false, ◌&&◌, ◌||◌, ◌==◌, nat_lt, nat_le, is_some, if◌then◌else◌, List, [], ◌∷◌, length, take, drop, slice_index, Option, Some, None}
+use Rattle.std.specs.List.{list_all}
+use Rattle.std.specs.Option.{option_and_then}
+use Rattle.std.specs.Char.{is_ascii, is_ascii_digit, is_ascii_hexdigit}
+use Rattle.std.specs.Str.Parse.{digits_value}
+use Rattle.std.specs.Str.{is_utf8}
+use Rattle.pkops.specs.declared.contents.Rule.{Rule}
+use Rattle.pkops.specs.declared.contents.Rule.TheVariants as rule
+use Rattle.pkops.specs.declared.contents.old_string.Place.{Place}
+use Rattle.pkops.specs.declared.contents.old_string.Place.TheVariants.{Outside, Behind, High, Low}
+use Rattle.pkops.specs.Numerals.{is_bool_line, is_nonzero_digit}
+use Rattle.pkops.specs.OldStrings.{is_escape_letter}
+use Rattle.pkops.specs.EscapeSteps.{text_named}
+use Rattle.pkops.specs.Spelling.{Argument, Line, Pair, Counted}
+
+-- ---- numerals
+
+abbrev pub is_zero : List ℕ → Bool
+is_zero (digit ∷ []) = digit == 48
+is_zero _ = false
+
+abbrev pub is_positive : List ℕ → Bool
+is_positive [] = false
+is_positive (first ∷ rest) = is_nonzero_digit first && list_all is_ascii_digit rest
+
+abbrev pub is_natural : List ℕ → Bool
+is_natural text = is_zero text || is_positive text
+
+abbrev pub is_negative : List ℕ → Bool
+is_negative [] = false
+is_negative (sign ∷ digits) = (sign == 45) && is_positive digits
+
+abbrev pub is_numeral : List ℕ → Bool
+is_numeral text = is_natural text || is_negative text
+
+abbrev pub is_int_line : List ℕ → Bool
+is_int_line line = is_bool_line line || is_numeral line
+
+-- the last byte is an L
+abbrev pub ends_in_l : List ℕ → Bool
+ends_in_l line = nat_lt 0 (length line) && (slice_index line (length line - 1) == 76)
+
+abbrev pub is_marked_numeral : List ℕ → Bool
+is_marked_numeral line = ends_in_l line && is_numeral (take (length line - 1) line)
+
+abbrev pub is_long_line : List ℕ → Bool
+is_long_line line = is_numeral line || is_marked_numeral line
+
+abbrev pub is_memo_number : List ℕ → Bool
+is_memo_number line = is_natural line && nat_lt (digits_value 10 line) (2 ^ 32)
+
+-- ---- floats
+
+abbrev pub starts_with_digit : List ℕ → Bool
+starts_with_digit [] = false
+starts_with_digit (byte ∷ rest) = is_ascii_digit byte
+
+-- the bytes from the first on that is no digit
+abbrev pub after_digits : List ℕ → List ℕ
+after_digits [] = []
+after_digits (byte ∷ rest) = if is_ascii_digit byte then after_digits rest else byte ∷ rest
+
+abbrev pub is_digits : List ℕ → Bool
+is_digits text = starts_with_digit text && list_all is_ascii_digit text
+
+abbrev pub is_signed_digits : List ℕ → Bool
+is_signed_digits [] = false
+is_signed_digits (sign ∷ digits) = (sign == 43 || sign == 45) && is_digits digits
+
+abbrev pub is_exponent_or_end : List ℕ → Bool
+is_exponent_or_end [] = true
+is_exponent_or_end (byte ∷ rest) = (byte == 101) && is_signed_digits rest
+
+abbrev pub is_after_whole : List ℕ → Bool
+is_after_whole [] = true
+is_after_whole (byte ∷ rest) =
+    if byte == 46 then starts_with_digit rest && is_exponent_or_end (after_digits rest)
+    else is_exponent_or_end (byte ∷ rest)
+
+abbrev pub is_decimal : List ℕ → Bool
+is_decimal text = starts_with_digit text && is_after_whole (after_digits text)
+
+-- the three bytes, and nothing else
+abbrev pub is_word : (a b c : ℕ) → List ℕ → Bool
+is_word a b c (x ∷ y ∷ z ∷ []) = (x == a) && ((y == b) && (z == c))
+is_word a b c _ = false
+
+abbrev pub is_unsigned : List ℕ → Bool
+is_unsigned text = (is_word 105 110 102 text || is_word 110 97 110 text) || is_decimal text
+
+abbrev pub is_float_line : List ℕ → Bool
+is_float_line [] = false
+is_float_line (byte ∷ rest) = if byte == 45 then is_unsigned rest else is_unsigned (byte ∷ rest)
+
+-- ---- strings in quotes
+
+-- where a byte leads, if it may stand there
+abbrev pub next_place : (quote : ℕ) → Place → ℕ → Option Place
+next_place quote Outside byte =
+    if byte == 92 then Some Behind
+    else (if byte == quote then None else (if nat_le 0x20 byte && nat_le byte 0x7e then Some Outside else None))
+next_place quote Behind byte =
+    if byte == 120 then Some High else (if is_escape_letter byte then Some Outside else None)
+next_place quote High byte = if is_ascii_hexdigit byte then Some Low else None
+next_place quote Low byte = if is_ascii_hexdigit byte then Some Outside else None
+
+-- where the bytes lead from a place on
+unfoldable pub place_after : (quote : ℕ) → Place → List ℕ → Option Place
+place_after quote place [] = Some place
+place_after quote place (byte ∷ bytes) =
+    option_and_then (λ next. place_after quote next bytes) (next_place quote place byte)
+
+abbrev pub is_outside : Option Place → Bool
+is_outside (Some Outside) = true
+is_outside _ = false
+
+abbrev pub are_items : (quote : ℕ) → List ℕ → Bool
+are_items quote bytes = is_outside (place_after quote Outside bytes)
+
+abbrev pub is_quote : ℕ → Bool
+is_quote byte = byte == 39 || byte == 34
+
+abbrev pub is_string_line : List ℕ → Bool
+is_string_line line =
+    nat_le 2 (length line)
+    && (is_quote (slice_index line 0)
+    && ((slice_index line (length line - 1) == slice_index line 0)
+    && are_items (slice_index line 0) (take (length line - 2) (drop 1 line))))
+
+-- ---- all rules
+
+abbrev pub is_name : List ℕ → Bool
+is_name line = nat_lt 0 (length line) && list_all is_ascii line
+
+abbrev pub passes : Rule → Argument → Bool
+passes rule.Anything _ = true
+passes rule.Int (Line line) = is_int_line line
+passes rule.Long (Line line) = is_long_line line
+passes rule.MemoNumber (Line line) = is_memo_number line
+passes rule.Float (Line line) = is_float_line line
+passes rule.OldString (Line line) = is_string_line line
+passes rule.Escapes (Line line) = is_some (text_named line)
+passes rule.Utf8 (Counted payload) = is_utf8 payload
+passes rule.Names (Pair first second) = is_name first && is_name second
+passes rule.Ascii (Line line) = list_all is_ascii line
+passes _ _ = false

@@ -1,0 +1,38 @@
+-- How the code reads text with escapes, byte by byte. Only private functions and `Text` cite these;
+-- `proofs/EscapesRead.antt` shows that they read exactly what `Escapes` spells.
+use Rattle.std.specs.Prelude.{ℕ, ◌+◌, ◌-◌, ◌*◌, ◌<◌, Bool, ◌&&◌, ◌||◌, ◌==◌, nat_lt, if◌then◌else◌, List, [], ◌∷◌, Option, Some, None, ⊤}
+use Rattle.std.specs.Option.{option_map, option_and_then}
+use Rattle.std.specs.Char.{is_ascii_hexdigit, digit_value}
+use Rattle.pkops.specs.declared.contents.escapes.State.{State}
+use Rattle.pkops.specs.declared.contents.escapes.State.TheVariants.{Outside, Behind, Digits}
+
+-- a code point that is no surrogate
+abbrev pub is_scalar : ℕ → Bool
+is_scalar n = nat_lt n 0xd800 || (nat_lt 0xdfff n && nat_lt n 0x11_0000)
+
+-- where a byte leads, and the code point that it ends, if it ends one
+abbrev pub step_of : State → ℕ → Option (State × Option ℕ)
+step_of Outside byte = if byte == 92 then Some (Behind, None) else Some (Outside, Some byte)
+step_of Behind byte = if byte == 117 then Some (Digits 4 0, None) else (if byte == 85 then Some (Digits 8 0, None) else None)
+step_of (Digits left value) byte =
+    if is_ascii_hexdigit byte then (if nat_lt left 2 then (if is_scalar (value * 16 + digit_value byte) then Some (Outside, Some (value * 16 + digit_value byte)) else None) else (if nat_lt (value * 16 + digit_value byte) 0x11_0000 then Some (Digits (left - 1) (value * 16 + digit_value byte), None) else None)) else None
+
+abbrev pub with_point : Option ℕ → List ℕ → List ℕ
+with_point None points = points
+with_point (Some point) points = point ∷ points
+
+-- the code points that bytes name from a state on
+unfoldable pub code_points : State → List ℕ → Option (List ℕ)
+code_points Outside [] = Some []
+code_points Behind [] = None
+code_points (Digits left value) [] = None
+code_points state (byte ∷ bytes) = option_and_then (λ next. option_map (with_point next.1) (code_points next.0 bytes)) (step_of state byte)
+
+-- the text that a line names
+abbrev pub text_named : List ℕ → Option (List ℕ)
+text_named line = code_points Outside line
+
+abbrev pub IsSmall : State → Type 0
+IsSmall Outside = ⊤
+IsSmall Behind = ⊤
+IsSmall (Digits left value) = value < 0x11_0000
