@@ -22,3 +22,4 @@ pub mod EscapesRead
 pub mod Decided
 pub mod Had
 pub mod TextNamed
+pub mod Rows

@@ -1,5 +1,5 @@
 -- The text of an instruction as a function is the one that it names.
-use Rattle.std.proofs.Common.{◌≡◌, ◌↔◌, ℕ, List, Option, Some, None, refl, sym, ap, ◌∙◌}
+use Rattle.std.proofs.Common.{MatchOption, ◌≡◌, ◌↔◌, ℕ, List, Option, Some, None, refl, sym, ap, ◌∙◌}
 use Rattle.std.specs.Prelude.{encode_utf8_all}
 use Rattle.std.specs.Option.{option_map}
 use Rattle.pkops.specs.declared.contents.Rule.{Rule}
@@ -32,3 +32,8 @@ back _ _ text e = absurd cc
 
 pub text_is_named : (i : Instruction) (text : List ℕ) → NamesText i text ↔ (text_bytes i ≡ Some text)
 text_is_named i text = (forth (rule_of i.op) i.arg text, back (rule_of i.op) i.arg text)
+
+-- what is answered as the function says is answered as the relation says
+pub answered : {A : Type 0} (i : Instruction) (view : A → List ℕ) (text : Option A) → option_map view text ≡ text_bytes i → MatchOption text ((bytes : List ℕ) → NamesText i bytes → ⊥) (λ x. NamesText i (view x))
+answered i view None e = λ bytes h. let f = forth (rule_of i.op) i.arg bytes h in cc
+answered i view (Some x) e = back (rule_of i.op) i.arg (view x) (sym e)

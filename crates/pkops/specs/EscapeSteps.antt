@@ -10,28 +10,37 @@ use Rattle.pkops.specs.declared.contents.escapes.State.TheVariants.{Outside, Beh
 abbrev pub is_scalar : ℕ → Bool
 is_scalar n = nat_lt n 0xd800 || (nat_lt 0xdfff n && nat_lt n 0x11_0000)
 
--- where a byte leads, and the code point that it ends, if it ends one
+-- where a digit leads that makes the number of an escape this one, where so many digits were left
+abbrev pub digit_step : (left value : ℕ) → Option (State × Option ℕ)
+digit_step left value =
+    if nat_lt left 2 then (if is_scalar value then Some (Outside, Some value) else None)
+    else (if nat_lt value 0x11_0000 then Some (Digits (left - 1) value, None) else None)
+
+-- where a byte leads, if it may stand there, and the code point of the character that it ends
 abbrev pub step_of : State → ℕ → Option (State × Option ℕ)
 step_of Outside byte = if byte == 92 then Some (Behind, None) else Some (Outside, Some byte)
-step_of Behind byte = if byte == 117 then Some (Digits 4 0, None) else (if byte == 85 then Some (Digits 8 0, None) else None)
+step_of Behind byte =
+    if byte == 117 then Some (Digits 4 0, None) else (if byte == 85 then Some (Digits 8 0, None) else None)
 step_of (Digits left value) byte =
-    if is_ascii_hexdigit byte then (if nat_lt left 2 then (if is_scalar (value * 16 + digit_value byte) then Some (Outside, Some (value * 16 + digit_value byte)) else None) else (if nat_lt (value * 16 + digit_value byte) 0x11_0000 then Some (Digits (left - 1) (value * 16 + digit_value byte), None) else None)) else None
+    if is_ascii_hexdigit byte then digit_step left (value * 16 + digit_value byte) else None
 
+-- code points behind the one of a character that just ended, if one did
 abbrev pub with_point : Option ℕ → List ℕ → List ℕ
 with_point None points = points
 with_point (Some point) points = point ∷ points
 
--- the code points that bytes name from a state on
+-- the code points of the characters that bytes end, from a state on; none if they end inside an escape
 unfoldable pub code_points : State → List ℕ → Option (List ℕ)
 code_points Outside [] = Some []
 code_points Behind [] = None
 code_points (Digits left value) [] = None
 code_points state (byte ∷ bytes) = option_and_then (λ next. option_map (with_point next.1) (code_points next.0 bytes)) (step_of state byte)
 
--- the text that a line names
+-- the code points of a line, if it spells a text
 abbrev pub text_named : List ℕ → Option (List ℕ)
 text_named line = code_points Outside line
 
+-- the number of an escape is that of a code point so far
 abbrev pub IsSmall : State → Type 0
 IsSmall Outside = ⊤
 IsSmall Behind = ⊤

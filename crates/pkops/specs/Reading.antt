@@ -1,4 +1,5 @@
--- Reading from left to right, with the first fault that is met.
+-- How the code reads an argument from left to right, and which fault it meets first. Only private
+-- functions cite these; `proofs/Args.antt` shows that each layout is read as `Scanning` says.
 use Rattle.std.specs.Prelude.{◌≡◌, ℕ, ◌+◌, List, length, take, drop, Bool, Option, Some, None, Result, Ok, Err, nat_lt, nat_le, position, ◌==◌, if◌then◌else◌}
 use Rattle.std.specs.Int.{w32, cast_signed}
 use Rattle.byteorder.specs.Endian.{little_number}
@@ -10,6 +11,7 @@ use Rattle.pkops.specs.declared.fault.Stop.{Stop}
 use Rattle.pkops.specs.declared.fault.Stop.TheVariants.{Short, Bad}
 use Rattle.pkops.specs.Spelling.{Argument, Nothing, Number, Signed, Float, Line, Pair, Counted, count_limit, size_of}
 
+-- the first fault ends the reading
 infixl 10 ◌>>=◌
 abbrev pub ◌>>=◌ : {A B : Type 0} → Result A Stop → (A → Result B Stop) → Result B Stop
 (Ok x) >>= f = f x
@@ -20,30 +22,37 @@ abbrev pub Gives : {X Y : Type 0} → (X → Y) → Result X Stop → Result Y S
 Gives view (Ok x) read = read ≡ Ok (view x)
 Gives view (Err e) read = read ≡ Err e
 
+-- so many bytes, and the bytes after them
 abbrev pub bytes_at : ℕ → List ℕ → Result (List ℕ × List ℕ) Stop
 bytes_at n bytes = if nat_lt (length bytes) n then Err Short else Ok (take n bytes, drop n bytes)
 
+-- a number of so many bytes, the lowest first
 abbrev pub number_at : ℕ → List ℕ → Result (ℕ × List ℕ) Stop
 number_at width bytes = if nat_lt (length bytes) width then Err Short else Ok (little_number width bytes, drop width bytes)
 
+-- a line, given where the first line feed stands
 abbrev at_end : ℕ → List ℕ → Option ℕ → Result (List ℕ × List ℕ) Stop
 at_end most bytes None = if nat_le (length bytes) most then Err Short else Err (Bad TooLarge)
 at_end most bytes (Some i) = if nat_le i most then Ok (take i bytes, drop (i + 1) bytes) else Err (Bad TooLarge)
 
+-- a line of at most so many bytes
 unfoldable pub line_at : ℕ → List ℕ → Result (List ℕ × List ℕ) Stop
 line_at most bytes = at_end most bytes (position (λ byte. byte == 10) bytes)
 
+-- two such lines
 abbrev pub pair_at : ℕ → List ℕ → Result ((List ℕ × List ℕ) × List ℕ) Stop
 pair_at most bytes = do
   first ← line_at most bytes
   second ← line_at most first.1
   Ok ((first.0, second.0), second.1)
 
+-- a count, and as many bytes as it says
 unfoldable pub payload_at : ℕ → Width → Bool → List ℕ → Result (List ℕ × List ℕ) Stop
 payload_at limit size signed bytes = do
   count ← number_at (size_of size) bytes
   if nat_le (count_limit size signed) count.0 then Err (Bad BadArgument) else (if nat_lt limit count.0 then Err (Bad TooLarge) else bytes_at count.0 count.1)
 
+-- an argument of the layout, and the bytes after it
 unfoldable pub arg_at : ℕ → Layout → List ℕ → Result (Argument × List ℕ) Stop
 arg_at limit layout.Nothing bytes = Ok (Nothing, bytes)
 arg_at limit layout.U1 bytes = number_at 1 bytes >>= λ n. Ok (Number 1 n.0, n.1)

@@ -1,4 +1,4 @@
--- What the front of some bytes is.
+-- What bytes are that are read from the front: an instruction, the beginning of one, or a fault.
 use Rattle.std.specs.Prelude.{◌≡◌, ◌≢◌, ◌⊎◌, ℕ, ◌+◌, ◌<◌, ◌≤◌, List, [], ◌∷◌, ◌++◌, length, take, drop, max}
 use Rattle.std.specs.List.{AllByRecursion}
 use Rattle.byteorder.specs.Endian.{little_number}
@@ -11,7 +11,7 @@ use Rattle.pkops.specs.Table.{code_of}
 use Rattle.pkops.specs.Spelling.{Argument, Counted, Instruction, Suits, layout_at, spelling, count_limit, size_of, IsLine}
 use Rattle.pkops.specs.Contents.{IsGood}
 
--- a payload is within the limit
+-- a payload has at most as many bytes as the limit says
 abbrev pub IsWithin : ℕ → Argument → Type 0
 IsWithin limit (Counted payload) = length payload ≤ limit
 IsWithin limit _ = Unit {0}
@@ -42,6 +42,8 @@ pub record Begins (limit : ℕ) (bytes : List ℕ) (i : Instruction) (more : Lis
   pub parts : spelling i ≡ bytes ++ more
   pub lacks : more ≢ []
 
+-- the bytes begin an instruction and are not the whole of it. What they begin may be bad: its
+-- contents are judged once it is whole
 abbrev pub Begun : ℕ → List ℕ → Type 0
 Begun limit bytes = (i : Instruction) × (more : List ℕ) × Begins limit bytes i more
 
@@ -68,6 +70,8 @@ pub record IsBroken (limit : ℕ) (bytes : List ℕ) (i : Instruction) (rest : L
   pub parts : bytes ≡ spelling i ++ rest
   pub bad : ¬ (IsGood i)
 
+-- the bytes begin with the code of no opcode; or with an instruction whose contents are bad, or a
+-- negative count; or with an argument above a limit
 abbrev pub HasFault : ℕ → Fault → List ℕ → Type 0
 HasFault limit (UnknownOpcode code) bytes = (rest : List ℕ) × (bytes ≡ code ∷ rest) × ((op : Op) → code_of op ≢ code)
 HasFault limit BadArgument bytes = ((i : Instruction) × (rest : List ℕ) × IsBroken limit bytes i rest) ⊎ ((op : Op) × (rest : List ℕ) × (bytes ≡ code_of op ∷ rest) × IsNegative (layout_at op) rest)

@@ -1,4 +1,7 @@
--- What an instruction is and how it is spelled.
+-- What an instruction is and how it is spelled: a code, and an argument laid out by its kind, after
+-- the argument descriptors of CPython's `pickletools` (`read_uint1` to `read_unicodestring8`).
+-- Arguments are kept as they are spelled, so an instruction has one spelling. The 25 kinds have ten
+-- layouts; which contents are good beyond the layout is said in `Contents`.
 use Rattle.std.specs.Prelude.{◌≡◌, ◌≢◌, ℕ, ℤ, ◌-◌, ◌*◌, ◌^◌, ◌<◌, ◌≤◌, Bool, true, false, List, [], ◌∷◌, ◌++◌, length, FitsSigned}
 use Rattle.std.specs.List.{AllByRecursion}
 use Rattle.std.specs.Int.{w32, cast_unsigned}
@@ -14,7 +17,8 @@ use Rattle.pkops.specs.declared.arg.Arg.{Arg}
 use Rattle.pkops.specs.declared.arg.Arg.TheVariants as arg
 use Rattle.pkops.specs.Table.{code_of, kind_of}
 
--- an argument, without where it lies in memory
+-- an argument, without where it lies in memory: nothing, a number of so many bytes, a number of four
+-- bytes with a sign, the bytes of a float, a line, two lines, or a payload behind its count
 pub data Argument : Type 0 where
   Nothing : Argument
   Number : (width value : ℕ) → Argument
@@ -24,13 +28,16 @@ pub data Argument : Type 0 where
   Pair : (first second : List ℕ) → Argument
   Counted : List ℕ → Argument
 
+-- an opcode and an argument
 pub record Instruction : Type 0 where
   pub op : Op
   pub arg : Argument
 
+-- the instruction of an opcode and an argument, good or not
 abbrev pub instruction : Op → Argument → Instruction
 instruction op arg = record { op = op; arg = arg }
 
+-- the program's argument as that of the definitions
 abbrev pub shown_arg : Arg → Argument
 shown_arg arg.None = Nothing
 shown_arg (arg.U1 n) = Number 1 n
@@ -43,7 +50,8 @@ shown_arg (arg.Line text) = Line text.now
 shown_arg (arg.Pair first name) = Pair first.now name.now
 shown_arg (arg.Counted payload) = Counted payload.now
 
--- how the argument of each kind lies
+-- how the argument of each kind lies; a line has at most 1,024 bytes where it is an int or the number
+-- of a memo entry, and at most 65,536 otherwise (limits of this project)
 abbrev pub layout_of : Kind → Layout
 layout_of kind.None = layout.Nothing
 layout_of kind.Uint1 = layout.U1
@@ -71,7 +79,7 @@ layout_of kind.Bytes8 = layout.Counted width.Eight false
 layout_of kind.Bytearray8 = layout.Counted width.Eight false
 layout_of kind.Unicodestring8 = layout.Counted width.Eight false
 
--- the bytes of a count
+-- how many bytes a count has
 abbrev pub size_of : Width → ℕ
 size_of width.One = 1
 size_of width.Four = 4
@@ -87,7 +95,7 @@ pub record IsLine (most : ℕ) (text : List ℕ) : Type 0 where
   pub short : length text ≤ most
   pub whole : AllByRecursion (λ byte. byte ≢ 10) text
 
--- the arguments of a layout, their limits of lines among it
+-- the argument is one of the layout: its numbers, lines and counts fit
 abbrev pub Suits : Layout → Argument → Type 0
 Suits layout.Nothing Nothing = Unit {0}
 Suits layout.U1 (Number width n) = (width ≡ 1) × (n < 256 ^ 1)
@@ -101,7 +109,8 @@ Suits (layout.Pair most) (Pair first name) = IsLine most first × IsLine most na
 Suits (layout.Counted size signed) (Counted payload) = length payload < count_limit size signed
 Suits _ _ = ⊥
 
--- the bytes of an argument, by its layout
+-- the bytes of an argument, by its layout: numbers and counts have their lowest byte first, negative
+-- numbers are in two's complement, and each line ends in a line feed
 abbrev pub bytes_of : Argument → Layout → List ℕ
 bytes_of Nothing _ = []
 bytes_of (Number width n) _ = little_bytes width n
@@ -112,9 +121,11 @@ bytes_of (Pair first second) _ = (first ++ 10 ∷ []) ++ (second ++ 10 ∷ [])
 bytes_of (Counted payload) (layout.Counted size signed) = little_bytes (size_of size) (length payload) ++ payload
 bytes_of (Counted payload) _ = payload
 
+-- the same, layout first
 abbrev pub laid : Layout → Argument → List ℕ
 laid lay arg = bytes_of arg lay
 
+-- the layout of an opcode's argument
 abbrev pub layout_at : Op → Layout
 layout_at op = layout_of (kind_of op)
 

@@ -7,7 +7,7 @@ ghost use Rattle.pkops.specs.Deciding.{passes};
 ghost use Rattle.pkops.specs.Spelling.{shown_arg};
 
 use crate::arg::Arg;
-use crate::contents::escapes::names_text;
+use crate::contents::escapes::spells_text;
 use crate::contents::float::is_float_line;
 use crate::contents::name::{is_ascii, is_name};
 use crate::contents::numeral::{is_int_line, is_long_line, memo_number};
@@ -82,7 +82,7 @@ fn passes(rule: Rule, arg: Arg<'_>) -> bool
         (Rule::MemoNumber, Arg::Line(line)) => memo_number(line).is_some(),
         (Rule::Float, Arg::Line(line)) => is_float_line(line),
         (Rule::OldString, Arg::Line(line)) => is_string_line(line),
-        (Rule::Escapes, Arg::Line(line)) => names_text(line),
+        (Rule::Escapes, Arg::Line(line)) => spells_text(line),
         (Rule::Utf8, Arg::Counted(payload)) => is_utf8(payload),
         (Rule::Names, Arg::Pair(module, name)) => is_name(module) && is_name(name),
         (Rule::Ascii, Arg::Line(line)) => is_ascii(line),

@@ -199,6 +199,7 @@ fn suits(layout: Layout, arg: Arg<'_>) -> bool
     }
 }
 
+/// Whether the text is a line of at most so many bytes.
 fn is_line(most: usize, text: &[u8]) -> bool
     ensures { MatchBool result (IsLine most text.now) (¬ (IsLine most text.now)) }
 {

@@ -38,6 +38,13 @@ impl Limits {
         values: 1_000_000,
     };
 
+    /// The standard limits.
+    pub fn standard() -> Limits
+        ensures { result ≡ standard }
+    {
+        Limits::STANDARD
+    }
+
     /// Limits with these numbers, where each is at most the standard one.
     pub fn new(counted: u64, stack: u64, memo: u64, depth: u64, values: u64) -> Option<Limits>
         ensures { SomeIff result (AreWithin (bounds counted stack memo depth values) standard) (bounds counted stack memo depth values) }

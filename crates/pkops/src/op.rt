@@ -3,171 +3,196 @@
 /// An opcode, by the name that it has in `pickletools`.
 #[derive(Clone, Copy, Debug, PartialEq, Eq)]
 pub enum Op {
-    /// INT
+    /// `INT`: an int or a bool, by a line of decimal digits.
     Int,
-    /// BININT
+    /// `BININT`: an int, by four bytes with a sign.
     BinInt,
-    /// BININT1
+    /// `BININT1`: an int, by one byte.
     BinInt1,
-    /// BININT2
+    /// `BININT2`: an int, by two bytes.
     BinInt2,
-    /// LONG
+    /// `LONG`: an int, by a line of decimal digits.
     Long,
-    /// LONG1
+    /// `LONG1`: an int, by up to 255 bytes.
     Long1,
-    /// LONG4
+    /// `LONG4`: an int, by up to 2^31 - 1 bytes.
     Long4,
-    /// STRING
+    /// `STRING`: a string of Python 2, by a line in quotes.
     String,
-    /// BINSTRING
+    /// `BINSTRING`: a string of Python 2, by up to 2^31 - 1 bytes.
     BinString,
-    /// SHORT_BINSTRING
+    /// `SHORT_BINSTRING`: a string of Python 2, by up to 255 bytes.
     ShortBinString,
-    /// BINBYTES
+    /// `BINBYTES`: bytes, up to 2^32 - 1.
     BinBytes,
-    /// SHORT_BINBYTES
+    /// `SHORT_BINBYTES`: bytes, up to 255.
     ShortBinBytes,
-    /// BINBYTES8
+    /// `BINBYTES8`: bytes, behind a count of eight bytes.
     BinBytes8,
-    /// BYTEARRAY8
+    /// `BYTEARRAY8`: a bytearray, behind a count of eight bytes.
     ByteArray8,
-    /// NEXT_BUFFER
+    /// `NEXT_BUFFER`: the next of the buffers that lie outside of the pickle.
     NextBuffer,
-    /// READONLY_BUFFER
+    /// `READONLY_BUFFER`: the buffer on top of the stack, made read-only.
     ReadonlyBuffer,
-    /// NONE
+    /// `NONE`: None.
     None,
-    /// NEWTRUE
+    /// `NEWTRUE`: True.
     NewTrue,
-    /// NEWFALSE
+    /// `NEWFALSE`: False.
     NewFalse,
-    /// UNICODE
+    /// `UNICODE`: text, by a line with escapes.
     Unicode,
-    /// SHORT_BINUNICODE
+    /// `SHORT_BINUNICODE`: text, by up to 255 bytes of UTF-8.
     ShortBinUnicode,
-    /// BINUNICODE
+    /// `BINUNICODE`: text, by up to 2^32 - 1 bytes of UTF-8.
     BinUnicode,
-    /// BINUNICODE8
+    /// `BINUNICODE8`: text, by UTF-8 behind a count of eight bytes.
     BinUnicode8,
-    /// FLOAT
+    /// `FLOAT`: a float, by a line of decimal digits.
     Float,
-    /// BINFLOAT
+    /// `BINFLOAT`: a float, by eight bytes.
     BinFloat,
-    /// EMPTY_LIST
+    /// `EMPTY_LIST`: a new list.
     EmptyList,
-    /// APPEND
+    /// `APPEND`: appends the top object to the list below it.
     Append,
-    /// APPENDS
+    /// `APPENDS`: appends the objects above the topmost mark to the list below it.
     Appends,
-    /// LIST
+    /// `LIST`: a new list of the objects above the topmost mark.
     List,
-    /// EMPTY_TUPLE
+    /// `EMPTY_TUPLE`: the empty tuple.
     EmptyTuple,
-    /// TUPLE
+    /// `TUPLE`: a tuple of the objects above the topmost mark.
     Tuple,
-    /// TUPLE1
+    /// `TUPLE1`: a tuple of the top object.
     Tuple1,
-    /// TUPLE2
+    /// `TUPLE2`: a tuple of the two top objects.
     Tuple2,
-    /// TUPLE3
+    /// `TUPLE3`: a tuple of the three top objects.
     Tuple3,
-    /// EMPTY_DICT
+    /// `EMPTY_DICT`: a new dict.
     EmptyDict,
-    /// DICT
+    /// `DICT`: a new dict of the keys and values above the topmost mark.
     Dict,
-    /// SETITEM
+    /// `SETITEM`: sets the key below the top to the top object, in the dict below them.
     SetItem,
-    /// SETITEMS
+    /// `SETITEMS`: sets the keys above the topmost mark to their values, in the dict below it.
     SetItems,
-    /// EMPTY_SET
+    /// `EMPTY_SET`: a new set.
     EmptySet,
-    /// ADDITEMS
+    /// `ADDITEMS`: adds the objects above the topmost mark to the set below it.
     AddItems,
-    /// FROZENSET
+    /// `FROZENSET`: a frozenset of the objects above the topmost mark.
     FrozenSet,
-    /// POP
+    /// `POP`: takes the topmost entry of the stack away.
     Pop,
-    /// DUP
+    /// `DUP`: the top object once more.
     Dup,
-    /// MARK
+    /// `MARK`: a mark.
     Mark,
-    /// POP_MARK
+    /// `POP_MARK`: takes the topmost mark and all above it away.
     PopMark,
-    /// GET
+    /// `GET`: the memo entry of a number, by a line of decimal digits.
     Get,
-    /// BINGET
+    /// `BINGET`: the memo entry of a number of one byte.
     BinGet,
-    /// LONG_BINGET
+    /// `LONG_BINGET`: the memo entry of a number of four bytes.
     LongBinGet,
-    /// PUT
+    /// `PUT`: stores the top object in the memo under a number, by a line of decimal digits.
     Put,
-    /// BINPUT
+    /// `BINPUT`: stores the top object in the memo under a number of one byte.
     BinPut,
-    /// LONG_BINPUT
+    /// `LONG_BINPUT`: stores the top object in the memo under a number of four bytes.
     LongBinPut,
-    /// MEMOIZE
+    /// `MEMOIZE`: stores the top object in the memo under the number of its entries.
     Memoize,
-    /// EXT1
+    /// `EXT1`: an object that the reader has registered, by a code of one byte.
     Ext1,
-    /// EXT2
+    /// `EXT2`: an object that the reader has registered, by a code of two bytes.
     Ext2,
-    /// EXT4
+    /// `EXT4`: an object that the reader has registered, by a code of four bytes.
     Ext4,
-    /// GLOBAL
+    /// `GLOBAL`: what a module has under a name, by two lines.
     Global,
-    /// STACK_GLOBAL
+    /// `STACK_GLOBAL`: what a module has under a name, by the two top objects.
     StackGlobal,
-    /// REDUCE
+    /// `REDUCE`: what the object below the top returns for the arguments on top.
     Reduce,
-    /// BUILD
+    /// `BUILD`: gives the object below the top the state on top.
     Build,
-    /// INST
+    /// `INST`: an object of a class, by two lines, made from the objects above the topmost mark.
     Inst,
-    /// OBJ
+    /// `OBJ`: an object of the class just above the topmost mark, made from the objects above that.
     Obj,
-    /// NEWOBJ
+    /// `NEWOBJ`: an object of the class below the top, made from the arguments on top.
     NewObj,
-    /// NEWOBJ_EX
+    /// `NEWOBJ_EX`: an object of a class, made from the arguments and keyword arguments on top.
     NewObjEx,
-    /// PROTO
+    /// `PROTO`: the protocol of the pickle.
     Proto,
-    /// STOP
+    /// `STOP`: ends the pickle; the top object is what it says.
     Stop,
-    /// FRAME
+    /// `FRAME`: the length in bytes of the frame that follows.
     Frame,
-    /// PERSID
+    /// `PERSID`: an object that lies outside of the pickle, by a line that names it.
     PersId,
-    /// BINPERSID
+    /// `BINPERSID`: an object that lies outside of the pickle, by the name on top of the stack.
     BinPersid,
 }
 
 /// The kind of an argument, by the name of its descriptor in `pickletools`.
 #[derive(Clone, Copy, Debug, PartialEq, Eq)]
 pub enum Kind {
+    /// No argument.
     None,
+    /// One byte.
     Uint1,
+    /// Two bytes, the lowest first.
     Uint2,
+    /// Four bytes, the lowest first, with a sign.
     Int4,
+    /// Four bytes, the lowest first.
     Uint4,
+    /// Eight bytes, the lowest first.
     Uint8,
+    /// A float of eight bytes, the highest first.
     Float8,
+    /// A line of decimal digits: an int, a bool or the number of a memo entry.
     DecimalnlShort,
+    /// A line of decimal digits: an int.
     DecimalnlLong,
+    /// A line of decimal digits: a float.
     Floatnl,
+    /// A line: a string in quotes.
     Stringnl,
+    /// A line: the name of an object outside of the pickle.
     StringnlNoescape,
+    /// A line: text with escapes.
     Unicodestringnl,
+    /// Two lines: a module and a name.
     StringnlNoescapePair,
+    /// A string of Python 2 behind a count of one byte.
     String1,
+    /// Bytes behind a count of one byte.
     Bytes1,
+    /// An int behind a count of one byte.
     Long1,
+    /// UTF-8 behind a count of one byte.
     Unicodestring1,
+    /// Bytes behind a count of four bytes.
     Bytes4,
+    /// UTF-8 behind a count of four bytes.
     Unicodestring4,
+    /// A string of Python 2 behind a count of four bytes with a sign.
     String4,
+    /// An int behind a count of four bytes with a sign.
     Long4,
+    /// Bytes behind a count of eight bytes.
     Bytes8,
+    /// A bytearray behind a count of eight bytes.
     Bytearray8,
+    /// UTF-8 behind a count of eight bytes.
     Unicodestring8,
 }
 

@@ -9,6 +9,7 @@ use crate::fault::{Fault, Stop};
 use crate::layout::{Layout, Width, is_count};
 use byteorder::{ByteOrder, LittleEndian};
 
+/// So many bytes, and the bytes after them.
 fn bytes(n: usize, from: &[u8]) -> Result<(&[u8], &[u8]), Stop>
     ensures { Gives (λ x. (x.0.now, x.1.now)) result (bytes_at n from.now) }
 {
@@ -18,6 +19,7 @@ fn bytes(n: usize, from: &[u8]) -> Result<(&[u8], &[u8]), Stop>
     Ok(from.split_at(n))
 }
 
+/// A number of so many bytes, the lowest first, and the bytes after it.
 fn number(width: usize, from: &[u8]) -> Result<(u64, &[u8]), Stop>
     requires low { 1 ≤ width }
     requires high { width ≤ 8 }
@@ -30,6 +32,7 @@ fn number(width: usize, from: &[u8]) -> Result<(u64, &[u8]), Stop>
     Ok((LittleEndian::read_uint(from, width), &from[width..]))
 }
 
+/// A line without its end, and the bytes after its end.
 #[tactic(auto, unfolding(crate::specs::Reading::line_at))]
 fn line(most: usize, from: &[u8]) -> Result<(&[u8], &[u8]), Stop>
     ensures { Gives (λ x. (x.0.now, x.1.now)) result (line_at most from.now) }
@@ -48,6 +51,7 @@ fn end_of_line(from: &[u8]) -> Option<usize>
     from.iter().position(|byte| *byte == b'\n')
 }
 
+/// A payload without its count, and the bytes after it.
 #[tactic(auto, unfolding(crate::specs::Reading::payload_at))]
 fn payload<'a>(
     limit: u64,
@@ -67,7 +71,7 @@ fn payload<'a>(
     bytes(count as usize, rest)
 }
 
-/// The argument at the front, and the bytes after it.
+/// An argument of the layout, and the bytes after it.
 #[tactic(auto, unfolding(crate::specs::Reading::arg_at))]
 pub fn argument<'a>(limit: u64, layout: Layout, from: &'a [u8]) -> Result<(Arg<'a>, &'a [u8]), Stop>
     ensures { Gives (λ x. (shown_arg x.0, x.1.now)) result (arg_at limit layout from.now) }

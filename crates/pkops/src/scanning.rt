@@ -11,16 +11,20 @@ use crate::limits::Limits;
 use crate::reading::argument;
 use crate::table::{kind, op_of_byte};
 
-/// Reads the instruction at the front.
+/// What stands at the front of the bytes, where a payload may have as many bytes as the limits say.
+///
+/// A fault is answered as soon as it is certain: an unknown opcode at its code, a negative count or
+/// one above the limit once the count is whole, a line that is too long at its first byte too many,
+/// contents that break a rule once the argument is whole. It takes no memory.
 pub fn scan<'a>(bytes: &'a [u8], limits: &Limits) -> Scan<'a>
-    // The answer is right.
     ensures answer { Answers limits.now.counted bytes.now (shown_scan result) }
-    // No other answer is.
+    // No other answer would be right.
     ensures only { (other : Answer) → Answers limits.now.counted bytes.now other → other ≡ shown_scan result }
 {
     front(bytes, limits)
 }
 
+/// The same, without the law that no other answer would be right.
 fn front<'a>(bytes: &'a [u8], limits: &Limits) -> Scan<'a>
     ensures { Answers limits.now.counted bytes.now (shown_scan result) }
 {
@@ -39,7 +43,7 @@ fn front<'a>(bytes: &'a [u8], limits: &Limits) -> Scan<'a>
     }
 }
 
-// What a scan answers where no argument was read.
+/// What a scan answers where no argument was read.
 fn stopped<'a>(stop: Stop) -> Scan<'a>
     ensures { IsStopped stop (shown_scan result) }
 {

@@ -6,7 +6,7 @@ ghost use Rattle.pkops.specs.declared.op.Op.{Op};
 
 use crate::op::{Kind, Op, Row};
 
-/// The row of an opcode.
+/// The row of an opcode in the table of `pickletools`.
 pub fn row(op: Op) -> Row
     ensures { shown result ≡ row_of op }
 {
@@ -88,7 +88,7 @@ pub fn row(op: Op) -> Row
     }
 }
 
-/// The opcode of a code byte.
+/// The opcode that the byte is the code of, if it is one.
 pub fn op_of_byte(byte: u8) -> Option<Op>
     ensures found { IfSome result (λ op. code_of op ≡ byte) }
     ensures none { IfNone result ((op : Op) → code_of op ≢ byte) }
@@ -97,7 +97,8 @@ pub fn op_of_byte(byte: u8) -> Option<Op>
     if code(op) == byte { Some(op) } else { None }
 }
 
-// The one opcode that may have the code.
+/// The one opcode that may have the code. Two plain matches, this one and `code`, become tables;
+/// one match to an `Option` of an opcode takes twice the time.
 fn candidate(byte: u8) -> Op
     ensures { code_of result ≢ byte → (op : Op) → code_of op ≢ byte }
 {

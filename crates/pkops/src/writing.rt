@@ -1,4 +1,4 @@
-//! Instructions as bytes.
+//! Instructions as bytes: to a writer, or one after the other into memory.
 
 ghost use Rattle.std.specs.Prelude.{◌≡◌, ◌++◌, ◌∷◌, ◌<◌, ◌^◌, [], OnOk, IfOk, length};
 ghost use Rattle.std.specs.Int.{cast_unsigned, w32};
@@ -17,6 +17,7 @@ use std::alloc::{AllocError, Global};
 use std::io;
 use std::io::Write;
 
+/// Adds a line and its end.
 fn push_line(out: &mut Vec<u8>, text: &[u8]) -> Result<(), AllocError>
     ensures { OnOk result (out.new.items ≡ out.old.items ++ (text.now ++ 10 ∷ [])) }
 {
@@ -25,6 +26,7 @@ fn push_line(out: &mut Vec<u8>, text: &[u8]) -> Result<(), AllocError>
     Ok(())
 }
 
+/// Adds a count, the lowest byte first.
 fn push_count(out: &mut Vec<u8>, width: Width, count: u64) -> Result<(), AllocError>
     requires { count < 256 ^ size_of width }
     ensures { OnOk result (out.new.items ≡ out.old.items ++ little_bytes (size_of width) count) }
@@ -37,6 +39,7 @@ fn push_count(out: &mut Vec<u8>, width: Width, count: u64) -> Result<(), AllocEr
     Ok(())
 }
 
+/// Adds the spelling of an instruction.
 fn push_inst(out: &mut Vec<u8>, inst: &Inst<'_>) -> Result<(), AllocError>
     ensures { OnOk result (out.new.items ≡ out.old.items ++ spelling (instruction_of inst.now)) }
 {
@@ -66,7 +69,7 @@ fn push_inst(out: &mut Vec<u8>, inst: &Inst<'_>) -> Result<(), AllocError>
     Ok(())
 }
 
-/// The spellings, one after the other.
+/// The spellings of instructions, one after the other. It errs only where memory is lacking.
 pub fn assemble(alloc: Global, insts: &[Inst<'_>]) -> Result<Vec<u8>, AllocError>
     ensures { IfOk result (λ out. out.items ≡ flat_map (λ inst. spelling (instruction_of inst)) insts.now) }
 {
@@ -77,6 +80,7 @@ pub fn assemble(alloc: Global, insts: &[Inst<'_>]) -> Result<Vec<u8>, AllocError
     Ok(out)
 }
 
+/// Writes a line and its end.
 fn write_line<W: Write>(text: &[u8], to: &mut W) -> Result<(), io::Error>
     ensures { OnOk result (Appends (W.contents to.old) (W.contents to.new) (text.now ++ 10 ∷ [])) }
 {
@@ -84,13 +88,15 @@ fn write_line<W: Write>(text: &[u8], to: &mut W) -> Result<(), io::Error>
     to.write_all(b"\n")
 }
 
+/// Writes a number of four bytes with a sign.
 fn write_signed<W: Write>(n: i32, to: &mut W) -> Result<(), io::Error>
     ensures { OnOk result (Appends (W.contents to.old) (W.contents to.new) (little_bytes 4 (cast_unsigned w32 n))) }
 {
     to.write_i32::<LittleEndian>(n)
 }
 
-/// Writes the spelling.
+/// Writes the spelling of an instruction. It takes no memory, and errs only where the writer does;
+/// how much of the spelling was written then is open.
 pub fn write_inst<W: Write>(inst: &Inst<'_>, to: &mut W) -> Result<(), io::Error>
     ensures { OnOk result (Appends (W.contents to.old) (W.contents to.new) (spelling (instruction_of inst.now))) }
 {

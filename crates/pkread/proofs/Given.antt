@@ -15,11 +15,11 @@ use Rattle.pkread.specs.Admission.{IsAllowed, objection}
 use Rattle.pkread.specs.Core.{phase_after}
 use Rattle.pkread.specs.Gathering.{Gathers, HoldsTaken, IsGathered}
 use Rattle.pkread.specs.Reading.{State, Gives, GivesNext, Raises, RefusesAt, StepsFrom, ShowsNext, ShowsFrom}
-use Rattle.pkread.specs.Rows.{Refuses, Row, Sight, all_bytes}
+use Rattle.pkread.specs.Rows.{Row, Sight, all_bytes}
 use Rattle.pkread.specs.Sequence.{CountsAt}
 use Rattle.pkread.specs.declared.reader.Next.{Next}
 use Rattle.pkread.specs.declared.reader.Phase.{Phase}
-use Rattle.pkread.specs.declared.reader.Phase.TheVariants.{Open, Refused}
+use Rattle.pkread.specs.declared.reader.Phase.TheVariants.{Open}
 use Rattle.pkread.specs.declared.refusal.Reason.{Reason}
 use Rattle.pkread.specs.declared.refusal.Reason.TheVariants.{Source, OutOfMemory}
 use Rattle.pkread.specs.declared.refusal.Refusal.{Refusal}

@@ -1,7 +1,18 @@
 -- Definitions at work: what they say of small inputs.
-use Rattle.std.proofs.Common.{◌≡◌, ℕ, [], ◌∷◌, None, Some, refl}
+use Rattle.std.proofs.Common.{◌≡◌, ◌≢◌, ℕ, List, [], ◌∷◌, None, Some, arith, refl}
+use Rattle.std.proofs.lemmas.List.Elements.{All-nil, All-push}
+use Rattle.std.specs.Iterator.{at_most}
+use Rattle.pkops.specs.Spelling.{Instruction, Nothing, Number, Pair, instruction}
+use Rattle.pkops.specs.declared.op.Op.TheVariants as op
+use Rattle.pkread.specs.Admission.{IsAllowed, objection}
 use Rattle.pkread.specs.Framing.{Piece, Role, contents, counted, frame, other, refused_at, stop, total}
+use Rattle.pkread.specs.Genops.{most_items, walk_of}
+use Rattle.pkread.specs.Pieces.{piece_of}
+use Rattle.pkread.specs.Rows.{IsAmiss, Takes, bound}
+use Rattle.pkread.specs.Sequence.{IsSequence, spellings}
+use Rattle.pkread.specs.declared.refusal.Reason.TheVariants.{ExtensionCode, UnsupportedProtocol}
 
+-- a piece of this length
 abbrev one : ℕ → Role → Piece
 one n r = record { length = n; role = r }
 
@@ -40,3 +51,61 @@ contents_behind = refl
 -- ten bytes in all
 total_of_two : total (one 9 (frame 2) ∷ one 1 other ∷ []) ≡ 10
 total_of_two = refl
+
+-- EXT1, PROTO 6 and PROTO 5
+objects_to_extension : objection (instruction op.Ext1 (Number 1 5)) ≡ Some ExtensionCode
+objects_to_extension = refl
+
+objects_to_six : objection (instruction op.Proto (Number 1 6)) ≡ Some (UnsupportedProtocol 6)
+objects_to_six = refl
+
+admits_five : objection (instruction op.Proto (Number 1 5)) ≡ None
+admits_five = refl
+
+-- the bytes 80 06 and what follows: PROTO 6
+six_is_amiss : (rest : List ℕ) → IsAmiss 16_777_216 (0x80 ∷ 6 ∷ rest) (UnsupportedProtocol 6)
+six_is_amiss rest = (instruction op.Proto (Number 1 6), 2, record { fits = omega arith; spells = record { spelled = refl; good = record { suits = (refl, omega arith); contents = tt } }; within = tt }, refl)
+
+-- FRAME with the argument 2, as a piece
+frame_piece : piece_of (instruction op.Frame (Number 8 2)) ≡ one 9 (frame 2)
+frame_piece = refl
+
+-- GLOBAL of a module and a name of one byte each, as a piece
+global_piece : piece_of (instruction op.Global (Pair (109 ∷ []) (102 ∷ []))) ≡ one 5 other
+global_piece = refl
+
+-- NONE and STOP
+abbrev none_stop : List Instruction
+none_stop = instruction op.None Nothing ∷ instruction op.Stop Nothing ∷ []
+
+-- their bytes
+none_stop_bytes : spellings none_stop ≡ 0x4e ∷ 0x2e ∷ []
+none_stop_bytes = refl
+
+-- they are allowed under any limit, and a sequence
+allows_none : (limit : ℕ) → IsAllowed limit (instruction op.None Nothing)
+allows_none limit = record { good = record { suits = tt; contents = tt }; within = tt; admitted = refl }
+
+allows_stop : (limit : ℕ) → IsAllowed limit (instruction op.Stop Nothing)
+allows_stop limit = record { good = record { suits = tt; contents = tt }; within = tt; admitted = refl }
+
+none_stop_sequence : (limit : ℕ) → IsSequence limit none_stop
+none_stop_sequence limit = record {
+  each = All-push (IsAllowed limit) (instruction op.None Nothing ∷ []) (instruction op.Stop Nothing) (All-push (IsAllowed limit) [] (instruction op.None Nothing) (All-nil (IsAllowed limit)) (allows_none limit)) (allows_stop limit);
+  stops = (instruction op.None Nothing ∷ [], instruction op.Stop Nothing, refl, refl, All-push (λ i. i.op ≢ op.Stop) [] (instruction op.None Nothing) (All-nil (λ i. i.op ≢ op.Stop)) (λ e. cc));
+}
+
+-- the buffer's bound under the standard limit and under none
+bound_standard : bound 16_777_216 ≡ 16_777_225
+bound_standard = refl
+
+bound_none : bound 0 ≡ 131_075
+bound_none = refl
+
+-- a walk over two bytes has three items at most, and none once it is done
+items_of_two : most_items (walk_of (0x4e ∷ 0x2e ∷ []) 0) ≡ at_most 3
+items_of_two = refl
+
+-- a source of two bytes gives one of them
+takes_one : Takes (record { left = Some (0x4e ∷ 0x2e ∷ []); failures = 0 }) (record { left = Some (0x2e ∷ []); failures = 0 }) (0x4e ∷ [])
+takes_one = record { bytes = refl; count = refl }

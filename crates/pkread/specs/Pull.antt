@@ -21,7 +21,11 @@ Counted old new result =
 abbrev pub memory_left : Memory → List ℕ
 memory_left m = m.rest.now
 
--- how many reads of a reader have failed, modulo 2^64
 module _ {R : Type 0} where
+  -- how many reads of the reader have failed, modulo 2^64
   abbrev pub input_failures : Input R → ℕ
   input_failures i = i.failures
+
+  -- the reader that gives the bytes
+  abbrev pub input_reader : Input R → R
+  input_reader i = i.reader

@@ -1,7 +1,7 @@
 //! Where the bytes of a pickle come from.
 
 ghost use Rattle.std.specs.Prelude.{◌≡◌, ℕ, List, Option, Some, None};
-ghost use Rattle.pkread.specs.Pull.{Pulled, Counted, input_failures, memory_left};
+ghost use Rattle.pkread.specs.Pull.{Pulled, Counted, input_failures, input_reader, memory_left};
 
 use std::io::Read;
 
@@ -55,7 +55,8 @@ impl<'a> Source for Memory<'a> {
     }
 }
 
-/// Any reader. It counts the reader's errors, each of them, and does not tell its bytes.
+/// Any reader. It counts the reader's errors, each of them, and tells the bytes that are left where
+/// the reader does, which no file can.
 #[derive(Debug, Drop)]
 pub struct Input<R> {
     reader: R,
@@ -65,7 +66,8 @@ pub struct Input<R> {
 impl<R: Read> Input<R> {
     /// A source of what the reader gives. None of its reads has failed yet.
     pub fn new(reader: R) -> Input<R>
-        ensures { input_failures result ≡ 0 }
+        ensures left { R.remaining (input_reader result) ≡ R.remaining reader }
+        ensures failures { input_failures result ≡ 0 }
     {
         Input {
             reader,
@@ -75,6 +77,8 @@ impl<R: Read> Input<R> {
 }
 
 impl<R: Read> Source for Input<R> {
+    ghost left = { λ i. R.remaining (input_reader i) };
+
     ghost failures = { λ i. input_failures i };
 
     #[inline]

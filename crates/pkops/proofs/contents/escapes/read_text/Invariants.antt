@@ -3,11 +3,11 @@ use Rattle.std.specs.Prelude.{string_bytes, encode_utf8_all}
 use Rattle.std.specs.Option.{option_map}
 use Rattle.pkops.specs.EscapeSteps.{code_points, text_named, IsSmall}
 use Rattle.pkops.proofs.Texts.{joined}
-use Rattle.pkops.proofs.contents.escapes.named.Given as goal
+use Rattle.pkops.proofs.contents.escapes.read_text.Given as goal
 
 -- the text so far and what is left give what all names
-abbrev pub invariant-loop-byte : goal.invariant-loop-byte
-invariant-loop-byte l = record {
+abbrev pub invariant-bytes : goal.invariant-bytes
+invariant-bytes l = record {
   kept : joined (string_bytes l.text) (code_points l.state (drop l.byte-index l.line)) ≡ option_map encode_utf8_all (text_named l.line);
   small : IsSmall l.state;
 }

@@ -1,0 +1,164 @@
+-- Worked rows: the definitions, computed on examples.
+use Rattle.std.proofs.Common.{◌≡◌, ℕ, true, false, negsuc, List, [], ◌∷◌, Some, None, refl}
+use Rattle.std.specs.Prelude.{codes}
+use Rattle.std.specs.Char.{encode_utf8}
+use Rattle.pkops.specs.declared.op.Op.TheVariants as op
+use Rattle.pkops.specs.declared.op.Kind.TheVariants as kind
+use Rattle.pkops.specs.Table.{code_of, row_of}
+use Rattle.pkops.specs.Spelling.{Nothing, Number, Signed, Line, Pair, Counted, instruction, spelling}
+use Rattle.pkops.specs.Admitted.{is_admitted}
+use Rattle.pkops.specs.Operands.{memo_number, is_truth, pair_named}
+use Rattle.pkops.specs.Numerals.{IsIntLine, IsLongLine, IsMemoNumber}
+use Rattle.pkops.specs.Floats.{IsFloatLine}
+use Rattle.pkops.specs.OldStrings.{IsStringLine}
+use Rattle.pkops.specs.Escapes.{SpellsText}
+use Rattle.pkops.specs.EscapeSteps.{code_points}
+use Rattle.pkops.specs.Deciding.{place_after}
+use Rattle.pkops.specs.Scanning.{longest}
+use Rattle.pkops.specs.Text.{text_bytes}
+use Rattle.pkops.proofs.EscapesRead.{read_is_spelled, spelled_is_read}
+use Rattle.pkops.proofs.Floats.{float_is, is_float_of}
+use Rattle.pkops.proofs.Numerals.{int_is, is_int_of, long_is, is_long_of, memo_number_is, is_memo_number_of}
+use Rattle.pkops.proofs.OldStrings.{string_is, is_string_of}
+
+-- ---- spellings
+
+minus_one : spelling (instruction op.BinInt (Signed (negsuc 0))) ≡ 0x4a ∷ 0xff ∷ 0xff ∷ 0xff ∷ 0xff ∷ []
+minus_one = refl
+
+a_letter : spelling (instruction op.ShortBinUnicode (Counted (codes "a"))) ≡ 0x8c ∷ 0x01 ∷ 0x61 ∷ []
+a_letter = refl
+
+a_global : spelling (instruction op.Global (Pair (codes "m") (codes "f"))) ≡ 0x63 ∷ 0x6d ∷ 0x0a ∷ 0x66 ∷ 0x0a ∷ []
+a_global = refl
+
+a_memo_entry : spelling (instruction op.LongBinPut (Number 4 258)) ≡ 0x72 ∷ 0x02 ∷ 0x01 ∷ 0x00 ∷ 0x00 ∷ []
+a_memo_entry = refl
+
+no_bytes : spelling (instruction op.BinBytes (Counted [])) ≡ 0x42 ∷ 0x00 ∷ 0x00 ∷ 0x00 ∷ 0x00 ∷ []
+no_bytes = refl
+
+the_end : spelling (instruction op.Stop Nothing) ≡ codes "."
+the_end = refl
+
+-- ---- the table
+
+frame : row_of op.Frame ≡ record { code = 0x95; name = codes "FRAME"; kind = kind.Uint8; proto = 4 }
+frame = refl
+
+empty_tuple : code_of op.EmptyTuple ≡ 0x29
+empty_tuple = refl
+
+-- ---- what is named
+
+ascii_text : text_bytes (instruction op.BinUnicode (Counted (codes "b"))) ≡ Some (codes "b")
+ascii_text = refl
+
+-- a byte above ASCII in a line of UNICODE is the code point of its number
+latin_text : text_bytes (instruction op.Unicode (Line (0xe9 ∷ []))) ≡ Some (0xc3 ∷ 0xa9 ∷ [])
+unfolding code_points encode_utf8
+latin_text = refl
+
+escaped_text : text_bytes (instruction op.Unicode (Line (codes "\\u0061"))) ≡ Some (codes "a")
+unfolding code_points encode_utf8
+escaped_text = refl
+
+bytes_name_no_text : text_bytes (instruction op.ShortBinBytes (Counted (codes "a"))) ≡ None
+bytes_name_no_text = refl
+
+memo_of_get : memo_number (instruction op.Get (Line (codes "12"))) ≡ 12
+memo_of_get = refl
+
+memo_of_frame : memo_number (instruction op.Frame (Number 8 12)) ≡ 0
+memo_of_frame = refl
+
+truth : is_truth (instruction op.Int (Line (codes "01"))) ≡ true
+truth = refl
+
+one : is_truth (instruction op.Int (Line (codes "1"))) ≡ false
+one = refl
+
+pair : pair_named (instruction op.Inst (Pair (codes "m") (codes "f"))) ≡ Some (codes "m", codes "f")
+pair = refl
+
+-- ---- what is admitted
+
+protocol_5 : is_admitted (instruction op.Proto (Number 1 5)) ≡ true
+protocol_5 = refl
+
+protocol_6 : is_admitted (instruction op.Proto (Number 1 6)) ≡ false
+protocol_6 = refl
+
+extension : is_admitted (instruction op.Ext1 (Number 1 5)) ≡ false
+extension = refl
+
+-- ---- contents
+
+false_is_int : IsIntLine (codes "00")
+false_is_int = int_is (codes "00") refl
+
+negative_is_int : IsIntLine (codes "-12")
+negative_is_int = int_is (codes "-12") refl
+
+no_minus_zero : IsIntLine (codes "-0") → ⊥
+no_minus_zero h = let e = is_int_of (codes "-0") h in cc
+
+no_needless_zeros : IsIntLine (codes "007") → ⊥
+no_needless_zeros h = let e = is_int_of (codes "007") h in cc
+
+no_empty_int : IsIntLine [] → ⊥
+no_empty_int h = let e = is_int_of [] h in cc
+
+marked_long : IsLongLine (codes "10L")
+marked_long = long_is (codes "10L") refl
+
+no_mark_alone : IsLongLine (codes "L") → ⊥
+no_mark_alone h = let e = is_long_of (codes "L") h in cc
+
+greatest_memo_number : IsMemoNumber (codes "4294967295")
+greatest_memo_number = memo_number_is (codes "4294967295") refl
+
+no_greater_memo_number : IsMemoNumber (codes "4294967296") → ⊥
+no_greater_memo_number h = let e = is_memo_number_of (codes "4294967296") h in cc
+
+whole_float : IsFloatLine (codes "1.5e+10")
+whole_float = float_is (codes "1.5e+10") refl
+
+negative_infinity : IsFloatLine (codes "-inf")
+negative_infinity = float_is (codes "-inf") refl
+
+no_point_at_end : IsFloatLine (codes "1.") → ⊥
+no_point_at_end h = let e = is_float_of (codes "1.") h in cc
+
+no_point_at_front : IsFloatLine (codes ".5") → ⊥
+no_point_at_front h = let e = is_float_of (codes ".5") h in cc
+
+quoted_string : IsStringLine (codes "'a\\x0a\\''")
+unfolding place_after
+quoted_string = string_is (codes "'a\\x0a\\''") refl
+
+no_open_string : IsStringLine (codes "'a") → ⊥
+no_open_string h = let e = is_string_of (codes "'a") h in cc
+
+no_lone_quote : IsStringLine (codes "'") → ⊥
+no_lone_quote h = let e = is_string_of (codes "'") h in cc
+
+no_octal_escape : IsStringLine (codes "'\\0'") → ⊥
+unfolding place_after
+no_octal_escape h = let e = is_string_of (codes "'\\0'") h in cc
+
+no_surrogate : (points : List ℕ) → SpellsText (codes "\\ud800") points → ⊥
+unfolding code_points
+no_surrogate points h = let e = spelled_is_read (codes "\\ud800") points h in cc
+
+two_characters : SpellsText (codes "\\U0001f600!") (0x1f600 ∷ 0x21 ∷ [])
+unfolding code_points
+two_characters = read_is_spelled (codes "\\U0001f600!") (0x1f600 ∷ 0x21 ∷ []) refl
+
+-- ---- bounds
+
+longest_of_standard : longest 16_777_216 ≡ 16_777_225
+longest_of_standard = refl
+
+longest_of_none : longest 0 ≡ 131_075
+longest_of_none = refl
