@@ -47,15 +47,15 @@ kept [] = refl
 kept (o ∷ os) = refl
 
 -- a run that begins with this outcome, where it asks
-run_on : (b : Bool) (i : Instruction) (is : List Instruction) (s : State) (o : Outcome) (os : List Outcome) (x : Ended) → effect_asks (effect_of i.op) ≡ b → go_on (step i s o) (run is os) ≡ x → (qs : List Outcome) × (run (i ∷ is) qs s ≡ x)
+pub run_on : (b : Bool) (i : Instruction) (is : List Instruction) (s : State) (o : Outcome) (os : List Outcome) (x : Ended) → effect_asks (effect_of i.op) ≡ b → go_on (step i s o) (run is os) ≡ x → (qs : List Outcome) × (run (i ∷ is) qs s ≡ x)
 run_on true i is s o os x b e = (o ∷ os, subst (λ c. go_on (step i s o) (run is (outcomes_after c (o ∷ os))) ≡ x) (sym b) e)
 run_on false i is s o os x b e =
     (os, subst (λ c. go_on (step i s (first_outcome os)) (run is (outcomes_after c os)) ≡ x) (sym b) (ap (λ st. go_on st (run is (outcomes_after false os))) (perform_unused (effect_of i.op) i s (first_outcome os) o b) ∙ ap (λ qs. go_on (step i s o) (run is qs)) (kept os) ∙ e))
 
-same_reached : (s t : State) → Reached s ≡ Reached t → s ≡ t
+pub same_reached : (s t : State) → Reached s ≡ Reached t → s ≡ t
 same_reached s t e = cc
 
-each_on : (q : Progress) (s : State) (st : Stepped) (is : List Instruction) (os : List Outcome) (t : State) (known : Knowledge) → Follows Anything q s st → ((u : State) → Covers q.after u → run is os u ≡ Reached t → Covers known t) → go_on st (run is os) ≡ Reached t → Covers known t
+pub each_on : (q : Progress) (s : State) (st : Stepped) (is : List Instruction) (os : List Outcome) (t : State) (known : Knowledge) → Follows Anything q s st → ((u : State) → Covers q.after u → run is os u ≡ Reached t → Covers known t) → go_on st (run is os) ≡ Reached t → Covers known t
 each_on q s (WentOn u) is os t known h on e = on u h.0 e
 each_on q s (Raised u) is os t known h on e = cc
 each_on q s (Stopped x u) is os t known h on e = cc
@@ -69,13 +69,13 @@ last_after : (i : Instruction) (is : List Instruction) → StopsLast (i ∷ is) 
 last_after i [] h = tt
 last_after i (j ∷ is) h = h.1
 
-gone : (e : Effect) (U : List Object → ℕ → Type 0) (q : Progress) (s : State) (st : Stepped) → (e ≢ Stops) → IsGoing e st → Follows U q s st → (u : State) × (st ≡ WentOn u) × CoversBy U q.after u
+pub gone : (e : Effect) (U : List Object → ℕ → Type 0) (q : Progress) (s : State) (st : Stepped) → (e ≢ Stops) → IsGoing e st → Follows U q s st → (u : State) × (st ≡ WentOn u) × CoversBy U q.after u
 gone e U q s (WentOn u) ne g h = (u, refl, h.0)
 gone e U q s (Stopped x u) ne g h = absurd (ne g)
 gone e U q s (Raised u) ne g h = absurd g
 gone e U q s (Stuck b) ne g h = absurd g
 
-going : (l : Bounds) (v : List ℕ) (e : Effect) (k : Knowledge) (s : State) (st : Stepped) (q : Progress) (x : Result Progress Refusal) → Exactly v e k s st x → and_then x (within l) ≡ Ok q → IsGoing e st
+pub going : (l : Bounds) (v : List ℕ) (e : Effect) (k : Knowledge) (s : State) (st : Stepped) (q : Progress) (x : Result Progress Refusal) → Exactly v e k s st x → and_then x (within l) ≡ Ok q → IsGoing e st
 going l v e k s st q (Ok q') h g = h.0
 going l v e k s st q (Err r) h g = cc
 
@@ -85,7 +85,7 @@ has_gone e (Stopped x s) h = tt
 has_gone e (Raised s) h = h
 has_gone e (Stuck b) h = h
 
-going_large : (l : Bounds) (v : List ℕ) (e : Effect) (k : Knowledge) (s : State) (st : Stepped) (x : Result Progress Refusal) → Exactly v e k s st x → and_then x (within l) ≡ Err TooLarge → HasGoneOn st
+pub going_large : (l : Bounds) (v : List ℕ) (e : Effect) (k : Knowledge) (s : State) (st : Stepped) (x : Result Progress Refusal) → Exactly v e k s st x → and_then x (within l) ≡ Err TooLarge → HasGoneOn st
 going_large l v e k s st (Ok q') h g = has_gone e st h.0
 going_large l v e k s st (Err TooLarge) h g = absurd h
 going_large l v e k s st (Err (Lacks b)) h g = cc
@@ -102,7 +102,7 @@ within_known l q =
       | false ↦ elim (ltb l.memo (length q.after.memo)) as (λ b. cond b (Err TooLarge) (Ok q) ≡ Err UnknownImport → ⊥) [ true ↦ λ e. cc | false ↦ λ e. cc ]
     ]
 
-guessing : (l : Bounds) (v : List ℕ) (e : Effect) (k : Knowledge) (s : State) (st : Stepped) (x : Result Progress Refusal) → Exactly v e k s st x → and_then x (within l) ≡ Err UnknownImport → AsksGuess v e k s st
+pub guessing : (l : Bounds) (v : List ℕ) (e : Effect) (k : Knowledge) (s : State) (st : Stepped) (x : Result Progress Refusal) → Exactly v e k s st x → and_then x (within l) ≡ Err UnknownImport → AsksGuess v e k s st
 guessing l v e k s st (Ok q) h g = absurd (within_known l q g)
 guessing l v e k s st (Err UnknownImport) h g = h
 guessing l v e k s st (Err TooLarge) h g = absurd h
@@ -120,7 +120,7 @@ too_long : (u : List ℕ) (a b : Known) → (a ≡ None) ⊎ (b ≡ None) → le
 too_long u a b (inl e) f g = let lt : length u < length u = subst (λ x. length (guess u x) < length u) e f in omega (arith, lt)
 too_long u a b (inr e) f g = let lt : length u < length u = subst (λ x. length (guess u x) < length u) e g in omega (arith, lt)
 
-off : (p : Policy) (u : List ℕ) (a b : Known) → HasList p → IsLonger p u → (a ≡ None) ⊎ (b ≡ None) → IsOff p (guess u a) (guess u b)
+pub off : (p : Policy) (u : List ℕ) (a b : Known) → HasList p → IsLonger p u → (a ≡ None) ⊎ (b ≡ None) → IsOff p (guess u a) (guess u b)
 off None u a b h long w = h
 off (Some list) u a b h long w =
     elim (list (guess u a) (guess u b)) as (λ t. list (guess u a) (guess u b) ≡ t → t ≡ false) [
@@ -128,13 +128,13 @@ off (Some list) u a b h long w =
       | false ↦ λ e. refl
     ] refl
 
-same_pair : (a b x y : Known) → ◌≡◌ {A = Option (Known × Known)} (Some (a, b)) (Some (x, y)) → (a ≡ x) × (b ≡ y)
+pub same_pair : (a b x y : Known) → ◌≡◌ {A = Option (Known × Known)} (Some (a, b)) (Some (x, y)) → (a ≡ x) × (b ≡ y)
 same_pair a b x y e = let pick = λ (o : Option (Known × Known)). elim o as (λ _. Known × Known) [ None ↦ (a, b) | Some c ↦ c ] in (ap (λ o. (pick o).0) e, ap (λ o. (pick o).1) e)
 
-differing : (u v : List ℕ) (a b x y : Known) → u ≢ v → (a ≡ None) ⊎ (b ≡ None) → a ≡ x → b ≡ y → guess u a ≡ guess v x → guess u b ≡ guess v y → ⊥
+pub differing : (u v : List ℕ) (a b x y : Known) → u ≢ v → (a ≡ None) ⊎ (b ≡ None) → a ≡ x → b ≡ y → guess u a ≡ guess v x → guess u b ≡ guess v y → ⊥
 differing u v a b x y ne w e f g h = differ u v a b ne w (g ∙ ap (guess v) (sym e)) (h ∙ ap (guess v) (sym f))
 
-tells_anything : (v : List ℕ) (objects : List Object) (k : Known) (n : ℕ) → TrueOf (Answered v) objects k n → TrueOf Anything objects k n
+pub tells_anything : (v : List ℕ) (objects : List Object) (k : Known) (n : ℕ) → TrueOf (Answered v) objects k n → TrueOf Anything objects k n
 tells_anything v objects None n h = tt
 tells_anything v objects (Some c) n h = h
 
@@ -202,7 +202,7 @@ module _ (p : Policy) (l : Bounds) where
   covers_start v = record { entries = tt; memo = tt }
 
   -- what is known covers each state that is covered exactly
-  loosely : (v : List ℕ) (k : Knowledge) (s : State) → CoversBy (Answered v) k s → Covers k s
+  pub loosely : (v : List ℕ) (k : Knowledge) (s : State) → CoversBy (Answered v) k s → Covers k s
   loosely v k s h = Alike-map (TrueOf (Answered v) s.objects) (TrueOf Anything s.objects) (tells_anything v s.objects) k s.shape h
 
   exact_at : (is : List Instruction) (n : ℕ) (r : Refusal) → Place is nothing_known n r → IsExact p l is n r

@@ -135,7 +135,7 @@ module _ (U : List Object → ℕ → Type 0) (p : Policy) where
     stop_refused e s ms (Err b) (Ok a) h = absurd h
     stop_refused e s ms (Ok a) (Err c) h = absurd h
 
-    learn_refused : (e : Effect) (i : Instruction) (k : Knowledge) (s : State) (o : Outcome) → CoversBy U k s → FaultIfErr p l e s (perform e i s o) (learn p e i k)
+    pub learn_refused : (e : Effect) (i : Instruction) (k : Knowledge) (s : State) (o : Outcome) → CoversBy U k s → FaultIfErr p l e s (perform e i s o) (learn p e i k)
     learn_refused (Operates takes names gives) i k s o h = operate_refused takes names gives i k s o _ _ refl (operands_alike (TrueOf U s.objects) takes k.entries s.shape.entries h.entries)
     learn_refused (Moves m) i k s o h = shape_refused (Moves m) s (moved m (memo_number i) k) (moved m (memo_number i) s.shape) (moved_alike (TrueOf U s.objects) m (memo_number i) k s.shape h)
     learn_refused Stops i k s o h = stop_refused Stops s k.memo (top k.entries) (top s.shape.entries) (top_alike (TrueOf U s.objects) k.entries s.shape.entries h.entries)

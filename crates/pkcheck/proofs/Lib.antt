@@ -21,3 +21,12 @@ pub mod ListFaults
 pub mod Items
 pub mod ListBound
 mod ListRows
+pub mod Walk
+pub mod Complete
+pub mod Present
+pub mod Listed
+pub mod Extensions
+pub mod FramesSoFar
+pub mod Stops
+pub mod Faultless
+pub mod Checked

@@ -17,7 +17,7 @@ use Rattle.pkcheck.specs.Verdicts.{Verdict, Yes, No, with_import, verdict_on, ve
 use Rattle.pkcheck.proofs.Step.{step_follows}
 
 -- under a list, an import that passes is listed
-abbrev IsListed : (List ℕ → List ℕ → Bool) → Option Asked → Type 0
+abbrev pub IsListed : (List ℕ → List ℕ → Bool) → Option Asked → Type 0
 IsListed list None = Unit {0}
 IsListed list (Some (AskedPair m n)) = list m n ≡ true
 IsListed list (Some AskedUnknown) = ⊥
@@ -26,7 +26,7 @@ abbrev ListedIfOk : (List ℕ → List ℕ → Bool) → Result (Option Asked) R
 ListedIfOk list (Ok a) = IsListed list a
 ListedIfOk list (Err r) = Unit {0}
 
-abbrev PassesListed : (List ℕ → List ℕ → Bool) → Result Progress Refusal → Type 0
+abbrev pub PassesListed : (List ℕ → List ℕ → Bool) → Result Progress Refusal → Type 0
 PassesListed list (Ok q) = IsListed list q.import
 PassesListed list (Err r) = Unit {0}
 
@@ -35,7 +35,7 @@ pub anything : (objects : List Object) (o : Outcome) → OutcomeHolds Anything o
 anything objects Raise = tt
 anything objects (Go n c) = elim (ltb n (length objects)) as (λ b. Choose b (Unit {0}) (Unit {0})) [ true ↦ tt | false ↦ tt ]
 
-emptied : {A B : Type 0} (es : List A) (fs : List B) (R : A → B → Type 0) → es ≡ [] → Pointwise R es fs → fs ≡ []
+pub emptied : {A B : Type 0} (es : List A) (fs : List B) (R : A → B → Type 0) → es ≡ [] → Pointwise R es fs → fs ≡ []
 emptied [] [] R e h = refl
 emptied [] (f ∷ fs) R e h = absurd h
 emptied (x ∷ es) fs R e h = cc
@@ -92,7 +92,7 @@ module _ (list : List ℕ → List ℕ → Bool) where
   stop_listed ms (Ok a) = left_listed a.1 _
   stop_listed ms (Err b) = tt
 
-  learn_listed : (e : Effect) (i : Instruction) (k : Knowledge) → PassesListed list (learn (Some list) e i k)
+  pub learn_listed : (e : Effect) (i : Instruction) (k : Knowledge) → PassesListed list (learn (Some list) e i k)
   learn_listed (Operates takes names gives) i k = operate_listed names i _ _ (operands takes k.entries)
   learn_listed (Moves m) i k = shape_listed (moved m (memo_number i) k)
   learn_listed Stops i k = stop_listed k.memo (top k.entries)
@@ -104,7 +104,7 @@ module _ (list : List ℕ → List ℕ → Bool) where
   pub advance_listed : (l : Bounds) (i : Instruction) (k : Knowledge) → PassesListed list (advance (Some list) l i k)
   advance_listed l i k = within_listed l (learn (Some list) (effect_of i.op) i k) (learn_listed (effect_of i.op) i k)
 
-  imports_of-append : (as' bs : List Event) → imports_of (as' ++ bs) ≡ imports_of as' ++ imports_of bs
+  pub imports_of-append : (as' bs : List Event) → imports_of (as' ++ bs) ≡ imports_of as' ++ imports_of bs
   imports_of-append [] bs = refl
   imports_of-append (Import m n ∷ as') bs = ap (λ l. (m, n) ∷ l) (imports_of-append as' bs)
   imports_of-append (Did i ns d ∷ as') bs = imports_of-append as' bs

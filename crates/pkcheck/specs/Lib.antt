@@ -17,3 +17,10 @@ pub mod Memory
 -- the parts of the machine
 pub mod Slots
 pub mod Denials
+-- what an answer says
+pub mod RunFaults
+pub mod Listing
+pub mod Accepted
+pub mod Refused
+pub mod Answered
+pub mod Judging

@@ -2,9 +2,12 @@
 #![tactic(auto)]
 
 mod allow;
+mod checking;
 mod effects;
 mod entry;
 mod import;
+mod imports;
+mod judging;
 pub mod laws;
 mod machine;
 mod moves;
@@ -14,7 +17,9 @@ mod policy;
 mod turn;
 
 pub use allow::{Allow, AllowError, Where};
+pub use checking::{No, Yes, check};
 pub use import::Asked;
+pub use imports::Imports;
 pub use machine::Machine;
 pub use policy::Policy;
 pub use turn::Moved;

@@ -126,6 +126,22 @@ impl Machine {
         }
     }
 
+    /// The imports, without the rest of the machine.
+    pub(crate) fn into_imports(self) -> Vec<Asked>
+        ensures { map asked_shown result.items ≡ self.imports }
+    {
+        let Machine { imports, .. } = self;
+        imports
+    }
+
+    /// The pair that was off the list, without the rest of the machine.
+    pub(crate) fn into_off_list(self) -> Option<Asked>
+        ensures { option_map asked_shown result ≡ self.off }
+    {
+        let Machine { off, .. } = self;
+        off
+    }
+
     /// Whether STOP was accepted.
     pub fn stopped(&self) -> bool
         ensures { result ≡ self.now.stopped }

@@ -15,8 +15,8 @@ use Rattle.pkops.specs.Table.{code_of, kind_of}
 use Rattle.pkops.specs.Spelling.{Argument, Nothing, Instruction, instruction, laid, layout_of, layout_at, spelling}
 use Rattle.pkops.specs.Contents.{IsGood}
 use Rattle.pkops.specs.Scanning.{Begun, HasFault}
-use Rattle.pkops.specs.Answer.{IsWhole, Answers, IsStopped}
-use Rattle.pkops.specs.Reading.{arg_at}
+use Rattle.pkops.specs.Answer.{IsWhole, Answers}
+use Rattle.pkops.specs.Reading.{IsStopped, arg_at}
 use Rattle.pkops.proofs.Exact.{IsBytes, Takes}
 use Rattle.pkops.proofs.Leaves.{not_nil}
 use Rattle.pkops.proofs.Args.{IsArgument, ArgFault, arg_exact}

@@ -1,10 +1,8 @@
 -- What a scan answers.
-use Rattle.std.specs.Prelude.{◌≡◌, ℕ, ◌≤◌, List, length, take}
+use Rattle.std.specs.Prelude.{ℕ, ◌≤◌, List, length, take}
 use Rattle.pkops.specs.declared.found.Scan.{Scan}
 use Rattle.pkops.specs.declared.found.Scan.TheVariants as scan
 use Rattle.pkops.specs.declared.fault.Fault.{Fault}
-use Rattle.pkops.specs.declared.fault.Stop.{Stop}
-use Rattle.pkops.specs.declared.fault.Stop.TheVariants as stop
 use Rattle.pkops.specs.Inst.{instruction_of}
 use Rattle.pkops.specs.Spelling.{Instruction}
 use Rattle.pkops.specs.Scanning.{IsWithin, Spells, Begun, HasFault}
@@ -32,8 +30,3 @@ abbrev pub Answers : ℕ → List ℕ → Answer → Type 0
 Answers limit bytes (Whole i n) = IsWhole limit bytes i n
 Answers limit bytes More = Begun limit bytes
 Answers limit bytes (Bad fault) = HasFault limit fault bytes
-
--- what a scan answers where no argument was read
-abbrev pub IsStopped : Stop → Answer → Type 0
-IsStopped stop.Short result = result ≡ More
-IsStopped (stop.Bad fault) result = result ≡ Bad fault

@@ -9,6 +9,8 @@ use Rattle.pkops.specs.declared.layout.Width.{Width}
 use Rattle.pkops.specs.declared.fault.Fault.TheVariants.{BadArgument, TooLarge}
 use Rattle.pkops.specs.declared.fault.Stop.{Stop}
 use Rattle.pkops.specs.declared.fault.Stop.TheVariants.{Short, Bad}
+use Rattle.pkops.specs.Answer.{Answer}
+use Rattle.pkops.specs.Answer as answer
 use Rattle.pkops.specs.Spelling.{Argument, Nothing, Number, Signed, Float, Line, Pair, Counted, count_limit, size_of}
 
 -- the first fault ends the reading
@@ -64,3 +66,8 @@ arg_at limit layout.F8 bytes = bytes_at 8 bytes >>= λ b. Ok (Float b.0, b.1)
 arg_at limit (layout.Line most) bytes = line_at most bytes >>= λ text. Ok (Line text.0, text.1)
 arg_at limit (layout.Pair most) bytes = pair_at most bytes >>= λ lines. Ok (Pair lines.0.0 lines.0.1, lines.1)
 arg_at limit (layout.Counted size signed) bytes = payload_at limit size signed bytes >>= λ payload. Ok (Counted payload.0, payload.1)
+
+-- the scan's answer where no argument was read
+abbrev pub IsStopped : Stop → Answer → Type 0
+IsStopped Short result = result ≡ answer.More
+IsStopped (Bad fault) result = result ≡ answer.Bad fault

@@ -2,7 +2,7 @@
 -- the argument descriptors of CPython's `pickletools` (`read_uint1` to `read_unicodestring8`).
 -- Arguments are kept as they are spelled, so an instruction has one spelling. The 25 kinds have ten
 -- layouts; which contents are good beyond the layout is said in `Contents`.
-use Rattle.std.specs.Prelude.{◌≡◌, ◌≢◌, ℕ, ℤ, ◌-◌, ◌*◌, ◌^◌, ◌<◌, ◌≤◌, Bool, true, false, List, [], ◌∷◌, ◌++◌, length, FitsSigned}
+use Rattle.std.specs.Prelude.{◌≡◌, ◌≢◌, ℕ, ℤ, ◌-◌, ◌*◌, ◌^◌, ◌<◌, ◌≤◌, Bool, true, false, List, [], ◌∷◌, ◌++◌, length, FitsSigned, ⊤}
 use Rattle.std.specs.List.{AllByRecursion}
 use Rattle.std.specs.Int.{w32, cast_unsigned}
 use Rattle.byteorder.specs.Endian.{little_bytes}
@@ -47,7 +47,7 @@ shown_arg (arg.U4 n) = Number 4 n
 shown_arg (arg.U8 n) = Number 8 n
 shown_arg (arg.F8 bytes) = Float bytes.now
 shown_arg (arg.Line text) = Line text.now
-shown_arg (arg.Pair first name) = Pair first.now name.now
+shown_arg (arg.Pair first second) = Pair first.now second.now
 shown_arg (arg.Counted payload) = Counted payload.now
 
 -- how the argument of each kind lies; a line has at most 1,024 bytes where it is an int or the number
@@ -90,14 +90,18 @@ abbrev pub count_limit : Width → Bool → ℕ
 count_limit size true = 2 ^ (8 * size_of size - 1)
 count_limit size false = 256 ^ size_of size
 
+-- what ends a line
+abbrev pub line_feed : ℕ
+line_feed = 10
+
 -- a line of at most so many bytes, without its end
 pub record IsLine (most : ℕ) (text : List ℕ) : Type 0 where
   pub short : length text ≤ most
-  pub whole : AllByRecursion (λ byte. byte ≢ 10) text
+  pub whole : AllByRecursion (λ byte. byte ≢ line_feed) text
 
 -- the argument is one of the layout: its numbers, lines and counts fit
 abbrev pub Suits : Layout → Argument → Type 0
-Suits layout.Nothing Nothing = Unit {0}
+Suits layout.Nothing Nothing = ⊤
 Suits layout.U1 (Number width n) = (width ≡ 1) × (n < 256 ^ 1)
 Suits layout.U2 (Number width n) = (width ≡ 2) × (n < 256 ^ 2)
 Suits layout.U4 (Number width n) = (width ≡ 4) × (n < 256 ^ 4)
@@ -105,7 +109,7 @@ Suits layout.U8 (Number width n) = (width ≡ 8) × (n < 256 ^ 8)
 Suits layout.I4 (Signed z) = FitsSigned w32 z
 Suits layout.F8 (Float bytes) = length bytes ≡ 8
 Suits (layout.Line most) (Line text) = IsLine most text
-Suits (layout.Pair most) (Pair first name) = IsLine most first × IsLine most name
+Suits (layout.Pair most) (Pair first second) = IsLine most first × IsLine most second
 Suits (layout.Counted size signed) (Counted payload) = length payload < count_limit size signed
 Suits _ _ = ⊥
 
@@ -116,8 +120,8 @@ bytes_of Nothing _ = []
 bytes_of (Number width n) _ = little_bytes width n
 bytes_of (Signed z) _ = little_bytes 4 (cast_unsigned w32 z)
 bytes_of (Float bytes) _ = bytes
-bytes_of (Line text) _ = text ++ 10 ∷ []
-bytes_of (Pair first second) _ = (first ++ 10 ∷ []) ++ (second ++ 10 ∷ [])
+bytes_of (Line text) _ = text ++ line_feed ∷ []
+bytes_of (Pair first second) _ = (first ++ line_feed ∷ []) ++ (second ++ line_feed ∷ [])
 bytes_of (Counted payload) (layout.Counted size signed) = little_bytes (size_of size) (length payload) ++ payload
 bytes_of (Counted payload) _ = payload
 

@@ -38,7 +38,7 @@ impl Limits {
         values: 1_000_000,
     };
 
-    /// The standard limits.
+    /// `STANDARD`, by a call whose contract says its numbers.
     pub fn standard() -> Limits
         ensures { result ≡ standard }
     {

@@ -1,7 +1,8 @@
 //! The instruction at the front of bytes.
 
 ghost use Rattle.std.specs.Prelude.{◌≡◌};
-ghost use Rattle.pkops.specs.Answer.{Answer, Answers, IsStopped, shown_scan};
+ghost use Rattle.pkops.specs.Reading.{IsStopped};
+ghost use Rattle.pkops.specs.Answer.{Answer, Answers, shown_scan};
 
 use crate::fault::{Fault, Stop};
 use crate::found::Scan;

@@ -67,7 +67,7 @@ at_end_more limit b c x s e = rw e (λ i n w. elim (split n (length (b ++ x ∷ 
 
 -- an instruction that ends where the bytes end
 pub is_gathered : (limit : ℕ) (b : List ℕ) (i : Instruction) (n : ℕ) (o : Op) → AtEnd limit b → IsWhole limit b i n → objection i ≡ None → o ≡ i.op → IsGathered limit b o
-is_gathered limit b i n o h w e f = (i, rw (h i n w) at w, e, sym f)
+is_gathered limit b i n o h w e f = record { instruction = i; whole = rw (h i n w) at w; admitted = e; opcode = sym f }
 
 -- a refusal with its row
 abbrev Refused : ℕ → Sight → Sight → List ℕ → ℕ → ℕ → Reason → Type 0

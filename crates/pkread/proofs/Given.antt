@@ -44,21 +44,21 @@ spelled limit b i w = sym (take_all (length b) b (omega arith)) ∙ w.spells.spe
 allowed : (limit : ℕ) (b : List ℕ) (i : Instruction) (n : ℕ) → IsWhole limit b i n → objection i ≡ None → IsAllowed limit i
 allowed limit b i n w e = record { good = w.spells.good; within = w.within; admitted = no_objection i w.spells.good e }
 
-pub is_allowed : (limit : ℕ) (b : List ℕ) (op : Op) (j : Instruction) (t : IsGathered limit b op) → j ≡ t.0 → IsAllowed limit j
-is_allowed limit b op j t e = rw e (allowed limit b t.0 (length b) t.1 t.2)
+pub is_allowed : (limit : ℕ) (b : List ℕ) (op : Op) (j : Instruction) (t : IsGathered limit b op) → j ≡ t.instruction → IsAllowed limit j
+is_allowed limit b op j t e = rw e (allowed limit b t.instruction (length b) t.whole t.admitted)
 
-pub gives_whole : (old new : State) (at : ℕ) (b : List ℕ) (op : Op) (j : Instruction) (w : IsGathered old.limit b op) → j ≡ w.0 → at ≡ old.taken → Gathers old.limit old.source new.source b old.taken new.taken → new.phase ≡ phase_after op → new.taken ≤ all_bytes → new.most ≡ max old.most (length b) → Gives old at j new
+pub gives_whole : (old new : State) (at : ℕ) (b : List ℕ) (op : Op) (j : Instruction) (w : IsGathered old.limit b op) → j ≡ w.instruction → at ≡ old.taken → Gathers old.limit old.source new.source b old.taken new.taken → new.phase ≡ phase_after op → new.taken ≤ all_bytes → new.most ≡ max old.most (length b) → Gives old at j new
 gives_whole old new at b op j w same t g p l m =
     rw same (
-    let s = spelled old.limit b w.0 w.1 in
+    let s = spelled old.limit b w.instruction w.whole in
     record {
       place = t;
-      allowed = allowed old.limit b w.0 (length b) w.1 w.2;
+      allowed = allowed old.limit b w.instruction (length b) w.whole w.admitted;
       bytes = rw s at g.source;
       taken = g.taken ∙ ap (λ (l : List ℕ). old.taken + length l) s;
       within = l;
       most = m ∙ ap (λ (l : List ℕ). max old.most (length l)) s;
-      phase = p ∙ ap phase_after (sym w.3);
+      phase = p ∙ ap phase_after (sym w.opcode);
     })
 
 -- the most bytes ever held, where the buffer holds those taken

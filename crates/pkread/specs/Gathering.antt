@@ -16,9 +16,11 @@ pub record Gathers (limit : ℕ) (old new : Sight) (bytes : List ℕ) (before af
   pub source : Takes old new bytes
 
 -- the bytes are one admitted instruction of the opcode
-abbrev pub IsGathered : ℕ → List ℕ → Op → Type 0
-IsGathered limit bytes op =
-    (i : Instruction) × IsWhole limit bytes i (length bytes) × (objection i ≡ None) × (i.op ≡ op)
+pub record IsGathered (limit : ℕ) (bytes : List ℕ) (op : Op) : Type 0 where
+  pub instruction : Instruction
+  pub whole : IsWhole limit bytes instruction (length bytes)
+  pub admitted : objection instruction ≡ None
+  pub opcode : instruction.op ≡ op
 
 -- why one byte more could not be taken, or not be held
 abbrev pub TakesNone : Sight → Sight → ℕ → ℕ → Reason → Type 0
