@@ -24,23 +24,23 @@ use Rattle.pkcheck.specs.Accepted.{Accepted}
 use Rattle.pkcheck.specs.Effects.{effect_of}
 use Rattle.pkcheck.specs.Import.{asks_more}
 use Rattle.pkcheck.specs.Judging.{IsPassed, BreaksFrame, IsRefusedByMachine, IsRefused}
-use Rattle.pkcheck.specs.Knowledge.{Policy, Asked, Refusal, Lacks, WrongClass, NotText, UnknownImport, OffList, LeftOver, TooLarge, reason_of, advance, nothing_known}
-use Rattle.pkcheck.specs.Listing.{imports_among, IsBounded, ImportsAreListed}
-use Rattle.pkcheck.specs.Refused.{Refused, Why, reading, judging, growing, HasFirstFault, IsPairOf}
-use Rattle.pkcheck.specs.RunFaults.{HasFault, rank}
+use Rattle.pkcheck.specs.Knowledge.{Policy, Asked, Refusal, reason_of, advance, nothing_known}
+use Rattle.pkcheck.specs.Listing.{imports_among, ImportsAreListed}
+use Rattle.pkcheck.specs.Refused.{Refused, Why, reading, judging, growing, HasFirstFault}
+use Rattle.pkcheck.specs.RunFaults.{HasFault, RunsBehind}
+use Rattle.pkcheck.specs.Faults.{HasFaultHere, rank}
 use Rattle.pkcheck.specs.Runs.{start}
-use Rattle.pkcheck.specs.Shape.{NoMark, NoItem, NoMemo, Odd, Extension}
 use Rattle.pkcheck.specs.Verdicts.{Yes, verdict}
 use Rattle.pkcheck.specs.View.{View, fresh, moved_as, stopped_by, off_pair, LacksMemory}
 use Rattle.pkcheck.specs.WholeRuns.{run}
 use Rattle.pkcheck.proofs.FramesSoFar.{counted_all, counted_more, framed_all, framed_last, unframed_last}
-use Rattle.pkcheck.proofs.Faultless.{nothing_covers, nothing_covers_by, length-asked, faultless, unknown_is_open}
+use Rattle.pkcheck.proofs.Faultless.{stands_behind, machine_fault, length-asked, faultless, unknown_is_open}
 use Rattle.pkcheck.proofs.Listed.{listed, sound_by}
 use Rattle.pkcheck.proofs.Stops.{wants_no_registry, stops_nowhere, nowhere_last, sequence_last}
-use Rattle.pkcheck.proofs.Complete.{complete}
+use Rattle.pkcheck.proofs.Showing.{IsLonger}
+use Rattle.pkcheck.proofs.Standing.{Stands, has_fault, first, pair_of}
 use Rattle.pkcheck.proofs.Extensions.{no_extension}
-use Rattle.pkcheck.proofs.Present.{present, off_list_pair}
-use Rattle.pkcheck.proofs.Walk.{Along, along, verdict_more}
+use Rattle.pkcheck.proofs.Walk.{along, verdict_more}
 
 -- these instructions were read, from a source that was seen so, and judged, and these are their imports
 pub record Checked (policy : Policy) (limits : Bounds) (old : Sight) (p : List Instruction) (asked : List (Option Asked)) (s : State) (still_open : ℕ) (m : View) : Type 0 where
@@ -219,43 +219,47 @@ module _ (policy : Policy) (limits : Bounds) (old : Sight) where
         none = ap (λ x. x.off) becomes;
       })
 
-      module _ (bounded : IsBounded policy) where
-        known : Along policy limits p nothing_known m.knowledge
-        known = along policy limits p nothing_known m.knowledge asked (stops_nowhere p (so_far_open limits.counted p s.phase opened h.reads.so_far)) h.accepts
+      module _ (long : (v : List ℕ) × IsLonger policy v) where
+        known : Stands m.knowledge (RunsBehind p)
+        known = stands_behind policy limits p m.knowledge (along policy limits p nothing_known m.knowledge asked (stops_nowhere p (so_far_open limits.counted p s.phase opened h.reads.so_far)) h.accepts)
 
-        pair_of : (f : Refusal) → advance policy limits i m.knowledge ≡ Err f → IsPairOf policy p i (reason_of f) (off_pair f)
-        pair_of (Lacks NoMark) e = refl
-        pair_of (Lacks NoItem) e = refl
-        pair_of (Lacks (NoMemo n)) e = refl
-        pair_of (Lacks Odd) e = refl
-        pair_of (Lacks Extension) e = refl
-        pair_of WrongClass e = refl
-        pair_of NotText e = refl
-        pair_of UnknownImport e = refl
-        pair_of (OffList x y) e = off_list_pair policy limits p i nothing_known m.knowledge known nothing_covers_by nothing_covers x y e
-        pair_of LeftOver e = refl
-        pair_of TooLarge e = refl
+        -- a fault of the machine is one of the instruction
+        behind : (r : Reason) → HasFaultHere policy limits (RunsBehind p) i r → HasFault policy limits p i r
+        behind reason.BrokenFrame g = absurd g
+        behind reason.MissingMark g = g
+        behind reason.MissingItem g = g
+        behind (reason.MissingMemo n) g = g
+        behind reason.OddItems g = g
+        behind reason.WrongClass g = g
+        behind reason.NotText g = g
+        behind reason.UnknownImport g = g
+        behind reason.ImportOffList g = g
+        behind reason.LeftOver g = g
+        behind reason.TooLarge g = g
+        behind reason.Source g = g
+        behind reason.Truncated g = g
+        behind (reason.UnknownOpcode b) g = g
+        behind reason.BadArgument g = g
+        behind reason.ExtensionCode g = g
+        behind (reason.UnsupportedProtocol n) g = g
+        behind reason.OutOfMemory g = g
 
         -- the machine refuses it
-        has_fault : (is_open : ℕ) (f : Refusal) → counted still_open (piece_of i) ≡ Some is_open → advance policy limits i m.knowledge ≡ Err f → HasFirstFault policy limits p s.source new (reason_of f) (off_pair f)
-        has_fault is_open f o e = record {
+        judged : (is_open : ℕ) (f : Refusal) → counted still_open (piece_of i) ≡ Some is_open → advance policy limits i m.knowledge ≡ Err f → HasFirstFault policy limits p s.source new (reason_of f) (off_pair f)
+        judged is_open f o e = record {
           instruction = i;
           allowed = allowed;
           bytes = takes;
-          fault = present policy limits p i nothing_known m.knowledge known nothing_covers_by nothing_covers bounded f e (no_extension policy limits i m.knowledge f (wants_no_registry i.op i.arg allowed.admitted) e);
-          first = λ earlier lt g.
-              let c = complete policy limits p i nothing_known m.knowledge known nothing_covers_by nothing_covers (framed_last p i still_open is_open h.frames o) earlier g in
-              let same : rank (reason_of c.0) ≡ rank (reason_of f) = ap (λ x. rank (reason_of x)) (same_refusal (advance policy limits i m.knowledge) c.0 f c.1 e) in
-              let le = c.2 in
-              absurd (omega (arith, lt, le, same));
-          asks = pair_of f e;
+          fault = behind (reason_of f) (has_fault policy limits i m.knowledge (RunsBehind p) known long.0 long.1 f e (no_extension policy limits i m.knowledge f (wants_no_registry i.op i.arg allowed.admitted) e));
+          first = λ earlier lt g. first policy limits i m.knowledge (RunsBehind p) known f e earlier lt (machine_fault policy limits p i (framed_last p i still_open is_open h.frames o) earlier g);
+          asks = pair_of policy limits i m.knowledge (RunsBehind p) known f e;
         }
 
         refused_by_machine : (n : View) (why : Reason) → IsRefusedByMachine policy i still_open m n why → Why policy limits p s.source new at why n.off
         refused_by_machine n why ((is_open, o), inr g) = lacks_memory n why g
         refused_by_machine n why ((is_open, o), inl (f, e, is, becomes)) =
             let e' : advance policy limits i m.knowledge ≡ Err f = subst (λ l. advance policy l i m.knowledge ≡ Err f) h.same_limits e in
-            subst (λ x. Why policy limits p s.source new at x n.off) (sym is) (subst (λ x. Why policy limits p s.source new at (reason_of f) x) (sym (ap (λ x. x.off) becomes)) (judging (has_fault is_open f o e')))
+            subst (λ x. Why policy limits p s.source new at x n.off) (sym is) (subst (λ x. Why policy limits p s.source new at (reason_of f) x) (sym (ap (λ x. x.off) becomes)) (judging (judged is_open f o e')))
 
         is_refused : (n : View) (why : Reason) → IsRefused policy i still_open m n why → Why policy limits p s.source new at why n.off
         is_refused n why (inl g) = breaks_frame n why g

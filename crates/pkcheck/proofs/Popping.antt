@@ -10,7 +10,7 @@ use Rattle.pkcheck.specs.declared.entry.Slot.{Slot}
 use Rattle.pkcheck.specs.declared.entry.Slot.TheVariants.{Bar, Object}
 use Rattle.pkcheck.specs.Shape.{top, NoItem, NoMemo, fetched, Entry, Item, popped, recalled}
 use Rattle.pkcheck.specs.Knowledge.{Known, Knowledge}
-use Rattle.pkcheck.specs.Slots.{known, entry_of, shown, remembered}
+use Rattle.pkcheck.specs.Slots.{has_mark_on_top, known, entry_of, shown, remembered}
 use Rattle.pkcheck.proofs.Shown.{shown_take}
 
 pub popped_none : (xs : List Slot) (h : Knowledge) → length xs ≡ 0 → popped (shown xs []) h ≡ Err NoItem
@@ -50,3 +50,9 @@ with_found es n v k xs h e f g = rw (recalled_remembered es n, e, g, f) refl
 
 pub with_none : (es : List (ℕ × Value)) (n : ℕ) (h : Knowledge) → lookup (is_at (nat_cmp n)) es ≡ None → fetched (recalled n (remembered es)) n h ≡ Err (NoMemo n)
 with_none es n h e = rw (recalled_remembered es n, e) refl
+
+pub mark_on_top : (xs : List Slot) (d : Slot) → 0 < length xs → get_or xs (length xs - 1) d ≡ Bar → has_mark_on_top (shown xs []) ≡ true
+mark_on_top xs d h e = let is : length xs ≡ suc (length xs - 1) = omega arith in rw (shown_top xs (length xs - 1) d Bar is e) refl
+
+pub object_on_top : (xs : List Slot) (d : Slot) (v : Value) → 0 < length xs → get_or xs (length xs - 1) d ≡ Object v → has_mark_on_top (shown xs []) ≡ false
+object_on_top xs d v h e = let is : length xs ≡ suc (length xs - 1) = omega arith in rw (shown_top xs (length xs - 1) d (Object v) is e) refl

@@ -7,7 +7,6 @@ pub mod Covers
 pub mod Faults
 pub mod WholeRuns
 pub mod Verdicts
-pub mod Exact
 -- the machine and its calls
 pub mod ListFile
 pub mod Allow
@@ -17,7 +16,7 @@ pub mod Memory
 -- the parts of the machine
 pub mod Slots
 pub mod Denials
--- what an answer says
+-- what an answer of a check says
 pub mod RunFaults
 pub mod Listing
 pub mod Accepted

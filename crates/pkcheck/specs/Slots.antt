@@ -1,5 +1,5 @@
 -- What the fields of the machine say.
-use Rattle.std.specs.Prelude.{ℕ, List, [], ◌∷◌, Some, None, map, ◌≡◌, ◌<◌, ◌≤◌, ◌⊎◌, length, Result, Ok, Err}
+use Rattle.std.specs.Prelude.{ℕ, List, [], ◌∷◌, Some, None, map, ◌≡◌, ◌<◌, ◌≤◌, ◌⊎◌, length, Result, Ok, Err, ◌+◌, ◌-◌, Bool, true, false, cond}
 use Rattle.std.specs.String.{string_bytes}
 use Rattle.pkcheck.specs.declared.entry.Value.{Value}
 use Rattle.pkcheck.specs.declared.entry.Value.TheVariants.{Unknown, Made, Chars}
@@ -17,7 +17,7 @@ use Rattle.pkcheck.specs.declared.effects.Gives.TheVariants.{Leaves}
 use Rattle.pkcheck.specs.declared.effects.Effect.{Effect}
 use Rattle.pkcheck.specs.declared.effects.Effect.TheVariants.{Operates, Moves, Stops}
 use Rattle.pkcheck.specs.declared.effects.Move.{Move}
-use Rattle.pkcheck.specs.declared.effects.Move.TheVariants.{Pops, PopsMark, Passes, Extends}
+use Rattle.pkcheck.specs.declared.effects.Move.TheVariants.{PushesMark, Pops, PopsMark, Passes, Extends}
 use Rattle.pkops.specs.Limits.{Bounds}
 use Rattle.pkcheck.specs.Shape.{Breach, Entry, Mark, Item}
 use Rattle.pkcheck.specs.Knowledge.{Known, Knowledge, Lacks, reason_of}
@@ -113,3 +113,28 @@ abbrev pub IsWell : Effect → Type 0
 IsWell (Operates takes names gives) = WellNamed names takes × WellGiven gives takes
 IsWell (Moves m) = Unit {0}
 IsWell Stops = Unit {0}
+
+-- the topmost entry is a mark
+abbrev pub has_mark_on_top : {A : Type 0} → List (Entry A) → Bool
+has_mark_on_top (Mark ∷ es) = true
+has_mark_on_top (Item x ∷ es) = false
+has_mark_on_top [] = false
+
+-- how many marks are open after a move that goes on, over so many before it
+abbrev pub marks_moved : Move → Bool → ℕ → ℕ
+marks_moved PushesMark is_mark n = n + 1
+marks_moved PopsMark is_mark n = n - 1
+marks_moved Pops is_mark n = cond is_mark (n - 1) n
+marks_moved m is_mark n = n
+
+-- the same after an operation: a slice goes with its mark
+abbrev pub marks_taken : Takes → ℕ → ℕ
+marks_taken (Objects k) n = n
+marks_taken (Slice rule) n = n - 1
+marks_taken (SliceAndReceiver rule) n = n - 1
+
+-- the same after any effect
+abbrev pub marks_after : Effect → Bool → ℕ → ℕ
+marks_after (Operates takes names gives) is_mark n = marks_taken takes n
+marks_after (Moves m) is_mark n = marks_moved m is_mark n
+marks_after Stops is_mark n = n

@@ -1,7 +1,9 @@
 -- The checker over a list of instructions.
-use Rattle.std.specs.Prelude.{ℕ, suc, List, [], ◌∷◌, Option, Result, Ok, Err}
+use Rattle.std.specs.Prelude.{◌≢◌, ℕ, suc, List, [], ◌∷◌, Option, Result, Ok, Err}
 use Rattle.pkops.specs.Spelling.{Instruction}
 use Rattle.pkops.specs.Limits.{Bounds}
+use Rattle.pkcheck.specs.declared.effects.Effect.TheVariants.{Stops}
+use Rattle.pkcheck.specs.Effects.{effect_of}
 use Rattle.pkcheck.specs.Knowledge.{Knowledge, Policy, Asked, Progress, Refusal, advance}
 
 -- what it knows at the end and the imports that it listed, an entry an instruction, or the number of the refused
@@ -29,3 +31,9 @@ verdict p l (i ∷ is) k = verdict_on (advance p l i k) (verdict p l is)
 abbrev pub IsYes : Verdict → Type 0
 IsYes (Yes k as') = Unit {0}
 IsYes (No n r) = ⊥
+
+-- no instruction but the last is a STOP
+abbrev pub StopsLast : List Instruction → Type 0
+StopsLast [] = Unit {0}
+StopsLast (i ∷ []) = Unit {0}
+StopsLast (i ∷ j ∷ is) = (effect_of i.op ≢ Stops) × StopsLast (j ∷ is)

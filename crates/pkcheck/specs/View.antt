@@ -8,11 +8,10 @@ use Rattle.pkcheck.specs.declared.effects.Effect.{Effect}
 use Rattle.pkcheck.specs.declared.effects.Effect.TheVariants.{Stops}
 use Rattle.pkcheck.specs.declared.turn.Moved.{Moved}
 use Rattle.pkcheck.specs.declared.turn.Moved.TheVariants.{On, Import, Stopped}
-use Rattle.pkcheck.specs.Effects.{effect_of}
 use Rattle.pkcheck.specs.Runs.{State, Outcome, step}
-use Rattle.pkcheck.specs.Knowledge.{Knowledge, Policy, Asked, AskedPair, Progress, Refusal, OffList, reason_of, nothing_known}
-use Rattle.pkcheck.specs.Covers.{Anything, Follows}
-use Rattle.pkcheck.specs.Faults.{Fault}
+use Rattle.pkcheck.specs.Knowledge.{Knowledge, Policy, Asked, AskedPair, AskedUnknown, Progress, Refusal, OffList, reason_of, nothing_known}
+use Rattle.pkcheck.specs.Covers.{Covers, Anything, Follows}
+use Rattle.pkcheck.specs.Faults.{IsFirstFault}
 use Rattle.pkcheck.specs.Import.{asks_more}
 
 -- what the machine knows, its limits, the imports so far, the pair that was off the list, the reason of its
@@ -58,10 +57,19 @@ Refuses x before after r = (f : Refusal) × (x ≡ Err f) × (r ≡ reason_of f)
 abbrev pub LacksMemory : View → View → Reason → Type 0
 LacksMemory before after r = (r ≡ reason.OutOfMemory) × (after ≡ record before { refused = Some r; off = None })
 
--- what the step means in a state that is covered: it finds what it needs, and the state after is covered
-abbrev pub CoveredOn : View → View → Instruction → State → Outcome → Type 0
-CoveredOn before after i s o = (q : Progress) × (q.after ≡ after.knowledge) × (after.imports ≡ asks_more q.import before.imports) × Follows Anything q s (step i s o)
+-- under a list, an import is one of its pairs
+abbrev pub IsPermitted : Policy → Option Asked → Type 0
+IsPermitted (Some list) (Some (AskedPair m n)) = list m n ≡ true
+IsPermitted (Some list) (Some AskedUnknown) = ⊥
+IsPermitted (Some list) None = Unit {0}
+IsPermitted None a = Unit {0}
 
--- the named fault holds in a state that is covered
-abbrev pub FaultAt : Policy → Bounds → Instruction → State → Outcome → Reason → Type 0
-FaultAt p l i s o r = (f : Refusal) × (r ≡ reason_of f) × Fault p l (effect_of i.op) s (step i s o) f
+-- what a step that goes on means in a state that is covered: it finds what it needs, an import there is the one
+-- appended, which the policy permits, STOP takes the one object that is there, and the state after is covered
+abbrev pub CoveredOn : Policy → View → View → Instruction → State → Outcome → Type 0
+CoveredOn p before after i s o =
+    (q : Progress) × (q.after ≡ after.knowledge) × (after.imports ≡ asks_more q.import before.imports) × IsPermitted p q.import × Follows Anything q s (step i s o)
+
+-- the reason is the first fault of the instruction, in the states that are covered
+abbrev pub NamesFault : Policy → View → View → Instruction → Reason → Type 0
+NamesFault p before after i reason = IsFirstFault p before.limits (Covers before.knowledge) i reason after.off

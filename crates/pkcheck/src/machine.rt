@@ -1,19 +1,22 @@
-//! The machine that knows and does not run.
-ghost use Rattle.std.specs.Prelude.{◌≡◌, ◌⊎◌, ℕ, List, [], length, map, option_map, IfOk, IfErr, IfSome, true, false};
-ghost use Rattle.pkcheck.specs.Effects.{effect_of};
-ghost use Rattle.pkcheck.specs.Runs.{State, Outcome, step};
-ghost use Rattle.pkcheck.specs.Knowledge.{advance};
-ghost use Rattle.pkcheck.specs.Covers.{Covers};
-ghost use Rattle.pkcheck.specs.Denials.{MayTake};
+//! The machine that knows what every run knows, and runs nothing.
+ghost use Rattle.std.specs.Prelude.{◌≡◌, ◌≢◌, ◌⊎◌, ℕ, List, [], ◌∷◌, ◌++◌, map, option_map, IfOk, IfErr, IfSome, OnOk, OnErr, true, false};
 ghost use Rattle.pkops.specs.Inst.{instruction_of};
 ghost use Rattle.pkops.specs.Admitted.{is_admitted};
-ghost use Rattle.pkcheck.specs.Import.{asked_shown, policy_of, pair_shown};
+ghost use Rattle.pkcheck.specs.Effects.{effect_of};
 ghost use Rattle.pkcheck.specs.Shape.{marks_of};
-ghost use Rattle.pkcheck.specs.View.{fresh, stopped_by, GoesOn, Refuses, LacksMemory, CoveredOn, FaultAt};
+ghost use Rattle.pkcheck.specs.Runs.{State, Outcome, start};
+ghost use Rattle.pkcheck.specs.Knowledge.{AskedUnknown, advance};
+ghost use Rattle.pkcheck.specs.Covers.{Covers};
+ghost use Rattle.pkcheck.specs.Faults.{AsksForTwo, HasNoFault};
+ghost use Rattle.pkcheck.specs.Import.{asked_shown, policy_of, pair_shown};
+ghost use Rattle.pkcheck.specs.Memory.{WantsNoMemory};
+ghost use Rattle.pkcheck.specs.View.{fresh, stopped_by, GoesOn, Refuses, LacksMemory, CoveredOn, NamesFault};
 ghost use Rattle.pkcheck.specs.Slots.{shown};
 
+use crate::effects::effect_by;
 use crate::entry::{Slot, Value};
 use crate::import::Asked;
+use crate::marks::{has_mark_on_top, marks_after};
 use crate::policy::Policy;
 use crate::turn::{Moved, advance};
 use pkops::{Inst, Limits};
@@ -27,6 +30,7 @@ use std::marker::Model;
 pub struct Machine {
     alloc: Global,
     stack: Vec<Slot>,
+    marks: usize,
     memo: BTreeMap<u64, Value>,
     imports: Vec<Asked>,
     limits: Limits,
@@ -40,24 +44,27 @@ impl Model for Machine {
 
     ghost Value = { View };
 
-    ghost use Rattle.std.specs.Prelude.{◌≤◌, ◌≡◌, None, length, map, option_map};
+    ghost use Rattle.std.specs.Prelude.{◌≤◌, ◌≡◌, [], None, length, map, option_map};
     ghost use Rattle.std.specs.BTreeMap.{btree_map_len};
-    ghost use Rattle.pkcheck.specs.Slots.{shape_of};
+    ghost use Rattle.pkcheck.specs.Shape.{marks_of};
+    ghost use Rattle.pkcheck.specs.Slots.{shape_of, shown};
     ghost use Rattle.pkcheck.specs.Import.{asked_shown};
 
     ghost view = { λ m. record { knowledge = shape_of m.stack.items m.memo.entries; limits = m.limits; imports = map asked_shown m.imports.items; off = option_map asked_shown m.off; refused = m.refused; stopped = m.stopped } };
 
-    ghost invariant = { λ m. m.refused ≡ None → (length m.stack.items ≤ m.limits.stack) × (btree_map_len m.memo ≤ m.limits.memo) };
+    ghost invariant = { λ m. (m.marks ≡ marks_of (shown m.stack.items [])) × (m.refused ≡ None → (length m.stack.items ≤ m.limits.stack) × (btree_map_len m.memo ≤ m.limits.memo)) };
 }
 
 impl Machine {
     /// With nothing known.
     pub fn new(alloc: Global, limits: &Limits) -> Machine
         ensures fresh { result ≡ fresh limits.now }
+        ensures covers { Covers result.knowledge start }
     {
         Machine {
             alloc,
             stack: Vec::new(alloc),
+            marks: 0,
             memo: BTreeMap::new(alloc),
             imports: Vec::new(alloc),
             limits: *limits,
@@ -67,19 +74,34 @@ impl Machine {
         }
     }
 
-    /// One step. After a refusal the same reason is answered for ever.
+    /// One step over an instruction: what it needs is looked for, its import is listed, and what is known
+    /// changes.
+    ///
+    /// # Errors
+    ///
+    /// The first of the reasons 9 to 17 that holds in every run that gets here, then `TooLarge` where the stack
+    /// or the memo would be past its limit; `OutOfMemory` where a growth was refused. After a refusal the same
+    /// reason is answered for ever, and nothing changes.
     pub fn step(&mut self, inst: &Inst, policy: &Policy) -> Result<Moved, Reason>
         requires admitted { is_admitted (instruction_of inst.now) ≡ true }
         requires running { self.old.stopped ≡ false }
-        ensures again { IfSome self.old.refused (λ r. (result ≡ Err r) × (self.new ≡ self.old)) }
-        ensures ok { self.old.refused ≡ None → IfOk result (λ v. GoesOn (effect_of (instruction_of inst.now).op) (advance (policy_of policy.now) self.old.limits (instruction_of inst.now) self.old.knowledge) self.old self.new v) }
-        ensures err { self.old.refused ≡ None → IfErr result (λ r. Refuses (advance (policy_of policy.now) self.old.limits (instruction_of inst.now) self.old.knowledge) self.old self.new r ⊎ (MayTake (effect_of (instruction_of inst.now).op) × LacksMemory self.old self.new r)) }
-        ensures covered { (s : State) (o : Outcome) → self.old.refused ≡ None → Covers self.old.knowledge s → IfOk result (λ v. CoveredOn self.old self.new (instruction_of inst.now) s o) }
-        ensures fault { (s : State) (o : Outcome) → self.old.refused ≡ None → Covers self.old.knowledge s → IfErr result (λ r. FaultAt (policy_of policy.now) self.old.limits (instruction_of inst.now) s o r ⊎ (MayTake (effect_of (instruction_of inst.now).op) × (r ≡ Reason.OutOfMemory))) }
+        ensures again { IfSome self.old.refused (λ reason. (result ≡ Err reason) × (self.new ≡ self.old)) }
+        ensures ok { self.old.refused ≡ None → IfOk result (λ moved. GoesOn (effect_of (instruction_of inst.now).op) (advance (policy_of policy.now) self.old.limits (instruction_of inst.now) self.old.knowledge) self.old self.new moved) }
+        ensures err { self.old.refused ≡ None → IfErr result (λ reason. Refuses (advance (policy_of policy.now) self.old.limits (instruction_of inst.now) self.old.knowledge) self.old self.new reason ⊎ LacksMemory self.old self.new reason) }
+        // what going on means in each state of a run that is covered, for each outcome
+        ensures covered { (s : State) (o : Outcome) → self.old.refused ≡ None → Covers self.old.knowledge s → OnOk result (CoveredOn (policy_of policy.now) self.old self.new (instruction_of inst.now) s o) }
+        // no fault is passed by
+        ensures no_fault { self.old.refused ≡ None → OnOk result (HasNoFault (policy_of policy.now) self.old.limits (Covers self.old.knowledge) (instruction_of inst.now)) }
+        // no refusal is a false alarm
+        ensures fault { self.old.refused ≡ None → IfErr result (λ reason. NamesFault (policy_of policy.now) self.old self.new (instruction_of inst.now) reason ⊎ (reason ≡ Reason.OutOfMemory)) }
+        ensures unknown { self.old.refused ≡ None → OnOk result (self.new.imports ≡ self.old.imports ++ AskedUnknown ∷ [] → AsksForTwo (Covers self.old.knowledge) (instruction_of inst.now)) }
+        ensures no_memory { self.old.refused ≡ None → WantsNoMemory (instruction_of inst.now).op → IfErr result (λ reason. reason ≢ Reason.OutOfMemory) }
+        ensures kept { OnErr result ((self.new.imports ≡ self.old.imports) × (self.new.knowledge ≡ self.old.knowledge)) }
     {
         if let Some(reason) = self.refused {
             return Err(reason);
         }
+        let is_mark = has_mark_on_top(&self.stack);
         match advance(
             self.alloc,
             &mut self.stack,
@@ -90,6 +112,8 @@ impl Machine {
             policy,
         ) {
             Ok(moved) => {
+                let _entries = self.stack.len();
+                self.marks = marks_after(effect_by(inst), is_mark, self.marks);
                 self.stopped = is_stopped(moved);
                 Ok(moved)
             }
@@ -104,9 +128,10 @@ impl Machine {
 
     /// The number of open marks.
     pub fn marks(&self) -> usize
-        ensures { result ≡ marks_of self.now.knowledge.entries }
+        ensures known { result ≡ marks_of self.now.knowledge.entries }
+        ensures covered { (s : State) → Covers self.now.knowledge s → result ≡ marks_of s.shape.entries }
     {
-        count_marks(&self.stack)
+        self.marks
     }
 
     /// The imports so far.
@@ -148,19 +173,6 @@ impl Machine {
     {
         self.stopped
     }
-}
-
-/// How many marks stand there.
-fn count_marks(stack: &[Slot]) -> usize
-    ensures { result ≡ marks_of (shown stack.now []) }
-{
-    let mut count: usize = 0;
-    for slot in stack {
-        if let Slot::Bar = slot {
-            count += 1;
-        }
-    }
-    count
 }
 
 /// Whether the step was a STOP.

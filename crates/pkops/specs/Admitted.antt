@@ -22,5 +22,6 @@ is_admitted_by op.Ext4 _ = false
 is_admitted_by op.Proto arg = is_known arg
 is_admitted_by _ _ = true
 
+-- the same, of an instruction
 abbrev pub is_admitted : Instruction → Bool
 is_admitted i = is_admitted_by i.op i.arg

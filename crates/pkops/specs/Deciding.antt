@@ -17,24 +17,30 @@ use Rattle.pkops.specs.Spelling.{Argument, Line, Pair, Counted}
 
 -- ---- numerals
 
+-- the digit zero alone
 abbrev pub is_zero : List ℕ → Bool
 is_zero (digit ∷ []) = digit == 48
 is_zero _ = false
 
+-- a digit that is not zero, and digits
 abbrev pub is_positive : List ℕ → Bool
 is_positive [] = false
 is_positive (first ∷ rest) = is_nonzero_digit first && list_all is_ascii_digit rest
 
+-- zero or positive
 abbrev pub is_natural : List ℕ → Bool
 is_natural text = is_zero text || is_positive text
 
+-- a minus, and a positive number
 abbrev pub is_negative : List ℕ → Bool
 is_negative [] = false
 is_negative (sign ∷ digits) = (sign == 45) && is_positive digits
 
+-- natural or negative
 abbrev pub is_numeral : List ℕ → Bool
 is_numeral text = is_natural text || is_negative text
 
+-- a bool or a numeral
 abbrev pub is_int_line : List ℕ → Bool
 is_int_line line = is_bool_line line || is_numeral line
 
@@ -42,17 +48,21 @@ is_int_line line = is_bool_line line || is_numeral line
 abbrev pub ends_in_l : List ℕ → Bool
 ends_in_l line = nat_lt 0 (length line) && (slice_index line (length line - 1) == 76)
 
+-- a numeral and an L
 abbrev pub is_marked_numeral : List ℕ → Bool
 is_marked_numeral line = ends_in_l line && is_numeral (take (length line - 1) line)
 
+-- a numeral, with an L or without
 abbrev pub is_long_line : List ℕ → Bool
 is_long_line line = is_numeral line || is_marked_numeral line
 
+-- a natural number of 32 bits
 abbrev pub is_memo_number : List ℕ → Bool
 is_memo_number line = is_natural line && nat_lt (digits_value 10 line) (2 ^ 32)
 
 -- ---- floats
 
+-- the first byte is a digit
 abbrev pub starts_with_digit : List ℕ → Bool
 starts_with_digit [] = false
 starts_with_digit (byte ∷ rest) = is_ascii_digit byte
@@ -62,23 +72,28 @@ abbrev pub after_digits : List ℕ → List ℕ
 after_digits [] = []
 after_digits (byte ∷ rest) = if is_ascii_digit byte then after_digits rest else byte ∷ rest
 
+-- digits, one at least
 abbrev pub is_digits : List ℕ → Bool
 is_digits text = starts_with_digit text && list_all is_ascii_digit text
 
+-- a plus or a minus, and digits
 abbrev pub is_signed_digits : List ℕ → Bool
 is_signed_digits [] = false
 is_signed_digits (sign ∷ digits) = (sign == 43 || sign == 45) && is_digits digits
 
+-- an e and signed digits, or nothing
 abbrev pub is_exponent_or_end : List ℕ → Bool
 is_exponent_or_end [] = true
 is_exponent_or_end (byte ∷ rest) = (byte == 101) && is_signed_digits rest
 
+-- what may follow the digits before the point: a fraction or nothing, and an exponent or nothing
 abbrev pub is_after_whole : List ℕ → Bool
 is_after_whole [] = true
 is_after_whole (byte ∷ rest) =
     if byte == 46 then starts_with_digit rest && is_exponent_or_end (after_digits rest)
     else is_exponent_or_end (byte ∷ rest)
 
+-- digits, and what may follow them
 abbrev pub is_decimal : List ℕ → Bool
 is_decimal text = starts_with_digit text && is_after_whole (after_digits text)
 
@@ -87,9 +102,11 @@ abbrev pub is_word : (a b c : ℕ) → List ℕ → Bool
 is_word a b c (x ∷ y ∷ z ∷ []) = (x == a) && ((y == b) && (z == c))
 is_word a b c _ = false
 
+-- inf, nan or a decimal
 abbrev pub is_unsigned : List ℕ → Bool
 is_unsigned text = (is_word 105 110 102 text || is_word 110 97 110 text) || is_decimal text
 
+-- a minus and such a text, or such a text
 abbrev pub is_float_line : List ℕ → Bool
 is_float_line [] = false
 is_float_line (byte ∷ rest) = if byte == 45 then is_unsigned rest else is_unsigned (byte ∷ rest)
@@ -100,7 +117,8 @@ is_float_line (byte ∷ rest) = if byte == 45 then is_unsigned rest else is_unsi
 abbrev pub next_place : (quote : ℕ) → Place → ℕ → Option Place
 next_place quote Outside byte =
     if byte == 92 then Some Behind
-    else (if byte == quote then None else (if nat_le 0x20 byte && nat_le byte 0x7e then Some Outside else None))
+    else (if byte == quote then None
+    else (if nat_le 0x20 byte && nat_le byte 0x7e then Some Outside else None))
 next_place quote Behind byte =
     if byte == 120 then Some High else (if is_escape_letter byte then Some Outside else None)
 next_place quote High byte = if is_ascii_hexdigit byte then Some Low else None
@@ -112,16 +130,20 @@ place_after quote place [] = Some place
 place_after quote place (byte ∷ bytes) =
     option_and_then (λ next. place_after quote next bytes) (next_place quote place byte)
 
+-- the bytes led somewhere, and not into an escape
 abbrev pub is_outside : Option Place → Bool
 is_outside (Some Outside) = true
 is_outside _ = false
 
+-- the bytes are whole items
 abbrev pub are_items : (quote : ℕ) → List ℕ → Bool
 are_items quote bytes = is_outside (place_after quote Outside bytes)
 
+-- a single or a double quote
 abbrev pub is_quote : ℕ → Bool
 is_quote byte = byte == 39 || byte == 34
 
+-- two bytes at least, the first a quote, the last the same, and items between them
 abbrev pub is_string_line : List ℕ → Bool
 is_string_line line =
     nat_le 2 (length line)
@@ -131,9 +153,11 @@ is_string_line line =
 
 -- ---- all rules
 
+-- ASCII, and not empty
 abbrev pub is_name : List ℕ → Bool
 is_name line = nat_lt 0 (length line) && list_all is_ascii line
 
+-- the argument passes the test of the rule
 abbrev pub passes : Rule → Argument → Bool
 passes rule.Anything _ = true
 passes rule.Int (Line line) = is_int_line line

@@ -20,7 +20,8 @@ digit_step left value =
 abbrev pub step_of : State → ℕ → Option (State × Option ℕ)
 step_of Outside byte = if byte == 92 then Some (Behind, None) else Some (Outside, Some byte)
 step_of Behind byte =
-    if byte == 117 then Some (Digits 4 0, None) else (if byte == 85 then Some (Digits 8 0, None) else None)
+    if byte == 117 then Some (Digits 4 0, None)
+    else (if byte == 85 then Some (Digits 8 0, None) else None)
 step_of (Digits left value) byte =
     if is_ascii_hexdigit byte then digit_step left (value * 16 + digit_value byte) else None
 
@@ -29,12 +30,15 @@ abbrev pub with_point : Option ℕ → List ℕ → List ℕ
 with_point None points = points
 with_point (Some point) points = point ∷ points
 
--- the code points of the characters that bytes end, from a state on; none if they end inside an escape
+-- the code points of the characters that bytes end, from a state on; none if they end inside one
 unfoldable pub code_points : State → List ℕ → Option (List ℕ)
 code_points Outside [] = Some []
 code_points Behind [] = None
 code_points (Digits left value) [] = None
-code_points state (byte ∷ bytes) = option_and_then (λ next. option_map (with_point next.1) (code_points next.0 bytes)) (step_of state byte)
+code_points state (byte ∷ bytes) =
+    option_and_then
+    (λ next. option_map (with_point next.1) (code_points next.0 bytes))
+    (step_of state byte)
 
 -- the code points of a line, if it spells a text
 abbrev pub text_named : List ℕ → Option (List ℕ)

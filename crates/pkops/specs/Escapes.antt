@@ -31,6 +31,7 @@ pub record IsEscape (n : ℕ) (digits : List ℕ) : Type 0 where
   pub hexadecimal : AllPass is_ascii_hexdigit digits
   pub scalar : IsScalar (digits_value 16 digits)
 
+-- a plain character is any byte but a backslash; an escape has four or eight digits
 abbrev pub IsCharacter : Character → Type 0
 IsCharacter (plain byte) = byte ≢ 92
 IsCharacter (short digits) = IsEscape 4 digits

@@ -2,5 +2,6 @@
 use Rattle.pkops.specs.declared.inst.Inst.{Inst}
 use Rattle.pkops.specs.Spelling.{Instruction, instruction, shown_arg}
 
+-- the opcode and the argument, without where it lies in memory
 abbrev pub instruction_of : Inst → Instruction
 instruction_of inst = instruction inst.op (shown_arg inst.arg)

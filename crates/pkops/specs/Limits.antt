@@ -1,6 +1,7 @@
 -- The numbers of a program's limits.
 use Rattle.std.specs.Prelude.{ℕ, ◌≤◌}
 
+-- how much is read, kept and written
 pub record Bounds : Type 0 where
   -- bytes of the payload of a counted argument
   pub counted : ℕ
@@ -13,10 +14,12 @@ pub record Bounds : Type 0 where
   -- JSON values
   pub values : ℕ
 
+-- these numbers
 abbrev pub bounds : (counted stack memo depth values : ℕ) → Bounds
 bounds counted stack memo depth values =
     record { counted = counted; stack = stack; memo = memo; depth = depth; values = values }
 
+-- the greatest numbers that limits may have
 abbrev pub standard : Bounds
 standard = bounds 16_777_216 1_000_000 1_000_000 100 1_000_000
 

@@ -31,6 +31,7 @@ IsNumeral text =
 abbrev pub false_line : List ℕ
 false_line = codes "00"
 
+-- and True
 abbrev pub true_line : List ℕ
 true_line = codes "01"
 

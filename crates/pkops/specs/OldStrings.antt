@@ -6,6 +6,7 @@ use Rattle.std.specs.Prelude.{◌≡◌, ◌≢◌, ◌⊎◌, ℕ, ◌≤◌, B
 use Rattle.std.specs.List.{All, list_any, flat_map}
 use Rattle.std.specs.Char.{is_ascii_hexdigit}
 
+-- the byte that begins an escape
 abbrev pub backslash : ℕ
 backslash = 92
 
@@ -46,4 +47,5 @@ IsQuote quote = (quote ≡ 39) ⊎ (quote ≡ 34)
 abbrev pub IsStringLine : List ℕ → Type 0
 IsStringLine line =
     (quote : ℕ) × (items : List Item)
-    × IsQuote quote × All (IsItem quote) items × (line ≡ quote ∷ flat_map print_item items ++ quote ∷ [])
+    × IsQuote quote × All (IsItem quote) items
+    × (line ≡ quote ∷ flat_map print_item items ++ quote ∷ [])

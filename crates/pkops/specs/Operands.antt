@@ -26,6 +26,7 @@ number_said _ = 0
 abbrev pub memo_number : Instruction → ℕ
 memo_number i = if names_memo_entry i.op then number_said i.arg else 0
 
+-- the argument is such a line, and the opcode INT
 abbrev pub is_truth_by : Op → Argument → Bool
 is_truth_by op.Int (Line line) = is_bool_line line
 is_truth_by _ _ = false

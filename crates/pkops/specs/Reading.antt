@@ -13,8 +13,8 @@ use Rattle.pkops.specs.Answer.{Answer}
 use Rattle.pkops.specs.Answer as answer
 use Rattle.pkops.specs.Spelling.{Argument, Nothing, Number, Signed, Float, Line, Pair, Counted, count_limit, size_of}
 
--- the first fault ends the reading
 infixl 10 ◌>>=◌
+-- read, and then go on with what was read; the first fault ends the reading
 abbrev pub ◌>>=◌ : {A B : Type 0} → Result A Stop → (A → Result B Stop) → Result B Stop
 (Ok x) >>= f = f x
 (Err e) >>= f = Err e
@@ -30,12 +30,15 @@ bytes_at n bytes = if nat_lt (length bytes) n then Err Short else Ok (take n byt
 
 -- a number of so many bytes, the lowest first
 abbrev pub number_at : ℕ → List ℕ → Result (ℕ × List ℕ) Stop
-number_at width bytes = if nat_lt (length bytes) width then Err Short else Ok (little_number width bytes, drop width bytes)
+number_at width bytes =
+    if nat_lt (length bytes) width then Err Short
+    else Ok (little_number width bytes, drop width bytes)
 
 -- a line, given where the first line feed stands
 abbrev at_end : ℕ → List ℕ → Option ℕ → Result (List ℕ × List ℕ) Stop
 at_end most bytes None = if nat_le (length bytes) most then Err Short else Err (Bad TooLarge)
-at_end most bytes (Some i) = if nat_le i most then Ok (take i bytes, drop (i + 1) bytes) else Err (Bad TooLarge)
+at_end most bytes (Some i) =
+    if nat_le i most then Ok (take i bytes, drop (i + 1) bytes) else Err (Bad TooLarge)
 
 -- a line of at most so many bytes
 unfoldable pub line_at : ℕ → List ℕ → Result (List ℕ × List ℕ) Stop
@@ -52,7 +55,8 @@ pair_at most bytes = do
 unfoldable pub payload_at : ℕ → Width → Bool → List ℕ → Result (List ℕ × List ℕ) Stop
 payload_at limit size signed bytes = do
   count ← number_at (size_of size) bytes
-  if nat_le (count_limit size signed) count.0 then Err (Bad BadArgument) else (if nat_lt limit count.0 then Err (Bad TooLarge) else bytes_at count.0 count.1)
+  if nat_le (count_limit size signed) count.0 then Err (Bad BadArgument)
+      else (if nat_lt limit count.0 then Err (Bad TooLarge) else bytes_at count.0 count.1)
 
 -- an argument of the layout, and the bytes after it
 unfoldable pub arg_at : ℕ → Layout → List ℕ → Result (Argument × List ℕ) Stop
@@ -64,8 +68,10 @@ arg_at limit layout.U8 bytes = number_at 8 bytes >>= λ n. Ok (Number 8 n.0, n.1
 arg_at limit layout.I4 bytes = number_at 4 bytes >>= λ n. Ok (Signed (cast_signed w32 n.0), n.1)
 arg_at limit layout.F8 bytes = bytes_at 8 bytes >>= λ b. Ok (Float b.0, b.1)
 arg_at limit (layout.Line most) bytes = line_at most bytes >>= λ text. Ok (Line text.0, text.1)
-arg_at limit (layout.Pair most) bytes = pair_at most bytes >>= λ lines. Ok (Pair lines.0.0 lines.0.1, lines.1)
-arg_at limit (layout.Counted size signed) bytes = payload_at limit size signed bytes >>= λ payload. Ok (Counted payload.0, payload.1)
+arg_at limit (layout.Pair most) bytes =
+    pair_at most bytes >>= λ lines. Ok (Pair lines.0.0 lines.0.1, lines.1)
+arg_at limit (layout.Counted size signed) bytes =
+    payload_at limit size signed bytes >>= λ payload. Ok (Counted payload.0, payload.1)
 
 -- the scan's answer where no argument was read
 abbrev pub IsStopped : Stop → Answer → Type 0

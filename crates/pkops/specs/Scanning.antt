@@ -36,7 +36,7 @@ pub record MayBegin (limit : ℕ) (lay : Layout) (arg : Argument) (bytes : List 
   pub suits : Suits lay arg
   pub within : count_len lay ≤ length bytes → IsWithin limit arg
 
--- the bytes and more, of one byte at least, are the spelling of an instruction of the opcode's layout
+-- the bytes and more, of one byte at least, are an instruction of its opcode's layout
 pub record Begins (limit : ℕ) (bytes : List ℕ) (i : Instruction) (more : List ℕ) : Type 0 where
   pub may : MayBegin limit (layout_at i.op) i.arg (drop 1 bytes)
   pub parts : spelling i ≡ bytes ++ more
@@ -58,8 +58,8 @@ IsNegative (layout.Counted size signed) bytes =
     (size_of size ≤ length bytes) × (count_limit size signed ≤ little_number (size_of size) bytes)
 IsNegative _ bytes = ⊥
 
--- a count is whole, not negative and above the limit; or a line has more bytes than it may have, the
--- first one or, after a whole first one, the second
+-- a count is whole, not negative and above the limit; or a line has more bytes than it may have,
+-- the first one or, after a whole first one, the second
 abbrev pub Passes : ℕ → Layout → List ℕ → Type 0
 Passes limit (layout.Counted size signed) bytes =
     (size_of size ≤ length bytes)

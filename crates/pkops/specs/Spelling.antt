@@ -122,7 +122,8 @@ bytes_of (Signed z) _ = little_bytes 4 (cast_unsigned w32 z)
 bytes_of (Float bytes) _ = bytes
 bytes_of (Line text) _ = text ++ line_feed ∷ []
 bytes_of (Pair first second) _ = (first ++ line_feed ∷ []) ++ (second ++ line_feed ∷ [])
-bytes_of (Counted payload) (layout.Counted size signed) = little_bytes (size_of size) (length payload) ++ payload
+bytes_of (Counted payload) (layout.Counted size signed) =
+    little_bytes (size_of size) (length payload) ++ payload
 bytes_of (Counted payload) _ = payload
 
 -- the same, layout first

@@ -26,5 +26,6 @@ text_by rule.Escapes (Line line) = option_map encode_utf8_all (text_named line)
 text_by rule.Utf8 (Counted payload) = Some payload
 text_by _ _ = None
 
+-- the same, of an instruction
 abbrev pub text_bytes : Instruction → Option (List ℕ)
 text_bytes i = text_by (rule_of i.op) i.arg

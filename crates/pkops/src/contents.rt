@@ -67,7 +67,8 @@ impl Rule {
 
 /// Whether the argument keeps the rule.
 pub fn keeps(rule: Rule, arg: Arg<'_>) -> bool
-    ensures { MatchBool result (Keeps rule (shown_arg arg.entry)) (¬ (Keeps rule (shown_arg arg.entry))) }
+    ensures { MatchBool result
+        (Keeps rule (shown_arg arg.entry)) (¬ (Keeps rule (shown_arg arg.entry))) }
 {
     passes(rule, arg)
 }

@@ -95,7 +95,8 @@ impl<'a> Inst<'a> {
 
     /// The module and the name that GLOBAL and INST name; `None` for all others.
     pub fn pair(&self) -> Option<(&'a str, &'a str)>
-        ensures { option_map (λ pair. (pair.0.now, pair.1.now)) result ≡ pair_named (instruction_of self.now) }
+        ensures { option_map (λ pair. (pair.0.now, pair.1.now)) result
+            ≡ pair_named (instruction_of self.now) }
     {
         let Arg::Pair(module, name) = self.arg else {
             return None;
@@ -178,7 +179,8 @@ fn count_len(op: Op) -> u64
 
 /// Whether the argument is one of the layout.
 fn suits(layout: Layout, arg: Arg<'_>) -> bool
-    ensures { MatchBool result (Suits layout (shown_arg arg.entry)) (¬ (Suits layout (shown_arg arg.entry))) }
+    ensures { MatchBool result
+        (Suits layout (shown_arg arg.entry)) (¬ (Suits layout (shown_arg arg.entry))) }
 {
     match (layout, arg) {
         (Layout::Nothing, Arg::None)

@@ -24,7 +24,13 @@ impl Model for Limits {
 
     ghost invariant = { λ a. AreWithin (bounds a.counted a.stack a.memo a.depth a.values) standard };
 
-    ghost inverse = { λ b. record { counted = b.counted; stack = b.stack; memo = b.memo; depth = b.depth; values = b.values } };
+    ghost inverse = { λ b. record {
+      counted = b.counted;
+      stack = b.stack;
+      memo = b.memo;
+      depth = b.depth;
+      values = b.values;
+    } };
 }
 
 impl Limits {
@@ -47,7 +53,9 @@ impl Limits {
 
     /// Limits with these numbers, where each is at most the standard one.
     pub fn new(counted: u64, stack: u64, memo: u64, depth: u64, values: u64) -> Option<Limits>
-        ensures { SomeIff result (AreWithin (bounds counted stack memo depth values) standard) (bounds counted stack memo depth values) }
+        ensures { SomeIff result
+            (AreWithin (bounds counted stack memo depth values) standard)
+            (bounds counted stack memo depth values) }
     {
         if counted <= 16_777_216
             && stack <= 1_000_000

@@ -20,7 +20,8 @@ use crate::table::{kind, op_of_byte};
 pub fn scan<'a>(bytes: &'a [u8], limits: &Limits) -> Scan<'a>
     ensures answer { Answers limits.now.counted bytes.now (shown_scan result) }
     // No other answer would be right.
-    ensures only { (other : Answer) → Answers limits.now.counted bytes.now other → other ≡ shown_scan result }
+    ensures only { (other : Answer) →
+        Answers limits.now.counted bytes.now other → other ≡ shown_scan result }
 {
     front(bytes, limits)
 }

@@ -17,13 +17,15 @@ pub fn text_of(alloc: Global, inst: &Inst<'_>) -> Result<Option<String>, AllocEr
     ensures named { IfOk result (λ text. MatchOption text
         ((bytes : List ℕ) → ¬ (NamesText (instruction_of inst.now) bytes))
         (λ string. NamesText (instruction_of inst.now) (string_bytes string))) }
-    ensures bytes { IfOk result (λ text. option_map string_bytes text ≡ text_bytes (instruction_of inst.now)) }
+    ensures bytes { IfOk result (λ text.
+        option_map string_bytes text ≡ text_bytes (instruction_of inst.now)) }
 {
     decoded(alloc, inst)
 }
 
 fn decoded(alloc: Global, inst: &Inst<'_>) -> Result<Option<String>, AllocError>
-    ensures { IfOk result (λ text. option_map string_bytes text ≡ text_bytes (instruction_of inst.now)) }
+    ensures { IfOk result (λ text.
+        option_map string_bytes text ≡ text_bytes (instruction_of inst.now)) }
 {
     match (inst.op(), inst.arg()) {
         (Op::Unicode, Arg::Line(line)) => read_text(alloc, line),

@@ -71,7 +71,8 @@ fn push_inst(out: &mut Vec<u8>, inst: &Inst<'_>) -> Result<(), AllocError>
 
 /// The spellings of instructions, one after the other. It errs only where memory is lacking.
 pub fn assemble(alloc: Global, insts: &[Inst<'_>]) -> Result<Vec<u8>, AllocError>
-    ensures { IfOk result (λ out. out.items ≡ flat_map (λ inst. spelling (instruction_of inst)) insts.now) }
+    ensures { IfOk result (λ out.
+        out.items ≡ flat_map (λ inst. spelling (instruction_of inst)) insts.now) }
 {
     let mut out = Vec::new(alloc);
     for inst in insts {
@@ -90,7 +91,8 @@ fn write_line<W: Write>(text: &[u8], to: &mut W) -> Result<(), io::Error>
 
 /// Writes a number of four bytes with a sign.
 fn write_signed<W: Write>(n: i32, to: &mut W) -> Result<(), io::Error>
-    ensures { OnOk result (Appends (W.contents to.old) (W.contents to.new) (little_bytes 4 (cast_unsigned w32 n))) }
+    ensures { OnOk result
+        (Appends (W.contents to.old) (W.contents to.new) (little_bytes 4 (cast_unsigned w32 n))) }
 {
     to.write_i32::<LittleEndian>(n)
 }
@@ -98,7 +100,8 @@ fn write_signed<W: Write>(n: i32, to: &mut W) -> Result<(), io::Error>
 /// Writes the spelling of an instruction. It takes no memory, and errs only where the writer does;
 /// how much of the spelling was written then is open.
 pub fn write_inst<W: Write>(inst: &Inst<'_>, to: &mut W) -> Result<(), io::Error>
-    ensures { OnOk result (Appends (W.contents to.old) (W.contents to.new) (spelling (instruction_of inst.now))) }
+    ensures { OnOk result
+        (Appends (W.contents to.old) (W.contents to.new) (spelling (instruction_of inst.now))) }
 {
     let op = inst.op();
     to.write_u8(code(op))?;

@@ -22,15 +22,18 @@ use Rattle.pkread.specs.declared.refusal.Reason.TheVariants.{Source, Truncated, 
 abbrev pub AtEnd : ℕ → List ℕ → Type 0
 AtEnd limit b = (i : Instruction) (n : ℕ) → IsWhole limit b i n → n ≡ length b
 
+-- known bytes that were taken twice were taken at once
 pub Consumes-more : (a b c : Option (List ℕ)) (xs ys : List ℕ) → Consumes a b xs → Consumes b c ys → Consumes a c (xs ++ ys)
 Consumes-more None b c xs ys p q = tt
 Consumes-more (Some l) None c xs ys p q = absurd p
 Consumes-more (Some l) (Some m) None xs ys p q = absurd q
 Consumes-more (Some l) (Some m) (Some n) xs ys p q = p ∙ ap (λ (k : List ℕ). xs ++ k) q ∙ sym (append_assoc xs ys n)
 
+-- what was taken twice was taken at once
 pub Takes-more : {o m n : Sight} {b c : List ℕ} → Takes o m b → Takes m n c → Takes o n (b ++ c)
 Takes-more {o} {m} {n} {b} {c} p q = record { bytes = Consumes-more o.left m.left n.left b c p.bytes q.bytes; count = q.count ∙ p.count }
 
+-- taking nothing more changes nothing
 pub Takes-none : {o m n : Sight} {b : List ℕ} → Takes o m b → Takes m n [] → Takes o n b
 Takes-none {o} {m} {n} {b} p q = rw (← append-nil b) (Takes-more p q)
 
@@ -57,6 +60,7 @@ gathers_more limit o m n b c x t u v g s e w k = rw e (record {
 not_both : (limit : ℕ) (b : List ℕ) (i : Instruction) (n : ℕ) → Begun limit b → IsWhole limit b i n → ⊥
 not_both limit b i n s w = let e : Whole i n ≡ More = one_answer limit b (Whole i n) More w s in cc
 
+-- with one byte more an instruction can only be whole at the end
 pub at_end_more : (limit : ℕ) (b c : List ℕ) (x : ℕ) → Begun limit b → c ≡ b ++ x ∷ [] → AtEnd limit c
 at_end_more limit b c x s e = rw e (λ i n w. elim (split n (length (b ++ x ∷ [])) w.fits) [
   | inr le ↦ (let f = w.fits in omega arith)
@@ -88,6 +92,7 @@ amiss_row limit o n b t _ k w = absurd w
 refuses_amiss : (limit : ℕ) (o n : Sight) (b : List ℕ) (t u : ℕ) (r : Reason) → Gathers limit o n b t u → IsAmiss limit b r → Refused limit o n b t u r
 refuses_amiss limit o n b t u r g w = with_row limit o n b t u r g.taken g.fronts (amiss_row limit o n b u r g.source w)
 
+-- a fault is amiss
 pub fault_is_amiss : (limit : ℕ) (b : List ℕ) (f : Fault) → HasFault limit f b → IsAmiss limit b (reason_of f)
 fault_is_amiss limit b (fault.UnknownOpcode c) w = w
 fault_is_amiss limit b fault.BadArgument w = w

@@ -28,11 +28,13 @@ use Rattle.pkread.specs.declared.refusal.Refusal.{Refusal}
 pub found : (limit l : ℕ) (b c : List ℕ) (r : Answer) (i : Instruction) → l ≡ limit → c ≡ b → ((other : Answer) → Answers l c other → other ≡ r) → IsWhole limit b i (length b) → Whole i (length b) ≡ r
 found limit l b c r i e f only w = only (Whole i (length b)) (rw (e, f) w)
 
+-- the instruction that a scan answers is that one
 pub found_inst : (i : Instruction) (n m : ℕ) (r : Scan) (inst : Inst) → Whole i n ≡ shown_scan r → r ≡ scan.Whole inst m → instruction_of inst ≡ i
 found_inst i n m r inst e f =
     let g : Whole i n ≡ Whole (instruction_of inst) m = e ∙ ap shown_scan f in
     cc
 
+-- a scan that has to answer an instruction does so
 pub finds_one : (i : Instruction) (n : ℕ) (r : Scan) → Whole i n ≡ shown_scan r → ((inst : Inst) (m : ℕ) → r ≡ scan.Whole inst m → ⊥) → ⊥
 finds_one i n (scan.Whole inst m) e none_is = none_is inst m refl
 finds_one i n scan.More e none_is = cc
@@ -44,9 +46,11 @@ spelled limit b i w = sym (take_all (length b) b (omega arith)) ∙ w.spells.spe
 allowed : (limit : ℕ) (b : List ℕ) (i : Instruction) (n : ℕ) → IsWhole limit b i n → objection i ≡ None → IsAllowed limit i
 allowed limit b i n w e = record { good = w.spells.good; within = w.within; admitted = no_objection i w.spells.good e }
 
+-- what was gathered is allowed
 pub is_allowed : (limit : ℕ) (b : List ℕ) (op : Op) (j : Instruction) (t : IsGathered limit b op) → j ≡ t.instruction → IsAllowed limit j
 is_allowed limit b op j t e = rw e (allowed limit b t.instruction (length b) t.whole t.admitted)
 
+-- what was gathered is given
 pub gives_whole : (old new : State) (at : ℕ) (b : List ℕ) (op : Op) (j : Instruction) (w : IsGathered old.limit b op) → j ≡ w.instruction → at ≡ old.taken → Gathers old.limit old.source new.source b old.taken new.taken → new.phase ≡ phase_after op → new.taken ≤ all_bytes → new.most ≡ max old.most (length b) → Gives old at j new
 gives_whole old new at b op j w same t g p l m =
     rw same (
@@ -69,9 +73,11 @@ raises old new b held r h e = record {
   most = omega (arith, e, h.within);
 }
 
+-- from an open reader a step is a gift or a refusal
 pub steps_open : (old new : State) (r : Result Next Refusal) → old.phase ≡ Open → MatchResult r (GivesNext old new) (λ x. RefusesAt old x new) → StepsFrom old.phase old r new
 steps_open old new r e h = subst (λ (p : Phase). StepsFrom p old r new) (sym e) h
 
+-- and it shows its place
 pub shows_open : (old : State) (r : Result Next Refusal) → old.phase ≡ Open → MatchResult r (ShowsNext old) (λ x. x.at ≡ old.taken) → ShowsFrom old.phase old r
 shows_open old r e h = subst (λ (p : Phase). ShowsFrom p old r) (sym e) h
 

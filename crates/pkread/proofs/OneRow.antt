@@ -94,6 +94,7 @@ one_refused limit b r p s q =
 abbrev pub RefusedAlone : ℕ → List ℕ → Reason → Type 0
 RefusedAlone limit bytes reason = IsRefused limit bytes reason × ((other : Reason) → IsRefused limit bytes other → other ≡ reason)
 
+-- what is refused for one reason is refused for no other
 pub alone : (limit : ℕ) (b : List ℕ) (r : Reason) → IsRefused limit b r → RefusedAlone limit b r
 alone limit b r p = (p, one_refused limit b r p)
 
@@ -101,5 +102,6 @@ amiss_refused : (limit : ℕ) (b : List ℕ) (r : Reason) → IsAmiss limit b r 
 amiss_refused limit b Truncated p = absurd p
 amiss_refused limit b _ p = p
 
+-- the same of what is amiss
 pub amiss_alone : (limit : ℕ) (b : List ℕ) (r : Reason) → IsAmiss limit b r → RefusedAlone limit b r
 amiss_alone limit b r p = alone limit b r (amiss_refused limit b r p)

@@ -33,6 +33,7 @@ pub record Reads (start : Sight) (limit : ℕ) (instructions : List Instruction)
   pub bytes : Takes start s.source (spellings instructions)
   pub count : s.taken ≡ length (spellings instructions)
 
+-- one instruction more is spelled behind the others
 pub spellings-more : (p : List Instruction) (i : Instruction) → spellings (p ++ i ∷ []) ≡ spellings p ++ spelling i
 spellings-more [] i = append-nil (spelling i)
 spellings-more (x ∷ p) i = ap (λ (b : List ℕ). spelling x ++ b) (spellings-more p i) ∙ sym (append_assoc (spelling x) (spellings p) (spelling i))
@@ -71,9 +72,11 @@ phase_cases limit p i a _ e = All-push (λ j. j.op ≢ op.Stop) p _ a (λ f. cc)
 so_far_more : (limit : ℕ) (p : List Instruction) (i : Instruction) → All (λ j. j.op ≢ op.Stop) p → SoFar limit (p ++ i ∷ []) (phase_after i.op)
 so_far_more limit p i a = phase_cases limit p i a i.op refl
 
+-- while the reader is open, none was STOP
 pub so_far_open : (limit : ℕ) (p : List Instruction) (f : Phase) → f ≡ Open → SoFar limit p f → All (λ j. j.op ≢ op.Stop) p
 so_far_open limit p f e h = rw e at h
 
+-- taking nothing
 pub takes_none : (left : Option (List ℕ)) (f : ℕ) → let s : Sight = record { left = left; failures = f } in Takes s s []
 takes_none None f = record { bytes = tt; count = refl }
 takes_none (Some xs) f = record { bytes = refl; count = refl }

@@ -32,4 +32,4 @@ gives_item b at limit n i stops w e s =
 
 -- what stands there is refused
 pub refuses_item : (b : List ℕ) (at limit : ℕ) (r : Reason) → RefusedAlone limit b r → Walks (going b at limit) (Some (Err (record { at = at; reason = r }))) (record { bytes = b; at = at; limit = limit; done = true })
-refuses_item b at limit r p = record { place = refl; why = p.0; alone = p.1; done = refl }
+refuses_item b at limit r p = record { place = refl; why = p.0; alone = p.1; after = refl }

@@ -49,7 +49,7 @@ pub record RefusesItem (old : Walk) (r : Refusal) (new : Walk) : Type 0 where
   pub place : r.at ≡ old.at
   pub why : IsRefused old.limit old.bytes r.reason
   pub alone : (other : Reason) → IsRefused old.limit old.bytes other → other ≡ r.reason
-  pub done : new ≡ record old { done = true }
+  pub after : new ≡ record old { done = true }
 
 -- an item is an instruction with its place, or a refusal
 abbrev pub Yields : Walk → Result (ℕ × Inst) Refusal → Walk → Type 0

@@ -20,7 +20,8 @@ pub enum State {
 
 /// The text that a line spells, if it spells one.
 pub fn read_text(alloc: Global, line: &[u8]) -> Result<Option<String>, AllocError>
-    ensures { IfOk result (λ text. option_map string_bytes text ≡ option_map encode_utf8_all (text_named line.now)) }
+    ensures { IfOk result (λ text.
+        option_map string_bytes text ≡ option_map encode_utf8_all (text_named line.now)) }
 {
     let mut text = String::new(alloc);
     let mut state = State::Outside;

@@ -1,0 +1,202 @@
+//! What a scan answers at the edges: cut and negative counts, the limits, and contents that keep or break a rule.
+
+use pkops::{Arg, Fault, Inst, Limits, Op, Scan, assemble, scan, text_of};
+use std::test::Fail;
+
+#[derive(Clone, Copy, Debug, PartialEq, Eq)]
+enum Found {
+    Whole(Op, usize),
+    More,
+    Bad(Fault),
+}
+
+fn read(bytes: &[u8]) -> Found {
+    match scan(bytes, &Limits::STANDARD) {
+        Scan::Whole(inst, length) => Found::Whole(inst.op(), length),
+        Scan::More => Found::More,
+        Scan::Bad(fault) => Found::Bad(fault),
+    }
+}
+
+const BAD: Found = Found::Bad(Fault::BadArgument);
+
+const LARGE: Found = Found::Bad(Fault::TooLarge);
+
+const ROWS: [(&[u8], Found); 77] = [
+    (b"", Found::More),
+    (b"\xff", Found::Bad(Fault::UnknownOpcode(255))),
+    (b"J\xff\xff\xff\xff", Found::Whole(Op::BinInt, 5)),
+    (b"J\xff\xff\xff\xff.", Found::Whole(Op::BinInt, 5)),
+    (b"\x82\x05", Found::Whole(Op::Ext1, 2)),
+    (b"\x82", Found::More),
+    (b"\x80\x06", Found::Whole(Op::Proto, 2)),
+    // Signed counts.
+    (b"T\xff\xff\xff", Found::More),
+    (b"T\xff\xff\xff\xff", BAD),
+    (b"T\x00\x00\x00\x80", BAD),
+    (b"T\xff\xff\xff\x7f", LARGE),
+    (b"\x8b\xff\xff\xff\xff", BAD),
+    (b"\x8b\x00\x00\x00\x00", Found::Whole(Op::Long4, 5)),
+    // Counts at the limit of 16,777,216 and above it.
+    (b"B\x00\x00\x00\x01", Found::More),
+    (b"B\x01\x00\x00", Found::More),
+    (b"B\x01\x00\x00\x01", LARGE),
+    (b"X\x01\x00\x00\x01", LARGE),
+    (b"\x8e\x00\x00\x00\x01\x00\x00\x00\x00", Found::More),
+    (b"\x8e\x01\x00\x00\x01\x00\x00\x00\x00", LARGE),
+    (b"\x8e\xff\xff\xff\xff\xff\xff\xff", Found::More),
+    (b"\x8e\xff\xff\xff\xff\xff\xff\xff\xff", LARGE),
+    (b"C\xff", Found::More),
+    // Numerals.
+    (b"I-0", Found::More),
+    (b"I-0\n", BAD),
+    (b"I007\n", BAD),
+    (b"I\n", BAD),
+    (b"I-\n", BAD),
+    (b"I+1\n", BAD),
+    (b"I 1\n", BAD),
+    (b"I0\n", Found::Whole(Op::Int, 3)),
+    (b"I00\n", Found::Whole(Op::Int, 4)),
+    (b"I01\n", Found::Whole(Op::Int, 4)),
+    (b"I02\n", BAD),
+    (b"I-12\n", Found::Whole(Op::Int, 5)),
+    (b"I12L\n", BAD),
+    (b"L12L\n", Found::Whole(Op::Long, 5)),
+    (b"L12\n", Found::Whole(Op::Long, 4)),
+    (b"L12LL\n", BAD),
+    (b"LL\n", BAD),
+    (b"L00\n", BAD),
+    (b"g4294967295\n", Found::Whole(Op::Get, 12)),
+    (b"g4294967296\n", BAD),
+    (b"p-1\n", BAD),
+    (b"p00\n", BAD),
+    (b"p0\n", Found::Whole(Op::Put, 3)),
+    // Floats.
+    (b"F1.5e+10\n", Found::Whole(Op::Float, 9)),
+    (b"F1.\n", BAD),
+    (b"F.5\n", BAD),
+    (b"F1e5\n", BAD),
+    (b"F1e-5\n", Found::Whole(Op::Float, 6)),
+    (b"F-inf\n", Found::Whole(Op::Float, 6)),
+    (b"Fnan\n", Found::Whole(Op::Float, 5)),
+    (b"F-\n", BAD),
+    (b"F\n", BAD),
+    (b"F007\n", Found::Whole(Op::Float, 5)),
+    // Text.
+    (b"V\xe9\n", Found::Whole(Op::Unicode, 3)),
+    (b"V\n", Found::Whole(Op::Unicode, 2)),
+    (b"V\\u0061\n", Found::Whole(Op::Unicode, 8)),
+    (b"V\\ud800\n", BAD),
+    (b"V\\uDFFF\n", BAD),
+    (b"V\\U0010ffff\n", Found::Whole(Op::Unicode, 12)),
+    (b"V\\U00110000\n", BAD),
+    (b"V\\n\n", BAD),
+    (b"V\\u006\n", BAD),
+    (b"\x8c\x01\xe9", BAD),
+    (b"\x8c\x02\xc3\xa9", Found::Whole(Op::ShortBinUnicode, 4)),
+    (b"\x8c\x03\xed\xa0\x80", BAD),
+    // Old strings.
+    (b"S'a'\n", Found::Whole(Op::String, 5)),
+    (b"S'a\n", BAD),
+    (b"S\"it's\"\n", Found::Whole(Op::String, 8)),
+    (b"S'it's'\n", BAD),
+    (b"S'\\x6g'\n", BAD),
+    (b"S'\\\\\\'\\n\\x6A'\n", Found::Whole(Op::String, 14)),
+    (b"S'\x7f'\n", BAD),
+    // Names.
+    (b"c\nf\n", BAD),
+    (b"cm\n\n", BAD),
+    (b"P\n", Found::Whole(Op::PersId, 2)),
+];
+
+#[test]
+fn edges(rt: HostRuntime) {
+    for (bytes, wanted) in &ROWS {
+        assert_eq!(rt; read(bytes), *wanted, "{bytes:?}");
+    }
+}
+
+// A line of so many bytes behind a code byte, with its end or without.
+fn line(rt: &HostRuntime, code: u8, byte: u8, length: usize, ended: bool) -> Result<Vec<u8>, Fail> {
+    let mut bytes = Vec::new(rt.alloc());
+    bytes.push(code)?;
+    for _ in 0..length {
+        bytes.push(byte)?;
+    }
+    if ended {
+        bytes.push(b'\n')?;
+    }
+    Ok(bytes)
+}
+
+#[test]
+fn lines_at_their_limits(rt: HostRuntime) -> Result<(), Fail> {
+    for (code, byte, op, most) in [
+        (b'V', b'a', Op::Unicode, 65_536),
+        (b'P', b'a', Op::PersId, 65_536),
+        (b'F', b'1', Op::Float, 65_536),
+        (b'I', b'1', Op::Int, 1_024),
+        (b'L', b'1', Op::Long, 1_024),
+    ] {
+        assert_eq!(rt;
+            read(&line(&rt, code, byte, most, false)?),
+            Found::More,
+            "{op:?}"
+        );
+        assert_eq!(rt;
+            read(&line(&rt, code, byte, most, true)?),
+            Found::Whole(op, most + 2),
+            "{op:?}"
+        );
+        assert_eq!(rt;
+            read(&line(&rt, code, byte, most + 1, false)?),
+            LARGE,
+            "{op:?}"
+        );
+        assert_eq!(rt;
+            read(&line(&rt, code, byte, most + 1, true)?),
+            LARGE,
+            "{op:?}"
+        );
+    }
+    Ok(())
+}
+
+#[test]
+fn arguments_that_an_instruction_takes(rt: HostRuntime) -> Result<(), Fail> {
+    assert!(rt; Inst::new(Op::Unicode, Arg::Line(b"a\nb")).is_none());
+    assert!(rt; Inst::new(Op::Unicode, Arg::Line(b"ab")).is_some());
+    assert!(rt; Inst::new(Op::None, Arg::U1(1)).is_none());
+    assert!(rt; Inst::new(Op::BinFloat, Arg::F8(b"1234567")).is_none());
+    let extension = Inst::new(Op::Ext1, Arg::U1(5)).ok_or("EXT1")?;
+    assert!(rt; !extension.admitted());
+    let protocol = Inst::new(Op::Proto, Arg::U1(5)).ok_or("PROTO")?;
+    assert!(rt; protocol.admitted());
+    Ok(())
+}
+
+#[test]
+fn texts(rt: HostRuntime) -> Result<(), Fail> {
+    for (bytes, text) in [
+        (b"V\xe9\n".as_slice(), Some("\u{e9}")),
+        (b"V\\u0061\\U0001F600\n".as_slice(), Some("a\u{1f600}")),
+        (b"\x8c\x02\xc3\xa9".as_slice(), Some("\u{e9}")),
+        (b"U\x01a".as_slice(), None),
+    ] {
+        let Scan::Whole(inst, _) = scan(bytes, &Limits::STANDARD) else {
+            return Err(Fail::from("an instruction"));
+        };
+        let named = text_of(rt.alloc(), &inst)?;
+        assert_eq!(rt; named.as_ref().map(|text| text.as_str()), text, "{bytes:?}");
+    }
+    Ok(())
+}
+
+#[test]
+fn two_instructions_assembled(rt: HostRuntime) -> Result<(), Fail> {
+    let none = Inst::new(Op::None, Arg::None).ok_or("NONE")?;
+    let stop = Inst::new(Op::Stop, Arg::None).ok_or("STOP")?;
+    let bytes = assemble(rt.alloc(), &[none, stop])?;
+    assert_eq!(rt; bytes.as_slice(), b"N.".as_slice());
+    Ok(())
+}

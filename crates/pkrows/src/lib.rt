@@ -1,0 +1,21 @@
+//! Tests that cross crates: worked rows with known answers, through the library calls that a program makes.
+//!
+//! Each expected value comes from the description of the format (`docs/FORMATS.md`) or from CPython, never from this project's own output.
+#![tactic(auto)]
+
+#[cfg(test)]
+mod bounds;
+#[cfg(test)]
+mod judging;
+#[cfg(test)]
+mod lists;
+#[cfg(test)]
+mod opcodes;
+#[cfg(test)]
+mod readers;
+#[cfg(test)]
+mod sources;
+#[cfg(test)]
+mod spellings;
+#[cfg(test)]
+mod verdicts;

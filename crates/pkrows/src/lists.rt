@@ -1,0 +1,81 @@
+//! List files: what they permit, and the first error of those that are none.
+
+use pkcheck::{Allow, AllowError, Where};
+use std::test::Fail;
+
+const LIST: &str = "version = 1
+[imports]
+collections = [\"OrderedDict\", \"deque\", \"deque\"]
+\"a.b\" = [\"c\"]
+empty = []
+";
+
+#[test]
+fn pairs_of_a_list(rt: HostRuntime) -> Result<(), Fail> {
+    let allow = Allow::from_toml(rt.alloc(), LIST)?;
+    for (module, name, wanted) in [
+        ("collections", "OrderedDict", true),
+        ("collections", "deque", true),
+        ("a.b", "c", true),
+        ("collections", "Counter", false),
+        ("collections", "", false),
+        ("collection", "deque", false),
+        ("a", "b.c", false),
+        ("empty", "c", false),
+        ("", "", false),
+    ] {
+        assert_eq!(rt; allow.contains(module, name), wanted, "{module} {name}");
+    }
+    Ok(())
+}
+
+#[test]
+fn the_first_error(rt: HostRuntime) {
+    for (text, wanted) in [
+        ("version = ", AllowError::Syntax),
+        ("", AllowError::Shape(Where::Version)),
+        ("version = \"1\"", AllowError::Shape(Where::Version)),
+        (
+            "version = 1.0\n[imports]",
+            AllowError::Shape(Where::Version),
+        ),
+        ("version = 2", AllowError::Version),
+        ("version = 2\nmore = 1", AllowError::Version),
+        ("version = 1\nmore = 1", AllowError::Shape(Where::TopKey)),
+        ("version = 1", AllowError::Shape(Where::Imports)),
+        (
+            "version = 1\nimports = 1",
+            AllowError::Shape(Where::Imports),
+        ),
+        (
+            "version = 1\n[imports]\nm = \"f\"",
+            AllowError::Shape(Where::Module),
+        ),
+        (
+            "version = 1\n[imports]\n\"\" = [\"f\"]",
+            AllowError::Shape(Where::Module),
+        ),
+        (
+            "version = 1\n[imports]\nm = [\"\"]",
+            AllowError::Shape(Where::Name),
+        ),
+        (
+            "version = 1\n[imports]\nm = [1]",
+            AllowError::Shape(Where::Name),
+        ),
+        (
+            "version = 1\n[imports]\nb = 1\na = [1]",
+            AllowError::Shape(Where::Name),
+        ),
+        (
+            "version = 1\n[imports]\na = 1\nb = [1]",
+            AllowError::Shape(Where::Module),
+        ),
+    ] {
+        let Err(error) = Allow::from_toml(rt.alloc(), text) else {
+            assert!(rt; false, "no error: {text}");
+            return;
+        };
+        assert_eq!(rt; error, wanted, "{text}");
+    }
+}

@@ -1,0 +1,114 @@
+//! The same pickle from sources that cut it into pieces, fail, end early, or hold more behind it.
+
+use crate::judging::Verdict;
+use pkcheck::{Allow, Policy, check};
+use pkops::Limits;
+use pkread::{Input, Memory, Reason, Source};
+use std::io;
+use std::io::Read;
+use std::test::Fail;
+
+const LIST: &str = "version = 1\n[imports]\na = [\"b\"]\n";
+
+// Asks for one import, and is nine bytes long.
+const PICKLE: &[u8] = b"\x8c\x01a\x94\x8c\x01b\x93.";
+
+// Gives bytes in pieces. A bit of `cuts` that is set says that a piece ends behind that byte. One read fails once
+// `fails_after` bytes are given; the source then goes on.
+#[derive(Drop)]
+struct Pieces<'a> {
+    rest: &'a [u8],
+    given: u32,
+    cuts: u32,
+    fails_after: Option<u32>,
+}
+
+impl<'a> Pieces<'a> {
+    fn new(bytes: &'a [u8], cuts: u32, fails_after: Option<u32>) -> Pieces<'a> {
+        Pieces {
+            rest: bytes,
+            given: 0,
+            cuts,
+            fails_after,
+        }
+    }
+}
+
+impl Read for Pieces<'_> {
+    fn read(&mut self, to: &mut [u8]) -> io::Result<usize> {
+        if self.fails_after == Some(self.given) {
+            self.fails_after = None;
+            return Err(io::Error::from(io::ErrorKind::TimedOut));
+        }
+        let piece = (self.cuts >> (self.given & 31)).trailing_zeros() as usize + 1;
+        let count = piece.min(to.len()).min(self.rest.len());
+        to[..count].copy_from_slice(&self.rest[..count]);
+        self.rest = &self.rest[count..];
+        self.given = self.given.wrapping_add(1);
+        Ok(count)
+    }
+}
+
+fn judge_from<R: Source>(rt: &HostRuntime, source: &mut R) -> Result<Verdict, Fail> {
+    let allow = Allow::from_toml(rt.alloc(), LIST)?;
+    match check(
+        rt.alloc(),
+        source,
+        &Policy::Listed(&allow),
+        &Limits::STANDARD,
+    ) {
+        Ok(yes) => Ok(Verdict::Yes(yes.taken, yes.imports.len())),
+        Err(no) => Ok(Verdict::No(no.at, no.reason)),
+    }
+}
+
+#[test]
+fn every_cutting_gives_one_answer(rt: HostRuntime) -> Result<(), Fail> {
+    for cuts in 0..256u32 {
+        let mut source = Input::new(Pieces::new(PICKLE, cuts, None));
+        assert_eq!(rt; judge_from(&rt, &mut source)?, Verdict::Yes(9, 1), "{cuts}");
+    }
+    Ok(())
+}
+
+// Where the instructions begin of which a byte is missing when so many are there.
+const STARTS: [u64; 9] = [0, 0, 0, 3, 4, 4, 4, 7, 8];
+
+#[test]
+fn a_read_that_fails_and_an_early_end(rt: HostRuntime) -> Result<(), Fail> {
+    for (given, start) in STARTS.iter().enumerate() {
+        let mut failing = Input::new(Pieces::new(PICKLE, u32::MAX, Some(given as u32)));
+        assert_eq!(rt;
+            judge_from(&rt, &mut failing)?,
+            Verdict::No(*start, Reason::Source),
+            "{given}"
+        );
+        let front = PICKLE.get(..given).ok_or("a front")?;
+        let mut ending = Memory::new(front);
+        assert_eq!(rt;
+            judge_from(&rt, &mut ending)?,
+            Verdict::No(*start, Reason::Truncated),
+            "{given}"
+        );
+    }
+    let mut failing = Input::new(Pieces::new(PICKLE, u32::MAX, Some(9)));
+    assert_eq!(rt; judge_from(&rt, &mut failing)?, Verdict::Yes(9, 1));
+    Ok(())
+}
+
+#[test]
+fn nothing_past_stop_is_taken(rt: HostRuntime) -> Result<(), Fail> {
+    let mut source = Memory::new(b"\x8c\x01a\x94\x8c\x01b\x93.more");
+    assert_eq!(rt; judge_from(&rt, &mut source)?, Verdict::Yes(9, 1));
+    let mut rest = [0; 8];
+    let count = source
+        .pull(&mut rest)
+        .map_err(|_| "no read of memory fails")?;
+    assert_eq!(rt; rest.get(..count), Some(b"more".as_slice()));
+
+    let mut pieces = Pieces::new(b"\x8c\x01a\x94\x8c\x01b\x93.more", u32::MAX, None);
+    let mut source = Input::new(&mut pieces);
+    assert_eq!(rt; judge_from(&rt, &mut source)?, Verdict::Yes(9, 1));
+    assert_eq!(rt; pieces.given, 9);
+    Ok(())
+}

@@ -1,0 +1,151 @@
+//! One spelling of each opcode, read and written. CPython's `pickletools` reads each as one instruction of that name and length.
+
+use pkops::{Inst, Limits, Op, Scan, assemble, op_of_byte, row, scan, write_inst};
+use pkread::genops;
+use std::test::Fail;
+
+const SPELLINGS: [(Op, &str, &[u8]); 68] = [
+    (Op::Int, "INT", b"I12\n"),
+    (Op::BinInt, "BININT", b"J\xff\xff\xff\xff"),
+    (Op::BinInt1, "BININT1", b"K\x07"),
+    (Op::BinInt2, "BININT2", b"M\x01\x02"),
+    (Op::Long, "LONG", b"L12L\n"),
+    (Op::Long1, "LONG1", b"\x8a\x01\xff"),
+    (Op::Long4, "LONG4", b"\x8b\x01\x00\x00\x00\xff"),
+    (Op::String, "STRING", b"S'a'\n"),
+    (Op::BinString, "BINSTRING", b"T\x01\x00\x00\x00a"),
+    (Op::ShortBinString, "SHORT_BINSTRING", b"U\x01a"),
+    (Op::BinBytes, "BINBYTES", b"B\x01\x00\x00\x00a"),
+    (Op::ShortBinBytes, "SHORT_BINBYTES", b"C\x01a"),
+    (
+        Op::BinBytes8,
+        "BINBYTES8",
+        b"\x8e\x01\x00\x00\x00\x00\x00\x00\x00a",
+    ),
+    (
+        Op::ByteArray8,
+        "BYTEARRAY8",
+        b"\x96\x01\x00\x00\x00\x00\x00\x00\x00a",
+    ),
+    (Op::NextBuffer, "NEXT_BUFFER", b"\x97"),
+    (Op::ReadonlyBuffer, "READONLY_BUFFER", b"\x98"),
+    (Op::None, "NONE", b"N"),
+    (Op::NewTrue, "NEWTRUE", b"\x88"),
+    (Op::NewFalse, "NEWFALSE", b"\x89"),
+    (Op::Unicode, "UNICODE", b"Va\n"),
+    (Op::ShortBinUnicode, "SHORT_BINUNICODE", b"\x8c\x01a"),
+    (Op::BinUnicode, "BINUNICODE", b"X\x01\x00\x00\x00a"),
+    (
+        Op::BinUnicode8,
+        "BINUNICODE8",
+        b"\x8d\x01\x00\x00\x00\x00\x00\x00\x00a",
+    ),
+    (Op::Float, "FLOAT", b"F1.5\n"),
+    (Op::BinFloat, "BINFLOAT", b"G?\xf8\x00\x00\x00\x00\x00\x00"),
+    (Op::EmptyList, "EMPTY_LIST", b"]"),
+    (Op::Append, "APPEND", b"a"),
+    (Op::Appends, "APPENDS", b"e"),
+    (Op::List, "LIST", b"l"),
+    (Op::EmptyTuple, "EMPTY_TUPLE", b")"),
+    (Op::Tuple, "TUPLE", b"t"),
+    (Op::Tuple1, "TUPLE1", b"\x85"),
+    (Op::Tuple2, "TUPLE2", b"\x86"),
+    (Op::Tuple3, "TUPLE3", b"\x87"),
+    (Op::EmptyDict, "EMPTY_DICT", b"}"),
+    (Op::Dict, "DICT", b"d"),
+    (Op::SetItem, "SETITEM", b"s"),
+    (Op::SetItems, "SETITEMS", b"u"),
+    (Op::EmptySet, "EMPTY_SET", b"\x8f"),
+    (Op::AddItems, "ADDITEMS", b"\x90"),
+    (Op::FrozenSet, "FROZENSET", b"\x91"),
+    (Op::Pop, "POP", b"0"),
+    (Op::Dup, "DUP", b"2"),
+    (Op::Mark, "MARK", b"("),
+    (Op::PopMark, "POP_MARK", b"1"),
+    (Op::Get, "GET", b"g7\n"),
+    (Op::BinGet, "BINGET", b"h\x07"),
+    (Op::LongBinGet, "LONG_BINGET", b"j\x07\x00\x00\x00"),
+    (Op::Put, "PUT", b"p7\n"),
+    (Op::BinPut, "BINPUT", b"q\x07"),
+    (Op::LongBinPut, "LONG_BINPUT", b"r\x07\x00\x00\x00"),
+    (Op::Memoize, "MEMOIZE", b"\x94"),
+    (Op::Ext1, "EXT1", b"\x82\x05"),
+    (Op::Ext2, "EXT2", b"\x83\x05\x00"),
+    (Op::Ext4, "EXT4", b"\x84\x05\x00\x00\x00"),
+    (Op::Global, "GLOBAL", b"cm\nf\n"),
+    (Op::StackGlobal, "STACK_GLOBAL", b"\x93"),
+    (Op::Reduce, "REDUCE", b"R"),
+    (Op::Build, "BUILD", b"b"),
+    (Op::Inst, "INST", b"im\nf\n"),
+    (Op::Obj, "OBJ", b"o"),
+    (Op::NewObj, "NEWOBJ", b"\x81"),
+    (Op::NewObjEx, "NEWOBJ_EX", b"\x92"),
+    (Op::Proto, "PROTO", b"\x80\x02"),
+    (Op::Frame, "FRAME", b"\x95\x01\x00\x00\x00\x00\x00\x00\x00"),
+    (Op::PersId, "PERSID", b"Pp\n"),
+    (Op::BinPersid, "BINPERSID", b"Q"),
+    (Op::Stop, "STOP", b"."),
+];
+
+#[test]
+fn each_front_is_more_and_the_whole_is_whole(rt: HostRuntime) -> Result<(), Fail> {
+    for (op, name, bytes) in &SPELLINGS {
+        for end in 0..bytes.len() {
+            let front = scan(&bytes[..end], &Limits::STANDARD);
+            assert!(rt; matches!(front, Scan::More), "{end} bytes of {name}");
+        }
+        let Scan::Whole(inst, length) = scan(bytes, &Limits::STANDARD) else {
+            return Err(Fail::from(*name));
+        };
+        assert_eq!(rt; inst.op(), *op, "{name}");
+        assert_eq!(rt; length, bytes.len(), "{name}");
+        assert_eq!(rt; inst.len(), bytes.len() as u64, "{name}");
+    }
+    Ok(())
+}
+
+#[test]
+fn what_was_read_is_written_back(rt: HostRuntime) -> Result<(), Fail> {
+    for (_, name, bytes) in &SPELLINGS {
+        let Scan::Whole(inst, _) = scan(bytes, &Limits::STANDARD) else {
+            return Err(Fail::from(*name));
+        };
+        let mut written = Vec::new(rt.alloc());
+        write_inst(&inst, &mut written)?;
+        assert_eq!(rt; written.as_slice(), *bytes, "{name}");
+        let assembled = assemble(rt.alloc(), &[inst])?;
+        assert_eq!(rt; assembled.as_slice(), *bytes, "{name}");
+    }
+    Ok(())
+}
+
+#[test]
+fn the_table_names_each(rt: HostRuntime) {
+    for (op, name, bytes) in &SPELLINGS {
+        assert_eq!(rt; row(*op).name, *name);
+        assert_eq!(rt; op_of_byte(row(*op).code), Some(*op), "{name}");
+        assert_eq!(rt; bytes.first().copied(), Some(row(*op).code), "{name}");
+    }
+}
+
+#[test]
+fn genops_gives_each_at_its_offset(rt: HostRuntime) -> Result<(), Fail> {
+    let mut all = Vec::new(rt.alloc());
+    for (op, _, bytes) in &SPELLINGS {
+        if !matches!(op, Op::Ext1 | Op::Ext2 | Op::Ext4) {
+            all.extend_from_slice(bytes)?;
+        }
+    }
+    let mut items = genops(&all, &Limits::STANDARD);
+    let mut offset = 0u64;
+    for (op, name, bytes) in &SPELLINGS {
+        if !matches!(op, Op::Ext1 | Op::Ext2 | Op::Ext4) {
+            let (at, inst) = items.next().ok_or(*name)??;
+            assert_eq!(rt; at, offset, "{name}");
+            assert_eq!(rt; inst.op(), *op, "{name}");
+            offset = offset.wrapping_add(bytes.len() as u64);
+        }
+    }
+    assert!(rt; items.next().is_none(), "after STOP");
+    Ok(())
+}
