@@ -1,9 +1,8 @@
 -- The open marks, along a step.
-use Rattle.std.proofs.Common.{◌≡◌, ℕ, zero, suc, ◌+◌, ◌-◌, ◌≤◌, Bool, true, false, cond, ltb, List, [], ◌∷◌, ◌++◌, length, Option, Some, None, Result, Ok, Err, refl, sym, ap, subst, ◌∙◌, arith}
+use Rattle.std.proofs.Common.{◌≡◌, ℕ, zero, suc, ◌+◌, ◌-◌, ◌≤◌, Bool, true, false, cond, List, [], ◌∷◌, ◌++◌, length, Option, Some, None, Result, Ok, Err, refl, sym, ap, subst, ◌∙◌, arith}
 use Rattle.pkops.specs.Spelling.{Instruction}
 use Rattle.pkops.specs.Limits.{Bounds}
 use Rattle.pkops.specs.Operands.{memo_number}
-use Rattle.pkcheck.specs.declared.effects.SliceRule.{SliceRule}
 use Rattle.pkcheck.specs.declared.effects.Takes.{Takes}
 use Rattle.pkcheck.specs.declared.effects.Takes.TheVariants.{Objects, Slice, SliceAndReceiver}
 use Rattle.pkcheck.specs.declared.effects.Names.{Names}
@@ -13,7 +12,7 @@ use Rattle.pkcheck.specs.declared.effects.Move.TheVariants.{PushesMark, Pops, Po
 use Rattle.pkcheck.specs.declared.effects.Effect.{Effect}
 use Rattle.pkcheck.specs.declared.effects.Effect.TheVariants.{Operates, Moves, Stops}
 use Rattle.pkcheck.specs.Effects.{effect_of}
-use Rattle.pkcheck.specs.Shape.{Breach, Entry, Mark, Item, Shape, Taken, and_then, unless, items, slice, breaks, operands, front, put, top, recalled, fetched, popped, moved, marks_of}
+use Rattle.pkcheck.specs.Shape.{Breach, Entry, Mark, Item, Taken, and_then, unless, items, slice, breaks, operands, put, top, recalled, fetched, popped, moved, marks_of}
 use Rattle.pkcheck.specs.Knowledge.{Known, Knowledge, Policy, Asked, Progress, Refusal, WrongClass, wrong_receiver, asked_of, known_given, left_over, move_learned, stop_learned, operate_learned, learn, within, advance}
 use Rattle.pkcheck.specs.Covers.{Pointwise, AlikeEntry}
 use Rattle.pkcheck.specs.Slots.{has_mark_on_top, marks_moved, marks_taken, marks_after}

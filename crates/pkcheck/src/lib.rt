@@ -10,10 +10,11 @@ mod imports;
 mod judging;
 mod machine;
 mod marks;
+mod memo;
 mod moves;
 mod operate;
-mod place;
 mod policy;
+mod stack;
 mod turn;
 
 pub use allow::{Allow, AllowError, Where};

@@ -1,22 +1,12 @@
 //! The number of open marks, kept beside the stack.
-ghost use Rattle.std.specs.Prelude.{◌≡◌, ◌<◌, ◌^◌, []};
-ghost use Rattle.pkcheck.specs.Slots.{shown, has_mark_on_top, marks_after};
+ghost use Rattle.pkcheck.specs.Knowledge.{Lacks, reason_of};
+ghost use Rattle.pkcheck.specs.Shape.{Breach, NoMark, NoItem, operands, slice, items, recalled, breaks, top, moved};
+ghost use Rattle.pkcheck.specs.Slots.{shown, values_of, IsLack, FirstObject, StartsWell, has_mark_on_top, marks_after, known, remembered, entry_of, WantsRoom, WantsMemo, shape_of, IsFault, IsFaultOf};
+ghost use Rattle.std.specs.BTreeMap.{btree_map_len, insert_entry};
+ghost use Rattle.std.specs.Ordering.{nat_cmp};
+ghost use Rattle.std.specs.Prelude.{◌≡◌, ℕ, List, [], ◌∷◌, ◌++◌, ◌<◌, ◌≤◌, length, take, drop, map, IfOk, IfErr, IfSome, OnOk, MatchResult, MatchOption, ◌⊎◌, ◌-◌, ◌^◌, OnErr};
 
 use crate::effects::{Effect, Move, Takes};
-use crate::entry::Slot;
-
-/// Whether the topmost entry is a mark.
-pub fn has_mark_on_top(stack: &[Slot]) -> bool
-    ensures { result ≡ has_mark_on_top (shown stack.now []) }
-{
-    if stack.is_empty() {
-        return false;
-    }
-    match &stack[stack.len() - 1] {
-        Slot::Bar => true,
-        _ => false,
-    }
-}
 
 /// How many marks are open after an effect that goes on, over so many before it.
 pub fn marks_after(effect: Effect, is_mark: bool, marks: usize) -> usize

@@ -1,60 +1,18 @@
 //! The moves, which look at no object.
-ghost use Rattle.std.specs.Prelude.{◌≡◌, ◌⊎◌, ◌-◌, ℕ, List, [], ◌∷◌, ◌++◌, ◌<◌, ◌≤◌, ◌^◌, length, take, drop, map, IfOk, IfErr, OnOk, OnErr, MatchResult, MatchOption};
-ghost use Rattle.std.specs.BTreeMap.{btree_map_len};
-ghost use Rattle.pkcheck.specs.Slots.{known, shown, values_of, remembered, entry_of, shape_of, IsLack, IsFault, IsFaultOf};
-ghost use Rattle.pkcheck.specs.Shape.{top, moved};
+ghost use Rattle.pkcheck.specs.Knowledge.{Lacks, reason_of};
+ghost use Rattle.pkcheck.specs.Shape.{Breach, NoMark, NoItem, operands, slice, items, recalled, breaks, top, moved};
+ghost use Rattle.pkcheck.specs.Slots.{shown, values_of, IsLack, FirstObject, StartsWell, has_mark_on_top, marks_after, known, remembered, entry_of, WantsRoom, WantsMemo, shape_of, IsFault, IsFaultOf};
+ghost use Rattle.std.specs.BTreeMap.{btree_map_len, insert_entry};
+ghost use Rattle.std.specs.Ordering.{nat_cmp};
+ghost use Rattle.std.specs.Prelude.{◌≡◌, ℕ, List, [], ◌∷◌, ◌++◌, ◌<◌, ◌≤◌, length, take, drop, map, IfOk, IfErr, IfSome, OnOk, MatchResult, MatchOption, ◌⊎◌, ◌-◌, ◌^◌, OnErr};
 
 use crate::effects::Move;
-use crate::entry::{Slot, Value, copied, mark_place, push, store};
+use crate::entry::{Slot, Value, copied};
+use crate::memo::store;
+use crate::stack::{pop, pop_mark, push, top_copy};
 use pkops::Limits;
 use pkread::Reason;
 use std::collections::BTreeMap;
-
-/// Takes the topmost entry.
-#[tactic(auto, using(crate::proofs::Popping::popped_none, crate::proofs::Popping::popped_some))]
-pub fn pop(stack: &mut Vec<Slot>) -> Result<(), Reason>
-    ensures ok { (m : List (ℕ × Value)) → OnOk result (moved Move.Pops 0 (shape_of stack.old.items m) ≡ Ok (shape_of stack.new.items m)) }
-    ensures shrinks { length stack.new.items ≤ length stack.old.items }
-    ensures err { (m : List (ℕ × Value)) → IfErr result (λ r. (stack.new.items ≡ stack.old.items) × IsLack (moved Move.Pops 0 (shape_of stack.old.items m)) r) }
-{
-    if stack.is_empty() {
-        return Err(Reason::MissingItem);
-    }
-    stack.truncate(stack.len() - 1);
-    Ok(())
-}
-
-/// Takes what stands above the topmost mark, and the mark.
-pub fn pop_mark(stack: &mut Vec<Slot>) -> Result<(), Reason>
-    ensures ok { (m : List (ℕ × Value)) → OnOk result (moved Move.PopsMark 0 (shape_of stack.old.items m) ≡ Ok (shape_of stack.new.items m)) }
-    ensures shrinks { length stack.new.items ≤ length stack.old.items }
-    ensures err { (m : List (ℕ × Value)) → IfErr result (λ r. (stack.new.items ≡ stack.old.items) × IsLack (moved Move.PopsMark 0 (shape_of stack.old.items m)) r) }
-{
-    match mark_place(stack) {
-        Some(place) => {
-            stack.truncate(place);
-            Ok(())
-        }
-        None => Err(Reason::MissingMark),
-    }
-}
-
-/// What is known of the top.
-pub fn top_copy(stack: &[Slot]) -> Result<Value, Reason>
-    ensures ok { IfOk result (λ v. top (shown stack.now []) ≡ Ok (known v, shown (take (length stack.now - 1) stack.now) [])) }
-    ensures err { IfErr result (λ r. IsLack (top (shown stack.now [])) r ⊎ (r ≡ Reason.OutOfMemory)) }
-{
-    if stack.is_empty() {
-        return Err(Reason::MissingItem);
-    }
-    match &stack[stack.len() - 1] {
-        Slot::Bar => Err(Reason::MissingItem),
-        Slot::Object(value) => match copied(value) {
-            Ok(copy) => Ok(copy),
-            Err(_) => Err(Reason::OutOfMemory),
-        },
-    }
-}
 
 /// Pushes the top once more.
 pub fn duplicate(stack: &mut Vec<Slot>, limits: Limits) -> Result<(), Reason>

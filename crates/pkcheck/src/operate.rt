@@ -10,10 +10,10 @@ ghost use Rattle.pkcheck.specs.Shape.{and_then, put};
 ghost use Rattle.pkcheck.specs.Denials.{judged, ruled, IsDenied, IsStarved, MayName, MayGive, MayOperate, Passes};
 
 use crate::effects::{Class, Effect, Gives, Names, Takes, Wanted};
-use crate::entry::{Slot, Value, settle};
+use crate::entry::{Slot, Value};
 use crate::import::{Asked, asked_by};
-use crate::place::place_of;
 use crate::policy::Policy;
+use crate::stack::{place_of, settle};
 use pkops::{Inst, Limits, text_of};
 use pkread::Reason;
 use std::alloc::Global;
@@ -25,11 +25,11 @@ pub struct Denial {
     pub pair: Option<Asked>,
 }
 
-/// Whether an object of this sort will do.
-pub fn class_suits(wanted: Wanted, sort: Class) -> bool
-    ensures { result ≡ suits wanted (Plain sort) }
+/// Whether an object of this class will do.
+pub fn class_suits(wanted: Wanted, class: Class) -> bool
+    ensures { result ≡ suits wanted (Plain class) }
 {
-    match (wanted, sort) {
+    match (wanted, class) {
         (Wanted::WantsAny, _) => true,
         (Wanted::WantsList, Class::List) => true,
         (Wanted::WantsDict, Class::Dict) => true,
@@ -44,7 +44,7 @@ pub fn is_wrong(wanted: Wanted, value: &Value) -> bool
 {
     match value {
         Value::Unknown => false,
-        Value::Made(sort) => !class_suits(wanted, *sort),
+        Value::Made(class) => !class_suits(wanted, *class),
         Value::Chars(_) => match wanted {
             Wanted::WantsAny => false,
             _ => true,
@@ -142,14 +142,14 @@ pub fn value_of(alloc: Global, gives: Gives, inst: &Inst) -> Result<Option<Value
     ensures err { IfErr result (λ r. MayGive gives × (r ≡ Reason.OutOfMemory)) }
 {
     match gives {
-        Gives::Makes(sort) => Ok(Some(Value::Made(sort))),
+        Gives::Makes(class) => Ok(Some(Value::Made(class))),
         Gives::MakesIntOrBool => Ok(Some(Value::Made(int_or_bool(inst)))),
         Gives::MakesText => match text_of(alloc, inst) {
             Ok(Some(text)) => Ok(Some(Value::Chars(text))),
             Ok(None) => Ok(Some(Value::Chars(String::new(alloc)))),
             Err(_) => Err(Reason::OutOfMemory),
         },
-        Gives::MayMake(sort) => Ok(Some(Value::Made(sort))),
+        Gives::MayMake(class) => Ok(Some(Value::Made(class))),
         Gives::Answers => Ok(Some(Value::Unknown)),
         Gives::Leaves(_) => Ok(None),
     }

@@ -10,11 +10,12 @@ ghost use Rattle.pkcheck.specs.Import.{asked_shown, policy_of};
 ghost use Rattle.pkcheck.specs.Denials.{IsDenied, IsStarved, Goes, MayTake, IsStopFault};
 
 use crate::effects::{Effect, effect_by};
-use crate::entry::{Slot, Value, objects_place};
+use crate::entry::{Slot, Value};
 use crate::import::Asked;
 use crate::moves::apply;
 use crate::operate::{Denial, operate};
 use crate::policy::Policy;
+use crate::stack::objects_place;
 use pkops::{Inst, Limits};
 use pkread::Reason;
 use std::alloc::Global;

@@ -13,7 +13,7 @@ use Rattle.pkops.specs.declared.contents.escapes.State.{State}
 use Rattle.pkops.specs.declared.contents.escapes.State.TheVariants.{Outside, Behind, Digits}
 use Rattle.pkops.specs.Escapes.{Character, plain, short, long, print_character, code_point, IsEscape, IsCharacter, SpellsText}
 use Rattle.pkops.specs.EscapeSteps.{is_scalar, step_of, with_point, code_points, text_named}
-use Rattle.pkops.proofs.Texts.{one_step}
+use Rattle.pkops.proofs.EscapeLoop.{one_step}
 
 -- ---- code points
 

@@ -10,7 +10,7 @@ use Rattle.pkops.specs.Spelling.{IsLine}
 use Rattle.pkops.specs.Reading.{◌>>=◌, line_at, pair_at}
 use Rattle.pkops.specs.Scanning.{IsLong}
 use Rattle.pkops.proofs.Exact.{IsBytes, Lacks, Takes, IsExact}
-use Rattle.pkops.proofs.Leaves.{ok_is, not_nil}
+use Rattle.pkops.proofs.Fields.{ok_is, not_nil}
 use Rattle.pkops.proofs.Lines.{line_text, LineFault, line_exact}
 use Rattle.pkops.proofs.Payloads.{cut}
 

@@ -15,7 +15,7 @@ use Rattle.pkops.specs.declared.fault.Stop.TheVariants.{Short, Bad}
 use Rattle.pkops.specs.Spelling.{size_of, count_limit}
 use Rattle.pkops.specs.Reading.{bytes_at, payload_at}
 use Rattle.pkops.proofs.Exact.{IsBytes, Lacks, Takes, IsExact}
-use Rattle.pkops.proofs.Leaves.{IsBytes-drop, not_nil, some_left, zeros_fit, length-zeros, bytes_back, too_few, enough, few_bytes, many_bytes, bytes_again, bytes_takes}
+use Rattle.pkops.proofs.Fields.{IsBytes-drop, not_nil, some_left, zeros_fit, length-zeros, bytes_back, too_few, enough, few_bytes, many_bytes, bytes_again, bytes_takes}
 use Rattle.pkops.proofs.Lines.{lt-leb}
 
 -- bytes and then zeros read as a small number

@@ -18,8 +18,8 @@ use Rattle.pkops.specs.Scanning.{Begun, HasFault}
 use Rattle.pkops.specs.Answer.{IsWhole, Answers}
 use Rattle.pkops.specs.Reading.{IsStopped, arg_at}
 use Rattle.pkops.proofs.Exact.{IsBytes, Takes}
-use Rattle.pkops.proofs.Leaves.{not_nil}
-use Rattle.pkops.proofs.Args.{IsArgument, ArgFault, arg_exact}
+use Rattle.pkops.proofs.Fields.{not_nil}
+use Rattle.pkops.proofs.Arguments.{IsArgument, ArgFault, arg_exact}
 
 -- no bytes begin an instruction
 pub nothing_begun : (limit : ℕ) → Begun limit []

@@ -12,8 +12,8 @@ use Rattle.pkops.specs.Spelling.{Argument, Instruction, instruction, laid, layou
 use Rattle.pkops.specs.Contents.{IsGood}
 use Rattle.pkops.specs.Answer.{Answers}
 use Rattle.pkops.specs.Reading.{arg_at}
-use Rattle.pkops.proofs.Leaves.{ok_is}
-use Rattle.pkops.proofs.Args.{ArgFault, arg_exact}
+use Rattle.pkops.proofs.Fields.{ok_is}
+use Rattle.pkops.proofs.Arguments.{ArgFault, arg_exact}
 use Rattle.pkops.proofs.Codes.{one_code}
 
 -- what reading behind the code gives, for each answer

@@ -1,5 +1,5 @@
 -- How the code reads an argument from left to right, and which fault it meets first. Only private
--- functions cite these; `proofs/Args.antt` shows that each layout is read as `Scanning` says.
+-- functions cite these; `proofs/Arguments.antt` shows that each layout is read as `Scanning` says.
 use Rattle.std.specs.Prelude.{◌≡◌, ℕ, ◌+◌, List, length, take, drop, Bool, Option, Some, None, Result, Ok, Err, nat_lt, nat_le, position, ◌==◌, if◌then◌else◌}
 use Rattle.std.specs.Int.{w32, cast_signed}
 use Rattle.byteorder.specs.Endian.{little_number}

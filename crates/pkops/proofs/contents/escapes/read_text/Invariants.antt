@@ -2,7 +2,7 @@ use Rattle.std.proofs.Common.{◌≡◌, drop}
 use Rattle.std.specs.Prelude.{string_bytes, encode_utf8_all}
 use Rattle.std.specs.Option.{option_map}
 use Rattle.pkops.specs.EscapeSteps.{code_points, text_named, IsSmall}
-use Rattle.pkops.proofs.Texts.{joined}
+use Rattle.pkops.proofs.EscapeLoop.{joined}
 use Rattle.pkops.proofs.contents.escapes.read_text.Given as goal
 
 -- the text so far and what is left give what all names

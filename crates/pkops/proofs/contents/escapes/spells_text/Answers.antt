@@ -1,6 +1,6 @@
 use Rattle.std.proofs.Common.{sym, ap, ◌∙◌, arith}
 use Rattle.std.specs.Prelude.{is_some}
-use Rattle.pkops.proofs.Texts.{not_ended, stops, some_at_end, some_goes_on}
+use Rattle.pkops.proofs.EscapeLoop.{not_ended, stops, some_at_end, some_goes_on}
 use Rattle.pkops.proofs.contents.escapes.spells_text.Goals as goal
 
 pub returns-in_default : goal.returns-in_default

@@ -1,4 +1,4 @@
-use Rattle.pkops.proofs.Memos.{not_parsed, not_text}
+use Rattle.pkops.proofs.MemoNumbers.{not_parsed, not_text}
 use Rattle.pkops.proofs.contents.numeral.memo_number.Goals as goal
 
 pub returns-in-Err-parse : goal.returns-in-Err-parse

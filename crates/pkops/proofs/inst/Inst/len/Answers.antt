@@ -1,4 +1,4 @@
-use Rattle.pkops.proofs.Had.{had_good}
+use Rattle.pkops.proofs.Good.{had_good}
 use Rattle.pkops.proofs.inst.Inst.len.Goals as goal
 
 pub argument_len-requires : goal.argument_len-requires

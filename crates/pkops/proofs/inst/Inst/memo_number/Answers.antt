@@ -1,6 +1,6 @@
 use Rattle.std.proofs.Common.{sym}
-use Rattle.pkops.proofs.Had.{had_good}
-use Rattle.pkops.proofs.Memos.{parsed}
+use Rattle.pkops.proofs.Good.{had_good}
+use Rattle.pkops.proofs.MemoNumbers.{parsed}
 use Rattle.pkops.proofs.inst.Inst.memo_number.Goals as goal
 
 pub unreachable-requires : goal.unreachable-requires

@@ -1,4 +1,4 @@
-use Rattle.pkops.proofs.Had.{had_good}
+use Rattle.pkops.proofs.Good.{had_good}
 use Rattle.pkops.proofs.Names.{are_text}
 use Rattle.pkops.proofs.inst.Inst.pair.Goals as goal
 

@@ -1,0 +1,52 @@
+//! Why a command ends without an answer.
+use pkcheck::{AllowError, Where};
+use std::io;
+use std::io::Write;
+
+/// Why a command ends without an answer. Its status is 2.
+#[derive(Debug, Drop)]
+pub enum Fault<'a> {
+    /// The words are no command.
+    Words(clap::Error),
+    /// There was no memory to read the words.
+    OutOfMemory,
+    /// The file of this name can't be opened or read.
+    Unread(&'a str),
+    /// The file LIST holds no list.
+    List(AllowError),
+    /// The answer can't be written.
+    Unwritten,
+}
+
+/// Writes what standard error says of a fault.
+pub fn write_fault<W: Write>(fault: &Fault<'_>, out: &mut W) -> io::Result<()> {
+    match fault {
+        Fault::Words(error) => write!(out, "{error}"),
+        Fault::OutOfMemory => writeln!(out, "out of memory"),
+        Fault::Unread(name) => writeln!(out, "cannot read {name}"),
+        Fault::List(error) => write_list_fault(*error, out),
+        Fault::Unwritten => writeln!(out, "cannot write standard output"),
+    }
+}
+
+fn write_list_fault<W: Write>(error: AllowError, out: &mut W) -> io::Result<()> {
+    match error {
+        AllowError::Syntax => writeln!(out, "list: Syntax"),
+        AllowError::Shape(part) => {
+            let part = name_of(part);
+            writeln!(out, "list: Shape({part})")
+        }
+        AllowError::Version => writeln!(out, "list: Version"),
+        AllowError::OutOfMemory => writeln!(out, "list: OutOfMemory"),
+    }
+}
+
+fn name_of(part: Where) -> &'static str {
+    match part {
+        Where::Version => "Version",
+        Where::TopKey => "TopKey",
+        Where::Imports => "Imports",
+        Where::Module => "Module",
+        Where::Name => "Name",
+    }
+}

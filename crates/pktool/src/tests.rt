@@ -1,0 +1,171 @@
+//! Whole commands, with their statuses and outputs.
+use crate::run::run;
+use std::io::{ErrorKind, Write};
+use std::process::Abort;
+use std::rt::Files;
+use std::test::Fail;
+use std::{fs, io};
+
+const LISTED: &str = "version = 1\n[imports]\ncollections = [\"OrderedDict\"]\n";
+
+const NOTHING: &str = "version = 1\n[imports]\n";
+
+const ONE_IMPORT: &str = "yes: 28 bytes, 1 imports\n";
+
+const OFF_LIST: &str = "no at 0: ImportOffList(\"collections\",\"OrderedDict\")\n";
+
+const QUOTED: &str = "no at 7: ImportOffList(\"\\x22\",\"\\xc3\\xa9\")\n";
+
+/// A list, a pickle, and the status and the line of its check.
+static ANSWERS: [(&str, &[u8], u8, &str); 5] = [
+    (LISTED, b"ccollections\nOrderedDict\n)R.", 0, ONE_IMPORT),
+    (LISTED, b"ccollections\nOrderedDict\n)R.N", 0, ONE_IMPORT),
+    (NOTHING, b"ccollections\nOrderedDict\n)R.", 1, OFF_LIST),
+    (NOTHING, b"\x8c\x01\"\x8c\x02\xc3\xa9\x93.", 1, QUOTED),
+    (NOTHING, b"\xff", 1, "no at 0: UnknownOpcode(255)\n"),
+];
+
+/// What is no list, and what standard error says of it.
+static NO_LISTS: [(&[u8], &str); 8] = [
+    (b"version =", "list: Syntax\n"),
+    (b"# \xff\n", "list: Syntax\n"),
+    (b"imports = {}\n", "list: Shape(Version)\n"),
+    (b"version = 2\n", "list: Version\n"),
+    (b"version = 1\nlimits = {}\n", "list: Shape(TopKey)\n"),
+    (b"version = 1\n", "list: Shape(Imports)\n"),
+    (b"version = 1\nimports = { a = 1 }", "list: Shape(Module)\n"),
+    (b"version = 1\nimports = { a = [1] }", "list: Shape(Name)\n"),
+];
+
+/// Runs a command, and compares its status and its outputs.
+fn expect(
+    rt: &(impl Abort + AllocGlobal + Files),
+    words: &[&str],
+    status: u8,
+    out: &str,
+    err: &str,
+) {
+    let mut written = Vec::new(rt.alloc());
+    let mut told = Vec::new(rt.alloc());
+    assert_eq!(rt;
+        run(rt, rt.alloc(), words, &mut written, &mut told),
+        status,
+        "{words:?}"
+    );
+    assert_eq!(rt; written.as_slice(), out.as_bytes(), "{words:?}");
+    assert_eq!(rt; told.as_slice(), err.as_bytes(), "{words:?}");
+}
+
+#[test]
+fn checks_files(rt: HostRuntime) -> Result<(), Fail> {
+    let words = ["pktool", "check", "--allow", "list.toml", "file.pickle"];
+    for (list, pickle, status, line) in ANSWERS.as_slice() {
+        fs::write(&rt, "list.toml", *list)?;
+        fs::write(&rt, "file.pickle", *pickle)?;
+        expect(&rt, words.as_slice(), *status, line, "");
+    }
+    for (list, line) in NO_LISTS.as_slice() {
+        fs::write(&rt, "list.toml", *list)?;
+        expect(&rt, words.as_slice(), 2, "", line);
+    }
+    Ok(())
+}
+
+#[test]
+fn opens_files(rt: HostRuntime) -> Result<(), Fail> {
+    fs::write(&rt, "list.toml", NOTHING)?;
+    // A folder can be opened, and not read.
+    for (list, file, status, out, err) in [
+        ("list.toml", ".", 1, "no at 0: Source\n", ""),
+        ("list.toml", "none", 2, "", "cannot read none\n"),
+        (".", "none", 2, "", "cannot read .\n"),
+        ("no-list", "none", 2, "", "cannot read no-list\n"),
+    ] {
+        let words = ["pktool", "check", "--allow", list, file];
+        expect(&rt, words.as_slice(), status, out, err);
+    }
+    Ok(())
+}
+
+#[test]
+fn reads_words(rt: HostRuntime) {
+    for (words, status) in [
+        (["pktool", "--help"].as_slice(), 0),
+        (["pktool", "check", "--help"].as_slice(), 0),
+        ([].as_slice(), 2),
+        (["pktool"].as_slice(), 2),
+        (["pktool", "dis", "a"].as_slice(), 2),
+        (["pktool", "check", "a"].as_slice(), 2),
+        (["pktool", "check", "--allow", "a"].as_slice(), 2),
+        (["pktool", "check", "--allow", "a", "b", "c"].as_slice(), 2),
+    ] {
+        let mut written = Vec::new(rt.alloc());
+        let mut told = Vec::new(rt.alloc());
+        assert_eq!(rt;
+            run(&rt, rt.alloc(), words, &mut written, &mut told),
+            status,
+            "{words:?}"
+        );
+        assert_eq!(rt; !written.is_empty(), status == 0, "{words:?}");
+        assert_eq!(rt; !told.is_empty(), status == 2, "{words:?}");
+    }
+}
+
+/// Takes some bytes, then fails: at a write, or at the flush where there was room for all.
+#[derive(Drop)]
+struct Failing {
+    room: usize,
+}
+
+impl Write for Failing {
+    fn write(&mut self, bytes: &[u8]) -> io::Result<usize> {
+        if self.room < bytes.len() {
+            return Err(io::Error::from(ErrorKind::StorageFull));
+        }
+        self.room -= bytes.len();
+        Ok(bytes.len())
+    }
+
+    fn flush(&mut self) -> io::Result<()> {
+        Err(io::Error::from(ErrorKind::StorageFull))
+    }
+}
+
+#[test]
+fn tells_a_failed_write(rt: HostRuntime) -> Result<(), Fail> {
+    fs::write(&rt, "list.toml", NOTHING)?;
+    let check = ["pktool", "check", "--allow", "list.toml", "."];
+    let help = ["pktool", "--help"];
+    for (words, room) in [
+        (check.as_slice(), 0),
+        (check.as_slice(), 7),
+        (check.as_slice(), 100),
+        (help.as_slice(), 0),
+    ] {
+        let mut out = Failing { room };
+        let mut told = Vec::new(rt.alloc());
+        assert_eq!(rt;
+            run(&rt, rt.alloc(), words, &mut out, &mut told),
+            2,
+            "{room}"
+        );
+        assert_eq!(rt;
+            told.as_slice(),
+            b"cannot write standard output\n".as_slice(),
+            "{room}"
+        );
+    }
+    let mut written = Vec::new(rt.alloc());
+    let mut err = Failing { room: 0 };
+    assert_eq!(rt;
+        run(
+            &rt,
+            rt.alloc(),
+            ["pktool"].as_slice(),
+            &mut written,
+            &mut err
+        ),
+        2
+    );
+    Ok(())
+}
