@@ -25,7 +25,7 @@ abbrev pub guess : List ℕ → Known → List ℕ
 guess v (Some (Text m)) = m
 guess v k = v
 
--- the of_two operands of an import whose names stand on the stack
+-- the two operands of an import whose names stand on the stack
 abbrev pub known_pair : Effect → Knowledge → Option (Known × Known)
 known_pair (Operates takes names gives) k = elim (operands takes k.entries) as (λ _. Option (Known × Known)) [ Ok t ↦ of_two t.operands None (λ a b. Some (a, b)) | Err b ↦ None ]
 known_pair e k = None
@@ -71,7 +71,7 @@ module _ (v : List ℕ) where
   texts_of : (objects : List Object) (j k : Known) (m n : ℕ) → text_fault j ≡ None → text_fault k ≡ None → TrueOf (Answered v) objects j m → TrueOf (Answered v) objects k n → texts_named (class_at objects m) (class_at objects n) ≡ Pair (guess v j) (guess v k)
   texts_of objects j k m n e f h g = ap (λ c. texts_named c (class_at objects n)) (class_of objects j m e h) ∙ ap (texts_named (Some (Text (guess v j)))) (class_of objects k n f g)
 
-  -- of of_two names
+  -- of two names
   abbrev TwoExactly : Known → Known → Named → Result (Option Asked) Refusal → Type 0
   TwoExactly j k nm (Ok a) = IsNamed nm × (a ≡ Some AskedUnknown → (nm ≡ Pair (guess v j) (guess v k)) × ((j ≡ None) ⊎ (k ≡ None)))
   TwoExactly j k nm (Err UnknownImport) = (nm ≡ Pair (guess v j) (guess v k)) × ((j ≡ None) ⊎ (k ≡ None))

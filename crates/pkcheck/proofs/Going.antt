@@ -20,7 +20,7 @@ use Rattle.pkops.specs.Spelling.{Instruction}
 use Rattle.pkcheck.specs.Knowledge.{Known, Knowledge, Policy, Asked, Progress, Refusal, Lacks, LeftOver, TooLarge, left_over, stop_learned, learn, within, advance}
 use Rattle.pkops.specs.Limits.{Bounds}
 use Rattle.pkcheck.specs.Slots.{IsFaultOf}
-use Rattle.pkcheck.specs.Denials.{IsDenied, IsStarved, Goes, IsStopFault, MayTake}
+use Rattle.pkcheck.specs.Denials.{IsDenied, IsForMemory, GoesTo, IsStopFault, MayWantMemory}
 use Rattle.pkcheck.specs.Import.{asks_more}
 use Rattle.pkcheck.specs.View.{moved_as}
 
@@ -57,13 +57,13 @@ within_past l k (inl h) = rw (lt-ltb l.stack (length k.entries) h) refl
 within_past l k (inr h) = rw (lt-ltb l.memo (length k.memo) h) (either (ltb l.stack (length k.entries)) (Err TooLarge) refl)
 
 module _ (p : Policy) (l : Bounds) (i : Instruction) (k : Knowledge) where
-  pub goes_by : (e : Effect) (k' : Knowledge) (a : Option Asked) (before now : List Asked) (v : Moved) → effect_of i.op ≡ e → learn p e i k ≡ Ok (record { after = k'; import = a }) → length k'.entries ≤ l.stack → length k'.memo ≤ l.memo → now ≡ asks_more a before → v ≡ moved_as e a → Goes (effect_of i.op) (advance p l i k) k' before now v
+  pub goes_by : (e : Effect) (k' : Knowledge) (a : Option Asked) (before now : List Asked) (v : Moved) → effect_of i.op ≡ e → learn p e i k ≡ Ok (record { after = k'; import = a }) → length k'.entries ≤ l.stack → length k'.memo ≤ l.memo → now ≡ asks_more a before → v ≡ moved_as e a → GoesTo (effect_of i.op) (advance p l i k) k' before now v
   goes_by e k' a before now v is x g h n m = (a, rw (is, x) (within_fits l (record { after = k'; import = a }) g h), n, rw is m)
 
-  pub denied_by : (e : Effect) (d : Denial) → effect_of i.op ≡ e → IsDenied (and_then (learn p e i k) (within l)) d ⊎ (MayTake e × IsStarved d) → IsDenied (advance p l i k) d ⊎ (MayTake (effect_of i.op) × IsStarved d)
+  pub denied_by : (e : Effect) (d : Denial) → effect_of i.op ≡ e → IsDenied (and_then (learn p e i k) (within l)) d ⊎ (MayWantMemory e × IsForMemory d) → IsDenied (advance p l i k) d ⊎ (MayWantMemory (effect_of i.op) × IsForMemory d)
   denied_by e d is h = rw is h
 
-  pub move_denied : (m : Move) (r : Reason) → IsFaultOf m l (moved m (memo_number i) k) r → IsDenied (and_then (learn p (Moves m) i k) (within l)) (record { reason = r; pair = None }) ⊎ (MayTake (Moves m) × IsStarved (record { reason = r; pair = None }))
+  pub move_denied : (m : Move) (r : Reason) → IsFaultOf m l (moved m (memo_number i) k) r → IsDenied (and_then (learn p (Moves m) i k) (within l)) (record { reason = r; pair = None }) ⊎ (MayWantMemory (Moves m) × IsForMemory (record { reason = r; pair = None }))
   move_denied m r (inl (b, e, g)) = inl (Lacks b, rw e refl, g, refl)
   move_denied m r (inr (inl (e, (k', g, h)))) = inl (TooLarge, rw g (within_past l k' h), e, refl)
   move_denied m r (inr (inr (w, e))) = inr (w, (e, refl))
@@ -71,7 +71,7 @@ module _ (p : Policy) (l : Bounds) (i : Instruction) (k : Knowledge) where
   pub move_passes : (m : Move) (k' : Knowledge) → moved m (memo_number i) k ≡ Ok k' → learn p (Moves m) i k ≡ Ok (record { after = k'; import = None })
   move_passes m k' e = rw e refl
 
-  pub stop_denied : (r : Reason) → IsStopFault (stop_learned k.memo (top k.entries)) r → IsDenied (and_then (learn p Stops i k) (within l)) (record { reason = r; pair = None }) ⊎ (MayTake Stops × IsStarved (record { reason = r; pair = None }))
+  pub stop_denied : (r : Reason) → IsStopFault (stop_learned k.memo (top k.entries)) r → IsDenied (and_then (learn p Stops i k) (within l)) (record { reason = r; pair = None }) ⊎ (MayWantMemory Stops × IsForMemory (record { reason = r; pair = None }))
   stop_denied r (f, e, g, h) = inl (f, rw e refl, g, sym h)
 
 pub said_import : (takes : Takes) (names : Names) (gives : Gives) (a : Option Asked) → true ≡ is_some a → Import ≡ moved_as (Operates takes names gives) a

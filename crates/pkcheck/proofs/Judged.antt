@@ -8,7 +8,7 @@ use Rattle.pkcheck.specs.declared.effects.Names.TheVariants.{NoName, OfArgument,
 use Rattle.pkcheck.specs.declared.effects.Gives.{Gives}
 use Rattle.pkcheck.specs.declared.effects.Gives.TheVariants.{Makes, MakesIntOrBool, MakesText, MayMake, Answers, Leaves}
 use Rattle.pkcheck.specs.declared.entry.Slot.{Slot}
-use Rattle.pkcheck.specs.declared.entry.Slot.TheVariants.{Bar, Object}
+use Rattle.pkcheck.specs.declared.entry.Slot.TheVariants as slot
 use Rattle.pkcheck.specs.declared.effects.Takes.{Takes}
 use Rattle.pkcheck.specs.declared.effects.Effect.TheVariants.{Operates}
 use Rattle.pkcheck.specs.Shape.{put, Breach, Entry, Item, Taken, and_then, front, operands}
@@ -24,7 +24,7 @@ use Rattle.pkcheck.specs.declared.import.Asked.{Asked as RustAsked}
 use Rattle.std.specs.Option.{option_to_list}
 use Rattle.pkcheck.specs.declared.entry.Value.{Value}
 use Rattle.pkcheck.proofs.Limited.{length_shown}
-use Rattle.pkcheck.specs.Denials.{ruled, judged, IsDenied, IsStarved, MayName, MayGive, MayOperate, Passes}
+use Rattle.pkcheck.specs.Denials.{ruled, judged, IsDenied, IsForMemory, MayName, MayGive, MayOperate, Passes}
 use Rattle.pkcheck.specs.Import.{asked_shown, asks_more}
 
 abbrev pub ruled_any : Policy → Option Asked → Result (Option Asked) Refusal
@@ -66,8 +66,8 @@ module _ (p : Policy) (names : Names) (gives : Gives) (i : Instruction) (ks : Li
 
 -- the first of the operands is left
 pub left_first : (ss : List Slot) (below : List (Entry Known)) → FirstObject ss → shown (take 1 ss) below ≡ front (values_of ss) ++ below
-left_first (Object v ∷ ss) below h = refl
-left_first (Bar ∷ ss) below h = absurd h
+left_first (slot.Object v ∷ ss) below h = refl
+left_first (slot.Mark ∷ ss) below h = absurd h
 left_first [] below h = absurd h
 
 pub left_is : (xs : List Slot) (n : ℕ) (below : List (Entry Known)) → FirstObject (drop n xs) → shown (take (suc n) xs) below ≡ front (values_of (drop n xs)) ++ shown (take n xs) below
@@ -149,7 +149,7 @@ module _ (p : Policy) (takes : Takes) (names : Names) (gives : Gives) (i : Instr
       Passes (learn p (Operates takes names gives) i (record { entries = shown xs []; memo = m })) (record { entries = shown new []; memo = m }) (map asked_shown before) (map asked_shown after) b
   does_pass new before after b e f g = (option_map asked_shown a, rw (e, given) (learn_passes p takes names gives i (record { entries = shown xs []; memo = m }) _ found _ fits), rw f (listed a before), g ∙ some_shown a)
 
-  pub unroomed : (l : Bounds) (r : Reason) → place ≤ length xs → IsSome v → WantsRoom l.stack place r → IsDenied (and_then (learn p (Operates takes names gives) i (record { entries = shown xs []; memo = m })) (within l)) (record { reason = r; pair = None }) ⊎ (MayOperate names gives × IsStarved (record { reason = r; pair = None }))
+  pub unroomed : (l : Bounds) (r : Reason) → place ≤ length xs → IsSome v → WantsRoom l.stack place r → IsDenied (and_then (learn p (Operates takes names gives) i (record { entries = shown xs []; memo = m })) (within l)) (record { reason = r; pair = None }) ⊎ (MayOperate names gives × IsForMemory (record { reason = r; pair = None }))
   unroomed l r h s w =
       let k = known_some v s in
       let j : known_given gives i ≡ Some k.0 = sym given ∙ k.1 in

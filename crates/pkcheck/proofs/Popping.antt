@@ -7,7 +7,7 @@ use Rattle.std.specs.BTreeMap.{is_at}
 use Rattle.std.specs.Prelude.{option_map}
 use Rattle.pkcheck.specs.declared.entry.Value.{Value}
 use Rattle.pkcheck.specs.declared.entry.Slot.{Slot}
-use Rattle.pkcheck.specs.declared.entry.Slot.TheVariants.{Bar, Object}
+use Rattle.pkcheck.specs.declared.entry.Slot.TheVariants as slot
 use Rattle.pkcheck.specs.Shape.{top, NoItem, NoMemo, fetched, Entry, Item, popped, recalled}
 use Rattle.pkcheck.specs.Knowledge.{Known, Knowledge}
 use Rattle.pkcheck.specs.Slots.{has_mark_on_top, known, entry_of, shown, remembered}
@@ -29,15 +29,15 @@ popped_some (x ∷ xs) h e =
     let is : length (x ∷ xs) ≡ suc (length (x ∷ xs) - 1) = omega arith in
     rw (shown_top (x ∷ xs) (length (x ∷ xs) - 1) x (get_or (x ∷ xs) (length (x ∷ xs) - 1) x) is refl) refl
 
-pub top_bar : (xs : List Slot) (d : Slot) → 0 < length xs → get_or xs (length xs - 1) d ≡ Bar → top (shown xs []) ≡ Err NoItem
+pub top_bar : (xs : List Slot) (d : Slot) → 0 < length xs → get_or xs (length xs - 1) d ≡ slot.Mark → top (shown xs []) ≡ Err NoItem
 top_bar xs d h e =
     let is : length xs ≡ suc (length xs - 1) = omega arith in
-    rw (shown_top xs (length xs - 1) d Bar is e) refl
+    rw (shown_top xs (length xs - 1) d slot.Mark is e) refl
 
-pub top_object : (xs : List Slot) (d : Slot) (v : Value) → 0 < length xs → get_or xs (length xs - 1) d ≡ Object v → top (shown xs []) ≡ Ok (known v, shown (take (length xs - 1) xs) [])
+pub top_object : (xs : List Slot) (d : Slot) (v : Value) → 0 < length xs → get_or xs (length xs - 1) d ≡ slot.Object v → top (shown xs []) ≡ Ok (known v, shown (take (length xs - 1) xs) [])
 top_object xs d v h e =
     let is : length xs ≡ suc (length xs - 1) = omega arith in
-    rw (shown_top xs (length xs - 1) d (Object v) is e) refl
+    rw (shown_top xs (length xs - 1) d (slot.Object v) is e) refl
 
 pub recalled_remembered : (es : List (ℕ × Value)) (n : ℕ) → recalled n (remembered es) ≡ option_map known (lookup (is_at (nat_cmp n)) es)
 recalled_remembered [] n = refl
@@ -51,8 +51,8 @@ with_found es n v k xs h e f g = rw (recalled_remembered es n, e, g, f) refl
 pub with_none : (es : List (ℕ × Value)) (n : ℕ) (h : Knowledge) → lookup (is_at (nat_cmp n)) es ≡ None → fetched (recalled n (remembered es)) n h ≡ Err (NoMemo n)
 with_none es n h e = rw (recalled_remembered es n, e) refl
 
-pub mark_on_top : (xs : List Slot) (d : Slot) → 0 < length xs → get_or xs (length xs - 1) d ≡ Bar → has_mark_on_top (shown xs []) ≡ true
-mark_on_top xs d h e = let is : length xs ≡ suc (length xs - 1) = omega arith in rw (shown_top xs (length xs - 1) d Bar is e) refl
+pub mark_on_top : (xs : List Slot) (d : Slot) → 0 < length xs → get_or xs (length xs - 1) d ≡ slot.Mark → has_mark_on_top (shown xs []) ≡ true
+mark_on_top xs d h e = let is : length xs ≡ suc (length xs - 1) = omega arith in rw (shown_top xs (length xs - 1) d slot.Mark is e) refl
 
-pub object_on_top : (xs : List Slot) (d : Slot) (v : Value) → 0 < length xs → get_or xs (length xs - 1) d ≡ Object v → has_mark_on_top (shown xs []) ≡ false
-object_on_top xs d v h e = let is : length xs ≡ suc (length xs - 1) = omega arith in rw (shown_top xs (length xs - 1) d (Object v) is e) refl
+pub object_on_top : (xs : List Slot) (d : Slot) (v : Value) → 0 < length xs → get_or xs (length xs - 1) d ≡ slot.Object v → has_mark_on_top (shown xs []) ≡ false
+object_on_top xs d v h e = let is : length xs ≡ suc (length xs - 1) = omega arith in rw (shown_top xs (length xs - 1) d (slot.Object v) is e) refl

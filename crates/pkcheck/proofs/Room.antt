@@ -7,7 +7,7 @@ use Rattle.pkread.specs.declared.refusal.Reason.{Reason}
 use Rattle.pkcheck.specs.Shape.{Item, top, Breach, Entry, stored, moved}
 use Rattle.pkcheck.specs.Knowledge.{Known, Knowledge}
 use Rattle.pkops.specs.Limits.{Bounds}
-use Rattle.pkcheck.specs.Slots.{shown, IsFault, IsFaultOf, MayWant, WantsRoom, WantsMemo}
+use Rattle.pkcheck.specs.Slots.{shown, IsFault, IsFaultOf, MoveMayWantMemory, WantsRoom, WantsMemo}
 use Rattle.pkcheck.proofs.Limited.{length_shown}
 
 -- one more entry than there is room for
@@ -26,7 +26,7 @@ duplicated h t e = rw e refl
 pub stored_is : (n : ℕ) (h : Knowledge) (t : Known × List (Entry Known)) → top h.entries ≡ Ok t → moved Stores n h ≡ Ok (record h { memo = stored n t.0 h.memo })
 stored_is n h t e = rw e refl
 
-pub fault_of : (m : Move) (l : Bounds) (x : Result Knowledge Breach) (r : Reason) → MayWant m → IsFault l x r → IsFaultOf m l x r
+pub fault_of : (m : Move) (l : Bounds) (x : Result Knowledge Breach) (r : Reason) → MoveMayWantMemory m → IsFault l x r → IsFaultOf m l x r
 fault_of m l x r w (inl h) = inl h
 fault_of m l x r w (inr (inl h)) = inr (inl h)
 fault_of m l x r w (inr (inr h)) = inr (inr (w, h))

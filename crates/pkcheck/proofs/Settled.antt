@@ -5,7 +5,7 @@ use Rattle.std.proofs.Math.Seq.{take-suc-set, take-length, take-suc}
 use Rattle.std.proofs.lemmas.Bool.Decides.{nat_tests}
 use Rattle.pkcheck.specs.declared.entry.Value.{Value}
 use Rattle.pkcheck.specs.declared.entry.Slot.{Slot}
-use Rattle.pkcheck.specs.declared.entry.Slot.TheVariants.{Bar, Object}
+use Rattle.pkcheck.specs.declared.entry.Slot.TheVariants as slot
 use Rattle.pkcheck.specs.Shape.{is_even}
 use Rattle.pkcheck.specs.Slots.{known, entry_of, shown, values_of}
 use Rattle.pkcheck.proofs.Shown.{shown_append}
@@ -18,8 +18,8 @@ shown_pushed xs n h g = let e : n ≡ length xs = omega arith in rw (e, take-len
 
 pub values_append : (xs ys : List Slot) → values_of (xs ++ ys) ≡ values_of xs ++ values_of ys
 values_append [] ys = refl
-values_append (Bar ∷ xs) ys = values_append xs ys
-values_append (Object v ∷ xs) ys = ap (λ l. known v ∷ l) (values_append xs ys)
+values_append (slot.Mark ∷ xs) ys = values_append xs ys
+values_append (slot.Object v ∷ xs) ys = ap (λ l. known v ∷ l) (values_append xs ys)
 
 parity : (n : ℕ) → eqb (suc n % 2) 0 ≡ not (eqb (n % 2) 0)
 parity n = grind (arith, nat_tests)
@@ -28,8 +28,8 @@ pub is_even_length : {A : Type 0} (xs : List A) → is_even xs ≡ eqb (length x
 is_even_length [] = refl
 is_even_length (x ∷ xs) = ap not (is_even_length xs) ∙ sym (parity (length xs))
 
-pub count_bar : (xs : List Slot) (n : ℕ) (d : Slot) → n < length xs → get_or xs n d ≡ Bar → length (values_of (take (n + 1) xs)) ≡ length (values_of (take n xs))
-count_bar xs n d h e = rw (add-one, take-suc xs n d, e, values_append (take n xs) (Bar ∷ []), append-nil) refl
+pub count_bar : (xs : List Slot) (n : ℕ) (d : Slot) → n < length xs → get_or xs n d ≡ slot.Mark → length (values_of (take (n + 1) xs)) ≡ length (values_of (take n xs))
+count_bar xs n d h e = rw (add-one, take-suc xs n d, e, values_append (take n xs) (slot.Mark ∷ []), append-nil) refl
 
-pub count_object : (xs : List Slot) (n : ℕ) (d : Slot) (v : Value) → n < length xs → get_or xs n d ≡ Object v → length (values_of (take (n + 1) xs)) ≡ length (values_of (take n xs)) + 1
-count_object xs n d v h e = rw (add-one, take-suc xs n d, e, values_append (take n xs) (Object v ∷ []), length-append (values_of (take n xs)) (known v ∷ [])) refl
+pub count_object : (xs : List Slot) (n : ℕ) (d : Slot) (v : Value) → n < length xs → get_or xs n d ≡ slot.Object v → length (values_of (take (n + 1) xs)) ≡ length (values_of (take n xs)) + 1
+count_object xs n d v h e = rw (add-one, take-suc xs n d, e, values_append (take n xs) (slot.Object v ∷ []), length-append (values_of (take n xs)) (known v ∷ [])) refl

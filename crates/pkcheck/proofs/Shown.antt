@@ -5,7 +5,7 @@ use Rattle.std.specs.BTreeMap.{insert_entry}
 use Rattle.std.proofs.Math.Seq.{take-suc, drop-cons}
 use Rattle.pkcheck.specs.declared.entry.Value.{Value}
 use Rattle.pkcheck.specs.declared.entry.Slot.{Slot}
-use Rattle.pkcheck.specs.declared.entry.Slot.TheVariants.{Bar, Object}
+use Rattle.pkcheck.specs.declared.entry.Slot.TheVariants as slot
 use Rattle.pkcheck.specs.Shape.{NoItem, Entry, slice, items}
 use Rattle.pkcheck.specs.Knowledge.{Known}
 use Rattle.pkcheck.specs.Covers.{Pointwise, AlikeCell}
@@ -24,17 +24,17 @@ pub values_drop : (xs : List Slot) (m n : ℕ) (d x : Slot) → m ≡ suc n → 
 values_drop xs m n d x is h e = rw (is, drop-cons xs n d, e) refl
 
 module _ (xs : List Slot) (m n : ℕ) (d : Slot) (is : m ≡ suc n) (h : n < length xs) where
-  pub slice_at_bar : get_or xs n d ≡ Bar → slice (shown (take m xs) []) (values_of (drop m xs)) ≡ Ok (record { operands = values_of (drop n xs); below = shown (take n xs) [] })
-  slice_at_bar e = rw (shown_take xs m n d Bar is h e, values_drop xs m n d Bar is h e) refl
+  pub slice_at_bar : get_or xs n d ≡ slot.Mark → slice (shown (take m xs) []) (values_of (drop m xs)) ≡ Ok (record { operands = values_of (drop n xs); below = shown (take n xs) [] })
+  slice_at_bar e = rw (shown_take xs m n d slot.Mark is h e, values_drop xs m n d slot.Mark is h e) refl
 
-  pub slice_at_object : (v : Value) → get_or xs n d ≡ Object v → slice (shown (take m xs) []) (values_of (drop m xs)) ≡ slice (shown (take n xs) []) (values_of (drop n xs))
-  slice_at_object v e = rw (shown_take xs m n d (Object v) is h e, values_drop xs m n d (Object v) is h e) refl
+  pub slice_at_object : (v : Value) → get_or xs n d ≡ slot.Object v → slice (shown (take m xs) []) (values_of (drop m xs)) ≡ slice (shown (take n xs) []) (values_of (drop n xs))
+  slice_at_object v e = rw (shown_take xs m n d (slot.Object v) is h e, values_drop xs m n d (slot.Object v) is h e) refl
 
-  pub items_at_bar : (k : ℕ) (j : ℕ) → k ≡ suc j → get_or xs n d ≡ Bar → items k (shown (take m xs) []) (values_of (drop m xs)) ≡ Err NoItem
-  items_at_bar k j e g = rw (e, shown_take xs m n d Bar is h g) refl
+  pub items_at_bar : (k : ℕ) (j : ℕ) → k ≡ suc j → get_or xs n d ≡ slot.Mark → items k (shown (take m xs) []) (values_of (drop m xs)) ≡ Err NoItem
+  items_at_bar k j e g = rw (e, shown_take xs m n d slot.Mark is h g) refl
 
-  pub items_at_object : (k j : ℕ) (v : Value) → k ≡ suc j → get_or xs n d ≡ Object v → items k (shown (take m xs) []) (values_of (drop m xs)) ≡ items j (shown (take n xs) []) (values_of (drop n xs))
-  items_at_object k j v e g = rw (e, shown_take xs m n d (Object v) is h g, values_drop xs m n d (Object v) is h g) refl
+  pub items_at_object : (k j : ℕ) (v : Value) → k ≡ suc j → get_or xs n d ≡ slot.Object v → items k (shown (take m xs) []) (values_of (drop m xs)) ≡ items j (shown (take n xs) []) (values_of (drop n xs))
+  items_at_object k j v e g = rw (e, shown_take xs m n d (slot.Object v) is h g, values_drop xs m n d (slot.Object v) is h g) refl
 
 pub items_at_bottom : (xs : List Slot) (m k j : ℕ) → m ≡ 0 → k ≡ suc j → items k (shown (take m xs) []) (values_of (drop m xs)) ≡ Err NoItem
 items_at_bottom xs m k j e g = rw (g, e) refl
@@ -58,8 +58,8 @@ remembered_insert es n v = alike_remembered _ _ (insert_alike (λ v k. known v �
 pub starts_well : (xs : List Slot) (n k : ℕ) → n + k ≡ length xs → length (drop n xs) ≡ k
 starts_well xs n k e = omega (arith, length-drop n xs)
 
-pub all_objects : (xs : List Slot) (m n : ℕ) (d : Slot) → m ≡ suc n → n < length xs → (v : Value) → get_or xs n d ≡ Object v → AllObjects (drop m xs) → AllObjects (drop n xs)
+pub all_objects : (xs : List Slot) (m n : ℕ) (d : Slot) → m ≡ suc n → n < length xs → (v : Value) → get_or xs n d ≡ slot.Object v → AllObjects (drop m xs) → AllObjects (drop n xs)
 all_objects xs m n d is h v e a = rw (drop-cons xs n d, e, ← is) a
 
-pub first_object : (xs : List Slot) (n : ℕ) (d : Slot) → n < length xs → (v : Value) → get_or xs n d ≡ Object v → FirstObject (drop n xs)
+pub first_object : (xs : List Slot) (n : ℕ) (d : Slot) → n < length xs → (v : Value) → get_or xs n d ≡ slot.Object v → FirstObject (drop n xs)
 first_object xs n d h v e = rw (drop-cons xs n d, e) tt

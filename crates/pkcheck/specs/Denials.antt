@@ -11,7 +11,7 @@ use Rattle.pkops.specs.Spelling.{Instruction}
 use Rattle.pkcheck.specs.declared.effects.Effect.{Effect}
 use Rattle.pkcheck.specs.declared.effects.Effect.TheVariants.{Operates, Moves, Stops}
 use Rattle.pkcheck.specs.declared.turn.Moved.{Moved}
-use Rattle.pkcheck.specs.Slots.{MayWant}
+use Rattle.pkcheck.specs.Slots.{MoveMayWantMemory}
 use Rattle.pkcheck.specs.Knowledge.{Policy, Asked, AskedPair, AskedUnknown, Known, Knowledge, Progress, Refusal, WrongClass, reason_of, permitted, unknown_pair, wrong_receiver, asked_of}
 use Rattle.pkcheck.specs.Import.{asked_shown, asks_more}
 use Rattle.pkcheck.specs.View.{off_pair, moved_as}
@@ -21,6 +21,7 @@ abbrev pub ruled : Policy → Asked → Result (Option Asked) Refusal
 ruled p (AskedPair m n) = permitted p m n
 ruled p AskedUnknown = unknown_pair p
 
+-- an import may want memory for its names
 abbrev pub MayName : Names → Type 0
 MayName NoName = ⊥
 MayName names = Unit {0}
@@ -33,8 +34,9 @@ judged p names gives i ks = cond (wrong_receiver gives ks) (Err WrongClass) (ask
 abbrev pub IsDenied : {A : Type 0} → Result A Refusal → Denial → Type 0
 IsDenied x d = (f : Refusal) × (x ≡ Err f) × (d.reason ≡ reason_of f) × (option_map asked_shown d.pair ≡ off_pair f)
 
-abbrev pub IsStarved : Denial → Type 0
-IsStarved d = (d.reason ≡ reason.OutOfMemory) × (option_map asked_shown d.pair ≡ None)
+-- it is refused for want of memory, with no pair
+abbrev pub IsForMemory : Denial → Type 0
+IsForMemory d = (d.reason ≡ reason.OutOfMemory) × (option_map asked_shown d.pair ≡ None)
 
 -- it passes: this is known after it, and these imports are listed
 abbrev pub Passes : Result Progress Refusal → Knowledge → List Asked → List Asked → Bool → Type 0
@@ -45,18 +47,20 @@ abbrev pub MayGive : Gives → Type 0
 MayGive (Leaves w) = ⊥
 MayGive gives = Unit {0}
 
+-- an operation may want memory for its import or for what it gives
 abbrev pub MayOperate : Names → Gives → Type 0
 MayOperate names gives = MayName names ⊎ MayGive gives
 
 -- it goes on: this is known after it, and these imports are listed
-abbrev pub Goes : Effect → Result Progress Refusal → Knowledge → List Asked → List Asked → Moved → Type 0
-Goes e x after before now v = (a : Option Asked) × (x ≡ Ok (record { after = after; import = a })) × (now ≡ asks_more a before) × (v ≡ moved_as e a)
+abbrev pub GoesTo : Effect → Result Progress Refusal → Knowledge → List Asked → List Asked → Moved → Type 0
+GoesTo e x after before now v = (a : Option Asked) × (x ≡ Ok (record { after = after; import = a })) × (now ≡ asks_more a before) × (v ≡ moved_as e a)
 
+-- STOP is refused for this reason
 abbrev pub IsStopFault : Result Progress Refusal → Reason → Type 0
 IsStopFault x r = (f : Refusal) × (x ≡ Err f) × (r ≡ reason_of f) × (off_pair f ≡ None)
 
 -- whether the step may want memory
-abbrev pub MayTake : Effect → Type 0
-MayTake (Operates takes names gives) = MayOperate names gives
-MayTake (Moves m) = MayWant m
-MayTake Stops = ⊥
+abbrev pub MayWantMemory : Effect → Type 0
+MayWantMemory (Operates takes names gives) = MayOperate names gives
+MayWantMemory (Moves m) = MoveMayWantMemory m
+MayWantMemory Stops = ⊥

@@ -13,7 +13,7 @@ pub mod Allow
 pub mod Import
 pub mod View
 pub mod Memory
--- the parts of the machine
+-- the parts of the machine, as its private functions cite them
 pub mod Slots
 pub mod Denials
 -- what an answer of a check says

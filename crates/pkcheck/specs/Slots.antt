@@ -2,9 +2,9 @@
 use Rattle.std.specs.Prelude.{ℕ, List, [], ◌∷◌, Some, None, map, ◌≡◌, ◌<◌, ◌≤◌, ◌⊎◌, length, Result, Ok, Err, ◌+◌, ◌-◌, Bool, true, false, cond}
 use Rattle.std.specs.String.{string_bytes}
 use Rattle.pkcheck.specs.declared.entry.Value.{Value}
-use Rattle.pkcheck.specs.declared.entry.Value.TheVariants.{Unknown, Made, Chars}
+use Rattle.pkcheck.specs.declared.entry.Value.TheVariants as value
 use Rattle.pkcheck.specs.declared.entry.Slot.{Slot}
-use Rattle.pkcheck.specs.declared.entry.Slot.TheVariants.{Bar, Object}
+use Rattle.pkcheck.specs.declared.entry.Slot.TheVariants as slot
 use Rattle.pkcheck.specs.Runs.{Text, Plain}
 use Rattle.pkread.specs.declared.refusal.Reason.{Reason}
 use Rattle.pkread.specs.declared.refusal.Reason.TheVariants as reason
@@ -22,14 +22,16 @@ use Rattle.pkops.specs.Limits.{Bounds}
 use Rattle.pkcheck.specs.Shape.{Breach, Entry, Mark, Item}
 use Rattle.pkcheck.specs.Knowledge.{Known, Knowledge, Lacks, reason_of}
 
+-- what is known of an object, as the definitions have it
 abbrev pub known : Value → Known
-known Unknown = None
-known (Made s) = Some (Plain s)
-known (Chars t) = Some (Text (string_bytes t))
+known value.Unknown = None
+known (value.Made c) = Some (Plain c)
+known (value.Text t) = Some (Text (string_bytes t))
 
+-- an entry of the stack
 abbrev pub entry_of : Slot → Entry Known
-entry_of Bar = Mark
-entry_of (Object v) = Item (known v)
+entry_of slot.Mark = Mark
+entry_of (slot.Object v) = Item (known v)
 
 -- these entries, the last of them on top, over the others
 abbrev pub shown : List Slot → List (Entry Known) → List (Entry Known)
@@ -39,12 +41,14 @@ shown (s ∷ ss) below = shown ss (entry_of s ∷ below)
 -- the objects among them, in order
 abbrev pub values_of : List Slot → List Known
 values_of [] = []
-values_of (Bar ∷ ss) = values_of ss
-values_of (Object v ∷ ss) = known v ∷ values_of ss
+values_of (slot.Mark ∷ ss) = values_of ss
+values_of (slot.Object v ∷ ss) = known v ∷ values_of ss
 
+-- the memo, in the order of its numbers
 abbrev pub remembered : List (ℕ × Value) → List (ℕ × Known)
 remembered es = map (λ e. (e.0, known e.1)) es
 
+-- the stack and the memo
 abbrev pub shape_of : List Slot → List (ℕ × Value) → Knowledge
 shape_of slots memo = record { entries = shown slots []; memo = remembered memo }
 
@@ -53,12 +57,12 @@ abbrev pub IsLack : {A : Type 0} → Result A Breach → Reason → Type 0
 IsLack x r = (b : Breach) × (x ≡ Err b) × (r ≡ reason_of (Lacks b))
 
 -- a move that only takes away, or changes nothing, wants no memory
-abbrev pub MayWant : Move → Type 0
-MayWant Pops = ⊥
-MayWant PopsMark = ⊥
-MayWant Passes = ⊥
-MayWant Extends = ⊥
-MayWant m = Unit {0}
+abbrev pub MoveMayWantMemory : Move → Type 0
+MoveMayWantMemory Pops = ⊥
+MoveMayWantMemory PopsMark = ⊥
+MoveMayWantMemory Passes = ⊥
+MoveMayWantMemory Extends = ⊥
+MoveMayWantMemory m = Unit {0}
 
 -- there is no room for one more than these, or no memory for it
 abbrev pub WantsRoom : ℕ → ℕ → Reason → Type 0
@@ -76,16 +80,19 @@ IsPast l x = (k : Knowledge) × (x ≡ Ok k) × ((l.stack < length k.entries) �
 abbrev pub IsFault : Bounds → Result Knowledge Breach → Reason → Type 0
 IsFault l x r = IsLack x r ⊎ (((r ≡ reason.TooLarge) × IsPast l x) ⊎ (r ≡ reason.OutOfMemory))
 
+-- the same, where only some moves may want memory
 abbrev pub IsFaultOf : Move → Bounds → Result Knowledge Breach → Reason → Type 0
-IsFaultOf m l x r = IsLack x r ⊎ (((r ≡ reason.TooLarge) × IsPast l x) ⊎ (MayWant m × (r ≡ reason.OutOfMemory)))
+IsFaultOf m l x r = IsLack x r ⊎ (((r ≡ reason.TooLarge) × IsPast l x) ⊎ (MoveMayWantMemory m × (r ≡ reason.OutOfMemory)))
 
+-- none of these is a mark
 abbrev pub AllObjects : List Slot → Type 0
 AllObjects [] = Unit {0}
-AllObjects (Bar ∷ ss) = ⊥
-AllObjects (Object v ∷ ss) = AllObjects ss
+AllObjects (slot.Mark ∷ ss) = ⊥
+AllObjects (slot.Object v ∷ ss) = AllObjects ss
 
+-- the first of these is an object
 abbrev pub FirstObject : List Slot → Type 0
-FirstObject (Object v ∷ ss) = Unit {0}
+FirstObject (slot.Object v ∷ ss) = Unit {0}
 FirstObject ss = ⊥
 
 -- which of these are objects
@@ -94,6 +101,7 @@ StartsWell (Objects k) ss = (length ss ≡ k) × AllObjects ss
 StartsWell (Slice rule) ss = Unit {0}
 StartsWell (SliceAndReceiver rule) ss = FirstObject ss
 
+-- an operation that takes one or more
 abbrev pub HasFirst : Takes → Type 0
 HasFirst (Objects k) = 0 < k
 HasFirst (Slice rule) = ⊥
@@ -104,11 +112,12 @@ abbrev pub WellGiven : Gives → Takes → Type 0
 WellGiven (Leaves w) takes = HasFirst takes
 WellGiven gives takes = Unit {0}
 
--- of_two operands name an import
+-- two operands name an import
 abbrev pub WellNamed : Names → Takes → Type 0
 WellNamed OfOperands takes = takes ≡ Objects 2
 WellNamed names takes = Unit {0}
 
+-- what an operation wants of its operands is what it takes
 abbrev pub IsWell : Effect → Type 0
 IsWell (Operates takes names gives) = WellNamed names takes × WellGiven gives takes
 IsWell (Moves m) = Unit {0}

@@ -14,13 +14,13 @@ use std::alloc::AllocError;
 pub enum Value {
     Unknown,
     Made(Class),
-    Chars(String),
+    Text(String),
 }
 
 /// An entry of the stack.
 #[derive(Drop)]
 pub enum Slot {
-    Bar,
+    Mark,
     Object(Value),
 }
 
@@ -31,6 +31,6 @@ pub fn copied(value: &Value) -> Result<Value, AllocError>
     match value {
         Value::Unknown => Ok(Value::Unknown),
         Value::Made(class) => Ok(Value::Made(*class)),
-        Value::Chars(text) => Ok(Value::Chars(text.clone()?)),
+        Value::Text(text) => Ok(Value::Text(text.clone()?)),
     }
 }

@@ -54,10 +54,10 @@ pub fn texts_asked(alloc: Global, home: &Value, name: &Value) -> Result<Asked, R
             Value::Made(_) => Err(Reason::NotText),
             _ => Ok(Asked::Unknown),
         },
-        Value::Chars(first) => match name {
+        Value::Text(first) => match name {
             Value::Made(_) => Err(Reason::NotText),
             Value::Unknown => Ok(Asked::Unknown),
-            Value::Chars(second) => pair_of(alloc, first.as_str(), second.as_str()),
+            Value::Text(second) => pair_of(alloc, first.as_str(), second.as_str()),
         },
     }
 }

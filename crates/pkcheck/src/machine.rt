@@ -26,7 +26,9 @@ use std::alloc::Global;
 use std::collections::BTreeMap;
 use std::marker::Model;
 
-/// What is known along a pickle.
+/// A machine that goes over the instructions of a pickle and knows what is true in every run of it, whatever the
+/// operations in it answer. It runs nothing: of an object that an operation answers it knows nothing, of every other
+/// the class, and of a text its characters.
 #[derive(Drop)]
 pub struct Machine {
     alloc: Global,
@@ -57,7 +59,7 @@ impl Model for Machine {
 }
 
 impl Machine {
-    /// With nothing known.
+    /// A machine at the first instruction: nothing is known, and nothing is there. It takes no memory.
     pub fn new(alloc: Global, limits: &Limits) -> Machine
         ensures fresh { result ≡ fresh limits.now }
         ensures covers { Covers result.knowledge start }
@@ -75,14 +77,15 @@ impl Machine {
         }
     }
 
-    /// One step over an instruction: what it needs is looked for, its import is listed, and what is known
-    /// changes.
+    /// One step over an instruction that is admitted, where STOP was not yet: what it needs is looked for, its import
+    /// is listed, and what is known changes.
     ///
     /// # Errors
     ///
-    /// The first of the reasons 9 to 17 that holds in every run that gets here, then `TooLarge` where the stack
-    /// or the memo would be past its limit; `OutOfMemory` where a growth was refused. After a refusal the same
-    /// reason is answered for ever, and nothing changes.
+    /// The first of these that is no false alarm: `MissingMark`, `MissingItem`, `MissingMemo`, `OddItems`,
+    /// `WrongClass`, `NotText`, `UnknownImport`, `ImportOffList`, `LeftOver`, and `TooLarge` where the stack or the
+    /// memo would be past its limit; or `OutOfMemory`, where a growth was refused. A refused step leaves the imports
+    /// and the marks, and after it the same reason is answered for ever.
     pub fn step(&mut self, inst: &Inst, policy: &Policy) -> Result<Moved, Reason>
         requires admitted { is_admitted (instruction_of inst.now) ≡ true }
         requires running { self.old.stopped ≡ false }
@@ -127,7 +130,7 @@ impl Machine {
         }
     }
 
-    /// The number of open marks.
+    /// The number of open marks, which is the same in every run.
     pub fn marks(&self) -> usize
         ensures known { result ≡ marks_of self.now.knowledge.entries }
         ensures covered { (s : State) → Covers self.now.knowledge s → result ≡ marks_of s.shape.entries }
@@ -135,14 +138,14 @@ impl Machine {
         self.marks
     }
 
-    /// The imports so far.
+    /// The imports so far, in order.
     pub fn imports(&self) -> &[Asked]
         ensures { map asked_shown result.now ≡ self.now.imports }
     {
         &self.imports
     }
 
-    /// The pair that was off the list.
+    /// The pair that was off the list: the module and the name, after a refusal for this reason alone.
     pub fn off_list(&self) -> Option<(&str, &str)>
         ensures { option_map (λ p. (p.0.now, p.1.now)) result ≡ pair_shown self.now.off }
     {

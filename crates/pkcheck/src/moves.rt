@@ -75,7 +75,7 @@ pub fn apply(
     ensures err { IfErr result (λ r. (stack.new.items ≡ stack.old.items) × (memo.new.entries ≡ memo.old.entries) × IsFaultOf what limits (moved what number (shape_of stack.old.items memo.old.entries)) r) }
 {
     match what {
-        Move::PushesMark => push(stack, limits, Slot::Bar),
+        Move::PushesMark => push(stack, limits, Slot::Mark),
         Move::Pops => pop(stack),
         Move::PopsMark => pop_mark(stack),
         Move::Duplicates => duplicate(stack, limits),

@@ -7,7 +7,7 @@ ghost use Rattle.pkcheck.specs.Runs.{Plain, int_or_bool};
 ghost use Rattle.pkcheck.specs.Import.{asked_shown, policy_of};
 ghost use Rattle.pkcheck.specs.Knowledge.{Known, suits, wrong_first, wrong_receiver, known_given, learn, within};
 ghost use Rattle.pkcheck.specs.Shape.{and_then, put};
-ghost use Rattle.pkcheck.specs.Denials.{judged, ruled, IsDenied, IsStarved, MayName, MayGive, MayOperate, Passes};
+ghost use Rattle.pkcheck.specs.Denials.{judged, ruled, IsDenied, IsForMemory, MayName, MayGive, MayOperate, Passes};
 
 use crate::effects::{Class, Effect, Gives, Names, Takes, Wanted};
 use crate::entry::{Slot, Value};
@@ -45,7 +45,7 @@ pub fn is_wrong(wanted: Wanted, value: &Value) -> bool
     match value {
         Value::Unknown => false,
         Value::Made(class) => !class_suits(wanted, *class),
-        Value::Chars(_) => match wanted {
+        Value::Text(_) => match wanted {
             Wanted::WantsAny => false,
             _ => true,
         },
@@ -107,7 +107,7 @@ pub fn judge(
     requires named { WellNamed names takes }
     requires given { WellGiven gives takes }
     ensures ok { IfOk result (λ a. judged (policy_of policy.now) names gives (instruction_of inst.now) (values_of operands.now) ≡ Ok (option_map asked_shown a)) }
-    ensures err { IfErr result (λ d. IsDenied (judged (policy_of policy.now) names gives (instruction_of inst.now) (values_of operands.now)) d ⊎ (MayName names × IsStarved d)) }
+    ensures err { IfErr result (λ d. IsDenied (judged (policy_of policy.now) names gives (instruction_of inst.now) (values_of operands.now)) d ⊎ (MayName names × IsForMemory d)) }
 {
     if receiver_fault(takes, gives, operands) {
         return Err(Denial {
@@ -145,8 +145,8 @@ pub fn value_of(alloc: Global, gives: Gives, inst: &Inst) -> Result<Option<Value
         Gives::Makes(class) => Ok(Some(Value::Made(class))),
         Gives::MakesIntOrBool => Ok(Some(Value::Made(int_or_bool(inst)))),
         Gives::MakesText => match text_of(alloc, inst) {
-            Ok(Some(text)) => Ok(Some(Value::Chars(text))),
-            Ok(None) => Ok(Some(Value::Chars(String::new(alloc)))),
+            Ok(Some(text)) => Ok(Some(Value::Text(text))),
+            Ok(None) => Ok(Some(Value::Text(String::new(alloc)))),
             Err(_) => Err(Reason::OutOfMemory),
         },
         Gives::MayMake(class) => Ok(Some(Value::Made(class))),
@@ -211,7 +211,7 @@ pub fn operate(
     ensures ok { (m : List (ℕ × Known)) → IfOk result (λ b. Passes (learn (policy_of policy.now) (Effect.Operates takes names gives) (instruction_of inst.now) (record { entries = shown stack.old.items []; memo = m })) (record { entries = shown stack.new.items []; memo = m }) (map asked_shown imports.old.items) (map asked_shown imports.new.items) b) }
     ensures room { OnOk result (length stack.new.items ≤ limits.stack) }
     ensures kept { OnErr result ((stack.new.items ≡ stack.old.items) × (imports.new.items ≡ imports.old.items)) }
-    ensures err { (m : List (ℕ × Known)) → IfErr result (λ d. IsDenied (and_then (learn (policy_of policy.now) (Effect.Operates takes names gives) (instruction_of inst.now) (record { entries = shown stack.old.items []; memo = m })) (within limits)) d ⊎ (MayOperate names gives × IsStarved d)) }
+    ensures err { (m : List (ℕ × Known)) → IfErr result (λ d. IsDenied (and_then (learn (policy_of policy.now) (Effect.Operates takes names gives) (instruction_of inst.now) (record { entries = shown stack.old.items []; memo = m })) (within limits)) d ⊎ (MayOperate names gives × IsForMemory d)) }
 {
     let place = match place_of(stack, takes) {
         Ok(place) => place,

@@ -65,7 +65,7 @@ pub fn top_copy(stack: &[Slot]) -> Result<Value, Reason>
         return Err(Reason::MissingItem);
     }
     match &stack[stack.len() - 1] {
-        Slot::Bar => Err(Reason::MissingItem),
+        Slot::Mark => Err(Reason::MissingItem),
         Slot::Object(value) => match copied(value) {
             Ok(copy) => Ok(copy),
             Err(_) => Err(Reason::OutOfMemory),
@@ -81,7 +81,7 @@ pub fn has_mark_on_top(stack: &[Slot]) -> bool
         return false;
     }
     match &stack[stack.len() - 1] {
-        Slot::Bar => true,
+        Slot::Mark => true,
         _ => false,
     }
 }
@@ -110,7 +110,7 @@ pub fn mark_place(stack: &[Slot]) -> Option<usize>
     let mut place = stack.len();
     while place > 0 {
         place -= 1;
-        if let Slot::Bar = stack[place] {
+        if let Slot::Mark = stack[place] {
             return Some(place);
         }
     }
@@ -128,7 +128,7 @@ pub fn objects_place(stack: &[Slot], count: usize) -> Option<usize>
             return None;
         }
         place -= 1;
-        if let Slot::Bar = stack[place] {
+        if let Slot::Mark = stack[place] {
             return None;
         }
     }
@@ -199,7 +199,7 @@ pub fn receiver_place(stack: &[Slot], rule: SliceRule) -> Result<usize, Reason>
     if place == 0 {
         return Err(Reason::MissingItem);
     }
-    if let Slot::Bar = stack[place - 1] {
+    if let Slot::Mark = stack[place - 1] {
         return Err(Reason::MissingItem);
     }
     match rule_fault(rule, &stack[place..]) {

@@ -7,7 +7,7 @@ ghost use Rattle.pkcheck.specs.Effects.{effect_of};
 ghost use Rattle.pkcheck.specs.Knowledge.{Known, learn, within, advance, stop_learned};
 ghost use Rattle.pkops.specs.Inst.{instruction_of};
 ghost use Rattle.pkcheck.specs.Import.{asked_shown, policy_of};
-ghost use Rattle.pkcheck.specs.Denials.{IsDenied, IsStarved, Goes, MayTake, IsStopFault};
+ghost use Rattle.pkcheck.specs.Denials.{IsDenied, IsForMemory, GoesTo, MayWantMemory, IsStopFault};
 
 use crate::effects::{Effect, effect_by};
 use crate::entry::{Slot, Value};
@@ -21,11 +21,14 @@ use pkread::Reason;
 use std::alloc::Global;
 use std::collections::BTreeMap;
 
-/// What a step was.
+/// What a step did that goes on.
 #[derive(Clone, Copy)]
 pub enum Moved {
+    /// Neither of the others.
     On,
+    /// It listed an import.
     Import,
+    /// It was STOP.
     Stopped,
 }
 
@@ -60,10 +63,10 @@ pub fn advance(
 ) -> Result<Moved, Denial>
     requires stack { length stack.old.items ≤ limits.stack }
     requires memo { btree_map_len memo.old ≤ limits.memo }
-    ensures ok { IfOk result (λ v. Goes (effect_of (instruction_of inst.now).op) (advance (policy_of policy.now) limits (instruction_of inst.now) (shape_of stack.old.items memo.old.entries)) (shape_of stack.new.items memo.new.entries) (map asked_shown imports.old.items) (map asked_shown imports.new.items) v) }
+    ensures ok { IfOk result (λ v. GoesTo (effect_of (instruction_of inst.now).op) (advance (policy_of policy.now) limits (instruction_of inst.now) (shape_of stack.old.items memo.old.entries)) (shape_of stack.new.items memo.new.entries) (map asked_shown imports.old.items) (map asked_shown imports.new.items) v) }
     ensures room { OnOk result ((length stack.new.items ≤ limits.stack) × (btree_map_len memo.new ≤ limits.memo)) }
     ensures kept { OnErr result ((stack.new.items ≡ stack.old.items) × (memo.new.entries ≡ memo.old.entries) × (imports.new.items ≡ imports.old.items)) }
-    ensures err { IfErr result (λ d. IsDenied (advance (policy_of policy.now) limits (instruction_of inst.now) (shape_of stack.old.items memo.old.entries)) d ⊎ (MayTake (effect_of (instruction_of inst.now).op) × IsStarved d)) }
+    ensures err { IfErr result (λ d. IsDenied (advance (policy_of policy.now) limits (instruction_of inst.now) (shape_of stack.old.items memo.old.entries)) d ⊎ (MayWantMemory (effect_of (instruction_of inst.now).op) × IsForMemory d)) }
 {
     match effect_by(inst) {
         Effect::Operates(takes, names, gives) => {

@@ -6,8 +6,8 @@ use Rattle.pkcheck.proofs.stack.objects_place.Goals as goal
 pub returns-then-place-eq0-clause-value : goal.returns-then-place-eq0-clause-value
 returns-then-place-eq0-clause-value c = c.loop-k.invariant.2 ∙ items_at_bottom c.args.stack.now c.loop-k.place (c.args.count - c.loop-k._k) (c.args.count - (c.loop-k._k + 1)) (omega arith) (omega arith)
 
-pub returns-in-Bar-clause-value : goal.returns-in-Bar-clause-value
-returns-in-Bar-clause-value c = c.loop-k.invariant.2 ∙ items_at_bar c.args.stack.now c.loop-k.place (c.loop-k.place - 1) _ (omega arith) (omega arith) (c.args.count - c.loop-k._k) (c.args.count - (c.loop-k._k + 1)) (omega arith) c.in-Bar.is
+pub returns-in-Mark-clause-value : goal.returns-in-Mark-clause-value
+returns-in-Mark-clause-value c = c.loop-k.invariant.2 ∙ items_at_bar c.args.stack.now c.loop-k.place (c.loop-k.place - 1) _ (omega arith) (omega arith) (c.args.count - c.loop-k._k) (c.args.count - (c.loop-k._k + 1)) (omega arith) c.in-Mark.is
 
 pub loop-k-preserved : goal.loop-k-preserved
 loop-k-preserved c = (omega arith, all_objects c.args.stack.now c.loop-k.place (c.loop-k.place - 1) _ (omega arith) (omega arith) _ c.in_default.is c.loop-k.invariant.1, c.loop-k.invariant.2 ∙ items_at_object c.args.stack.now c.loop-k.place (c.loop-k.place - 1) _ (omega arith) (omega arith) (c.args.count - c.loop-k._k) (c.args.count - (c.loop-k._k + 1)) _ (omega arith) c.in_default.is)

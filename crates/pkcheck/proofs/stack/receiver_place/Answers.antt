@@ -5,9 +5,9 @@ use Rattle.pkcheck.proofs.Shown.{items_at_bar, items_at_object, first_object}
 use Rattle.pkcheck.proofs.Placed.{receiver_missing, receiver_fits, receiver_breaks, to_end}
 use Rattle.pkcheck.proofs.stack.receiver_place.Goals as goal
 
-pub returns-in-Bar-clause-err : goal.returns-in-Bar-clause-err
-returns-in-Bar-clause-err c =
-    let e = items_at_bar c.args.stack.now c.in-Some.place (c.in-Some.place - 1) _ (omega arith) (omega (arith, c.in-Some.ensures.0)) 1 0 refl c.in-Bar.is in
+pub returns-in-Mark-clause-err : goal.returns-in-Mark-clause-err
+returns-in-Mark-clause-err c =
+    let e = items_at_bar c.args.stack.now c.in-Some.place (c.in-Some.place - 1) _ (omega arith) (omega (arith, c.in-Some.ensures.0)) 1 0 refl c.in-Mark.is in
     (NoItem, receiver_missing c.args.rule (shown c.args.stack.now []) _ c.in-Some.ensures.1 NoItem e, refl)
 
 pub returns-in-Some-rule_fault-clause-err : goal.returns-in-Some-rule_fault-clause-err

@@ -4,8 +4,8 @@ use Rattle.pkcheck.specs.Slots.{shown}
 use Rattle.pkcheck.proofs.Popping.{top_bar, top_object}
 use Rattle.pkcheck.proofs.stack.top_copy.Goals as goal
 
-pub returns-in-Bar-clause-err : goal.returns-in-Bar-clause-err
-returns-in-Bar-clause-err c = inl (NoItem, top_bar c.args.stack.now c.index-stack-stack.result (search (rules, c.if-is_empty.ensures)) (sym c.index-stack-stack.is ∙ c.in-Bar.is), refl)
+pub returns-in-Mark-clause-err : goal.returns-in-Mark-clause-err
+returns-in-Mark-clause-err c = inl (NoItem, top_bar c.args.stack.now c.index-stack-stack.result (search (rules, c.if-is_empty.ensures)) (sym c.index-stack-stack.is ∙ c.in-Mark.is), refl)
 
 pub returns-in-Ok-clause-ok : goal.returns-in-Ok-clause-ok
 returns-in-Ok-clause-ok c =
