@@ -79,3 +79,35 @@ fn the_first_error(rt: HostRuntime) {
         assert_eq!(rt; error, wanted, "{text}");
     }
 }
+
+#[test]
+fn the_texts_of_errors(rt: HostRuntime) -> Result<(), Fail> {
+    for (error, wanted) in [
+        (AllowError::Syntax, "the list is not TOML"),
+        (
+            AllowError::Shape(Where::Version),
+            "the list has a wrong shape: version",
+        ),
+        (
+            AllowError::Shape(Where::TopKey),
+            "the list has a wrong shape: top key",
+        ),
+        (
+            AllowError::Shape(Where::Imports),
+            "the list has a wrong shape: imports",
+        ),
+        (
+            AllowError::Shape(Where::Module),
+            "the list has a wrong shape: module",
+        ),
+        (
+            AllowError::Shape(Where::Name),
+            "the list has a wrong shape: name",
+        ),
+        (AllowError::Version, "the list has an unknown version"),
+        (AllowError::OutOfMemory, "out of memory"),
+    ] {
+        assert_eq!(rt; format!(in rt.alloc(); "{error}")?.as_str(), wanted);
+    }
+    Ok(())
+}
