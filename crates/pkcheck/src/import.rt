@@ -1,5 +1,5 @@
 //! What an import asks for.
-ghost use Rattle.std.specs.Prelude.{◌≡◌, ◌⊎◌, List, length, map, option_map, IfOk, IfErr, None, Some};
+ghost use Rattle.std.specs.Prelude.{◌≡◌, ◌⊎◌, option_map, IfOk, IfErr, None, Some};
 ghost use Rattle.pkcheck.specs.Slots.{known, values_of, StartsWell, WellNamed};
 ghost use Rattle.pkcheck.specs.Knowledge.{AskedPair, asked_of, operands_asked, NotText};
 ghost use Rattle.pkops.specs.Inst.{instruction_of};

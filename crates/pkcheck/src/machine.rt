@@ -1,5 +1,5 @@
 //! The machine that knows what every run knows, and runs nothing.
-ghost use Rattle.std.specs.Prelude.{◌≡◌, ◌≢◌, ◌⊎◌, ℕ, List, [], ◌∷◌, ◌++◌, map, option_map, IfOk, IfErr, IfSome, OnOk, OnErr, true, false};
+ghost use Rattle.std.specs.Prelude.{◌≡◌, ◌≢◌, ◌⊎◌, [], ◌∷◌, ◌++◌, map, option_map, IfOk, IfErr, IfSome, OnOk, OnErr, true, false};
 ghost use Rattle.pkops.specs.Inst.{instruction_of};
 ghost use Rattle.pkops.specs.Admitted.{is_admitted};
 ghost use Rattle.pkcheck.specs.Effects.{effect_of};

@@ -1,10 +1,8 @@
 //! The moves, which look at no object.
-ghost use Rattle.pkcheck.specs.Knowledge.{Lacks, reason_of};
-ghost use Rattle.pkcheck.specs.Shape.{Breach, NoMark, NoItem, operands, slice, items, recalled, breaks, top, moved};
-ghost use Rattle.pkcheck.specs.Slots.{shown, values_of, IsLack, FirstObject, StartsWell, has_mark_on_top, marks_after, known, remembered, entry_of, WantsRoom, WantsMemo, shape_of, IsFault, IsFaultOf};
-ghost use Rattle.std.specs.BTreeMap.{btree_map_len, insert_entry};
-ghost use Rattle.std.specs.Ordering.{nat_cmp};
-ghost use Rattle.std.specs.Prelude.{◌≡◌, ℕ, List, [], ◌∷◌, ◌++◌, ◌<◌, ◌≤◌, length, take, drop, map, IfOk, IfErr, IfSome, OnOk, MatchResult, MatchOption, ◌⊎◌, ◌-◌, ◌^◌, OnErr};
+ghost use Rattle.pkcheck.specs.Shape.{items, top, moved};
+ghost use Rattle.pkcheck.specs.Slots.{shape_of, IsFault, IsFaultOf};
+ghost use Rattle.std.specs.BTreeMap.{btree_map_len};
+ghost use Rattle.std.specs.Prelude.{◌≡◌, ℕ, List, ◌<◌, ◌≤◌, length, IfErr, OnOk};
 
 use crate::effects::Move;
 use crate::entry::{Slot, Value, copied};

@@ -1,7 +1,7 @@
 //! The operations, which take objects and give one.
-ghost use Rattle.std.specs.Prelude.{◌≡◌, ◌⊎◌, ◌<◌, ◌≤◌, ℕ, List, [], ◌∷◌, ◌++◌, length, take, drop, map, option_map, IfOk, IfErr, IfSome, OnOk, OnErr, IsSome, is_some, None, Some};
+ghost use Rattle.std.specs.Prelude.{◌≡◌, ◌⊎◌, ◌<◌, ◌≤◌, ℕ, List, [], ◌∷◌, ◌++◌, length, take, drop, map, option_map, IfOk, IfErr, OnOk, OnErr, IsSome, is_some, None, Some};
 ghost use Rattle.std.specs.Option.{option_to_list};
-ghost use Rattle.pkcheck.specs.Slots.{known, shown, values_of, entry_of, FirstObject, StartsWell, WellNamed, WellGiven, WantsRoom};
+ghost use Rattle.pkcheck.specs.Slots.{known, shown, values_of, FirstObject, StartsWell, WellNamed, WellGiven, WantsRoom};
 ghost use Rattle.pkops.specs.Inst.{instruction_of};
 ghost use Rattle.pkcheck.specs.Runs.{Plain, int_or_bool};
 ghost use Rattle.pkcheck.specs.Import.{asked_shown, policy_of};

@@ -4,7 +4,7 @@ ghost use Rattle.std.specs.BTreeMap.{btree_map_len};
 ghost use Rattle.pkcheck.specs.Slots.{shown, shape_of};
 ghost use Rattle.pkcheck.specs.Shape.{top};
 ghost use Rattle.pkcheck.specs.Effects.{effect_of};
-ghost use Rattle.pkcheck.specs.Knowledge.{Known, learn, within, advance, stop_learned};
+ghost use Rattle.pkcheck.specs.Knowledge.{Known, advance, stop_learned};
 ghost use Rattle.pkops.specs.Inst.{instruction_of};
 ghost use Rattle.pkcheck.specs.Import.{asked_shown, policy_of};
 ghost use Rattle.pkcheck.specs.Denials.{IsDenied, IsForMemory, GoesTo, MayWantMemory, IsStopFault};

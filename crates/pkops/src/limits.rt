@@ -1,6 +1,6 @@
 //! Limits on what is read, kept and written.
 
-ghost use Rattle.std.specs.Prelude.{◌≡◌, ◌≤◌, SomeIff};
+ghost use Rattle.std.specs.Prelude.{◌≡◌, SomeIff};
 ghost use Rattle.pkops.specs.Limits.{AreWithin, bounds, standard};
 
 use std::marker::Model;

@@ -1,7 +1,7 @@
 //! Reading an argument from the front of bytes.
 
-ghost use Rattle.std.specs.Prelude.{◌≡◌, ◌≤◌, ◌<◌, ◌^◌, ◌==◌, nat_lt, position, IfOk};
-ghost use Rattle.pkops.specs.Spelling.{shown_arg, layout_of, size_of, count_limit};
+ghost use Rattle.std.specs.Prelude.{◌≡◌, ◌≤◌, ◌<◌, ◌^◌, ◌==◌, position, IfOk};
+ghost use Rattle.pkops.specs.Spelling.{shown_arg};
 ghost use Rattle.pkops.specs.Reading.{Gives, bytes_at, number_at, line_at, payload_at, arg_at};
 
 use crate::arg::Arg;

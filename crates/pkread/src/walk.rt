@@ -1,9 +1,8 @@
 //! A walk over the instructions of a slice.
 
-ghost use Rattle.std.specs.Prelude.{◌≡◌, ℕ, IfOk, IfErr, ◌≤◌, length};
+ghost use Rattle.std.specs.Prelude.{◌≡◌, IfOk, IfErr, length};
 ghost use Rattle.pkops.specs.Answer.{IsWhole};
 ghost use Rattle.pkops.specs.Inst.{instruction_of};
-ghost use Rattle.pkops.specs.Spelling.{Instruction};
 ghost use Rattle.pkread.specs.Admission.{objection};
 ghost use Rattle.pkread.specs.Genops.{IsRefused, is_stop, walk_of};
 

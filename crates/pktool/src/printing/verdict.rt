@@ -1,5 +1,5 @@
 //! The line of a verdict.
-ghost use Rattle.std.specs.Prelude.{OnOk, length, option_copied};
+ghost use Rattle.std.specs.Prelude.{OnOk, length};
 ghost use Rattle.std.specs.Io.KnownBytes.{Appends};
 ghost use Rattle.pktool.specs.Verdict.{no_line, pair_text, verdict_line, yes_line};
 
