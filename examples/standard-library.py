@@ -11,7 +11,6 @@ import collections
 import datetime
 import decimal
 import email.message
-import enum
 import fractions
 import functools
 import io
@@ -56,7 +55,7 @@ OBJECTS = [
     uuid.UUID(int=7), ipaddress.ip_address("127.0.0.1"), ipaddress.ip_network("10.0.0.0/8"), pathlib.PurePosixPath("a/b"),
     re.compile("a+b"), functools.partial(int, base=2), operator.itemgetter(1, 2), operator.attrgetter("a.b"),
     array.array("i", [1, 2, 3]), types.SimpleNamespace(a=1), time.gmtime(0), random.Random(1), len, dict, json.JSONEncoder,
-    enum.Enum("Colour", "RED", module="calendar"), zoneinfo.ZoneInfo, email.message.Message(), calendar.Calendar(),
+    re.IGNORECASE, zoneinfo.ZoneInfo, email.message.Message(), calendar.Calendar(),
     io.BytesIO(b"bytes"), io.StringIO("text"),
 ]
 
