@@ -125,8 +125,6 @@ module _ (policy : Policy) (limits : Bounds) (old : Sight) where
         }
 
     -- where an instruction is given, the machine has not stopped
-    pub not_stopped : (r : Result Next ReadRefusal) (at : ℕ) (i : Inst) → Shows s r → r ≡ Ok (next.Inst at i) → m.stopped ≡ false
-    not_stopped r at i shows e = h.stopped ∙ shown_open s.phase s r at i shows e
 
     -- where STOP was read and judged
     pub accepted : (new : Sight) (taken : ℕ) (imports : List Asked) → s.phase ≡ Ended → new ≡ s.source → taken ≡ s.taken → imports ≡ m.imports → Accepted policy limits old new taken imports

@@ -1,6 +1,7 @@
 -- One step over what is known, by its parts.
 use Rattle.pkops.specs.Operands.{memo_number}
-use Rattle.std.proofs.Common.{◌≡◌, ap, ℕ, ◌<◌, ◌≤◌, ◌⊎◌, inl, inr, Bool, true, false, cond, ltb, List, [], ◌∷◌, length, Option, Some, None, Result, Ok, Err, refl, sym, arith}
+use Rattle.std.proofs.Common.{◌≡◌, ℕ, ◌<◌, ◌≤◌, ◌⊎◌, inl, inr, Bool, true, false, cond, ltb, List, [], ◌∷◌, length, Option, Some, None, Result, Ok, Err, refl, sym, drop, arith, length-drop}
+use Rattle.std.proofs.Math.ListN.{drop_of_length-le}
 use Rattle.std.specs.Prelude.{is_some}
 use Rattle.std.proofs.lemmas.Bool.{lt-ltb, le-ltb}
 use Rattle.pkcheck.specs.declared.effects.Move.{Move}
@@ -15,35 +16,24 @@ use Rattle.pkcheck.specs.declared.operate.Denial.{Denial}
 use Rattle.pkcheck.specs.declared.turn.Moved.{Moved}
 use Rattle.pkcheck.specs.declared.turn.Moved.TheVariants.{On, Import}
 use Rattle.pkcheck.specs.Effects.{effect_of}
-use Rattle.pkcheck.specs.Shape.{top, Breach, NoItem, Entry, Item, Mark, Taken, items, and_then, moved}
+use Rattle.pkcheck.specs.Shape.{top, Entry, and_then, moved}
 use Rattle.pkops.specs.Spelling.{Instruction}
 use Rattle.pkcheck.specs.Knowledge.{Known, Knowledge, Policy, Asked, Progress, Refusal, Lacks, LeftOver, TooLarge, left_over, stop_learned, learn, within, advance}
 use Rattle.pkops.specs.Limits.{Bounds}
-use Rattle.pkcheck.specs.Slots.{IsFaultOf}
-use Rattle.pkcheck.specs.Denials.{IsDenied, IsForMemory, GoesTo, IsStopFault, MayWantMemory}
+use Rattle.pkcheck.specs.Denials.{IsDenied, IsForMemory, IsLack, IsFaultOf, GoesTo, IsStopFault, MayWantMemory}
 use Rattle.pkcheck.specs.Import.{asks_more}
 use Rattle.pkcheck.specs.View.{moved_as}
 
--- the top item is one item from the top
-one_item : (es : List (Entry Known)) (t : Taken Known) → items 1 es [] ≡ Ok t → (x : Known) × (top es ≡ Ok (x, t.below))
-one_item [] t e = cc
-one_item (Mark ∷ es) t e = cc
-one_item (Item x ∷ es) t e = (x, ap (λ r. elim r as (λ _. Result (Known × List (Entry Known)) Breach) [ Ok u ↦ Ok (x, u.below) | Err b ↦ Err b ]) e)
-
-no_item : (es : List (Entry Known)) → items 1 es [] ≡ Err NoItem → top es ≡ Err NoItem
-no_item [] e = refl
-no_item (Mark ∷ es) e = refl
-no_item (Item x ∷ es) e = cc
-
-pub stop_none : (es : List (Entry Known)) (m : List (ℕ × Known)) → items 1 es [] ≡ Err NoItem → IsStopFault (stop_learned m (top es)) reason.MissingItem
-stop_none es m e = (Lacks NoItem, rw (no_item es e) refl, refl, refl)
+pub stop_lacks : (es : List (Entry Known)) (m : List (ℕ × Known)) (r : Reason) → IsLack (top es) r → IsStopFault (stop_learned m (top es)) r
+stop_lacks es m r (b, e, g) = (Lacks b, rw e refl, g, refl)
 
 some_left : (es : List (Entry Known)) → 0 < length es → left_over es ≡ Some LeftOver
 some_left (e ∷ es) h = refl
 some_left [] h = absurd (omega arith)
 
-pub stop_left : (es : List (Entry Known)) (m : List (ℕ × Known)) (t : Taken Known) → items 1 es [] ≡ Ok t → 0 < length t.below → IsStopFault (stop_learned m (top es)) reason.LeftOver
-stop_left es m t e h = let (x, f) = one_item es t e in (LeftOver, rw (f, some_left t.below h) refl, refl, refl)
+module _ (es : List (Entry Known)) (m : List (ℕ × Known)) (k : Known) (e : top es ≡ Ok (k, drop 1 es)) where
+  pub stop_left : 1 < length es → IsStopFault (stop_learned m (top es)) reason.LeftOver
+  stop_left h = let more : 0 < length (drop 1 es) = omega (arith, length-drop 1 es) in (LeftOver, rw (e, some_left (drop 1 es) more) refl, refl, refl)
 
 within_fits : (l : Bounds) (q : Progress) → length q.after.entries ≤ l.stack → length q.after.memo ≤ l.memo → within l q ≡ Ok q
 within_fits l q g h = rw (le-ltb l.stack (length q.after.entries) g, le-ltb l.memo (length q.after.memo) h) refl

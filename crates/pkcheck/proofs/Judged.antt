@@ -1,30 +1,27 @@
 -- What the policy makes of an import, and what is refused.
 use Rattle.pkops.specs.Operands.{pair_named}
-use Rattle.std.proofs.Common.{◌≡◌, ℕ, ◌⊎◌, inl, inr, List, [], ◌∷◌, ◌++◌, Bool, true, false, cond, Option, Some, None, Result, Ok, Err, option_map, refl, sym, ◌∙◌, ap, length, take, drop, ◌<◌, arith, zero, suc, map, append-nil, ◌≤◌, length-take}
+use Rattle.std.proofs.Common.{◌≡◌, ℕ, ◌⊎◌, inl, inr, List, [], ◌∷◌, ◌++◌, Bool, true, false, cond, Option, Some, None, Result, Ok, Err, option_map, refl, sym, ◌∙◌, ap, length, ◌<◌, arith, map, append-nil, ◌≤◌}
 use Rattle.std.proofs.lemmas.Bool.{lt-ltb}
 use Rattle.std.specs.Prelude.{is_some, IsSome}
 use Rattle.pkcheck.specs.declared.effects.Names.{Names}
 use Rattle.pkcheck.specs.declared.effects.Names.TheVariants.{NoName, OfArgument, OfOperands}
 use Rattle.pkcheck.specs.declared.effects.Gives.{Gives}
 use Rattle.pkcheck.specs.declared.effects.Gives.TheVariants.{Makes, MakesIntOrBool, MakesText, MayMake, Answers, Leaves}
-use Rattle.pkcheck.specs.declared.entry.Slot.{Slot}
-use Rattle.pkcheck.specs.declared.entry.Slot.TheVariants as slot
 use Rattle.pkcheck.specs.declared.effects.Takes.{Takes}
 use Rattle.pkcheck.specs.declared.effects.Effect.TheVariants.{Operates}
-use Rattle.pkcheck.specs.Shape.{put, Breach, Entry, Item, Taken, and_then, front, operands}
+use Rattle.pkcheck.specs.Shape.{put, Breach, Entry, Item, Taken, and_then, operands}
 use Rattle.pkops.specs.Spelling.{Instruction}
 use Rattle.pkcheck.specs.Runs.{Text, Plain, Foreign}
 use Rattle.pkcheck.specs.Knowledge.{argument_asked, Known, Knowledge, Policy, Asked, Refusal, Lacks, Progress, TooLarge, known_given, learn, within, WrongClass, wrong_receiver, asked_of}
 use Rattle.pkops.specs.Limits.{Bounds}
-use Rattle.pkcheck.specs.Slots.{known, shown, values_of, entry_of, FirstObject, IsLack, WantsRoom}
+use Rattle.pkcheck.specs.Slots.{known}
 use Rattle.pkread.specs.declared.refusal.Reason.{Reason}
 use Rattle.pkread.specs.declared.refusal.Reason.TheVariants as reason
 use Rattle.pkcheck.specs.declared.operate.Denial.{Denial}
 use Rattle.pkcheck.specs.declared.import.Asked.{Asked as RustAsked}
 use Rattle.std.specs.Option.{option_to_list}
-use Rattle.pkcheck.specs.declared.entry.Value.{Value}
-use Rattle.pkcheck.proofs.Limited.{length_shown}
-use Rattle.pkcheck.specs.Denials.{ruled, judged, IsDenied, IsForMemory, MayName, MayGive, MayOperate, Passes}
+use Rattle.pkcheck.specs.declared.value.Value.{Value}
+use Rattle.pkcheck.specs.Denials.{ruled, judged, IsDenied, IsForMemory, IsLack, MayName, MayGive, MayOperate, Passes, WantsRoom, HasFirst, WellGiven}
 use Rattle.pkcheck.specs.Import.{asked_shown, asks_more}
 
 abbrev pub ruled_any : Policy → Option Asked → Result (Option Asked) Refusal
@@ -58,22 +55,9 @@ module _ (p : Policy) (names : Names) (gives : Gives) (i : Instruction) (ks : Li
   judged_wrong e = rw e refl
 
   module _ (f : wrong_receiver gives ks ≡ false) where
-    pub judged_ok : (a : Option Asked) → asked_of None names i ks ≡ Ok a → judged p names gives i ks ≡ ruled_any p a
-    judged_ok a e = rw (f, asked_ruled p names i ks, e) refl
 
     pub judged_err : (r : Refusal) → asked_of None names i ks ≡ Err r → judged p names gives i ks ≡ Err r
     judged_err r e = rw (f, asked_ruled p names i ks, e) refl
-
--- the first of the operands is left
-pub left_first : (ss : List Slot) (below : List (Entry Known)) → FirstObject ss → shown (take 1 ss) below ≡ front (values_of ss) ++ below
-left_first (slot.Object v ∷ ss) below h = refl
-left_first (slot.Mark ∷ ss) below h = absurd h
-left_first [] below h = absurd h
-
-pub left_is : (xs : List Slot) (n : ℕ) (below : List (Entry Known)) → FirstObject (drop n xs) → shown (take (suc n) xs) below ≡ front (values_of (drop n xs)) ++ shown (take n xs) below
-left_is xs zero below h = left_first xs below h
-left_is (x ∷ xs) (suc n) below h = left_is xs n (entry_of x ∷ below) h
-left_is [] (suc n) below h = absurd h
 
 chosen : {A B E : Type 0} (b : Bool) (e : E) (x : Result A E) (f : A → Result B E) (y : A) → cond b (Err e) x ≡ Ok y → cond b (Err e) (and_then x f) ≡ f y
 chosen true e x f y h = cc
@@ -82,10 +66,6 @@ chosen false e x f y h = rw h refl
 unchosen : {A B E : Type 0} (b : Bool) (e : E) (x : Result A E) (f : A → Result B E) (r : E) → cond b (Err e) x ≡ Err r → cond b (Err e) (and_then x f) ≡ Err r
 unchosen true e x f r h = cc
 unchosen false e x f r h = rw h refl
-
-unnamed : (b : Bool) (a : Asked) → cond b (Err WrongClass) (Ok None) ≡ Ok (Some a) → ⊥
-unnamed true a e = cc
-unnamed false a e = cc
 
 past_stack : (l : Bounds) (k : Knowledge) (a : Option Asked) → l.stack < length k.entries → within l (record { after = k; import = a }) ≡ Err TooLarge
 past_stack l k a h = rw (lt-ltb l.stack (length k.entries) h) refl
@@ -119,11 +99,6 @@ may_give (MayMake s) i v e = tt
 may_give Answers i v e = tt
 may_give (Leaves w) i v e = cc
 
-pub may_name : (p : Policy) (names : Names) (gives : Gives) (i : Instruction) (ks : List Known) (a : Asked) → judged p names gives i ks ≡ Ok (Some a) → MayName names
-may_name p NoName gives i ks a e = unnamed (wrong_receiver gives ks) a e
-may_name p OfArgument gives i ks a e = tt
-may_name p OfOperands gives i ks a e = tt
-
 pub within_denied : (x : Result Progress Refusal) (l : Bounds) (d : Denial) → IsDenied x d → IsDenied (and_then x (within l)) d
 within_denied x l d (f, e, g, h) = (f, rw e refl, g, h)
 
@@ -140,21 +115,29 @@ some_shown : (a : Option RustAsked) → is_some a ≡ is_some (option_map asked_
 some_shown None = refl
 some_shown (Some a) = refl
 
--- what an operation found, at a place of these slots
-module _ (p : Policy) (takes : Takes) (names : Names) (gives : Gives) (i : Instruction) (xs : List Slot) (m : List (ℕ × Known)) (place : ℕ) (v : Option Value) (a : Option RustAsked)
-    (found : operands takes (shown xs []) ≡ Ok (record { operands = values_of (drop place xs); below = shown (take place xs) [] }))
-    (fits : judged p names gives i (values_of (drop place xs)) ≡ Ok (option_map asked_shown a))
+-- what an operation found
+module _ (p : Policy) (takes : Takes) (names : Names) (gives : Gives) (i : Instruction) (k : Knowledge) (t : Taken Known) (v : Option Value) (a : Option RustAsked)
+    (found : operands takes k.entries ≡ Ok t)
+    (fits : judged p names gives i t.operands ≡ Ok (option_map asked_shown a))
     (given : option_map known v ≡ known_given gives i) where
-  pub does_pass : (new : List Slot) (before after : List RustAsked) (b : Bool) → shown new [] ≡ put (option_map known v) (values_of (drop place xs)) ++ shown (take place xs) [] → after ≡ before ++ option_to_list a → b ≡ is_some a →
-      Passes (learn p (Operates takes names gives) i (record { entries = shown xs []; memo = m })) (record { entries = shown new []; memo = m }) (map asked_shown before) (map asked_shown after) b
-  does_pass new before after b e f g = (option_map asked_shown a, rw (e, given) (learn_passes p takes names gives i (record { entries = shown xs []; memo = m }) _ found _ fits), rw f (listed a before), g ∙ some_shown a)
+  pub does_pass : (new : List (Entry Known)) (before after : List RustAsked) (b : Bool) → new ≡ put (option_map known v) t.operands ++ t.below → after ≡ before ++ option_to_list a → b ≡ is_some a →
+      Passes (learn p (Operates takes names gives) i k) (record { entries = new; memo = k.memo }) (map asked_shown before) (map asked_shown after) b
+  does_pass new before after b e f g = (option_map asked_shown a, rw (e, given) (learn_passes p takes names gives i k t found _ fits), rw f (listed a before), g ∙ some_shown a)
 
-  pub unroomed : (l : Bounds) (r : Reason) → place ≤ length xs → IsSome v → WantsRoom l.stack place r → IsDenied (and_then (learn p (Operates takes names gives) i (record { entries = shown xs []; memo = m })) (within l)) (record { reason = r; pair = None }) ⊎ (MayOperate names gives × IsForMemory (record { reason = r; pair = None }))
-  unroomed l r h s w =
-      let k = known_some v s in
-      let j : known_given gives i ≡ Some k.0 = sym given ∙ k.1 in
+  pub unroomed : (l : Bounds) (r : Reason) → IsSome v → WantsRoom l.stack (length t.below) r → IsDenied (and_then (learn p (Operates takes names gives) i k) (within l)) (record { reason = r; pair = None }) ⊎ (MayOperate names gives × IsForMemory (record { reason = r; pair = None }))
+  unroomed l r s w =
+      let n = known_some v s in
+      let j : known_given gives i ≡ Some n.0 = sym given ∙ n.1 in
       elim w [
-        | inl u ↦ (let n = length_shown (take place xs) in let n' = length-take place xs in
-            inl (rw u.0 (room_denied p takes names gives i (record { entries = shown xs []; memo = m }) l (record { operands = values_of (drop place xs); below = shown (take place xs) [] }) _ k.0 found fits j (let g = u.1 in omega arith))))
-        | inr e ↦ inr (inr (may_give gives i k.0 j), (e, refl))
+        | inl u ↦ inl (rw u.0 (room_denied p takes names gives i k l t _ n.0 found fits j u.1))
+        | inr e ↦ inr (inr (may_give gives i n.0 j), (e, refl))
       ]
+
+-- what is left is there
+pub left_there : (takes : Takes) (gives : Gives) (i : Instruction) → WellGiven gives takes → known_given gives i ≡ None → HasFirst takes
+left_there takes (Makes s) i w e = cc
+left_there takes MakesIntOrBool i w e = cc
+left_there takes MakesText i w e = cc
+left_there takes (MayMake s) i w e = cc
+left_there takes Answers i w e = cc
+left_there takes (Leaves wanted) i w e = w

@@ -9,12 +9,13 @@ pub mod Standing
 pub mod Examples
 -- the machine
 pub mod Shown
-pub mod Popping
+pub mod Topmost
+pub mod Places
 pub mod Errs
 pub mod Limited
 pub mod Settled
 pub mod Placed
-pub mod Room
+pub mod Moving
 pub mod Judged
 pub mod Going
 pub mod OpenMarks

@@ -1,8 +1,8 @@
--- The limits, on the machine's fields.
-use Rattle.std.proofs.Common.{◌≡◌, ℕ, ◌+◌, cond, List, [], ◌∷◌, length, Some, None, refl, ap, arith, ◌≤◌, ◌<◌}
-use Rattle.pkcheck.specs.declared.entry.Value.{Value}
-use Rattle.pkcheck.specs.declared.entry.Slot.{Slot}
-use Rattle.pkcheck.specs.Shape.{Entry}
+-- The memo and the limits, on the fields.
+use Rattle.std.proofs.Common.{◌≡◌, ℕ, ◌+◌, cond, List, [], ◌∷◌, length, Some, None, refl, ap, arith, ◌≤◌, ◌<◌, true, false, option_map}
+use Rattle.pkcheck.specs.declared.value.Value.{Value}
+use Rattle.pkcheck.specs.declared.stack.slots.Slot.{Slot}
+use Rattle.pkcheck.specs.Shape.{Entry, recalled}
 use Rattle.pkcheck.specs.Knowledge.{Known}
 use Rattle.std.specs.Ordering.{nat_cmp, is_eq, match_ordering}
 use Rattle.std.specs.declared.cmp.Ordering.TheVariants.{Less, Equal, Greater}
@@ -38,3 +38,8 @@ too_many limit es n v h e =
     let b = ap length (remembered_insert es n v) in
     let d = length_remembered (insert_entry nat_cmp es n v) in
     omega arith
+
+pub recalled_remembered : (es : List (ℕ × Value)) (n : ℕ) → recalled n (remembered es) ≡ option_map known (lookup (is_at (nat_cmp n)) es)
+recalled_remembered [] n = refl
+recalled_remembered (e ∷ es) n =
+    elim (is_at (nat_cmp n) e.0) as (λ b. cond b (Some (known e.1)) (recalled n (remembered es)) ≡ option_map known (cond b (Some e.1) (lookup (is_at (nat_cmp n)) es))) [ true ↦ refl | false ↦ recalled_remembered es n ]

@@ -14,16 +14,7 @@ module _ (rule : SliceRule) (es : List (Entry Known)) where
   pub slice_none : slice es [] ≡ Err NoMark → operands (Slice rule) es ≡ Err NoMark
   slice_none e = rw e refl
 
-  pub receiver_none : slice es [] ≡ Err NoMark → operands (SliceAndReceiver rule) es ≡ Err NoMark
-  receiver_none e = rw e refl
-
   module _ (t : Taken Known) (e : slice es [] ≡ Ok t) where
-    pub slice_fits : breaks rule t.operands ≡ None → operands (Slice rule) es ≡ Ok t
-    slice_fits f = rw (e, f) refl
-
-    pub slice_breaks : (b : Breach) → breaks rule t.operands ≡ Some b → operands (Slice rule) es ≡ Err b
-    slice_breaks b f = rw (e, f) refl
-
     pub receiver_missing : (b : Breach) → items 1 t.below t.operands ≡ Err b → operands (SliceAndReceiver rule) es ≡ Err b
     receiver_missing b f = rw (e, f) refl
 

@@ -1,20 +1,19 @@
 -- An entry in the place of others.
-use Rattle.std.proofs.Common.{◌≡◌, ℕ, suc, ◌+◌, ◌%◌, ◌<◌, ◌≤◌, not, eqb, List, [], ◌∷◌, ◌++◌, length, take, get_or, refl, sym, ap, ◌∙◌, arith, add-one, append-nil, length-append}
+use Rattle.std.specs.List.{slice_get}
+use Rattle.std.proofs.Common.{◌≡◌, ℕ, zero, suc, Some, ◌+◌, ◌%◌, ◌<◌, ◌≤◌, not, eqb, List, [], ◌∷◌, ◌++◌, length, take, get_or, refl, sym, ap, ◌∙◌, arith, add-one, append-nil, length-append}
 use Rattle.std.proofs.Math.ListN.{set}
 use Rattle.std.proofs.Math.Seq.{take-suc-set, take-length, take-suc}
 use Rattle.std.proofs.lemmas.Bool.Decides.{nat_tests}
-use Rattle.pkcheck.specs.declared.entry.Value.{Value}
-use Rattle.pkcheck.specs.declared.entry.Slot.{Slot}
-use Rattle.pkcheck.specs.declared.entry.Slot.TheVariants as slot
+use Rattle.pkcheck.specs.declared.value.Value.{Value}
+use Rattle.pkcheck.specs.declared.stack.slots.Slot.{Slot}
+use Rattle.pkcheck.specs.declared.stack.slots.Slot.TheVariants as slot
 use Rattle.pkcheck.specs.Shape.{is_even}
+use Rattle.pkcheck.specs.Knowledge.{Known}
 use Rattle.pkcheck.specs.Slots.{known, entry_of, shown, values_of}
 use Rattle.pkcheck.proofs.Shown.{shown_append}
 
 pub shown_settled : (xs : List Slot) (n : ℕ) (s : Slot) → n < length xs → shown (take (n + 1) (set xs n s)) [] ≡ entry_of s ∷ shown (take n xs) []
 shown_settled xs n s h = rw (add-one, take-suc-set xs n s) (shown_append (take n xs) (s ∷ []) [])
-
-pub shown_pushed : (xs : List Slot) (n : ℕ) → n ≤ length xs → length xs ≤ n → shown (take n xs) [] ≡ shown xs []
-shown_pushed xs n h g = let e : n ≡ length xs = omega arith in rw (e, take-length xs) refl
 
 pub values_append : (xs ys : List Slot) → values_of (xs ++ ys) ≡ values_of xs ++ values_of ys
 values_append [] ys = refl
@@ -33,3 +32,16 @@ count_bar xs n d h e = rw (add-one, take-suc xs n d, e, values_append (take n xs
 
 pub count_object : (xs : List Slot) (n : ℕ) (d : Slot) (v : Value) → n < length xs → get_or xs n d ≡ slot.Object v → length (values_of (take (n + 1) xs)) ≡ length (values_of (take n xs)) + 1
 count_object xs n d v h e = rw (add-one, take-suc xs n d, e, values_append (take n xs) (slot.Object v ∷ []), length-append (values_of (take n xs)) (known v ∷ [])) refl
+
+-- the object that so many others stand before
+pub object_at : (xs : List Slot) (n : ℕ) (d : Slot) (v : Value) → n < length xs → get_or xs n d ≡ slot.Object v → slice_get (values_of xs) (length (values_of (take n xs))) ≡ Some (known v)
+object_at (x ∷ xs) zero d v h e = rw e refl
+object_at (slot.Mark ∷ xs) (suc n) d v h e = object_at xs n d v (omega (arith, h)) e
+object_at (slot.Object w ∷ xs) (suc n) d v h e = object_at xs n d v (omega (arith, h)) e
+object_at [] n d v h e = absurd (omega (arith, h))
+
+pub both : (ks : List Known) (j k : Known) → length ks ≡ 2 → slice_get ks 0 ≡ Some j → slice_get ks 1 ≡ Some k → ks ≡ j ∷ k ∷ []
+both (x ∷ y ∷ []) j k h e f = cc
+both (x ∷ y ∷ z ∷ ks) j k h e f = absurd (omega (arith, h))
+both (x ∷ []) j k h e f = absurd (omega (arith, h))
+both [] j k h e f = absurd (omega (arith, h))

@@ -3,9 +3,9 @@ use Rattle.std.proofs.Common.{◌≡◌, ℕ, suc, ◌<◌, List, [], ◌∷◌,
 use Rattle.std.specs.Ordering.{nat_cmp}
 use Rattle.std.specs.BTreeMap.{insert_entry}
 use Rattle.std.proofs.Math.Seq.{take-suc, drop-cons}
-use Rattle.pkcheck.specs.declared.entry.Value.{Value}
-use Rattle.pkcheck.specs.declared.entry.Slot.{Slot}
-use Rattle.pkcheck.specs.declared.entry.Slot.TheVariants as slot
+use Rattle.pkcheck.specs.declared.value.Value.{Value}
+use Rattle.pkcheck.specs.declared.stack.slots.Slot.{Slot}
+use Rattle.pkcheck.specs.declared.stack.slots.Slot.TheVariants as slot
 use Rattle.pkcheck.specs.Shape.{NoItem, Entry, slice, items}
 use Rattle.pkcheck.specs.Knowledge.{Known}
 use Rattle.pkcheck.specs.Covers.{Pointwise, AlikeCell}

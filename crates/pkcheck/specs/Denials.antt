@@ -1,20 +1,57 @@
 -- What the parts of a step answer, by what the checker knows.
-use Rattle.std.specs.Prelude.{◌≡◌, ◌⊎◌, Bool, List, Option, None, Result, Ok, Err, option_map, cond, is_some}
+use Rattle.std.specs.Prelude.{ℕ, ◌≡◌, ◌<◌, ◌≤◌, ◌⊎◌, Bool, List, length, Option, None, Result, Ok, Err, option_map, cond, is_some}
+use Rattle.pkcheck.specs.declared.effects.Takes.{Takes}
+use Rattle.pkcheck.specs.declared.effects.Takes.TheVariants.{Objects, Slice, SliceAndReceiver}
 use Rattle.pkcheck.specs.declared.effects.Gives.{Gives}
 use Rattle.pkcheck.specs.declared.effects.Gives.TheVariants.{Leaves}
 use Rattle.pkcheck.specs.declared.effects.Names.{Names}
 use Rattle.pkcheck.specs.declared.effects.Names.TheVariants.{NoName}
+use Rattle.pkcheck.specs.declared.effects.Move.{Move}
+use Rattle.pkcheck.specs.declared.effects.Move.TheVariants as move
+use Rattle.pkcheck.specs.declared.effects.Effect.{Effect}
+use Rattle.pkcheck.specs.declared.effects.Effect.TheVariants.{Operates, Moves, Stops}
 use Rattle.pkcheck.specs.declared.operate.Denial.{Denial}
+use Rattle.pkcheck.specs.declared.turn.Moved.{Moved}
 use Rattle.pkread.specs.declared.refusal.Reason.{Reason}
 use Rattle.pkread.specs.declared.refusal.Reason.TheVariants as reason
 use Rattle.pkops.specs.Spelling.{Instruction}
-use Rattle.pkcheck.specs.declared.effects.Effect.{Effect}
-use Rattle.pkcheck.specs.declared.effects.Effect.TheVariants.{Operates, Moves, Stops}
-use Rattle.pkcheck.specs.declared.turn.Moved.{Moved}
-use Rattle.pkcheck.specs.Slots.{MoveMayWantMemory}
-use Rattle.pkcheck.specs.Knowledge.{Policy, Asked, AskedPair, AskedUnknown, Known, Knowledge, Progress, Refusal, WrongClass, reason_of, permitted, unknown_pair, wrong_receiver, asked_of}
+use Rattle.pkops.specs.Limits.{Bounds}
+use Rattle.pkcheck.specs.Shape.{Breach}
+use Rattle.pkcheck.specs.Knowledge.{Policy, Asked, AskedPair, AskedUnknown, Known, Knowledge, Progress, Refusal, Lacks, WrongClass, reason_of, permitted, unknown_pair, wrong_receiver, asked_of}
 use Rattle.pkcheck.specs.Import.{asked_shown, asks_more}
 use Rattle.pkcheck.specs.View.{off_pair, moved_as}
+
+-- the reason of a breach
+abbrev pub IsLack : {A : Type 0} → Result A Breach → Reason → Type 0
+IsLack x r = (b : Breach) × (x ≡ Err b) × (r ≡ reason_of (Lacks b))
+
+-- a move that only takes away, or changes nothing, wants no memory
+abbrev pub MoveMayWantMemory : Move → Type 0
+MoveMayWantMemory move.Pops = ⊥
+MoveMayWantMemory move.PopsMark = ⊥
+MoveMayWantMemory move.Passes = ⊥
+MoveMayWantMemory move.Extends = ⊥
+MoveMayWantMemory m = Unit {0}
+
+-- there is no room for one more than these, or no memory for it
+abbrev pub WantsRoom : ℕ → ℕ → Reason → Type 0
+WantsRoom limit count r = ((r ≡ reason.TooLarge) × (limit ≤ count)) ⊎ (r ≡ reason.OutOfMemory)
+
+-- these would be too many, or there is no memory for them
+abbrev pub WantsMemo : ℕ → List (ℕ × Known) → Reason → Type 0
+WantsMemo limit cells r = ((r ≡ reason.TooLarge) × (limit < length cells)) ⊎ (r ≡ reason.OutOfMemory)
+
+-- it leaves more than the limits
+abbrev pub IsPast : Bounds → Result Knowledge Breach → Type 0
+IsPast l x = (k : Knowledge) × (x ≡ Ok k) × ((l.stack < length k.entries) ⊎ (l.memo < length k.memo))
+
+-- the reason of a breach, or of want of room
+abbrev pub IsFault : Bounds → Result Knowledge Breach → Reason → Type 0
+IsFault l x r = IsLack x r ⊎ (((r ≡ reason.TooLarge) × IsPast l x) ⊎ (r ≡ reason.OutOfMemory))
+
+-- the same, where only some moves may want memory
+abbrev pub IsFaultOf : Move → Bounds → Result Knowledge Breach → Reason → Type 0
+IsFaultOf m l x r = IsLack x r ⊎ (((r ≡ reason.TooLarge) × IsPast l x) ⊎ (MoveMayWantMemory m × (r ≡ reason.OutOfMemory)))
 
 -- what the policy makes of it
 abbrev pub ruled : Policy → Asked → Result (Option Asked) Refusal
@@ -50,6 +87,23 @@ MayGive gives = Unit {0}
 -- an operation may want memory for its import or for what it gives
 abbrev pub MayOperate : Names → Gives → Type 0
 MayOperate names gives = MayName names ⊎ MayGive gives
+
+-- an operation that takes one or more
+abbrev pub HasFirst : Takes → Type 0
+HasFirst (Objects k) = 0 < k
+HasFirst (Slice rule) = ⊥
+HasFirst (SliceAndReceiver rule) = Unit {0}
+
+-- what is left is there
+abbrev pub WellGiven : Gives → Takes → Type 0
+WellGiven (Leaves w) takes = HasFirst takes
+WellGiven gives takes = Unit {0}
+
+-- an operation that leaves its receiver takes one
+abbrev pub IsWell : Effect → Type 0
+IsWell (Operates takes names gives) = WellGiven gives takes
+IsWell (Moves m) = Unit {0}
+IsWell Stops = Unit {0}
 
 -- it goes on: this is known after it, and these imports are listed
 abbrev pub GoesTo : Effect → Result Progress Refusal → Knowledge → List Asked → List Asked → Moved → Type 0

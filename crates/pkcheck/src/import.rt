@@ -1,13 +1,14 @@
 //! What an import asks for.
 ghost use Rattle.std.specs.Prelude.{◌≡◌, ◌⊎◌, option_map, IfOk, IfErr, None, Some};
-ghost use Rattle.pkcheck.specs.Slots.{known, values_of, StartsWell, WellNamed};
+ghost use Rattle.pkcheck.specs.Slots.{known};
 ghost use Rattle.pkcheck.specs.Knowledge.{AskedPair, asked_of, operands_asked, NotText};
 ghost use Rattle.pkops.specs.Inst.{instruction_of};
 ghost use Rattle.pkcheck.specs.Import.{asked_shown};
 ghost use Rattle.pkcheck.specs.Denials.{MayName};
 
-use crate::effects::{Names, Takes};
-use crate::entry::{Slot, Value};
+use crate::effects::Names;
+use crate::stack::Operands;
+use crate::value::Value;
 use pkops::Inst;
 use pkread::Reason;
 use std::alloc::Global;
@@ -43,7 +44,7 @@ pub fn pair_of(alloc: Global, home: &str, name: &str) -> Result<Asked, Reason>
     }
 }
 
-/// The pair that of_two operands name.
+/// The pair that two operands name.
 pub fn texts_asked(alloc: Global, home: &Value, name: &Value) -> Result<Asked, Reason>
     ensures ok { IfOk result (λ a. operands_asked None (known home.now) (known name.now) ≡ Ok (Some (asked_shown a))) }
     ensures err { IfErr result (λ r. ((operands_asked None (known home.now) (known name.now) ≡ Err NotText) × (r ≡ Reason.NotText)) ⊎ (r ≡ Reason.OutOfMemory)) }
@@ -65,15 +66,12 @@ pub fn texts_asked(alloc: Global, home: &Value, name: &Value) -> Result<Asked, R
 /// What the operation asks for.
 pub fn asked_by(
     alloc: Global,
-    takes: Takes,
     names: Names,
     inst: &Inst,
-    operands: &[Slot],
+    operands: &Operands<'_>,
 ) -> Result<Option<Asked>, Reason>
-    requires well { StartsWell takes operands.now }
-    requires named { WellNamed names takes }
-    ensures ok { IfOk result (λ a. asked_of None names (instruction_of inst.now) (values_of operands.now) ≡ Ok (option_map asked_shown a)) }
-    ensures err { IfErr result (λ r. ((asked_of None names (instruction_of inst.now) (values_of operands.now) ≡ Err NotText) × (r ≡ Reason.NotText)) ⊎ (MayName names × (r ≡ Reason.OutOfMemory))) }
+    ensures ok { IfOk result (λ a. asked_of None names (instruction_of inst.now) operands.now ≡ Ok (option_map asked_shown a)) }
+    ensures err { IfErr result (λ r. ((asked_of None names (instruction_of inst.now) operands.now ≡ Err NotText) × (r ≡ Reason.NotText)) ⊎ (MayName names × (r ≡ Reason.OutOfMemory))) }
 {
     match names {
         Names::NoName => Ok(None),
@@ -87,13 +85,7 @@ pub fn asked_by(
             }
         }
         Names::OfOperands => {
-            if operands.len() < 2 {
-                return Ok(None);
-            }
-            let Slot::Object(home) = &operands[0] else {
-                return Ok(None);
-            };
-            let Slot::Object(name) = &operands[1] else {
+            let Some((home, name)) = operands.pair() else {
                 return Ok(None);
             };
             match texts_asked(alloc, home, name) {

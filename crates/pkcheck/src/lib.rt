@@ -4,18 +4,18 @@
 mod allow;
 mod checking;
 mod effects;
-mod entry;
 mod import;
 mod imports;
 mod judging;
 mod machine;
-mod marks;
 mod memo;
 mod moves;
 mod operate;
 mod policy;
 mod stack;
+mod text;
 mod turn;
+mod value;
 
 pub use allow::{Allow, AllowError, Where};
 pub use checking::{No, Yes, check};

@@ -11,19 +11,15 @@ ghost use Rattle.pkcheck.specs.Faults.{AsksForTwo, HasNoFault};
 ghost use Rattle.pkcheck.specs.Import.{asked_shown, policy_of, pair_shown};
 ghost use Rattle.pkcheck.specs.Memory.{WantsNoMemory};
 ghost use Rattle.pkcheck.specs.View.{fresh, stopped_by, GoesOn, Refuses, LacksMemory, CoveredOn, NamesFault};
-ghost use Rattle.pkcheck.specs.Slots.{shown};
 
-use crate::effects::effect_by;
-use crate::entry::{Slot, Value};
 use crate::import::Asked;
-use crate::marks::marks_after;
+use crate::memo::Memo;
 use crate::policy::Policy;
-use crate::stack::has_mark_on_top;
+use crate::stack::Stack;
 use crate::turn::{Moved, advance};
 use pkops::{Inst, Limits};
 use pkread::Reason;
 use std::alloc::Global;
-use std::collections::BTreeMap;
 use std::marker::Model;
 
 /// A machine that goes over the instructions of a pickle and knows what is true in every run of it, whatever the
@@ -32,9 +28,8 @@ use std::marker::Model;
 #[derive(Drop)]
 pub struct Machine {
     alloc: Global,
-    stack: Vec<Slot>,
-    marks: usize,
-    memo: BTreeMap<u64, Value>,
+    stack: Stack,
+    memo: Memo,
     imports: Vec<Asked>,
     limits: Limits,
     refused: Option<Reason>,
@@ -47,15 +42,12 @@ impl Model for Machine {
 
     ghost Value = { View };
 
-    ghost use Rattle.std.specs.Prelude.{◌≤◌, ◌≡◌, [], None, length, map, option_map};
-    ghost use Rattle.std.specs.BTreeMap.{btree_map_len};
-    ghost use Rattle.pkcheck.specs.Shape.{marks_of};
-    ghost use Rattle.pkcheck.specs.Slots.{shape_of, shown};
+    ghost use Rattle.std.specs.Prelude.{◌≤◌, ◌≡◌, None, length, map, option_map};
     ghost use Rattle.pkcheck.specs.Import.{asked_shown};
 
-    ghost view = { λ m. record { knowledge = shape_of m.stack.items m.memo.entries; limits = m.limits; imports = map asked_shown m.imports.items; off = option_map asked_shown m.off; refused = m.refused; stopped = m.stopped } };
+    ghost view = { λ m. record { knowledge = record { entries = m.stack; memo = m.memo }; limits = m.limits; imports = map asked_shown m.imports.items; off = option_map asked_shown m.off; refused = m.refused; stopped = m.stopped } };
 
-    ghost invariant = { λ m. (m.marks ≡ marks_of (shown m.stack.items [])) × (m.refused ≡ None → (length m.stack.items ≤ m.limits.stack) × (btree_map_len m.memo ≤ m.limits.memo)) };
+    ghost invariant = { λ m. m.refused ≡ None → (length m.stack ≤ m.limits.stack) × (length m.memo ≤ m.limits.memo) };
 }
 
 impl Machine {
@@ -66,9 +58,8 @@ impl Machine {
     {
         Machine {
             alloc,
-            stack: Vec::new(alloc),
-            marks: 0,
-            memo: BTreeMap::new(alloc),
+            stack: Stack::new(alloc),
+            memo: Memo::new(alloc),
             imports: Vec::new(alloc),
             limits: *limits,
             refused: None,
@@ -105,7 +96,6 @@ impl Machine {
         if let Some(reason) = self.refused {
             return Err(reason);
         }
-        let is_mark = has_mark_on_top(&self.stack);
         match advance(
             self.alloc,
             &mut self.stack,
@@ -116,8 +106,6 @@ impl Machine {
             policy,
         ) {
             Ok(moved) => {
-                let _entries = self.stack.len();
-                self.marks = marks_after(effect_by(inst), is_mark, self.marks);
                 self.stopped = is_stopped(moved);
                 Ok(moved)
             }
@@ -135,7 +123,7 @@ impl Machine {
         ensures known { result ≡ marks_of self.now.knowledge.entries }
         ensures covered { (s : State) → Covers self.now.knowledge s → result ≡ marks_of s.shape.entries }
     {
-        self.marks
+        self.stack.marks()
     }
 
     /// The imports so far, in order.

@@ -1,57 +1,61 @@
 //! The moves, which look at no object.
-ghost use Rattle.pkcheck.specs.Shape.{items, top, moved};
-ghost use Rattle.pkcheck.specs.Slots.{shape_of, IsFault, IsFaultOf};
-ghost use Rattle.std.specs.BTreeMap.{btree_map_len};
-ghost use Rattle.std.specs.Prelude.{◌≡◌, ℕ, List, ◌<◌, ◌≤◌, length, IfErr, OnOk};
+ghost use Rattle.pkcheck.specs.Denials.{IsFault, IsFaultOf, IsLack};
+ghost use Rattle.pkcheck.specs.Knowledge.{Known};
+ghost use Rattle.pkcheck.specs.Shape.{moved, top};
+ghost use Rattle.pkcheck.specs.Slots.{known};
+ghost use Rattle.std.specs.Prelude.{◌≡◌, ◌⊎◌, ◌≤◌, ℕ, List, drop, length, IfOk, IfErr, OnOk};
 
 use crate::effects::Move;
-use crate::entry::{Slot, Value, copied};
-use crate::memo::store;
-use crate::stack::{pop, pop_mark, push, top_copy};
+use crate::memo::Memo;
+use crate::stack::Stack;
+use crate::value::{Value, copied};
 use pkops::Limits;
 use pkread::Reason;
-use std::collections::BTreeMap;
+
+/// What is known of the top, once more.
+pub fn top_copy(stack: &Stack) -> Result<Value, Reason>
+    ensures ok { IfOk result (λ v. top stack.now ≡ Ok (known v, drop 1 stack.now)) }
+    ensures err { IfErr result (λ r. IsLack (top stack.now) r ⊎ (r ≡ Reason.OutOfMemory)) }
+{
+    match stack.top() {
+        Err(reason) => Err(reason),
+        Ok(value) => match copied(value) {
+            Ok(copy) => Ok(copy),
+            Err(_) => Err(Reason::OutOfMemory),
+        },
+    }
+}
 
 /// Pushes the top once more.
-pub fn duplicate(stack: &mut Vec<Slot>, limits: Limits) -> Result<(), Reason>
-    ensures ok { (m : List (ℕ × Value)) → OnOk result (moved Move.Duplicates 0 (shape_of stack.old.items m) ≡ Ok (shape_of stack.new.items m)) }
-    ensures room { OnOk result (length stack.new.items ≤ limits.stack) }
-    ensures err { (m : List (ℕ × Value)) → IfErr result (λ r. (stack.new.items ≡ stack.old.items) × IsFault limits (moved Move.Duplicates 0 (shape_of stack.old.items m)) r) }
+pub fn duplicate(stack: &mut Stack, limits: Limits) -> Result<(), Reason>
+    ensures ok { (m : List (ℕ × Known)) → OnOk result (moved Move.Duplicates 0 (record { entries = stack.old; memo = m }) ≡ Ok (record { entries = stack.new; memo = m })) }
+    ensures room { OnOk result (length stack.new ≤ limits.stack) }
+    ensures err { (m : List (ℕ × Known)) → IfErr result (λ r. (stack.new ≡ stack.old) × IsFault limits (moved Move.Duplicates 0 (record { entries = stack.old; memo = m })) r) }
 {
     let copy = top_copy(stack)?;
-    push(stack, limits, Slot::Object(copy))
+    stack.push(limits, copy)
 }
 
 /// Stores the top under a number.
-pub fn remember(
-    stack: &[Slot],
-    memo: &mut BTreeMap<u64, Value>,
-    limits: Limits,
-    number: u64,
-) -> Result<(), Reason>
-    requires { btree_map_len memo.old ≤ limits.memo }
-    ensures ok { OnOk result (moved Move.Stores number (shape_of stack.now memo.old.entries) ≡ Ok (shape_of stack.now memo.new.entries)) }
-    ensures room { OnOk result (btree_map_len memo.new ≤ limits.memo) }
-    ensures err { IfErr result (λ r. (memo.new.entries ≡ memo.old.entries) × IsFault limits (moved Move.Stores number (shape_of stack.now memo.old.entries)) r) }
+pub fn remember(stack: &Stack, memo: &mut Memo, limits: Limits, number: u64) -> Result<(), Reason>
+    requires { length memo.old ≤ limits.memo }
+    ensures ok { OnOk result (moved Move.Stores number (record { entries = stack.now; memo = memo.old }) ≡ Ok (record { entries = stack.now; memo = memo.new })) }
+    ensures room { OnOk result (length memo.new ≤ limits.memo) }
+    ensures err { IfErr result (λ r. (memo.new ≡ memo.old) × IsFault limits (moved Move.Stores number (record { entries = stack.now; memo = memo.old })) r) }
 {
     let copy = top_copy(stack)?;
-    store(memo, limits, number, copy)
+    memo.store(limits, number, copy)
 }
 
 /// Pushes what was stored under a number.
-pub fn recall(
-    stack: &mut Vec<Slot>,
-    memo: &BTreeMap<u64, Value>,
-    limits: Limits,
-    number: u32,
-) -> Result<(), Reason>
-    ensures ok { OnOk result (moved Move.Fetches number (shape_of stack.old.items memo.now.entries) ≡ Ok (shape_of stack.new.items memo.now.entries)) }
-    ensures room { OnOk result (length stack.new.items ≤ limits.stack) }
-    ensures err { IfErr result (λ r. (stack.new.items ≡ stack.old.items) × IsFault limits (moved Move.Fetches number (shape_of stack.old.items memo.now.entries)) r) }
+pub fn recall(stack: &mut Stack, memo: &Memo, limits: Limits, number: u32) -> Result<(), Reason>
+    ensures ok { OnOk result (moved Move.Fetches number (record { entries = stack.old; memo = memo.now }) ≡ Ok (record { entries = stack.new; memo = memo.now })) }
+    ensures room { OnOk result (length stack.new ≤ limits.stack) }
+    ensures err { IfErr result (λ r. (stack.new ≡ stack.old) × IsFault limits (moved Move.Fetches number (record { entries = stack.old; memo = memo.now })) r) }
 {
-    match memo.get(&(number as u64)) {
+    match memo.get(number as u64) {
         Some(value) => match copied(value) {
-            Ok(copy) => push(stack, limits, Slot::Object(copy)),
+            Ok(copy) => stack.push(limits, copy),
             Err(_) => Err(Reason::OutOfMemory),
         },
         None => Err(Reason::MissingMemo(number)),
@@ -60,22 +64,22 @@ pub fn recall(
 
 /// Does what the move does.
 pub fn apply(
-    stack: &mut Vec<Slot>,
-    memo: &mut BTreeMap<u64, Value>,
+    stack: &mut Stack,
+    memo: &mut Memo,
     limits: Limits,
     what: Move,
     number: u32,
 ) -> Result<(), Reason>
-    requires stack { length stack.old.items ≤ limits.stack }
-    requires memo { btree_map_len memo.old ≤ limits.memo }
-    ensures ok { OnOk result (moved what number (shape_of stack.old.items memo.old.entries) ≡ Ok (shape_of stack.new.items memo.new.entries)) }
-    ensures room { OnOk result ((length stack.new.items ≤ limits.stack) × (btree_map_len memo.new ≤ limits.memo)) }
-    ensures err { IfErr result (λ r. (stack.new.items ≡ stack.old.items) × (memo.new.entries ≡ memo.old.entries) × IsFaultOf what limits (moved what number (shape_of stack.old.items memo.old.entries)) r) }
+    requires stack { length stack.old ≤ limits.stack }
+    requires memo { length memo.old ≤ limits.memo }
+    ensures ok { OnOk result (moved what number (record { entries = stack.old; memo = memo.old }) ≡ Ok (record { entries = stack.new; memo = memo.new })) }
+    ensures room { OnOk result ((length stack.new ≤ limits.stack) × (length memo.new ≤ limits.memo)) }
+    ensures err { IfErr result (λ r. (stack.new ≡ stack.old) × (memo.new ≡ memo.old) × IsFaultOf what limits (moved what number (record { entries = stack.old; memo = memo.old })) r) }
 {
     match what {
-        Move::PushesMark => push(stack, limits, Slot::Mark),
-        Move::Pops => pop(stack),
-        Move::PopsMark => pop_mark(stack),
+        Move::PushesMark => stack.push_mark(limits),
+        Move::Pops => stack.pop(),
+        Move::PopsMark => stack.pop_mark(),
         Move::Duplicates => duplicate(stack, limits),
         Move::Stores => remember(stack, memo, limits, number as u64),
         Move::StoresNext => {

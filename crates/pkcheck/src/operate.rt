@@ -1,19 +1,21 @@
 //! The operations, which take objects and give one.
-ghost use Rattle.std.specs.Prelude.{◌≡◌, ◌⊎◌, ◌<◌, ◌≤◌, ℕ, List, [], ◌∷◌, ◌++◌, length, take, drop, map, option_map, IfOk, IfErr, OnOk, OnErr, IsSome, is_some, None, Some};
+ghost use Rattle.std.specs.Prelude.{◌≡◌, ◌⊎◌, ◌≤◌, ◌+◌, ℕ, List, [], ◌∷◌, ◌++◌, length, map, option_map, IfOk, IfErr, OnOk, OnErr, IsSome, is_some, None, Some};
 ghost use Rattle.std.specs.Option.{option_to_list};
-ghost use Rattle.pkcheck.specs.Slots.{known, shown, values_of, FirstObject, StartsWell, WellNamed, WellGiven, WantsRoom};
+ghost use Rattle.pkcheck.specs.Places.{above, below};
+ghost use Rattle.pkcheck.specs.Slots.{known};
 ghost use Rattle.pkops.specs.Inst.{instruction_of};
 ghost use Rattle.pkcheck.specs.Runs.{Plain, int_or_bool};
 ghost use Rattle.pkcheck.specs.Import.{asked_shown, policy_of};
 ghost use Rattle.pkcheck.specs.Knowledge.{Known, suits, wrong_first, wrong_receiver, known_given, learn, within};
-ghost use Rattle.pkcheck.specs.Shape.{and_then, put};
-ghost use Rattle.pkcheck.specs.Denials.{judged, ruled, IsDenied, IsForMemory, MayName, MayGive, MayOperate, Passes};
+ghost use Rattle.pkcheck.specs.Shape.{and_then, front, put};
+ghost use Rattle.pkcheck.specs.Denials.{judged, ruled, IsDenied, IsForMemory, MayName, MayGive, MayOperate, Passes, WantsRoom, WellGiven};
 
 use crate::effects::{Class, Effect, Gives, Names, Takes, Wanted};
-use crate::entry::{Slot, Value};
 use crate::import::{Asked, asked_by};
 use crate::policy::Policy;
-use crate::stack::{place_of, settle};
+use crate::stack::{Operands, Stack};
+use crate::text::Text;
+use crate::value::Value;
 use pkops::{Inst, Limits, text_of};
 use pkread::Reason;
 use std::alloc::Global;
@@ -53,17 +55,15 @@ pub fn is_wrong(wanted: Wanted, value: &Value) -> bool
 }
 
 /// Whether the receiver is known to be of a wrong class.
-pub fn receiver_fault(takes: Takes, gives: Gives, operands: &[Slot]) -> bool
-    requires well { StartsWell takes operands.now }
-    requires given { WellGiven gives takes }
-    ensures { result ≡ wrong_receiver gives (values_of operands.now) }
+pub fn receiver_fault(gives: Gives, operands: &Operands<'_>) -> bool
+    ensures { result ≡ wrong_receiver gives operands.now }
 {
     let Gives::Leaves(wanted) = gives else {
         return false;
     };
-    match operands.first() {
-        Some(Slot::Object(value)) => is_wrong(wanted, value),
-        _ => false,
+    match operands.get(0) {
+        Some(value) => is_wrong(wanted, value),
+        None => false,
     }
 }
 
@@ -96,26 +96,22 @@ pub fn permit(policy: &Policy, asked: Asked) -> Result<Asked, Denial>
 /// What the receiver and the names say.
 pub fn judge(
     alloc: Global,
-    takes: Takes,
     names: Names,
     gives: Gives,
     inst: &Inst,
     policy: &Policy,
-    operands: &[Slot],
+    operands: &Operands<'_>,
 ) -> Result<Option<Asked>, Denial>
-    requires well { StartsWell takes operands.now }
-    requires named { WellNamed names takes }
-    requires given { WellGiven gives takes }
-    ensures ok { IfOk result (λ a. judged (policy_of policy.now) names gives (instruction_of inst.now) (values_of operands.now) ≡ Ok (option_map asked_shown a)) }
-    ensures err { IfErr result (λ d. IsDenied (judged (policy_of policy.now) names gives (instruction_of inst.now) (values_of operands.now)) d ⊎ (MayName names × IsForMemory d)) }
+    ensures ok { IfOk result (λ a. judged (policy_of policy.now) names gives (instruction_of inst.now) operands.now ≡ Ok (option_map asked_shown a)) }
+    ensures err { IfErr result (λ d. IsDenied (judged (policy_of policy.now) names gives (instruction_of inst.now) operands.now) d ⊎ (MayName names × IsForMemory d)) }
 {
-    if receiver_fault(takes, gives, operands) {
+    if receiver_fault(gives, operands) {
         return Err(Denial {
             reason: Reason::WrongClass,
             pair: None,
         });
     }
-    match asked_by(alloc, takes, names, inst, operands) {
+    match asked_by(alloc, names, inst, operands) {
         Err(reason) => Err(Denial { reason, pair: None }),
         Ok(None) => Ok(None),
         Ok(Some(asked)) => match permit(policy, asked) {
@@ -145,8 +141,8 @@ pub fn value_of(alloc: Global, gives: Gives, inst: &Inst) -> Result<Option<Value
         Gives::Makes(class) => Ok(Some(Value::Made(class))),
         Gives::MakesIntOrBool => Ok(Some(Value::Made(int_or_bool(inst)))),
         Gives::MakesText => match text_of(alloc, inst) {
-            Ok(Some(text)) => Ok(Some(Value::Text(text))),
-            Ok(None) => Ok(Some(Value::Text(String::new(alloc)))),
+            Ok(Some(text)) => Ok(Some(Value::Text(Text::from_string(text)))),
+            Ok(None) => Ok(Some(Value::Text(Text::new(alloc)))),
             Err(_) => Err(Reason::OutOfMemory),
         },
         Gives::MayMake(class) => Ok(Some(Value::Made(class))),
@@ -157,19 +153,20 @@ pub fn value_of(alloc: Global, gives: Gives, inst: &Inst) -> Result<Option<Value
 
 /// Puts what is given in the place of the operands, or leaves the first of them.
 pub fn give(
-    stack: &mut Vec<Slot>,
+    stack: &mut Stack,
     limits: Limits,
     place: usize,
     value: Option<Value>,
 ) -> Result<(), Reason>
-    requires at { place ≤ length stack.old.items }
-    requires within { length stack.old.items ≤ limits.stack }
-    requires first { value ≡ None → FirstObject (drop place stack.old.items) }
-    ensures ok { OnOk result ((shown stack.new.items [] ≡ put (option_map known value) (values_of (drop place stack.old.items)) ++ shown (take place stack.old.items) []) × (length stack.new.items ≤ limits.stack)) }
-    ensures err { IfErr result (λ r. (stack.new.items ≡ stack.old.items) × IsSome value × WantsRoom limits.stack place r) }
+    requires at { place ≤ length stack.old }
+    requires within { length stack.old ≤ limits.stack }
+    requires first { value ≡ None → below (place + 1) stack.old ≡ front (above place stack.old) ++ below place stack.old }
+    ensures ok { OnOk result (stack.new ≡ put (option_map known value) (above place stack.old) ++ below place stack.old) }
+    ensures room { OnOk result (length stack.new ≤ limits.stack) }
+    ensures err { IfErr result (λ r. (stack.new ≡ stack.old) × IsSome value × WantsRoom limits.stack place r) }
 {
     match value {
-        Some(known) => settle(stack, limits, place, Slot::Object(known)),
+        Some(value) => stack.replace(limits, place, value),
         None => {
             if place < stack.len() {
                 stack.truncate(place + 1);
@@ -196,7 +193,7 @@ pub fn list(imports: &mut Vec<Asked>, asked: Option<Asked>) -> Result<bool, Reas
 /// Does the operation.
 pub fn operate(
     alloc: Global,
-    stack: &mut Vec<Slot>,
+    stack: &mut Stack,
     imports: &mut Vec<Asked>,
     limits: Limits,
     takes: Takes,
@@ -205,19 +202,19 @@ pub fn operate(
     inst: &Inst,
     policy: &Policy,
 ) -> Result<bool, Denial>
-    requires within { length stack.old.items ≤ limits.stack }
-    requires named { WellNamed names takes }
+    requires within { length stack.old ≤ limits.stack }
     requires given { WellGiven gives takes }
-    ensures ok { (m : List (ℕ × Known)) → IfOk result (λ b. Passes (learn (policy_of policy.now) (Effect.Operates takes names gives) (instruction_of inst.now) (record { entries = shown stack.old.items []; memo = m })) (record { entries = shown stack.new.items []; memo = m }) (map asked_shown imports.old.items) (map asked_shown imports.new.items) b) }
-    ensures room { OnOk result (length stack.new.items ≤ limits.stack) }
-    ensures kept { OnErr result ((stack.new.items ≡ stack.old.items) × (imports.new.items ≡ imports.old.items)) }
-    ensures err { (m : List (ℕ × Known)) → IfErr result (λ d. IsDenied (and_then (learn (policy_of policy.now) (Effect.Operates takes names gives) (instruction_of inst.now) (record { entries = shown stack.old.items []; memo = m })) (within limits)) d ⊎ (MayOperate names gives × IsForMemory d)) }
+    ensures ok { (m : List (ℕ × Known)) → IfOk result (λ b. Passes (learn (policy_of policy.now) (Effect.Operates takes names gives) (instruction_of inst.now) (record { entries = stack.old; memo = m })) (record { entries = stack.new; memo = m }) (map asked_shown imports.old.items) (map asked_shown imports.new.items) b) }
+    ensures room { OnOk result (length stack.new ≤ limits.stack) }
+    ensures kept { OnErr result ((stack.new ≡ stack.old) × (imports.new.items ≡ imports.old.items)) }
+    ensures err { (m : List (ℕ × Known)) → IfErr result (λ d. IsDenied (and_then (learn (policy_of policy.now) (Effect.Operates takes names gives) (instruction_of inst.now) (record { entries = stack.old; memo = m })) (within limits)) d ⊎ (MayOperate names gives × IsForMemory d)) }
 {
-    let place = match place_of(stack, takes) {
+    let place = match stack.find(takes) {
         Ok(place) => place,
         Err(reason) => return Err(Denial { reason, pair: None }),
     };
-    let asked = match judge(alloc, takes, names, gives, inst, policy, &stack[place..]) {
+    let operands = stack.operands(place);
+    let asked = match judge(alloc, names, gives, inst, policy, &operands) {
         Ok(asked) => asked,
         Err(denial) => return Err(denial),
     };

@@ -1,44 +1,36 @@
-use Rattle.std.proofs.Common.{◌∙◌, arith, refl, sym, None, map}
+use Rattle.std.proofs.Common.{◌∙◌, refl, sym, None, map}
 use Rattle.pkcheck.specs.declared.effects.Effect.TheVariants.{Stops}
-use Rattle.pkcheck.specs.Slots.{remembered, shape_of}
 use Rattle.pkcheck.specs.Import.{policy_of, asked_shown}
 use Rattle.pkops.specs.Inst.{instruction_of}
-use Rattle.pkcheck.proofs.Limited.{length_shown, length_remembered}
 use Rattle.pkcheck.proofs.Going.{goes_by, denied_by, move_denied, move_passes, stop_denied, said_import, said_on}
 use Rattle.pkcheck.proofs.turn.advance.Goals as goal
 
 pub returns-then-is_import-clause-ok : goal.returns-then-is_import-clause-ok
 returns-then-is_import-clause-ok c =
-    let passes = c.in-Ok.ensures.ok (remembered c.args.memo.now.entries) in
-    let n = length_shown c.operate.new.stack.items in
-    let n' = length_remembered c.args.memo.now.entries in
-    goes_by (policy_of c.args.policy.now) c.args.limits (instruction_of c.args.inst.now) (shape_of c.args.stack.now.items c.args.memo.now.entries) _ (shape_of c.operate.new.stack.items c.args.memo.now.entries) passes.0 (map asked_shown c.args.imports.now.items) (map asked_shown c.operate.new.imports.items) _
-    (sym c.in-Operates.ensures.value) passes.1 (omega (arith, c.in-Ok.ensures.room)) (omega (arith, c.requires.memo)) passes.2 (said_import c.in-Operates.takes c.in-Operates.names c.in-Operates.gives passes.0 (sym c.if-is_import.true ∙ passes.3))
+    let passes = c.in-Ok.ensures.ok c.args.memo.now in
+    goes_by (policy_of c.args.policy.now) c.args.limits (instruction_of c.args.inst.now) (record { entries = c.args.stack.now; memo = c.args.memo.now }) _ (record { entries = c.operate.new.stack; memo = c.args.memo.now }) passes.0 (map asked_shown c.args.imports.now.items) (map asked_shown c.operate.new.imports.items) _
+    (sym c.in-Operates.ensures.value) passes.1 c.in-Ok.ensures.room c.requires.memo passes.2 (said_import c.in-Operates.takes c.in-Operates.names c.in-Operates.gives passes.0 (sym c.if-is_import.true ∙ passes.3))
 
 pub returns-else-is_import-clause-ok : goal.returns-else-is_import-clause-ok
 returns-else-is_import-clause-ok c =
-    let passes = c.in-Ok.ensures.ok (remembered c.args.memo.now.entries) in
-    let n = length_shown c.operate.new.stack.items in
-    let n' = length_remembered c.args.memo.now.entries in
-    goes_by (policy_of c.args.policy.now) c.args.limits (instruction_of c.args.inst.now) (shape_of c.args.stack.now.items c.args.memo.now.entries) _ (shape_of c.operate.new.stack.items c.args.memo.now.entries) passes.0 (map asked_shown c.args.imports.now.items) (map asked_shown c.operate.new.imports.items) _
-    (sym c.in-Operates.ensures.value) passes.1 (omega (arith, c.in-Ok.ensures.room)) (omega (arith, c.requires.memo)) passes.2 (said_on c.in-Operates.takes c.in-Operates.names c.in-Operates.gives passes.0 (sym c.if-is_import.false ∙ passes.3))
+    let passes = c.in-Ok.ensures.ok c.args.memo.now in
+    goes_by (policy_of c.args.policy.now) c.args.limits (instruction_of c.args.inst.now) (record { entries = c.args.stack.now; memo = c.args.memo.now }) _ (record { entries = c.operate.new.stack; memo = c.args.memo.now }) passes.0 (map asked_shown c.args.imports.now.items) (map asked_shown c.operate.new.imports.items) _
+    (sym c.in-Operates.ensures.value) passes.1 c.in-Ok.ensures.room c.requires.memo passes.2 (said_on c.in-Operates.takes c.in-Operates.names c.in-Operates.gives passes.0 (sym c.if-is_import.false ∙ passes.3))
 
 pub returns-in-Err-clause-err : goal.returns-in-Err-clause-err
-returns-in-Err-clause-err c = denied_by (policy_of c.args.policy.now) c.args.limits (instruction_of c.args.inst.now) (shape_of c.args.stack.now.items c.args.memo.now.entries) _ c.in-Err.denial (sym c.in-Operates.ensures.value) (c.in-Err.ensures.err (remembered c.args.memo.now.entries))
+returns-in-Err-clause-err c = denied_by (policy_of c.args.policy.now) c.args.limits (instruction_of c.args.inst.now) (record { entries = c.args.stack.now; memo = c.args.memo.now }) _ c.in-Err.denial (sym c.in-Operates.ensures.value) (c.in-Err.ensures.err c.args.memo.now)
 
 pub returns-in-Ok-apply-clause-ok : goal.returns-in-Ok-apply-clause-ok
 returns-in-Ok-apply-clause-ok c =
-    let n = length_shown c.apply.new.stack.items in
-    let n' = length_remembered c.apply.new.memo.entries in
-    goes_by (policy_of c.args.policy.now) c.args.limits (instruction_of c.args.inst.now) (shape_of c.args.stack.now.items c.args.memo.now.entries) _ (shape_of c.apply.new.stack.items c.apply.new.memo.entries) None (map asked_shown c.args.imports.now.items) (map asked_shown c.args.imports.now.items) _
-    (sym c.in-Moves.ensures.value) (move_passes (policy_of c.args.policy.now) c.args.limits (instruction_of c.args.inst.now) (shape_of c.args.stack.now.items c.args.memo.now.entries) c.in-Moves.what _ (rw c.memo_number.ensures at c.in-Ok-apply.ensures.ok)) (omega (arith, c.in-Ok-apply.ensures.room.0)) (omega (arith, c.in-Ok-apply.ensures.room.1)) refl refl
+    goes_by (policy_of c.args.policy.now) c.args.limits (instruction_of c.args.inst.now) (record { entries = c.args.stack.now; memo = c.args.memo.now }) _ (record { entries = c.apply.new.stack; memo = c.apply.new.memo }) None (map asked_shown c.args.imports.now.items) (map asked_shown c.args.imports.now.items) _
+    (sym c.in-Moves.ensures.value) (move_passes (policy_of c.args.policy.now) c.args.limits (instruction_of c.args.inst.now) (record { entries = c.args.stack.now; memo = c.args.memo.now }) c.in-Moves.what _ (rw c.memo_number.ensures at c.in-Ok-apply.ensures.ok)) c.in-Ok-apply.ensures.room.0 c.in-Ok-apply.ensures.room.1 refl refl
 
 pub returns-in-Err-apply-clause-err : goal.returns-in-Err-apply-clause-err
 returns-in-Err-apply-clause-err c =
-    denied_by (policy_of c.args.policy.now) c.args.limits (instruction_of c.args.inst.now) (shape_of c.args.stack.now.items c.args.memo.now.entries) _ (record { reason = c.in-Err-apply.reason; pair = None }) (sym c.in-Moves.ensures.value)
-    (move_denied (policy_of c.args.policy.now) c.args.limits (instruction_of c.args.inst.now) (shape_of c.args.stack.now.items c.args.memo.now.entries) c.in-Moves.what c.in-Err-apply.reason (rw c.memo_number.ensures at c.in-Err-apply.ensures.err.2))
+    denied_by (policy_of c.args.policy.now) c.args.limits (instruction_of c.args.inst.now) (record { entries = c.args.stack.now; memo = c.args.memo.now }) _ (record { reason = c.in-Err-apply.reason; pair = None }) (sym c.in-Moves.ensures.value)
+    (move_denied (policy_of c.args.policy.now) c.args.limits (instruction_of c.args.inst.now) (record { entries = c.args.stack.now; memo = c.args.memo.now }) c.in-Moves.what c.in-Err-apply.reason (rw c.memo_number.ensures at c.in-Err-apply.ensures.err.2))
 
 pub returns-in-Err-finish-clause-err : goal.returns-in-Err-finish-clause-err
 returns-in-Err-finish-clause-err c =
-    denied_by (policy_of c.args.policy.now) c.args.limits (instruction_of c.args.inst.now) (shape_of c.args.stack.now.items c.args.memo.now.entries) Stops (record { reason = c.in-Err-finish.reason; pair = None }) (sym c.in-Stops.ensures.value)
-    (stop_denied (policy_of c.args.policy.now) c.args.limits (instruction_of c.args.inst.now) (shape_of c.args.stack.now.items c.args.memo.now.entries) c.in-Err-finish.reason (c.in-Err-finish.ensures.err (remembered c.args.memo.now.entries)))
+    denied_by (policy_of c.args.policy.now) c.args.limits (instruction_of c.args.inst.now) (record { entries = c.args.stack.now; memo = c.args.memo.now }) Stops (record { reason = c.in-Err-finish.reason; pair = None }) (sym c.in-Stops.ensures.value)
+    (stop_denied (policy_of c.args.policy.now) c.args.limits (instruction_of c.args.inst.now) (record { entries = c.args.stack.now; memo = c.args.memo.now }) c.in-Err-finish.reason (c.in-Err-finish.ensures.err c.args.memo.now))

@@ -1,6 +1,0 @@
-use Rattle.std.proofs.Common.{◌≡◌, ◌≤◌, length, take}
-use Rattle.pkcheck.specs.Slots.{values_of}
-use Rattle.pkcheck.proofs.stack.count_objects.Given as goal
-
-abbrev pub invariant-loop-slot : goal.invariant-loop-slot
-invariant-loop-slot l = (l.count ≤ l.slot-index) × (l.count ≡ length (values_of (take l.slot-index l.slots)))
