@@ -21,5 +21,4 @@ pub mod Names
 pub mod Decided
 pub mod Good
 pub mod TextNamed
-pub mod Appending
 pub mod Rows

@@ -12,7 +12,7 @@ pub enum Fault {
 }
 
 /// Why no argument was read.
-#[derive(Clone, Copy, Debug)]
+#[derive(Clone, Copy)]
 pub enum Stop {
     /// The bytes end before the argument does.
     Short,

@@ -6,7 +6,7 @@ ghost use Rattle.pkops.specs.Spelling.{count_limit, layout_of, size_of};
 use crate::op::Kind;
 
 /// How the bytes of an argument lie.
-#[derive(Clone, Copy, Debug)]
+#[derive(Clone, Copy)]
 pub enum Layout {
     Nothing,
     U1,
@@ -24,7 +24,7 @@ pub enum Layout {
 }
 
 /// How many bytes a count has.
-#[derive(Clone, Copy, Debug)]
+#[derive(Clone, Copy)]
 pub enum Width {
     One,
     Four,

@@ -1,8 +1,9 @@
 //! Reading an argument from the front of bytes.
 
-ghost use Rattle.std.specs.Prelude.{◌≡◌, ◌≤◌, ◌<◌, ◌^◌, ◌==◌, position, IfOk};
-ghost use Rattle.pkops.specs.Spelling.{shown_arg};
-ghost use Rattle.pkops.specs.Reading.{Gives, bytes_at, number_at, line_at, payload_at, arg_at};
+ghost use Rattle.std.specs.Prelude.{◌≡◌, ◌⊎◌, ◌≤◌, ◌<◌, ◌^◌, ◌==◌, ℕ, List, position, IfOk, Ok};
+ghost use Rattle.std.specs.Int.{cast_signed, w32};
+ghost use Rattle.pkops.specs.Spelling.{Argument, Number, Signed, Float, Line, Pair, Counted, shown_arg};
+ghost use Rattle.pkops.specs.Reading.{Gives, pair_at, ◌>>=◌ as ◌and_then◌, bytes_at, number_at, line_at, payload_at, arg_at};
 
 use crate::arg::Arg;
 use crate::fault::{Fault, Stop};
@@ -71,6 +72,74 @@ fn payload<'a>(
     bytes(count as usize, rest)
 }
 
+/// A number without a sign as an argument, and the bytes after it.
+fn unsigned(width: usize, from: &[u8]) -> Result<(Arg<'_>, &[u8]), Stop>
+    requires { (width ≡ 1) ⊎ (width ≡ 2) ⊎ (width ≡ 4) ⊎ (width ≡ 8) }
+    ensures { Gives {Y = Argument × List ℕ} (λ x. (shown_arg x.0, x.1.now)) result
+        (number_at width from.now and_then λ n. Ok (Number width n.0, n.1)) }
+{
+    let (n, rest) = number(width, from)?;
+    let arg = match width {
+        1 => Arg::U1(n as u8),
+        2 => Arg::U2(n as u16),
+        4 => Arg::U4(n as u32),
+        _ => Arg::U8(n),
+    };
+    Ok((arg, rest))
+}
+
+/// A number of four bytes with a sign as an argument, and the bytes after it.
+fn signed(from: &[u8]) -> Result<(Arg<'_>, &[u8]), Stop>
+    ensures { Gives {Y = Argument × List ℕ} (λ x. (shown_arg x.0, x.1.now)) result
+        (number_at 4 from.now and_then λ n. Ok (Signed (cast_signed w32 n.0), n.1)) }
+{
+    let (n, rest) = number(4, from)?;
+    Ok((Arg::I4((n as u32).cast_signed()), rest))
+}
+
+/// The bytes of a float as an argument, and the bytes after them.
+fn float(from: &[u8]) -> Result<(Arg<'_>, &[u8]), Stop>
+    ensures { Gives {Y = Argument × List ℕ} (λ x. (shown_arg x.0, x.1.now)) result
+        (bytes_at 8 from.now and_then λ eight. Ok (Float eight.0, eight.1)) }
+{
+    let (eight, rest) = bytes(8, from)?;
+    Ok((Arg::F8(eight), rest))
+}
+
+/// A line as an argument, and the bytes after its end.
+fn text(most: usize, from: &[u8]) -> Result<(Arg<'_>, &[u8]), Stop>
+    ensures { Gives {Y = Argument × List ℕ} (λ x. (shown_arg x.0, x.1.now)) result
+        (line_at most from.now and_then λ text. Ok (Line text.0, text.1)) }
+{
+    let (text, rest) = line(most, from)?;
+    Ok((Arg::Line(text), rest))
+}
+
+/// Two lines as an argument, and the bytes after their ends.
+fn pair(most: usize, from: &[u8]) -> Result<(Arg<'_>, &[u8]), Stop>
+    ensures { Gives {Y = Argument × List ℕ} (λ x. (shown_arg x.0, x.1.now)) result
+        (pair_at most from.now and_then λ lines. Ok (Pair lines.0.0 lines.0.1, lines.1)) }
+{
+    let (first, rest) = line(most, from)?;
+    let (second, rest) = line(most, rest)?;
+    Ok((Arg::Pair(first, second), rest))
+}
+
+/// A payload as an argument, and the bytes after it.
+fn counted<'a>(
+    limit: u64,
+    width: Width,
+    signed: bool,
+    from: &'a [u8],
+) -> Result<(Arg<'a>, &'a [u8]), Stop>
+    ensures { Gives {Y = Argument × List ℕ} (λ x. (shown_arg x.0, x.1.now)) result
+        (payload_at limit width signed from.now and_then λ payload.
+        Ok (Counted payload.0, payload.1)) }
+{
+    let (text, rest) = payload(limit, width, signed, from)?;
+    Ok((Arg::Counted(text), rest))
+}
+
 /// An argument of the layout, and the bytes after it.
 #[tactic(auto, unfolding(crate::specs::Reading::arg_at))]
 pub fn argument<'a>(limit: u64, layout: Layout, from: &'a [u8]) -> Result<(Arg<'a>, &'a [u8]), Stop>
@@ -78,42 +147,14 @@ pub fn argument<'a>(limit: u64, layout: Layout, from: &'a [u8]) -> Result<(Arg<'
 {
     match layout {
         Layout::Nothing => Ok((Arg::None, from)),
-        Layout::U1 => {
-            let (n, rest) = number(1, from)?;
-            Ok((Arg::U1(n as u8), rest))
-        }
-        Layout::U2 => {
-            let (n, rest) = number(2, from)?;
-            Ok((Arg::U2(n as u16), rest))
-        }
-        Layout::U4 => {
-            let (n, rest) = number(4, from)?;
-            Ok((Arg::U4(n as u32), rest))
-        }
-        Layout::U8 => {
-            let (n, rest) = number(8, from)?;
-            Ok((Arg::U8(n), rest))
-        }
-        Layout::I4 => {
-            let (n, rest) = number(4, from)?;
-            Ok((Arg::I4((n as u32).cast_signed()), rest))
-        }
-        Layout::F8 => {
-            let (eight, rest) = bytes(8, from)?;
-            Ok((Arg::F8(eight), rest))
-        }
-        Layout::Line(most) => {
-            let (text, rest) = line(most, from)?;
-            Ok((Arg::Line(text), rest))
-        }
-        Layout::Pair(most) => {
-            let (first, rest) = line(most, from)?;
-            let (second, rest) = line(most, rest)?;
-            Ok((Arg::Pair(first, second), rest))
-        }
-        Layout::Counted(width, signed) => {
-            let (text, rest) = payload(limit, width, signed, from)?;
-            Ok((Arg::Counted(text), rest))
-        }
+        Layout::U1 => unsigned(1, from),
+        Layout::U2 => unsigned(2, from),
+        Layout::U4 => unsigned(4, from),
+        Layout::U8 => unsigned(8, from),
+        Layout::I4 => signed(from),
+        Layout::F8 => float(from),
+        Layout::Line(most) => text(most, from),
+        Layout::Pair(most) => pair(most, from),
+        Layout::Counted(width, is_signed) => counted(limit, width, is_signed, from),
     }
 }

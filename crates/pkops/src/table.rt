@@ -10,81 +10,11 @@ use crate::op::{Kind, Op, Row};
 pub fn row(op: Op) -> Row
     ensures { shown result ≡ row_of op }
 {
-    let (code, name, kind, proto) = match op {
-        Op::Int => (0x49, "INT", Kind::DecimalnlShort, 0),
-        Op::BinInt => (0x4a, "BININT", Kind::Int4, 1),
-        Op::BinInt1 => (0x4b, "BININT1", Kind::Uint1, 1),
-        Op::BinInt2 => (0x4d, "BININT2", Kind::Uint2, 1),
-        Op::Long => (0x4c, "LONG", Kind::DecimalnlLong, 0),
-        Op::Long1 => (0x8a, "LONG1", Kind::Long1, 2),
-        Op::Long4 => (0x8b, "LONG4", Kind::Long4, 2),
-        Op::String => (0x53, "STRING", Kind::Stringnl, 0),
-        Op::BinString => (0x54, "BINSTRING", Kind::String4, 1),
-        Op::ShortBinString => (0x55, "SHORT_BINSTRING", Kind::String1, 1),
-        Op::BinBytes => (0x42, "BINBYTES", Kind::Bytes4, 3),
-        Op::ShortBinBytes => (0x43, "SHORT_BINBYTES", Kind::Bytes1, 3),
-        Op::BinBytes8 => (0x8e, "BINBYTES8", Kind::Bytes8, 4),
-        Op::ByteArray8 => (0x96, "BYTEARRAY8", Kind::Bytearray8, 5),
-        Op::NextBuffer => (0x97, "NEXT_BUFFER", Kind::None, 5),
-        Op::ReadonlyBuffer => (0x98, "READONLY_BUFFER", Kind::None, 5),
-        Op::None => (0x4e, "NONE", Kind::None, 0),
-        Op::NewTrue => (0x88, "NEWTRUE", Kind::None, 2),
-        Op::NewFalse => (0x89, "NEWFALSE", Kind::None, 2),
-        Op::Unicode => (0x56, "UNICODE", Kind::Unicodestringnl, 0),
-        Op::ShortBinUnicode => (0x8c, "SHORT_BINUNICODE", Kind::Unicodestring1, 4),
-        Op::BinUnicode => (0x58, "BINUNICODE", Kind::Unicodestring4, 1),
-        Op::BinUnicode8 => (0x8d, "BINUNICODE8", Kind::Unicodestring8, 4),
-        Op::Float => (0x46, "FLOAT", Kind::Floatnl, 0),
-        Op::BinFloat => (0x47, "BINFLOAT", Kind::Float8, 1),
-        Op::EmptyList => (0x5d, "EMPTY_LIST", Kind::None, 1),
-        Op::Append => (0x61, "APPEND", Kind::None, 0),
-        Op::Appends => (0x65, "APPENDS", Kind::None, 1),
-        Op::List => (0x6c, "LIST", Kind::None, 0),
-        Op::EmptyTuple => (0x29, "EMPTY_TUPLE", Kind::None, 1),
-        Op::Tuple => (0x74, "TUPLE", Kind::None, 0),
-        Op::Tuple1 => (0x85, "TUPLE1", Kind::None, 2),
-        Op::Tuple2 => (0x86, "TUPLE2", Kind::None, 2),
-        Op::Tuple3 => (0x87, "TUPLE3", Kind::None, 2),
-        Op::EmptyDict => (0x7d, "EMPTY_DICT", Kind::None, 1),
-        Op::Dict => (0x64, "DICT", Kind::None, 0),
-        Op::SetItem => (0x73, "SETITEM", Kind::None, 0),
-        Op::SetItems => (0x75, "SETITEMS", Kind::None, 1),
-        Op::EmptySet => (0x8f, "EMPTY_SET", Kind::None, 4),
-        Op::AddItems => (0x90, "ADDITEMS", Kind::None, 4),
-        Op::FrozenSet => (0x91, "FROZENSET", Kind::None, 4),
-        Op::Pop => (0x30, "POP", Kind::None, 0),
-        Op::Dup => (0x32, "DUP", Kind::None, 0),
-        Op::Mark => (0x28, "MARK", Kind::None, 0),
-        Op::PopMark => (0x31, "POP_MARK", Kind::None, 1),
-        Op::Get => (0x67, "GET", Kind::DecimalnlShort, 0),
-        Op::BinGet => (0x68, "BINGET", Kind::Uint1, 1),
-        Op::LongBinGet => (0x6a, "LONG_BINGET", Kind::Uint4, 1),
-        Op::Put => (0x70, "PUT", Kind::DecimalnlShort, 0),
-        Op::BinPut => (0x71, "BINPUT", Kind::Uint1, 1),
-        Op::LongBinPut => (0x72, "LONG_BINPUT", Kind::Uint4, 1),
-        Op::Memoize => (0x94, "MEMOIZE", Kind::None, 4),
-        Op::Ext1 => (0x82, "EXT1", Kind::Uint1, 2),
-        Op::Ext2 => (0x83, "EXT2", Kind::Uint2, 2),
-        Op::Ext4 => (0x84, "EXT4", Kind::Int4, 2),
-        Op::Global => (0x63, "GLOBAL", Kind::StringnlNoescapePair, 0),
-        Op::StackGlobal => (0x93, "STACK_GLOBAL", Kind::None, 4),
-        Op::Reduce => (0x52, "REDUCE", Kind::None, 0),
-        Op::Build => (0x62, "BUILD", Kind::None, 0),
-        Op::Inst => (0x69, "INST", Kind::StringnlNoescapePair, 0),
-        Op::Obj => (0x6f, "OBJ", Kind::None, 1),
-        Op::NewObj => (0x81, "NEWOBJ", Kind::None, 2),
-        Op::NewObjEx => (0x92, "NEWOBJ_EX", Kind::None, 4),
-        Op::Proto => (0x80, "PROTO", Kind::Uint1, 2),
-        Op::Stop => (0x2e, "STOP", Kind::None, 0),
-        Op::Frame => (0x95, "FRAME", Kind::Uint8, 4),
-        Op::PersId => (0x50, "PERSID", Kind::StringnlNoescape, 0),
-        Op::BinPersid => (0x51, "BINPERSID", Kind::None, 1),
-    };
     Row {
-        code,
-        name,
-        kind,
-        proto,
+        code: code(op),
+        name: name(op),
+        kind: kind(op),
+        proto: least_protocol(op),
     }
 }
 
@@ -324,5 +254,133 @@ pub fn kind(op: Op) -> Kind
         Op::Frame => Kind::Uint8,
         Op::PersId => Kind::StringnlNoescape,
         Op::BinPersid => Kind::None,
+    }
+}
+
+/// The name in `pickletools`.
+fn name(op: Op) -> &'static str
+    ensures { result.now ≡ (row_of op).name }
+{
+    match op {
+        Op::Int => "INT",
+        Op::BinInt => "BININT",
+        Op::BinInt1 => "BININT1",
+        Op::BinInt2 => "BININT2",
+        Op::Long => "LONG",
+        Op::Long1 => "LONG1",
+        Op::Long4 => "LONG4",
+        Op::String => "STRING",
+        Op::BinString => "BINSTRING",
+        Op::ShortBinString => "SHORT_BINSTRING",
+        Op::BinBytes => "BINBYTES",
+        Op::ShortBinBytes => "SHORT_BINBYTES",
+        Op::BinBytes8 => "BINBYTES8",
+        Op::ByteArray8 => "BYTEARRAY8",
+        Op::NextBuffer => "NEXT_BUFFER",
+        Op::ReadonlyBuffer => "READONLY_BUFFER",
+        Op::None => "NONE",
+        Op::NewTrue => "NEWTRUE",
+        Op::NewFalse => "NEWFALSE",
+        Op::Unicode => "UNICODE",
+        Op::ShortBinUnicode => "SHORT_BINUNICODE",
+        Op::BinUnicode => "BINUNICODE",
+        Op::BinUnicode8 => "BINUNICODE8",
+        Op::Float => "FLOAT",
+        Op::BinFloat => "BINFLOAT",
+        Op::EmptyList => "EMPTY_LIST",
+        Op::Append => "APPEND",
+        Op::Appends => "APPENDS",
+        Op::List => "LIST",
+        Op::EmptyTuple => "EMPTY_TUPLE",
+        Op::Tuple => "TUPLE",
+        Op::Tuple1 => "TUPLE1",
+        Op::Tuple2 => "TUPLE2",
+        Op::Tuple3 => "TUPLE3",
+        Op::EmptyDict => "EMPTY_DICT",
+        Op::Dict => "DICT",
+        Op::SetItem => "SETITEM",
+        Op::SetItems => "SETITEMS",
+        Op::EmptySet => "EMPTY_SET",
+        Op::AddItems => "ADDITEMS",
+        Op::FrozenSet => "FROZENSET",
+        Op::Pop => "POP",
+        Op::Dup => "DUP",
+        Op::Mark => "MARK",
+        Op::PopMark => "POP_MARK",
+        Op::Get => "GET",
+        Op::BinGet => "BINGET",
+        Op::LongBinGet => "LONG_BINGET",
+        Op::Put => "PUT",
+        Op::BinPut => "BINPUT",
+        Op::LongBinPut => "LONG_BINPUT",
+        Op::Memoize => "MEMOIZE",
+        Op::Ext1 => "EXT1",
+        Op::Ext2 => "EXT2",
+        Op::Ext4 => "EXT4",
+        Op::Global => "GLOBAL",
+        Op::StackGlobal => "STACK_GLOBAL",
+        Op::Reduce => "REDUCE",
+        Op::Build => "BUILD",
+        Op::Inst => "INST",
+        Op::Obj => "OBJ",
+        Op::NewObj => "NEWOBJ",
+        Op::NewObjEx => "NEWOBJ_EX",
+        Op::Proto => "PROTO",
+        Op::Stop => "STOP",
+        Op::Frame => "FRAME",
+        Op::PersId => "PERSID",
+        Op::BinPersid => "BINPERSID",
+    }
+}
+
+/// The least protocol that has the opcode.
+fn least_protocol(op: Op) -> u8
+    ensures { result ≡ (row_of op).proto }
+{
+    match op {
+        Op::BinInt
+        | Op::BinInt1
+        | Op::BinInt2
+        | Op::BinString
+        | Op::ShortBinString
+        | Op::BinUnicode
+        | Op::BinFloat
+        | Op::EmptyList
+        | Op::Appends
+        | Op::EmptyTuple
+        | Op::EmptyDict
+        | Op::SetItems
+        | Op::PopMark
+        | Op::BinGet
+        | Op::LongBinGet
+        | Op::BinPut
+        | Op::LongBinPut
+        | Op::Obj
+        | Op::BinPersid => 1,
+        Op::Long1
+        | Op::Long4
+        | Op::NewTrue
+        | Op::NewFalse
+        | Op::Tuple1
+        | Op::Tuple2
+        | Op::Tuple3
+        | Op::Ext1
+        | Op::Ext2
+        | Op::Ext4
+        | Op::NewObj
+        | Op::Proto => 2,
+        Op::BinBytes | Op::ShortBinBytes => 3,
+        Op::BinBytes8
+        | Op::ShortBinUnicode
+        | Op::BinUnicode8
+        | Op::EmptySet
+        | Op::AddItems
+        | Op::FrozenSet
+        | Op::Memoize
+        | Op::StackGlobal
+        | Op::NewObjEx
+        | Op::Frame => 4,
+        Op::ByteArray8 | Op::NextBuffer | Op::ReadonlyBuffer => 5,
+        _ => 0,
     }
 }

@@ -6,9 +6,9 @@ ghost use Rattle.pkops.specs.Inst.{instruction_of};
 ghost use Rattle.pkops.specs.Text.{NamesText, text_bytes};
 
 use crate::arg::Arg;
+use crate::contents::Rule;
 use crate::contents::escapes::read_text;
 use crate::inst::Inst;
-use crate::op::Op;
 use std::alloc::{AllocError, Global};
 
 /// The text of UNICODE, SHORT_BINUNICODE, BINUNICODE and BINUNICODE8; `None` for all others.
@@ -27,14 +27,12 @@ fn decoded(alloc: Global, inst: &Inst<'_>) -> Result<Option<String>, AllocError>
     ensures { IfOk result (λ text.
         option_map string_bytes text ≡ text_bytes (instruction_of inst.now)) }
 {
-    match (inst.op(), inst.arg()) {
-        (Op::Unicode, Arg::Line(line)) => read_text(alloc, line),
-        (Op::ShortBinUnicode | Op::BinUnicode | Op::BinUnicode8, Arg::Counted(payload)) => {
-            match str::from_utf8(payload) {
-                Ok(text) => Ok(Some(text.to_string(alloc)?)),
-                Err(_) => unreachable!(),
-            }
-        }
+    match (Rule::of(inst.op()), inst.arg()) {
+        (Rule::Escapes, Arg::Line(line)) => read_text(alloc, line),
+        (Rule::Utf8, Arg::Counted(payload)) => match str::from_utf8(payload) {
+            Ok(text) => Ok(Some(text.to_string(alloc)?)),
+            Err(_) => unreachable!(),
+        },
         _ => Ok(None),
     }
 }

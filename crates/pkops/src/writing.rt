@@ -1,16 +1,15 @@
 //! Instructions as bytes: to a writer, or one after the other into memory.
 
-ghost use Rattle.std.specs.Prelude.{◌≡◌, ◌++◌, ◌∷◌, ◌<◌, ◌^◌, [], OnOk, IfOk};
-ghost use Rattle.std.specs.Int.{cast_unsigned, w32};
+ghost use Rattle.std.specs.Prelude.{◌≡◌, ◌++◌, ◌∷◌, [], OnOk, IfOk};
 ghost use Rattle.std.specs.List.{flat_map};
 ghost use Rattle.std.specs.Io.KnownBytes.{Appends};
 ghost use Rattle.pkops.specs.Inst.{instruction_of};
-ghost use Rattle.pkops.specs.Spelling.{spelling, size_of};
-ghost use Rattle.byteorder.specs.Endian.{little_bytes};
+ghost use Rattle.pkops.specs.Spelling.{Counted, Suits, laid, layout_at, shown_arg, spelling};
 
 use crate::arg::Arg;
 use crate::inst::Inst;
-use crate::layout::{Layout, Width};
+use crate::layout::Layout;
+use crate::op::Op;
 use crate::table::{code, kind};
 use byteorder::{LittleEndian, WriteBytesExt};
 use std::alloc::{AllocError, Global};
@@ -26,17 +25,47 @@ fn push_line(out: &mut Vec<u8>, text: &[u8]) -> Result<(), AllocError>
     Ok(())
 }
 
-/// Adds a count, the lowest byte first.
-fn push_count(out: &mut Vec<u8>, width: Width, count: u64) -> Result<(), AllocError>
-    requires { count < 256 ^ size_of width }
-    ensures { OnOk result (out.new.items ≡ out.old.items ++ little_bytes (size_of width) count) }
+/// Adds two lines and their ends.
+fn push_pair(out: &mut Vec<u8>, first: &[u8], second: &[u8]) -> Result<(), AllocError>
+    ensures { OnOk result
+        (out.new.items ≡ out.old.items ++ ((first.now ++ 10 ∷ []) ++ (second.now ++ 10 ∷ []))) }
 {
-    match width {
-        Width::One => out.push(count as u8)?,
-        Width::Four => out.extend_from_slice(&(count as u32).to_le_bytes())?,
-        Width::Eight => out.extend_from_slice(&count.to_le_bytes())?,
+    push_line(out, first)?;
+    push_line(out, second)
+}
+
+/// Adds the payload of an opcode behind its count, whose lowest byte is the first.
+fn push_counted(out: &mut Vec<u8>, op: Op, payload: &[u8]) -> Result<(), AllocError>
+    requires { Suits (layout_at op) (Counted payload.now) }
+    ensures { OnOk result
+        (out.new.items ≡ out.old.items ++ laid (layout_at op) (Counted payload.now)) }
+{
+    let Layout::Counted(width, _) = Layout::of(kind(op)) else {
+        unreachable!()
+    };
+    let count = (payload.len() as u64).to_le_bytes();
+    out.extend_from_slice(&count[..width.size()])?;
+    out.extend_from_slice(payload)
+}
+
+/// Adds the bytes of an argument of an opcode.
+fn push_argument(out: &mut Vec<u8>, op: Op, arg: Arg<'_>) -> Result<(), AllocError>
+    requires { Suits (layout_at op) (shown_arg arg) }
+    ensures { OnOk result
+        (out.new.items ≡ out.old.items ++ laid (layout_at op) (shown_arg arg.entry)) }
+{
+    match arg {
+        Arg::None => Ok(()),
+        Arg::U1(n) => Ok(out.push(n)?),
+        Arg::U2(n) => out.extend_from_slice(&n.to_le_bytes()),
+        Arg::I4(n) => out.extend_from_slice(&n.to_le_bytes()),
+        Arg::U4(n) => out.extend_from_slice(&n.to_le_bytes()),
+        Arg::U8(n) => out.extend_from_slice(&n.to_le_bytes()),
+        Arg::F8(bytes) => out.extend_from_slice(bytes),
+        Arg::Line(text) => push_line(out, text),
+        Arg::Pair(first, second) => push_pair(out, first, second),
+        Arg::Counted(payload) => push_counted(out, op, payload),
     }
-    Ok(())
 }
 
 /// Adds the spelling of an instruction.
@@ -45,28 +74,7 @@ fn push_inst(out: &mut Vec<u8>, inst: &Inst<'_>) -> Result<(), AllocError>
 {
     let op = inst.op();
     out.push(code(op))?;
-    match inst.arg() {
-        Arg::None => {}
-        Arg::U1(n) => out.push(n)?,
-        Arg::U2(n) => out.extend_from_slice(&n.to_le_bytes())?,
-        Arg::I4(n) => out.extend_from_slice(&n.to_le_bytes())?,
-        Arg::U4(n) => out.extend_from_slice(&n.to_le_bytes())?,
-        Arg::U8(n) => out.extend_from_slice(&n.to_le_bytes())?,
-        Arg::F8(bytes) => out.extend_from_slice(bytes)?,
-        Arg::Line(text) => push_line(out, text)?,
-        Arg::Pair(first, second) => {
-            push_line(out, first)?;
-            push_line(out, second)?;
-        }
-        Arg::Counted(payload) => {
-            let Layout::Counted(width, _) = Layout::of(kind(op)) else {
-                unreachable!()
-            };
-            push_count(out, width, payload.len() as u64)?;
-            out.extend_from_slice(payload)?;
-        }
-    }
-    Ok(())
+    push_argument(out, op, inst.arg())
 }
 
 /// The spellings of instructions, one after the other. It errs only where memory is lacking.
@@ -89,12 +97,46 @@ fn write_line<W: Write>(text: &[u8], to: &mut W) -> Result<(), io::Error>
     to.write_all(b"\n")
 }
 
-/// Writes a number of four bytes with a sign.
-fn write_signed<W: Write>(n: i32, to: &mut W) -> Result<(), io::Error>
-    ensures { OnOk result
-        (Appends (W.contents to.old) (W.contents to.new) (little_bytes 4 (cast_unsigned w32 n))) }
+/// Writes two lines and their ends.
+fn write_pair<W: Write>(first: &[u8], second: &[u8], to: &mut W) -> Result<(), io::Error>
+    ensures { OnOk result (Appends (W.contents to.old) (W.contents to.new)
+        ((first.now ++ 10 ∷ []) ++ (second.now ++ 10 ∷ []))) }
 {
-    to.write_i32::<LittleEndian>(n)
+    write_line(first, to)?;
+    write_line(second, to)
+}
+
+/// Writes the payload of an opcode behind its count, whose lowest byte is the first.
+fn write_counted<W: Write>(op: Op, payload: &[u8], to: &mut W) -> Result<(), io::Error>
+    requires { Suits (layout_at op) (Counted payload.now) }
+    ensures { OnOk result (Appends (W.contents to.old) (W.contents to.new)
+        (laid (layout_at op) (Counted payload.now))) }
+{
+    let Layout::Counted(width, _) = Layout::of(kind(op)) else {
+        unreachable!()
+    };
+    to.write_uint::<LittleEndian>(payload.len() as u64, width.size())?;
+    to.write_all(payload)
+}
+
+/// Writes the bytes of an argument of an opcode.
+fn write_argument<W: Write>(op: Op, arg: Arg<'_>, to: &mut W) -> Result<(), io::Error>
+    requires { Suits (layout_at op) (shown_arg arg) }
+    ensures { OnOk result (Appends (W.contents to.old) (W.contents to.new)
+        (laid (layout_at op) (shown_arg arg.entry))) }
+{
+    match arg {
+        Arg::None => Ok(()),
+        Arg::U1(n) => to.write_u8(n),
+        Arg::U2(n) => to.write_u16::<LittleEndian>(n),
+        Arg::I4(n) => to.write_i32::<LittleEndian>(n),
+        Arg::U4(n) => to.write_u32::<LittleEndian>(n),
+        Arg::U8(n) => to.write_u64::<LittleEndian>(n),
+        Arg::F8(bytes) => to.write_all(bytes),
+        Arg::Line(text) => write_line(text, to),
+        Arg::Pair(first, second) => write_pair(first, second, to),
+        Arg::Counted(payload) => write_counted(op, payload, to),
+    }
 }
 
 /// Writes the spelling of an instruction. It takes no memory, and errs only where the writer does;
@@ -105,30 +147,5 @@ pub fn write_inst<W: Write>(inst: &Inst<'_>, to: &mut W) -> Result<(), io::Error
 {
     let op = inst.op();
     to.write_u8(code(op))?;
-    match inst.arg() {
-        Arg::None => Ok(()),
-        Arg::U1(n) => to.write_u8(n),
-        Arg::U2(n) => to.write_u16::<LittleEndian>(n),
-        Arg::I4(n) => write_signed(n, to),
-        Arg::U4(n) => to.write_u32::<LittleEndian>(n),
-        Arg::U8(n) => to.write_u64::<LittleEndian>(n),
-        Arg::F8(bytes) => to.write_all(bytes),
-        Arg::Line(text) => write_line(text, to),
-        Arg::Pair(first, second) => {
-            write_line(first, to)?;
-            write_line(second, to)
-        }
-        Arg::Counted(payload) => {
-            let Layout::Counted(width, _) = Layout::of(kind(op)) else {
-                unreachable!()
-            };
-            let count = payload.len() as u64;
-            match width {
-                Width::One => to.write_u8(count as u8)?,
-                Width::Four => to.write_u32::<LittleEndian>(count as u32)?,
-                Width::Eight => to.write_u64::<LittleEndian>(count)?,
-            }
-            to.write_all(payload)
-        }
-    }
+    write_argument(op, inst.arg(), to)
 }
