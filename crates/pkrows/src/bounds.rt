@@ -22,7 +22,7 @@ const BAD: Found = Found::Bad(Fault::BadArgument);
 
 const LARGE: Found = Found::Bad(Fault::TooLarge);
 
-const ROWS: [(&[u8], Found); 77] = [
+const CODES: [(&[u8], Found); 7] = [
     (b"", Found::More),
     (b"\xff", Found::Bad(Fault::UnknownOpcode(255))),
     (b"J\xff\xff\xff\xff", Found::Whole(Op::BinInt, 5)),
@@ -30,14 +30,19 @@ const ROWS: [(&[u8], Found); 77] = [
     (b"\x82\x05", Found::Whole(Op::Ext1, 2)),
     (b"\x82", Found::More),
     (b"\x80\x06", Found::Whole(Op::Proto, 2)),
-    // Signed counts.
+];
+
+const SIGNED_COUNTS: [(&[u8], Found); 6] = [
     (b"T\xff\xff\xff", Found::More),
     (b"T\xff\xff\xff\xff", BAD),
     (b"T\x00\x00\x00\x80", BAD),
     (b"T\xff\xff\xff\x7f", LARGE),
     (b"\x8b\xff\xff\xff\xff", BAD),
     (b"\x8b\x00\x00\x00\x00", Found::Whole(Op::Long4, 5)),
-    // Counts at the limit of 16,777,216 and above it.
+];
+
+// Counts at the limit of 16,777,216 and above it.
+const COUNTS: [(&[u8], Found); 9] = [
     (b"B\x00\x00\x00\x01", Found::More),
     (b"B\x01\x00\x00", Found::More),
     (b"B\x01\x00\x00\x01", LARGE),
@@ -47,7 +52,9 @@ const ROWS: [(&[u8], Found); 77] = [
     (b"\x8e\xff\xff\xff\xff\xff\xff\xff", Found::More),
     (b"\x8e\xff\xff\xff\xff\xff\xff\xff\xff", LARGE),
     (b"C\xff", Found::More),
-    // Numerals.
+];
+
+const NUMERALS: [(&[u8], Found); 23] = [
     (b"I-0", Found::More),
     (b"I-0\n", BAD),
     (b"I007\n", BAD),
@@ -71,7 +78,9 @@ const ROWS: [(&[u8], Found); 77] = [
     (b"p-1\n", BAD),
     (b"p00\n", BAD),
     (b"p0\n", Found::Whole(Op::Put, 3)),
-    // Floats.
+];
+
+const FLOATS: [(&[u8], Found); 10] = [
     (b"F1.5e+10\n", Found::Whole(Op::Float, 9)),
     (b"F1.\n", BAD),
     (b"F.5\n", BAD),
@@ -82,7 +91,9 @@ const ROWS: [(&[u8], Found); 77] = [
     (b"F-\n", BAD),
     (b"F\n", BAD),
     (b"F007\n", Found::Whole(Op::Float, 5)),
-    // Text.
+];
+
+const TEXTS: [(&[u8], Found); 12] = [
     (b"V\xe9\n", Found::Whole(Op::Unicode, 3)),
     (b"V\n", Found::Whole(Op::Unicode, 2)),
     (b"V\\u0061\n", Found::Whole(Op::Unicode, 8)),
@@ -95,7 +106,9 @@ const ROWS: [(&[u8], Found); 77] = [
     (b"\x8c\x01\xe9", BAD),
     (b"\x8c\x02\xc3\xa9", Found::Whole(Op::ShortBinUnicode, 4)),
     (b"\x8c\x03\xed\xa0\x80", BAD),
-    // Old strings.
+];
+
+const OLD_STRINGS: [(&[u8], Found); 7] = [
     (b"S'a'\n", Found::Whole(Op::String, 5)),
     (b"S'a\n", BAD),
     (b"S\"it's\"\n", Found::Whole(Op::String, 8)),
@@ -103,7 +116,9 @@ const ROWS: [(&[u8], Found); 77] = [
     (b"S'\\x6g'\n", BAD),
     (b"S'\\\\\\'\\n\\x6A'\n", Found::Whole(Op::String, 14)),
     (b"S'\x7f'\n", BAD),
-    // Names.
+];
+
+const NAMES: [(&[u8], Found); 3] = [
     (b"c\nf\n", BAD),
     (b"cm\n\n", BAD),
     (b"P\n", Found::Whole(Op::PersId, 2)),
@@ -111,8 +126,20 @@ const ROWS: [(&[u8], Found); 77] = [
 
 #[test]
 fn edges(rt: HostRuntime) {
-    for (bytes, wanted) in &ROWS {
-        assert_eq!(rt; read(bytes), *wanted, "{bytes:?}");
+    let tables: [&[(&[u8], Found)]; 8] = [
+        &CODES,
+        &SIGNED_COUNTS,
+        &COUNTS,
+        &NUMERALS,
+        &FLOATS,
+        &TEXTS,
+        &OLD_STRINGS,
+        &NAMES,
+    ];
+    for rows in tables {
+        for (bytes, wanted) in rows {
+            assert_eq!(rt; read(bytes), *wanted, "{bytes:?}");
+        }
     }
 }
 
@@ -138,41 +165,32 @@ fn lines_at_their_limits(rt: HostRuntime) -> Result<(), Fail> {
         (b'I', b'1', Op::Int, 1_024),
         (b'L', b'1', Op::Long, 1_024),
     ] {
-        assert_eq!(rt;
-            read(&line(&rt, code, byte, most, false)?),
-            Found::More,
-            "{op:?}"
-        );
-        assert_eq!(rt;
-            read(&line(&rt, code, byte, most, true)?),
-            Found::Whole(op, most + 2),
-            "{op:?}"
-        );
-        assert_eq!(rt;
-            read(&line(&rt, code, byte, most + 1, false)?),
-            LARGE,
-            "{op:?}"
-        );
-        assert_eq!(rt;
-            read(&line(&rt, code, byte, most + 1, true)?),
-            LARGE,
-            "{op:?}"
-        );
+        for (length, ended, wanted) in [
+            (most, false, Found::More),
+            (most, true, Found::Whole(op, most + 2)),
+            (most + 1, false, LARGE),
+            (most + 1, true, LARGE),
+        ] {
+            let bytes = line(&rt, code, byte, length, ended)?;
+            assert_eq!(rt; read(&bytes), wanted, "{op:?}");
+        }
     }
     Ok(())
 }
 
 #[test]
-fn arguments_that_an_instruction_takes(rt: HostRuntime) -> Result<(), Fail> {
-    assert!(rt; Inst::new(Op::Unicode, Arg::Line(b"a\nb")).is_none());
-    assert!(rt; Inst::new(Op::Unicode, Arg::Line(b"ab")).is_some());
-    assert!(rt; Inst::new(Op::None, Arg::U1(1)).is_none());
-    assert!(rt; Inst::new(Op::BinFloat, Arg::F8(b"1234567")).is_none());
-    let extension = Inst::new(Op::Ext1, Arg::U1(5)).ok_or("EXT1")?;
-    assert!(rt; !extension.admitted());
-    let protocol = Inst::new(Op::Proto, Arg::U1(5)).ok_or("PROTO")?;
-    assert!(rt; protocol.admitted());
-    Ok(())
+fn arguments_that_an_instruction_takes(rt: HostRuntime) {
+    for (op, arg, admitted) in [
+        (Op::Unicode, Arg::Line(b"a\nb"), None),
+        (Op::Unicode, Arg::Line(b"ab"), Some(true)),
+        (Op::None, Arg::U1(1), None),
+        (Op::BinFloat, Arg::F8(b"1234567"), None),
+        (Op::Ext1, Arg::U1(5), Some(false)),
+        (Op::Proto, Arg::U1(5), Some(true)),
+    ] {
+        let inst = Inst::new(op, arg);
+        assert_eq!(rt; inst.map(|inst| inst.admitted()), admitted, "{op:?}");
+    }
 }
 
 #[test]

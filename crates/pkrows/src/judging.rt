@@ -1,9 +1,9 @@
-//! The verdict of `check` over bytes in memory, in a form that a table can hold.
+//! The verdict of `check`, in a form that a table can hold.
 
-use pkcheck::{Allow, Policy, check};
+use pkcheck::{Policy, check};
 use pkops::Limits;
-use pkread::{Memory, Reason};
-use std::test::Fail;
+use pkread::{Memory, Reason, Source};
+use std::process::Abort;
 
 /// What `check` says.
 #[derive(Clone, Copy, Debug, PartialEq, Eq)]
@@ -14,17 +14,32 @@ pub enum Verdict {
     No(u64, Reason),
 }
 
-/// The verdict under a list file.
-pub fn judge_under(rt: &HostRuntime, list: &str, pickle: &[u8]) -> Result<Verdict, Fail> {
-    let allow = Allow::from_toml(rt.alloc(), list)?;
-    Ok(judge(rt, &Policy::Listed(&allow), &Limits::STANDARD, pickle))
-}
-
-/// The verdict under a policy and limits.
-pub fn judge(rt: &HostRuntime, policy: &Policy<'_>, limits: &Limits, pickle: &[u8]) -> Verdict {
-    let mut source = Memory::new(pickle);
-    match check(rt.alloc(), &mut source, policy, limits) {
+/// The verdict on what a source gives.
+pub fn judge<T: AllocGlobal, R: Source>(
+    rt: &T,
+    policy: &Policy<'_>,
+    limits: &Limits,
+    source: &mut R,
+) -> Verdict {
+    match check(rt.alloc(), source, policy, limits) {
         Ok(yes) => Verdict::Yes(yes.taken, yes.imports.len()),
         Err(no) => Verdict::No(no.at, no.reason),
+    }
+}
+
+/// Holds the verdict on each pickle to the one beside it.
+pub fn judge_each<T: Abort + AllocGlobal>(
+    rt: &T,
+    policy: &Policy<'_>,
+    limits: &Limits,
+    rows: &[(&[u8], Verdict)],
+) {
+    for (pickle, wanted) in rows {
+        let mut source = Memory::new(pickle);
+        assert_eq!(rt;
+            judge(rt, policy, limits, &mut source),
+            *wanted,
+            "{pickle:?}"
+        );
     }
 }

@@ -1,12 +1,14 @@
 //! Each opcode, accepted where it can be, and refused for each need that it has.
 
-use crate::judging::{Verdict, judge_under};
+use crate::judging::{Verdict, judge_each};
+use pkcheck::{Allow, Policy};
+use pkops::Limits;
 use pkread::Reason;
 use std::test::Fail;
 
 const LIST: &str = "version = 1\n[imports]\nm = [\"f\"]\n";
 
-const CASES: [(&[u8], Verdict); 143] = [
+const LITERALS: [(&[u8], Verdict); 27] = [
     // INT
     (b"I1\n.", Verdict::Yes(4, 0)),
     // BININT
@@ -68,6 +70,9 @@ const CASES: [(&[u8], Verdict); 143] = [
     (b"F1.5\n.", Verdict::Yes(6, 0)),
     // BINFLOAT
     (b"G?\xf8\x00\x00\x00\x00\x00\x00.", Verdict::Yes(10, 0)),
+];
+
+const LISTS_AND_TUPLES: [(&[u8], Verdict); 24] = [
     // EMPTY_LIST
     (b"].", Verdict::Yes(2, 0)),
     // APPEND
@@ -101,6 +106,9 @@ const CASES: [(&[u8], Verdict); 143] = [
     (b"NNN\x87.", Verdict::Yes(5, 0)),
     (b"NN\x87", Verdict::No(2, Reason::MissingItem)),
     (b"N(NN\x87", Verdict::No(4, Reason::MissingItem)),
+];
+
+const DICTS_AND_SETS: [(&[u8], Verdict); 20] = [
     // EMPTY_DICT
     (b"}.", Verdict::Yes(2, 0)),
     // DICT
@@ -128,6 +136,9 @@ const CASES: [(&[u8], Verdict); 143] = [
     // FROZENSET
     (b"(N\x91.", Verdict::Yes(4, 0)),
     (b"N\x91", Verdict::No(1, Reason::MissingMark)),
+];
+
+const STACK_AND_MEMO: [(&[u8], Verdict); 27] = [
     // POP
     (b"NN0.", Verdict::Yes(4, 0)),
     (b"(0N.", Verdict::Yes(4, 0)),
@@ -169,6 +180,9 @@ const CASES: [(&[u8], Verdict); 143] = [
     (b"Nq\x05\x94h\x010.", Verdict::Yes(8, 0)),
     (b"\x94", Verdict::No(0, Reason::MissingItem)),
     (b"N(\x94", Verdict::No(2, Reason::MissingItem)),
+];
+
+const IMPORTS_AND_CALLS: [(&[u8], Verdict); 30] = [
     // EXT1
     (b"\x82\x05", Verdict::No(0, Reason::ExtensionCode)),
     // EXT2
@@ -216,6 +230,9 @@ const CASES: [(&[u8], Verdict); 143] = [
     // NEWOBJ_EX
     (b"cm\nf\n)}\x92.", Verdict::Yes(9, 1)),
     (b"NN\x92", Verdict::No(2, Reason::MissingItem)),
+];
+
+const THE_PICKLE: [(&[u8], Verdict); 15] = [
     // PROTO
     (b"\x80\x05N.", Verdict::Yes(4, 0)),
     (b"N\x80\x00.", Verdict::Yes(4, 0)),
@@ -255,8 +272,17 @@ const CASES: [(&[u8], Verdict); 143] = [
 
 #[test]
 fn each_opcode(rt: HostRuntime) -> Result<(), Fail> {
-    for (pickle, wanted) in &CASES {
-        assert_eq!(rt; judge_under(&rt, LIST, pickle)?, *wanted, "{pickle:?}");
+    let allow = Allow::from_toml(rt.alloc(), LIST)?;
+    let tables: [&[(&[u8], Verdict)]; 6] = [
+        &LITERALS,
+        &LISTS_AND_TUPLES,
+        &DICTS_AND_SETS,
+        &STACK_AND_MEMO,
+        &IMPORTS_AND_CALLS,
+        &THE_PICKLE,
+    ];
+    for rows in tables {
+        judge_each(&rt, &Policy::Listed(&allow), &Limits::STANDARD, rows);
     }
     Ok(())
 }

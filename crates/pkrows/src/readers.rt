@@ -3,65 +3,63 @@
 use pkops::{Limits, Op};
 use pkread::{Frames, Memory, Next, Reader, Reason, Refusal, Source, genops};
 use std::process::Abort;
-use std::test::Fail;
 
-// Reads NONE and STOP, and asks on.
-fn read_to_the_end<T: Abort + AllocGlobal, R: Source>(rt: &T, source: &mut R) {
-    let mut reader = Reader::new(rt.alloc(), source, &Limits::STANDARD);
-    for (wanted, op) in [(0, Op::None), (1, Op::Stop)] {
-        assert!(rt; !reader.ended());
-        match reader.next() {
-            Ok(Next::Inst { at, inst }) => assert_eq!(rt; (at, inst.op()), (wanted, op)),
-            _ => assert!(rt; false, "no instruction at {wanted}"),
-        }
-    }
-    assert!(rt; reader.ended());
-    for _ in 0..2 {
-        assert!(rt; matches!(reader.next(), Ok(Next::Ended)));
-    }
-    assert_eq!(rt; reader.most_held(), 1);
-}
+// An instruction's offset and opcode, `None` at the end, or a refusal.
+type Answer = Result<Option<(u64, Op)>, Refusal>;
 
-// Reads NONE and then an unknown opcode, and asks on.
-fn read_to_a_refusal<T: Abort + AllocGlobal, R: Source>(rt: &T, source: &mut R) {
+// Holds what a reader answers, and whether it has then ended, call by call.
+fn read_on<T: Abort + AllocGlobal, R: Source>(
+    rt: &T,
+    source: &mut R,
+    wanted: &[(Answer, bool)],
+) -> usize {
     let mut reader = Reader::new(rt.alloc(), source, &Limits::STANDARD);
-    assert!(rt; matches!(reader.next(), Ok(Next::Inst { .. })));
-    let refusal = Refusal {
-        at: 1,
-        reason: Reason::UnknownOpcode(255),
-    };
-    for _ in 0..2 {
-        match reader.next() {
-            Err(refused) => assert_eq!(rt; refused, refusal),
-            Ok(_) => assert!(rt; false, "no refusal"),
-        }
-    }
     assert!(rt; !reader.ended());
+    for row in wanted {
+        let answer = match reader.next() {
+            Ok(Next::Inst { at, inst }) => Ok(Some((at, inst.op()))),
+            Ok(Next::Ended) => Ok(None),
+            Err(refusal) => Err(refusal),
+        };
+        assert_eq!(rt; (answer, reader.ended()), *row);
+    }
+    reader.most_held()
 }
+
+const UNKNOWN: Refusal = Refusal {
+    at: 1,
+    reason: Reason::UnknownOpcode(255),
+};
 
 #[test]
 fn a_reader_gives_refuses_and_ends(rt: HostRuntime) {
-    let mut ends = Memory::new(b"N.N");
-    read_to_the_end(&rt, &mut ends);
-    let mut refuses = Memory::new(b"N\xffN");
-    read_to_a_refusal(&rt, &mut refuses);
+    let none = (Ok(Some((0, Op::None))), false);
+    let ends = [
+        none,
+        (Ok(Some((1, Op::Stop))), true),
+        (Ok(None), true),
+        (Ok(None), true),
+    ];
+    let refuses = [none, (Err(UNKNOWN), false), (Err(UNKNOWN), false)];
+    assert_eq!(rt; read_on(&rt, &mut Memory::new(b"N.N"), &ends), 1);
+    assert_eq!(rt; read_on(&rt, &mut Memory::new(b"N\xffN"), &refuses), 1);
 }
 
 #[test]
-fn genops_stops_at_a_refusal(rt: HostRuntime) -> Result<(), Fail> {
-    let mut items = genops(b"N\x82\x05.", &Limits::STANDARD);
-    let (at, inst) = items.next().ok_or("NONE")??;
-    assert_eq!(rt; (at, inst.op()), (0, Op::None));
-    let Some(Err(refusal)) = items.next() else {
-        return Err(Fail::from("EXT1 is refused"));
-    };
-    let wanted = Refusal {
+fn genops_stops_at_a_refusal(rt: HostRuntime) {
+    let extension = Refusal {
         at: 1,
         reason: Reason::ExtensionCode,
     };
-    assert_eq!(rt; refusal, wanted);
-    assert!(rt; items.next().is_none());
-    Ok(())
+    let mut items = genops(b"N\x82\x05.", &Limits::STANDARD);
+    for wanted in [Ok(Some((0, Op::None))), Err(extension), Ok(None)] {
+        let answer: Answer = match items.next() {
+            Some(Ok((at, inst))) => Ok(Some((at, inst.op()))),
+            Some(Err(refusal)) => Err(refusal),
+            None => Ok(None),
+        };
+        assert_eq!(rt; answer, wanted);
+    }
 }
 
 #[test]

@@ -1,7 +1,7 @@
 //! The same pickle from sources that cut it into pieces, fail, end early, or hold more behind it.
 
-use crate::judging::Verdict;
-use pkcheck::{Allow, Policy, check};
+use crate::judging::{Verdict, judge};
+use pkcheck::{Allow, Policy};
 use pkops::Limits;
 use pkread::{Input, Memory, Reason, Source};
 use std::io;
@@ -51,15 +51,7 @@ impl Read for Pieces<'_> {
 
 fn judge_from<R: Source>(rt: &HostRuntime, source: &mut R) -> Result<Verdict, Fail> {
     let allow = Allow::from_toml(rt.alloc(), LIST)?;
-    match check(
-        rt.alloc(),
-        source,
-        &Policy::Listed(&allow),
-        &Limits::STANDARD,
-    ) {
-        Ok(yes) => Ok(Verdict::Yes(yes.taken, yes.imports.len())),
-        Err(no) => Ok(Verdict::No(no.at, no.reason)),
-    }
+    Ok(judge(rt, &Policy::Listed(&allow), &Limits::STANDARD, source))
 }
 
 #[test]
@@ -96,19 +88,18 @@ fn a_read_that_fails_and_an_early_end(rt: HostRuntime) -> Result<(), Fail> {
     Ok(())
 }
 
+const MORE_BEHIND: &[u8] = b"\x8c\x01a\x94\x8c\x01b\x93.more";
+
 #[test]
 fn nothing_past_stop_is_taken(rt: HostRuntime) -> Result<(), Fail> {
-    let mut source = Memory::new(b"\x8c\x01a\x94\x8c\x01b\x93.more");
-    assert_eq!(rt; judge_from(&rt, &mut source)?, Verdict::Yes(9, 1));
+    let mut memory = Memory::new(MORE_BEHIND);
+    assert_eq!(rt; judge_from(&rt, &mut memory)?, Verdict::Yes(9, 1));
     let mut rest = [0; 8];
-    let count = source
-        .pull(&mut rest)
-        .map_err(|_| "no read of memory fails")?;
-    assert_eq!(rt; rest.get(..count), Some(b"more".as_slice()));
+    let count = memory.pull(&mut rest);
+    assert_eq!(rt; (count, rest), (Ok(4), *b"more\0\0\0\0"));
 
-    let mut pieces = Pieces::new(b"\x8c\x01a\x94\x8c\x01b\x93.more", u32::MAX, None);
-    let mut source = Input::new(&mut pieces);
-    assert_eq!(rt; judge_from(&rt, &mut source)?, Verdict::Yes(9, 1));
-    assert_eq!(rt; pieces.given, 9);
+    let mut pieces = Pieces::new(MORE_BEHIND, u32::MAX, None);
+    let verdict = judge_from(&rt, &mut Input::new(&mut pieces))?;
+    assert_eq!(rt; (verdict, pieces.given), (Verdict::Yes(9, 1), 9));
     Ok(())
 }
