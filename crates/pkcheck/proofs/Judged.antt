@@ -55,7 +55,6 @@ module _ (p : Policy) (names : Names) (gives : Gives) (i : Instruction) (ks : Li
   judged_wrong e = rw e refl
 
   module _ (f : wrong_receiver gives ks ≡ false) where
-
     pub judged_err : (r : Refusal) → asked_of None names i ks ≡ Err r → judged p names gives i ks ≡ Err r
     judged_err r e = rw (f, asked_ruled p names i ks, e) refl
 

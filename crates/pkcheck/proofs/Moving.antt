@@ -20,7 +20,6 @@ stuffed b x es m r is (inl h) = inr (inl (h.0, (record { entries = es; memo = m 
 stuffed b x es m r is (inr h) = inr (inr h)
 
 module _ (h : Knowledge) where
-
   pub duplicated : (t : Known × List (Entry Known)) → top h.entries ≡ Ok t → moved Duplicates 0 h ≡ Ok (record h { entries = Item t.0 ∷ h.entries })
   duplicated t e = rw e refl
 
