@@ -44,7 +44,7 @@ impl Read for Pieces<'_> {
         let count = piece.min(to.len()).min(self.rest.len());
         to[..count].copy_from_slice(&self.rest[..count]);
         self.rest = &self.rest[count..];
-        self.given = self.given.wrapping_add(1);
+        self.given = self.given.wrapping_add(count as u32);
         Ok(count)
     }
 }
