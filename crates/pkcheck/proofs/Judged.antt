@@ -21,7 +21,7 @@ use Rattle.pkcheck.specs.declared.operate.Denial.{Denial}
 use Rattle.pkcheck.specs.declared.import.Asked.{Asked as RustAsked}
 use Rattle.std.specs.Option.{option_to_list}
 use Rattle.pkcheck.specs.declared.value.Value.{Value}
-use Rattle.pkcheck.specs.Denials.{ruled, judged, IsDenied, IsForMemory, IsLack, MayName, MayGive, MayOperate, Passes, WantsRoom, HasFirst, WellGiven}
+use Rattle.pkcheck.specs.Denials.{ruled, judged, IsDenied, IsForMemory, IsLack, MayGive, MayOperate, Passes, WantsRoom, HasFirst, WellGiven}
 use Rattle.pkcheck.specs.Import.{asked_shown, asks_more}
 
 abbrev pub ruled_any : Policy → Option Asked → Result (Option Asked) Refusal

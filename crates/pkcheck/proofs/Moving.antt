@@ -1,13 +1,12 @@
 -- The moves, on the stack and the memo.
-use Rattle.std.proofs.Common.{◌≡◌, ℕ, inl, inr, List, [], ◌∷◌, length, Some, None, Ok, Err, Result, refl, arith}
+use Rattle.std.proofs.Common.{◌≡◌, ℕ, inl, inr, List, ◌∷◌, length, Some, None, Ok, Err, Result, refl, arith}
 use Rattle.pkcheck.specs.declared.effects.Move.{Move}
-use Rattle.pkcheck.specs.declared.effects.Move.TheVariants.{Pops, PopsMark, Duplicates, Stores, Fetches}
+use Rattle.pkcheck.specs.declared.effects.Move.TheVariants.{Duplicates, Stores, Fetches}
 use Rattle.pkread.specs.declared.refusal.Reason.{Reason}
-use Rattle.pkread.specs.declared.refusal.Reason.TheVariants as reason
-use Rattle.pkcheck.specs.Shape.{Item, NoItem, NoMark, NoMemo, top, Breach, Entry, slice, recalled, stored, moved}
+use Rattle.pkcheck.specs.Shape.{Item, NoMemo, top, Breach, Entry, recalled, stored, moved}
 use Rattle.pkcheck.specs.Knowledge.{Known, Knowledge}
 use Rattle.pkops.specs.Limits.{Bounds}
-use Rattle.pkcheck.specs.Denials.{IsLack, IsFault, IsFaultOf, MoveMayWantMemory, WantsRoom, WantsMemo}
+use Rattle.pkcheck.specs.Denials.{IsFault, IsFaultOf, MoveMayWantMemory, WantsRoom, WantsMemo}
 
 -- one more entry than there is room for
 pub grown : (b : Bounds) (x : Result Knowledge Breach) (e : Entry Known) (es : List (Entry Known)) (m : List (ℕ × Known)) (r : Reason) → x ≡ Ok (record { entries = e ∷ es; memo = m }) → WantsRoom b.stack (length es) r → IsFault b x r
