@@ -1,27 +1,32 @@
 -- What the policy makes of an import, and what is refused.
 use Rattle.pkops.specs.Operands.{pair_named}
-use Rattle.std.proofs.Common.{◌≡◌, ℕ, ◌⊎◌, inl, inr, List, [], ◌∷◌, ◌++◌, Bool, true, false, cond, Option, Some, None, Result, Ok, Err, option_map, refl, sym, ◌∙◌, ap, length, ◌<◌, arith, map, append-nil, ◌≤◌}
+use Rattle.std.proofs.Common.{◌≡◌, ℕ, ◌⊎◌, inl, inr, List, [], ◌∷◌, ◌++◌, Bool, true, false, cond, Option, Some, None, Result, Ok, Err, option_map, refl, ◌∙◌, ap, length, ◌<◌, arith, map, append-nil, ◌≤◌}
 use Rattle.std.proofs.lemmas.Bool.{lt-ltb}
 use Rattle.std.specs.Prelude.{is_some, IsSome}
-use Rattle.pkcheck.specs.declared.effects.Names.{Names}
-use Rattle.pkcheck.specs.declared.effects.Names.TheVariants.{NoName, OfArgument, OfOperands}
-use Rattle.pkcheck.specs.declared.effects.Gives.{Gives}
-use Rattle.pkcheck.specs.declared.effects.Gives.TheVariants.{Makes, MakesIntOrBool, MakesText, MayMake, Answers, Leaves}
-use Rattle.pkcheck.specs.declared.effects.Takes.{Takes}
-use Rattle.pkcheck.specs.declared.effects.Effect.TheVariants.{Operates}
+use Rattle.pkcheck.specs.declared.machine.effects.Names.{Names}
+use Rattle.pkcheck.specs.declared.machine.effects.Names.TheVariants.{NoName, OfArgument, OfOperands}
+use Rattle.pkcheck.specs.declared.machine.effects.Gives.{Gives}
+use Rattle.pkcheck.specs.declared.machine.effects.Gives.TheVariants.{Makes, MakesIntOrBool, MakesText, MayMake, Answers, Leaves}
+use Rattle.pkcheck.specs.declared.machine.effects.Takes.{Takes}
+use Rattle.pkcheck.specs.declared.machine.effects.Takes.TheVariants.{Objects}
+use Rattle.pkcheck.specs.declared.machine.effects.Effect.TheVariants.{Operates}
 use Rattle.pkcheck.specs.Shape.{put, Breach, Entry, Item, Taken, and_then, operands}
 use Rattle.pkops.specs.Spelling.{Instruction}
 use Rattle.pkcheck.specs.Runs.{Text, Plain, Foreign}
-use Rattle.pkcheck.specs.Knowledge.{argument_asked, Known, Knowledge, Policy, Asked, Refusal, Lacks, Progress, TooLarge, known_given, learn, within, WrongClass, wrong_receiver, asked_of}
+use Rattle.pkcheck.specs.Knowledge.{argument_asked, Known, Knowledge, Policy, Asked, Refusal, Lacks, Progress, TooLarge, known_given, learn, within, WrongClass, wrong_first, wrong_receiver, asked_of}
 use Rattle.pkops.specs.Limits.{Bounds}
-use Rattle.pkcheck.specs.Slots.{known}
+use Rattle.pkcheck.specs.Private.Slots.{StandsIf, known}
 use Rattle.pkread.specs.declared.refusal.Reason.{Reason}
 use Rattle.pkread.specs.declared.refusal.Reason.TheVariants as reason
-use Rattle.pkcheck.specs.declared.operate.Denial.{Denial}
+use Rattle.pkcheck.specs.declared.machine.operate.Denial.{Denial}
 use Rattle.pkcheck.specs.declared.import.Asked.{Asked as RustAsked}
 use Rattle.std.specs.Option.{option_to_list}
-use Rattle.pkcheck.specs.declared.value.Value.{Value}
-use Rattle.pkcheck.specs.Denials.{ruled, judged, IsDenied, IsForMemory, IsLack, MayGive, MayOperate, Passes, WantsRoom, HasFirst, WellGiven}
+use Rattle.pkcheck.specs.declared.machine.value.Value.{Value}
+use Rattle.pkcheck.specs.declared.machine.value.Value.TheVariants.{Unknown, Made}
+use Rattle.pkcheck.specs.declared.machine.value.Value.TheVariants as value
+use Rattle.pkcheck.specs.declared.machine.effects.Wanted.{Wanted}
+use Rattle.std.specs.List.{slice_get}
+use Rattle.pkcheck.specs.Private.Denials.{ruled, judged, IsDenied, IsForMemory, IsLack, MayGive, MayOperate, Passes, WantsRoom, HasFirst, WellGiven}
 use Rattle.pkcheck.specs.Import.{asked_shown, asks_more}
 
 abbrev pub ruled_any : Policy → Option Asked → Result (Option Asked) Refusal
@@ -55,6 +60,9 @@ module _ (p : Policy) (names : Names) (gives : Gives) (i : Instruction) (ks : Li
   judged_wrong e = rw e refl
 
   module _ (f : wrong_receiver gives ks ≡ false) where
+    pub judged_ok : (a : Option Asked) → asked_of None names i ks ≡ Ok a → judged p names gives i ks ≡ ruled_any p a
+    judged_ok a e = rw (f, asked_ruled p names i ks, e) refl
+
     pub judged_err : (r : Refusal) → asked_of None names i ks ≡ Err r → judged p names gives i ks ≡ Err r
     judged_err r e = rw (f, asked_ruled p names i ks, e) refl
 
@@ -106,37 +114,96 @@ listed None xs = ap (map asked_shown) (append-nil xs)
 listed (Some a) [] = refl
 listed (Some a) (x ∷ xs) = ap (λ ys. asked_shown x ∷ ys) (listed (Some a) xs)
 
-known_some : (v : Option Value) → IsSome v → (k : Known) × (option_map known v ≡ Some k)
-known_some (Some v) s = (known v, refl)
-known_some None s = cc
+wrong_any : (ts : List (List ℕ)) (w : Wanted) (v : Value) (ks : List Known) → wrong_first w (known ts v ∷ []) ≡ wrong_first w (known ts v ∷ ks)
+wrong_any ts w Unknown ks = refl
+wrong_any ts w (Made c) ks = refl
+wrong_any ts w (value.Text n) ks = refl
+
+pub wrong_head : (ts : List (List ℕ)) (w : Wanted) (vs : List Value) (v : Value) → Some v ≡ slice_get vs 0 → wrong_first w (known ts v ∷ []) ≡ wrong_first w (map (known ts) vs)
+wrong_head ts w (u ∷ vs) v e = let f : v ≡ u = cc in rw f (wrong_any ts w u (map (known ts) vs))
+wrong_head ts w [] v e = cc
+
+pub wrong_none : (ts : List (List ℕ)) (w : Wanted) (vs : List Value) → None ≡ slice_get vs 0 → false ≡ wrong_first w (map (known ts) vs)
+wrong_none ts w [] e = refl
+wrong_none ts w (u ∷ vs) e = cc
+
+given_some : (ts : List (List ℕ)) (v : Option Value) (o : Option Known) → IsSome v → StandsIf ts v o → (k : Known) × (o ≡ Some k)
+given_some ts (Some v) (Some k) s h = (k, refl)
+given_some ts (Some v) None s h = absurd h
+given_some ts None o s h = cc
+
+pub given_none : (ts : List (List ℕ)) (v : Option Value) (o : Option Known) → v ≡ None → StandsIf ts v o → o ≡ None
+given_none ts None None e h = refl
+given_none ts None (Some k) e h = absurd h
+given_none ts (Some v) o e h = cc
 
 some_shown : (a : Option RustAsked) → is_some a ≡ is_some (option_map asked_shown a)
 some_shown None = refl
 some_shown (Some a) = refl
 
 -- what an operation found
-module _ (p : Policy) (takes : Takes) (names : Names) (gives : Gives) (i : Instruction) (k : Knowledge) (t : Taken Known) (v : Option Value) (a : Option RustAsked)
+module _ (p : Policy) (takes : Takes) (names : Names) (gives : Gives) (i : Instruction) (k : Knowledge) (t : Taken Known) (a : Option RustAsked)
     (found : operands takes k.entries ≡ Ok t)
-    (fits : judged p names gives i t.operands ≡ Ok (option_map asked_shown a))
-    (given : option_map known v ≡ known_given gives i) where
-  pub does_pass : (new : List (Entry Known)) (before after : List RustAsked) (b : Bool) → new ≡ put (option_map known v) t.operands ++ t.below → after ≡ before ++ option_to_list a → b ≡ is_some a →
+    (fits : judged p names gives i t.operands ≡ Ok (option_map asked_shown a)) where
+  pub does_pass : (new : List (Entry Known)) (before after : List RustAsked) (b : Bool) → new ≡ put (known_given gives i) t.operands ++ t.below → after ≡ before ++ option_to_list a → b ≡ is_some a →
       Passes (learn p (Operates takes names gives) i k) (record { entries = new; memo = k.memo }) (map asked_shown before) (map asked_shown after) b
-  does_pass new before after b e f g = (option_map asked_shown a, rw (e, given) (learn_passes p takes names gives i k t found _ fits), rw f (listed a before), g ∙ some_shown a)
+  does_pass new before after b e f g = (option_map asked_shown a, rw e (learn_passes p takes names gives i k t found _ fits), rw f (listed a before), g ∙ some_shown a)
 
-  pub unroomed : (l : Bounds) (r : Reason) → IsSome v → WantsRoom l.stack (length t.below) r → IsDenied (and_then (learn p (Operates takes names gives) i k) (within l)) (record { reason = r; pair = None }) ⊎ (MayOperate names gives × IsForMemory (record { reason = r; pair = None }))
-  unroomed l r s w =
-      let n = known_some v s in
-      let j : known_given gives i ≡ Some n.0 = sym given ∙ n.1 in
+  pub unroomed : (ts : List (List ℕ)) (v : Option Value) → StandsIf ts v (known_given gives i) → (l : Bounds) (r : Reason) → IsSome v → WantsRoom l.stack (length t.below) r → IsDenied (and_then (learn p (Operates takes names gives) i k) (within l)) (record { reason = r; pair = None }) ⊎ (MayOperate names gives × IsForMemory (record { reason = r; pair = None }))
+  unroomed ts v given l r s w =
+      let (n, j) = given_some ts v (known_given gives i) s given in
       elim w [
-        | inl u ↦ inl (rw u.0 (room_denied p takes names gives i k l t _ n.0 found fits j u.1))
-        | inr e ↦ inr (inr (may_give gives i n.0 j), (e, refl))
+        | inl u ↦ inl (rw u.0 (room_denied p takes names gives i k l t _ n found fits j u.1))
+        | inr e ↦ inr (inr (may_give gives i n j), (e, refl))
       ]
 
 -- what is left is there
-pub left_there : (takes : Takes) (gives : Gives) (i : Instruction) → WellGiven gives takes → known_given gives i ≡ None → HasFirst takes
-left_there takes (Makes s) i w e = cc
-left_there takes MakesIntOrBool i w e = cc
-left_there takes MakesText i w e = cc
-left_there takes (MayMake s) i w e = cc
-left_there takes Answers i w e = cc
-left_there takes (Leaves wanted) i w e = w
+pub left_there : (names : Names) (takes : Takes) (gives : Gives) (i : Instruction) → WellGiven gives names takes → known_given gives i ≡ None → HasFirst takes
+left_there names takes (Makes s) i w e = cc
+left_there names takes MakesIntOrBool i w e = cc
+left_there names takes MakesText i w e = cc
+left_there names takes (MayMake s) i w e = cc
+left_there names takes Answers i w e = cc
+left_there names takes (Leaves wanted) i w e = w
+
+-- ---- an operation that takes nothing and names nothing
+
+pub given_nothing : (gives : Gives) (names : Names) (takes : Takes) → gives ≡ MakesText → WellGiven gives names takes → (names ≡ NoName) × (takes ≡ Objects 0)
+given_nothing gives names takes e w = rw e at w
+
+given_of_nothing : (gives : Gives) (i : Instruction) → WellGiven gives NoName (Objects 0) → (v : Known) × (known_given gives i ≡ Some v)
+given_of_nothing (Makes s) i w = (_, refl)
+given_of_nothing MakesIntOrBool i w = (_, refl)
+given_of_nothing MakesText i w = (_, refl)
+given_of_nothing (MayMake s) i w = (_, refl)
+given_of_nothing Answers i w = (_, refl)
+given_of_nothing (Leaves wanted) i w = absurd (omega (arith, w))
+
+pub none_given : (ts : List (List ℕ)) (gives : Gives) (i : Instruction) → WellGiven gives NoName (Objects 0) → ¬ (StandsIf ts None (known_given gives i))
+none_given ts gives i w h = let (v, j) = given_of_nothing gives i w in rw j at h
+
+no_receiver : (gives : Gives) → wrong_receiver gives [] ≡ false
+no_receiver (Leaves wanted) = refl
+no_receiver (Makes s) = refl
+no_receiver MakesIntOrBool = refl
+no_receiver MakesText = refl
+no_receiver (MayMake s) = refl
+no_receiver Answers = refl
+
+module _ (p : Policy) (takes : Takes) (names : Names) (gives : Gives) (i : Instruction) (k : Knowledge) (e : takes ≡ Objects 0) (f : names ≡ NoName) where
+  nothing_taken : operands takes k.entries ≡ Ok (record { operands = []; below = k.entries })
+  nothing_taken = rw e refl
+
+  nothing_asked : judged p names gives i [] ≡ Ok None
+  nothing_asked = rw (f, no_receiver gives) refl
+
+  pub creates : (new : List (Entry Known)) (listed : List Asked) → new ≡ put (known_given gives i) [] ++ k.entries → Passes (learn p (Operates takes names gives) i k) (record { entries = new; memo = k.memo }) listed listed false
+  creates new listed g = (None, rw g (learn_passes p takes names gives i k _ nothing_taken None nothing_asked), refl, refl)
+
+  pub create_denied : (l : Bounds) (r : Reason) → WellGiven gives names takes → WantsRoom l.stack (length k.entries) r → IsDenied (and_then (learn p (Operates takes names gives) i k) (within l)) (record { reason = r; pair = None }) ⊎ (MayOperate names gives × IsForMemory (record { reason = r; pair = None }))
+  create_denied l r w s =
+      let (v, j) = given_of_nothing gives i (rw (f, e) at w) in
+      elim s [
+        | inl u ↦ inl (rw u.0 (room_denied p takes names gives i k l _ None v nothing_taken nothing_asked j u.1))
+        | inr m ↦ inr (inr (may_give gives i v j), (m, refl))
+      ]

@@ -1,5 +1,7 @@
 -- runs and what the checker knows of them
 pub mod Alike
+pub mod CoversBy
+pub mod Verdicts
 pub mod Following
 pub mod Refusing
 pub mod Answering
@@ -9,6 +11,10 @@ pub mod Standing
 pub mod Examples
 -- the machine
 pub mod Shown
+pub mod Bars
+pub mod Cells
+pub mod Joining
+pub mod Resolving
 pub mod Topmost
 pub mod Places
 pub mod Errs
@@ -23,6 +29,7 @@ pub mod Memory
 pub mod Extensions
 pub mod Stops
 pub mod CoveredStep
+pub mod Passing
 pub mod Longest
 -- whole runs, and a check
 pub mod RunSteps
@@ -30,10 +37,15 @@ pub mod Walk
 pub mod Listed
 pub mod FramesSoFar
 pub mod Faultless
+pub mod TextsMade
+pub mod Given
+pub mod Payloads
 pub mod Checked
+pub mod Hearing
 mod AnswerExamples
 -- the list
 pub mod ListFaults
 pub mod Items
+pub mod Index
 pub mod ListBound
 mod ListRows

@@ -2,19 +2,19 @@
 use Rattle.std.proofs.Common.{◌≡◌, ℕ, zero, suc, ◌+◌, ◌-◌, ◌<◌, ◌≤◌, List, [], ◌∷◌, ◌++◌, length, take, drop, Ok, refl, sym, subst, ap, ◌∙◌, arith, add-one, append-nil, length-drop}
 use Rattle.std.proofs.lemmas.List.{append_assoc, take-append-drop}
 use Rattle.std.proofs.Math.Seq.{drop-append_seam, take-append_seam}
-use Rattle.pkcheck.specs.declared.stack.slots.Slot.{Slot}
-use Rattle.pkcheck.specs.declared.stack.slots.Slot.TheVariants as slot
-use Rattle.pkcheck.specs.declared.effects.Takes.{Takes}
-use Rattle.pkcheck.specs.declared.effects.Takes.TheVariants.{Objects, Slice, SliceAndReceiver}
-use Rattle.pkcheck.specs.Shape.{Entry, Mark, Item, front, marks_of, operands}
-use Rattle.pkcheck.specs.Knowledge.{Known}
-use Rattle.pkcheck.specs.Places.{below, above, from_bottom}
-use Rattle.pkcheck.specs.Slots.{known, entry_of, shown, values_of, FirstObject, StartsWell}
-use Rattle.pkcheck.specs.Denials.{HasFirst}
+use Rattle.pkcheck.specs.declared.machine.stack.slots.Slot.{Slot}
+use Rattle.pkcheck.specs.declared.machine.stack.slots.Slot.TheVariants as slot
+use Rattle.pkcheck.specs.declared.machine.effects.Takes.{Takes}
+use Rattle.pkcheck.specs.declared.machine.effects.Takes.TheVariants.{Objects, Slice, SliceAndReceiver}
+use Rattle.pkcheck.specs.Shape.{Entry, Mark, Item, front, operands}
+use Rattle.pkcheck.specs.declared.machine.value.Value.{Value}
+use Rattle.pkcheck.specs.Private.Places.{below, above, from_bottom}
+use Rattle.pkcheck.specs.Private.Slots.{entry_of, shown, values_of, FirstObject, StartsWell}
+use Rattle.pkcheck.specs.Private.Denials.{HasFirst}
 use Rattle.pkcheck.proofs.Shown.{shown_append}
 use Rattle.pkcheck.proofs.Limited.{length_shown}
 
-shown_over : (xs : List Slot) (es : List (Entry Known)) → shown xs es ≡ shown xs [] ++ es
+shown_over : (xs : List Slot) (es : List (Entry Value)) → shown xs es ≡ shown xs [] ++ es
 shown_over [] es = refl
 shown_over (x ∷ xs) es = rw (shown_over xs (entry_of x ∷ es), shown_over xs (entry_of x ∷ []), append_assoc) refl
 
@@ -31,10 +31,10 @@ below_shown n xs =
     ∙ ap (drop (length (shown (drop n xs) []))) (divided n xs)
     ∙ drop-append_seam (shown (drop n xs) []) (shown (take n xs) [])
 
-from_bottom_shown : (xs : List Slot) (es : List (Entry Known)) (ks : List Known) → from_bottom (shown xs es) ks ≡ from_bottom es (values_of xs ++ ks)
+from_bottom_shown : (xs : List Slot) (es : List (Entry Value)) (ks : List Value) → from_bottom (shown xs es) ks ≡ from_bottom es (values_of xs ++ ks)
 from_bottom_shown [] es ks = refl
 from_bottom_shown (slot.Mark ∷ xs) es ks = from_bottom_shown xs (Mark ∷ es) ks
-from_bottom_shown (slot.Object v ∷ xs) es ks = from_bottom_shown xs (Item (known v) ∷ es) ks
+from_bottom_shown (slot.Object v ∷ xs) es ks = from_bottom_shown xs (Item v ∷ es) ks
 
 pub above_shown : (n : ℕ) (xs : List Slot) → above n (shown xs []) ≡ values_of (drop n xs)
 above_shown n xs =
@@ -45,12 +45,12 @@ above_shown n xs =
     ∙ append-nil (values_of (drop n xs))
 
 -- the first of the objects from a place on
-left_first : (ss : List Slot) (below : List (Entry Known)) → FirstObject ss → shown (take 1 ss) below ≡ front (values_of ss) ++ below
+left_first : (ss : List Slot) (below : List (Entry Value)) → FirstObject ss → shown (take 1 ss) below ≡ front (values_of ss) ++ below
 left_first (slot.Object v ∷ ss) below h = refl
 left_first (slot.Mark ∷ ss) below h = absurd h
 left_first [] below h = absurd h
 
-left_is : (xs : List Slot) (n : ℕ) (below : List (Entry Known)) → FirstObject (drop n xs) → shown (take (suc n) xs) below ≡ front (values_of (drop n xs)) ++ shown (take n xs) below
+left_is : (xs : List Slot) (n : ℕ) (below : List (Entry Value)) → FirstObject (drop n xs) → shown (take (suc n) xs) below ≡ front (values_of (drop n xs)) ++ shown (take n xs) below
 left_is xs zero below h = left_first xs below h
 left_is (x ∷ xs) (suc n) below h = left_is xs n (entry_of x ∷ below) h
 left_is [] (suc n) below h = absurd h
@@ -70,34 +70,15 @@ pub one_more : {A : Type 0} (es : List (Entry A)) → 0 < length es → (e : Ent
 one_more (e ∷ es) h = (e, let k : length (e ∷ es) - (length (e ∷ es) - 1) ≡ 1 = omega arith in rw k refl)
 one_more [] h = absurd (omega arith)
 
--- ---- marks
-
-marks_append : {A : Type 0} (es fs : List (Entry A)) → marks_of (es ++ fs) ≡ marks_of es + marks_of fs
-marks_append [] fs = omega arith
-marks_append (Mark ∷ es) fs = let h = marks_append es fs in omega (arith, h)
-marks_append (Item x ∷ es) fs = marks_append es fs
-
-pub marks_divided : (n : ℕ) (xs : List Slot) → marks_of (shown xs []) ≡ marks_of (shown (drop n xs) []) + marks_of (shown (take n xs) [])
-marks_divided n xs = ap marks_of (divided n xs) ∙ marks_append (shown (drop n xs) []) (shown (take n xs) [])
-
--- what is no object is a mark
-marks_over : (xs : List Slot) (es : List (Entry Known)) → marks_of (shown xs es) + length (values_of xs) ≡ length xs + marks_of es
-marks_over [] es = omega arith
-marks_over (slot.Mark ∷ xs) es = let h = marks_over xs (Mark ∷ es) in omega (arith, h)
-marks_over (slot.Object v ∷ xs) es = let h = marks_over xs (Item (known v) ∷ es) in omega (arith, h)
-
-pub marks_counted : (xs : List Slot) → marks_of (shown xs []) + length (values_of xs) ≡ length xs
-marks_counted xs = let h = marks_over xs [] in omega (arith, h)
-
 -- ---- what the stack is, by the entries that it keeps
 
-pub how_long : (xs : List Slot) (es : List (Entry Known)) → shown xs [] ≡ es → length es ≡ length xs
+pub how_long : (xs : List Slot) (es : List (Entry Value)) → shown xs [] ≡ es → length es ≡ length xs
 how_long xs es is = sym (ap length is) ∙ length_shown xs
 
-pub place_within : (n : ℕ) (xs : List Slot) (es : List (Entry Known)) → shown xs [] ≡ es → n ≤ length es → n ≤ length xs
+pub place_within : (n : ℕ) (xs : List Slot) (es : List (Entry Value)) → shown xs [] ≡ es → n ≤ length es → n ≤ length xs
 place_within n xs es is h = let k = how_long xs es is in omega (arith, h, k)
 
-pub found_at : (takes : Takes) (n : ℕ) (xs : List Slot) (es : List (Entry Known)) → shown xs [] ≡ es → operands takes (shown xs []) ≡ Ok (record { operands = values_of (drop n xs); below = shown (take n xs) [] }) → operands takes es ≡ Ok (record { operands = above n es; below = below n es })
+pub found_at : (takes : Takes) (n : ℕ) (xs : List Slot) (es : List (Entry Value)) → shown xs [] ≡ es → operands takes (shown xs []) ≡ Ok (record { operands = values_of (drop n xs); below = shown (take n xs) [] }) → operands takes es ≡ Ok (record { operands = above n es; below = below n es })
 found_at takes n xs es is h = subst (λ fs. operands takes fs ≡ Ok (record { operands = above n fs; below = below n fs })) is (h ∙ (λ i. Ok (record { operands = sym (above_shown n xs) i; below = sym (below_shown n xs) i })))
 
 pub length_below : {A : Type 0} (n : ℕ) (es : List (Entry A)) → n ≤ length es → length (below n es) ≡ n

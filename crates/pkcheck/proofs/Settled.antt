@@ -4,12 +4,11 @@ use Rattle.std.proofs.Common.{◌≡◌, ℕ, zero, suc, Some, ◌+◌, ◌%◌,
 use Rattle.std.proofs.Math.ListN.{set}
 use Rattle.std.proofs.Math.Seq.{take-suc-set, take-suc}
 use Rattle.std.proofs.lemmas.Bool.Decides.{nat_tests}
-use Rattle.pkcheck.specs.declared.value.Value.{Value}
-use Rattle.pkcheck.specs.declared.stack.slots.Slot.{Slot}
-use Rattle.pkcheck.specs.declared.stack.slots.Slot.TheVariants as slot
+use Rattle.pkcheck.specs.declared.machine.value.Value.{Value}
+use Rattle.pkcheck.specs.declared.machine.stack.slots.Slot.{Slot}
+use Rattle.pkcheck.specs.declared.machine.stack.slots.Slot.TheVariants as slot
 use Rattle.pkcheck.specs.Shape.{is_even}
-use Rattle.pkcheck.specs.Knowledge.{Known}
-use Rattle.pkcheck.specs.Slots.{known, entry_of, shown, values_of}
+use Rattle.pkcheck.specs.Private.Slots.{entry_of, shown, values_of}
 use Rattle.pkcheck.proofs.Shown.{shown_append}
 
 pub shown_settled : (xs : List Slot) (n : ℕ) (s : Slot) → n < length xs → shown (take (n + 1) (set xs n s)) [] ≡ entry_of s ∷ shown (take n xs) []
@@ -18,7 +17,7 @@ shown_settled xs n s h = rw (add-one, take-suc-set xs n s) (shown_append (take n
 pub values_append : (xs ys : List Slot) → values_of (xs ++ ys) ≡ values_of xs ++ values_of ys
 values_append [] ys = refl
 values_append (slot.Mark ∷ xs) ys = values_append xs ys
-values_append (slot.Object v ∷ xs) ys = ap (λ l. known v ∷ l) (values_append xs ys)
+values_append (slot.Object v ∷ xs) ys = ap (λ l. v ∷ l) (values_append xs ys)
 
 parity : (n : ℕ) → eqb (suc n % 2) 0 ≡ not (eqb (n % 2) 0)
 parity n = grind (arith, nat_tests)
@@ -31,16 +30,16 @@ pub count_bar : (xs : List Slot) (n : ℕ) (d : Slot) → n < length xs → get_
 count_bar xs n d h e = rw (add-one, take-suc xs n d, e, values_append (take n xs) (slot.Mark ∷ []), append-nil) refl
 
 pub count_object : (xs : List Slot) (n : ℕ) (d : Slot) (v : Value) → n < length xs → get_or xs n d ≡ slot.Object v → length (values_of (take (n + 1) xs)) ≡ length (values_of (take n xs)) + 1
-count_object xs n d v h e = rw (add-one, take-suc xs n d, e, values_append (take n xs) (slot.Object v ∷ []), length-append (values_of (take n xs)) (known v ∷ [])) refl
+count_object xs n d v h e = rw (add-one, take-suc xs n d, e, values_append (take n xs) (slot.Object v ∷ []), length-append (values_of (take n xs)) (v ∷ [])) refl
 
 -- the object that so many others stand before
-pub object_at : (xs : List Slot) (n : ℕ) (d : Slot) (v : Value) → n < length xs → get_or xs n d ≡ slot.Object v → slice_get (values_of xs) (length (values_of (take n xs))) ≡ Some (known v)
+pub object_at : (xs : List Slot) (n : ℕ) (d : Slot) (v : Value) → n < length xs → get_or xs n d ≡ slot.Object v → slice_get (values_of xs) (length (values_of (take n xs))) ≡ Some v
 object_at (x ∷ xs) zero d v h e = rw e refl
 object_at (slot.Mark ∷ xs) (suc n) d v h e = object_at xs n d v (omega (arith, h)) e
 object_at (slot.Object w ∷ xs) (suc n) d v h e = object_at xs n d v (omega (arith, h)) e
 object_at [] n d v h e = absurd (omega (arith, h))
 
-pub both : (ks : List Known) (j k : Known) → length ks ≡ 2 → slice_get ks 0 ≡ Some j → slice_get ks 1 ≡ Some k → ks ≡ j ∷ k ∷ []
+pub both : (ks : List Value) (j k : Value) → length ks ≡ 2 → slice_get ks 0 ≡ Some j → slice_get ks 1 ≡ Some k → ks ≡ j ∷ k ∷ []
 both (x ∷ y ∷ []) j k h e f = cc
 both (x ∷ y ∷ z ∷ ks) j k h e f = absurd (omega (arith, h))
 both (x ∷ []) j k h e f = absurd (omega (arith, h))

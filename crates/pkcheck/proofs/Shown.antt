@@ -1,18 +1,13 @@
 -- What the machine's fields say, as they change.
 use Rattle.std.proofs.Common.{◌≡◌, ℕ, suc, ◌<◌, List, [], ◌∷◌, ◌++◌, length, take, drop, get_or, Ok, Err, refl, ◌+◌, arith, length-drop}
-use Rattle.std.specs.Ordering.{nat_cmp}
-use Rattle.std.specs.BTreeMap.{insert_entry}
 use Rattle.std.proofs.Math.Seq.{take-suc, drop-cons}
-use Rattle.pkcheck.specs.declared.value.Value.{Value}
-use Rattle.pkcheck.specs.declared.stack.slots.Slot.{Slot}
-use Rattle.pkcheck.specs.declared.stack.slots.Slot.TheVariants as slot
+use Rattle.pkcheck.specs.declared.machine.value.Value.{Value}
+use Rattle.pkcheck.specs.declared.machine.stack.slots.Slot.{Slot}
+use Rattle.pkcheck.specs.declared.machine.stack.slots.Slot.TheVariants as slot
 use Rattle.pkcheck.specs.Shape.{NoItem, Entry, slice, items}
-use Rattle.pkcheck.specs.Knowledge.{Known}
-use Rattle.pkcheck.specs.Covers.{Pointwise, AlikeCell}
-use Rattle.pkcheck.specs.Slots.{AllObjects, FirstObject, known, entry_of, shown, values_of, remembered}
-use Rattle.pkcheck.proofs.Alike.{insert_alike}
+use Rattle.pkcheck.specs.Private.Slots.{AllObjects, FirstObject, entry_of, shown, values_of}
 
-pub shown_append : (xs ys : List Slot) (below : List (Entry Known)) → shown (xs ++ ys) below ≡ shown ys (shown xs below)
+pub shown_append : (xs ys : List Slot) (below : List (Entry Value)) → shown (xs ++ ys) below ≡ shown ys (shown xs below)
 shown_append [] ys below = refl
 shown_append (x ∷ xs) ys below = shown_append xs ys (entry_of x ∷ below)
 
@@ -41,19 +36,6 @@ items_at_bottom xs m k j e g = rw (g, e) refl
 
 pub items_done : (xs : List Slot) (m k : ℕ) → k ≡ 0 → items k (shown (take m xs) []) (values_of (drop m xs)) ≡ Ok (record { operands = values_of (drop m xs); below = shown (take m xs) [] })
 items_done xs m k e = rw e refl
-
-remembered_alike : (es : List (ℕ × Value)) → Pointwise (AlikeCell (λ v k. known v ≡ k)) es (remembered es)
-remembered_alike [] = tt
-remembered_alike (e ∷ es) = ((refl, refl), remembered_alike es)
-
-alike_remembered : (es : List (ℕ × Value)) (fs : List (ℕ × Known)) → Pointwise (AlikeCell (λ v k. known v ≡ k)) es fs → remembered es ≡ fs
-alike_remembered [] [] h = refl
-alike_remembered (e ∷ es) (f ∷ fs) h = λ i. (h.0.0 i, h.0.1 i) ∷ alike_remembered es fs h.1 i
-alike_remembered [] (f ∷ fs) h = absurd h
-alike_remembered (e ∷ es) [] h = absurd h
-
-pub remembered_insert : (es : List (ℕ × Value)) (n : ℕ) (v : Value) → remembered (insert_entry nat_cmp es n v) ≡ insert_entry nat_cmp (remembered es) n (known v)
-remembered_insert es n v = alike_remembered _ _ (insert_alike (λ v k. known v ≡ k) n v (known v) es (remembered es) refl (remembered_alike es))
 
 pub starts_well : (xs : List Slot) (n k : ℕ) → n + k ≡ length xs → length (drop n xs) ≡ k
 starts_well xs n k e = omega (arith, length-drop n xs)

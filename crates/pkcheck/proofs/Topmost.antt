@@ -1,11 +1,11 @@
 -- The top of the stack, on the entries that it keeps.
 use Rattle.std.proofs.Common.{◌≡◌, ℕ, suc, ◌-◌, ◌<◌, List, [], ◌∷◌, length, take, drop, get_or, Ok, Err, refl, subst, arith}
 use Rattle.std.proofs.Math.Seq.{take-length}
-use Rattle.pkcheck.specs.declared.value.Value.{Value}
-use Rattle.pkcheck.specs.declared.stack.slots.Slot.{Slot}
-use Rattle.pkcheck.specs.declared.stack.slots.Slot.TheVariants as slot
+use Rattle.pkcheck.specs.declared.machine.value.Value.{Value}
+use Rattle.pkcheck.specs.declared.machine.stack.slots.Slot.{Slot}
+use Rattle.pkcheck.specs.declared.machine.stack.slots.Slot.TheVariants as slot
 use Rattle.pkcheck.specs.Shape.{top, NoItem}
-use Rattle.pkcheck.specs.Slots.{known, entry_of, shown}
+use Rattle.pkcheck.specs.Private.Slots.{entry_of, shown}
 use Rattle.pkcheck.proofs.Shown.{shown_take}
 
 pub shown_top : (xs : List Slot) (n : ℕ) (d x : Slot) → length xs ≡ suc n → get_or xs n d ≡ x → shown xs [] ≡ entry_of x ∷ shown (take n xs) []
@@ -16,7 +16,7 @@ top_mark xs d h e =
     let is : length xs ≡ suc (length xs - 1) = omega arith in
     rw (shown_top xs (length xs - 1) d slot.Mark is e) refl
 
-pub top_object : (xs : List Slot) (d : Slot) (v : Value) → 0 < length xs → get_or xs (length xs - 1) d ≡ slot.Object v → top (shown xs []) ≡ Ok (known v, drop 1 (shown xs []))
+pub top_object : (xs : List Slot) (d : Slot) (v : Value) → 0 < length xs → get_or xs (length xs - 1) d ≡ slot.Object v → top (shown xs []) ≡ Ok (v, drop 1 (shown xs []))
 top_object xs d v h e =
     let is : length xs ≡ suc (length xs - 1) = omega arith in
     rw (shown_top xs (length xs - 1) d (slot.Object v) is e) refl

@@ -1,20 +1,21 @@
 //! What an import asks for.
-ghost use Rattle.std.specs.Prelude.{◌≡◌, ◌⊎◌, option_map, IfOk, IfErr, None, Some};
-ghost use Rattle.pkcheck.specs.Slots.{known};
+ghost use Rattle.std.specs.Prelude.{◌≡◌, ◌⊎◌, map, option_map, IfOk, IfErr, None, Some};
+ghost use Rattle.pkcheck.specs.Private.Slots.{known};
 ghost use Rattle.pkcheck.specs.Knowledge.{AskedPair, asked_of, operands_asked, NotText};
 ghost use Rattle.pkops.specs.Inst.{instruction_of};
 ghost use Rattle.pkcheck.specs.Import.{asked_shown};
-ghost use Rattle.pkcheck.specs.Denials.{MayName};
+ghost use Rattle.pkcheck.specs.Private.Denials.{MayName};
 
-use crate::effects::Names;
-use crate::stack::Operands;
-use crate::value::Value;
+use crate::machine::effects::Names;
+use crate::machine::stack::Operands;
+use crate::machine::texts::Texts;
+use crate::machine::value::Value;
 use pkops::Inst;
 use pkread::Reason;
 use std::alloc::Global;
 
 /// The pair of an import, or that it is not known.
-#[derive(Drop)]
+#[derive(Debug, Drop, PartialEq, Eq)]
 pub enum Asked {
     /// A pair, as the pickle writes it.
     Pair {
@@ -28,11 +29,11 @@ pub enum Asked {
 }
 
 /// A pair of these names.
-pub fn pair_of(alloc: Global, home: &str, name: &str) -> Result<Asked, Reason>
-    ensures ok { IfOk result (λ a. asked_shown a ≡ AskedPair home.now name.now) }
+pub fn pair_of(alloc: Global, module_name: &str, name: &str) -> Result<Asked, Reason>
+    ensures ok { IfOk result (λ a. asked_shown a ≡ AskedPair module_name.now name.now) }
     ensures err { IfErr result (λ r. r ≡ Reason.OutOfMemory) }
 {
-    match String::from_str(alloc, home) {
+    match String::from_str(alloc, module_name) {
         Ok(first) => match String::from_str(alloc, name) {
             Ok(second) => Ok(Asked::Pair {
                 module: first,
@@ -45,11 +46,19 @@ pub fn pair_of(alloc: Global, home: &str, name: &str) -> Result<Asked, Reason>
 }
 
 /// The pair that two operands name.
-pub fn texts_asked(alloc: Global, home: &Value, name: &Value) -> Result<Asked, Reason>
-    ensures ok { IfOk result (λ a. operands_asked None (known home.now) (known name.now) ≡ Ok (Some (asked_shown a))) }
-    ensures err { IfErr result (λ r. ((operands_asked None (known home.now) (known name.now) ≡ Err NotText) × (r ≡ Reason.NotText)) ⊎ (r ≡ Reason.OutOfMemory)) }
+pub fn texts_asked(
+    alloc: Global,
+    texts: &Texts,
+    module_name: Value,
+    name: Value,
+) -> Result<Asked, Reason>
+    ensures ok { IfOk result
+        (λ a. operands_asked None (known texts.now module_name) (known texts.now name)
+        ≡ Ok (Some (asked_shown a))) }
+    ensures err { IfErr result (λ r. ((operands_asked None (known texts.now module_name)
+        (known texts.now name) ≡ Err NotText) × (r ≡ Reason.NotText)) ⊎ (r ≡ Reason.OutOfMemory)) }
 {
-    match home {
+    match module_name {
         Value::Made(_) => Err(Reason::NotText),
         Value::Unknown => match name {
             Value::Made(_) => Err(Reason::NotText),
@@ -58,7 +67,11 @@ pub fn texts_asked(alloc: Global, home: &Value, name: &Value) -> Result<Asked, R
         Value::Text(first) => match name {
             Value::Made(_) => Err(Reason::NotText),
             Value::Unknown => Ok(Asked::Unknown),
-            Value::Text(second) => pair_of(alloc, first.as_str(), second.as_str()),
+            Value::Text(second) => pair_of(
+                alloc,
+                texts.get(first as usize),
+                texts.get(second as usize),
+            ),
         },
     }
 }
@@ -68,30 +81,28 @@ pub fn asked_by(
     alloc: Global,
     names: Names,
     inst: &Inst,
+    texts: &Texts,
     operands: &Operands<'_>,
 ) -> Result<Option<Asked>, Reason>
-    ensures ok { IfOk result (λ a. asked_of None names (instruction_of inst.now) operands.now ≡ Ok (option_map asked_shown a)) }
-    ensures err { IfErr result (λ r. ((asked_of None names (instruction_of inst.now) operands.now ≡ Err NotText) × (r ≡ Reason.NotText)) ⊎ (MayName names × (r ≡ Reason.OutOfMemory))) }
+    ensures ok { IfOk result (λ a. asked_of None names (instruction_of inst.now)
+        (map (known texts.now) operands.now) ≡ Ok (option_map asked_shown a)) }
+    ensures err { IfErr result (λ r. ((asked_of None names (instruction_of inst.now)
+        (map (known texts.now) operands.now) ≡ Err NotText) × (r ≡ Reason.NotText)) ⊎ (MayName names
+        × (r ≡ Reason.OutOfMemory))) }
 {
     match names {
         Names::NoName => Ok(None),
         Names::OfArgument => {
-            let Some((home, name)) = inst.pair() else {
+            let Some((module_name, name)) = inst.pair() else {
                 return Ok(None);
             };
-            match pair_of(alloc, home, name) {
-                Ok(asked) => Ok(Some(asked)),
-                Err(reason) => Err(reason),
-            }
+            Ok(Some(pair_of(alloc, module_name, name)?))
         }
         Names::OfOperands => {
-            let Some((home, name)) = operands.pair() else {
+            let Some((module_name, name)) = operands.pair() else {
                 return Ok(None);
             };
-            match texts_asked(alloc, home, name) {
-                Ok(asked) => Ok(Some(asked)),
-                Err(reason) => Err(reason),
-            }
+            Ok(Some(texts_asked(alloc, texts, module_name, name)?))
         }
     }
 }

@@ -1,35 +1,50 @@
 //! The machine that knows what every run knows, and runs nothing.
-ghost use Rattle.std.specs.Prelude.{◌≡◌, ◌≢◌, ◌⊎◌, [], ◌∷◌, ◌++◌, map, option_map, IfOk, IfErr, IfSome, OnOk, OnErr, true, false};
+
+pub(crate) mod effects;
+mod held;
+pub(crate) mod in_frames;
+mod memo;
+mod moves;
+mod operate;
+pub(crate) mod stack;
+mod stepping;
+pub(crate) mod texts;
+pub(crate) mod value;
+
+ghost use Rattle.std.specs.Prelude.{◌≡◌, map, option_map, is_some, IfOk, IfErr, IsTrue, OnOk, true};
+ghost use Rattle.std.specs.Prelude.{false};
 ghost use Rattle.pkops.specs.Inst.{instruction_of};
 ghost use Rattle.pkops.specs.Admitted.{is_admitted};
-ghost use Rattle.pkcheck.specs.Effects.{effect_of};
+ghost use Rattle.pkops.specs.Spelling.{Instruction};
 ghost use Rattle.pkcheck.specs.Shape.{marks_of};
-ghost use Rattle.pkcheck.specs.Runs.{State, Outcome, start};
-ghost use Rattle.pkcheck.specs.Knowledge.{AskedUnknown, advance};
+ghost use Rattle.pkcheck.specs.Runs.{State, start};
 ghost use Rattle.pkcheck.specs.Covers.{Covers};
-ghost use Rattle.pkcheck.specs.Faults.{AsksForTwo, HasNoFault};
 ghost use Rattle.pkcheck.specs.Import.{asked_shown, policy_of, pair_shown};
-ghost use Rattle.pkcheck.specs.Memory.{WantsNoMemory};
-ghost use Rattle.pkcheck.specs.View.{fresh, stopped_by, GoesOn, Refuses, LacksMemory, CoveredOn, NamesFault};
+ghost use Rattle.pkops.specs.Payloads.{is_passed};
+ghost use Rattle.pkcheck.specs.Stepping.{AnswersAgain, AppendsPermitted, Fails, GoesOn, IfFirst};
+ghost use Rattle.pkcheck.specs.Stepping.{IsNoFalseAlarm, IsStep, MayLackMemory, MeansInEachRun};
+ghost use Rattle.pkcheck.specs.Stepping.{PassesNoFault, RefusesForGood, UnknownIsNeeded};
+ghost use Rattle.pkcheck.specs.Texts.{texts_then};
+ghost use Rattle.pkcheck.specs.View.{fresh, has_off_list, stopped_by};
 
 use crate::import::Asked;
-use crate::memo::Memo;
+use crate::machine::effects::class_passed;
+use crate::machine::held::Held;
+use crate::machine::stepping::advance;
 use crate::policy::Policy;
-use crate::stack::Stack;
-use crate::turn::{Moved, advance};
-use pkops::{Inst, Limits};
+use pkops::{Inst, Limits, Op};
 use pkread::Reason;
 use std::alloc::Global;
 use std::marker::Model;
+pub use stepping::Moved;
 
-/// A machine that goes over the instructions of a pickle and knows what is true in every run of it, whatever the
-/// operations in it answer. It runs nothing: of an object that an operation answers it knows nothing, of every other
-/// the class, and of a text its characters.
+/// A machine that goes over the instructions of a pickle and knows what is true in every run of it,
+/// whatever the operations in it answer. It runs nothing: of an object that an operation answers it
+/// knows nothing, of every other the class, and of a text its characters.
 #[derive(Drop)]
 pub struct Machine {
     alloc: Global,
-    stack: Stack,
-    memo: Memo,
+    held: Held,
     imports: Vec<Asked>,
     limits: Limits,
     refused: Option<Reason>,
@@ -42,24 +57,37 @@ impl Model for Machine {
 
     ghost Value = { View };
 
-    ghost use Rattle.std.specs.Prelude.{◌≤◌, ◌≡◌, None, length, map, option_map};
-    ghost use Rattle.pkcheck.specs.Import.{asked_shown};
+    ghost use Rattle.std.specs.Prelude.{◌≡◌, None, is_some, length, map, option_map};
+    ghost use Rattle.pkcheck.specs.Import.{asked_shown, pair_shown};
+    ghost use Rattle.pkcheck.specs.Private.Denials.{IsWithin};
+    ghost use Rattle.pkcheck.specs.View.{has_off_list};
 
-    ghost view = { λ m. record { knowledge = record { entries = m.stack; memo = m.memo }; limits = m.limits; imports = map asked_shown m.imports.items; off = option_map asked_shown m.off; refused = m.refused; stopped = m.stopped } };
+    ghost view = { λ m. record {
+      knowledge = m.held.knowledge;
+      limits = m.limits;
+      imports = map asked_shown m.imports.items;
+      off = option_map asked_shown m.off;
+      refused = m.refused;
+      stopped = m.stopped;
+      texts = m.held.texts;
+    } };
 
-    ghost invariant = { λ m. m.refused ≡ None → (length m.stack ≤ m.limits.stack) × (length m.memo ≤ m.limits.memo) };
+    // a machine that has not refused is within its limits, and one names a pair exactly where it
+    // was off the list
+    ghost invariant = { λ m. (m.refused ≡ None → IsWithin m.limits m.held.knowledge)
+        × (is_some (pair_shown (option_map asked_shown m.off)) ≡ has_off_list m.refused) };
 }
 
 impl Machine {
-    /// A machine at the first instruction: nothing is known, and nothing is there. It takes no memory.
+    /// A machine at the first instruction: nothing is known, and nothing is there. It takes no
+    /// memory.
     pub fn new(alloc: Global, limits: &Limits) -> Machine
         ensures fresh { result ≡ fresh limits.now }
         ensures covers { Covers result.knowledge start }
     {
         Machine {
             alloc,
-            stack: Stack::new(alloc),
-            memo: Memo::new(alloc),
+            held: Held::new(alloc),
             imports: Vec::new(alloc),
             limits: *limits,
             refused: None,
@@ -68,40 +96,50 @@ impl Machine {
         }
     }
 
-    /// One step over an instruction that is admitted, where STOP was not yet: what it needs is looked for, its import
-    /// is listed, and what is known changes.
+    /// One step over an instruction that is admitted, where STOP was not yet: what it needs is
+    /// looked for, its import is listed, and what is known changes.
     ///
     /// # Errors
     ///
-    /// The first of these that is no false alarm: `MissingMark`, `MissingItem`, `MissingMemo`, `OddItems`,
-    /// `WrongClass`, `NotText`, `UnknownImport`, `ImportOffList`, `LeftOver`, and `TooLarge` where the stack or the
-    /// memo would be past its limit; or `OutOfMemory`, where a growth was refused. A refused step leaves the imports
-    /// and the marks, and after it the same reason is answered for ever.
+    /// The first of these that is no false alarm: `MissingMark`, `MissingItem`, `MissingMemo`,
+    /// `OddItems`, `WrongClass`, `NotText`, `UnknownImport`, `ImportOffList`, `LeftOver`, and
+    /// `TooLarge` where the stack or the memo would be past its limit; or `OutOfMemory`, where a
+    /// growth was refused. A refused step leaves the imports and the marks, and after it the same
+    /// reason is answered for ever.
     pub fn step(&mut self, inst: &Inst, policy: &Policy) -> Result<Moved, Reason>
         requires admitted { is_admitted (instruction_of inst.now) ≡ true }
         requires running { self.old.stopped ≡ false }
-        ensures again { IfSome self.old.refused (λ reason. (result ≡ Err reason) × (self.new ≡ self.old)) }
-        ensures ok { self.old.refused ≡ None → IfOk result (λ moved. GoesOn (effect_of (instruction_of inst.now).op) (advance (policy_of policy.now) self.old.limits (instruction_of inst.now) self.old.knowledge) self.old self.new moved) }
-        ensures err { self.old.refused ≡ None → IfErr result (λ reason. Refuses (advance (policy_of policy.now) self.old.limits (instruction_of inst.now) self.old.knowledge) self.old self.new reason ⊎ LacksMemory self.old self.new reason) }
+        ensures again { AnswersAgain self.old self.new result }
+        ensures goes_on { IfOk result (GoesOn (policy_of policy.now) (instruction_of inst.now)
+            self.old self.new) }
         // what going on means in each state of a run that is covered, for each outcome
-        ensures covered { (s : State) (o : Outcome) → self.old.refused ≡ None → Covers self.old.knowledge s → OnOk result (CoveredOn (policy_of policy.now) self.old self.new (instruction_of inst.now) s o) }
-        // no fault is passed by
-        ensures no_fault { self.old.refused ≡ None → OnOk result (HasNoFault (policy_of policy.now) self.old.limits (Covers self.old.knowledge) (instruction_of inst.now)) }
+        ensures covered { OnOk result (MeansInEachRun (policy_of policy.now)
+            (instruction_of inst.now) self.old self.new) }
+        ensures permitted { OnOk result (AppendsPermitted (policy_of policy.now)
+            self.old.imports self.new.imports) }
+        ensures no_fault { OnOk result (PassesNoFault (policy_of policy.now)
+            (instruction_of inst.now) self.old self.new) }
+        ensures unknown { OnOk result (UnknownIsNeeded (policy_of policy.now)
+            (instruction_of inst.now) self.old self.new) }
+        ensures texts { OnOk result (self.new.texts
+            ≡ texts_then (instruction_of inst.now).op self.old.texts) }
+        ensures fails { IfFirst self.old result (Fails (policy_of policy.now)
+            (instruction_of inst.now) self.old self.new) }
         // no refusal is a false alarm
-        ensures fault { self.old.refused ≡ None → IfErr result (λ reason. NamesFault (policy_of policy.now) self.old self.new (instruction_of inst.now) reason ⊎ (reason ≡ Reason.OutOfMemory)) }
-        ensures unknown { self.old.refused ≡ None → OnOk result (self.new.imports ≡ self.old.imports ++ AskedUnknown ∷ [] → AsksForTwo (Covers self.old.knowledge) (instruction_of inst.now)) }
-        ensures no_memory { self.old.refused ≡ None → WantsNoMemory (instruction_of inst.now).op → IfErr result (λ reason. reason ≢ Reason.OutOfMemory) }
-        ensures kept { OnErr result ((self.new.imports ≡ self.old.imports) × (self.new.knowledge ≡ self.old.knowledge)) }
+        ensures alarm { IfFirst self.old result (IsNoFalseAlarm (policy_of policy.now)
+            (instruction_of inst.now) self.old self.new) }
+        ensures memory { IfFirst self.old result (MayLackMemory (policy_of policy.now)
+            (instruction_of inst.now) self.old self.new) }
+        ensures kept { IfErr result (RefusesForGood self.old self.new) }
     {
         if let Some(reason) = self.refused {
             return Err(reason);
         }
         match advance(
             self.alloc,
-            &mut self.stack,
-            &mut self.memo,
+            &mut self.held,
             &mut self.imports,
-            self.limits,
+            &self.limits,
             inst,
             policy,
         ) {
@@ -118,12 +156,48 @@ impl Machine {
         }
     }
 
+    /// One step over an instruction of this opcode, which makes bytes of its payload: what
+    /// [`Machine::step`] answers for any such instruction, whose payload need not be there. Where
+    /// STOP was not yet.
+    ///
+    /// # Errors
+    ///
+    /// `TooLarge` where the stack would be past its limit; or `OutOfMemory`, where a growth was
+    /// refused.
+    pub fn step_passed(&mut self, op: Op, policy: &Policy) -> Result<Moved, Reason>
+        requires passed { IsTrue (is_passed op) }
+        requires running { self.old.stopped ≡ false }
+        ensures { (instruction : Instruction) → instruction.op ≡ op
+            → IsStep (policy_of policy.now) instruction self.old self.new result }
+    {
+        if let Some(earlier) = self.refused {
+            return Err(earlier);
+        }
+        match self.held.make(&self.limits, class_passed(op)) {
+            Ok(()) => Ok(Moved::On),
+            Err(reason) => {
+                self.refused = Some(reason);
+                self.off = None;
+                Err(reason)
+            }
+        }
+    }
+
     /// The number of open marks, which is the same in every run.
     pub fn marks(&self) -> usize
         ensures known { result ≡ marks_of self.now.knowledge.entries }
-        ensures covered { (s : State) → Covers self.now.knowledge s → result ≡ marks_of s.shape.entries }
+        ensures covered { (state : State) → Covers self.now.knowledge state
+            → result ≡ marks_of state.shape.entries }
     {
-        self.stack.marks()
+        self.held.marks()
+    }
+
+    /// The number of texts in the table: a step that goes on raises it by one for UNICODE,
+    /// SHORT_BINUNICODE, BINUNICODE and BINUNICODE8, and leaves it for the others.
+    pub fn texts(&self) -> usize
+        ensures { result ≡ self.now.texts }
+    {
+        self.held.texts()
     }
 
     /// The imports so far, in order.
@@ -133,12 +207,19 @@ impl Machine {
         &self.imports
     }
 
-    /// The pair that was off the list: the module and the name, after a refusal for this reason alone.
+    /// The pair that was off the list: the module and the name, after a refusal for this reason
+    /// alone.
     pub fn off_list(&self) -> Option<(&str, &str)>
-        ensures { option_map (λ p. (p.0.now, p.1.now)) result ≡ pair_shown self.now.off }
+        ensures pair { option_map (λ p. (p.0.now, p.1.now)) result ≡ pair_shown self.now.off }
+        ensures present { is_some result ≡ has_off_list self.now.refused }
     {
         match &self.off {
-            Some(Asked::Pair { module: home, name }) => Some((home.as_str(), name.as_str())),
+            Some(
+                Asked::Pair {
+                    module: module_name,
+                    name,
+                },
+            ) => Some((module_name.as_str(), name.as_str())),
             _ => None,
         }
     }

@@ -11,11 +11,11 @@ use Rattle.pkops.specs.declared.layout.Layout.TheVariants as layout
 use Rattle.pkops.specs.declared.layout.Width.{Width}
 use Rattle.pkops.specs.declared.fault.Fault.{Fault}
 use Rattle.pkops.specs.declared.fault.Fault.TheVariants.{UnknownOpcode, BadArgument, TooLarge}
-use Rattle.pkops.specs.declared.fault.Stop.{Stop}
-use Rattle.pkops.specs.declared.fault.Stop.TheVariants.{Short, Bad}
+use Rattle.pkops.specs.declared.reading.Unread.{Unread}
+use Rattle.pkops.specs.declared.reading.Unread.TheVariants.{Short, Bad}
 use Rattle.pkops.specs.Spelling.{Argument, Nothing, Number, Signed, Float, Line, Pair, Counted, Suits, laid, IsLine}
 use Rattle.pkops.specs.Scanning.{IsWithin, MayBegin, IsNegative, Passes}
-use Rattle.pkops.specs.Reading.{◌>>=◌, arg_at}
+use Rattle.pkops.specs.Private.Reading.{◌>>=◌, arg_at}
 use Rattle.pkops.proofs.Exact.{IsBytes, Lacks, Takes, IsExact}
 use Rattle.pkops.proofs.Fields.{ok_is, NoFault, self, number_exact, bytes_exact, some_left}
 use Rattle.pkops.proofs.Lines.{LineFault, line_text, line_exact}
@@ -45,11 +45,11 @@ record Wraps {X : Type 0} (limit : ℕ) (lay : Layout) (Is : X → Type 0) (May 
   fault_forth : (fault : Fault) (bytes : List ℕ) → Faulty fault bytes → ArgFault limit lay fault bytes
   fault_back : (fault : Fault) (bytes : List ℕ) → ArgFault limit lay fault bytes → Faulty fault bytes
 
-module _ {X : Type 0} (read : List ℕ → Result (X × List ℕ) Stop) (Is : X → Type 0) (May : X → List ℕ → Type 0) (text : X → List ℕ) (Faulty : Fault → List ℕ → Type 0) (ex : IsExact read Is May text Faulty) (limit : ℕ) (lay : Layout) (g : X → Argument) (wr : Wraps limit lay Is May text Faulty g) where
-  abbrev end : X × List ℕ → Result (Argument × List ℕ) Stop
+module _ {X : Type 0} (read : List ℕ → Result (X × List ℕ) Unread) (Is : X → Type 0) (May : X → List ℕ → Type 0) (text : X → List ℕ) (Faulty : Fault → List ℕ → Type 0) (ex : IsExact read Is May text Faulty) (limit : ℕ) (lay : Layout) (g : X → Argument) (wr : Wraps limit lay Is May text Faulty g) where
+  abbrev end : X × List ℕ → Result (Argument × List ℕ) Unread
   end x = Ok (g x.0, x.1)
 
-  abbrev wrapped : List ℕ → Result (Argument × List ℕ) Stop
+  abbrev wrapped : List ℕ → Result (Argument × List ℕ) Unread
   wrapped bytes = read bytes >>= end
 
   wrapped_takes : (bytes : List ℕ) (a : Argument) (rest : List ℕ) → IsBytes bytes → wrapped bytes ≡ Ok (a, rest) → Takes (IsArgument limit lay) (laid lay) bytes a rest

@@ -8,20 +8,19 @@ use Rattle.pkops.specs.declared.contents.Rule.TheVariants as rule
 use Rattle.pkops.specs.Spelling.{Argument, Line, Pair, Counted}
 use Rattle.pkops.specs.Contents.{Keeps}
 use Rattle.pkops.specs.Deciding.{passes, is_name}
-use Rattle.pkops.specs.Escapes.{IsTextLine}
-use Rattle.pkops.specs.EscapeSteps.{text_named}
-use Rattle.pkops.proofs.EscapesRead.{read_is_spelled, spelled_is_read}
+use Rattle.pkops.specs.Escapes.{IsTextLine, points_of}
+use Rattle.pkops.proofs.EscapesSpelled.{points_of_spelled, spelled_points}
 use Rattle.pkops.proofs.Floats.{float_is, is_float_of}
 use Rattle.pkops.proofs.Names.{ascii_is, is_ascii_of, name_is, is_name_of}
 use Rattle.pkops.proofs.Numerals.{int_is, is_int_of, long_is, is_long_of, memo_number_is, is_memo_number_of}
 use Rattle.pkops.proofs.OldStrings.{string_is, is_string_of}
 
-some_read : (line : List ℕ) (read : Option (List ℕ)) → text_named line ≡ read → is_some read ≡ true → IsTextLine line
+some_read : (line : List ℕ) (read : Option (List ℕ)) → points_of line ≡ read → is_some read ≡ true → IsTextLine line
 some_read line None e some = absurd cc
-some_read line (Some points) e some = (points, read_is_spelled line points e)
+some_read line (Some points) e some = (points, spelled_points line points e)
 
-text_of : (line : List ℕ) → IsTextLine line → is_some (text_named line) ≡ true
-text_of line (points, spelled) = ap is_some (spelled_is_read line points spelled)
+text_of : (line : List ℕ) → IsTextLine line → is_some (points_of line) ≡ true
+text_of line (points, spelled) = ap is_some (points_of_spelled line points spelled)
 
 pub keeps_is : (r : Rule) (a : Argument) → passes r a ≡ true → Keeps r a
 keeps_is rule.Anything a e = tt
@@ -35,7 +34,7 @@ keeps_is rule.Float (Line line) e = float_is line e
 keeps_is rule.Float _ e = absurd cc
 keeps_is rule.OldString (Line line) e = string_is line e
 keeps_is rule.OldString _ e = absurd cc
-keeps_is rule.Escapes (Line line) e = some_read line (text_named line) refl e
+keeps_is rule.Escapes (Line line) e = some_read line (points_of line) refl e
 keeps_is rule.Escapes _ e = absurd cc
 keeps_is rule.Utf8 (Counted payload) e = IsUtf8-from_is_utf8 payload e
 keeps_is rule.Utf8 _ e = absurd cc

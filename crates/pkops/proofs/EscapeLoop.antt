@@ -5,7 +5,26 @@ use Rattle.std.specs.Option.{option_map, option_and_then}
 use Rattle.std.proofs.lemmas.List.{append-nil, nil_from_length, length-drop}
 use Rattle.pkops.specs.declared.contents.escapes.State.{State}
 use Rattle.pkops.specs.declared.contents.escapes.State.TheVariants.{Outside, Behind, Digits}
-use Rattle.pkops.specs.EscapeSteps.{step_of, with_point, code_points}
+use Rattle.pkops.specs.Private.EscapeSteps.{step_of}
+
+-- code points behind the one of a character that just ended, if one did
+abbrev pub with_point : Option ℕ → List ℕ → List ℕ
+with_point None points = points
+with_point (Some point) points = point ∷ points
+
+-- the code points of the characters that bytes end, from a state on; none if they end inside one
+unfoldable pub code_points : State → List ℕ → Option (List ℕ)
+code_points Outside [] = Some []
+code_points Behind [] = None
+code_points (Digits left value) [] = None
+code_points state (byte ∷ bytes) =
+    option_and_then
+    (λ next. option_map (with_point next.1) (code_points next.0 bytes))
+    (step_of state byte)
+
+-- the code points of a line, if it spells a text
+abbrev pub text_named : List ℕ → Option (List ℕ)
+text_named line = code_points Outside line
 
 abbrev pub joined : List ℕ → Option (List ℕ) → Option (List ℕ)
 joined front rest = option_map (λ cs. front ++ encode_utf8_all cs) rest

@@ -1,5 +1,6 @@
 -- What is read of a line of text with escapes is exactly the text that it spells.
 use Rattle.std.proofs.Common.{◌≡◌, ◌⊎◌, ℕ, ◌+◌, ◌-◌, ◌*◌, ◌<◌, ◌≤◌, true, false, eqb, ltb, leb, List, [], ◌∷◌, ◌++◌, length, map, Option, Some, None, refl, sym, ap, subst, ◌∙◌, append_assoc, arith, inl, inr}
+use Rattle.std.specs.Prelude.{encode_utf8_all}
 use Rattle.std.specs.List.{All, list_all, flat_map}
 use Rattle.std.specs.Option.{option_map, option_and_then}
 use Rattle.std.specs.Char.{IsScalar, is_ascii_hexdigit, digit_value}
@@ -11,9 +12,10 @@ use Rattle.std.proofs.lemmas.List.Sums.{AllPass-from_list_all, list_all-from_All
 use Rattle.std.proofs.lemmas.List.Folds.{list_all-append}
 use Rattle.pkops.specs.declared.contents.escapes.State.{State}
 use Rattle.pkops.specs.declared.contents.escapes.State.TheVariants.{Outside, Behind, Digits}
-use Rattle.pkops.specs.Escapes.{Character, plain, short, long, print_character, code_point, IsEscape, IsCharacter, SpellsText}
-use Rattle.pkops.specs.EscapeSteps.{is_scalar, step_of, with_point, code_points, text_named}
-use Rattle.pkops.proofs.EscapeLoop.{one_step}
+use Rattle.pkops.specs.Escapes.{Character, plain, short, long, print_character, code_point, IsEscape, IsCharacter, SpellsText, points_of}
+use Rattle.pkops.specs.Private.EscapeSteps.{is_scalar, step_of}
+use Rattle.pkops.proofs.EscapeLoop.{with_point, code_points, text_named, one_step, joined}
+use Rattle.pkops.proofs.EscapesSpelled.{points_of_spelled, spelled_points}
 
 -- ---- code points
 
@@ -168,7 +170,7 @@ completes [] Behind points e = absurd cc
 completes [] (Digits left value) points e = absurd cc
 completes (byte ∷ bytes) state points e = leads state byte bytes points (completes bytes) (sym (one_step state byte bytes) ∙ e)
 
-pub read_is_spelled : (line points : List ℕ) → text_named line ≡ Some points → SpellsText line points
+read_is_spelled : (line points : List ℕ) → text_named line ≡ Some points → SpellsText line points
 read_is_spelled line points e = completes line Outside points e
 
 -- ---- what is spelled is read
@@ -227,6 +229,26 @@ characters_read (character ∷ characters) h =
     character_read character (flat_map print_character characters) (All-head IsCharacter character characters h)
     ∙ ap (option_map (with_point (Some (code_point character)))) (characters_read characters (All-tail IsCharacter character characters h))
 
-pub spelled_is_read : (line points : List ℕ) → SpellsText line points → text_named line ≡ Some points
+spelled_is_read : (line points : List ℕ) → SpellsText line points → text_named line ≡ Some points
 spelled_is_read line points (characters, all, line_is, points_is) =
     ap text_named line_is ∙ (characters_read characters all ∙ ap (λ (p : List ℕ). Some p) (sym points_is))
+
+-- ---- what is read byte by byte is what is read character by character
+
+alike : {A : Type 0} (a b : Option A) → ((x : A) → a ≡ Some x → b ≡ Some x) → ((x : A) → b ≡ Some x → a ≡ Some x) → a ≡ b
+alike (Some x) b forth back = sym (forth x refl)
+alike None None forth back = refl
+alike None (Some x) forth back = back x refl
+
+pub named_is : (line : List ℕ) → text_named line ≡ points_of line
+named_is line =
+    alike (text_named line) (points_of line)
+    (λ points e. points_of_spelled line points (read_is_spelled line points e))
+    (λ points e. spelled_is_read line points (spelled_points line points e))
+
+nothing_before : (read : Option (List ℕ)) → joined [] read ≡ option_map encode_utf8_all read
+nothing_before None = refl
+nothing_before (Some points) = refl
+
+pub joined_is : (text line : List ℕ) → text ≡ [] → joined text (text_named line) ≡ option_map encode_utf8_all (points_of line)
+joined_is text line e = ap (λ (t : List ℕ). joined t (text_named line)) e ∙ (nothing_before (text_named line) ∙ ap (option_map encode_utf8_all) (named_is line))

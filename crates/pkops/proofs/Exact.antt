@@ -1,8 +1,8 @@
 -- What it is for a reading function to be exact: it finds what is laid, and nothing else.
 use Rattle.std.proofs.Common.{◌≡◌, ◌≢◌, ℕ, ◌<◌, List, [], ◌++◌, get_or, Result, Ok, Err}
 use Rattle.pkops.specs.declared.fault.Fault.{Fault}
-use Rattle.pkops.specs.declared.fault.Stop.{Stop}
-use Rattle.pkops.specs.declared.fault.Stop.TheVariants.{Short, Bad}
+use Rattle.pkops.specs.declared.reading.Unread.{Unread}
+use Rattle.pkops.specs.declared.reading.Unread.TheVariants.{Short, Bad}
 
 abbrev pub IsBytes : List ℕ → Type 0
 IsBytes bytes = (i : ℕ) → get_or bytes i 0 < 256
@@ -21,7 +21,7 @@ pub record Takes {X : Type 0} (Is : X → Type 0) (text : X → List ℕ) (bytes
   pub rest_fits : IsBytes rest
 
 -- Is x: x may be read; May x bytes: x may be what bytes begin; text x: the bytes of x
-pub record IsExact {X : Type 0} (read : List ℕ → Result (X × List ℕ) Stop) (Is : X → Type 0) (May : X → List ℕ → Type 0) (text : X → List ℕ) (Faulty : Fault → List ℕ → Type 0) : Type 0 where
+pub record IsExact {X : Type 0} (read : List ℕ → Result (X × List ℕ) Unread) (Is : X → Type 0) (May : X → List ℕ → Type 0) (text : X → List ℕ) (Faulty : Fault → List ℕ → Type 0) : Type 0 where
   pub takes : (bytes : List ℕ) (x : X) (rest : List ℕ) → IsBytes bytes → read bytes ≡ Ok (x, rest) → Takes Is text bytes x rest
   pub again : (x : X) (rest : List ℕ) → Is x → read (text x ++ rest) ≡ Ok (x, rest)
   pub short : (bytes : List ℕ) → IsBytes bytes → read bytes ≡ Err Short → Lacks May text bytes

@@ -7,9 +7,9 @@ use Rattle.std.specs.Int.{byte_at, bytes_low_first}
 use Rattle.byteorder.specs.Endian.{little_bytes, little_number, little_from}
 use Rattle.byteorder.specs.Numbers.{little_from-cons, little_from-lt, little_number-reads_back, length-bytes_low_first}
 use Rattle.pkops.specs.declared.fault.Fault.{Fault}
-use Rattle.pkops.specs.declared.fault.Stop.{Stop}
-use Rattle.pkops.specs.declared.fault.Stop.TheVariants.{Short, Bad}
-use Rattle.pkops.specs.Reading.{bytes_at, number_at}
+use Rattle.pkops.specs.declared.reading.Unread.{Unread}
+use Rattle.pkops.specs.declared.reading.Unread.TheVariants.{Short, Bad}
+use Rattle.pkops.specs.Private.Reading.{bytes_at, number_at}
 use Rattle.pkops.proofs.Exact.{IsBytes, Lacks, Takes, IsExact}
 
 pub IsBytes-drop : (n : ℕ) (bytes : List ℕ) → IsBytes bytes → IsBytes (drop n bytes)
@@ -64,7 +64,7 @@ too_few n bytes h = rw (lt-ltb _ _ h) refl
 pub enough : (n : ℕ) (bytes : List ℕ) → n ≤ length bytes → number_at n bytes ≡ Ok (little_number n bytes, drop n bytes)
 enough n bytes h = rw (le-ltb _ _ h) refl
 
-abbrev ok : {A : Type 0} → A → Result A Stop
+abbrev ok : {A : Type 0} → A → Result A Unread
 ok x = Ok x
 
 pub ok_is : {A : Type 0} (x y : A) → ok x ≡ ok y → x ≡ y

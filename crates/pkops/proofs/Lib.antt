@@ -1,4 +1,4 @@
-pub mod Codes
+pub mod OpcodesFound
 pub mod Exact
 pub mod Fields
 pub mod LineEnds
@@ -7,14 +7,19 @@ pub mod Pairs
 pub mod Payloads
 pub mod Arguments
 pub mod Scans
+pub mod Growing
 pub mod Sole
 pub mod OneSpelling
 pub mod Fronts
 pub mod Sizes
+pub mod Counts
 pub mod Numerals
 pub mod MemoNumbers
 pub mod Floats
+pub mod OldStringsSpelled
 pub mod OldStrings
+pub mod FormsRead
+pub mod EscapesSpelled
 pub mod EscapeLoop
 pub mod EscapesRead
 pub mod Names

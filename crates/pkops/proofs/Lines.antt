@@ -5,9 +5,9 @@ use Rattle.std.proofs.lemmas.Bool.{cases_lt, lt-ltb, le-ltb, le-leb, leb-true}
 use Rattle.std.proofs.lemmas.List.{take_at, drop_at, length-append, take-append-le}
 use Rattle.pkops.specs.declared.fault.Fault.{Fault}
 use Rattle.pkops.specs.declared.fault.Fault.TheVariants.{UnknownOpcode, BadArgument, TooLarge}
-use Rattle.pkops.specs.declared.fault.Stop.TheVariants.{Short, Bad}
+use Rattle.pkops.specs.declared.reading.Unread.TheVariants.{Short, Bad}
 use Rattle.pkops.specs.Spelling.{IsLine}
-use Rattle.pkops.specs.Reading.{line_at}
+use Rattle.pkops.specs.Private.Reading.{line_at}
 use Rattle.pkops.specs.Scanning.{IsLong}
 use Rattle.pkops.proofs.LineEnds.{Clean, end_of, end_at, no_end, IsSplit, either_end}
 use Rattle.pkops.proofs.Exact.{IsBytes, Lacks, Takes, IsExact}

@@ -1,5 +1,5 @@
 -- A line is parsed exactly where it is the number of a memo entry.
-use Rattle.std.proofs.Common.{◌≡◌, ℕ, ◌^◌, ◌<◌, true, false, ◌&&◌, cond, eqb, leb, List, [], ◌∷◌, refl, ap, subst, ◌∙◌, arith, rules, inl, inr, Option, Some, None}
+use Rattle.std.proofs.Common.{◌≡◌, ℕ, ◌^◌, ◌<◌, true, false, ◌&&◌, cond, eqb, leb, List, [], ◌∷◌, refl, sym, ap, subst, ◌∙◌, arith, rules, ◌⊎◌, inl, inr, Bor, Option, Some, None}
 use Rattle.std.specs.List.{list_all}
 use Rattle.std.specs.Char.{is_ascii_digit, digit_value}
 use Rattle.std.specs.Str.{IsUtf8}
@@ -12,11 +12,13 @@ use Rattle.pkops.specs.Deciding.{is_natural, is_memo_number}
 use Rattle.pkops.specs.declared.op.Op.{Op}
 use Rattle.pkops.specs.declared.op.Op.TheVariants as op
 use Rattle.pkops.specs.declared.inst.Inst.{Inst}
+use Rattle.pkops.specs.declared.arg.Arg.{Arg}
 use Rattle.pkops.specs.declared.arg.Arg.TheVariants as arg
+use Rattle.pkops.specs.declared.layout.Layout.TheVariants as layout
 use Rattle.pkops.specs.Inst.{instruction_of}
-use Rattle.pkops.specs.Spelling.{Argument, Line, instruction, shown_arg}
+use Rattle.pkops.specs.Spelling.{Argument, Line, Suits, instruction, layout_at, shown_arg}
 use Rattle.pkops.specs.Contents.{IsGood}
-use Rattle.pkops.specs.Operands.{names_memo_entry}
+use Rattle.pkops.specs.Operands.{names_memo_entry, number_said, memo_entry}
 use Rattle.pkops.specs.Numerals.{IsNatural, IsMemoNumber}
 use Rattle.pkops.proofs.Numerals.{natural_is, is_memo_number_of}
 
@@ -84,7 +86,43 @@ memo_line op.BinPut line e h = absurd h.suits
 memo_line op.LongBinPut line e h = absurd h.suits
 memo_line _ line e h = absurd cc
 
-pub parsed : (inst : Inst) (line : _) → inst.arg ≡ arg.Line line → names_memo_entry inst.op ≡ true → IsGood (instruction_of inst) → None ≡ number_of line.now → ⊥
-parsed inst line e names good none =
+memo_is : (o : Op) (a : Argument) → names_memo_entry o ≡ true → memo_entry (instruction o a) ≡ number_said a
+memo_is o a names = rw names refl
+
+-- the number that is read of such a line is that of the entry
+pub said : (inst : Inst) (line : _) (result : Option ℕ) → inst.arg ≡ arg.Line line → names_memo_entry inst.op ≡ true → IsGood (instruction_of inst) → result ≡ number_of line.now → result ≡ memo_entry (instruction_of inst)
+said inst line result e names good r =
     let is : is_memo_number line.now ≡ true = is_memo_number_of line.now (memo_line inst.op line.now names (subst (λ (a : Argument). IsGood (instruction inst.op a)) (ap shown_arg e) good)) in
-    let f = rw is at none in cc
+    let some : number_of line.now ≡ Some (digits_value 10 line.now) = rw is refl in
+    r ∙ (some ∙ sym (memo_is inst.op (shown_arg inst.arg) names ∙ ap number_said (ap shown_arg e)))
+
+-- a good argument that names an entry is one byte, four bytes or a line
+abbrev IsNumber : Arg → Type 0
+IsNumber a = ((n : ℕ) × (a ≡ arg.U1 n)) ⊎ ((n : ℕ) × (a ≡ arg.U4 n)) ⊎ ((line : Bor (List ℕ)) × (a ≡ arg.Line line))
+
+in_byte : (a : Arg) → Suits layout.U1 (shown_arg a) → IsNumber a
+in_byte (arg.U1 n) h = inl (n, refl)
+in_byte (arg.U2 n) h = absurd (let e = h.0 in omega arith)
+in_byte (arg.U4 n) h = absurd (let e = h.0 in omega arith)
+in_byte (arg.U8 n) h = absurd (let e = h.0 in omega arith)
+in_byte _ h = absurd h
+
+in_four : (a : Arg) → Suits layout.U4 (shown_arg a) → IsNumber a
+in_four (arg.U4 n) h = inr (inl (n, refl))
+in_four (arg.U1 n) h = absurd (let e = h.0 in omega arith)
+in_four (arg.U2 n) h = absurd (let e = h.0 in omega arith)
+in_four (arg.U8 n) h = absurd (let e = h.0 in omega arith)
+in_four _ h = absurd h
+
+in_line : (most : ℕ) (a : Arg) → Suits (layout.Line most) (shown_arg a) → IsNumber a
+in_line most (arg.Line line) h = inr (inr (line, refl))
+in_line most _ h = absurd h
+
+pub is_number : (o : Op) (a : Arg) → names_memo_entry o ≡ true → Suits (layout_at o) (shown_arg a) → IsNumber a
+is_number op.Get a e h = in_line 1024 a h
+is_number op.Put a e h = in_line 1024 a h
+is_number op.BinGet a e h = in_byte a h
+is_number op.BinPut a e h = in_byte a h
+is_number op.LongBinGet a e h = in_four a h
+is_number op.LongBinPut a e h = in_four a h
+is_number _ a e h = absurd cc

@@ -1,5 +1,5 @@
 -- The tests of numerals hold exactly of the numerals.
-use Rattle.std.proofs.Common.{◌≡◌, ◌⊎◌, ℕ, suc, ◌+◌, ◌-◌, ◌<◌, Bool, true, false, ◌||◌, eqb, List, [], ◌∷◌, ◌++◌, length, take, get_or, refl, sym, ap, ◌∙◌, arith, inl, inr}
+use Rattle.std.proofs.Common.{◌≡◌, ℕ, suc, ◌+◌, ◌-◌, ◌<◌, Bool, true, false, ◌||◌, eqb, List, [], ◌∷◌, ◌++◌, length, take, get_or, refl, sym, ap, ◌∙◌, arith, inl, inr}
 use Rattle.std.specs.Prelude.{codes}
 use Rattle.std.specs.Char.{is_ascii_digit}
 use Rattle.std.proofs.lemmas.Bool.{and_parts, and_from, or_cases, eqb-true, ltb-true, lt-ltb}
@@ -57,28 +57,12 @@ is_numeral_of : (text : List ℕ) → IsNumeral text → is_numeral text ≡ tru
 is_numeral_of text (inl n) = or_left (is_natural text) _ (is_natural_of text n)
 is_numeral_of text (inr (digits, p, e)) = or_right (is_natural text) _ (ap is_negative e ∙ is_positive_of digits p)
 
-bool_is : (line : List ℕ) → is_bool_line line ≡ true → (line ≡ codes "00") ⊎ (line ≡ codes "01")
-bool_is [] e = absurd cc
-bool_is (a ∷ []) e = absurd cc
-bool_is (a ∷ b ∷ []) e =
-    let p = and_parts (eqb a 48) _ e in
-    let first = eqb-true a 48 p.0 in
-    elim (or_cases (eqb b 48) (eqb b 49) p.1) [
-      | inl z ↦ inl (ap (λ (x : ℕ). x ∷ b ∷ []) first ∙ ap (λ (y : ℕ). 48 ∷ y ∷ []) (eqb-true b 48 z))
-      | inr o ↦ inr (ap (λ (x : ℕ). x ∷ b ∷ []) first ∙ ap (λ (y : ℕ). 48 ∷ y ∷ []) (eqb-true b 49 o))
-    ]
-bool_is (a ∷ b ∷ c ∷ rest) e = absurd cc
-
 pub int_is : (line : List ℕ) → is_int_line line ≡ true → IsIntLine line
-int_is line e = elim (or_cases (is_bool_line line) (is_numeral line) e) [
-  | inl b ↦ elim (bool_is line b) [ inl f ↦ inl f | inr t ↦ inr (inl t) ]
-  | inr n ↦ inr (inr (numeral_is line n))
-]
+int_is line e = elim (or_cases (is_bool_line line) (is_numeral line) e) [ inl b ↦ inl b | inr n ↦ inr (numeral_is line n) ]
 
 pub is_int_of : (line : List ℕ) → IsIntLine line → is_int_line line ≡ true
-is_int_of line (inl e) = ap is_int_line e
-is_int_of line (inr (inl e)) = ap is_int_line e
-is_int_of line (inr (inr n)) = or_right (is_bool_line line) _ (is_numeral_of line n)
+is_int_of line (inl b) = or_left (is_bool_line line) _ b
+is_int_of line (inr n) = or_right (is_bool_line line) _ (is_numeral_of line n)
 
 -- a line that ends in an L is what is before it, and the L
 marked : (line : List ℕ) → 0 < length line → get_or line (length line - 1) 0 ≡ 76 → line ≡ take (length line - 1) line ++ 76 ∷ []

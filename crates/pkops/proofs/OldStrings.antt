@@ -1,16 +1,29 @@
 -- The test of strings in quotes holds exactly of the lines of the grammar.
-use Rattle.std.proofs.Common.{◌≡◌, ℕ, suc, ◌+◌, ◌-◌, ◌<◌, ◌≤◌, true, false, ◌&&◌, eqb, leb, List, [], ◌∷◌, ◌++◌, length, take, drop, get_or, Some, None, refl, sym, ap, subst, ◌∙◌, arith, inl, inr, add-one, drop-cons}
+use Rattle.std.proofs.Common.{◌≡◌, ℕ, Bool, suc, ◌+◌, ◌-◌, ◌<◌, ◌≤◌, true, false, ◌&&◌, eqb, leb, List, [], ◌∷◌, ◌++◌, length, take, drop, get_or, Option, Some, None, refl, sym, ap, subst, ◌∙◌, arith, inl, inr, add-one, drop-cons}
 use Rattle.std.specs.List.{All, flat_map}
 use Rattle.std.specs.Option.{option_and_then}
 use Rattle.std.specs.Char.{is_ascii_hexdigit}
-use Rattle.std.proofs.lemmas.Bool.{and_parts, or_cases, cases_Bool, eqb-true, eqb-false, eq-eqb, ne_eqb, leb-true, le-leb, both_ways}
+use Rattle.std.proofs.lemmas.Bool.{and_parts, or_cases, cases_Bool, eqb-true, eqb-false, eq-eqb, ne_eqb, leb-true, le-leb}
 use Rattle.std.proofs.lemmas.List.{take_at, length-append, nil_from_length, length-drop}
-use Rattle.std.proofs.lemmas.List.Elements.{All-nil, All-cons, All-head, All-tail}
+use Rattle.std.proofs.lemmas.List.Elements.{All-nil, All-head, All-tail}
 use Rattle.std.proofs.Math.Seq.{get_or-append_seam}
 use Rattle.pkops.specs.declared.contents.old_string.Place.{Place}
 use Rattle.pkops.specs.declared.contents.old_string.Place.TheVariants.{Outside, Behind, High, Low}
 use Rattle.pkops.specs.OldStrings.{Item, plain, escape, hex, print_item, is_escape_letter, IsItem, IsQuote, IsStringLine}
-use Rattle.pkops.specs.Deciding.{next_place, place_after, is_outside, are_items, is_quote, is_string_line}
+use Rattle.pkops.specs.Private.Places.{next_place}
+use Rattle.pkops.specs.Deciding.{are_items, is_quote, is_string_line}
+use Rattle.pkops.proofs.OldStringsSpelled.{Items, one_more, not_x, items_is, is_items_of}
+
+-- where the bytes lead from a place on
+unfoldable pub place_after : (quote : ℕ) → Place → List ℕ → Option Place
+place_after quote place [] = Some place
+place_after quote place (byte ∷ bytes) =
+    option_and_then (λ next. place_after quote next bytes) (next_place quote place byte)
+
+-- the bytes led somewhere, and not into an escape
+abbrev pub is_outside : Option Place → Bool
+is_outside (Some Outside) = true
+is_outside _ = false
 
 -- ---- the loop
 
@@ -38,13 +51,6 @@ not_outside High h = refl
 not_outside Low h = refl
 
 -- ---- items
-
-abbrev Items : ℕ → List ℕ → Type 0
-Items quote bytes = (items : List Item) × All (IsItem quote) items × (bytes ≡ flat_map print_item items)
-
-one_more : (quote : ℕ) (item : Item) (bytes : List ℕ) → IsItem quote item → Items quote bytes → Items quote (print_item item ++ bytes)
-one_more quote item bytes h (items, all, e) =
-    (item ∷ items, All-cons (IsItem quote) item items h all, ap (λ (rest : List ℕ). print_item item ++ rest) e)
 
 abbrev Reads : ℕ → Place → List ℕ → Type 0
 Reads quote place bytes = is_outside (place_after quote place bytes) ≡ true
@@ -100,27 +106,33 @@ completes quote (byte ∷ bytes) place e = leads quote place byte bytes (complet
 steps : (quote : ℕ) (place next : Place) (byte : ℕ) (bytes : List ℕ) → next_place quote place byte ≡ Some next → place_after quote place (byte ∷ bytes) ≡ place_after quote next bytes
 steps quote place next byte bytes e = one_step quote place byte bytes ∙ rw e refl
 
-item_read : (quote : ℕ) → IsQuote quote → (item : Item) (bytes : List ℕ) → IsItem quote item → place_after quote Outside (print_item item ++ bytes) ≡ place_after quote Outside bytes
-item_read quote q (plain byte) bytes h =
+item_read : (quote : ℕ) (item : Item) (bytes : List ℕ) → IsItem quote item → place_after quote Outside (print_item item ++ bytes) ≡ place_after quote Outside bytes
+item_read quote (plain byte) bytes h =
     steps quote Outside Outside byte bytes (rw (ne_eqb byte 92 h.no_backslash, ne_eqb byte quote h.no_quote, le-leb _ _ h.low, le-leb _ _ h.high) refl)
-item_read quote q (escape letter) bytes h =
+item_read quote (escape letter) bytes h =
     steps quote Outside Behind 92 (letter ∷ bytes) refl
-    ∙ steps quote Behind Outside letter bytes (rw (not_x letter h, h) refl) where
-      not_x : (letter : ℕ) → is_escape_letter letter ≡ true → eqb letter 120 ≡ false
-      not_x letter h = elim (cases_Bool (eqb letter 120)) [
-        | inl x ↦ absurd (both_ways _ (ap is_escape_letter (eqb-true letter 120 x)) h)
-        | inr n ↦ n
-      ]
-item_read quote q (hex high low) bytes h =
+    ∙ steps quote Behind Outside letter bytes (rw (not_x letter h, h) refl)
+item_read quote (hex high low) bytes h =
     steps quote Outside Behind 92 (120 ∷ high ∷ low ∷ bytes) refl
     ∙ (steps quote Behind High 120 (high ∷ low ∷ bytes) refl
     ∙ (steps quote High Low high (low ∷ bytes) (rw h.0 refl) ∙ steps quote Low Outside low bytes (rw h.1 refl)))
 
-items_read : (quote : ℕ) → IsQuote quote → (items : List Item) → All (IsItem quote) items → place_after quote Outside (flat_map print_item items) ≡ Some Outside
+items_read : (quote : ℕ) (items : List Item) → All (IsItem quote) items → place_after quote Outside (flat_map print_item items) ≡ Some Outside
 unfolding place_after
-items_read quote q [] h = refl
-items_read quote q (item ∷ items) h =
-    item_read quote q item (flat_map print_item items) (All-head (IsItem quote) item items h) ∙ items_read quote q items (All-tail (IsItem quote) item items h)
+items_read quote [] h = refl
+items_read quote (item ∷ items) h =
+    item_read quote item (flat_map print_item items) (All-head (IsItem quote) item items h) ∙ items_read quote items (All-tail (IsItem quote) item items h)
+
+same_test : (a b : Bool) → (a ≡ true → b ≡ true) → (b ≡ true → a ≡ true) → a ≡ b
+same_test true b forth back = sym (forth refl)
+same_test false true forth back = back refl
+same_test false false forth back = refl
+
+-- what is read byte by byte is what is read item by item
+pub places_read : (quote : ℕ) (bytes : List ℕ) → is_outside (place_after quote Outside bytes) ≡ are_items quote bytes
+places_read quote bytes =
+    same_test (is_outside (place_after quote Outside bytes)) (are_items quote bytes) (λ e. is_items_of quote bytes (completes quote bytes Outside e))
+    (λ e. let h = items_is quote bytes e in ap is_outside (ap (place_after quote Outside) h.2 ∙ items_read quote h.0 h.1))
 
 -- ---- the line
 
@@ -152,7 +164,7 @@ string_is line e =
     let p = and_parts (leb 2 (length line)) _ e in
     let q = and_parts (is_quote quote) _ p.1 in
     let r = and_parts (eqb last quote) (are_items quote inside) q.1 in
-    let items = completes quote inside Outside r.1 in (
+    let items = items_is quote inside r.1 in (
       quote,
       items.0,
       quote_is quote q.0,
@@ -175,4 +187,4 @@ quoted quote inside q items =
 
 pub is_string_of : (line : List ℕ) → IsStringLine line → is_string_line line ≡ true
 is_string_of line (quote, items, q, all, e) =
-    ap is_string_line e ∙ quoted quote (flat_map print_item items) q (ap is_outside (items_read quote q items all))
+    ap is_string_line e ∙ quoted quote (flat_map print_item items) q (is_items_of quote (flat_map print_item items) (items, all, refl))

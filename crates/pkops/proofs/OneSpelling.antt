@@ -5,10 +5,10 @@ use Rattle.pkops.specs.declared.op.Op.{Op}
 use Rattle.pkops.specs.Table.{code_of}
 use Rattle.pkops.specs.Spelling.{Argument, Counted, Instruction, instruction, laid, layout_at, spelling}
 use Rattle.pkops.specs.Scanning.{IsWithin, Spells}
-use Rattle.pkops.specs.Reading.{arg_at}
+use Rattle.pkops.specs.Private.Reading.{arg_at}
 use Rattle.pkops.proofs.Fields.{ok_is}
 use Rattle.pkops.proofs.Arguments.{arg_exact}
-use Rattle.pkops.proofs.Codes.{one_code}
+use Rattle.pkops.proofs.OpcodesFound.{one_code}
 
 payload_len : Argument → ℕ
 payload_len (Counted payload) = length payload

@@ -4,10 +4,10 @@ use Rattle.std.proofs.lemmas.Bool.{cases_lt}
 use Rattle.std.proofs.lemmas.List.{length-append}
 use Rattle.pkops.specs.declared.fault.Fault.{Fault}
 use Rattle.pkops.specs.declared.fault.Fault.TheVariants.{UnknownOpcode, BadArgument, TooLarge}
-use Rattle.pkops.specs.declared.fault.Stop.{Stop}
-use Rattle.pkops.specs.declared.fault.Stop.TheVariants.{Short, Bad}
+use Rattle.pkops.specs.declared.reading.Unread.{Unread}
+use Rattle.pkops.specs.declared.reading.Unread.TheVariants.{Short, Bad}
 use Rattle.pkops.specs.Spelling.{IsLine}
-use Rattle.pkops.specs.Reading.{◌>>=◌, line_at, pair_at}
+use Rattle.pkops.specs.Private.Reading.{◌>>=◌, line_at, pair_at}
 use Rattle.pkops.specs.Scanning.{IsLong}
 use Rattle.pkops.proofs.Exact.{IsBytes, Lacks, Takes, IsExact}
 use Rattle.pkops.proofs.Fields.{ok_is, not_nil}
@@ -15,11 +15,11 @@ use Rattle.pkops.proofs.Lines.{line_text, LineFault, line_exact}
 use Rattle.pkops.proofs.Payloads.{cut}
 
 -- the value of a step that did not fail, and the fault of one that did
-pub bind_ok : {A B : Type 0} (r : Result A Stop) (f : A → Result B Stop) (y : B) → (r >>= f) ≡ Ok y → (x : A) × (r ≡ Ok x) × (f x ≡ Ok y)
+pub bind_ok : {A B : Type 0} (r : Result A Unread) (f : A → Result B Unread) (y : B) → (r >>= f) ≡ Ok y → (x : A) × (r ≡ Ok x) × (f x ≡ Ok y)
 bind_ok (Ok x) f y e = (x, refl, e)
 bind_ok (Err d) f y e = absurd cc
 
-pub bind_err : {A B : Type 0} (r : Result A Stop) (f : A → Result B Stop) (d : Stop) → (r >>= f) ≡ Err d → (r ≡ Err d) ⊎ ((x : A) × (r ≡ Ok x) × (f x ≡ Err d))
+pub bind_err : {A B : Type 0} (r : Result A Unread) (f : A → Result B Unread) (d : Unread) → (r >>= f) ≡ Err d → (r ≡ Err d) ⊎ ((x : A) × (r ≡ Ok x) × (f x ≡ Err d))
 bind_err (Ok x) f d e = inr (x, refl, e)
 bind_err (Err d') f d e = inl (let same : d' ≡ d = cc in cc)
 
@@ -35,10 +35,10 @@ PairFault most BadArgument bytes = ⊥
 PairFault most TooLarge bytes = IsLong most bytes ⊎ ((first : List ℕ) × (after : List ℕ) × IsLine most first × (bytes ≡ line_text first ++ after) × IsLong most after)
 
 module _ (most : ℕ) where
-  abbrev end : List ℕ → List ℕ × List ℕ → Result ((List ℕ × List ℕ) × List ℕ) Stop
+  abbrev end : List ℕ → List ℕ × List ℕ → Result ((List ℕ × List ℕ) × List ℕ) Unread
   end first second = Ok ((first, second.0), second.1)
 
-  abbrev then : List ℕ × List ℕ → Result ((List ℕ × List ℕ) × List ℕ) Stop
+  abbrev then : List ℕ × List ℕ → Result ((List ℕ × List ℕ) × List ℕ) Unread
   then first = line_at most first.1 >>= end first.0
 
   pair_takes : (bytes : List ℕ) (x : List ℕ × List ℕ) (rest : List ℕ) → IsBytes bytes → pair_at most bytes ≡ Ok (x, rest) → Takes (IsPair most) pair_text bytes x rest

@@ -10,10 +10,10 @@ use Rattle.pkops.specs.declared.layout.Width.{Width}
 use Rattle.pkops.specs.declared.layout.Width.TheVariants.{One, Four, Eight}
 use Rattle.pkops.specs.declared.fault.Fault.{Fault}
 use Rattle.pkops.specs.declared.fault.Fault.TheVariants.{UnknownOpcode, BadArgument, TooLarge}
-use Rattle.pkops.specs.declared.fault.Stop.{Stop}
-use Rattle.pkops.specs.declared.fault.Stop.TheVariants.{Short, Bad}
+use Rattle.pkops.specs.declared.reading.Unread.{Unread}
+use Rattle.pkops.specs.declared.reading.Unread.TheVariants.{Short, Bad}
 use Rattle.pkops.specs.Spelling.{size_of, count_limit}
-use Rattle.pkops.specs.Reading.{bytes_at, payload_at}
+use Rattle.pkops.specs.Private.Reading.{bytes_at, payload_at}
 use Rattle.pkops.proofs.Exact.{IsBytes, Lacks, Takes, IsExact}
 use Rattle.pkops.proofs.Fields.{IsBytes-drop, not_nil, some_left, zeros_fit, length-zeros, bytes_back, too_few, enough, few_bytes, many_bytes, bytes_again, bytes_takes}
 use Rattle.pkops.proofs.Lines.{lt-leb}
@@ -68,28 +68,28 @@ PayloadFault limit size signed BadArgument bytes = (size_of size ≤ length byte
 PayloadFault limit size signed TooLarge bytes = (size_of size ≤ length bytes) × (little_number (size_of size) bytes < count_limit size signed) × (limit < little_number (size_of size) bytes)
 
 module _ (limit : ℕ) (size : Width) (signed : Bool) (bytes : List ℕ) where
-  abbrev count : ℕ
+  abbrev pub count : ℕ
   count = little_number (size_of size) bytes
 
-  abbrev after : List ℕ
+  abbrev pub after : List ℕ
   after = drop (size_of size) bytes
 
-  abbrev read : Result (List ℕ × List ℕ) Stop
+  abbrev pub read : Result (List ℕ × List ℕ) Unread
   read = payload_at limit size signed bytes
 
-  no_count : length bytes < size_of size → read ≡ Err Short
+  pub no_count : length bytes < size_of size → read ≡ Err Short
   unfolding payload_at
   no_count lt = rw (too_few (size_of size) bytes lt) refl
 
-  negative : size_of size ≤ length bytes → count_limit size signed ≤ count → read ≡ Err (Bad BadArgument)
+  pub negative : size_of size ≤ length bytes → count_limit size signed ≤ count → read ≡ Err (Bad BadArgument)
   unfolding payload_at
   negative le over = rw (enough (size_of size) bytes le, le-leb _ _ over) refl
 
-  large : size_of size ≤ length bytes → count < count_limit size signed → limit < count → read ≡ Err (Bad TooLarge)
+  pub large : size_of size ≤ length bytes → count < count_limit size signed → limit < count → read ≡ Err (Bad TooLarge)
   unfolding payload_at
   large le under over = rw (enough (size_of size) bytes le, lt-leb _ _ under, lt-ltb _ _ over) refl
 
-  plain : size_of size ≤ length bytes → count < count_limit size signed → count ≤ limit → read ≡ bytes_at count after
+  pub plain : size_of size ≤ length bytes → count < count_limit size signed → count ≤ limit → read ≡ bytes_at count after
   unfolding payload_at
   plain le under within = rw (enough (size_of size) bytes le, lt-leb _ _ under, le-ltb _ _ within) refl
 

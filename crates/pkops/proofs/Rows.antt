@@ -7,16 +7,15 @@ use Rattle.pkops.specs.declared.op.Kind.TheVariants as kind
 use Rattle.pkops.specs.Table.{code_of, row_of}
 use Rattle.pkops.specs.Spelling.{Nothing, Number, Signed, Line, Pair, Counted, instruction, spelling}
 use Rattle.pkops.specs.Admitted.{is_admitted}
-use Rattle.pkops.specs.Operands.{memo_number, is_truth, pair_named}
+use Rattle.pkops.specs.Operands.{memo_entry, names_bool, pair_named}
 use Rattle.pkops.specs.Numerals.{IsIntLine, IsLongLine, IsMemoNumber}
 use Rattle.pkops.specs.Floats.{IsFloatLine}
 use Rattle.pkops.specs.OldStrings.{IsStringLine}
 use Rattle.pkops.specs.Escapes.{SpellsText}
-use Rattle.pkops.specs.EscapeSteps.{code_points}
-use Rattle.pkops.specs.Deciding.{place_after}
+use Rattle.pkops.specs.Forms.{forms_behind}
 use Rattle.pkops.specs.Scanning.{longest}
 use Rattle.pkops.specs.Text.{text_bytes}
-use Rattle.pkops.proofs.EscapesRead.{read_is_spelled, spelled_is_read}
+use Rattle.pkops.proofs.EscapesSpelled.{points_of_spelled, spelled_points}
 use Rattle.pkops.proofs.Floats.{float_is, is_float_of}
 use Rattle.pkops.proofs.Numerals.{int_is, is_int_of, long_is, is_long_of, memo_number_is, is_memo_number_of}
 use Rattle.pkops.proofs.OldStrings.{string_is, is_string_of}
@@ -56,26 +55,60 @@ ascii_text = refl
 
 -- a byte above ASCII in a line of UNICODE is the code point of its number
 latin_text : text_bytes (instruction op.Unicode (Line (0xe9 ∷ []))) ≡ Some (0xc3 ∷ 0xa9 ∷ [])
-unfolding code_points encode_utf8
+unfolding forms_behind encode_utf8
 latin_text = refl
 
 escaped_text : text_bytes (instruction op.Unicode (Line (codes "\\u0061"))) ≡ Some (codes "a")
-unfolding code_points encode_utf8
+unfolding forms_behind encode_utf8
 escaped_text = refl
+
+-- an escape of eight digits, between plain bytes; digits of either case
+long_text : text_bytes (instruction op.Unicode (Line (codes "a\\U0001F60fb"))) ≡ Some (0x61 ∷ 0xf0 ∷ 0x9f ∷ 0x98 ∷ 0x8f ∷ 0x62 ∷ [])
+unfolding forms_behind encode_utf8
+long_text = refl
+
+-- two escapes, one behind the other: é and é
+two_escapes : text_bytes (instruction op.Unicode (Line (codes "\\u00e9\\U000000E9"))) ≡ Some (0xc3 ∷ 0xa9 ∷ 0xc3 ∷ 0xa9 ∷ [])
+unfolding forms_behind encode_utf8
+two_escapes = refl
+
+empty_text : text_bytes (instruction op.Unicode (Line [])) ≡ Some []
+unfolding forms_behind
+empty_text = refl
+
+no_other_escape : text_bytes (instruction op.Unicode (Line (codes "a\\n"))) ≡ None
+unfolding forms_behind
+no_other_escape = refl
+
+no_fewer_digits : text_bytes (instruction op.Unicode (Line (codes "\\u061"))) ≡ None
+unfolding forms_behind
+no_fewer_digits = refl
+
+no_surrogate_text : text_bytes (instruction op.Unicode (Line (codes "\\ud800"))) ≡ None
+unfolding forms_behind
+no_surrogate_text = refl
+
+no_number_too_large : text_bytes (instruction op.Unicode (Line (codes "\\U00110000"))) ≡ None
+unfolding forms_behind
+no_number_too_large = refl
+
+no_lone_backslash : text_bytes (instruction op.Unicode (Line (codes "a\\"))) ≡ None
+unfolding forms_behind
+no_lone_backslash = refl
 
 bytes_name_no_text : text_bytes (instruction op.ShortBinBytes (Counted (codes "a"))) ≡ None
 bytes_name_no_text = refl
 
-memo_of_get : memo_number (instruction op.Get (Line (codes "12"))) ≡ 12
+memo_of_get : memo_entry (instruction op.Get (Line (codes "12"))) ≡ Some 12
 memo_of_get = refl
 
-memo_of_frame : memo_number (instruction op.Frame (Number 8 12)) ≡ 0
+memo_of_frame : memo_entry (instruction op.Frame (Number 8 12)) ≡ None
 memo_of_frame = refl
 
-truth : is_truth (instruction op.Int (Line (codes "01"))) ≡ true
+truth : names_bool (instruction op.Int (Line (codes "01"))) ≡ true
 truth = refl
 
-one : is_truth (instruction op.Int (Line (codes "1"))) ≡ false
+one : names_bool (instruction op.Int (Line (codes "1"))) ≡ false
 one = refl
 
 pair : pair_named (instruction op.Inst (Pair (codes "m") (codes "f"))) ≡ Some (codes "m", codes "f")
@@ -134,7 +167,7 @@ no_point_at_front : IsFloatLine (codes ".5") → ⊥
 no_point_at_front h = let e = is_float_of (codes ".5") h in cc
 
 quoted_string : IsStringLine (codes "'a\\x0a\\''")
-unfolding place_after
+unfolding forms_behind
 quoted_string = string_is (codes "'a\\x0a\\''") refl
 
 no_open_string : IsStringLine (codes "'a") → ⊥
@@ -144,16 +177,16 @@ no_lone_quote : IsStringLine (codes "'") → ⊥
 no_lone_quote h = let e = is_string_of (codes "'") h in cc
 
 no_octal_escape : IsStringLine (codes "'\\0'") → ⊥
-unfolding place_after
+unfolding forms_behind
 no_octal_escape h = let e = is_string_of (codes "'\\0'") h in cc
 
 no_surrogate : (points : List ℕ) → SpellsText (codes "\\ud800") points → ⊥
-unfolding code_points
-no_surrogate points h = let e = spelled_is_read (codes "\\ud800") points h in cc
+unfolding forms_behind
+no_surrogate points h = let e = points_of_spelled (codes "\\ud800") points h in cc
 
 two_characters : SpellsText (codes "\\U0001f600!") (0x1f600 ∷ 0x21 ∷ [])
-unfolding code_points
-two_characters = read_is_spelled (codes "\\U0001f600!") (0x1f600 ∷ 0x21 ∷ []) refl
+unfolding forms_behind
+two_characters = spelled_points (codes "\\U0001f600!") (0x1f600 ∷ 0x21 ∷ []) refl
 
 -- ---- bounds
 

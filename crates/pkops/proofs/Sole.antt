@@ -4,17 +4,17 @@ use Rattle.std.proofs.lemmas.List.{take-append-drop, length-drop, length-take}
 use Rattle.pkops.specs.declared.op.Op.{Op}
 use Rattle.pkops.specs.declared.fault.Fault.{Fault}
 use Rattle.pkops.specs.declared.fault.Fault.TheVariants.{UnknownOpcode, BadArgument, TooLarge}
-use Rattle.pkops.specs.declared.fault.Stop.{Stop}
-use Rattle.pkops.specs.declared.fault.Stop.TheVariants as stop
+use Rattle.pkops.specs.declared.reading.Unread.{Unread}
+use Rattle.pkops.specs.declared.reading.Unread.TheVariants as stop
 use Rattle.pkops.specs.Answer.{Answer, Whole, More, Bad}
 use Rattle.pkops.specs.Table.{code_of}
 use Rattle.pkops.specs.Spelling.{Argument, Instruction, instruction, laid, layout_at, spelling}
 use Rattle.pkops.specs.Contents.{IsGood}
 use Rattle.pkops.specs.Answer.{Answers}
-use Rattle.pkops.specs.Reading.{arg_at}
+use Rattle.pkops.specs.Private.Reading.{arg_at}
 use Rattle.pkops.proofs.Fields.{ok_is}
 use Rattle.pkops.proofs.Arguments.{ArgFault, arg_exact}
-use Rattle.pkops.proofs.Codes.{one_code}
+use Rattle.pkops.proofs.OpcodesFound.{one_code}
 
 -- what reading behind the code gives, for each answer
 data Found (limit code : ℕ) (from : List ℕ) : Answer → Type 0 where
@@ -53,11 +53,11 @@ found limit code from (Bad TooLarge) (o, rest, e, h) =
     let tails : rest ≡ from = cc in
     faulty o TooLarge codes ((arg_exact limit (layout_at o)).faulty from TooLarge (subst (ArgFault limit (layout_at o) TooLarge) tails h))
 
-abbrev Read : ℕ → List ℕ → Op → Result (Argument × List ℕ) Stop → Type 0
+abbrev Read : ℕ → List ℕ → Op → Result (Argument × List ℕ) Unread → Type 0
 Read limit from o r = arg_at limit (layout_at o) from ≡ r
 
 -- two readings behind one code are one
-meet : (limit : ℕ) (from : List ℕ) (code : ℕ) (o p : Op) (r s : Result (Argument × List ℕ) Stop) → code_of o ≡ code → code_of p ≡ code → Read limit from o r → Read limit from p s → (o ≡ p) × (r ≡ s)
+meet : (limit : ℕ) (from : List ℕ) (code : ℕ) (o p : Op) (r s : Result (Argument × List ℕ) Unread) → code_of o ≡ code → code_of p ≡ code → Read limit from o r → Read limit from p s → (o ≡ p) × (r ≡ s)
 meet limit from code o p r s a b e f =
     let same = one_code o p (a ∙ sym b) in
     (same, sym e ∙ (ap (λ (q : Op). arg_at limit (layout_at q) from) same ∙ f))

@@ -6,19 +6,18 @@ use Rattle.pkops.specs.declared.contents.Rule.{Rule}
 use Rattle.pkops.specs.declared.contents.Rule.TheVariants as rule
 use Rattle.pkops.specs.Spelling.{Argument, Line, Counted, Instruction}
 use Rattle.pkops.specs.Contents.{rule_of}
-use Rattle.pkops.specs.Escapes.{SpellsText}
-use Rattle.pkops.specs.EscapeSteps.{text_named}
+use Rattle.pkops.specs.Escapes.{SpellsText, points_of}
 use Rattle.pkops.specs.Text.{NamesTextBy, NamesText, text_by, text_bytes}
-use Rattle.pkops.proofs.EscapesRead.{read_is_spelled, spelled_is_read}
+use Rattle.pkops.proofs.EscapesSpelled.{points_of_spelled, spelled_points}
 
 -- the two sides of a line of UNICODE, given what is read of it
-line_forth : (line text : List ℕ) → (points : List ℕ) × SpellsText line points × (text ≡ encode_utf8_all points) → option_map encode_utf8_all (text_named line) ≡ Some text
+line_forth : (line text : List ℕ) → (points : List ℕ) × SpellsText line points × (text ≡ encode_utf8_all points) → option_map encode_utf8_all (points_of line) ≡ Some text
 line_forth line text (points, spelled, e) =
-    ap (option_map encode_utf8_all) (spelled_is_read line points spelled) ∙ ap (λ (t : List ℕ). Some t) (sym e)
+    ap (option_map encode_utf8_all) (points_of_spelled line points spelled) ∙ ap (λ (t : List ℕ). Some t) (sym e)
 
-line_back : (line text : List ℕ) (read : Option (List ℕ)) → text_named line ≡ read → option_map encode_utf8_all read ≡ Some text → (points : List ℕ) × SpellsText line points × (text ≡ encode_utf8_all points)
+line_back : (line text : List ℕ) (read : Option (List ℕ)) → points_of line ≡ read → option_map encode_utf8_all read ≡ Some text → (points : List ℕ) × SpellsText line points × (text ≡ encode_utf8_all points)
 line_back line text None is e = absurd cc
-line_back line text (Some points) is e = (points, read_is_spelled line points is, cc)
+line_back line text (Some points) is e = (points, spelled_points line points is, cc)
 
 forth : (r : Rule) (a : Argument) (text : List ℕ) → NamesTextBy r a text → text_by r a ≡ Some text
 forth rule.Escapes (Line line) text h = line_forth line text h
@@ -26,7 +25,7 @@ forth rule.Utf8 (Counted payload) text h = ap (λ (t : List ℕ). Some t) (sym h
 forth _ _ text h = absurd h
 
 back : (r : Rule) (a : Argument) (text : List ℕ) → text_by r a ≡ Some text → NamesTextBy r a text
-back rule.Escapes (Line line) text e = line_back line text (text_named line) refl e
+back rule.Escapes (Line line) text e = line_back line text (points_of line) refl e
 back rule.Utf8 (Counted payload) text e = cc
 back _ _ text e = absurd cc
 

@@ -1,18 +1,15 @@
--- How the code decides the rules of contents, from left to right. Only private functions cite these
--- tests; `proofs/Decided.antt` shows that each holds exactly where its rule does.
-use Rattle.std.specs.Prelude.{ℕ, ◌-◌, ◌^◌, Bool, true, false, ◌&&◌, ◌||◌, ◌==◌, nat_lt, nat_le, is_some, if◌then◌else◌, List, [], ◌∷◌, length, take, drop, slice_index, Option, Some, None}
+-- The rules of contents as tests, from left to right, for whoever wants to compute. Nobody has to
+-- believe them: `laws::rules_are_computed` says that each holds exactly where its rule does.
+use Rattle.std.specs.Prelude.{ℕ, ◌-◌, ◌^◌, Bool, true, false, ◌&&◌, ◌||◌, ◌==◌, nat_lt, nat_le, is_some, if◌then◌else◌, List, [], ◌∷◌, length, take, drop, slice_index}
 use Rattle.std.specs.List.{list_all}
-use Rattle.std.specs.Option.{option_and_then}
-use Rattle.std.specs.Char.{is_ascii, is_ascii_digit, is_ascii_hexdigit}
+use Rattle.std.specs.Char.{is_ascii, is_ascii_digit}
 use Rattle.std.specs.Str.Parse.{digits_value}
 use Rattle.std.specs.Str.{is_utf8}
 use Rattle.pkops.specs.declared.contents.Rule.{Rule}
 use Rattle.pkops.specs.declared.contents.Rule.TheVariants as rule
-use Rattle.pkops.specs.declared.contents.old_string.Place.{Place}
-use Rattle.pkops.specs.declared.contents.old_string.Place.TheVariants.{Outside, Behind, High, Low}
 use Rattle.pkops.specs.Numerals.{is_bool_line, is_nonzero_digit}
-use Rattle.pkops.specs.OldStrings.{is_escape_letter}
-use Rattle.pkops.specs.EscapeSteps.{text_named}
+use Rattle.pkops.specs.OldStrings.{items_of}
+use Rattle.pkops.specs.Escapes.{points_of}
 use Rattle.pkops.specs.Spelling.{Argument, Line, Pair, Counted}
 
 -- ---- numerals
@@ -113,31 +110,9 @@ is_float_line (byte ∷ rest) = if byte == 45 then is_unsigned rest else is_unsi
 
 -- ---- strings in quotes
 
--- where a byte leads, if it may stand there
-abbrev pub next_place : (quote : ℕ) → Place → ℕ → Option Place
-next_place quote Outside byte =
-    if byte == 92 then Some Behind
-    else (if byte == quote then None
-    else (if nat_le 0x20 byte && nat_le byte 0x7e then Some Outside else None))
-next_place quote Behind byte =
-    if byte == 120 then Some High else (if is_escape_letter byte then Some Outside else None)
-next_place quote High byte = if is_ascii_hexdigit byte then Some Low else None
-next_place quote Low byte = if is_ascii_hexdigit byte then Some Outside else None
-
--- where the bytes lead from a place on
-unfoldable pub place_after : (quote : ℕ) → Place → List ℕ → Option Place
-place_after quote place [] = Some place
-place_after quote place (byte ∷ bytes) =
-    option_and_then (λ next. place_after quote next bytes) (next_place quote place byte)
-
--- the bytes led somewhere, and not into an escape
-abbrev pub is_outside : Option Place → Bool
-is_outside (Some Outside) = true
-is_outside _ = false
-
 -- the bytes are whole items
 abbrev pub are_items : (quote : ℕ) → List ℕ → Bool
-are_items quote bytes = is_outside (place_after quote Outside bytes)
+are_items quote inside = is_some (items_of quote inside)
 
 -- a single or a double quote
 abbrev pub is_quote : ℕ → Bool
@@ -165,7 +140,7 @@ passes rule.Long (Line line) = is_long_line line
 passes rule.MemoNumber (Line line) = is_memo_number line
 passes rule.Float (Line line) = is_float_line line
 passes rule.OldString (Line line) = is_string_line line
-passes rule.Escapes (Line line) = is_some (text_named line)
+passes rule.Escapes (Line line) = is_some (points_of line)
 passes rule.Utf8 (Counted payload) = is_utf8 payload
 passes rule.Names (Pair first second) = is_name first && is_name second
 passes rule.Ascii (Line line) = list_all is_ascii line

@@ -1,11 +1,14 @@
--- Text with escapes, as protocol 0 spells it: the line of UNICODE, the argument `unicodestringnl` of
--- CPython's `pickletools`, in Python's codec raw-unicode-escape. A form is a tree, a printer from
--- the tree to its bytes, and which trees are valid; each tree stands for one character.
+-- Text with escapes, as protocol 0 spells it: the line of UNICODE, the argument `unicodestringnl`
+-- of CPython's `pickletools`, in Python's codec raw-unicode-escape. A form is a tree, a printer
+-- from the tree to its bytes, and which trees are valid; each tree stands for one character.
 -- Refused beyond the codec: a backslash that begins no escape, and surrogates.
-use Rattle.std.specs.Prelude.{◌≡◌, ◌≢◌, ℕ, List, [], ◌∷◌, ◌++◌, length, map, codes}
-use Rattle.std.specs.List.{All, AllPass, flat_map}
+use Rattle.std.specs.Prelude.{◌≡◌, ◌≢◌, ℕ, ◌==◌, Bool, ◌&&◌, if◌then◌else◌, List, [], ◌∷◌, ◌++◌, length, take, map, codes, Option, Some, None}
+use lib.Utf8.{scalar}
+use Rattle.std.specs.List.{All, AllPass, list_all, flat_map}
+use Rattle.std.specs.Option.{option_map}
 use Rattle.std.specs.Char.{IsScalar, is_ascii_hexdigit}
 use Rattle.std.specs.Str.Parse.{digits_value}
+use Rattle.pkops.specs.Forms.{forms_of}
 
 -- a character: a byte as it is, or the digits of its number behind \u or \U
 pub data Character : Type 0 where
@@ -47,3 +50,30 @@ SpellsText line points =
 -- the line of UNICODE: it spells some text
 abbrev pub IsTextLine : List ℕ → Type 0
 IsTextLine line = (points : List ℕ) × SpellsText line points
+
+-- ---- the same from left to right
+
+-- the digits are those of an escape
+abbrev pub is_escape : ℕ → List ℕ → Bool
+is_escape n digits =
+    (length digits == n)
+    && (list_all is_ascii_hexdigit digits && scalar (digits_value 16 digits))
+
+-- so many digits at the front of a text, if they are those of an escape
+abbrev pub digits_at : ℕ → List ℕ → Option (List ℕ)
+digits_at n text = if is_escape n (take n text) then Some (take n text) else None
+
+-- what follows a backslash: u and four digits, or U and eight
+abbrev pub escape_at : List ℕ → Option Character
+escape_at [] = None
+escape_at (letter ∷ text) =
+    if letter == 117 then option_map short (digits_at 4 text)
+    else (if letter == 85 then option_map long (digits_at 8 text) else None)
+
+-- the character that a byte begins, with what follows it: an escape behind a backslash, else itself
+abbrev pub character_at : ℕ → List ℕ → Option Character
+character_at byte text = if byte == 92 then escape_at text else Some (plain byte)
+
+-- the code points of the text that a line spells, if it spells one
+abbrev pub points_of : List ℕ → Option (List ℕ)
+points_of line = option_map (map code_point) (forms_of character_at print_character line)

@@ -2,6 +2,7 @@ pub mod Table
 pub mod Spelling
 pub mod Inst
 pub mod Contents
+pub mod Forms
 pub mod Numerals
 pub mod Floats
 pub mod OldStrings
@@ -9,9 +10,10 @@ pub mod Escapes
 pub mod Text
 pub mod Operands
 pub mod Admitted
+pub mod Payloads
 pub mod Limits
 pub mod Scanning
 pub mod Answer
-pub mod Reading
+pub mod Lying
 pub mod Deciding
-pub mod EscapeSteps
+pub mod Private

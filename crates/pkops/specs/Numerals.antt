@@ -2,10 +2,11 @@
 -- arguments `decimalnl_short` and `decimalnl_long` of CPython's `pickletools`.
 -- A number has one spelling, the one that CPython's pickler writes: a plus, needless zeros, spaces
 -- and underscores, which Python's `int` takes, are refused.
-use Rattle.std.specs.Prelude.{◌≡◌, ◌⊎◌, ℕ, ◌^◌, ◌<◌, Bool, true, false, ◌&&◌, ◌||◌, ◌==◌, List, [], ◌∷◌, ◌++◌, codes}
+use Rattle.std.specs.Prelude.{◌≡◌, ◌⊎◌, ℕ, ◌^◌, ◌<◌, Bool, true, ◌||◌, List, ◌∷◌, ◌++◌, codes}
 use Rattle.std.specs.Int.{is_in_range}
 use Rattle.std.specs.List.{AllPass}
 use Rattle.std.specs.Char.{is_ascii_digit}
+use Rattle.std.specs.Str.{bytes_eq}
 use Rattle.std.specs.Str.Parse.{digits_value}
 
 -- nonzero = "1" to "9"
@@ -28,21 +29,12 @@ IsNumeral text =
     IsNatural text ⊎ ((digits : List ℕ) × IsPositive digits × (text ≡ codes "-" ++ digits))
 
 -- how INT says False and True to readers of protocol 0 (PEP 307, which gave them opcodes)
-abbrev pub false_line : List ℕ
-false_line = codes "00"
-
--- and True
-abbrev pub true_line : List ℕ
-true_line = codes "01"
-
--- whether a line is one of these two
 abbrev pub is_bool_line : List ℕ → Bool
-is_bool_line (first ∷ last ∷ []) = (first == 48) && (last == 48 || last == 49)
-is_bool_line _ = false
+is_bool_line line = bytes_eq line (codes "00") || bytes_eq line (codes "01")
 
 -- the line of INT: False, True or a numeral
 abbrev pub IsIntLine : List ℕ → Type 0
-IsIntLine line = (line ≡ false_line) ⊎ (line ≡ true_line) ⊎ IsNumeral line
+IsIntLine line = (is_bool_line line ≡ true) ⊎ IsNumeral line
 
 -- the line of LONG: a numeral, and then perhaps an L, as Python 2 printed long numbers
 abbrev pub IsLongLine : List ℕ → Type 0

@@ -2,9 +2,10 @@
 -- `stringnl` of CPython's `pickletools`. The grammar has every text that Python 2's `repr` gives a
 -- string; the octal and other escapes that Python's `string_escape` codec takes beyond it are
 -- refused. A form is a tree, a printer from the tree to its bytes, and which trees are valid.
-use Rattle.std.specs.Prelude.{◌≡◌, ◌≢◌, ◌⊎◌, ℕ, ◌≤◌, Bool, true, ◌==◌, List, [], ◌∷◌, ◌++◌, codes}
+use Rattle.std.specs.Prelude.{◌≡◌, ◌≢◌, ◌⊎◌, ℕ, ◌≤◌, nat_le, Bool, true, not, ◌&&◌, ◌==◌, if◌then◌else◌, List, [], ◌∷◌, ◌++◌, codes, Option, Some, None}
 use Rattle.std.specs.List.{All, list_any, flat_map}
 use Rattle.std.specs.Char.{is_ascii_hexdigit}
+use Rattle.pkops.specs.Forms.{forms_of}
 
 -- the byte that begins an escape
 abbrev pub backslash : ℕ
@@ -22,7 +23,8 @@ print_item (plain byte) = byte ∷ []
 print_item (escape letter) = backslash ∷ letter ∷ []
 print_item (hex high low) = codes "\\x" ++ high ∷ low ∷ []
 
--- what may follow a backslash: itself, a quote, or n, r and t for line feed, carriage return and tab
+-- what may follow a backslash: itself, a quote, or n, r and t for line feed, carriage return and
+-- tab
 abbrev pub is_escape_letter : ℕ → Bool
 is_escape_letter byte = list_any (λ letter. letter == byte) (codes "\\'\"nrt")
 
@@ -49,3 +51,32 @@ IsStringLine line =
     (quote : ℕ) × (items : List Item)
     × IsQuote quote × All (IsItem quote) items
     × (line ≡ quote ∷ flat_map print_item items ++ quote ∷ [])
+
+-- ---- the same from left to right
+
+-- the byte may stand as it is
+abbrev pub is_plain : (quote byte : ℕ) → Bool
+is_plain quote byte = nat_le 0x20 byte && (nat_le byte 0x7e && not (byte == quote))
+
+-- what follows \x: two hexadecimal digits
+abbrev pub hex_at : List ℕ → Option Item
+hex_at (high ∷ low ∷ text) =
+    if is_ascii_hexdigit high && is_ascii_hexdigit low then Some (hex high low) else None
+hex_at _ = None
+
+-- what follows a backslash
+abbrev pub escape_at : List ℕ → Option Item
+escape_at [] = None
+escape_at (letter ∷ text) =
+    if letter == 120 then hex_at text
+    else (if is_escape_letter letter then Some (escape letter) else None)
+
+-- the item that a byte begins, with what follows it
+abbrev pub item_at : (quote byte : ℕ) → List ℕ → Option Item
+item_at quote byte text =
+    if byte == backslash then escape_at text
+    else (if is_plain quote byte then Some (plain byte) else None)
+
+-- the items between two quotes, if the bytes are nothing else
+abbrev pub items_of : (quote : ℕ) → List ℕ → Option (List Item)
+items_of quote inside = forms_of (item_at quote) print_item inside

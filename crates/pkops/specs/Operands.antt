@@ -1,5 +1,5 @@
 -- What the arguments of some instructions name.
-use Rattle.std.specs.Prelude.{ℕ, Bool, true, false, if◌then◌else◌, List, Option, Some, None}
+use Rattle.std.specs.Prelude.{ℕ, Bool, true, false, if◌then◌else◌, List, Option, Some, None, unwrap_or}
 use Rattle.std.specs.Str.Parse.{digits_value}
 use Rattle.pkops.specs.declared.op.Op.{Op}
 use Rattle.pkops.specs.declared.op.Op.TheVariants as op
@@ -17,23 +17,27 @@ names_memo_entry op.LongBinPut = true
 names_memo_entry _ = false
 
 -- the number that an argument says, in binary or in decimal digits
-abbrev pub number_said : Argument → ℕ
-number_said (Number width number) = number
-number_said (Line digits) = digits_value 10 digits
-number_said _ = 0
+abbrev pub number_said : Argument → Option ℕ
+number_said (Number width number) = Some number
+number_said (Line digits) = Some (digits_value 10 digits)
+number_said _ = None
 
--- the number of the memo entry that an instruction names, 0 where it names none
+-- the memo entry that an instruction names, by its number
+abbrev pub memo_entry : Instruction → Option ℕ
+memo_entry i = if names_memo_entry i.op then number_said i.arg else None
+
+-- its number, for whoever knows that there is one
 abbrev pub memo_number : Instruction → ℕ
-memo_number i = if names_memo_entry i.op then number_said i.arg else 0
+memo_number i = unwrap_or (memo_entry i) 0
 
 -- the argument is such a line, and the opcode INT
-abbrev pub is_truth_by : Op → Argument → Bool
-is_truth_by op.Int (Line line) = is_bool_line line
-is_truth_by _ _ = false
+abbrev pub names_bool_by : Op → Argument → Bool
+names_bool_by op.Int (Line line) = is_bool_line line
+names_bool_by _ _ = false
 
 -- the instruction makes a bool of a line of INT
-abbrev pub is_truth : Instruction → Bool
-is_truth i = is_truth_by i.op i.arg
+abbrev pub names_bool : Instruction → Bool
+names_bool i = names_bool_by i.op i.arg
 
 -- the module and the name of an argument of two lines
 abbrev pub lines_named : Argument → Option (List ℕ × List ℕ)

@@ -17,8 +17,8 @@ use Rattle.pkops.specs.declared.arg.Arg.{Arg}
 use Rattle.pkops.specs.declared.arg.Arg.TheVariants as arg
 use Rattle.pkops.specs.Table.{code_of, kind_of}
 
--- an argument, without where it lies in memory: nothing, a number of so many bytes, a number of four
--- bytes with a sign, the bytes of a float, a line, two lines, or a payload behind its count
+-- an argument, without where it lies in memory: nothing, a number of so many bytes, a number of
+-- four bytes with a sign, the bytes of a float, a line, two lines, or a payload behind its count
 pub data Argument : Type 0 where
   Nothing : Argument
   Number : (width value : ℕ) → Argument
@@ -50,8 +50,8 @@ shown_arg (arg.Line text) = Line text.now
 shown_arg (arg.Pair first second) = Pair first.now second.now
 shown_arg (arg.Counted payload) = Counted payload.now
 
--- how the argument of each kind lies; a line has at most 1,024 bytes where it is an int or the number
--- of a memo entry, and at most 65,536 otherwise (limits of this project)
+-- how the argument of each kind lies; a line has at most 1,024 bytes where it is an int or the
+-- number of a memo entry, and at most 65,536 otherwise (limits of this project)
 abbrev pub layout_of : Kind → Layout
 layout_of kind.None = layout.Nothing
 layout_of kind.Uint1 = layout.U1
@@ -113,8 +113,8 @@ Suits (layout.Pair most) (Pair first second) = IsLine most first × IsLine most 
 Suits (layout.Counted size signed) (Counted payload) = length payload < count_limit size signed
 Suits _ _ = ⊥
 
--- the bytes of an argument, by its layout: numbers and counts have their lowest byte first, negative
--- numbers are in two's complement, and each line ends in a line feed
+-- the bytes of an argument, by its layout: numbers and counts have their lowest byte first,
+-- negative numbers are in two's complement, and each line ends in a line feed
 abbrev pub bytes_of : Argument → Layout → List ℕ
 bytes_of Nothing _ = []
 bytes_of (Number width n) _ = little_bytes width n

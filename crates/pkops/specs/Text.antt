@@ -4,8 +4,7 @@ use Rattle.std.specs.Option.{option_map}
 use Rattle.pkops.specs.declared.contents.Rule.{Rule}
 use Rattle.pkops.specs.declared.contents.Rule.TheVariants as rule
 use Rattle.pkops.specs.Contents.{rule_of}
-use Rattle.pkops.specs.Escapes.{SpellsText}
-use Rattle.pkops.specs.EscapeSteps.{text_named}
+use Rattle.pkops.specs.Escapes.{SpellsText, points_of}
 use Rattle.pkops.specs.Spelling.{Argument, Line, Counted, Instruction}
 
 -- an argument names the text of these bytes in UTF-8
@@ -22,7 +21,7 @@ NamesText i text = NamesTextBy (rule_of i.op) i.arg text
 
 -- the same as a function: the bytes of the text, where there is one
 abbrev pub text_by : Rule → Argument → Option (List ℕ)
-text_by rule.Escapes (Line line) = option_map encode_utf8_all (text_named line)
+text_by rule.Escapes (Line line) = option_map encode_utf8_all (points_of line)
 text_by rule.Utf8 (Counted payload) = Some payload
 text_by _ _ = None
 

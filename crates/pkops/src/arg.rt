@@ -1,7 +1,7 @@
 //! The argument of an instruction.
 
 /// The argument of an instruction, raw, as it was spelled.
-#[derive(Clone, Copy, Debug)]
+#[derive(Clone, Copy, Debug, PartialEq, Eq)]
 pub enum Arg<'a> {
     /// No argument.
     None,

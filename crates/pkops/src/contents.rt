@@ -20,33 +20,38 @@ pub mod name;
 pub mod numeral;
 pub mod old_string;
 
-/// A rule for what an argument may contain.
-#[derive(Clone, Copy)]
+/// A rule for what an argument may contain, beyond its layout. It goes by opcode and not by kind:
+/// INT, GET and PUT share a kind.
+#[derive(Clone, Copy, Debug, PartialEq, Eq)]
 pub enum Rule {
     /// Any argument of the layout is good.
     Anything,
-    /// The line is `00`, `01` or a numeral.
+    /// INT: the line is `00`, `01` or a numeral, an optional minus and digits without needless
+    /// zeros.
     Int,
-    /// The line is a numeral, perhaps with an `L` behind it.
+    /// LONG: the line is a numeral, perhaps with an `L` behind it.
     Long,
-    /// The line is the number of a memo entry.
+    /// GET and PUT: the line is the number of a memo entry, a numeral from 0 to 4,294,967,295.
     MemoNumber,
-    /// The line is a float in decimal digits.
+    /// FLOAT: the line is `inf`, `nan` or decimal digits, perhaps with a fraction and an exponent,
+    /// all perhaps behind a minus.
     Float,
-    /// The line is a string in quotes.
+    /// STRING: the line is a string of printable ASCII and escapes, in quotes.
     OldString,
-    /// The line is text with escapes.
+    /// UNICODE: the line is text, with `\u` and four or `\U` and eight hexadecimal digits for code
+    /// points.
     Escapes,
-    /// The payload is UTF-8.
+    /// SHORT_BINUNICODE, BINUNICODE and BINUNICODE8: the payload is UTF-8.
     Utf8,
-    /// Both lines are names.
+    /// GLOBAL and INST: both lines are ASCII, and not empty.
     Names,
-    /// The line is ASCII.
+    /// PERSID: the line is ASCII.
     Ascii,
 }
 
 impl Rule {
     /// The rule of an opcode.
+    #[inline]
     pub fn of(op: Op) -> Rule
         ensures { result ≡ rule_of op }
     {

@@ -10,12 +10,3 @@ pub enum Fault {
     /// A count is above the limit, or a line has more bytes than a line of its kind may have.
     TooLarge,
 }
-
-/// Why no argument was read.
-#[derive(Clone, Copy)]
-pub enum Stop {
-    /// The bytes end before the argument does.
-    Short,
-    /// Whatever follows, the bytes begin no argument.
-    Bad(Fault),
-}

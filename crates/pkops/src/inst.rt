@@ -13,7 +13,7 @@ use crate::op::Op;
 use crate::table::kind;
 
 /// An instruction: an opcode with an argument of its kind, whose contents keep the kind's rules.
-#[derive(Clone, Copy, Debug)]
+#[derive(Clone, Copy, Debug, PartialEq, Eq)]
 pub struct Inst<'a> {
     op: Op,
     arg: Arg<'a>,
@@ -25,7 +25,7 @@ impl<'a> Inst<'a> {
     ghost use Rattle.std.specs.Option.{option_map};
     ghost use Rattle.pkops.specs.Admitted.{is_admitted};
     ghost use Rattle.pkops.specs.Inst.{instruction_of};
-    ghost use Rattle.pkops.specs.Operands.{is_truth, memo_number, pair_named};
+    ghost use Rattle.pkops.specs.Operands.{memo_entry, names_bool, pair_named};
     ghost use Rattle.pkops.specs.Spelling.{spelling};
 
     /// The instruction of an opcode and an argument, where the argument is of the opcode's kind,
@@ -35,16 +35,40 @@ impl<'a> Inst<'a> {
         ensures { SomeIff (option_map instruction_of result)
             (IsGood (instruction op (shown_arg arg.entry))) (instruction op (shown_arg arg.entry)) }
     {
-        if suits(Layout::of(kind(op)), arg) && keeps(Rule::of(op), arg) {
+        if suits(kind(op).layout(), arg) && keeps(Rule::of(op), arg) {
             Some(Inst { op, arg })
         } else {
             None
         }
     }
 
+    /// The instruction of an opcode and an argument of its kind, where the argument's contents keep
+    /// the kind's rules.
+    pub fn judged(op: Op, arg: Arg<'a>) -> Option<Inst<'a>>
+        requires { Suits (layout_at op) (shown_arg arg) }
+        ensures { SomeIff (option_map instruction_of result)
+            (IsGood (instruction op (shown_arg arg.entry))) (instruction op (shown_arg arg.entry)) }
+    {
+        if keeps(Rule::of(op), arg) {
+            Some(Inst { op, arg })
+        } else {
+            None
+        }
+    }
+
+    /// The instruction of an opcode and an argument that are known to be good together.
+    #[inline]
+    pub fn known(op: Op, arg: Arg<'a>) -> Inst<'a>
+        requires { IsGood (instruction op (shown_arg arg)) }
+        ensures { instruction_of result ≡ instruction op (shown_arg arg.entry) }
+    {
+        Inst { op, arg }
+    }
+
     /// The opcode.
     pub fn op(&self) -> Op
-        ensures { result ≡ (instruction_of self.now).op }
+        ensures op { result ≡ (instruction_of self.now).op }
+        ensures good { IsGood (instruction_of self.now) }
     {
         self.op
     }
@@ -65,27 +89,24 @@ impl<'a> Inst<'a> {
     }
 
     /// The number of the memo entry that GET, BINGET, LONG_BINGET, PUT, BINPUT and LONG_BINPUT
-    /// name; 0 for all others.
-    pub fn memo_number(&self) -> u32
-        ensures { result ≡ memo_number (instruction_of self.now) }
+    /// name; `None` for all others.
+    pub fn memo_number(&self) -> Option<u32>
+        ensures { result ≡ memo_entry (instruction_of self.now) }
     {
         if !names_memo_entry(self.op) {
-            return 0;
+            return None;
         }
         match self.arg {
-            Arg::U1(number) => u32::from(number),
-            Arg::U4(number) => number,
-            Arg::Line(digits) => match numeral::memo_number(digits) {
-                Some(number) => number,
-                None => unreachable!(),
-            },
-            _ => unreachable!(),
+            Arg::U1(number) => Some(u32::from(number)),
+            Arg::U4(number) => Some(number),
+            Arg::Line(digits) => numeral::memo_number(digits),
+            _ => None,
         }
     }
 
     /// Whether the instruction is an INT that makes a bool: `00` and `01`.
     pub fn names_bool(&self) -> bool
-        ensures { result ≡ is_truth (instruction_of self.now) }
+        ensures { result ≡ names_bool (instruction_of self.now) }
     {
         match (self.op, self.arg) {
             (Op::Int, Arg::Line(line)) => numeral::is_bool_line(line),
@@ -171,7 +192,7 @@ fn count_len(op: Op) -> u64
     ensures is { result ≡ count_len (layout_at op) }
     ensures small { result ≤ 8 }
 {
-    match Layout::of(kind(op)) {
+    match kind(op).layout() {
         Layout::Counted(width, _) => width.size() as u64,
         _ => 0,
     }

@@ -1,42 +1,55 @@
-//! How the bytes of an argument lie, by its kind.
+//! How the bytes of an argument lie, by its kind: the layout says where an argument ends, and
+//! nothing of what it may contain.
 
 ghost use Rattle.std.specs.Prelude.{◌≡◌, nat_lt};
 ghost use Rattle.pkops.specs.Spelling.{count_limit, layout_of, size_of};
 
 use crate::op::Kind;
 
-/// How the bytes of an argument lie.
-#[derive(Clone, Copy)]
+/// How the bytes of an argument lie. The 25 kinds have ten layouts.
+#[derive(Clone, Copy, Debug, PartialEq, Eq)]
 pub enum Layout {
+    /// No bytes.
     Nothing,
+    /// One byte.
     U1,
+    /// Two bytes, the lowest first.
     U2,
+    /// Four bytes, the lowest first, in two's complement.
     I4,
+    /// Four bytes, the lowest first.
     U4,
+    /// Eight bytes, the lowest first.
     U8,
+    /// Eight bytes, the highest first.
     F8,
-    /// A line of at most so many bytes.
+    /// A line of at most so many bytes, and a line feed that ends it.
     Line(usize),
     /// Two such lines.
     Pair(usize),
-    /// A little-endian count, perhaps signed, and then as many bytes as it says.
+    /// A count of so many bytes, the lowest first, and then as many bytes as it says; where the
+    /// sign is true, a count in two's complement, which may not be negative.
     Counted(Width, bool),
 }
 
 /// How many bytes a count has.
-#[derive(Clone, Copy)]
+#[derive(Clone, Copy, Debug, PartialEq, Eq)]
 pub enum Width {
+    /// One byte.
     One,
+    /// Four bytes.
     Four,
+    /// Eight bytes.
     Eight,
 }
 
-impl Layout {
-    /// The layout of a kind.
-    pub fn of(kind: Kind) -> Layout
-        ensures { result ≡ layout_of kind }
+impl Kind {
+    /// How an argument of this kind lies.
+    #[inline]
+    pub fn layout(self) -> Layout
+        ensures { result ≡ layout_of self }
     {
-        match kind {
+        match self {
             Kind::None => Layout::Nothing,
             Kind::Uint1 => Layout::U1,
             Kind::Uint2 => Layout::U2,
@@ -63,6 +76,7 @@ impl Layout {
 
 impl Width {
     /// The bytes of the count itself.
+    #[inline]
     pub fn size(self) -> usize
         ensures { result ≡ size_of self }
     {
@@ -75,6 +89,7 @@ impl Width {
 }
 
 /// Whether a count field of this width holds the number.
+#[inline]
 pub fn is_count(width: Width, signed: bool, count: u64) -> bool
     ensures { result ≡ nat_lt count (count_limit width signed) }
 {

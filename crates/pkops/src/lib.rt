@@ -2,14 +2,17 @@
 #![tactic(auto)]
 
 mod arg;
+mod codes;
 mod contents;
 mod fault;
 mod found;
 mod inst;
 pub mod laws;
 mod layout;
+mod lending;
 mod limits;
 mod op;
+mod passed;
 mod reading;
 mod scanning;
 mod table;
@@ -17,12 +20,16 @@ mod text;
 mod writing;
 
 pub use arg::Arg;
+pub use codes::op_of_byte;
+pub use contents::Rule;
 pub use fault::Fault;
 pub use found::Scan;
 pub use inst::Inst;
+pub use layout::{Layout, Width, is_count};
+pub use lending::{argument_of, count_behind};
 pub use limits::Limits;
 pub use op::{Kind, Op, Row};
 pub use scanning::scan;
-pub use table::{op_of_byte, row};
+pub use table::{layout_of_op, row};
 pub use text::text_of;
 pub use writing::{assemble, write_inst};

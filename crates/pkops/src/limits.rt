@@ -1,12 +1,12 @@
 //! Limits on what is read, kept and written.
 
-ghost use Rattle.std.specs.Prelude.{◌≡◌, SomeIff};
+ghost use Rattle.std.specs.Prelude.{◌≡◌, ◌≤◌, SomeIff};
 ghost use Rattle.pkops.specs.Limits.{AreWithin, bounds, standard};
 
 use std::marker::Model;
 
 /// Limits on what is read, kept and written; none is above its standard number.
-#[derive(Clone, Copy, Debug, Drop)]
+#[derive(Clone, Copy, Debug, PartialEq, Eq)]
 pub struct Limits {
     counted: u64,
     stack: u64,
@@ -44,24 +44,17 @@ impl Limits {
         values: 1_000_000,
     };
 
-    /// `STANDARD`, by a call whose contract says its numbers.
-    pub fn standard() -> Limits
-        ensures { result ≡ standard }
-    {
-        Limits::STANDARD
-    }
-
     /// Limits with these numbers, where each is at most the standard one.
     pub fn new(counted: u64, stack: u64, memo: u64, depth: u64, values: u64) -> Option<Limits>
         ensures { SomeIff result
             (AreWithin (bounds counted stack memo depth values) standard)
             (bounds counted stack memo depth values) }
     {
-        if counted <= 16_777_216
-            && stack <= 1_000_000
-            && memo <= 1_000_000
-            && depth <= 100
-            && values <= 1_000_000
+        if counted <= Limits::STANDARD.counted
+            && stack <= Limits::STANDARD.stack
+            && memo <= Limits::STANDARD.memo
+            && depth <= Limits::STANDARD.depth
+            && values <= Limits::STANDARD.values
         {
             Some(Limits {
                 counted,
@@ -77,35 +70,40 @@ impl Limits {
 
     /// The most bytes that the payload of a counted argument may have.
     pub fn counted(&self) -> u64
-        ensures { result ≡ self.now.counted }
+        ensures is { result ≡ self.now.counted }
+        ensures most { result ≤ standard.counted }
     {
         self.counted
     }
 
     /// The most entries that the stack may have, marks included.
     pub fn stack(&self) -> u64
-        ensures { result ≡ self.now.stack }
+        ensures is { result ≡ self.now.stack }
+        ensures most { result ≤ standard.stack }
     {
         self.stack
     }
 
     /// The most entries that the memo may have.
     pub fn memo(&self) -> u64
-        ensures { result ≡ self.now.memo }
+        ensures is { result ≡ self.now.memo }
+        ensures most { result ≤ standard.memo }
     {
         self.memo
     }
 
     /// How deep JSON values may nest.
     pub fn depth(&self) -> u64
-        ensures { result ≡ self.now.depth }
+        ensures is { result ≡ self.now.depth }
+        ensures most { result ≤ standard.depth }
     {
         self.depth
     }
 
     /// The most JSON values.
     pub fn values(&self) -> u64
-        ensures { result ≡ self.now.values }
+        ensures is { result ≡ self.now.values }
+        ensures most { result ≤ standard.values }
     {
         self.values
     }

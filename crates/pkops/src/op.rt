@@ -197,7 +197,7 @@ pub enum Kind {
 }
 
 /// A row of the table of opcodes.
-#[derive(Clone, Copy, Debug)]
+#[derive(Clone, Copy, Debug, PartialEq, Eq)]
 pub struct Row {
     /// The byte that begins the instruction.
     pub code: u8,

@@ -2,47 +2,58 @@
 
 ghost use Rattle.std.specs.Prelude.{◌≡◌, ◌⊎◌, ◌≤◌, ◌<◌, ◌^◌, ◌==◌, ℕ, List, position, IfOk, Ok};
 ghost use Rattle.std.specs.Int.{cast_signed, w32};
-ghost use Rattle.pkops.specs.Spelling.{Argument, Number, Signed, Float, Line, Pair, Counted, shown_arg};
-ghost use Rattle.pkops.specs.Reading.{Gives, pair_at, ◌>>=◌ as ◌and_then◌, bytes_at, number_at, line_at, payload_at, arg_at};
+ghost use Rattle.pkops.specs.Spelling.{Argument, Number, Signed, Float, Line, Pair, Counted};
+ghost use Rattle.pkops.specs.Spelling.{shown_arg};
+ghost use Rattle.pkops.specs.Private.Reading.{Gives, pair_at, ◌>>=◌ as ◌and_then◌, bytes_at};
+ghost use Rattle.pkops.specs.Private.Reading.{number_at, line_at, payload_at, arg_at};
 
 use crate::arg::Arg;
-use crate::fault::{Fault, Stop};
+use crate::fault::Fault;
 use crate::layout::{Layout, Width, is_count};
 use byteorder::{ByteOrder, LittleEndian};
 
+/// Why no argument was read.
+#[derive(Clone, Copy)]
+pub enum Unread {
+    /// The bytes end before the argument does.
+    Short,
+    /// Whatever follows, the bytes begin no argument.
+    Bad(Fault),
+}
+
 /// So many bytes, and the bytes after them.
-fn bytes(n: usize, from: &[u8]) -> Result<(&[u8], &[u8]), Stop>
+fn bytes(n: usize, from: &[u8]) -> Result<(&[u8], &[u8]), Unread>
     ensures { Gives (λ x. (x.0.now, x.1.now)) result (bytes_at n from.now) }
 {
     if from.len() < n {
-        return Err(Stop::Short);
+        return Err(Unread::Short);
     }
     Ok(from.split_at(n))
 }
 
 /// A number of so many bytes, the lowest first, and the bytes after it.
-fn number(width: usize, from: &[u8]) -> Result<(u64, &[u8]), Stop>
+fn number(width: usize, from: &[u8]) -> Result<(u64, &[u8]), Unread>
     requires low { 1 ≤ width }
     requires high { width ≤ 8 }
     ensures value { Gives (λ x. (x.0, x.1.now)) result (number_at width from.now) }
     ensures fits { IfOk result (λ x. x.0 < 256 ^ width) }
 {
     if from.len() < width {
-        return Err(Stop::Short);
+        return Err(Unread::Short);
     }
     Ok((LittleEndian::read_uint(from, width), &from[width..]))
 }
 
 /// A line without its end, and the bytes after its end.
-#[tactic(auto, unfolding(crate::specs::Reading::line_at))]
-fn line(most: usize, from: &[u8]) -> Result<(&[u8], &[u8]), Stop>
+#[tactic(auto, unfolding(crate::specs::Private::Reading::line_at))]
+fn line(most: usize, from: &[u8]) -> Result<(&[u8], &[u8]), Unread>
     ensures { Gives (λ x. (x.0.now, x.1.now)) result (line_at most from.now) }
 {
     match end_of_line(from) {
         Some(end) if end <= most => Ok((&from[..end], &from[end + 1..])),
-        Some(_) => Err(Stop::Bad(Fault::TooLarge)),
-        None if from.len() <= most => Err(Stop::Short),
-        None => Err(Stop::Bad(Fault::TooLarge)),
+        Some(_) => Err(Unread::Bad(Fault::TooLarge)),
+        None if from.len() <= most => Err(Unread::Short),
+        None => Err(Unread::Bad(Fault::TooLarge)),
     }
 }
 
@@ -53,27 +64,27 @@ fn end_of_line(from: &[u8]) -> Option<usize>
 }
 
 /// A payload without its count, and the bytes after it.
-#[tactic(auto, unfolding(crate::specs::Reading::payload_at))]
+#[tactic(auto, unfolding(crate::specs::Private::Reading::payload_at))]
 fn payload<'a>(
     limit: u64,
     width: Width,
     signed: bool,
     from: &'a [u8],
-) -> Result<(&'a [u8], &'a [u8]), Stop>
+) -> Result<(&'a [u8], &'a [u8]), Unread>
     ensures { Gives (λ x. (x.0.now, x.1.now)) result (payload_at limit width signed from.now) }
 {
     let (count, rest) = number(width.size(), from)?;
     if !is_count(width, signed, count) {
-        return Err(Stop::Bad(Fault::BadArgument));
+        return Err(Unread::Bad(Fault::BadArgument));
     }
     if count > limit {
-        return Err(Stop::Bad(Fault::TooLarge));
+        return Err(Unread::Bad(Fault::TooLarge));
     }
     bytes(count as usize, rest)
 }
 
 /// A number without a sign as an argument, and the bytes after it.
-fn unsigned(width: usize, from: &[u8]) -> Result<(Arg<'_>, &[u8]), Stop>
+fn unsigned(width: usize, from: &[u8]) -> Result<(Arg<'_>, &[u8]), Unread>
     requires { (width ≡ 1) ⊎ (width ≡ 2) ⊎ (width ≡ 4) ⊎ (width ≡ 8) }
     ensures { Gives {Y = Argument × List ℕ} (λ x. (shown_arg x.0, x.1.now)) result
         (number_at width from.now and_then λ n. Ok (Number width n.0, n.1)) }
@@ -89,7 +100,7 @@ fn unsigned(width: usize, from: &[u8]) -> Result<(Arg<'_>, &[u8]), Stop>
 }
 
 /// A number of four bytes with a sign as an argument, and the bytes after it.
-fn signed(from: &[u8]) -> Result<(Arg<'_>, &[u8]), Stop>
+fn signed(from: &[u8]) -> Result<(Arg<'_>, &[u8]), Unread>
     ensures { Gives {Y = Argument × List ℕ} (λ x. (shown_arg x.0, x.1.now)) result
         (number_at 4 from.now and_then λ n. Ok (Signed (cast_signed w32 n.0), n.1)) }
 {
@@ -98,7 +109,7 @@ fn signed(from: &[u8]) -> Result<(Arg<'_>, &[u8]), Stop>
 }
 
 /// The bytes of a float as an argument, and the bytes after them.
-fn float(from: &[u8]) -> Result<(Arg<'_>, &[u8]), Stop>
+fn float(from: &[u8]) -> Result<(Arg<'_>, &[u8]), Unread>
     ensures { Gives {Y = Argument × List ℕ} (λ x. (shown_arg x.0, x.1.now)) result
         (bytes_at 8 from.now and_then λ eight. Ok (Float eight.0, eight.1)) }
 {
@@ -107,7 +118,7 @@ fn float(from: &[u8]) -> Result<(Arg<'_>, &[u8]), Stop>
 }
 
 /// A line as an argument, and the bytes after its end.
-fn text(most: usize, from: &[u8]) -> Result<(Arg<'_>, &[u8]), Stop>
+fn text(most: usize, from: &[u8]) -> Result<(Arg<'_>, &[u8]), Unread>
     ensures { Gives {Y = Argument × List ℕ} (λ x. (shown_arg x.0, x.1.now)) result
         (line_at most from.now and_then λ text. Ok (Line text.0, text.1)) }
 {
@@ -116,7 +127,7 @@ fn text(most: usize, from: &[u8]) -> Result<(Arg<'_>, &[u8]), Stop>
 }
 
 /// Two lines as an argument, and the bytes after their ends.
-fn pair(most: usize, from: &[u8]) -> Result<(Arg<'_>, &[u8]), Stop>
+fn pair(most: usize, from: &[u8]) -> Result<(Arg<'_>, &[u8]), Unread>
     ensures { Gives {Y = Argument × List ℕ} (λ x. (shown_arg x.0, x.1.now)) result
         (pair_at most from.now and_then λ lines. Ok (Pair lines.0.0 lines.0.1, lines.1)) }
 {
@@ -131,7 +142,7 @@ fn counted<'a>(
     width: Width,
     signed: bool,
     from: &'a [u8],
-) -> Result<(Arg<'a>, &'a [u8]), Stop>
+) -> Result<(Arg<'a>, &'a [u8]), Unread>
     ensures { Gives {Y = Argument × List ℕ} (λ x. (shown_arg x.0, x.1.now)) result
         (payload_at limit width signed from.now and_then λ payload.
         Ok (Counted payload.0, payload.1)) }
@@ -141,8 +152,12 @@ fn counted<'a>(
 }
 
 /// An argument of the layout, and the bytes after it.
-#[tactic(auto, unfolding(crate::specs::Reading::arg_at))]
-pub fn argument<'a>(limit: u64, layout: Layout, from: &'a [u8]) -> Result<(Arg<'a>, &'a [u8]), Stop>
+#[tactic(auto, unfolding(crate::specs::Private::Reading::arg_at))]
+pub fn argument<'a>(
+    limit: u64,
+    layout: Layout,
+    from: &'a [u8],
+) -> Result<(Arg<'a>, &'a [u8]), Unread>
     ensures { Gives (λ x. (shown_arg x.0, x.1.now)) result (arg_at limit layout from.now) }
 {
     match layout {

@@ -1,16 +1,16 @@
 //! The instruction at the front of bytes.
 
 ghost use Rattle.std.specs.Prelude.{◌≡◌};
-ghost use Rattle.pkops.specs.Reading.{IsStopped};
+ghost use Rattle.pkops.specs.Private.Reading.{IsUnread};
 ghost use Rattle.pkops.specs.Answer.{Answer, Answers, shown_scan};
 
-use crate::fault::{Fault, Stop};
+use crate::codes::op_of_byte;
+use crate::fault::Fault;
 use crate::found::Scan;
 use crate::inst::Inst;
-use crate::layout::Layout;
 use crate::limits::Limits;
-use crate::reading::argument;
-use crate::table::{kind, op_of_byte};
+use crate::reading::{Unread, argument};
+use crate::table::kind;
 
 /// What stands at the front of the bytes, where a payload may have as many bytes as the limits say.
 ///
@@ -23,11 +23,11 @@ pub fn scan<'a>(bytes: &'a [u8], limits: &Limits) -> Scan<'a>
     ensures only { (other : Answer) →
         Answers limits.now.counted bytes.now other → other ≡ shown_scan result }
 {
-    front(bytes, limits)
+    right_answer(bytes, limits)
 }
 
-/// The same, without the law that no other answer would be right.
-fn front<'a>(bytes: &'a [u8], limits: &Limits) -> Scan<'a>
+/// A right answer.
+fn right_answer<'a>(bytes: &'a [u8], limits: &Limits) -> Scan<'a>
     ensures { Answers limits.now.counted bytes.now (shown_scan result) }
 {
     let [code, from @ ..] = bytes else {
@@ -36,21 +36,21 @@ fn front<'a>(bytes: &'a [u8], limits: &Limits) -> Scan<'a>
     let Some(op) = op_of_byte(*code) else {
         return Scan::Bad(Fault::UnknownOpcode(*code));
     };
-    match argument(limits.counted(), Layout::of(kind(op)), from) {
+    match argument(limits.counted(), kind(op).layout(), from) {
         Ok((arg, rest)) => match Inst::new(op, arg) {
             Some(inst) => Scan::Whole(inst, bytes.len() - rest.len()),
             None => Scan::Bad(Fault::BadArgument),
         },
-        Err(stop) => stopped(stop),
+        Err(why) => unread(why),
     }
 }
 
 /// What a scan answers where no argument was read.
-fn stopped<'a>(stop: Stop) -> Scan<'a>
-    ensures { IsStopped stop (shown_scan result) }
+fn unread<'a>(why: Unread) -> Scan<'a>
+    ensures { IsUnread why (shown_scan result) }
 {
-    match stop {
-        Stop::Short => Scan::More,
-        Stop::Bad(fault) => Scan::Bad(fault),
+    match why {
+        Unread::Short => Scan::More,
+        Unread::Bad(fault) => Scan::Bad(fault),
     }
 }

@@ -1,9 +1,10 @@
 //! The table of opcodes: code, name, kind of argument and least protocol.
 
-ghost use Rattle.std.specs.Prelude.{◌≡◌, ◌≢◌, IfSome, IfNone};
+ghost use Rattle.std.specs.Prelude.{◌≡◌};
 ghost use Rattle.pkops.specs.Table.{row_of, shown, code_of, kind_of};
-ghost use Rattle.pkops.specs.declared.op.Op.{Op};
+ghost use Rattle.pkops.specs.Spelling.{layout_at};
 
+use crate::layout::Layout;
 use crate::op::{Kind, Op, Row};
 
 /// The row of an opcode in the table of `pickletools`.
@@ -18,91 +19,12 @@ pub fn row(op: Op) -> Row
     }
 }
 
-/// The opcode that the byte is the code of, if it is one.
-pub fn op_of_byte(byte: u8) -> Option<Op>
-    ensures found { IfSome result (λ op. code_of op ≡ byte) }
-    ensures none { IfNone result ((op : Op) → code_of op ≢ byte) }
+/// How the argument of an opcode lies.
+#[inline]
+pub fn layout_of_op(op: Op) -> Layout
+    ensures { result ≡ layout_at op }
 {
-    let op = candidate(byte);
-    if code(op) == byte { Some(op) } else { None }
-}
-
-/// The one opcode that may have the code. Two plain matches, this one and `code`, become tables;
-/// one match to an `Option` of an opcode takes twice the time.
-fn candidate(byte: u8) -> Op
-    ensures { code_of result ≢ byte → (op : Op) → code_of op ≢ byte }
-{
-    match byte {
-        0x49 => Op::Int,
-        0x4a => Op::BinInt,
-        0x4b => Op::BinInt1,
-        0x4d => Op::BinInt2,
-        0x4c => Op::Long,
-        0x8a => Op::Long1,
-        0x8b => Op::Long4,
-        0x53 => Op::String,
-        0x54 => Op::BinString,
-        0x55 => Op::ShortBinString,
-        0x42 => Op::BinBytes,
-        0x43 => Op::ShortBinBytes,
-        0x8e => Op::BinBytes8,
-        0x96 => Op::ByteArray8,
-        0x97 => Op::NextBuffer,
-        0x98 => Op::ReadonlyBuffer,
-        0x4e => Op::None,
-        0x88 => Op::NewTrue,
-        0x89 => Op::NewFalse,
-        0x56 => Op::Unicode,
-        0x8c => Op::ShortBinUnicode,
-        0x58 => Op::BinUnicode,
-        0x8d => Op::BinUnicode8,
-        0x46 => Op::Float,
-        0x47 => Op::BinFloat,
-        0x5d => Op::EmptyList,
-        0x61 => Op::Append,
-        0x65 => Op::Appends,
-        0x6c => Op::List,
-        0x29 => Op::EmptyTuple,
-        0x74 => Op::Tuple,
-        0x85 => Op::Tuple1,
-        0x86 => Op::Tuple2,
-        0x87 => Op::Tuple3,
-        0x7d => Op::EmptyDict,
-        0x64 => Op::Dict,
-        0x73 => Op::SetItem,
-        0x75 => Op::SetItems,
-        0x8f => Op::EmptySet,
-        0x90 => Op::AddItems,
-        0x91 => Op::FrozenSet,
-        0x30 => Op::Pop,
-        0x32 => Op::Dup,
-        0x28 => Op::Mark,
-        0x31 => Op::PopMark,
-        0x67 => Op::Get,
-        0x68 => Op::BinGet,
-        0x6a => Op::LongBinGet,
-        0x70 => Op::Put,
-        0x71 => Op::BinPut,
-        0x72 => Op::LongBinPut,
-        0x94 => Op::Memoize,
-        0x82 => Op::Ext1,
-        0x83 => Op::Ext2,
-        0x84 => Op::Ext4,
-        0x63 => Op::Global,
-        0x93 => Op::StackGlobal,
-        0x52 => Op::Reduce,
-        0x62 => Op::Build,
-        0x69 => Op::Inst,
-        0x6f => Op::Obj,
-        0x81 => Op::NewObj,
-        0x92 => Op::NewObjEx,
-        0x80 => Op::Proto,
-        0x2e => Op::Stop,
-        0x95 => Op::Frame,
-        0x50 => Op::PersId,
-        0x51 => Op::BinPersid,
-        _ => Op::None,
-    }
+    kind(op).layout()
 }
 
 /// The code byte.
@@ -182,6 +104,7 @@ pub fn code(op: Op) -> u8
 }
 
 /// The kind of the argument.
+#[inline]
 pub fn kind(op: Op) -> Kind
     ensures { result ≡ kind_of op }
 {

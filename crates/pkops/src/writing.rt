@@ -16,79 +16,6 @@ use std::alloc::{AllocError, Global};
 use std::io;
 use std::io::Write;
 
-/// Adds a line and its end.
-fn push_line(out: &mut Vec<u8>, text: &[u8]) -> Result<(), AllocError>
-    ensures { OnOk result (out.new.items ≡ out.old.items ++ (text.now ++ 10 ∷ [])) }
-{
-    out.extend_from_slice(text)?;
-    out.push(b'\n')?;
-    Ok(())
-}
-
-/// Adds two lines and their ends.
-fn push_pair(out: &mut Vec<u8>, first: &[u8], second: &[u8]) -> Result<(), AllocError>
-    ensures { OnOk result
-        (out.new.items ≡ out.old.items ++ ((first.now ++ 10 ∷ []) ++ (second.now ++ 10 ∷ []))) }
-{
-    push_line(out, first)?;
-    push_line(out, second)
-}
-
-/// Adds the payload of an opcode behind its count, whose lowest byte is the first.
-fn push_counted(out: &mut Vec<u8>, op: Op, payload: &[u8]) -> Result<(), AllocError>
-    requires { Suits (layout_at op) (Counted payload.now) }
-    ensures { OnOk result
-        (out.new.items ≡ out.old.items ++ laid (layout_at op) (Counted payload.now)) }
-{
-    let Layout::Counted(width, _) = Layout::of(kind(op)) else {
-        unreachable!()
-    };
-    let count = (payload.len() as u64).to_le_bytes();
-    out.extend_from_slice(&count[..width.size()])?;
-    out.extend_from_slice(payload)
-}
-
-/// Adds the bytes of an argument of an opcode.
-fn push_argument(out: &mut Vec<u8>, op: Op, arg: Arg<'_>) -> Result<(), AllocError>
-    requires { Suits (layout_at op) (shown_arg arg) }
-    ensures { OnOk result
-        (out.new.items ≡ out.old.items ++ laid (layout_at op) (shown_arg arg.entry)) }
-{
-    match arg {
-        Arg::None => Ok(()),
-        Arg::U1(n) => Ok(out.push(n)?),
-        Arg::U2(n) => out.extend_from_slice(&n.to_le_bytes()),
-        Arg::I4(n) => out.extend_from_slice(&n.to_le_bytes()),
-        Arg::U4(n) => out.extend_from_slice(&n.to_le_bytes()),
-        Arg::U8(n) => out.extend_from_slice(&n.to_le_bytes()),
-        Arg::F8(bytes) => out.extend_from_slice(bytes),
-        Arg::Line(text) => push_line(out, text),
-        Arg::Pair(first, second) => push_pair(out, first, second),
-        Arg::Counted(payload) => push_counted(out, op, payload),
-    }
-}
-
-/// Adds the spelling of an instruction.
-fn push_inst(out: &mut Vec<u8>, inst: &Inst<'_>) -> Result<(), AllocError>
-    ensures { OnOk result (out.new.items ≡ out.old.items ++ spelling (instruction_of inst.now)) }
-{
-    let op = inst.op();
-    out.push(code(op))?;
-    push_argument(out, op, inst.arg())
-}
-
-/// The spellings of instructions, one after the other. It errs only where memory is lacking.
-pub fn assemble(alloc: Global, insts: &[Inst<'_>]) -> Result<Vec<u8>, AllocError>
-    ensures { IfOk result (λ out.
-        out.items ≡ flat_map (λ inst. spelling (instruction_of inst)) insts.now) }
-{
-    let mut out = Vec::new(alloc);
-    for inst in insts {
-        push_inst(&mut out, inst)?;
-    }
-    Ok(out)
-}
-
 /// Writes a line and its end.
 fn write_line<W: Write>(text: &[u8], to: &mut W) -> Result<(), io::Error>
     ensures { OnOk result (Appends (W.contents to.old) (W.contents to.new) (text.now ++ 10 ∷ [])) }
@@ -112,7 +39,7 @@ fn write_counted<W: Write>(op: Op, payload: &[u8], to: &mut W) -> Result<(), io:
     ensures { OnOk result (Appends (W.contents to.old) (W.contents to.new)
         (laid (layout_at op) (Counted payload.now))) }
 {
-    let Layout::Counted(width, _) = Layout::of(kind(op)) else {
+    let Layout::Counted(width, _) = kind(op).layout() else {
         unreachable!()
     };
     to.write_uint::<LittleEndian>(payload.len() as u64, width.size())?;
@@ -148,4 +75,18 @@ pub fn write_inst<W: Write>(inst: &Inst<'_>, to: &mut W) -> Result<(), io::Error
     let op = inst.op();
     to.write_u8(code(op))?;
     write_argument(op, inst.arg(), to)
+}
+
+/// The spellings of instructions, one after the other. It errs only where memory is lacking.
+pub fn assemble(alloc: Global, insts: &[Inst<'_>]) -> Result<Vec<u8>, AllocError>
+    ensures { IfOk result (λ out.
+        out.items ≡ flat_map (λ inst. spelling (instruction_of inst)) insts.now) }
+{
+    let mut out = Vec::new(alloc);
+    for inst in insts {
+        let Ok(()) = write_inst(inst, &mut out) else {
+            return Err(AllocError);
+        };
+    }
+    Ok(out)
 }

@@ -1,46 +1,31 @@
 -- One call of `next`.
-use Rattle.std.proofs.Common.{◌≡◌, ℕ, ◌+◌, ◌≤◌, List, length, Result, refl, sym, ap, ◌∙◌, subst, arith}
+use Rattle.std.proofs.Common.{◌≡◌, ℕ, ◌+◌, ◌≤◌, List, length, Result, sym, ap, ◌∙◌, subst, arith}
 use Rattle.std.specs.Prelude.{max, None}
 use Rattle.std.specs.Result.{MatchResult}
 use Rattle.std.proofs.lemmas.List.{take_all}
-use Rattle.pkops.specs.Answer.{Answer, Answers, IsWhole, Whole, shown_scan}
-use Rattle.pkops.specs.Inst.{instruction_of}
+use Rattle.pkops.specs.Answer.{IsWhole}
 use Rattle.pkops.specs.Spelling.{Instruction, spelling}
-use Rattle.pkops.specs.declared.found.Scan.{Scan}
-use Rattle.pkops.specs.declared.found.Scan.TheVariants as scan
-use Rattle.pkops.specs.declared.inst.Inst.{Inst}
 use Rattle.pkops.specs.declared.op.Op.{Op}
 use Rattle.pkread.proofs.Objections.{no_objection}
 use Rattle.pkread.specs.Admission.{IsAllowed, objection}
-use Rattle.pkread.specs.Core.{phase_after}
-use Rattle.pkread.specs.Gathering.{Gathers, HoldsTaken, IsGathered}
+use Rattle.pkread.specs.Core.{Phase, Open, phase_after}
+use Rattle.pkread.specs.Private.Gathering.{Gathers, HoldsTaken}
 use Rattle.pkread.specs.Reading.{State, Gives, GivesNext, Raises, RefusesAt, StepsFrom, ShowsNext, ShowsFrom}
 use Rattle.pkread.specs.Rows.{Row, Sight, all_bytes}
 use Rattle.pkread.specs.Sequence.{CountsAt}
 use Rattle.pkread.specs.declared.reader.Next.{Next}
-use Rattle.pkread.specs.declared.reader.Phase.{Phase}
-use Rattle.pkread.specs.declared.reader.Phase.TheVariants.{Open}
 use Rattle.pkread.specs.declared.refusal.Reason.{Reason}
 use Rattle.pkread.specs.declared.refusal.Reason.TheVariants.{Source, OutOfMemory}
 use Rattle.pkread.specs.declared.refusal.Refusal.{Refusal}
 
--- an instruction that all the bytes are is the one that a scan of them finds
-pub found : (limit l : ℕ) (b c : List ℕ) (r : Answer) (i : Instruction) → l ≡ limit → c ≡ b → ((other : Answer) → Answers l c other → other ≡ r) → IsWhole limit b i (length b) → Whole i (length b) ≡ r
-found limit l b c r i e f only w = only (Whole i (length b)) (rw (e, f) w)
+-- the bytes are one admitted instruction of the opcode
+pub record IsGathered (limit : ℕ) (bytes : List ℕ) (op : Op) : Type 0 where
+  pub instruction : Instruction
+  pub whole : IsWhole limit bytes instruction (length bytes)
+  pub admitted : objection instruction ≡ None
+  pub opcode : instruction.op ≡ op
 
--- the instruction that a scan answers is that one
-pub found_inst : (i : Instruction) (n m : ℕ) (r : Scan) (inst : Inst) → Whole i n ≡ shown_scan r → r ≡ scan.Whole inst m → instruction_of inst ≡ i
-found_inst i n m r inst e f =
-    let g : Whole i n ≡ Whole (instruction_of inst) m = e ∙ ap shown_scan f in
-    cc
-
--- a scan that has to answer an instruction does so
-pub finds_one : (i : Instruction) (n : ℕ) (r : Scan) → Whole i n ≡ shown_scan r → ((inst : Inst) (m : ℕ) → r ≡ scan.Whole inst m → ⊥) → ⊥
-finds_one i n (scan.Whole inst m) e none_is = none_is inst m refl
-finds_one i n scan.More e none_is = cc
-finds_one i n (scan.Bad fault) e none_is = cc
-
-spelled : (limit : ℕ) (b : List ℕ) (i : Instruction) → IsWhole limit b i (length b) → b ≡ spelling i
+pub spelled : (limit : ℕ) (b : List ℕ) (i : Instruction) → IsWhole limit b i (length b) → b ≡ spelling i
 spelled limit b i w = sym (take_all (length b) b (omega arith)) ∙ w.spells.spelled
 
 allowed : (limit : ℕ) (b : List ℕ) (i : Instruction) (n : ℕ) → IsWhole limit b i n → objection i ≡ None → IsAllowed limit i

@@ -3,7 +3,8 @@ use Rattle.std.proofs.Common.{◌≡◌, ◌≢◌, ℕ, ◌+◌, ◌%◌, ◌^�
 use Rattle.pkops.proofs.Sole.{one_answer}
 use Rattle.pkops.specs.Answer.{Answer, Answers, Bad, More, Whole}
 use Rattle.pkops.specs.declared.fault.Fault.TheVariants as fault
-use Rattle.pkread.specs.Admission.{objection, reason_of}
+use Rattle.pkread.specs.Admission.{objection}
+use Rattle.pkread.specs.Private.Judging.{reason_of}
 use Rattle.pkread.specs.Genops.{IsRefused}
 use Rattle.pkread.specs.Rows.{IsAmiss, Row, Sight, all_bytes}
 use Rattle.pkread.specs.declared.refusal.Reason.{Reason}

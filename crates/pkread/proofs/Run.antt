@@ -1,37 +1,27 @@
 -- A whole run of a reader: the instructions that it has given so far.
-use Rattle.std.proofs.Common.{◌≡◌, ◌≢◌, ℕ, List, [], ◌∷◌, ◌++◌, length, refl, sym, ap, ◌∙◌, arith, length-append, append-nil, append_assoc, Result, Ok, Err, Option, None, Some}
+use Rattle.std.proofs.Common.{◌≡◌, ◌≢◌, ℕ, ◌+◌, true, List, [], ◌∷◌, ◌++◌, length, refl, sym, ap, subst, ◌∙◌, arith, length-append, append-nil, append_assoc, Result, Ok, Err, Option, None, Some}
 use Rattle.std.specs.Prelude.{All}
 use Rattle.std.proofs.lemmas.List.Elements.{All-push, All-nil}
 use Rattle.pkops.specs.Inst.{instruction_of}
-use Rattle.pkops.specs.Spelling.{Instruction, spelling}
+use Rattle.pkops.specs.Payloads.{is_passed}
+use Rattle.pkops.specs.Spelling.{Counted, Instruction, instruction, spelling}
 use Rattle.pkops.specs.declared.inst.Inst.{Inst}
 use Rattle.pkops.specs.declared.op.Op.{Op}
 use Rattle.pkops.specs.declared.op.Op.TheVariants as op
 use Rattle.pkread.proofs.Gathering.{Takes-more}
 use Rattle.pkread.specs.Admission.{IsAllowed}
-use Rattle.pkread.specs.Core.{phase_after}
+use Rattle.pkread.specs.Core.{Phase, Open, Ended, Refused, phase_after}
+use Rattle.pkread.specs.Heads.{IsPassed, Passes, RefusesHead, StepsHeadFrom}
 use Rattle.pkread.specs.Reading.{State, begun, Gives, RefusesAt, Steps, StepsFrom}
+pub use Rattle.pkread.specs.Run.{Reads, SoFar}
+use Rattle.pkread.specs.Run.{EndIsRead, EndOfHeads, HeadIsRead, NextIsRead, PassedIsRead, ReadingBegins, ReadsMore, RefusalIsRead, RefusalOfHeads}
 use Rattle.pkread.specs.Rows.{Sight, Takes}
-use Rattle.pkread.specs.Sequence.{IsSequence, spellings}
+use Rattle.pkread.specs.Sequence.{IsSequence, NoStop, spellings}
+use Rattle.pkread.specs.declared.reader.Head.{Head}
+use Rattle.pkread.specs.declared.reader.Head.TheVariants as head
 use Rattle.pkread.specs.declared.reader.Next.{Next}
 use Rattle.pkread.specs.declared.reader.Next.TheVariants as next
-use Rattle.pkread.specs.declared.reader.Phase.{Phase}
-use Rattle.pkread.specs.declared.reader.Phase.TheVariants.{Open, Ended, Refused}
 use Rattle.pkread.specs.declared.refusal.Refusal.{Refusal}
-
--- the instructions were read so far, and then the reader goes on or has ended
-abbrev pub SoFar : ℕ → List Instruction → Phase → Type 0
-SoFar limit p Open = All (λ i. i.op ≢ op.Stop) p
-SoFar limit p Ended = (q : List Instruction) × (last : Instruction) × (p ≡ q ++ last ∷ []) × (last.op ≡ op.Stop) × All (λ i. i.op ≢ op.Stop) q
-SoFar limit p (Refused r) = ⊥
-
--- from the start of the source on, a reader in this state has given the instructions
-pub record Reads (start : Sight) (limit : ℕ) (instructions : List Instruction) (s : State) : Type 0 where
-  pub same_limit : s.limit ≡ limit
-  pub each : All (IsAllowed limit) instructions
-  pub so_far : SoFar limit instructions s.phase
-  pub bytes : Takes start s.source (spellings instructions)
-  pub count : s.taken ≡ length (spellings instructions)
 
 -- one instruction more is spelled behind the others
 pub spellings-more : (p : List Instruction) (i : Instruction) → spellings (p ++ i ∷ []) ≡ spellings p ++ spelling i
@@ -85,19 +75,24 @@ takes_none (Some xs) f = record { bytes = refl; count = refl }
 pub stopped : (limit : ℕ) (p : List Instruction) (f : Phase) → f ≡ Ended → SoFar limit p f → (q : List Instruction) × (last : Instruction) × (p ≡ q ++ last ∷ []) × (last.op ≡ op.Stop) × All (λ i. i.op ≢ op.Stop) q
 stopped limit p f e h = rw e at h
 
+-- one instruction more was taken
+reads_one : (start : Sight) (limit : ℕ) (p : List Instruction) (s t : State) (i : Instruction) → Reads start limit p s → t.limit ≡ s.limit → s.phase ≡ Open → IsAllowed s.limit i → Takes s.source t.source (spelling i) → t.taken ≡ s.taken + length (spelling i) → t.phase ≡ phase_after i.op → Reads start limit (p ++ i ∷ []) t
+reads_one start limit p s t i h same o allowed bytes taken phase =
+    let w : IsAllowed limit i = rw h.same_limit at allowed in
+    record {
+      same_limit = same ∙ h.same_limit;
+      each = All-push (IsAllowed limit) p i h.each w;
+      so_far = rw phase (so_far_more limit p i (so_far_open limit p s.phase o h.so_far));
+      bytes = rw (spellings-more p i) (Takes-more h.bytes bytes);
+      count = omega (arith, taken, h.count, ap length (spellings-more p i), length-append (spellings p) (spelling i));
+    }
+
 -- one instruction more was given
 pub reads_more : (start : Sight) (limit : ℕ) (p : List Instruction) (s t : State) (r : Result Next Refusal) (at : ℕ) (i : Inst) → Reads start limit p s → Steps s r t → r ≡ Ok (next.Inst at i) → Reads start limit (p ++ instruction_of i ∷ []) t
 reads_more start limit p s t r at i h k e =
     let o = given s.phase s t r at i k.1 e in
     let g = o.1 in
-    let w : IsAllowed limit (instruction_of i) = rw h.same_limit at g.allowed in
-    record {
-      same_limit = k.0 ∙ h.same_limit;
-      each = All-push (IsAllowed limit) p (instruction_of i) h.each w;
-      so_far = rw g.phase (so_far_more limit p (instruction_of i) (so_far_open limit p s.phase o.0 h.so_far));
-      bytes = rw (spellings-more p (instruction_of i)) (Takes-more h.bytes g.bytes);
-      count = omega (arith, g.taken, h.count, ap length (spellings-more p (instruction_of i)), length-append (spellings p) (spelling (instruction_of i)));
-    }
+    reads_one start limit p s t (instruction_of i) h k.0 o.0 g.allowed g.bytes g.taken g.phase
 
 -- a new reader has given nothing
 pub reads_none : (start : Sight) (limit : ℕ) → Reads start limit [] (begun start limit)
@@ -112,3 +107,97 @@ reads_none start limit = record {
 -- a reader that has ended has given a sequence
 pub reads_sequence : (start : Sight) (limit : ℕ) (p : List Instruction) (s : State) → Reads start limit p s → s.phase ≡ Ended → IsSequence limit p
 reads_sequence start limit p s h e = record { each = h.each; stops = stopped limit p s.phase e h.so_far }
+
+-- the laws of a loop over `next`
+
+pub reading_begins : ReadingBegins
+reading_begins start limit = reads_none start limit
+
+more_of : (start : Sight) (limit : ℕ) (p : List Instruction) (s t : State) (i : Instruction) → Reads start limit p s → s.phase ≡ Open → Reads start limit (p ++ i ∷ []) t → ReadsMore start limit p i t
+more_of start limit p s t i h o k = record { no_stop = so_far_open limit p s.phase o h.so_far; reads = k }
+
+pub next_is_read : NextIsRead
+next_is_read start limit p s t r at i h k e =
+    let o = given s.phase s t r at i k.1 e in
+    (more_of start limit p s t (instruction_of i) h o.0 (reads_more start limit p s t r at i h k e), o.1)
+
+pub end_is_read : EndIsRead
+end_is_read start limit p s t r h k e =
+    let o = ended s.phase s t r k.1 e in
+    (reads_sequence start limit p s h o.0, o.1)
+
+ended_no_err : (x : Refusal) → let a : Result Next Refusal = Ok next.Ended in Err x ≡ a → ⊥
+ended_no_err x e = cc
+
+refuses_here : (limit : ℕ) (p : List Instruction) (f : Phase) (s t : State) (r : Result Next Refusal) (x : Refusal) → SoFar limit p f → StepsFrom f s r t → r ≡ Err x → NoStop p × RefusesAt s x t
+refuses_here limit p Open s t r x so k e = (so, rw e at k)
+refuses_here limit p Ended s t r x so k e = absurd (ended_no_err x (sym e ∙ k.0))
+refuses_here limit p (Refused y) s t r x so k e = absurd so
+
+pub refusal_is_read : RefusalIsRead
+refusal_is_read start limit p s t r x h k e = refuses_here limit p s.phase s t r x h.so_far k.1 e
+
+-- the laws of a loop over `next_head`
+
+head_not_ended : (i : Inst) (at : ℕ) → let a : Result Head Refusal = Ok (head.Inst at i) in a ≡ Ok head.Ended → ⊥
+head_not_ended i at e = cc
+
+head_not_err : (i : Inst) (at : ℕ) (x : Refusal) → let a : Result Head Refusal = Ok (head.Inst at i) in a ≡ Err x → ⊥
+head_not_err i at x e = cc
+
+head_given : (p : Phase) (s t : State) (r : Result Head Refusal) (at : ℕ) (i : Inst) → StepsHeadFrom p s r t → r ≡ Ok (head.Inst at i) → (p ≡ Open) × Gives s at (instruction_of i) t
+head_given Open s t r at i h e = let w = rw e at h in (refl, w.0)
+head_given Ended s t r at i h e = absurd (head_not_ended i at (sym e ∙ h.0))
+head_given (Refused x) s t r at i h e = absurd (head_not_err i at x (sym e ∙ h.0))
+
+pub head_is_read : HeadIsRead
+head_is_read start limit p s t r at i h k e =
+    let o = head_given s.phase s t r at i k.1 e in
+    let g = o.1 in
+    (more_of start limit p s t (instruction_of i) h o.0 (reads_one start limit p s t (instruction_of i) h k.0 o.0 g.allowed g.bytes g.taken g.phase), g)
+
+passed_not_ended : (o : Op) (at count : ℕ) → let a : Result Head Refusal = Ok (head.Passed at o count) in a ≡ Ok head.Ended → ⊥
+passed_not_ended o at count e = cc
+
+passed_not_err : (o : Op) (at count : ℕ) (x : Refusal) → let a : Result Head Refusal = Ok (head.Passed at o count) in a ≡ Err x → ⊥
+passed_not_err o at count x e = cc
+
+passed_given : (p : Phase) (s t : State) (r : Result Head Refusal) (at count : ℕ) (o : Op) → StepsHeadFrom p s r t → r ≡ Ok (head.Passed at o count) → (p ≡ Open) × Passes s at o count t
+passed_given Open s t r at count o h e = (refl, rw e at h)
+passed_given Ended s t r at count o h e = absurd (passed_not_ended o at count (sym e ∙ h.0))
+passed_given (Refused x) s t r at count o h e = absurd (passed_not_err o at count x (sym e ∙ h.0))
+
+-- a passed opcode isn't STOP
+passed_goes_on : (o : Op) → is_passed o ≡ true → phase_after o ≡ Open
+passed_goes_on op.Stop e = absurd cc
+passed_goes_on _ e = refl
+
+pub passed_is_read : PassedIsRead
+passed_is_read start limit p s t r at o count h k e =
+    let w = passed_given s.phase s t r at count o k.1 e in
+    let g = w.1 in
+    let b = g.passes in
+    let i = instruction o (Counted b.payload) in
+    let one : IsPassed limit o count b.payload = subst (λ (l : ℕ). IsPassed l o count b.payload) h.same_limit b.one in
+    (b.payload, one, more_of start limit p s t i h w.0 (reads_one start limit p s t i h k.0 w.0 b.one.allowed b.bytes b.taken (g.phase ∙ sym (passed_goes_on o b.one.passed))), b.bytes, b.taken, g)
+
+head_ended_not_err : (x : Refusal) → let a : Result Head Refusal = Ok head.Ended in a ≡ Err x → ⊥
+head_ended_not_err x e = cc
+
+head_ended : (p : Phase) (s t : State) (r : Result Head Refusal) → StepsHeadFrom p s r t → r ≡ Ok head.Ended → (p ≡ Ended) × (t ≡ s)
+head_ended Open s t r h e = let h' = rw e at h in absurd h'
+head_ended Ended s t r h e = (refl, h.1)
+head_ended (Refused x) s t r h e = absurd (head_ended_not_err x (sym e ∙ h.0))
+
+pub end_of_heads : EndOfHeads
+end_of_heads start limit p s t r h k e =
+    let o = head_ended s.phase s t r k.1 e in
+    (reads_sequence start limit p s h o.0, o.1)
+
+head_refuses_here : (limit : ℕ) (p : List Instruction) (f : Phase) (s t : State) (r : Result Head Refusal) (x : Refusal) → SoFar limit p f → StepsHeadFrom f s r t → r ≡ Err x → NoStop p × RefusesHead s x t
+head_refuses_here limit p Open s t r x so k e = (so, rw e at k)
+head_refuses_here limit p Ended s t r x so k e = absurd (head_ended_not_err x (sym k.0 ∙ e))
+head_refuses_here limit p (Refused y) s t r x so k e = absurd so
+
+pub refusal_of_heads : RefusalOfHeads
+refusal_of_heads start limit p s t r x h k e = head_refuses_here limit p s.phase s t r x h.so_far k.1 e

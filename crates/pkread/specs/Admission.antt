@@ -4,18 +4,10 @@ use Rattle.pkops.specs.Admitted.{highest_protocol, is_admitted}
 use Rattle.pkops.specs.Contents.{IsGood}
 use Rattle.pkops.specs.Scanning.{IsWithin}
 use Rattle.pkops.specs.Spelling.{Argument, Number, Instruction}
-use Rattle.pkops.specs.declared.fault.Fault.{Fault}
-use Rattle.pkops.specs.declared.fault.Fault.TheVariants as fault
 use Rattle.pkops.specs.declared.op.Op.{Op}
 use Rattle.pkops.specs.declared.op.Op.TheVariants as op
 use Rattle.pkread.specs.declared.refusal.Reason.{Reason}
-use Rattle.pkread.specs.declared.refusal.Reason.TheVariants.{UnknownOpcode, BadArgument, TooLarge, ExtensionCode, UnsupportedProtocol}
-
--- the reason of the same name
-abbrev pub reason_of : Fault → Reason
-reason_of (fault.UnknownOpcode code) = UnknownOpcode code
-reason_of fault.BadArgument = BadArgument
-reason_of fault.TooLarge = TooLarge
+use Rattle.pkread.specs.declared.refusal.Reason.TheVariants.{ExtensionCode, UnsupportedProtocol}
 
 -- why a PROTO with this argument is not admitted, if it is not
 abbrev pub protocol_objection : Argument → Option Reason

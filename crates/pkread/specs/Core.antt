@@ -3,8 +3,22 @@ use Rattle.std.specs.Prelude.{ℕ}
 use Rattle.pkops.specs.declared.op.Op.{Op}
 use Rattle.pkops.specs.declared.op.Op.TheVariants.{Stop}
 use Rattle.pkread.specs.Held.{Held}
-use Rattle.pkread.specs.declared.reader.Phase.{Phase}
-use Rattle.pkread.specs.declared.reader.Phase.TheVariants.{Open, Ended}
+use Rattle.pkread.specs.declared.state.Phase as declared
+use Rattle.pkread.specs.declared.refusal.Refusal.{Refusal}
+
+-- how a reader goes on: with the next instruction, with nothing since it gave STOP, or with the
+-- same refusal
+-- for ever
+pub data Phase : Type 0 where
+  Open : Phase
+  Ended : Phase
+  Refused : Refusal → Phase
+
+-- what the program keeps of it
+abbrev pub shown_phase : declared.Phase → Phase
+shown_phase declared.TheVariants.Open = Open
+shown_phase declared.TheVariants.Ended = Ended
+shown_phase (declared.TheVariants.Refused refusal) = Refused refusal
 
 -- the buffer, the number of bytes taken, the limit on payloads, and how the reader goes on
 pub record CoreView : Type 0 where

@@ -78,7 +78,8 @@ pub record IsFramed (before : List Piece) (p : Piece) (after : List Piece) : Typ
       LiesInOne (span_after before p) (contents 0 before)
       ⊎ MeetsNone (span_after before p) (contents 0 (before ++ p ∷ after))
   pub frame : IsFrame p.role → MeetsNone (span_after before p) (contents 0 (before ++ p ∷ after))
-  pub stop : IsStop p.role → (c : Span) → Contains (contents 0 before) c → c.to ≤ (span_after before p).to
+  pub stop : IsStop p.role → (c : Span) → Contains (contents 0 before) c →
+      c.to ≤ (span_after before p).to
 
 -- each piece is framed
 abbrev pub Framed : List Piece → Type 0
@@ -114,6 +115,16 @@ counted n p = cond (nat_eq n 0) (Some (opened p.role)) (left_open n p.length p.r
 abbrev pub one_later : Option ℕ → (ℕ → Option ℕ) → Option ℕ
 one_later None f = Some 0
 one_later (Some n) f = option_map (λ k. k + 1) (f n)
+
+-- go on with a number, where there is one
+abbrev pub and_then : Option ℕ → (ℕ → Option ℕ) → Option ℕ
+and_then None f = None
+and_then (Some n) f = f n
+
+-- the bytes left open after all the pieces, or None where one of them is refused
+abbrev pub counted_all : ℕ → List Piece → Option ℕ
+counted_all n [] = Some n
+counted_all n (p ∷ ps) = and_then (counted n p) (λ m. counted_all m ps)
 
 -- the place of the first piece that the rule refuses, where n bytes are open before the list
 abbrev pub refused_at : ℕ → List Piece → Option ℕ

@@ -4,8 +4,11 @@ pub mod Pieces
 pub mod Admission
 pub mod Rows
 pub mod Held
-pub mod Gathering
 pub mod Core
 pub mod Reading
+pub mod Heads
 pub mod Sequence
+pub mod Run
 pub mod Genops
+pub mod Walked
+pub mod Private

@@ -4,13 +4,11 @@ use base.Fml.{GName}
 use Rattle.pkops.specs.Inst.{instruction_of}
 use Rattle.pkops.specs.Spelling.{Instruction, spelling}
 use Rattle.pkread.specs.Admission.{IsAllowed}
-use Rattle.pkread.specs.Core.{CoreView, phase_after}
+use Rattle.pkread.specs.Core.{Phase, Open, Ended, Refused, CoreView, phase_after}
 use Rattle.pkread.specs.Rows.{Sight, Takes, Refuses, sight, all_bytes}
 use Rattle.pkread.specs.Sequence.{CountsAt}
 use Rattle.pkread.specs.declared.reader.Next.{Next}
 use Rattle.pkread.specs.declared.reader.Next.TheVariants as next
-use Rattle.pkread.specs.declared.reader.Phase.{Phase}
-use Rattle.pkread.specs.declared.reader.Phase.TheVariants.{Open, Ended, Refused}
 use Rattle.pkread.specs.declared.reader.Reader.{Reader}
 use Rattle.pkread.specs.declared.refusal.Reason.{Reason}
 use Rattle.pkread.specs.declared.refusal.Reason.TheVariants.{OutOfMemory}
@@ -96,7 +94,8 @@ abbrev pub GivesNext : State → State → Next → Type 0
 GivesNext old new (next.Inst at inst) = Gives old at (instruction_of inst) new
 GivesNext old new next.Ended = ⊥
 
--- a call goes by the phase: an open reader gives or refuses; after STOP and after a refusal it answers
+-- a call goes by the phase: an open reader gives or refuses; after STOP and after a refusal it
+-- answers
 -- the same for ever, and nothing changes
 abbrev pub StepsFrom : Phase → State → Result Next Refusal → State → Type 0
 StepsFrom Open old result new = MatchResult result (GivesNext old new) (λ r. RefusesAt old r new)

@@ -33,7 +33,8 @@ pub record Fails (old new : Sight) (run : List ℕ) : Type 0 where
 abbrev pub all_bytes : ℕ
 all_bytes = 2 ^ 64 - 1
 
--- the most bytes that a reader's buffer holds: the longest counted argument with its code and count,
+-- the most bytes that a reader's buffer holds: the longest counted argument with its code and
+-- count,
 -- or two lines with their code
 abbrev pub bound : ℕ → ℕ
 bound limit = max (limit + 9) 131_075
@@ -43,13 +44,15 @@ abbrev pub IsBarred : ℕ → List ℕ → Reason → Type 0
 IsBarred limit bytes reason =
     (i : Instruction) × (n : ℕ) × IsWhole limit bytes i n × (objection i ≡ Some reason)
 
--- what the bytes from an instruction's first one on show to be amiss, for each reason that they can show
+-- what the bytes from an instruction's first one on show to be amiss, for each reason that they
+-- can show
 abbrev pub IsAmiss : ℕ → List ℕ → Reason → Type 0
 IsAmiss limit bytes (UnknownOpcode code) = HasFault limit (fault.UnknownOpcode code) bytes
 IsAmiss limit bytes BadArgument = HasFault limit fault.BadArgument bytes
 IsAmiss limit bytes TooLarge = HasFault limit fault.TooLarge bytes
 IsAmiss limit bytes ExtensionCode = IsBarred limit bytes ExtensionCode
-IsAmiss limit bytes (UnsupportedProtocol protocol) = IsBarred limit bytes (UnsupportedProtocol protocol)
+IsAmiss limit bytes (UnsupportedProtocol protocol) =
+    IsBarred limit bytes (UnsupportedProtocol protocol)
 IsAmiss limit bytes _ = ⊥
 
 -- what each reason says of the bytes that were taken from the instruction's first one on, where
@@ -67,9 +70,11 @@ Row limit old new bytes taken reason = Takes old new bytes × IsAmiss limit byte
 abbrev pub FrontsBegin : ℕ → List ℕ → Type 0
 FrontsBegin limit bytes = (k : ℕ) → k < length bytes → Begun limit (take k bytes)
 
--- the bytes were taken before a refusal for this reason: no more than show it, and they show no other
+-- the bytes were taken before a refusal for this reason: no more than show it, and they show no
+-- other
 -- (want of memory aside, which may stand in place of any)
-pub record Refuses (limit : ℕ) (old new : Sight) (bytes : List ℕ) (before after : ℕ) (reason : Reason) : Type 0 where
+pub record Refuses (limit : ℕ) (old new : Sight) (bytes : List ℕ) (before after : ℕ)
+    (reason : Reason) : Type 0 where
   pub taken : after ≡ before + length bytes
   pub fronts : FrontsBegin limit bytes
   pub row : Row limit old new bytes after reason

@@ -1,11 +1,18 @@
 //! Why what was scanned is refused.
 
-ghost use Rattle.std.specs.Prelude.{◌≡◌};
+ghost use Rattle.std.specs.Prelude.{◌≡◌, ℕ, None, IfNone, IfSome, true};
+ghost use Rattle.pkops.specs.Contents.{IsGood};
+ghost use Rattle.pkops.specs.Lying.{Lies};
+ghost use Rattle.pkops.specs.Spelling.{Argument, instruction, layout_at};
+ghost use Rattle.pkops.specs.declared.layout.Layout.TheVariants as layout;
+ghost use Rattle.pkread.specs.Rows.{IsAmiss};
 ghost use Rattle.pkops.specs.Inst.{instruction_of};
-ghost use Rattle.pkread.specs.Admission.{objection, reason_of};
+ghost use Rattle.pkread.specs.Admission.{objection};
+ghost use Rattle.pkread.specs.Private.Judging.{IsPlain, reason_of};
 
+use crate::arms::Behind;
 use crate::refusal::Reason;
-use pkops::{Arg, Fault, Inst, Op};
+use pkops::{Arg, Fault, Inst, Op, Width, argument_of};
 
 /// The highest protocol that is read.
 const HIGHEST_PROTOCOL: u8 = 5;
@@ -35,5 +42,89 @@ pub(crate) fn objection_to(inst: Inst<'_>) -> Option<Reason>
             }
         }
         _ => None,
+    }
+}
+
+/// Why an instruction of known layout is refused, if it is. Its contents are looked at here alone.
+#[inline]
+pub(crate) fn objection_in(op: Op, behind: Behind, bytes: &[u8]) -> Option<Reason>
+    requires plain { behind.plain ≡ true → IsPlain op }
+    requires lies { (limit : ℕ) × (arg : Argument) × Lies limit op arg behind.split bytes.now }
+    ensures none { IfNone result ((limit : ℕ) (arg : Argument) →
+        Lies limit op arg behind.split bytes.now →
+        IsGood (instruction op arg) × (objection (instruction op arg) ≡ None)) }
+    ensures some { IfSome result (λ reason. (limit : ℕ) (arg : Argument) →
+        Lies limit op arg behind.split bytes.now → IsAmiss limit bytes.now reason) }
+{
+    if behind.plain {
+        return None;
+    }
+    look(op, behind.split, bytes)
+}
+
+/// The same, whatever the opcode is.
+#[inline(never)]
+fn look(op: Op, split: usize, bytes: &[u8]) -> Option<Reason>
+    requires { (limit : ℕ) × (arg : Argument) × Lies limit op arg split bytes.now }
+    ensures none { IfNone result ((limit : ℕ) (arg : Argument) →
+        Lies limit op arg split bytes.now →
+        IsGood (instruction op arg) × (objection (instruction op arg) ≡ None)) }
+    ensures some { IfSome result (λ reason. (limit : ℕ) (arg : Argument) →
+        Lies limit op arg split bytes.now → IsAmiss limit bytes.now reason) }
+{
+    match Inst::judged(op, argument_of(op, split, bytes)) {
+        Some(inst) => objection_to(inst),
+        None => Some(Reason::BadArgument),
+    }
+}
+
+/// Whether arguments of one byte need no look.
+#[inline]
+pub(crate) fn byte_is_plain(op: Op) -> bool
+    requires { layout_at op ≡ layout.U1 }
+    ensures { result ≡ true → IsPlain op }
+{
+    match op {
+        Op::Proto => false,
+        Op::Ext1 => false,
+        _ => true,
+    }
+}
+
+/// Whether arguments of two bytes need no look.
+#[inline]
+pub(crate) fn two_is_plain(op: Op) -> bool
+    requires { layout_at op ≡ layout.U2 }
+    ensures { result ≡ true → IsPlain op }
+{
+    match op {
+        Op::Ext2 => false,
+        _ => true,
+    }
+}
+
+/// Whether signed arguments need no look.
+#[inline]
+pub(crate) fn signed_is_plain(op: Op) -> bool
+    requires { layout_at op ≡ layout.I4 }
+    ensures { result ≡ true → IsPlain op }
+{
+    match op {
+        Op::Ext4 => false,
+        _ => true,
+    }
+}
+
+/// Whether counted arguments need no look.
+#[inline]
+pub(crate) fn counted_is_plain(op: Op, width: Width, signed: bool) -> bool
+    requires { layout_at op ≡ layout.Counted width signed }
+    ensures { result ≡ true → IsPlain op }
+{
+    match op {
+        Op::ShortBinUnicode => false,
+        Op::BinUnicode => false,
+        Op::BinUnicode8 => false,
+        _ => true,
     }
 }

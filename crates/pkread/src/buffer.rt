@@ -1,24 +1,34 @@
 //! The bytes of the instruction begun, and the most that were ever held.
 
-ghost use Rattle.std.specs.Prelude.{◌≡◌, []};
-ghost use Rattle.pkread.specs.Held.{Held, none_held, Pushed};
+ghost use Rattle.std.specs.Prelude.{◌≡◌, ◌+◌, ◌++◌, ◌∷◌, ◌<◌, ◌≤◌, ◌%◌, ◌^◌, [], ℕ, List};
+ghost use Rattle.std.specs.Prelude.{IfOk, IfErr, length, max, take};
+ghost use Rattle.pkread.specs.Held.{Held, none_held};
+ghost use Rattle.pkread.specs.Rows.{sight};
+ghost use Rattle.pkread.specs.Private.Taking.{AreBytes, PulledInto, Reads, ReadsByte, ReadsNone};
 
+use crate::refusal::Reason;
+use crate::source::{ReadFailed, Source};
 use std::alloc::{AllocError, Global};
 use std::marker::Model;
 
-/// Bytes that grow one at a time, and know how many they have been at most.
+/// Bytes that grow at the end, and know how many they have been at most. The store never shrinks,
+/// so that no read clears memory first.
 #[derive(Debug, Drop)]
 pub(crate) struct Buffer {
-    bytes: Vec<u8>,
+    store: Vec<u8>,
+    held: usize,
     most: usize,
 }
 
 impl Model for Buffer {
+    ghost use Rattle.std.specs.Prelude.{◌≤◌, length, take};
     ghost use Rattle.pkread.specs.Held.{Held};
 
     ghost Value = { Held };
 
-    ghost view = { λ b. record { bytes = b.bytes.items; most = b.most } };
+    ghost view = { λ b. record { bytes = take b.held b.store.items; most = b.most } };
+
+    ghost invariant = { λ b. b.held ≤ length b.store.items };
 }
 
 impl Buffer {
@@ -27,7 +37,8 @@ impl Buffer {
         ensures { result ≡ none_held }
     {
         Buffer {
-            bytes: Vec::new(alloc),
+            store: Vec::new(alloc),
+            held: 0,
             most: 0,
         }
     }
@@ -40,26 +51,149 @@ impl Buffer {
     }
 
     /// The bytes held.
+    #[inline]
     pub(crate) fn bytes(&self) -> &[u8]
         ensures { result.now ≡ self.now.bytes }
     {
-        &self.bytes
+        &self.store[..self.held]
     }
 
     /// Forgets the bytes, and keeps their memory.
+    #[inline]
     pub(crate) fn clear(&mut self)
         ensures bytes { self.new.bytes ≡ [] }
         ensures most { self.new.most ≡ self.old.most }
     {
-        self.bytes.clear();
+        self.held = 0;
     }
 
-    /// Puts a byte behind the others.
-    pub(crate) fn push(&mut self, byte: u8) -> Result<(), AllocError>
-        ensures { Pushed self.old byte result self.new }
+    /// Counts the bytes held among the most.
+    #[inline]
+    pub(crate) fn raise(&mut self)
+        ensures bytes { self.new.bytes ≡ self.old.bytes }
+        ensures most { self.new.most ≡ max self.old.most (length self.old.bytes) }
     {
-        self.bytes.push(byte)?;
-        self.most = self.most.max(self.bytes.len());
-        Ok(())
+        self.most = self.most.max(self.held);
     }
+
+    /// Counts the bytes held among the most, and forgets all but the first of them.
+    pub(crate) fn cut(&mut self, count: usize)
+        requires { count ≤ length self.old.bytes }
+        ensures bytes { self.new.bytes ≡ take count self.old.bytes }
+        ensures most { self.new.most ≡ max self.old.most (length self.old.bytes) }
+    {
+        self.raise();
+        self.held = count;
+    }
+
+    /// One read of a byte, which stands behind the others then. It goes through an array of one:
+    /// a copy of a known length to a known place is a move.
+    #[inline]
+    pub(crate) fn read_byte<R: Source>(&mut self, source: &mut R) -> Result<u8, Reason>
+        ensures most { self.new.most ≡ self.old.most }
+        ensures ok { IfOk result (λ byte. ReadsByte byte
+            self.old.bytes (sight R.left R.failures source.old)
+            self.new.bytes (sight R.left R.failures source.new)) }
+        ensures same { IfErr result (λ _. self.new.bytes ≡ self.old.bytes) }
+        ensures err { IfErr result (ReadsNone
+            (sight R.left R.failures source.old) (sight R.left R.failures source.new)) }
+    {
+        let held = self.held;
+        let Ok(()) = make_room(&mut self.store, held, 1) else {
+            return Err(Reason::OutOfMemory);
+        };
+        let mut one = [0];
+        match source.pull(&mut one) {
+            Ok(0) => Err(Reason::Truncated),
+            Ok(_) => {
+                put(&mut self.store, held, one[0]);
+                self.held = held + 1;
+                Ok(one[0])
+            }
+            Err(_) => Err(Reason::Source),
+        }
+    }
+
+    /// One read of at most so many bytes, which stand behind the others then.
+    #[inline]
+    pub(crate) fn read<R: Source>(&mut self, source: &mut R, wanted: usize) -> Result<usize, Reason>
+        requires some { 0 < wanted }
+        requires few { wanted ≤ 4096 }
+        ensures most { self.new.most ≡ self.old.most }
+        ensures ok { IfOk result (λ n. Reads wanted n
+            self.old.bytes (sight R.left R.failures source.old)
+            self.new.bytes (sight R.left R.failures source.new)) }
+        ensures same { IfErr result (λ _. self.new.bytes ≡ self.old.bytes) }
+        ensures err { IfErr result (ReadsNone
+            (sight R.left R.failures source.old) (sight R.left R.failures source.new)) }
+    {
+        let held = self.held;
+        let Ok(()) = make_room(&mut self.store, held, wanted) else {
+            return Err(Reason::OutOfMemory);
+        };
+        match pull_into(source, &mut self.store, held, wanted) {
+            Ok(0) => Err(Reason::Truncated),
+            Ok(n) => {
+                self.held = held + n;
+                Ok(n)
+            }
+            Err(_) => Err(Reason::Source),
+        }
+    }
+}
+
+/// Puts a byte at a place of a store.
+#[inline]
+fn put(store: &mut Vec<u8>, at: usize, byte: u8)
+    requires { at < length store.old.items }
+    ensures front { take (at + 1) store.new.items ≡ take at store.old.items ++ byte ∷ [] }
+    ensures length { at < length store.new.items }
+    ensures fits { byte < 256 }
+{
+    store[at] = byte;
+}
+
+/// Makes a store long enough.
+#[inline]
+fn make_room(store: &mut Vec<u8>, from: usize, wanted: usize) -> Result<(), AllocError>
+    requires within { from ≤ length store.old.items }
+    requires few { wanted ≤ 4096 }
+    ensures ok { IfOk result (λ _. from + wanted ≤ length store.new.items) }
+    ensures same { take from store.new.items ≡ take from store.old.items }
+    ensures more { from ≤ length store.new.items }
+{
+    if store.len() - from < wanted {
+        return lengthen(store, from, wanted);
+    }
+    Ok(())
+}
+
+#[inline(never)]
+fn lengthen(store: &mut Vec<u8>, from: usize, wanted: usize) -> Result<(), AllocError>
+    requires within { from ≤ length store.old.items }
+    requires few { wanted ≤ 4096 }
+    ensures ok { IfOk result (λ _. from + wanted ≤ length store.new.items) }
+    ensures same { take from store.new.items ≡ take from store.old.items }
+    ensures more { from ≤ length store.new.items }
+{
+    store.resize(from + wanted.max(64), 0)
+}
+
+/// One read of at most so many bytes into a store.
+#[inline]
+fn pull_into<R: Source>(
+    source: &mut R,
+    store: &mut Vec<u8>,
+    from: usize,
+    wanted: usize,
+) -> Result<usize, ReadFailed>
+    requires { from + wanted ≤ length store.old.items }
+    ensures ok { IfOk result (λ n. PulledInto wanted n from store.old.items store.new.items
+        (sight R.left R.failures source.old) (sight R.left R.failures source.new)) }
+    ensures err { IfErr result (λ _.
+        R.failures source.new ≡ (R.failures source.old + 1) % (2 ^ 64)) }
+    ensures same { take from store.new.items ≡ take from store.old.items }
+    ensures size { length store.new.items ≡ length store.old.items }
+{
+    source.pull(&mut store[from..from + wanted])
 }

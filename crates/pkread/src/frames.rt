@@ -1,10 +1,11 @@
 //! The frame rules, by the number of bytes of a frame that are still open.
 
 ghost use Rattle.std.specs.Prelude.{◌≡◌, ◌<◌, ℕ};
+ghost use Rattle.pkops.specs.Inst.{instruction_of};
 ghost use Rattle.pkread.specs.Framing.{Took};
-ghost use Rattle.pkread.specs.Pieces.{role_of};
+ghost use Rattle.pkread.specs.Pieces.{number_of, role_of};
 
-use pkops::Op;
+use pkops::{Arg, Inst, Op};
 use std::marker::Model;
 
 /// An instruction breaks the frame rules: it is a FRAME inside a frame, it lies across the end
@@ -36,8 +37,8 @@ impl Frames {
     }
 
     /// Takes the next instruction: its opcode, the number of bytes that spell it, and the
-    /// argument where it is a FRAME (else `arg` is not looked at). An instruction that breaks
-    /// the frame rules is refused and leaves everything as it was.
+    /// argument where it is a FRAME (else `arg` is not looked at; `frame_argument` gives it). An
+    /// instruction that breaks the frame rules is refused and leaves everything as it was.
     pub fn take(&mut self, op: Op, length: u64, arg: u64) -> Result<(), BrokenFrame>
         requires { 0 < length }
         ensures { Took self.old (record { length = length; role = role_of op arg })
@@ -65,5 +66,20 @@ impl Frames {
         }
         self.open -= length;
         Ok(())
+    }
+}
+
+/// The number that `Frames::take` wants of an instruction as its last argument: the one that the
+/// argument is, and 0 where it is none.
+#[inline]
+pub fn frame_argument(inst: &Inst<'_>) -> u64
+    ensures { result ≡ number_of (instruction_of inst.now).arg }
+{
+    match inst.arg() {
+        Arg::U1(number) => u64::from(number),
+        Arg::U2(number) => u64::from(number),
+        Arg::U4(number) => u64::from(number),
+        Arg::U8(number) => number,
+        _ => 0,
     }
 }

@@ -1,72 +1,167 @@
-//! Takes the bytes of one instruction from a source.
+//! Takes the bytes of one instruction from a source, in one pass.
 
-ghost use Rattle.std.specs.Prelude.{◌≡◌, ◌+◌, ◌++◌, ◌∷◌, ◌≤◌, [], ℕ, List, IfOk, IfErr};
+ghost use Rattle.std.specs.Prelude.{◌≡◌, ◌∷◌, ◌≤◌, [], ℕ, List, IfOk, IfErr, true};
 ghost use Rattle.std.specs.Prelude.{length, max};
-ghost use Rattle.pkread.specs.Gathering.{Gathers, HoldsTaken, IsGathered, TakesNone};
-ghost use Rattle.pkread.specs.Rows.{Refuses, Takes, bound, sight};
+ghost use Rattle.pkops.specs.Table.{code_of};
+ghost use Rattle.pkread.specs.Private.Judging.{IsPlain};
+ghost use Rattle.pkread.specs.Private.Gathering.{Gathers, Grows, HoldsTaken, IsFound, Stops};
+ghost use Rattle.pkread.specs.Rows.{Refuses, bound, sight};
+ghost use Rattle.pkread.specs.Private.Taking.{Took};
 
-use crate::admission::{objection_to, reason_of};
+use crate::admission::{
+    byte_is_plain, counted_is_plain, objection_in, signed_is_plain, two_is_plain,
+};
+use crate::arms::{Behind, counted, fixed, one_line, two_lines};
+use crate::blocks::take_byte;
 use crate::buffer::Buffer;
 use crate::refusal::Reason;
 use crate::source::Source;
-use pkops::{Limits, Op, Scan, scan};
+use pkops::{Layout, Op, layout_of_op, op_of_byte};
 
-/// Takes bytes until they spell an instruction, one at a time, and scans from the first byte on
-/// each time. Gives the opcode of the instruction, whose bytes the buffer then holds.
+/// What was gathered: an opcode, and the number of bytes of the first of two lines.
+#[derive(Clone, Copy, Debug)]
+pub(crate) struct Found {
+    pub(crate) op: Op,
+    pub(crate) split: usize,
+}
+
+/// Takes the argument behind a code, and gives the number of bytes of the first of two lines.
+#[inline]
+fn behind_code<R: Source>(
+    source: &mut R,
+    buffer: &mut Buffer,
+    taken: &mut u64,
+    limit: u64,
+    op: Op,
+) -> Result<Behind, Reason>
+    requires { buffer.old.bytes ≡ code_of op ∷ [] }
+    ensures most { buffer.new.most ≡ buffer.old.most }
+    ensures plain { IfOk result (λ r. r.plain ≡ true → IsPlain op) }
+    ensures ok { IfOk result (λ r. Grows limit op r.split
+        buffer.old.bytes (sight R.left R.failures source.old) taken.old
+        buffer.new.bytes (sight R.left R.failures source.new) taken.new) }
+    ensures err { IfErr result (Stops limit
+        buffer.old.bytes (sight R.left R.failures source.old) taken.old
+        buffer.new.bytes (sight R.left R.failures source.new) taken.new) }
+{
+    match layout_of_op(op) {
+        Layout::Nothing => Ok(Behind {
+            split: 0,
+            plain: true,
+        }),
+        Layout::U1 => fixed(source, buffer, taken, op, 1, byte_is_plain(op)),
+        Layout::U2 => fixed(source, buffer, taken, op, 2, two_is_plain(op)),
+        Layout::I4 => fixed(source, buffer, taken, op, 4, signed_is_plain(op)),
+        Layout::U4 => fixed(source, buffer, taken, op, 4, true),
+        Layout::U8 => fixed(source, buffer, taken, op, 8, true),
+        Layout::F8 => fixed(source, buffer, taken, op, 8, true),
+        Layout::Line(most) => one_line(source, buffer, taken, op, most),
+        Layout::Pair(most) => two_lines(source, buffer, taken, op, most),
+        Layout::Counted(width, signed) => {
+            let plain = counted_is_plain(op, width, signed);
+            counted(source, buffer, taken, limit, op, width, signed, plain)
+        }
+    }
+}
+
+/// Takes a code, and gives its opcode.
+#[inline]
+pub(crate) fn take_op<R: Source>(
+    source: &mut R,
+    buffer: &mut Buffer,
+    taken: &mut u64,
+) -> Result<Op, Reason>
+    requires { buffer.old.bytes ≡ [] }
+    ensures most { buffer.new.most ≡ buffer.old.most }
+    ensures code { IfOk result (λ op. buffer.new.bytes ≡ code_of op ∷ []) }
+    ensures ok { IfOk result (λ op. Took (code_of op ∷ [])
+        buffer.old.bytes (sight R.left R.failures source.old) taken.old
+        buffer.new.bytes (sight R.left R.failures source.new) taken.new) }
+    ensures few { length buffer.new.bytes ≤ 1 }
+    ensures err { IfErr result (λ reason. (limit : ℕ) → Stops limit
+        buffer.old.bytes (sight R.left R.failures source.old) taken.old
+        buffer.new.bytes (sight R.left R.failures source.new) taken.new reason) }
+{
+    let code = take_byte(source, buffer, taken)?;
+    let Some(op) = op_of_byte(code) else {
+        return Err(Reason::UnknownOpcode(code));
+    };
+    Ok(op)
+}
+
+/// Takes what stands behind a code, and judges the instruction.
+#[inline]
+pub(crate) fn gather_behind<R: Source>(
+    source: &mut R,
+    buffer: &mut Buffer,
+    taken: &mut u64,
+    limit: u64,
+    op: Op,
+) -> Result<Found, Reason>
+    requires { buffer.old.bytes ≡ code_of op ∷ [] }
+    ensures most { buffer.new.most ≡ buffer.old.most }
+    ensures op { IfOk result (λ f. f.op ≡ op) }
+    ensures whole { IfOk result (λ f. IsFound limit buffer.new.bytes f.op f.split) }
+    ensures ok { IfOk result (λ _. (bytes : List ℕ) × Took bytes
+        buffer.old.bytes (sight R.left R.failures source.old) taken.old
+        buffer.new.bytes (sight R.left R.failures source.new) taken.new) }
+    ensures err { IfErr result (Stops limit
+        buffer.old.bytes (sight R.left R.failures source.old) taken.old
+        buffer.new.bytes (sight R.left R.failures source.new) taken.new) }
+{
+    let behind = behind_code(source, buffer, taken, limit, op)?;
+    match objection_in(op, behind, buffer.bytes()) {
+        Some(reason) => Err(reason),
+        None => Ok(Found {
+            op,
+            split: behind.split,
+        }),
+    }
+}
+
+/// Takes an instruction, and leaves the most that was held.
+#[inline]
+fn gather_held<R: Source>(
+    source: &mut R,
+    buffer: &mut Buffer,
+    taken: &mut u64,
+    limit: u64,
+) -> Result<Found, Reason>
+    requires { buffer.old.bytes ≡ [] }
+    ensures most { buffer.new.most ≡ buffer.old.most }
+    ensures whole { IfOk result (λ f. IsFound limit buffer.new.bytes f.op f.split) }
+    ensures ok { IfOk result (λ _. (bytes : List ℕ) × Took bytes
+        buffer.old.bytes (sight R.left R.failures source.old) taken.old
+        buffer.new.bytes (sight R.left R.failures source.new) taken.new) }
+    ensures err { IfErr result (Stops limit
+        buffer.old.bytes (sight R.left R.failures source.old) taken.old
+        buffer.new.bytes (sight R.left R.failures source.new) taken.new) }
+{
+    let op = take_op(source, buffer, taken)?;
+    gather_behind(source, buffer, taken, limit, op)
+}
+
+/// Takes bytes until they spell an instruction: its code alone, then what its layout needs. Gives
+/// what the buffer then holds.
+#[inline]
 pub(crate) fn gather<R: Source>(
     source: &mut R,
     buffer: &mut Buffer,
     taken: &mut u64,
-    limits: &Limits,
-) -> Result<Op, Reason>
+    limit: u64,
+) -> Result<Found, Reason>
     requires { buffer.old.bytes ≡ [] }
-    ensures whole { IfOk result (λ op. IsGathered limits.now.counted buffer.new.bytes op) }
-    ensures ok { IfOk result (λ _. Gathers limits.now.counted
+    ensures whole { IfOk result (λ f. IsFound limit buffer.new.bytes f.op f.split) }
+    ensures ok { IfOk result (λ _. Gathers limit
         (sight R.left R.failures source.old) (sight R.left R.failures source.new)
         buffer.new.bytes taken.old taken.new) }
-    ensures err { IfErr result (λ reason. (bytes : List ℕ) × Refuses limits.now.counted
+    ensures err { IfErr result (λ reason. (bytes : List ℕ) × Refuses limit
         (sight R.left R.failures source.old) (sight R.left R.failures source.new)
         bytes taken.old taken.new reason × HoldsTaken reason bytes buffer.new.bytes) }
     ensures most { buffer.new.most ≡ max buffer.old.most (length buffer.new.bytes) }
-    ensures bound { length buffer.new.bytes ≤ bound limits.now.counted }
+    ensures bound { length buffer.new.bytes ≤ bound limit }
 {
-    'bytes: loop {
-        match scan(buffer.bytes(), limits) {
-            Scan::Whole(inst, _) => match objection_to(inst) {
-                Some(reason) => return Err(reason),
-                None => return Ok(inst.op()),
-            },
-            Scan::Bad(fault) => return Err(reason_of(fault)),
-            Scan::More => {}
-        }
-        take_one(source, buffer, taken)?;
-    }
-}
-
-/// Takes one byte more.
-fn take_one<R: Source>(source: &mut R, buffer: &mut Buffer, taken: &mut u64) -> Result<(), Reason>
-    ensures ok { IfOk result (λ _. (x : ℕ) × (buffer.new.bytes ≡ buffer.old.bytes ++ x ∷ [])
-        × (taken.new ≡ taken.old + 1)
-        × Takes (sight R.left R.failures source.old) (sight R.left R.failures source.new) (x ∷ [])) }
-    ensures most { IfOk result (λ _.
-        buffer.new.most ≡ max buffer.old.most (length buffer.new.bytes)) }
-    ensures err { IfErr result (TakesNone
-        (sight R.left R.failures source.old) (sight R.left R.failures source.new)
-        taken.old taken.new) }
-    ensures same { IfErr result (λ _. buffer.new ≡ buffer.old) }
-{
-    if *taken == u64::MAX {
-        return Err(Reason::TooLarge);
-    }
-    let mut one = [0];
-    match source.pull(&mut one) {
-        Ok(0) => return Err(Reason::Truncated),
-        Ok(_) => {}
-        Err(_) => return Err(Reason::Source),
-    }
-    *taken += 1;
-    match buffer.push(one[0]) {
-        Ok(()) => Ok(()),
-        Err(_) => Err(Reason::OutOfMemory),
-    }
+    let gathered = gather_held(source, buffer, taken, limit);
+    buffer.raise();
+    gathered
 }

@@ -1,9 +1,52 @@
 //! Laws of the definitions. Nothing is computed: each function is proved to keep what it says.
 
 ghost use Rattle.pkread.specs.Framing.{CountingIsExact};
+ghost use Rattle.pkread.specs.Pieces.{FramesBreak, FramesGoOn, FramesHold};
+ghost use Rattle.pkread.specs.Run.{EndIsRead, EndOfHeads, HeadIsRead, NextIsRead, PassedIsRead};
+ghost use Rattle.pkread.specs.Walked.{EndIsWalked, ItemIsWalked, RefusalIsWalked, WalkBegins};
+ghost use Rattle.pkread.specs.Run.{ReadingBegins, RefusalIsRead, RefusalOfHeads};
 
 /// Along any instructions laid end to end, the rule of `Frames::take` refuses first exactly at
 /// the first instruction that the frame rules forbid.
 pub fn framed()
     ensures { CountingIsExact }
+{}
+
+/// What a loop over `Reader::next` knows: the instructions given so far are those that the bytes
+/// taken spell, the last is STOP where the reader has ended, and a refusal is told where it first
+/// comes.
+#[inline]
+pub fn nexts()
+    ensures begins { ReadingBegins }
+    ensures given { NextIsRead }
+    ensures ended { EndIsRead }
+    ensures refused { RefusalIsRead }
+{}
+
+/// The same of a loop over `Reader::next_head`.
+#[inline]
+pub fn heads()
+    ensures begins { ReadingBegins }
+    ensures given { HeadIsRead }
+    ensures passed { PassedIsRead }
+    ensures ended { EndOfHeads }
+    ensures refused { RefusalOfHeads }
+{}
+
+/// The same of a loop over `genops`.
+#[inline]
+pub fn walks()
+    ensures begins { WalkBegins }
+    ensures given { ItemIsWalked }
+    ensures ended { EndIsWalked }
+    ensures refused { RefusalIsWalked }
+{}
+
+/// The rule of `Frames::take` along instructions that grow at their end: what it passes is framed,
+/// and one that it refuses behind them is not.
+#[inline]
+pub fn frames()
+    ensures more { FramesGoOn }
+    ensures all { FramesHold }
+    ensures refused { FramesBreak }
 {}

@@ -1,4 +1,5 @@
-//! What a scan answers at the edges: cut and negative counts, the limits, and contents that keep or break a rule.
+//! What a scan answers at the edges: cut and negative counts, the limits, and contents that keep or
+//! break a rule.
 
 use pkops::{Arg, Fault, Inst, Limits, Op, Scan, assemble, scan, text_of};
 use std::test::Fail;

@@ -1,8 +1,9 @@
 //! The verdict of `check`, in a form that a table can hold.
 
+use crate::giving::Pieces;
 use pkcheck::{Policy, check};
 use pkops::Limits;
-use pkread::{Memory, Reason, Source};
+use pkread::{Reason, Source};
 use std::process::Abort;
 
 /// What `check` says.
@@ -27,7 +28,8 @@ pub fn judge<T: AllocGlobal, R: Source>(
     }
 }
 
-/// Holds the verdict on each pickle to the one beside it.
+/// Holds the verdict on each pickle to the one beside it, from sources that give one byte, two
+/// bytes, or all that they are asked for.
 pub fn judge_each<T: Abort + AllocGlobal>(
     rt: &T,
     policy: &Policy<'_>,
@@ -35,11 +37,13 @@ pub fn judge_each<T: Abort + AllocGlobal>(
     rows: &[(&[u8], Verdict)],
 ) {
     for (pickle, wanted) in rows {
-        let mut source = Memory::new(pickle);
-        assert_eq!(rt;
-            judge(rt, policy, limits, &mut source),
-            *wanted,
-            "{pickle:?}"
-        );
+        for most in [1, 2, usize::MAX] {
+            let mut source = Pieces::new(pickle, most);
+            assert_eq!(rt;
+                judge(rt, policy, limits, &mut source),
+                *wanted,
+                "{pickle:?}"
+            );
+        }
     }
 }

@@ -1,18 +1,26 @@
-//! Tests that cross crates: worked rows with known answers, through the library calls that a program makes.
+//! Tests that cross crates: worked rows with known answers, through the library calls that a
+//! program makes.
 //!
-//! Each expected value comes from the description of the format (`docs/FORMATS.md`) or from CPython, never from this project's own output.
+//! Each expected value comes from the description of the format (`docs/FORMATS.md`) or from
+//! CPython, never from this project's own output.
 #![tactic(auto)]
 
 #[cfg(test)]
 mod bounds;
 #[cfg(test)]
+mod giving;
+#[cfg(test)]
 mod judging;
 #[cfg(test)]
 mod lists;
 #[cfg(test)]
+mod machines;
+#[cfg(test)]
 mod opcodes;
 #[cfg(test)]
 mod readers;
+#[cfg(test)]
+mod requests;
 #[cfg(test)]
 mod sources;
 #[cfg(test)]

@@ -1,7 +1,8 @@
 //! A reader, `genops` and the frames, call by call.
 
 use pkops::{Limits, Op};
-use pkread::{Frames, Memory, Next, Reader, Reason, Refusal, Source, genops};
+use pkread::{Frames, Head, Memory, Next, Reader, Reason, Refusal, Source, frame_argument, genops};
+use std::alloc::Global;
 use std::process::Abort;
 
 // An instruction's offset and opcode, `None` at the end, or a refusal.
@@ -43,6 +44,100 @@ fn a_reader_gives_refuses_and_ends(rt: HostRuntime) {
     let refuses = [none, (Err(UNKNOWN), false), (Err(UNKNOWN), false)];
     assert_eq!(rt; read_on(&rt, &mut Memory::new(b"N.N"), &ends), 1);
     assert_eq!(rt; read_on(&rt, &mut Memory::new(b"N\xffN"), &refuses), 1);
+}
+
+// What `next_head` gives: an instruction, a payload that is passed over, or the end.
+#[derive(Clone, Copy, Debug, PartialEq, Eq)]
+enum Given {
+    Inst(u64, Op),
+    Passed(u64, Op, u64),
+    Ended,
+}
+
+// Holds what a reader answers to `next_head`, call by call, and to `next` at the last call.
+fn read_heads<T: Abort + AllocGlobal, R: Source>(
+    rt: &T,
+    source: &mut R,
+    wanted: &[Result<Given, Refusal>],
+    last: Answer,
+) -> usize {
+    let mut reader = Reader::new(rt.alloc(), source, &Limits::STANDARD);
+    for row in wanted {
+        let answer = match reader.next_head() {
+            Ok(Head::Inst { at, inst }) => Ok(Given::Inst(at, inst.op())),
+            Ok(Head::Passed { at, op, count }) => Ok(Given::Passed(at, op, count)),
+            Ok(Head::Ended) => Ok(Given::Ended),
+            Err(refusal) => Err(refusal),
+        };
+        assert_eq!(rt; answer, *row);
+    }
+    let answer = match reader.next() {
+        Ok(Next::Inst { at, inst }) => Ok(Some((at, inst.op()))),
+        Ok(Next::Ended) => Ok(None),
+        Err(refusal) => Err(refusal),
+    };
+    assert_eq!(rt; answer, last);
+    reader.most_held()
+}
+
+#[test]
+fn byte_payloads_are_passed_over(rt: HostRuntime) {
+    let bytes = b"C\x03abcB\x01\0\0\0dU\x02ef.";
+    let wanted = [
+        Ok(Given::Passed(0, Op::ShortBinBytes, 3)),
+        Ok(Given::Passed(5, Op::BinBytes, 1)),
+        Ok(Given::Inst(11, Op::ShortBinString)),
+        Ok(Given::Inst(15, Op::Stop)),
+        Ok(Given::Ended),
+    ];
+    assert_eq!(rt;
+        read_heads(&rt, &mut Memory::new(bytes), &wanted, Ok(None)),
+        6
+    );
+    let mixed = [Ok(Given::Passed(0, Op::ShortBinBytes, 3))];
+    let next = Ok(Some((5, Op::BinBytes)));
+    assert_eq!(rt; read_heads(&rt, &mut Memory::new(bytes), &mixed, next), 6);
+}
+
+#[test]
+fn a_passed_payload_that_ends_early(rt: HostRuntime) {
+    let cut = Refusal {
+        at: 1,
+        reason: Reason::Truncated,
+    };
+    let wanted = [Ok(Given::Inst(0, Op::None)), Err(cut), Err(cut)];
+    let mut source = Memory::new(b"N\x8e\x02\0\0\0\0\0\0\0a");
+    assert_eq!(rt; read_heads(&rt, &mut source, &wanted, Err(cut)), 10);
+}
+
+#[test]
+fn the_number_that_frames_want(rt: HostRuntime) {
+    let mut items = genops(b"\x95\x02\0\0\0\0\0\0\0N.", &Limits::STANDARD);
+    for wanted in [2, 0] {
+        let number = match items.next() {
+            Some(Ok((_, inst))) => Some(frame_argument(&inst)),
+            _ => None,
+        };
+        assert_eq!(rt; number, Some(wanted));
+    }
+}
+
+// The example that the documentation of `Reader` gives.
+fn count<R: Source>(alloc: Global, source: &mut R) -> Result<u64, Refusal> {
+    let mut reader = Reader::new(alloc, source, &Limits::STANDARD);
+    let mut count = 0u64;
+    for _ in 0..u64::MAX {
+        match reader.next()? {
+            Next::Inst { .. } => count = count.wrapping_add(1),
+            Next::Ended => break,
+        }
+    }
+    Ok(count)
+}
+
+#[test]
+fn instructions_are_counted(rt: HostRuntime) {
+    assert_eq!(rt; count(rt.alloc(), &mut Memory::new(b"N.")), Ok(2));
 }
 
 #[test]

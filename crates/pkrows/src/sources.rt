@@ -13,8 +13,8 @@ const LIST: &str = "version = 1\n[imports]\na = [\"b\"]\n";
 // Asks for one import, and is nine bytes long.
 const PICKLE: &[u8] = b"\x8c\x01a\x94\x8c\x01b\x93.";
 
-// Gives bytes in pieces. A bit of `cuts` that is set says that a piece ends behind that byte. One read fails once
-// `fails_after` bytes are given; the source then goes on.
+// Gives bytes in pieces. A bit of `cuts` that is set says that a piece ends behind that byte. One
+// read fails once `fails_after` bytes are given; the source then goes on.
 #[derive(Drop)]
 struct Pieces<'a> {
     rest: &'a [u8],

@@ -1,4 +1,5 @@
-//! One spelling of each opcode, read and written. CPython's `pickletools` reads each as one instruction of that name and length.
+//! One spelling of each opcode, read and written. CPython's `pickletools` reads each as one
+//! instruction of that name and length.
 
 use pkops::{Inst, Limits, Op, Scan, assemble, op_of_byte, row, scan, write_inst};
 use pkread::genops;

@@ -1,1 +1,6 @@
+pub mod Lines
+mod ListingRows
+pub mod NoFloats
+pub mod Exports
+pub mod Positions
 mod VerdictRows

@@ -25,6 +25,8 @@ missing_memo = refl
 plain : quoted (codes "a b~") ≡ codes "\"a b~\""
 plain = refl
 
-others : quoted (0x22 ∷ 0x00 ∷ 0x5c ∷ 0x7f ∷ 0xe9 ∷ []) ≡ codes "\"\\x22\\x00\\x5c\\x7f\\xe9\""
+others :
+    quoted (0x22 ∷ 0x00 ∷ 0x5c ∷ 0x7f ∷ 0xe9 ∷ [])
+    ≡ codes "\"\\x22\\x00\\x5c\\x7f\\xe9\""
 unfolding encode_with
 others = refl

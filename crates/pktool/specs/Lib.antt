@@ -1,3 +1,9 @@
+pub mod Blocks
 pub mod Command
 pub mod Quoted
 pub mod Verdict
+pub mod Listing
+pub mod Imports
+pub mod Lists
+pub mod Optimized
+pub mod Json

@@ -1,5 +1,6 @@
 -- The line of a verdict.
-use Rattle.std.specs.Prelude.{ℕ, List, [], ◌++◌, length, codes, decimal, string_bytes, Option, Some, None, Result, Ok, Err}
+use Rattle.std.specs.Prelude.{ℕ, List, [], ◌++◌, length, codes, decimal, string_bytes}
+use Rattle.std.specs.Prelude.{Option, Some, None, Result, Ok, Err}
 use Rattle.pkread.specs.declared.refusal.Reason.{Reason}
 use Rattle.pkread.specs.declared.refusal.Reason.TheVariants as reason
 use Rattle.pkcheck.specs.declared.import.Asked.{Asked}
@@ -49,16 +50,20 @@ reason_text why = numbered (reason_name why) (reason_number why)
 -- a pair off the list: `("MODULE","NAME")`
 abbrev pub pair_text : Option Asked → List ℕ
 pair_text (Some (Pair key name)) =
-    codes "(" ++ (quoted (string_bytes key) ++ (codes "," ++ (quoted (string_bytes name) ++ codes ")")))
+    codes "("
+    ++ (quoted (string_bytes key) ++ (codes "," ++ (quoted (string_bytes name) ++ codes ")")))
 pair_text _ = []
 
 -- `yes: N bytes, M imports`
 abbrev pub yes_line : ℕ → ℕ → List ℕ
-yes_line taken imports = codes "yes: " ++ (decimal taken ++ (codes " bytes, " ++ (decimal imports ++ codes " imports\n")))
+yes_line taken imports =
+    codes "yes: " ++ (decimal taken ++ (codes " bytes, " ++ (decimal imports ++ codes " imports\n")))
 
 -- `no at P: REASON`
 abbrev pub no_line : ℕ → Reason → Option Asked → List ℕ
-no_line at why pair = codes "no at " ++ (decimal at ++ (codes ": " ++ (reason_text why ++ (pair_text pair ++ codes "\n"))))
+no_line at why pair =
+    codes "no at "
+    ++ (decimal at ++ (codes ": " ++ (reason_text why ++ (pair_text pair ++ codes "\n"))))
 
 -- the line of an answer
 abbrev pub verdict_line : Result Yes No → List ℕ

@@ -23,6 +23,8 @@ pub enum Outcome {
     Done,
     /// With a no.
     Refused,
+    /// With no answer: a read failed, and nothing was written. An export alone ends so.
+    Unread,
 }
 
 /// Checks the pickle at the front of a source, and writes the line of the answer.
@@ -38,7 +40,8 @@ pub fn check_to<R: Source, W: Write>(
     out: &mut W,
 ) -> Result<Outcome, io::Error>
     ensures { IfOk result (λ outcome. (answer : Result Yes No)
-        × IsRightAnswer (policy_of policy.now) limits.now (sight R.left R.failures source.old) (sight R.left R.failures source.new) answer
+        × IsRightAnswer (policy_of policy.now) limits.now
+        (sight R.left R.failures source.old) (sight R.left R.failures source.new) answer
         × CountsFailures (R.failures source.old) (R.failures source.new) answer
         × Appends (W.contents out.old) (W.contents out.new) (verdict_line answer)
         × (outcome ≡ outcome_of answer)) }

@@ -1,14 +1,17 @@
 //! Why a command ends without an answer.
 use pkcheck::{AllowError, Where};
+use std::alloc::AllocError;
 use std::io;
-use std::io::Write;
+use std::io::{ErrorKind, Write};
 
 /// Why a command ends without an answer. Its status is 2.
 #[derive(Debug, Drop)]
 pub enum Fault<'a> {
     /// The words are no command.
     Words(clap::Error),
-    /// There was no memory to read the words.
+    /// A word isn't UTF-8.
+    NotUtf8,
+    /// There was no memory to read the words, or to gather what is written.
     OutOfMemory,
     /// The file of this name can't be opened or read.
     Unread(&'a str),
@@ -16,16 +19,37 @@ pub enum Fault<'a> {
     List(AllowError),
     /// The answer can't be written.
     Unwritten,
+    /// The file of this name can't be made or written.
+    Unmade(&'a str),
+    /// Whoever read the answer has closed the pipe. Nobody needs to be told.
+    Closed,
+}
+
+impl From<AllocError> for Fault<'_> {
+    fn from(_error: AllocError) -> Self {
+        Fault::OutOfMemory
+    }
+}
+
+/// The fault of an answer that can't be written.
+pub fn unwritten<'a>(error: &io::Error) -> Fault<'a> {
+    match error.kind() {
+        ErrorKind::BrokenPipe => Fault::Closed,
+        _ => Fault::Unwritten,
+    }
 }
 
 /// Writes what standard error says of a fault.
 pub fn write_fault<W: Write>(fault: &Fault<'_>, out: &mut W) -> io::Result<()> {
     match fault {
         Fault::Words(error) => write!(out, "{error}"),
+        Fault::NotUtf8 => writeln!(out, "a word of the command line is not UTF-8"),
         Fault::OutOfMemory => writeln!(out, "out of memory"),
         Fault::Unread(name) => writeln!(out, "cannot read {name}"),
         Fault::List(error) => write_list_fault(*error, out),
         Fault::Unwritten => writeln!(out, "cannot write standard output"),
+        Fault::Unmade(name) => writeln!(out, "cannot write {name}"),
+        Fault::Closed => Ok(()),
     }
 }
 

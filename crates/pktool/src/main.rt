@@ -4,36 +4,45 @@
 //! what a pickle means stands in the crates below.
 #![tactic(auto)]
 
+mod block;
+mod blocks;
 mod checking;
 mod command;
+mod exporting;
 mod fault;
 mod files;
+mod gathering;
+mod importing;
+mod listing;
+mod optimizing;
 mod printing;
+mod replacing;
 mod run;
 #[cfg(test)]
 mod tests;
+mod words;
 
-use std::io::{BufWriter, Write};
+use crate::fault::{Fault, write_fault};
+use std::io;
+use std::io::BufWriter;
 use std::process::ExitCode;
-use std::{env, io};
 
 /// The status of the command that the program's words ask for.
-fn status(rt: &HostRuntime) -> io::Result<u8> {
+fn status<'a>(rt: &HostRuntime) -> Result<u8, Fault<'a>> {
     let alloc = rt.alloc();
-    let words: Vec<String> = env::args(rt)?.collect(alloc)?;
-    let mut texts = Vec::with_capacity(alloc, words.len())?;
-    for word in &words {
-        texts.push(word.as_str())?;
-    }
-    let mut out = BufWriter::new(alloc, io::writer(rt))?;
+    let words = words::words_of(rt)?;
+    let texts: Vec<&str> = words.iter().map(|word| word.as_str()).collect(alloc)?;
+    let Ok(mut out) = BufWriter::new(alloc, io::writer(rt)) else {
+        return Err(Fault::OutOfMemory);
+    };
     Ok(run::run(rt, alloc, texts.as_slice(), &mut out, &mut rt.stderr()))
 }
 
 fn main(rt: HostRuntime) -> ExitCode {
     match status(&rt) {
         Ok(status) => ExitCode::from(status),
-        Err(error) => {
-            let _ = writeln!(rt.stderr(), "cannot read the command line: {error}");
+        Err(fault) => {
+            let _ = write_fault(&fault, &mut rt.stderr());
             ExitCode::from(2)
         }
     }

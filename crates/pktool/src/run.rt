@@ -3,10 +3,17 @@ ghost use Rattle.std.specs.Prelude.{◌≤◌};
 
 use crate::checking::{Outcome, check_to};
 use crate::command::{Job, Usage, command_of};
-use crate::fault::{Fault, write_fault};
-use crate::files::{open_source, read_list};
-use pkcheck::Policy;
+use crate::exporting::json_to;
+use crate::fault::{Fault, unwritten, write_fault};
+use crate::files::{open_source, read_list, read_whole};
+use crate::importing::imports_to;
+use crate::listing::dis_to;
+use crate::optimizing::{optimized, write_sizes};
+use crate::printing::write_no;
+use crate::replacing::replace;
+use pkcheck::{No, Policy};
 use pkops::Limits;
+use pkread::Reason;
 use std::alloc::Global;
 use std::io::Write;
 use std::rt::Files;
@@ -18,12 +25,20 @@ const REFUSED: u8 = 1;
 /// There is no answer: a fault of usage, of the list or of a file.
 const FAULT: u8 = 2;
 
+/// There is no memory to read a file whole.
+const NO_MEMORY: No = No {
+    at: 0,
+    reason: Reason::OutOfMemory,
+    pair: None,
+};
+
 /// Does the command that the words ask for, the program's name first, and gives its status:
 /// 0 at a yes or at the help that was asked for, 1 at a no, 2 at a fault.
 ///
 /// The answer goes to `out`, which is flushed, and a fault to `err`. Faults are looked for in the
-/// words, the list, the file and the answer, in this order. An answer that `out` doesn't take is
-/// a fault; a fault that `err` doesn't take changes nothing.
+/// words, the list, the file that is read, the answer and the file that is written, in this order.
+/// An answer that `out` doesn't take is a fault, of which nothing is told where `out` is a pipe that
+/// was closed; a fault that `err` doesn't take changes nothing.
 pub fn run<R: Files, O: Write, E: Write>(
     rt: &R,
     alloc: Global,
@@ -47,7 +62,13 @@ fn done<'a, R: Files, O: Write>(
     out: &mut O,
 ) -> Result<Outcome, Fault<'a>> {
     match job {
+        Job::Dis { file } => dis_file(rt, alloc, file.as_str(), out),
+        Job::Imports { file } => imports_file(rt, alloc, file.as_str(), out),
         Job::Check { allow, file } => check_file(rt, alloc, allow.as_str(), file.as_str(), out),
+        Job::Json { file } => json_file(rt, alloc, file.as_str(), out),
+        Job::Optimize { file, out: to } => {
+            optimize_file(rt, alloc, file.as_str(), to.as_str(), out)
+        }
     }
 }
 
@@ -71,7 +92,89 @@ fn check_file<'a, R: Files, O: Write>(
         out,
     ) {
         Ok(outcome) => Ok(outcome),
-        Err(_) => Err(Fault::Unwritten),
+        Err(error) => Err(unwritten(&error)),
+    }
+}
+
+/// `dis FILE`.
+fn dis_file<'a, R: Files, O: Write>(
+    rt: &R,
+    alloc: Global,
+    file: &'a str,
+    out: &mut O,
+) -> Result<Outcome, Fault<'a>> {
+    let Ok(mut source) = open_source(rt, alloc, file) else {
+        return Err(Fault::Unread(file));
+    };
+    match dis_to(alloc, &mut source, &Limits::STANDARD, out) {
+        Ok(outcome) => Ok(outcome),
+        Err(error) => Err(unwritten(&error)),
+    }
+}
+
+/// `imports FILE`.
+fn imports_file<'a, R: Files, O: Write>(
+    rt: &R,
+    alloc: Global,
+    file: &'a str,
+    out: &mut O,
+) -> Result<Outcome, Fault<'a>> {
+    let Ok(mut source) = open_source(rt, alloc, file) else {
+        return Err(Fault::Unread(file));
+    };
+    match imports_to(alloc, &mut source, &Limits::STANDARD, out) {
+        Ok(outcome) => Ok(outcome),
+        Err(error) => Err(unwritten(&error)),
+    }
+}
+
+/// `json FILE`.
+fn json_file<'a, R: Files, O: Write>(
+    rt: &R,
+    alloc: Global,
+    file: &'a str,
+    out: &mut O,
+) -> Result<Outcome, Fault<'a>> {
+    let Ok(mut source) = open_source(rt, alloc, file) else {
+        return Err(Fault::Unread(file));
+    };
+    match json_to(alloc, &mut source, &Limits::STANDARD, out) {
+        Ok(Outcome::Unread) => Err(Fault::Unread(file)),
+        Ok(outcome) => Ok(outcome),
+        Err(error) => Err(unwritten(&error)),
+    }
+}
+
+/// `optimize FILE OUT`.
+fn optimize_file<'a, R: Files, O: Write>(
+    rt: &R,
+    alloc: Global,
+    file: &'a str,
+    to: &'a str,
+    out: &mut O,
+) -> Result<Outcome, Fault<'a>> {
+    let Some(bytes) = read_whole(rt, alloc, file)? else {
+        return refused(&NO_MEMORY, out);
+    };
+    match optimized(alloc, bytes.as_slice(), &Limits::STANDARD) {
+        Ok(form) => {
+            let Ok(()) = replace(rt, alloc, to, form.bytes.as_slice()) else {
+                return Err(Fault::Unmade(to));
+            };
+            match write_sizes(form.taken, form.bytes.len(), out) {
+                Ok(()) => Ok(Outcome::Done),
+                Err(error) => Err(unwritten(&error)),
+            }
+        }
+        Err(no) => refused(&no, out),
+    }
+}
+
+/// Tells of a refusal.
+fn refused<'a, O: Write>(no: &No, out: &mut O) -> Result<Outcome, Fault<'a>> {
+    match write_no(no, out) {
+        Ok(()) => Ok(Outcome::Refused),
+        Err(error) => Err(unwritten(&error)),
     }
 }
 
@@ -81,10 +184,11 @@ fn shown<'a, O: Write>(usage: Usage, out: &mut O) -> Result<Outcome, Fault<'a>> 
         Usage::Clap(error) => {
             if error.use_stderr() {
                 Err(Fault::Words(error))
-            } else if write!(out, "{error}").is_ok() {
-                Ok(Outcome::Done)
             } else {
-                Err(Fault::Unwritten)
+                match write!(out, "{error}") {
+                    Ok(()) => Ok(Outcome::Done),
+                    Err(error) => Err(unwritten(&error)),
+                }
             }
         }
         Usage::OutOfMemory => Err(Fault::OutOfMemory),
@@ -98,6 +202,7 @@ fn status_of<O: Write, E: Write>(ended: Result<Outcome, Fault<'_>>, out: &mut O,
     match flushed(ended, out) {
         Ok(Outcome::Done) => DONE,
         Ok(Outcome::Refused) => REFUSED,
+        Ok(Outcome::Unread) => FAULT,
         Err(fault) => {
             let _ = write_fault(&fault, err);
             FAULT
@@ -113,6 +218,6 @@ fn flushed<'a, O: Write>(
     let outcome = ended?;
     match out.flush() {
         Ok(()) => Ok(outcome),
-        Err(_) => Err(Fault::Unwritten),
+        Err(error) => Err(unwritten(&error)),
     }
 }

@@ -1,8 +1,15 @@
 //! Whole commands, with their statuses and outputs.
+mod exporting;
+mod listing;
+mod optimizing;
+
+use crate::fault::write_fault;
 use crate::run::run;
+use crate::words::words_of;
+use std::env::FillError;
 use std::io::{ErrorKind, Write};
 use std::process::Abort;
-use std::rt::Files;
+use std::rt::{Env, Files};
 use std::test::Fail;
 use std::{fs, io};
 
@@ -92,9 +99,14 @@ fn reads_words(rt: HostRuntime) {
     for (words, status) in [
         (["pktool", "--help"].as_slice(), 0),
         (["pktool", "check", "--help"].as_slice(), 0),
+        (["pktool", "dis", "--help"].as_slice(), 0),
+        (["pktool", "imports", "--help"].as_slice(), 0),
+        (["pktool", "optimize", "--help"].as_slice(), 0),
+        (["pktool", "json", "--help"].as_slice(), 0),
+        (["pktool", "optimize", "a"].as_slice(), 2),
         ([].as_slice(), 2),
         (["pktool"].as_slice(), 2),
-        (["pktool", "dis", "a"].as_slice(), 2),
+        (["pktool", "list", "a"].as_slice(), 2),
         (["pktool", "check", "a"].as_slice(), 2),
         (["pktool", "check", "--allow", "a"].as_slice(), 2),
         (["pktool", "check", "--allow", "a", "b", "c"].as_slice(), 2),
@@ -109,6 +121,51 @@ fn reads_words(rt: HostRuntime) {
         assert_eq!(rt; !written.is_empty(), status == 0, "{words:?}");
         assert_eq!(rt; !told.is_empty(), status == 2, "{words:?}");
     }
+}
+
+/// A command line of one word.
+#[derive(Drop)]
+struct OneWord {
+    word: &'static [u8],
+}
+
+impl Env for OneWord {
+    fn arg(&self, i: usize, to: &mut [u8]) -> Result<usize, FillError> {
+        if i > 0 {
+            return Err(FillError::NotPresent);
+        }
+        let Some(front) = to.get_mut(..self.word.len()) else {
+            return Err(FillError::TooLong);
+        };
+        front.copy_from_slice(self.word);
+        Ok(self.word.len())
+    }
+
+    fn var(&self, _name: &str, _to: &mut [u8]) -> Result<usize, FillError> {
+        Err(FillError::NotPresent)
+    }
+
+    fn var_at(&self, _i: usize, _to: &mut [u8]) -> Result<usize, FillError> {
+        Err(FillError::NotPresent)
+    }
+}
+
+#[test]
+fn names_a_word_that_is_no_text(rt: HostRuntime) -> Result<(), Fail> {
+    let Ok(words) = words_of(&(OneWord { word: b"pktool" }, rt.alloc())) else {
+        return Err(Fail::from("a word"));
+    };
+    assert_eq!(rt; words.first().map(|word| word.as_str()), Some("pktool"));
+    let Err(fault) = words_of(&(OneWord { word: b"\xff" }, rt.alloc())) else {
+        return Err(Fail::from("a fault"));
+    };
+    let mut told = Vec::new(rt.alloc());
+    write_fault(&fault, &mut told)?;
+    assert_eq!(rt;
+        told.as_slice(),
+        b"a word of the command line is not UTF-8\n".as_slice()
+    );
+    Ok(())
 }
 
 /// Takes some bytes, then fails: at a write, or at the flush where there was room for all.

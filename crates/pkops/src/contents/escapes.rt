@@ -1,9 +1,11 @@
 //! Text with escapes: the line of UNICODE.
 
-ghost use Rattle.std.specs.Prelude.{◌≡◌, Some, None, if◌then◌else◌, encode_utf8_all, IfOk, IfSome, is_some, string_bytes, ◌<◌};
+ghost use Rattle.std.specs.Prelude.{◌≡◌, Some, None, if◌then◌else◌, encode_utf8_all, IfOk, IfSome};
+ghost use Rattle.std.specs.Prelude.{is_some, string_bytes, ◌<◌};
 ghost use Rattle.std.specs.Option.{option_map};
 ghost use Rattle.std.specs.Char.{is_ascii_hexdigit, digit_value};
-ghost use Rattle.pkops.specs.EscapeSteps.{IsSmall, digit_step, step_of, text_named};
+ghost use Rattle.pkops.specs.Private.EscapeSteps.{IsSmall, digit_step, step_of};
+ghost use Rattle.pkops.specs.Escapes.{points_of};
 
 use std::alloc::{AllocError, Global};
 
@@ -21,7 +23,7 @@ pub enum State {
 /// The text that a line spells, if it spells one.
 pub fn read_text(alloc: Global, line: &[u8]) -> Result<Option<String>, AllocError>
     ensures { IfOk result (λ text.
-        option_map string_bytes text ≡ option_map encode_utf8_all (text_named line.now)) }
+        option_map string_bytes text ≡ option_map encode_utf8_all (points_of line.now)) }
 {
     let mut text = String::new(alloc);
     let mut state = State::Outside;
@@ -42,7 +44,7 @@ pub fn read_text(alloc: Global, line: &[u8]) -> Result<Option<String>, AllocErro
 
 /// Whether a line spells a text.
 pub fn spells_text(line: &[u8]) -> bool
-    ensures { result ≡ is_some (text_named line.now) }
+    ensures { result ≡ is_some (points_of line.now) }
 {
     let mut state = State::Outside;
     'bytes: for byte in line {

@@ -2,7 +2,8 @@
 
 ghost use Rattle.std.specs.Prelude.{◌≡◌, Some, None, if◌then◌else◌};
 ghost use Rattle.std.specs.Char.{is_ascii_hexdigit};
-ghost use Rattle.pkops.specs.Deciding.{are_items, is_string_line, next_place};
+ghost use Rattle.pkops.specs.Deciding.{are_items, is_string_line};
+ghost use Rattle.pkops.specs.Private.Places.{next_place};
 
 /// Where a reader of a string in quotes stands.
 #[derive(Clone, Copy)]

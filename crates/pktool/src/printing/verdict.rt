@@ -11,7 +11,8 @@ use std::io::Write;
 
 /// Writes the line of an answer.
 pub fn write_verdict<W: Write>(answer: &Result<Yes, No>, out: &mut W) -> io::Result<()>
-    ensures { OnOk result (Appends (W.contents out.old) (W.contents out.new) (verdict_line answer.now)) }
+    ensures { OnOk result (Appends (W.contents out.old) (W.contents out.new)
+        (verdict_line answer.now)) }
 {
     match answer {
         Ok(yes) => write_yes(yes, out),
@@ -20,15 +21,17 @@ pub fn write_verdict<W: Write>(answer: &Result<Yes, No>, out: &mut W) -> io::Res
 }
 
 fn write_yes<W: Write>(yes: &Yes, out: &mut W) -> io::Result<()>
-    ensures { OnOk result (Appends (W.contents out.old) (W.contents out.new) (yes_line yes.now.taken (length yes.now.imports))) }
+    ensures { OnOk result (Appends (W.contents out.old) (W.contents out.new)
+        (yes_line yes.now.taken (length yes.now.imports))) }
 {
     let taken = yes.taken;
     let imports = yes.imports.len();
     writeln!(out, "yes: {taken} bytes, {imports} imports")
 }
 
-fn write_no<W: Write>(no: &No, out: &mut W) -> io::Result<()>
-    ensures { OnOk result (Appends (W.contents out.old) (W.contents out.new) (no_line no.now.at no.now.reason no.now.pair)) }
+pub fn write_no<W: Write>(no: &No, out: &mut W) -> io::Result<()>
+    ensures { OnOk result (Appends (W.contents out.old) (W.contents out.new)
+        (no_line no.now.at no.now.reason no.now.pair)) }
 {
     let at = no.at;
     write!(out, "no at {at}: ")?;

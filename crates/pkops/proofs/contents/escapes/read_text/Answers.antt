@@ -2,8 +2,12 @@ use Rattle.std.proofs.Common.{Some, sym, ap, ◌∙◌, arith}
 use Rattle.std.specs.Prelude.{string_bytes}
 use Rattle.std.proofs.lemmas.List.{append-nil}
 use Rattle.pkops.proofs.EscapeLoop.{joined, not_ended, stops, kept_on, kept_last}
+use Rattle.pkops.proofs.EscapesRead.{joined_is}
 use Rattle.pkops.proofs.contents.escapes.read_text.Goals as goal
 use Rattle.pkops.proofs.contents.escapes.read_text.Goals.{in-Some-character+in_ok-push, in_default-character}
+
+pub bytes-init : goal.bytes-init
+bytes-init c = record { kept = joined_is (string_bytes c.new-text.result) c.args.line.now c.new-text.ensures.bytes; small = tt }
 
 pub returns-in_default : goal.returns-in_default
 returns-in_default c = ap (joined (string_bytes c.bytes.text)) (sym (stops c.bytes.state c.args.line.now c.bytes.byte-index (omega arith) c.in_default.ensures.step)) ∙ c.bytes.invariant.kept

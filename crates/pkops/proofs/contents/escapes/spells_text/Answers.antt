@@ -1,7 +1,11 @@
 use Rattle.std.proofs.Common.{sym, ap, ◌∙◌, arith}
 use Rattle.std.specs.Prelude.{is_some}
 use Rattle.pkops.proofs.EscapeLoop.{not_ended, stops, some_at_end, some_goes_on}
+use Rattle.pkops.proofs.EscapesRead.{named_is}
 use Rattle.pkops.proofs.contents.escapes.spells_text.Goals as goal
+
+pub bytes-init : goal.bytes-init
+bytes-init c = record { kept = ap is_some (named_is c.args.line.now); small = tt }
 
 pub returns-in_default : goal.returns-in_default
 returns-in_default c = sym (ap is_some (stops c.bytes.state c.args.line.now c.bytes.byte-index (omega arith) c.in_default.ensures.step)) ∙ c.bytes.invariant.kept

@@ -1,7 +1,9 @@
 use Rattle.std.proofs.Common.{Some, sym, ap, ◌∙◌, arith}
-use Rattle.pkops.specs.Deciding.{is_outside}
-use Rattle.pkops.proofs.OldStrings.{stops, goes_on, at_end, not_outside}
+use Rattle.pkops.proofs.OldStrings.{is_outside, stops, goes_on, at_end, not_outside, places_read}
 use Rattle.pkops.proofs.contents.old_string.are_items.Goals as goal
+
+pub bytes-init : goal.bytes-init
+bytes-init c = places_read c.args.quote c.args.inside.now
 
 pub returns-in_default : goal.returns-in_default
 returns-in_default c =

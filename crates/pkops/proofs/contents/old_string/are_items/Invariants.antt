@@ -1,5 +1,6 @@
 use Rattle.std.proofs.Common.{◌≡◌, drop}
-use Rattle.pkops.specs.Deciding.{are_items, is_outside, place_after}
+use Rattle.pkops.specs.Deciding.{are_items}
+use Rattle.pkops.proofs.OldStrings.{is_outside, place_after}
 use Rattle.pkops.proofs.contents.old_string.are_items.Given as goal
 
 -- what is left leads from the place as the whole does from the beginning

@@ -1,8 +1,18 @@
-use Rattle.std.proofs.Common.{sym}
+use Rattle.std.proofs.Common.{sym, inl, inr}
 use Rattle.pkops.proofs.Good.{had_good}
-use Rattle.pkops.proofs.MemoNumbers.{parsed}
+use Rattle.pkops.proofs.MemoNumbers.{said, is_number}
 use Rattle.pkops.proofs.inst.Inst.memo_number.Goals as goal
 
-pub unreachable-requires : goal.unreachable-requires
-unreachable-requires c =
-    parsed c.args.self.now c.in-Line.digits c.in-Line.is (sym c.if-not-names_memo_entry.ensures) (had_good _ c.args.self.now.good) c.in-None.ensures
+pub returns-in-Line : goal.returns-in-Line
+returns-in-Line c =
+    said c.args.self.now c.in-Line.digits _ c.in-Line.is (sym c.if-not-names_memo_entry.ensures) (had_good _ c.args.self.now.good) c.memo_number.ensures
+
+pub returns-in_default : goal.returns-in_default
+returns-in_default c =
+    elim (is_number c.args.self.now.op c.args.self.now.arg (sym c.if-not-names_memo_entry.ensures) (had_good _ c.args.self.now.good).suits) [
+      | inl h ↦ absurd (c.in_default.not-U1 h.0 h.1)
+      | inr h ↦ elim h [
+        | inl f ↦ absurd (c.in_default.not-U4 f.0 f.1)
+        | inr l ↦ absurd (c.in_default.not-Line l.0 l.1)
+      ]
+    ]

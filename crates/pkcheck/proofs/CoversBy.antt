@@ -1,0 +1,62 @@
+-- Which states a knowledge covers, by what holds of the objects of which it knows nothing. Of a step both are wanted: that
+-- such a one is some object, and that it is one text.
+use Rattle.std.proofs.Common.{◌≡◌, ℕ, Bool, true, false, ltb, List, [], ◌∷◌, ◌++◌, length, Some, None, Result, Ok, Err, arith, length-append}
+use Rattle.std.specs.Prelude.{slice_get, ⊤}
+use Rattle.std.proofs.lemmas.Bool.{ltb-true}
+use Rattle.pkcheck.specs.Shape.{Item}
+use Rattle.pkcheck.specs.Runs.{ObjectClass, Object, State, Outcome, Raise, Go, Stepped, WentOn, Raised, Stopped, Stuck}
+use Rattle.pkcheck.specs.Knowledge.{Known, Knowledge, Progress, Refusal}
+use Rattle.pkcheck.specs.Covers.{Alike, IsObject, Adds, AddsRaising}
+
+-- what is known of the object of a number is true: it is of this class, and the machine made it. U says what is
+-- true of one of which nothing is known
+abbrev pub TrueBy : (List Object → ℕ → Type 0) → List Object → Known → ℕ → Type 0
+TrueBy U objects None n = U objects n
+TrueBy U objects (Some c) n = slice_get objects n ≡ Some (record { class_of = c; made = true })
+
+-- a knowledge covers a state, where U holds of each object of which nothing is known
+abbrev pub CoversBy : (List Object → ℕ → Type 0) → Knowledge → State → Type 0
+CoversBy U k s = Alike (TrueBy U s.objects) k s.shape
+
+-- an answer of this class
+abbrev pub IsAnswer : ObjectClass → List Object → ℕ → Type 0
+IsAnswer c objects n = slice_get objects n ≡ Some (record { class_of = c; made = false })
+
+-- one fact or the other
+abbrev pub Choose : Bool → Type 0 → Type 0 → Type 0
+Choose true P Q = P
+Choose false P Q = Q
+
+-- U holds of the object that is answered
+abbrev pub AnswerHolds : (List Object → ℕ → Type 0) → List Object → ℕ → ObjectClass → Type 0
+AnswerHolds U objects n c = Choose (ltb n (length objects)) (U objects n) (U (objects ++ record { class_of = c; made = false } ∷ []) (length objects))
+
+-- U holds of the object that an outcome answers
+abbrev pub OutcomeHolds : (List Object → ℕ → Type 0) → List Object → Outcome → Type 0
+OutcomeHolds U objects Raise = ⊤
+OutcomeHolds U objects (Go n c) = AnswerHolds U objects n c
+
+-- what a step from a covered state means where the checker goes on
+abbrev pub FollowsBy : (List Object → ℕ → Type 0) → Progress → State → Stepped → Type 0
+FollowsBy U q s (WentOn t) = CoversBy U q.after t × Adds q.import s.events t.events
+FollowsBy U q s (Stopped r t) = (s.shape.entries ≡ Item r ∷ []) × (q.after.entries ≡ []) × CoversBy U q.after t × (q.import ≡ None) × (t.events ≡ s.events)
+FollowsBy U q s (Raised t) = AddsRaising q.import s.events t.events
+FollowsBy U q s (Stuck b) = ⊥
+
+-- that, where the checker goes on
+abbrev pub FollowsIfOk : (List Object → ℕ → Type 0) → Result Progress Refusal → State → Stepped → Type 0
+FollowsIfOk U (Ok q) s st = FollowsBy U q s st
+FollowsIfOk U (Err r) s st = ⊤
+
+-- ---- any object
+
+pub objects_grow : (objects : List Object) (r : Object) (n : ℕ) → IsObject objects n → IsObject (objects ++ r ∷ []) n
+objects_grow objects r n h = let l = length-append objects (r ∷ []) in omega (arith, l, h)
+
+pub any_answer : (objects : List Object) (o : Outcome) → OutcomeHolds IsObject objects o
+any_answer objects Raise = tt
+any_answer objects (Go n c) =
+    elim (ltb n (length objects)) as (λ b. ltb n (length objects) ≡ b → Choose b (IsObject objects n) (IsObject (objects ++ record { class_of = c; made = false } ∷ []) (length objects))) [
+      | true ↦ λ e. ltb-true n (length objects) e
+      | false ↦ λ e. (let l = length-append objects (record { class_of = c; made = false } ∷ []) in omega (arith, l))
+    ] (λ i. ltb n (length objects))

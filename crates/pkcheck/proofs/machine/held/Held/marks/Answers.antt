@@ -1,0 +1,6 @@
+use Rattle.std.proofs.Common.{◌∙◌}
+use Rattle.pkcheck.proofs.Resolving.{marks_seen}
+use Rattle.pkcheck.proofs.machine.held.Held.marks.Goals as goal
+
+pub returns : goal.returns
+returns c = rw (← c.self.view_is) (c.marks.ensures ∙ marks_seen c.self.inside.texts c.self.inside.stack)

@@ -1,0 +1,6 @@
+use Rattle.std.proofs.Common.{◌∙◌, ap, length}
+use Rattle.pkcheck.proofs.Bars.{marks_shown}
+use Rattle.pkcheck.proofs.machine.stack.Stack.marks.Goals as goal
+
+pub returns : goal.returns
+returns c = rw (← c.self.view_is) (c.len.ensures ∙ c.self.inside.places.ok.0 ∙ ap length c.self.invariant ∙ marks_shown c.self.inside.slots.items)

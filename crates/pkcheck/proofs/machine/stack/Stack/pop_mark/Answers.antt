@@ -1,0 +1,12 @@
+use Rattle.std.proofs.Common.{◌≡◌, ◌∙◌, [], Ok, drop, take, subst, sym, ap}
+use Rattle.pkcheck.specs.Shape.{slice}
+use Rattle.pkcheck.specs.Private.Slots.{shown, values_of}
+use Rattle.pkcheck.specs.Private.Places.{below}
+use Rattle.pkcheck.proofs.Places.{below_shown}
+use Rattle.pkcheck.proofs.machine.stack.Stack.pop_mark.Goals as goal
+
+pub returns-in-Some-clause-ok : goal.returns-in-Some-clause-ok
+returns-in-Some-clause-ok c =
+    let found = rw c.deref.ensures.value at c.in-Some.ensures.value.1 in
+    let left : c.truncate.new.self ≡ shown (take c.in-Some.place c.self.inside.slots.items) [] = c.truncate.ensures ∙ ap (below c.in-Some.place) (sym c.self.view_is) ∙ below_shown c.in-Some.place c.self.inside.slots.items in
+    (values_of (drop c.in-Some.place c.self.inside.slots.items), rw left (subst (λ es. slice es [] ≡ Ok (record { operands = values_of (drop c.in-Some.place c.self.inside.slots.items); below = shown (take c.in-Some.place c.self.inside.slots.items) [] })) c.self.view_is found))

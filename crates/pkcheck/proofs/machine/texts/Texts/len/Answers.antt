@@ -1,0 +1,9 @@
+use Rattle.std.proofs.Common.{ap, arith, length}
+use Rattle.pkcheck.proofs.Joining.{how_many}
+use Rattle.pkcheck.proofs.machine.texts.Texts.len.Goals as goal
+
+pub returns : goal.returns
+returns c =
+    let many = how_many _ c.self.inside.ends.items c.self.inside.bytes.items c.self.invariant in
+    let same = ap length c.self.view_is in
+    omega (arith, c.len.ensures, c.self.inside.ends.ok.0, many, same)

@@ -1,6 +1,0 @@
-use Rattle.pkcheck.proofs.Errs.{err_on}
-use Rattle.pkcheck.proofs.Moving.{grown, duplicated}
-use Rattle.pkcheck.proofs.moves.duplicate.Goals as goal
-
-pub returns-clause-err : goal.returns-clause-err
-returns-clause-err c m = err_on _ _ c.push.result (λ r h. (h.0, grown c.args.limits _ _ c.args.stack.now m r (duplicated (record { entries = c.args.stack.now; memo = m }) _ c.in_ok-copy.ensures.ok) h.1)) c.push.ensures.err

@@ -1,6 +1,0 @@
-use Rattle.pkcheck.proofs.Errs.{err_on}
-use Rattle.pkcheck.proofs.Moving.{stuffed, stored_is}
-use Rattle.pkcheck.proofs.moves.remember.Goals as goal
-
-pub returns-clause-err : goal.returns-clause-err
-returns-clause-err c = err_on _ _ c.store.result (λ r h. (h.0, stuffed c.args.limits _ c.args.stack.now _ r (stored_is (record { entries = c.args.stack.now; memo = c.args.memo.now }) c.args.number _ c.in_ok-copy.ensures.ok) h.1)) c.store.ensures.err

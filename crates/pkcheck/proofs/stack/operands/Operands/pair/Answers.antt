@@ -1,9 +1,0 @@
-use Rattle.std.proofs.Common.{◌≡◌, ◌∙◌, length, subst, sym}
-use Rattle.pkcheck.specs.Slots.{known}
-use Rattle.pkcheck.proofs.Settled.{both}
-use Rattle.pkcheck.proofs.stack.operands.Operands.pair.Goals as goal
-
-pub returns : goal.returns
-returns c =
-    both c.args.self.now (known c.in-Some.first.now) (known c.in-Some-get.second.now)
-    (subst (λ ks. length ks ≡ 2) c.self.view_is (sym c.count_objects.ensures ∙ c.if-count_objects-ne2.false)) (sym c.in-Some.ensures) (sym c.in-Some-get.ensures)

@@ -1,0 +1,64 @@
+-- What is heard of a check: each instruction that was read whole and admitted, with its place and
+-- the marks that are open before it.
+use Rattle.std.specs.Prelude.{◌≡◌, ⊤, ℕ, List, [], ◌∷◌, ◌++◌, length, Result, Ok, Err, Option}
+use Rattle.pkops.specs.Limits.{Bounds}
+use Rattle.pkops.specs.Spelling.{Instruction}
+use Rattle.pkread.specs.Rows.{Sight}
+use Rattle.pkread.specs.Sequence.{spellings}
+use Rattle.pkread.specs.declared.refusal.Reason.{Reason}
+use Rattle.pkcheck.specs.Answered.{IsRightAnswer}
+use Rattle.pkcheck.specs.Faults.{InEachRun}
+use Rattle.pkcheck.specs.Knowledge.{Policy, Asked}
+use Rattle.pkcheck.specs.Refused.{Why, reading, judging, growing}
+use Rattle.pkcheck.specs.RunFaults.{RunsBehind}
+use Rattle.pkcheck.specs.Shape.{marks_of}
+use Rattle.pkcheck.specs.declared.checking.Yes.{Yes}
+use Rattle.pkcheck.specs.declared.checking.No.{No}
+
+-- an instruction, the offset of its first byte, and the number of marks that are open before it
+pub record Heard : Type 0 where
+  pub at : ℕ
+  pub instruction : Instruction
+  pub marks : ℕ
+
+-- the same, of its parts
+abbrev pub heard : ℕ → Instruction → ℕ → Heard
+heard at instruction marks = record { at = at; instruction = instruction; marks = marks }
+
+-- what is heard of an instruction behind others
+pub record IsHeardOf (before : List Instruction) (i : Instruction) (h : Heard) : Type 0 where
+  pub same : h.instruction ≡ i
+  pub place : h.at ≡ length (spellings before)
+  -- some run gets there, and in each that does as many marks are open
+  pub marks :
+      InEachRun (RunsBehind before) (λ state. h.marks ≡ marks_of state.shape.entries)
+
+-- what is heard of instructions behind others: of each of them, in order
+abbrev pub AreHeardBehind : List Instruction → List Instruction → List Heard → Type 0
+AreHeardBehind before [] [] = ⊤
+AreHeardBehind before (i ∷ is) (h ∷ hs) =
+    IsHeardOf before i h × AreHeardBehind (before ++ i ∷ []) is hs
+AreHeardBehind before [] (h ∷ hs) = ⊥
+AreHeardBehind before (i ∷ is) [] = ⊥
+
+-- the refused instruction, where it was read whole and admitted
+abbrev pub refused_instruction : {policy : Policy} {limits : Bounds} {before : List Instruction}
+    {here new : Sight} {at : ℕ} {reason : Reason} {pair : Option Asked}
+    → Why policy limits before here new at reason pair → List Instruction
+refused_instruction (reading h) = []
+refused_instruction (judging h) = h.instruction ∷ []
+refused_instruction (growing h) = h.instruction ∷ []
+
+-- the instructions that a right answer is about: those accepted, and then the refused one
+abbrev pub instructions_of : (policy : Policy) (limits : Bounds) (old new : Sight)
+    (answer : Result Yes No) → IsRightAnswer policy limits old new answer → List Instruction
+instructions_of policy limits old new (Ok accepted) right = right.instructions
+instructions_of policy limits old new (Err refused) right =
+    right.instructions ++ refused_instruction right.why
+
+-- the answer is right, and this was heard on the way to it: of each instruction that it is about,
+-- in order
+pub record IsRightAndHeard (policy : Policy) (limits : Bounds) (old new : Sight)
+    (answer : Result Yes No) (hs : List Heard) : Type 0 where
+  pub right : IsRightAnswer policy limits old new answer
+  pub each : AreHeardBehind [] (instructions_of policy limits old new answer right) hs

@@ -1,0 +1,155 @@
+-- What the parts of a step answer, by what the checker knows.
+use Rattle.std.specs.Prelude.{ℕ, ◌≡◌, ◌<◌, ◌≤◌, ◌⊎◌, Bool, List, ◌∷◌, length, Option, Some, None, Result, Ok, Err, option_map, if◌then◌else◌, is_some, ⊤}
+use Rattle.pkcheck.specs.declared.machine.effects.Takes.{Takes}
+use Rattle.pkcheck.specs.declared.machine.effects.Takes.TheVariants.{Objects, Slice, SliceAndReceiver}
+use Rattle.pkcheck.specs.declared.machine.effects.Gives.{Gives}
+use Rattle.pkcheck.specs.declared.machine.effects.Gives.TheVariants.{MakesText, Leaves}
+use Rattle.pkcheck.specs.declared.machine.effects.Names.{Names}
+use Rattle.pkcheck.specs.declared.machine.effects.Names.TheVariants.{NoName}
+use Rattle.pkcheck.specs.declared.machine.effects.Move.{Move}
+use Rattle.pkcheck.specs.declared.machine.effects.Move.TheVariants as move
+use Rattle.pkcheck.specs.declared.machine.effects.Effect.{Effect}
+use Rattle.pkcheck.specs.declared.machine.effects.Effect.TheVariants.{Operates, Moves, Stops}
+use Rattle.pkcheck.specs.declared.machine.operate.Denial.{Denial}
+use Rattle.pkcheck.specs.declared.machine.stepping.Moved.{Moved}
+use Rattle.pkread.specs.declared.refusal.Reason.{Reason}
+use Rattle.pkread.specs.declared.refusal.Reason.TheVariants as reason
+use Rattle.pkops.specs.Spelling.{Instruction}
+use Rattle.pkops.specs.Limits.{Bounds}
+use Rattle.pkcheck.specs.Shape.{Breach, Item, Shape}
+use Rattle.pkcheck.specs.Runs.{Plain}
+use Rattle.pkcheck.specs.declared.machine.effects.Class.{Class}
+use Rattle.pkcheck.specs.Knowledge.{Policy, Asked, AskedPair, AskedUnknown, Known, Knowledge, Progress, Refusal, Lacks, WrongClass, reason_of, permitted, unknown_pair, wrong_receiver, asked_of}
+use Rattle.pkcheck.specs.Import.{asked_shown, asks_more}
+use Rattle.pkcheck.specs.View.{off_pair, moved_as}
+
+-- the reason of a breach
+abbrev pub IsLack : {A : Type 0} → Result A Breach → Reason → Type 0
+IsLack x r = (b : Breach) × (x ≡ Err b) × (r ≡ reason_of (Lacks b))
+
+-- a move that only takes away, or changes nothing, wants no memory
+abbrev pub MoveMayWantMemory : Move → Type 0
+MoveMayWantMemory move.Pops = ⊥
+MoveMayWantMemory move.PopsMark = ⊥
+MoveMayWantMemory move.Passes = ⊥
+MoveMayWantMemory move.Extends = ⊥
+MoveMayWantMemory m = ⊤
+
+-- there is no room for one more than these, or no memory for it
+abbrev pub WantsRoom : ℕ → ℕ → Reason → Type 0
+WantsRoom limit count r = ((r ≡ reason.TooLarge) × (limit ≤ count)) ⊎ (r ≡ reason.OutOfMemory)
+
+-- these would be too many, or there is no memory for them
+abbrev pub WantsMemo : {A : Type 0} → ℕ → List (ℕ × A) → Reason → Type 0
+WantsMemo limit cells r =
+    ((r ≡ reason.TooLarge) × (limit < length cells)) ⊎ (r ≡ reason.OutOfMemory)
+
+-- it leaves more than the limits
+abbrev pub IsPast : {A : Type 0} → Bounds → Result (Shape A) Breach → Type 0
+IsPast {A} l x =
+    (k : Shape A) × (x ≡ Ok k) × ((l.stack < length k.entries) ⊎ (l.memo < length k.memo))
+
+-- the reason of a breach, or of want of room
+abbrev pub IsFault : {A : Type 0} → Bounds → Result (Shape A) Breach → Reason → Type 0
+IsFault l x r = IsLack x r ⊎ (((r ≡ reason.TooLarge) × IsPast l x) ⊎ (r ≡ reason.OutOfMemory))
+
+-- the same, where only some moves may want memory
+abbrev pub IsFaultOf : {A : Type 0} → Move → Bounds → Result (Shape A) Breach → Reason → Type 0
+IsFaultOf m l x r =
+    IsLack x r
+    ⊎ (((r ≡ reason.TooLarge) × IsPast l x) ⊎ (MoveMayWantMemory m × (r ≡ reason.OutOfMemory)))
+
+-- what the policy makes of it
+abbrev pub ruled : Policy → Asked → Result (Option Asked) Refusal
+ruled p (AskedPair m n) = permitted p m n
+ruled p AskedUnknown = unknown_pair p
+
+-- an import may want memory for its names
+abbrev pub MayName : Names → Type 0
+MayName NoName = ⊥
+MayName names = ⊤
+
+-- what the receiver and the names say of these operands
+abbrev pub judged : Policy → Names → Gives → Instruction → List Known
+    → Result (Option Asked) Refusal
+judged p names gives i ks =
+    if wrong_receiver gives ks then Err WrongClass else asked_of p names i ks
+
+-- it is refused for this reason, with this pair
+abbrev pub IsDenied : {A : Type 0} → Result A Refusal → Denial → Type 0
+IsDenied x d =
+    (f : Refusal)
+    × (x ≡ Err f)
+    × (d.reason ≡ reason_of f)
+    × (option_map asked_shown d.pair ≡ off_pair f)
+
+-- it is refused for want of memory, with no pair
+abbrev pub IsForMemory : Denial → Type 0
+IsForMemory d = (d.reason ≡ reason.OutOfMemory) × (option_map asked_shown d.pair ≡ None)
+
+-- it passes: this is known after it, and these imports are listed
+abbrev pub Passes : Result Progress Refusal → Knowledge → List Asked → List Asked → Bool → Type 0
+Passes x after before now b =
+    (a : Option Asked)
+    × (x ≡ Ok (record { after = after; import = a }))
+    × (now ≡ asks_more a before)
+    × (b ≡ is_some a)
+
+-- an operation that only leaves its receiver wants no memory
+abbrev pub MayGive : Gives → Type 0
+MayGive (Leaves w) = ⊥
+MayGive gives = ⊤
+
+-- an operation may want memory for its import or for what it gives
+abbrev pub MayOperate : Names → Gives → Type 0
+MayOperate names gives = MayName names ⊎ MayGive gives
+
+-- an operation that takes one or more
+abbrev pub HasFirst : Takes → Type 0
+HasFirst (Objects k) = 0 < k
+HasFirst (Slice rule) = ⊥
+HasFirst (SliceAndReceiver rule) = ⊤
+
+-- what is left is there, and a text is made of nothing and names nothing
+abbrev pub WellGiven : Gives → Names → Takes → Type 0
+WellGiven (Leaves w) names takes = HasFirst takes
+WellGiven MakesText names takes = (names ≡ NoName) × (takes ≡ Objects 0)
+WellGiven gives names takes = ⊤
+
+-- what is given is no new text
+abbrev pub IsNoText : Gives → Type 0
+IsNoText MakesText = ⊥
+IsNoText gives = ⊤
+
+-- an operation that leaves its receiver takes one, and one that makes a text takes nothing
+abbrev pub IsWell : Effect → Type 0
+IsWell (Operates takes names gives) = WellGiven gives names takes
+IsWell (Moves m) = ⊤
+IsWell Stops = ⊤
+
+-- it goes on: this is known after it, and these imports are listed
+abbrev pub GoesTo : Effect → Result Progress Refusal → Knowledge → List Asked → List Asked
+    → Moved → Type 0
+GoesTo e x after before now v =
+    (a : Option Asked)
+    × (x ≡ Ok (record { after = after; import = a }))
+    × (now ≡ asks_more a before)
+    × (v ≡ moved_as e a)
+
+-- STOP is refused for this reason
+abbrev pub IsStopFault : Result Progress Refusal → Reason → Type 0
+IsStopFault x r = (f : Refusal) × (x ≡ Err f) × (r ≡ reason_of f) × (off_pair f ≡ None)
+
+-- whether the step may want memory
+abbrev pub MayWantMemory : Effect → Type 0
+MayWantMemory (Operates takes names gives) = MayOperate names gives
+MayWantMemory (Moves m) = MoveMayWantMemory m
+MayWantMemory Stops = ⊥
+
+-- no more entries of the stack and of the memo than the limits
+abbrev pub IsWithin : Bounds → Knowledge → Type 0
+IsWithin limits known = (length known.entries ≤ limits.stack) × (length known.memo ≤ limits.memo)
+
+-- with a new object of this class on top
+abbrev pub with_made : Class → Knowledge → Knowledge
+with_made class known = record known { entries = Item (Some (Plain class)) ∷ known.entries }

@@ -1,0 +1,40 @@
+-- What becomes of one instruction that was read.
+use Rattle.std.specs.Prelude.{◌≡◌, ℕ, ◌⊎◌, None, Some, length}
+use Rattle.pkops.specs.Spelling.{Instruction, spelling}
+use Rattle.pkops.specs.declared.op.Op.{Op}
+use Rattle.pkread.specs.Framing.{counted}
+use Rattle.pkread.specs.Pieces.{piece_of}
+use Rattle.pkread.specs.declared.refusal.Reason.{Reason}
+use Rattle.pkread.specs.declared.refusal.Reason.TheVariants.{BrokenFrame}
+use Rattle.pkcheck.specs.Knowledge.{Policy}
+use Rattle.pkcheck.specs.Stepping.{Fails, GoesOn}
+use Rattle.pkcheck.specs.View.{View}
+use Rattle.pkcheck.specs.declared.machine.stepping.Moved.{Moved}
+
+-- it is of this opcode, and spelled by so many bytes
+pub record HasLength (i : Instruction) (op : Op) (count : ℕ) : Type 0 where
+  pub op_is : i.op ≡ op
+  pub long : length (spelling i) ≡ count
+
+-- the instruction lies within its frame, and the machine goes on
+abbrev pub IsPassed : Policy → Instruction → ℕ → View → ℕ → View → Type 0
+IsPassed policy i was_open before is_open after =
+    (counted was_open (piece_of i) ≡ Some is_open)
+    × ((moved : Moved) × GoesOn policy i before after moved)
+
+-- it doesn't lie within its frame
+abbrev pub BreaksFrame : Instruction → ℕ → View → View → Reason → Type 0
+BreaksFrame i was_open before after reason =
+    (counted was_open (piece_of i) ≡ None) × (after ≡ before) × (reason ≡ BrokenFrame)
+
+-- it does, and the machine refuses it or finds no memory
+abbrev pub IsRefusedByMachine : Policy → Instruction → ℕ → View → View → Reason → Type 0
+IsRefusedByMachine policy i was_open before after reason =
+    ((is_open : ℕ) × (counted was_open (piece_of i) ≡ Some is_open))
+    × Fails policy i before after reason
+
+-- the one or the other
+abbrev pub IsRefused : Policy → Instruction → ℕ → View → View → Reason → Type 0
+IsRefused policy i was_open before after reason =
+    BreaksFrame i was_open before after reason
+    ⊎ IsRefusedByMachine policy i was_open before after reason

@@ -1,0 +1,132 @@
+-- What the fields of the stack, the memo and the table of texts say.
+use Rattle.std.specs.Prelude.{ℕ, suc, ◌<◌, List, [], ◌∷◌, ◌++◌, Option, Some, None, map, get_or, ◌≡◌, length, ⊤, drop, take}
+use Rattle.pkcheck.specs.declared.machine.value.Value.{Value}
+use Rattle.pkcheck.specs.declared.machine.value.Value.TheVariants as value
+use Rattle.pkcheck.specs.declared.machine.stack.slots.Slot.{Slot}
+use Rattle.pkcheck.specs.declared.machine.stack.slots.Slot.TheVariants as slot
+use Rattle.pkcheck.specs.declared.machine.effects.Takes.{Takes}
+use Rattle.pkcheck.specs.declared.machine.effects.Takes.TheVariants.{Objects, Slice, SliceAndReceiver}
+use Rattle.pkcheck.specs.Runs.{Text, Plain}
+use Rattle.pkcheck.specs.Shape.{Entry, Mark, Item, Shape, Taken}
+use Rattle.pkcheck.specs.Covers.{Pointwise, AlikeEntry, Alike}
+use Rattle.pkcheck.specs.Knowledge.{Known, Knowledge}
+
+-- an entry of the stack
+abbrev pub entry_of : Slot → Entry Value
+entry_of slot.Mark = Mark
+entry_of (slot.Object v) = Item v
+
+-- these entries, the last of them on top, over the others
+abbrev pub shown : List Slot → List (Entry Value) → List (Entry Value)
+shown [] below = below
+shown (s ∷ ss) below = shown ss (entry_of s ∷ below)
+
+-- the objects among them, in order
+abbrev pub values_of : List Slot → List Value
+values_of [] = []
+values_of (slot.Mark ∷ ss) = values_of ss
+values_of (slot.Object v ∷ ss) = v ∷ values_of ss
+
+-- the objects from a place on, and the entries below it
+abbrev pub taken_from : ℕ → List Slot → Taken Value
+taken_from place slots = record {
+  operands = values_of (drop place slots);
+  below = shown (take place slots) [];
+}
+
+-- the places of the marks among them, counted from n
+abbrev pub bars : ℕ → List Slot → List ℕ
+bars n [] = []
+bars n (slot.Mark ∷ ss) = n ∷ bars (suc n) ss
+bars n (slot.Object v ∷ ss) = bars (suc n) ss
+
+-- each with its number, counted from n
+abbrev pub numbered : {A : Type 0} → ℕ → List A → List (ℕ × A)
+numbered n [] = []
+numbered n (x ∷ xs) = (n, x) ∷ numbered (suc n) xs
+
+-- the entry of number 0, where there is one
+abbrev pub zeroth : {A : Type 0} → Option A → List (ℕ × A)
+zeroth None = []
+zeroth (Some x) = (0, x) ∷ []
+
+-- none of these is of number 0
+abbrev pub ArePositive : {A : Type 0} → List (ℕ × A) → Type 0
+ArePositive [] = ⊤
+ArePositive (e ∷ es) = (0 < e.0) × ArePositive es
+
+-- none of these is a mark
+abbrev pub AllObjects : List Slot → Type 0
+AllObjects [] = ⊤
+AllObjects (slot.Mark ∷ ss) = ⊥
+AllObjects (slot.Object v ∷ ss) = AllObjects ss
+
+-- the first of these is an object
+abbrev pub FirstObject : List Slot → Type 0
+FirstObject (slot.Object v ∷ ss) = ⊤
+FirstObject ss = ⊥
+
+-- which of these are objects
+abbrev pub StartsWell : Takes → List Slot → Type 0
+StartsWell (Objects k) ss = (length ss ≡ k) × AllObjects ss
+StartsWell (Slice rule) ss = ⊤
+StartsWell (SliceAndReceiver rule) ss = FirstObject ss
+
+-- a text has one of the first so many numbers
+abbrev pub IsNumbered : ℕ → Value → Type 0
+IsNumbered count (value.Text n) = n < count
+IsNumbered count v = ⊤
+
+-- by a table of texts
+module _ (ts : List (List ℕ)) where
+  -- what is known of an object, as the definitions have it
+  abbrev pub known : Value → Known
+  known value.Unknown = None
+  known (value.Made c) = Some (Plain c)
+  known (value.Text n) = Some (Text (get_or ts n []))
+
+  abbrev pub entry_seen : Entry Value → Entry Known
+  entry_seen Mark = Mark
+  entry_seen (Item v) = Item (known v)
+
+  -- the stack
+  abbrev pub seen : List (Entry Value) → List (Entry Known)
+  seen es = map entry_seen es
+
+  -- the memo
+  abbrev pub remembered : List (ℕ × Value) → List (ℕ × Known)
+  remembered cells = map (λ e. (e.0, known e.1)) cells
+
+  -- both
+  abbrev pub resolved : Shape Value → Knowledge
+  resolved h = record { entries = seen h.entries; memo = remembered h.memo }
+
+  -- this is known of an object, and it names no text that isn't in the table
+  pub record Stands (v : Value) (k : Known) : Type 0 where
+    pub is : known v ≡ k
+    pub numbered : IsNumbered (length ts) v
+
+  -- the same, where there is one
+  abbrev pub StandsIf : Option Value → Option Known → Type 0
+  StandsIf None None = ⊤
+  StandsIf (Some v) (Some k) = Stands v k
+  StandsIf None (Some k) = ⊥
+  StandsIf (Some v) None = ⊥
+
+  -- the same of the stack
+  abbrev pub Sees : List (Entry Value) → List (Entry Known) → Type 0
+  Sees es ks = Pointwise (AlikeEntry Stands) es ks
+
+  -- the same of both
+  abbrev pub Resolves : Shape Value → Type 0
+  Resolves h = Alike Stands h (resolved h)
+
+-- what is known, and how many texts are in the table
+pub record Holding : Type 0 where
+  pub knowledge : Knowledge
+  pub texts : ℕ
+
+-- the table after is the one before, with others behind
+pub record Grows (before after : List (List ℕ)) : Type 0 where
+  pub more : List (List ℕ)
+  pub is : after ≡ before ++ more

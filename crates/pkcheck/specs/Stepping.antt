@@ -1,0 +1,135 @@
+-- What one step of the machine does.
+use Rattle.std.specs.Prelude.{◌≡◌, ◌≢◌, ◌++◌, [], ◌∷◌, ◌⊎◌, ⊤, true, List, Option, Some, None, Result, Ok, Err, IfOk, IfErr, IfSome, OnOk}
+use Rattle.pkops.specs.Spelling.{Instruction}
+use Rattle.pkread.specs.declared.refusal.Reason.{Reason}
+use Rattle.pkread.specs.declared.refusal.Reason.TheVariants.{OutOfMemory}
+use Rattle.pkcheck.specs.declared.machine.stepping.Moved.{Moved}
+use Rattle.pkcheck.specs.Effects.{effect_of}
+use Rattle.pkcheck.specs.Runs.{State, Outcome, AnswersCanBe, CanCome, step}
+use Rattle.pkcheck.specs.Knowledge.{Policy, Asked, AskedPair, AskedUnknown, Knowledge, Progress, Refusal, reason_of, advance}
+use Rattle.pkcheck.specs.Covers.{Covers, Follows}
+use Rattle.pkcheck.specs.Faults.{Arrivals, AsksForTwo, HasNoFault, IsFirstFault}
+use Rattle.pkcheck.specs.Import.{asks_more}
+use Rattle.pkcheck.specs.Memory.{WantsNoMemory}
+use Rattle.pkcheck.specs.View.{View, moved_as, stopped_by, texts_after, off_pair}
+
+-- a machine that refused before answers the same reason, and stays as it is
+abbrev pub AnswersAgain : View → View → Result Moved Reason → Type 0
+AnswersAgain before after answer =
+    IfSome before.refused (λ reason. (answer ≡ Err reason) × (after ≡ before))
+
+-- this holds of the reason where a machine refuses that had not refused before
+abbrev pub IfFirst : View → Result Moved Reason → (Reason → Type 0) → Type 0
+IfFirst before answer P = before.refused ≡ None → IfErr answer P
+
+-- an import, if there is one, that the policy permits: under a list, it is one of the list's pairs
+abbrev pub IsPermitted : Policy → Option Asked → Type 0
+IsPermitted (Some list) (Some (AskedPair module_name name)) = list module_name name ≡ true
+IsPermitted (Some list) (Some AskedUnknown) = ⊥
+IsPermitted _ _ = ⊤
+
+-- the imports after are those before, or one more, which the policy permits
+abbrev pub AppendsPermitted : Policy → List Asked → List Asked → Type 0
+AppendsPermitted policy before after =
+    (import : Option Asked) × (after ≡ asks_more import before) × IsPermitted policy import
+
+-- a refusal leaves the imports and what is known, and its reason is the one that is answered from
+-- then on
+pub record RefusesForGood (before after : View) (reason : Reason) : Type 0 where
+  pub imports : after.imports ≡ before.imports
+  pub knowledge : after.knowledge ≡ before.knowledge
+  pub refused : after.refused ≡ Some reason
+
+-- the states that a knowledge covers, as runs that get to an instruction. In one that is claimed,
+-- what was answered can be
+abbrev pub CoveredBy : Knowledge → Arrivals
+CoveredBy known = record {
+  any = Covers known;
+  some = λ state. Covers known state × AnswersCanBe state.objects;
+  outcome = CanCome;
+}
+
+module _ (policy : Policy) (instruction : Instruction) (before after : View) where
+  -- the step goes on: what is known after it, its import and what it says are those of the
+  -- instruction
+  abbrev pub GoesOn : Moved → Type 0
+  GoesOn moved =
+      (progress : Progress)
+      × (advance policy before.limits instruction before.knowledge ≡ Ok progress)
+      × (after ≡ record before {
+        knowledge = progress.after;
+        imports = asks_more progress.import before.imports;
+        stopped = stopped_by moved;
+        texts = texts_after (effect_of instruction.op) before.texts;
+      })
+      × (moved ≡ moved_as (effect_of instruction.op) progress.import)
+
+  -- the instruction is refused for this reason, which changes nothing else
+  abbrev pub Refuses : Reason → Type 0
+  Refuses reason =
+      (refusal : Refusal)
+      × (advance policy before.limits instruction before.knowledge ≡ Err refusal)
+      × (reason ≡ reason_of refusal)
+      × (after ≡ record before { refused = Some reason; off = off_pair refusal })
+
+  -- there is no memory for the step, which changes nothing else. Of some opcodes the step wants
+  -- none
+  abbrev pub LacksMemory : Reason → Type 0
+  LacksMemory reason =
+      (¬ WantsNoMemory instruction.op)
+      × (reason ≡ OutOfMemory)
+      × (after ≡ record before { refused = Some reason; off = None })
+
+  -- the one or the other
+  abbrev pub Fails : Reason → Type 0
+  Fails reason = Refuses reason ⊎ LacksMemory reason
+
+  -- what going on means in a state that is covered: the step finds what it needs, an import there
+  -- is the one appended, STOP takes the one object that is there, and the state after is covered
+  abbrev pub MeansIn : State → Outcome → Type 0
+  MeansIn state outcome =
+      (progress : Progress)
+      × (progress.after ≡ after.knowledge)
+      × (after.imports ≡ asks_more progress.import before.imports)
+      × IsPermitted policy progress.import
+      × Follows progress state (step instruction state outcome)
+
+  -- that, in every state that is covered and for every outcome there
+  abbrev pub MeansInEachRun : Type 0
+  MeansInEachRun =
+      (state : State) (outcome : Outcome) → Covers before.knowledge state → MeansIn state outcome
+
+  -- no fault of the instruction is passed by
+  abbrev pub PassesNoFault : Type 0
+  PassesNoFault = HasNoFault policy before.limits (CoveredBy before.knowledge) instruction
+
+  -- an import is listed as Unknown only where two runs ask for different pairs
+  abbrev pub UnknownIsNeeded : Type 0
+  UnknownIsNeeded =
+      after.imports ≡ before.imports ++ AskedUnknown ∷ []
+      → AsksForTwo (CoveredBy before.knowledge) instruction
+
+  -- the reason names the first fault of the instruction, in the states that are covered, or want of
+  -- memory
+  abbrev pub IsNoFalseAlarm : Reason → Type 0
+  IsNoFalseAlarm reason =
+      IsFirstFault policy before.limits (CoveredBy before.knowledge) instruction reason after.off
+      ⊎ (reason ≡ OutOfMemory)
+
+  -- want of memory is no reason where the step wants none
+  abbrev pub MayLackMemory : Reason → Type 0
+  MayLackMemory reason = WantsNoMemory instruction.op → reason ≢ OutOfMemory
+
+-- all that is said of a step over an instruction: what each of these means stands beside it
+pub record IsStep (policy : Policy) (instruction : Instruction) (before after : View)
+    (answer : Result Moved Reason) : Type 0 where
+  pub again : AnswersAgain before after answer
+  pub goes_on : IfOk answer (GoesOn policy instruction before after)
+  pub covered : OnOk answer (MeansInEachRun policy instruction before after)
+  pub permitted : OnOk answer (AppendsPermitted policy before.imports after.imports)
+  pub no_fault : OnOk answer (PassesNoFault policy instruction before after)
+  pub unknown : OnOk answer (UnknownIsNeeded policy instruction before after)
+  pub fails : IfFirst before answer (Fails policy instruction before after)
+  pub alarm : IfFirst before answer (IsNoFalseAlarm policy instruction before after)
+  pub memory : IfFirst before answer (MayLackMemory policy instruction before after)
+  pub kept : IfErr answer (RefusesForGood before after)

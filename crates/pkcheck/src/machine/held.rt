@@ -1,0 +1,162 @@
+//! What is known along a pickle: the stack, the memo, and the texts that both name by number.
+ghost use Rattle.std.specs.Prelude.{◌≡◌, ◌⊎◌, ◌≤◌, length, map, IfOk, IfErr, OnOk, OnErr};
+ghost use Rattle.pkcheck.specs.Private.Denials.{IsDenied, IsForMemory, IsFaultOf, IsStopFault};
+ghost use Rattle.pkcheck.specs.Private.Denials.{MayOperate, Passes, WantsRoom, WellGiven};
+ghost use Rattle.pkcheck.specs.Private.Denials.{with_made};
+ghost use Rattle.pkcheck.specs.Import.{asked_shown, policy_of};
+ghost use Rattle.pkcheck.specs.Knowledge.{learn, stop_learned, within, nothing_known};
+ghost use Rattle.pkcheck.specs.Shape.{and_then, marks_of, moved, top};
+ghost use Rattle.pkcheck.specs.View.{texts_given};
+ghost use Rattle.pkops.specs.Inst.{instruction_of};
+
+use crate::import::Asked;
+use crate::machine::effects::{Class, Effect, Gives, Move, Names, Takes};
+use crate::machine::memo::Memo;
+use crate::machine::moves::apply;
+use crate::machine::operate::{Denial, operate};
+use crate::machine::stack::Stack;
+use crate::machine::texts::Texts;
+use crate::machine::value::Value;
+use crate::policy::Policy;
+use pkops::{Inst, Limits};
+use pkread::Reason;
+use std::alloc::Global;
+use std::marker::Model;
+
+/// What is known of the stack and the memo.
+#[derive(Drop)]
+pub struct Held {
+    stack: Stack,
+    memo: Memo,
+    texts: Texts,
+}
+
+impl Model for Held {
+    ghost use Rattle.std.specs.Prelude.{length};
+    ghost use Rattle.pkcheck.specs.Private.Slots.{Holding, Resolves, resolved};
+
+    ghost Value = { Holding };
+
+    ghost view = { λ h. record {
+      knowledge = resolved h.texts (record { entries = h.stack; memo = h.memo });
+      texts = length h.texts;
+    } };
+
+    ghost invariant = { λ h. Resolves h.texts (record { entries = h.stack; memo = h.memo }) };
+}
+
+impl Held {
+    /// Nothing is known, and nothing is there. It takes no memory.
+    pub fn new(alloc: Global) -> Held
+        ensures { result ≡ record { knowledge = nothing_known; texts = 0 } }
+    {
+        Held {
+            stack: Stack::new(alloc),
+            memo: Memo::new(alloc),
+            texts: Texts::new(alloc),
+        }
+    }
+
+    /// The number of open marks.
+    pub fn marks(&self) -> usize
+        ensures { result ≡ marks_of self.now.knowledge.entries }
+    {
+        self.stack.marks()
+    }
+
+    /// How many texts are in the table.
+    pub fn texts(&self) -> usize
+        ensures { result ≡ self.now.texts }
+    {
+        self.texts.len()
+    }
+
+    /// Pushes a new object of this class.
+    pub fn make(&mut self, limits: &Limits, class: Class) -> Result<(), Reason>
+        ensures ok { OnOk result (self.new.knowledge ≡ with_made class self.old.knowledge) }
+        ensures room { OnOk result (length self.new.knowledge.entries ≤ limits.now.stack) }
+        ensures texts { self.new.texts ≡ self.old.texts }
+        ensures kept { OnErr result (self.new ≡ self.old) }
+        ensures err { IfErr result (WantsRoom limits.now.stack
+            (length self.old.knowledge.entries)) }
+    {
+        self.stack.push(limits, Value::Made(class))
+    }
+
+    /// Does what the move does.
+    pub fn apply(&mut self, limits: &Limits, what: Move, number: u32) -> Result<(), Reason>
+        requires stack { length self.old.knowledge.entries ≤ limits.now.stack }
+        requires memo { length self.old.knowledge.memo ≤ limits.now.memo }
+        ensures ok { OnOk result (moved what number self.old.knowledge ≡ Ok self.new.knowledge) }
+        ensures room { OnOk result ((length self.new.knowledge.entries ≤ limits.now.stack)
+            × (length self.new.knowledge.memo ≤ limits.now.memo)) }
+        ensures texts { self.new.texts ≡ self.old.texts }
+        ensures err { IfErr result (λ r. (self.new ≡ self.old)
+            × IsFaultOf what limits.now (moved what number self.old.knowledge) r) }
+    {
+        apply(&mut self.stack, &mut self.memo, limits, what, number)
+    }
+
+    /// Does the operation.
+    pub fn operate(
+        &mut self,
+        alloc: Global,
+        imports: &mut Vec<Asked>,
+        limits: &Limits,
+        takes: Takes,
+        names: Names,
+        gives: Gives,
+        inst: &Inst,
+        policy: &Policy,
+    ) -> Result<bool, Denial>
+        requires within { length self.old.knowledge.entries ≤ limits.now.stack }
+        requires given { WellGiven gives names takes }
+        ensures ok { IfOk result (λ b. Passes (learn (policy_of policy.now)
+            (Effect.Operates takes names gives)
+            (instruction_of inst.now) self.old.knowledge) self.new.knowledge
+            (map asked_shown imports.old.items) (map asked_shown imports.new.items) b) }
+        ensures room { OnOk result ((length self.new.knowledge.entries ≤ limits.now.stack)
+            × (length self.new.knowledge.memo ≡ length self.old.knowledge.memo)) }
+        ensures texts { OnOk result (self.new.texts ≡ texts_given gives self.old.texts) }
+        ensures kept { OnErr result ((self.new ≡ self.old) × (imports.new.items
+            ≡ imports.old.items)) }
+        ensures err { IfErr result (λ d. IsDenied (and_then (learn (policy_of policy.now)
+            (Effect.Operates takes names gives) (instruction_of inst.now) self.old.knowledge)
+            (within limits.now)) d ⊎ (MayOperate names gives × IsForMemory d)) }
+    {
+        operate(
+            alloc,
+            &mut self.stack,
+            &mut self.texts,
+            imports,
+            limits,
+            takes,
+            names,
+            gives,
+            inst,
+            policy,
+        )
+    }
+
+    /// Takes the result, where nothing else is left.
+    pub fn finish(&mut self) -> Result<(), Reason>
+        ensures ok { OnOk result (stop_learned self.old.knowledge.memo
+            (top self.old.knowledge.entries)
+            ≡ Ok (record { after = self.new.knowledge; import = None })) }
+        ensures texts { self.new.texts ≡ self.old.texts }
+        ensures room { (length self.new.knowledge.entries ≤ length self.old.knowledge.entries)
+            × (self.new.knowledge.memo ≡ self.old.knowledge.memo) }
+        ensures kept { OnErr result (self.new ≡ self.old) }
+        ensures err { IfErr result (λ r. IsStopFault (stop_learned self.old.knowledge.memo
+            (top self.old.knowledge.entries)) r) }
+    {
+        if let Err(reason) = self.stack.top() {
+            return Err(reason);
+        }
+        if self.stack.len() > 1 {
+            return Err(Reason::LeftOver);
+        }
+        self.stack.truncate(0);
+        Ok(())
+    }
+}

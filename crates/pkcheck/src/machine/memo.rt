@@ -1,0 +1,152 @@
+//! The memo: what is known of the objects stored under numbers.
+ghost use Rattle.pkcheck.specs.Private.Denials.{WantsMemo};
+ghost use Rattle.pkcheck.specs.Shape.{recalled, stored};
+ghost use Rattle.pkcheck.specs.Private.Slots.{zeroth};
+ghost use Rattle.std.specs.Prelude.{◌≡◌, ◌⊎◌, ◌<◌, ◌≤◌, ◌+◌, [], length, IfErr, OnOk, None, false};
+
+use crate::machine::value::Value;
+use pkops::Limits;
+use pkread::Reason;
+use std::alloc::Global;
+use std::collections::BTreeMap;
+use std::marker::Model;
+
+/// What is known of the objects that were stored, by their numbers. Most pickles number them in
+/// order, from 0 on or (those of Python 2's `cPickle`) from 1 on, and these are found at once.
+#[derive(Drop)]
+pub struct Memo {
+    /// That of number 0.
+    zero: Option<Value>,
+    /// Those from number 1 on, as long as they came in order.
+    row: Vec<Value>,
+    /// The others.
+    rest: BTreeMap<u64, Value>,
+}
+
+impl Model for Memo {
+    ghost use Rattle.std.specs.Prelude.{ℕ, List, ◌++◌};
+    ghost use Rattle.pkcheck.specs.declared.machine.value.Value.{Value as Object};
+    ghost use Rattle.pkcheck.specs.Private.Slots.{ArePositive, numbered, zeroth};
+
+    ghost Value = { List (ℕ × Object) };
+
+    ghost view = { λ m. zeroth m.zero ++ (numbered 1 m.row.items ++ m.rest.entries) };
+
+    ghost invariant = { λ m. ArePositive m.rest.entries };
+}
+
+impl Memo {
+    /// A memo of nothing. It takes no memory.
+    pub fn new(alloc: Global) -> Memo
+        ensures { result ≡ [] }
+    {
+        Memo {
+            zero: None,
+            row: Vec::new(alloc),
+            rest: BTreeMap::new(alloc),
+        }
+    }
+
+    /// How many objects are stored.
+    #[inline]
+    pub fn len(&self) -> u64
+        ensures { result ≡ length self.now }
+    {
+        count(self.zero) + self.row.len() as u64 + self.rest.len() as u64
+    }
+
+    /// What is known of the object under a number.
+    #[inline]
+    pub fn get(&self, number: u64) -> Option<Value>
+        ensures { result ≡ recalled number self.now }
+    {
+        if number == 0 {
+            return self.zero;
+        }
+        if number <= self.row.len() as u64 {
+            return Some(self.row[(number - 1) as usize]);
+        }
+        found(&self.rest, number)
+    }
+
+    /// Stores what is known under a number, where the limit leaves room.
+    #[inline]
+    pub fn store(&mut self, limits: &Limits, number: u64, value: Value) -> Result<(), Reason>
+        requires { length self.old ≤ limits.now.memo }
+        ensures ok { OnOk result (self.new ≡ stored number value self.old) }
+        ensures room { OnOk result (length self.new ≤ limits.now.memo) }
+        ensures err { IfErr result (λ r. (self.new ≡ self.old)
+            × WantsMemo limits.now.memo (stored number value self.old) r) }
+    {
+        let has_room = self.len() < limits.memo();
+        if number == 0 {
+            if self.zero.is_none() && !has_room {
+                return Err(Reason::TooLarge);
+            }
+            self.zero = Some(value);
+            return Ok(());
+        }
+        let last = self.row.len() as u64;
+        if number <= last {
+            self.row[(number - 1) as usize] = value;
+            return Ok(());
+        }
+        if number == last + 1 && self.rest.is_empty() {
+            if !has_room {
+                return Err(Reason::TooLarge);
+            }
+            return match self.row.push(value) {
+                Ok(()) => Ok(()),
+                Err(_) => Err(Reason::OutOfMemory),
+            };
+        }
+        put(&mut self.rest, has_room, number, value)
+    }
+}
+
+/// How many there are: one or none.
+fn count(value: Option<Value>) -> u64
+    ensures is { result ≡ length (zeroth value) }
+    ensures small { result ≤ 1 }
+{
+    match value {
+        Some(_) => 1,
+        None => 0,
+    }
+}
+
+/// What stands under a number there.
+#[inline(never)]
+fn found(rest: &BTreeMap<u64, Value>, number: u64) -> Option<Value>
+    ensures { result ≡ recalled number rest.now.entries }
+{
+    match rest.get(&number) {
+        Some(value) => Some(*value),
+        None => None,
+    }
+}
+
+/// Puts a value under a number there, where it stands there already or there is room for one more.
+#[inline(never)]
+fn put(
+    rest: &mut BTreeMap<u64, Value>,
+    has_room: bool,
+    number: u64,
+    value: Value,
+) -> Result<(), Reason>
+    ensures ok { OnOk result (rest.new.entries ≡ stored number value rest.old.entries) }
+    ensures count { OnOk result (length rest.new.entries ≤ length rest.old.entries + 1) }
+    ensures room { OnOk result (has_room ≡ false → length rest.new.entries
+        ≡ length rest.old.entries) }
+    ensures err { IfErr result (λ r. (rest.new.entries ≡ rest.old.entries) × (((r ≡ Reason.TooLarge)
+        × (has_room ≡ false) × (recalled number rest.old.entries ≡ None))
+        ⊎ (r ≡ Reason.OutOfMemory))) }
+{
+    if !has_room && !rest.contains_key(&number) {
+        return Err(Reason::TooLarge);
+    }
+    match rest.insert(number, value) {
+        Ok(_) => Ok(()),
+        Err(_) => Err(Reason::OutOfMemory),
+    }
+}

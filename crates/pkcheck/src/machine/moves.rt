@@ -1,0 +1,93 @@
+//! The moves, which look at no object.
+ghost use Rattle.pkcheck.specs.Private.Denials.{IsFault, IsFaultOf};
+ghost use Rattle.pkcheck.specs.Shape.{moved};
+ghost use Rattle.std.specs.Prelude.{◌≡◌, ◌≤◌, ℕ, List, length, IfErr, OnOk};
+
+use crate::machine::effects::Move;
+use crate::machine::memo::Memo;
+use crate::machine::stack::Stack;
+use crate::machine::value::Value;
+use pkops::Limits;
+use pkread::Reason;
+
+/// Pushes the top once more.
+#[inline]
+pub fn duplicate(stack: &mut Stack, limits: &Limits) -> Result<(), Reason>
+    ensures ok { (m : List (ℕ × Value))
+        → OnOk result (moved Move.Duplicates 0 (record { entries = stack.old; memo = m })
+        ≡ Ok (record { entries = stack.new; memo = m })) }
+    ensures room { OnOk result (length stack.new ≤ limits.now.stack) }
+    ensures err { (m : List (ℕ × Value)) → IfErr result (λ r. (stack.new ≡ stack.old)
+        × IsFault limits.now (moved Move.Duplicates 0
+        (record { entries = stack.old; memo = m })) r) }
+{
+    let value = stack.top()?;
+    stack.push(limits, value)
+}
+
+/// Stores the top under a number.
+#[inline]
+pub fn remember(stack: &Stack, memo: &mut Memo, limits: &Limits, number: u64) -> Result<(), Reason>
+    requires { length memo.old ≤ limits.now.memo }
+    ensures ok { OnOk result (moved Move.Stores number
+        (record { entries = stack.now; memo = memo.old })
+        ≡ Ok (record { entries = stack.now; memo = memo.new })) }
+    ensures room { OnOk result (length memo.new ≤ limits.now.memo) }
+    ensures err { IfErr result (λ r. (memo.new ≡ memo.old)
+        × IsFault limits.now (moved Move.Stores number
+        (record { entries = stack.now; memo = memo.old })) r) }
+{
+    let value = stack.top()?;
+    memo.store(limits, number, value)
+}
+
+/// Pushes what was stored under a number.
+#[inline]
+pub fn recall(stack: &mut Stack, memo: &Memo, limits: &Limits, number: u32) -> Result<(), Reason>
+    ensures ok { OnOk result (moved Move.Fetches number
+        (record { entries = stack.old; memo = memo.now })
+        ≡ Ok (record { entries = stack.new; memo = memo.now })) }
+    ensures room { OnOk result (length stack.new ≤ limits.now.stack) }
+    ensures err { IfErr result (λ r. (stack.new ≡ stack.old)
+        × IsFault limits.now (moved Move.Fetches number
+        (record { entries = stack.old; memo = memo.now })) r) }
+{
+    match memo.get(number as u64) {
+        Some(value) => stack.push(limits, value),
+        None => Err(Reason::MissingMemo(number)),
+    }
+}
+
+/// Does what the move does.
+pub fn apply(
+    stack: &mut Stack,
+    memo: &mut Memo,
+    limits: &Limits,
+    what: Move,
+    number: u32,
+) -> Result<(), Reason>
+    requires stack { length stack.old ≤ limits.now.stack }
+    requires memo { length memo.old ≤ limits.now.memo }
+    ensures ok { OnOk result (moved what number (record { entries = stack.old; memo = memo.old })
+        ≡ Ok (record { entries = stack.new; memo = memo.new })) }
+    ensures room { OnOk result ((length stack.new ≤ limits.now.stack)
+        × (length memo.new ≤ limits.now.memo)) }
+    ensures err { IfErr result (λ r. (stack.new ≡ stack.old) × (memo.new ≡ memo.old)
+        × IsFaultOf what limits.now (moved what number
+        (record { entries = stack.old; memo = memo.old })) r) }
+{
+    match what {
+        Move::PushesMark => stack.push_mark(limits),
+        Move::Pops => stack.pop(),
+        Move::PopsMark => stack.pop_mark(),
+        Move::Duplicates => duplicate(stack, limits),
+        Move::Stores => remember(stack, memo, limits, number as u64),
+        Move::StoresNext => {
+            let next = memo.len();
+            remember(stack, memo, limits, next)
+        }
+        Move::Fetches => recall(stack, memo, limits, number),
+        Move::Passes => Ok(()),
+        Move::Extends => Err(Reason::ExtensionCode),
+    }
+}

@@ -1,0 +1,211 @@
+//! The stack, of marks and of what is known of objects.
+ghost use Rattle.pkcheck.specs.Private.Denials.{HasFirst, IsLack, WantsRoom};
+ghost use Rattle.pkcheck.specs.Private.Places.{above, below};
+ghost use Rattle.pkcheck.specs.Shape.{Entry, Mark, Item, NoMark, front, marks_of, operands, slice};
+ghost use Rattle.pkcheck.specs.Shape.{top};
+ghost use Rattle.std.specs.Prelude.{◌≡◌, true, List, [], ◌∷◌, ◌++◌, ◌+◌, ◌^◌, ◌<◌, ◌≤◌, length};
+ghost use Rattle.std.specs.Prelude.{drop, nat_lt, IfOk, IfErr, OnOk};
+
+mod operands;
+mod slots;
+
+use crate::machine::effects::Takes;
+use crate::machine::value::Value;
+pub use operands::Operands;
+use pkops::Limits;
+use pkread::Reason;
+use slots::{Slot, mark_place, marks_below, place_of, settle, top};
+use std::alloc::Global;
+use std::marker::Model;
+
+/// The stack. A place on it is the number of entries below.
+#[derive(Drop)]
+pub struct Stack {
+    /// The entries, the last of them on top.
+    slots: Vec<Slot>,
+    /// The places of the marks among them.
+    places: Vec<usize>,
+}
+
+impl Model for Stack {
+    ghost use Rattle.std.specs.Prelude.{◌≡◌, List, []};
+    ghost use Rattle.pkcheck.specs.declared.machine.value.Value.{Value as Object};
+    ghost use Rattle.pkcheck.specs.Shape.{Entry};
+    ghost use Rattle.pkcheck.specs.Private.Slots.{bars, shown};
+
+    ghost Value = { List (Entry Object) };
+
+    ghost view = { λ s. shown s.slots.items [] };
+
+    ghost invariant = { λ s. s.places.items ≡ bars 0 s.slots.items };
+}
+
+impl Stack {
+    /// A stack of nothing. It takes no memory.
+    pub fn new(alloc: Global) -> Stack
+        ensures { result ≡ [] }
+    {
+        Stack {
+            slots: Vec::new(alloc),
+            places: Vec::new(alloc),
+        }
+    }
+
+    /// How many entries there are.
+    #[tactic(auto, using(crate::proofs::Limited::length_shown))]
+    pub fn len(&self) -> usize
+        ensures { result ≡ length self.now }
+    {
+        self.slots.len()
+    }
+
+    /// How many of them are marks.
+    pub fn marks(&self) -> usize
+        ensures { result ≡ marks_of self.now }
+    {
+        self.places.len()
+    }
+
+    /// What is known of the top.
+    pub fn top(&self) -> Result<Value, Reason>
+        ensures ok { IfOk result (λ v. top self.now ≡ Ok (v, drop 1 self.now)) }
+        ensures err { IfErr result (λ r. IsLack (top self.now) r) }
+    {
+        match top(&self.slots) {
+            Some(value) => Ok(value),
+            None => Err(Reason::MissingItem),
+        }
+    }
+
+    /// The place from which on the operation takes.
+    pub fn find(&self, takes: Takes) -> Result<usize, Reason>
+        ensures within { IfOk result (λ n. n ≤ length self.now) }
+        ensures ok { IfOk result (λ n. operands takes self.now
+            ≡ Ok (record { operands = above n self.now; below = below n self.now })) }
+        ensures first { IfOk result (λ n. HasFirst takes → below (n + 1) self.now
+            ≡ front (above n self.now) ++ below n self.now) }
+        ensures err { IfErr result (λ r. IsLack (operands takes self.now) r) }
+    {
+        place_of(&self.slots, &self.places, takes)
+    }
+
+    /// The objects from a place on.
+    #[tactic(auto, using(crate::proofs::Limited::length_shown, crate::proofs::Places::above_shown))]
+    pub fn operands(&self, place: usize) -> Operands<'_>
+        requires { place ≤ length self.now }
+        ensures { result ≡ above place self.now }
+    {
+        Operands::from(&self.slots, place)
+    }
+
+    /// Whether there is room for one more.
+    #[tactic(auto, using(crate::proofs::Limited::length_shown))]
+    fn has_room(&self, limits: &Limits) -> bool
+        ensures value { result ≡ nat_lt (length self.now) limits.now.stack }
+        ensures fits { result ≡ true → length self.now + 1 < 2 ^ 64 }
+    {
+        (self.slots.len() as u64) < limits.stack()
+    }
+
+    /// Puts a mark on top, where the limit leaves room.
+    #[tactic(auto, using(crate::proofs::Limited::length_shown, crate::proofs::Shown::shown_append))]
+    pub fn push_mark(&mut self, limits: &Limits) -> Result<(), Reason>
+        ensures ok { OnOk result (self.new ≡ Mark ∷ self.old) }
+        ensures room { OnOk result (length self.new ≤ limits.now.stack) }
+        ensures err { IfErr result (λ r. (self.new ≡ self.old)
+            × WantsRoom limits.now.stack (length self.old) r) }
+    {
+        if !self.has_room(limits) {
+            return Err(Reason::TooLarge);
+        }
+        let place = self.slots.len();
+        let Ok(()) = self.slots.push(Slot::Mark) else {
+            return Err(Reason::OutOfMemory);
+        };
+        match self.places.push(place) {
+            Ok(()) => Ok(()),
+            Err(_) => {
+                self.slots.truncate(place);
+                Err(Reason::OutOfMemory)
+            }
+        }
+    }
+
+    /// Puts an object on top, where the limit leaves room.
+    #[tactic(auto, using(crate::proofs::Limited::length_shown, crate::proofs::Shown::shown_append))]
+    pub fn push(&mut self, limits: &Limits, value: Value) -> Result<(), Reason>
+        ensures ok { OnOk result (self.new ≡ Item value ∷ self.old) }
+        ensures room { OnOk result (length self.new ≤ limits.now.stack) }
+        ensures err { IfErr result (λ r. (self.new ≡ self.old)
+            × WantsRoom limits.now.stack (length self.old) r) }
+    {
+        if !self.has_room(limits) {
+            return Err(Reason::TooLarge);
+        }
+        match self.slots.push(Slot::Object(value)) {
+            Ok(()) => Ok(()),
+            Err(_) => Err(Reason::OutOfMemory),
+        }
+    }
+
+    /// Leaves the lowest so many entries.
+    #[tactic(auto, using(crate::proofs::Limited::length_shown, crate::proofs::Places::below_shown))]
+    pub fn truncate(&mut self, count: usize)
+        ensures { self.new ≡ below count self.old }
+    {
+        let left = marks_below(&self.places, count);
+        self.places.truncate(left);
+        self.slots.truncate(count);
+    }
+
+    /// Takes the topmost entry.
+    #[tactic(auto, using(crate::proofs::Places::one_more))]
+    pub fn pop(&mut self) -> Result<(), Reason>
+        ensures ok { OnOk result ((e : Entry Value) × (self.old ≡ e ∷ self.new)) }
+        ensures err { IfErr result (λ r. (self.new ≡ self.old) × (self.old ≡ [])
+            × (r ≡ Reason.MissingItem)) }
+    {
+        let count = self.len();
+        if count == 0 {
+            return Err(Reason::MissingItem);
+        }
+        self.truncate(count - 1);
+        Ok(())
+    }
+
+    /// Takes what stands above the topmost mark, and the mark.
+    #[tactic(auto, using(crate::proofs::Places::below_shown))]
+    pub fn pop_mark(&mut self) -> Result<(), Reason>
+        ensures fewer { length self.new ≤ length self.old }
+        ensures ok { OnOk result ((above : List Value) × (slice self.old []
+            ≡ Ok (record { operands = above; below = self.new }))) }
+        ensures err { IfErr result (λ r. (self.new ≡ self.old) × (slice self.old [] ≡ Err NoMark)
+            × (r ≡ Reason.MissingMark)) }
+    {
+        match mark_place(&self.slots, &self.places) {
+            Some(place) => {
+                self.truncate(place);
+                Ok(())
+            }
+            None => Err(Reason::MissingMark),
+        }
+    }
+
+    /// Puts an object in the place of all from there on, where the limit leaves room.
+    pub fn replace(&mut self, limits: &Limits, place: usize, value: Value) -> Result<(), Reason>
+        requires at { place ≤ length self.old }
+        requires within { length self.old ≤ limits.now.stack }
+        ensures ok { OnOk result (self.new ≡ Item value ∷ below place self.old) }
+        ensures room { OnOk result (length self.new ≤ limits.now.stack) }
+        ensures err { IfErr result (λ r. (self.new ≡ self.old)
+            × WantsRoom limits.now.stack place r) }
+    {
+        if place >= self.slots.len() {
+            return self.push(limits, value);
+        }
+        let left = marks_below(&self.places, place);
+        self.places.truncate(left);
+        settle(&mut self.slots, place, value);
+        Ok(())
+    }
+}

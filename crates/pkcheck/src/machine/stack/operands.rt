@@ -1,0 +1,68 @@
+//! What an operation takes.
+ghost use Rattle.pkcheck.specs.Private.Slots.{values_of};
+ghost use Rattle.std.specs.Prelude.{◌≡◌, ◌≢◌, [], ◌∷◌, ◌≤◌, drop, length, MatchOption};
+ghost use Rattle.std.specs.List.{slice_get};
+
+use crate::machine::stack::slots::{Slot, count_objects};
+use crate::machine::value::Value;
+use std::marker::Model;
+
+/// The objects that an operation takes, from the bottom up.
+#[derive(Drop)]
+pub struct Operands<'a> {
+    slots: &'a [Slot],
+}
+
+impl<'a> Model for Operands<'a> {
+    ghost use Rattle.std.specs.Prelude.{List};
+    ghost use Rattle.pkcheck.specs.declared.machine.value.Value.{Value as Object};
+    ghost use Rattle.pkcheck.specs.Private.Slots.{values_of};
+
+    ghost Value = { List Object };
+
+    ghost view = { λ o. values_of o.slots.now };
+}
+
+impl<'a> Operands<'a> {
+    /// The objects among these entries from a place on.
+    pub fn from(slots: &'a [Slot], place: usize) -> Operands<'a>
+        requires { place ≤ length slots.now }
+        ensures { result ≡ values_of (drop place slots.now) }
+    {
+        Operands {
+            slots: &slots[place..],
+        }
+    }
+
+    /// The object with so many before it.
+    pub fn get(&self, index: usize) -> Option<Value>
+        ensures { result ≡ slice_get self.now index }
+    {
+        let mut before: usize = 0;
+        for slot in self.slots {
+            if let Slot::Object(value) = *slot {
+                if before == index {
+                    return Some(value);
+                }
+                before += 1;
+            }
+        }
+        None
+    }
+
+    /// Both of them, where there are two.
+    pub fn pair(&self) -> Option<(Value, Value)>
+        ensures { MatchOption result (length self.now ≢ 2) (λ p. self.now ≡ p.0 ∷ p.1 ∷ []) }
+    {
+        if count_objects(self.slots) != 2 {
+            return None;
+        }
+        let Some(first) = self.get(0) else {
+            return None;
+        };
+        let Some(second) = self.get(1) else {
+            return None;
+        };
+        Some((first, second))
+    }
+}

@@ -1,0 +1,193 @@
+//! The entries that the stack keeps: the last of them is on top.
+ghost use Rattle.pkcheck.specs.Private.Denials.{IsLack};
+ghost use Rattle.pkcheck.specs.Knowledge.{Lacks, reason_of};
+ghost use Rattle.pkcheck.specs.Shape.{Breach, Item, NoMark, NoItem, operands, slice, items, breaks};
+ghost use Rattle.pkcheck.specs.Shape.{marks_of, top};
+ghost use Rattle.pkcheck.specs.Private.Slots.{bars, shown, values_of, FirstObject, StartsWell};
+ghost use Rattle.pkcheck.specs.Private.Slots.{taken_from};
+ghost use Rattle.std.specs.Prelude.{◌≡◌, List, [], ◌∷◌, ◌<◌, ◌≤◌, ◌+◌, length, take, drop, IfOk};
+ghost use Rattle.std.specs.Prelude.{IfErr, IfSome, MatchOption};
+
+use crate::machine::effects::{SliceRule, Takes};
+use crate::machine::value::Value;
+use pkread::Reason;
+
+/// An entry of the stack.
+#[derive(Clone, Copy)]
+pub enum Slot {
+    Mark,
+    Object(Value),
+}
+
+/// What is known of the top.
+pub fn top(slots: &[Slot]) -> Option<Value>
+    ensures { MatchOption result (top (shown slots.now [])
+        ≡ Err NoItem) (λ v. top (shown slots.now []) ≡ Ok (v, drop 1 (shown slots.now []))) }
+{
+    if slots.is_empty() {
+        return None;
+    }
+    match slots[slots.len() - 1] {
+        Slot::Mark => None,
+        Slot::Object(value) => Some(value),
+    }
+}
+
+/// The place of the topmost mark.
+pub fn mark_place(stack: &[Slot], places: &[usize]) -> Option<usize>
+    requires { places.now ≡ bars 0 stack.now }
+    ensures value { MatchOption result (slice (shown stack.now []) []
+        ≡ Err NoMark) (λ n. (n < length stack.now) × (slice (shown stack.now []) []
+        ≡ Ok (taken_from n stack.now))) }
+    ensures count { IfSome result (λ n. length (values_of (drop n stack.now)) + (n + 1)
+        ≡ length stack.now) }
+{
+    match places.last() {
+        Some(place) => Some(*place),
+        None => None,
+    }
+}
+
+/// The place below so many objects, of which none is a mark.
+pub fn objects_place(stack: &[Slot], count: usize) -> Option<usize>
+    ensures well { IfSome result (λ n. StartsWell (Takes.Objects count) (drop n stack.now)) }
+    ensures value { MatchOption result (items count (shown stack.now []) []
+        ≡ Err NoItem) (λ n. (n ≤ length stack.now) × (items count (shown stack.now []) []
+        ≡ Ok (taken_from n stack.now))) }
+{
+    let mut place = stack.len();
+    for _k in 0..count {
+        if place == 0 {
+            return None;
+        }
+        place -= 1;
+        if let Slot::Mark = stack[place] {
+            return None;
+        }
+    }
+    Some(place)
+}
+
+/// How many objects stand there.
+pub fn count_objects(slots: &[Slot]) -> usize
+    ensures { result ≡ length (values_of slots.now) }
+{
+    let mut count: usize = 0;
+    for slot in slots {
+        if let Slot::Object(_) = slot {
+            count += 1;
+        }
+    }
+    count
+}
+
+/// How many of the marks stand below a place.
+pub fn marks_below(places: &[usize], count: usize) -> usize
+    ensures { (ss : List Slot) → places.now ≡ bars 0 ss → take result places.now
+        ≡ bars 0 (take count ss) }
+{
+    let mut left = places.len();
+    while left > 0 {
+        if places[left - 1] < count {
+            return left;
+        }
+        left -= 1;
+    }
+    0
+}
+
+/// Puts an object in the place of all from there on.
+#[tactic(auto, using(crate::proofs::Settled::shown_settled, crate::proofs::Bars::bars_settled))]
+pub fn settle(slots: &mut Vec<Slot>, place: usize, value: Value)
+    requires { place < length slots.old.items }
+    ensures value { shown slots.new.items [] ≡ Item value ∷ shown (take place slots.old.items) [] }
+    ensures marks { bars 0 slots.new.items ≡ bars 0 (take place slots.old.items) }
+    ensures len { length slots.new.items ≡ place + 1 }
+{
+    slots[place] = Slot::Object(value);
+    slots.truncate(place + 1);
+}
+
+/// Whether a slice of so many objects breaks the rule.
+#[tactic(auto, using(crate::proofs::Settled::is_even_length))]
+pub fn rule_fault(rule: SliceRule, count: usize) -> Option<Reason>
+    ensures { (values : List Value) → length values ≡ count → MatchOption result (breaks rule values
+        ≡ None) (λ r. (b : Breach) × (breaks rule values ≡ Some b) × (r ≡ reason_of (Lacks b))) }
+{
+    match rule {
+        SliceRule::AnySlice => None,
+        SliceRule::EvenSlice => {
+            if count % 2 == 0 {
+                None
+            } else {
+                Some(Reason::OddItems)
+            }
+        }
+        SliceRule::FullSlice => {
+            if count == 0 {
+                Some(Reason::MissingItem)
+            } else {
+                None
+            }
+        }
+    }
+}
+
+/// The place of the mark, where what stands above it meets the rule.
+pub fn slice_place(stack: &[Slot], places: &[usize], rule: SliceRule) -> Result<usize, Reason>
+    requires { places.now ≡ bars 0 stack.now }
+    ensures ok { IfOk result (λ n. (n ≤ length stack.now)
+        × (operands (Takes.Slice rule) (shown stack.now []) ≡ Ok (taken_from n stack.now))) }
+    ensures err { IfErr result (λ r. IsLack (operands (Takes.Slice rule) (shown stack.now [])) r) }
+{
+    let Some(place) = mark_place(stack, places) else {
+        return Err(Reason::MissingMark);
+    };
+    match rule_fault(rule, stack.len() - place - 1) {
+        Some(reason) => Err(reason),
+        None => Ok(place),
+    }
+}
+
+/// The place of the object below the mark.
+pub fn receiver_place(stack: &[Slot], places: &[usize], rule: SliceRule) -> Result<usize, Reason>
+    requires { places.now ≡ bars 0 stack.now }
+    ensures well { IfOk result (λ n. FirstObject (drop n stack.now)) }
+    ensures ok { IfOk result (λ n. (n ≤ length stack.now)
+        × (operands (Takes.SliceAndReceiver rule) (shown stack.now [])
+        ≡ Ok (taken_from n stack.now))) }
+    ensures err { IfErr result (λ r. IsLack (operands (Takes.SliceAndReceiver rule)
+        (shown stack.now [])) r) }
+{
+    let Some(place) = mark_place(stack, places) else {
+        return Err(Reason::MissingMark);
+    };
+    if place == 0 {
+        return Err(Reason::MissingItem);
+    }
+    if let Slot::Mark = stack[place - 1] {
+        return Err(Reason::MissingItem);
+    }
+    match rule_fault(rule, stack.len() - place - 1) {
+        Some(reason) => Err(reason),
+        None => Ok(place - 1),
+    }
+}
+
+/// The place from which on the operation takes.
+pub fn place_of(stack: &[Slot], places: &[usize], takes: Takes) -> Result<usize, Reason>
+    requires { places.now ≡ bars 0 stack.now }
+    ensures well { IfOk result (λ n. StartsWell takes (drop n stack.now)) }
+    ensures ok { IfOk result (λ n. (n ≤ length stack.now) × (operands takes (shown stack.now [])
+        ≡ Ok (taken_from n stack.now))) }
+    ensures err { IfErr result (λ r. IsLack (operands takes (shown stack.now [])) r) }
+{
+    match takes {
+        Takes::Objects(count) => match objects_place(stack, count as usize) {
+            Some(place) => Ok(place),
+            None => Err(Reason::MissingItem),
+        },
+        Takes::Slice(rule) => slice_place(stack, places, rule),
+        Takes::SliceAndReceiver(rule) => receiver_place(stack, places, rule),
+    }
+}

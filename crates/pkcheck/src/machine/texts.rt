@@ -1,0 +1,144 @@
+//! The table of texts, which entries and memo cells name by their numbers.
+ghost use Rattle.pkcheck.specs.Runs.{text};
+ghost use Rattle.pkops.specs.Contents.{rule_of};
+ghost use Rattle.pkops.specs.Inst.{instruction_of};
+ghost use Rattle.pkops.specs.declared.contents.Rule.TheVariants as rule;
+ghost use Rattle.std.specs.Prelude.{◌≡◌, [], ◌∷◌, ◌++◌, ◌<◌, ◌≤◌, ◌-◌, length, take, drop, get_or};
+ghost use Rattle.std.specs.Prelude.{true, OnErr, OnOk};
+ghost use Rattle.std.specs.Str.{IsUtf8};
+
+use pkops::{Arg, Inst, Op, text_of};
+use std::alloc::{AllocError, Global};
+use std::marker::Model;
+
+/// The texts that a pickle made, in the order of their making, one behind the other in one buffer.
+/// Equal ones are not joined.
+#[derive(Drop)]
+pub struct Texts {
+    /// Their bytes in UTF-8.
+    bytes: Vec<u8>,
+    /// Where each of them ends.
+    ends: Vec<usize>,
+}
+
+impl Model for Texts {
+    ghost use Rattle.std.specs.Prelude.{ℕ, List};
+    ghost use Rattle.pkcheck.specs.Private.Joined.{AreJoined, cut};
+
+    ghost Value = { List (List ℕ) };
+
+    ghost view = { λ t. cut 0 t.ends.items t.bytes.items };
+
+    ghost invariant = { λ t. AreJoined
+        (cut 0 t.ends.items t.bytes.items) t.ends.items t.bytes.items };
+}
+
+impl Texts {
+    /// A table of no texts. It takes no memory.
+    pub fn new(alloc: Global) -> Texts
+        ensures { result ≡ [] }
+    {
+        Texts {
+            bytes: Vec::new(alloc),
+            ends: Vec::new(alloc),
+        }
+    }
+
+    /// How many texts there are.
+    #[inline]
+    pub fn len(&self) -> usize
+        ensures { result ≡ length self.now }
+    {
+        self.ends.len()
+    }
+
+    /// The text of a number, and the empty text past the last.
+    pub fn get(&self, number: usize) -> &str
+        ensures { result.now ≡ get_or self.now number [] }
+    {
+        if number >= self.ends.len() {
+            return "";
+        }
+        let start = start_of(&self.ends, number);
+        let end = self.ends[number];
+        let Ok(text) = str::from_utf8(piece(&self.bytes, start, end)) else {
+            unreachable!()
+        };
+        text
+    }
+
+    /// Puts a text behind the others.
+    #[inline]
+    fn push(&mut self, text: &[u8]) -> Result<(), AllocError>
+        requires { IsUtf8 text.now }
+        ensures ok { OnOk result (self.new ≡ self.old ++ text.now ∷ []) }
+        ensures err { OnErr result (self.new ≡ self.old) }
+    {
+        let before = self.bytes.len();
+        let Ok(()) = self.bytes.extend_from_slice(text) else {
+            return Err(AllocError);
+        };
+        let Ok(()) = self.ends.push(self.bytes.len()) else {
+            self.bytes.truncate(before);
+            return Err(AllocError);
+        };
+        Ok(())
+    }
+
+    /// Puts the text of an instruction behind the others.
+    #[inline]
+    pub fn add(&mut self, alloc: Global, inst: &Inst<'_>) -> Result<(), AllocError>
+        ensures ok { OnOk result (self.new ≡ self.old ++ text (instruction_of inst.now) ∷ []) }
+        ensures err { OnErr result (self.new ≡ self.old) }
+    {
+        if holds_utf8(inst.op()) {
+            if let Arg::Counted(payload) = inst.arg() {
+                return self.push(payload);
+            }
+        }
+        self.add_decoded(alloc, inst)
+    }
+
+    /// The same, of a text that is spelled with escapes.
+    #[inline(never)]
+    fn add_decoded(&mut self, alloc: Global, inst: &Inst<'_>) -> Result<(), AllocError>
+        ensures ok { OnOk result (self.new ≡ self.old ++ text (instruction_of inst.now) ∷ []) }
+        ensures err { OnErr result (self.new ≡ self.old) }
+    {
+        match text_of(alloc, inst)? {
+            Some(text) => self.push(text.as_bytes()),
+            None => self.push("".as_bytes()),
+        }
+    }
+}
+
+/// Where a text begins: where the one before it ends.
+fn start_of(ends: &[usize], number: usize) -> usize
+    requires { number < length ends.now }
+    ensures first { number ≡ 0 → result ≡ 0 }
+    ensures next { 0 < number → result ≡ get_or ends.now (number - 1) result }
+{
+    if number == 0 { 0 } else { ends[number - 1] }
+}
+
+/// The bytes from one place up to another.
+fn piece(bytes: &[u8], start: usize, end: usize) -> &[u8]
+    requires ordered { start ≤ end }
+    requires within { end ≤ length bytes.now }
+    ensures { result.now ≡ take (end - start) (drop start bytes.now) }
+{
+    &bytes[start..end]
+}
+
+/// Whether the payload of the opcode is a text as it stands.
+#[inline]
+fn holds_utf8(op: Op) -> bool
+    ensures { result ≡ true → rule_of op ≡ rule.Utf8 }
+{
+    match op {
+        Op::ShortBinUnicode => true,
+        Op::BinUnicode => true,
+        Op::BinUnicode8 => true,
+        _ => false,
+    }
+}

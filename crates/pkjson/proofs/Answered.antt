@@ -1,0 +1,86 @@
+-- From the end of a plain run to the answer.
+use Rattle.std.proofs.Common.{◌≡◌, ℕ, true, List, length, refl, sym, ap, ◌∙◌, subst, Result, Ok, Err}
+use Rattle.serde_json.specs.Data.{Data}
+use Rattle.std.specs.Prelude.{IfOk, IfErr}
+use Rattle.serde_json.specs.View.{view}
+use Rattle.serde_json.specs.declared.value.Value.{Value}
+use Rattle.pkops.specs.Limits.{Bounds}
+use Rattle.pkops.specs.Spelling.{Instruction}
+use Rattle.pkcheck.specs.Effects.{effect_of}
+use Rattle.pkcheck.specs.Shape.{Entry, top}
+use Rattle.pkjson.specs.declared.action.Action.TheVariants.{Stops}
+use Rattle.pkjson.specs.declared.arena.Arena.{Arena as Held}
+use Rattle.pkjson.specs.declared.error.ExportError.{ExportError}
+use Rattle.pkjson.specs.declared.error.ExportError.TheVariants.{TooDeep, TooMany, OutOfMemory}
+use Rattle.pkjson.specs.declared.node.Node.{Node}
+use Rattle.pkjson.specs.Acting.{ActsAs}
+use Rattle.pkjson.specs.Arena.{Kept, holds}
+use Rattle.pkjson.specs.Contents.{contents}
+use Rattle.pkjson.specs.Export.{AcceptedAs, Results, IsValueOf, IsRefused}
+use Rattle.pkjson.specs.Held.{seen}
+use Rattle.pkjson.specs.Nodes.{heap}
+use Rattle.pkjson.specs.Plain.{is_plain}
+use Rattle.pkjson.specs.Replayed.{Replays}
+use Rattle.pkjson.specs.Result.{IsValue, IsTooLarge}
+use Rattle.pkjson.specs.Settled.{AreSettled}
+use Rattle.pkjson.specs.Standing.{StandsAt}
+use Rattle.pkjson.proofs.Mirroring.{mirrors_contents}
+use Rattle.pkjson.proofs.Running.{stops_here}
+use Rattle.pkjson.proofs.Settling.{settled_heap, all_given_below}
+use Rattle.pkjson.proofs.Taking.{ok_same, top_below}
+use Rattle.pkjson.proofs.Unfolded.{unfolds_same}
+
+pub replays : (limits : Bounds) (bytes : List ℕ) (p : List Instruction) (rest : List ℕ) (at : ℕ) (a : Held) (i : Instruction) → AcceptedAs limits bytes p → StandsAt limits.counted p rest at (seen a) i → is_plain i.op ≡ true → ActsAs Stops (effect_of i.op) → (x : ℕ) (es : List (Entry ℕ)) → top (seen a).shape.entries ≡ Ok (x, es) → Replays limits bytes a x
+replays limits bytes p rest at a i w h plain acts x es t =
+    let r = stops_here limits.counted p rest at (seen a) i h plain acts in
+    let q : r.0.0 ≡ x = ap (λ z. z.0) (ok_same r.0 (x, es) (sym r.1 ∙ t)) in
+    record {
+      events = h.state.events;
+      results = subst (λ z. Results limits bytes z h.state.events) q (record { instructions = p; accepted = w; plain = r.3; state = _; run = r.2; seen = refl });
+      holds = mirrors_contents (seen a).kept h.state.events h.mirrors.objects;
+      within = top_below (length (seen a).kept) (seen a).shape.entries (x, es) h.mirrors.held.entries t;
+      closed = all_given_below (length (seen a).kept) (seen a).kept h.mirrors.closed;
+    }
+
+module _ (limits : Bounds) (bytes : List ℕ) (a : Held) (x : ℕ) (r : Replays limits bytes a x) where
+  pub is_value_of : (v : Data) → IsValue (holds (seen a).kept) limits.depth limits.values x v → IsValueOf limits bytes v
+  is_value_of v h = record { object = x; events = r.events; results = r.results; unfolds = unfolds_same (holds (seen a).kept) (contents r.events) r.holds x v h.0; shallow = h.1; few = h.2 }
+
+  pub is_refused : (e : ExportError) → IsTooLarge (holds (seen a).kept) limits.depth limits.values x e → IsRefused limits bytes e
+  is_refused TooDeep h = record { object = x; events = r.events; results = r.results; deep = λ v u. h v (unfolds_same (contents r.events) (holds (seen a).kept) (λ n. sym (r.holds n)) x v u) }
+  is_refused TooMany h = record { object = x; events = r.events; results = r.results; value = h.0; unfolds = unfolds_same (holds (seen a).kept) (contents r.events) r.holds x h.0 h.1; shallow = h.2; many = h.3 }
+  is_refused OutOfMemory h = tt
+  is_refused e h = absurd h
+
+-- the nodes say the same
+module _ (ks : List Kept) (ns : List Node) (s : AreSettled ks ks ns) (deepest most x : ℕ) where
+  pub is_value : (v : Data) → IsValue (heap ns) deepest most x v → IsValue (holds ks) deepest most x v
+  is_value v h = (unfolds_same (heap ns) (holds ks) (settled_heap ks ns s) x v h.0, h.1, h.2)
+
+  pub is_too_large : (e : ExportError) → IsTooLarge (heap ns) deepest most x e → IsTooLarge (holds ks) deepest most x e
+  is_too_large TooDeep h = λ v u. h v (unfolds_same (holds ks) (heap ns) (λ n. sym (settled_heap ks ns s n)) x v u)
+  is_too_large TooMany h = (h.0, unfolds_same (heap ns) (holds ks) (settled_heap ks ns s) x h.0 h.1, h.2, h.3)
+  is_too_large OutOfMemory h = tt
+  is_too_large e h = absurd h
+
+value_in : (ks : List Kept) (ns : List Node) → AreSettled ks ks ns → (deepest most x : ℕ) (r : Result Value ExportError) → IfOk r (λ w. IsValue (heap ns) deepest most x (view w)) → IfOk r (λ w. IsValue (holds ks) deepest most x (view w))
+value_in ks ns s deepest most x (Ok w) h = is_value ks ns s deepest most x (view w) h
+value_in ks ns s deepest most x (Err e) h = h
+
+refusal_in : (ks : List Kept) (ns : List Node) → AreSettled ks ks ns → (deepest most x : ℕ) (r : Result Value ExportError) → IfErr r (IsTooLarge (heap ns) deepest most x) → IfErr r (IsTooLarge (holds ks) deepest most x)
+refusal_in ks ns s deepest most x (Ok w) h = h
+refusal_in ks ns s deepest most x (Err e) h = is_too_large ks ns s deepest most x e h
+
+pub value_held : (ks : List Kept) (ns : List Node) → AreSettled ks ks ns → (d m deepest most x : ℕ) → d ≡ deepest → m ≡ most → (r : Result Value ExportError) → IfOk r (λ w. IsValue (heap ns) d m x (view w)) → IfOk r (λ w. IsValue (holds ks) deepest most x (view w))
+value_held ks ns s d m deepest most x e f r h = subst (λ k. IfOk r (λ w. IsValue (holds ks) deepest k x (view w))) f (subst (λ k. IfOk r (λ w. IsValue (holds ks) k m x (view w))) e (value_in ks ns s d m x r h))
+
+pub refusal_held : (ks : List Kept) (ns : List Node) → AreSettled ks ks ns → (d m deepest most x : ℕ) → d ≡ deepest → m ≡ most → (r : Result Value ExportError) → IfErr r (IsTooLarge (heap ns) d m x) → IfErr r (IsTooLarge (holds ks) deepest most x)
+refusal_held ks ns s d m deepest most x e f r h = subst (λ k. IfErr r (IsTooLarge (holds ks) deepest k x)) f (subst (λ k. IfErr r (IsTooLarge (holds ks) k m x)) e (refusal_in ks ns s d m x r h))
+
+pub value_answered : (limits : Bounds) (bytes : List ℕ) (a : Held) (x : ℕ) → Replays limits bytes a x → (r : Result Value ExportError) → IfOk r (λ w. IsValue (holds (seen a).kept) limits.depth limits.values x (view w)) → IfOk r (λ w. IsValueOf limits bytes (view w))
+value_answered limits bytes a x p (Ok w) h = is_value_of limits bytes a x p (view w) h
+value_answered limits bytes a x p (Err e) h = h
+
+pub refusal_answered : (limits : Bounds) (bytes : List ℕ) (a : Held) (x : ℕ) → Replays limits bytes a x → (r : Result Value ExportError) → IfErr r (IsTooLarge (holds (seen a).kept) limits.depth limits.values x) → IfErr r (IsRefused limits bytes)
+refusal_answered limits bytes a x p (Ok w) h = h
+refusal_answered limits bytes a x p (Err e) h = is_refused limits bytes a x p e h

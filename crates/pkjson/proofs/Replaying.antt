@@ -1,0 +1,100 @@
+-- From an accepted pickle to the end of its plain run.
+use Rattle.std.proofs.Common.{◌≡◌, inl, inr, ℕ, List, [], ◌∷◌, ◌++◌, length, take, drop, replicate, refl, sym, ap, ◌∙◌, subst, arith, Option, Some, None, length-append}
+use Rattle.std.proofs.Math.Seq.{take-append_seam, drop-append_seam}
+use Rattle.std.specs.Io.KnownBytes.{Consumes}
+use Rattle.pkops.specs.declared.op.Op.TheVariants as op
+use Rattle.pkops.specs.Limits.{Bounds}
+use Rattle.pkops.specs.Spelling.{Instruction, spelling}
+use Rattle.pkops.specs.Answer.{Answer, Whole, More, Bad, Answers}
+use Rattle.pkops.specs.declared.fault.Fault.{Fault}
+use Rattle.pkread.specs.Rows.{Sight}
+use Rattle.pkread.specs.declared.refusal.Reason.{Reason}
+use Rattle.pkcheck.specs.Knowledge.{Asked}
+use Rattle.pkcheck.specs.Refused.{Refused}
+use Rattle.pkjson.specs.declared.error.ExportError.{ExportError}
+use Rattle.pkread.specs.Admission.{IsAllowed}
+use Rattle.pkread.specs.Sequence.{IsSequence, spellings}
+use Rattle.pkcheck.specs.Runs.{Outcome, start}
+use Rattle.pkcheck.specs.WholeRuns.{EndsWell, run}
+use Rattle.pkcheck.specs.Listing.{permitted_by}
+use Rattle.pkcheck.specs.Accepted.{Accepted}
+use Rattle.pkjson.specs.Plain.{goes_on}
+use Rattle.pkjson.specs.Arena.{no_object}
+use Rattle.pkjson.specs.Mirrors.{MirrorsState}
+use Rattle.pkjson.specs.Export.{AcceptedAs, IsAccepted, IsRefused, in_memory}
+use Rattle.pkjson.specs.Result.{TellsRefusal}
+use Rattle.pkjson.specs.Standing.{HasStop, Stands}
+use Rattle.pkjson.proofs.Running.{run_is}
+
+has_stop : (front : List Instruction) (last : Instruction) → last.op ≡ op.Stop → HasStop (front ++ last ∷ [])
+has_stop [] last e = inl e
+has_stop (i ∷ is) last e = inr (has_stop is last e)
+
+consumed : (xs bs : List ℕ) (o : Option (List ℕ)) → Consumes (Some xs) o bs → (ys : List ℕ) × (xs ≡ bs ++ ys)
+consumed xs bs None h = absurd h
+consumed xs bs (Some ys) h = (ys, h)
+
+nothing_yet : MirrorsState no_object start
+nothing_yet = record {
+  shape = refl;
+  held = record { entries = tt; memo = tt };
+  closed = tt;
+  numbers = refl;
+  texts = λ n. refl;
+  objects = record { kinds = λ n. refl; given = λ n. refl };
+}
+
+pub stands_first : (limits : Bounds) (bytes : List ℕ) (p : List Instruction) → AcceptedAs limits bytes p → Stands limits.counted p bytes 0 no_object
+stands_first limits bytes p h = subst (λ q. Stands limits.counted q bytes 0 no_object) h.is (by_accepted h.accepted.instructions h.accepted.sequence (consumed bytes (spellings h.accepted.instructions) h.new.left h.accepted.bytes.bytes) h.accepted.sound)
+  where
+    by_accepted : (q : List Instruction) → IsSequence limits.counted q → (ys : List ℕ) × (bytes ≡ spellings q ++ ys) → ((os : List Outcome) → EndsWell (permitted_by None) (run q os start)) → Stands limits.counted q bytes 0 no_object
+    by_accepted q s c w = record {
+      after = q;
+      tail = c.0;
+      spelled = c.1;
+      allowed = s.each;
+      stops = subst HasStop (sym s.stops.2) (has_stop s.stops.0 s.stops.1 s.stops.3);
+      state = start;
+      listed = permitted_by None;
+      well = subst (EndsWell (permitted_by None)) (run_is q (length q) (omega arith) start) (w (replicate (length q) goes_on));
+      run = refl;
+      fault = refl;
+      mirrors = nothing_yet;
+    }
+
+-- what a scan must answer where an instruction stands
+pub front_answers : (limit : ℕ) (bytes more : List ℕ) (i : Instruction) → bytes ≡ spelling i ++ more → IsAllowed limit i → Answers limit bytes (Whole i (length (spelling i)))
+front_answers limit bytes more i e h = record {
+  fits = rw e (omega (arith, length-append (spelling i) more));
+  spells = record { spelled = ap (take (length (spelling i))) e ∙ take-append_seam (spelling i) more; good = h.good };
+  within = h.within;
+}
+
+pub rest_is : (bytes more : List ℕ) (i : Instruction) (n : ℕ) → bytes ≡ spelling i ++ more → n ≡ length (spelling i) → drop n bytes ≡ more
+rest_is bytes more i n e f = rw (f, e) (drop-append_seam (spelling i) more)
+
+abbrev instruction_in : Instruction → Answer → Instruction
+instruction_in d (Whole i n) = i
+instruction_in d a = d
+
+abbrev length_in : ℕ → Answer → ℕ
+length_in d (Whole i n) = n
+length_in d a = d
+
+pub whole_same : (i j : Instruction) (n m : ℕ) → Whole i n ≡ Whole j m → (j ≡ i) × (m ≡ n)
+whole_same i j n m e = (sym (ap (instruction_in i) e), sym (ap (length_in n) e))
+
+pub whole_more : (i : Instruction) (n : ℕ) → Whole i n ≡ More → ⊥
+whole_more i n e = cc
+
+pub whole_bad : (i : Instruction) (n : ℕ) (f : Fault) → Whole i n ≡ Bad f → ⊥
+whole_bad i n f e = cc
+
+-- what `check` accepts
+pub accepted_as : (limits : Bounds) (bytes : List ℕ) (old new : Sight) (taken : ℕ) (imports : List Asked) → old ≡ in_memory bytes → Accepted None limits old new taken imports → IsAccepted limits bytes
+accepted_as limits bytes old new taken imports e a = subst (λ s. Accepted None limits s new taken imports → IsAccepted limits bytes) (sym e) (λ b. (b.instructions, record { new = new; taken = taken; imports = imports; accepted = b; is = refl })) a
+
+-- and what it refuses
+pub refused_as : (limits : Bounds) (bytes : List ℕ) (old new : Sight) (at : ℕ) (why : Reason) (pair : Option Asked) (e : ExportError) → old ≡ in_memory bytes → Refused None limits old new at why pair → TellsRefusal at why e → IsRefused limits bytes e
+refused_as limits bytes old new at why pair e s r (inl q) = rw q tt
+refused_as limits bytes old new at why pair e s r (inr q) = rw q.1 ((new, pair, subst (λ o. Refused None limits o new at why pair) s r), q.0)

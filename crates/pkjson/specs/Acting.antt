@@ -1,0 +1,157 @@
+-- What a plain instruction does to the objects.
+use Rattle.std.specs.Prelude.{◌≡◌, ℕ, suc, Bool, true, cond, List, [], ◌∷◌, ◌++◌, length, Option, Some, None, Result, Ok, Err}
+use Rattle.serde_json.specs.Data.{string, null, boolean, number}
+use Rattle.serde_json.specs.Find.{of_integer}
+use Rattle.pkops.specs.Spelling.{Instruction}
+use Rattle.pkops.specs.Operands.{names_bool, memo_number}
+use Rattle.pkcheck.specs.declared.machine.effects.Class.TheVariants as class
+use Rattle.pkcheck.specs.declared.machine.effects.Effect.{Effect}
+use Rattle.pkcheck.specs.declared.machine.effects.Effect.TheVariants as effect
+use Rattle.pkcheck.specs.declared.machine.effects.Gives.{Gives}
+use Rattle.pkcheck.specs.declared.machine.effects.Gives.TheVariants as gives
+use Rattle.pkcheck.specs.declared.machine.effects.Move.{Move as MoveOf}
+use Rattle.pkcheck.specs.declared.machine.effects.Move.TheVariants as moves
+use Rattle.pkcheck.specs.declared.machine.effects.Names.TheVariants.{NoName}
+use Rattle.pkcheck.specs.declared.machine.effects.Takes.{Takes as TakesOf}
+use Rattle.pkcheck.specs.declared.machine.effects.Takes.TheVariants as takes
+use Rattle.pkcheck.specs.declared.machine.effects.Wanted.TheVariants.{WantsList, WantsDict}
+use Rattle.pkcheck.specs.Shape.{Breach, Entry, Item, Taken, and_then, items, slice, front, moved}
+use Rattle.pkcheck.specs.Runs.{text}
+use Rattle.pkjson.specs.declared.action.Action.{Action}
+use Rattle.pkjson.specs.declared.action.Action.TheVariants.{Makes, Fills, Moves, Stops}
+use Rattle.pkjson.specs.declared.action.Filled.{Filled}
+use Rattle.pkjson.specs.declared.action.Filled.TheVariants as filled
+use Rattle.pkjson.specs.declared.action.Made.{Made}
+use Rattle.pkjson.specs.declared.action.Made.TheVariants as made
+use Rattle.pkjson.specs.declared.action.Move.{Move}
+use Rattle.pkjson.specs.declared.action.Move.TheVariants as move
+use Rattle.pkjson.specs.declared.action.Takes.{Takes}
+use Rattle.pkjson.specs.declared.action.Takes.TheVariants.{Objects, Slice}
+use Rattle.pkjson.specs.Integers.{integer_named, fits_word}
+use Rattle.pkjson.specs.Contents.{Kind, OfItems, OfPairs, OfValue, int_value}
+use Rattle.pkjson.specs.Plain.{Fault, OtherKey, LargeNumber, every_other, taken}
+use Rattle.pkjson.specs.Arena.{Arena, received, are_text_kinds}
+
+-- what is taken, whatever the rule for a slice is
+abbrev pub found : Takes → List (Entry ℕ) → Result (Taken ℕ) Breach
+found (Objects k) es = items k es []
+found Slice es = slice es []
+
+-- the same, and the object below it
+abbrev pub found_above : Takes → List (Entry ℕ) → Result (Taken ℕ) Breach
+found_above t es = and_then (found t es) (λ t. items 1 t.below t.operands)
+
+-- a new object in the place of what was taken
+abbrev pub made_of : Kind → Taken ℕ → Arena → Arena
+made_of kind t a = record {
+  shape = record { entries = Item (length a.kept) ∷ t.below; memo = a.shape.memo };
+  kept = a.kept ++ record { kind = kind; given = t.operands } ∷ [];
+}
+
+-- the first of what was taken stays, and receives the others
+abbrev pub filled_of : Taken ℕ → Arena → Arena
+filled_of t a = record {
+  shape = record { entries = front t.operands ++ t.below; memo = a.shape.memo };
+  kept = received t.operands a.kept;
+}
+
+-- the kind of what is made
+abbrev pub kind_made : Made → Instruction → Kind
+kind_made made.Items i = OfItems
+kind_made made.NoPairs i = OfPairs
+kind_made made.Pairs i = OfPairs
+kind_made made.Null i = OfValue null
+kind_made (made.Truth b) i = OfValue (boolean b)
+kind_made made.Text i = OfValue (string (text i))
+kind_made made.IntOrTruth i = OfValue (int_value i)
+kind_made made.Int i = OfValue (number (of_integer (integer_named i.arg)))
+
+-- the machine's move
+abbrev pub move_of : Move → MoveOf
+move_of move.PushesMark = moves.PushesMark
+move_of move.Pops = moves.Pops
+move_of move.PopsMark = moves.PopsMark
+move_of move.Duplicates = moves.Duplicates
+move_of move.Stores = moves.Stores
+move_of move.StoresNext = moves.StoresNext
+move_of move.Fetches = moves.Fetches
+move_of move.Passes = moves.Passes
+
+-- what a plain instruction does
+abbrev pub acted : Action → Instruction → Arena → Result Arena Breach
+acted (Makes t m) i a = and_then (found t a.shape.entries) (λ u. Ok (made_of (kind_made m i) u a))
+acted (Fills t f) i a = and_then (found_above t a.shape.entries) (λ u. Ok (filled_of u a))
+acted (Moves m) i a = and_then (moved (move_of m) (memo_number i) a.shape) (λ h. Ok (record { shape = h; kept = a.kept }))
+acted Stops i a = Ok a
+
+-- the keys that it sets
+abbrev pub keys_acted : Action → List (Entry ℕ) → List ℕ
+keys_acted (Makes t made.Pairs) es = every_other true (taken (found t es))
+keys_acted (Fills t filled.Pairs) es = every_other true (taken (found t es))
+keys_acted a es = []
+
+-- the integer that is made, if one is, is within 64 bits
+abbrev pub number_made : Made → Instruction → Bool
+number_made made.Int i = fits_word (integer_named i.arg)
+number_made made.IntOrTruth i = cond (names_bool i) true (fits_word (integer_named i.arg))
+number_made m i = true
+
+-- the same of an action
+abbrev pub number_acted : Action → Instruction → Bool
+number_acted (Makes t m) i = number_made m i
+number_acted a i = true
+
+-- what of it is no part of plain data
+abbrev pub fault_acted : Action → Instruction → Arena → Option Fault
+fault_acted action i a =
+    cond (are_text_kinds a.kept (keys_acted action a.shape.entries))
+    (cond (number_acted action i) None (Some LargeNumber))
+    (Some OtherKey)
+
+-- both take the same
+abbrev pub TakesSame : Takes → TakesOf → Type 0
+TakesSame (Objects k) (takes.Objects n) = n ≡ k
+TakesSame Slice (takes.Slice rule) = Unit {0}
+TakesSame t u = ⊥
+
+-- the other takes the receiver too
+abbrev pub TakesAbove : Takes → TakesOf → Type 0
+TakesAbove (Objects k) (takes.Objects n) = n ≡ suc k
+TakesAbove Slice (takes.SliceAndReceiver rule) = Unit {0}
+TakesAbove t u = ⊥
+
+-- both make the same
+abbrev pub MakesSame : Made → Gives → Type 0
+MakesSame made.Items (gives.Makes class.List) = Unit {0}
+MakesSame made.Items (gives.Makes class.Tuple) = Unit {0}
+MakesSame made.NoPairs (gives.Makes class.Dict) = Unit {0}
+MakesSame made.Pairs (gives.MayMake class.Dict) = Unit {0}
+MakesSame made.Null (gives.Makes class.None) = Unit {0}
+MakesSame (made.Truth b) (gives.Makes class.Bool) = Unit {0}
+MakesSame made.Text gives.MakesText = Unit {0}
+MakesSame made.IntOrTruth gives.MakesIntOrBool = Unit {0}
+MakesSame made.Int (gives.Makes class.Int) = Unit {0}
+MakesSame m g = ⊥
+
+-- both fill the same
+abbrev pub FillsSame : Filled → Gives → Type 0
+FillsSame filled.Items (gives.Leaves WantsList) = Unit {0}
+FillsSame filled.Pairs (gives.Leaves WantsDict) = Unit {0}
+FillsSame f g = ⊥
+
+-- the action is what the machine does
+abbrev pub ActsAs : Action → Effect → Type 0
+ActsAs (Makes t m) (effect.Operates u NoName g) = TakesSame t u × MakesSame m g
+ActsAs (Fills t f) (effect.Operates u NoName g) = TakesAbove t u × FillsSame f g
+ActsAs (Moves m) (effect.Moves p) = move_of m ≡ p
+ActsAs Stops effect.Stops = Unit {0}
+ActsAs a e = ⊥
+
+-- what it makes is of this kind, if it makes anything
+abbrev pub KindsAgree : Action → Instruction → Kind → Type 0
+KindsAgree (Makes t m) i kind = kind ≡ kind_made m i
+KindsAgree a i kind = Unit {0}
+
+-- for want of something it can't be done
+abbrev pub IsLacking : {A : Type 0} → Result A Breach → Type 0
+IsLacking x = (b : Breach) × (x ≡ Err b)

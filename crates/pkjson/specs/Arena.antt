@@ -1,0 +1,62 @@
+-- The objects of a plain run, each with its kind and with what it was given.
+use Rattle.std.specs.Prelude.{ℕ, zero, suc, Bool, true, false, cond, List, [], ◌∷◌, ◌++◌, Option, Some, None, option_map, slice_get}
+use Rattle.serde_json.specs.Data.{string}
+use Rattle.pkcheck.specs.Shape.{Shape}
+use Rattle.pkjson.specs.Unfolds.{Heap}
+use Rattle.pkjson.specs.Contents.{Kind, OfValue, held_by}
+
+-- an object: its kind, and what it was given so far
+pub record Kept : Type 0 where
+  pub kind : Kind
+  pub given : List ℕ
+
+-- the stack and the memo of numbers of objects, and the objects by their numbers
+pub record Arena : Type 0 where
+  pub shape : Shape ℕ
+  pub kept : List Kept
+
+-- at first nothing is there
+abbrev pub no_object : Arena
+no_object = record { shape = record { entries = []; memo = [] }; kept = [] }
+
+-- the kind of an object
+abbrev pub kind_at : List Kept → ℕ → Option Kind
+kind_at ks n = option_map (λ k. k.kind) (slice_get ks n)
+
+-- what one was given
+abbrev pub given_in : Option Kept → List ℕ
+given_in (Some k) = k.given
+given_in None = []
+
+-- what the object of a number was given
+abbrev pub given_at : List Kept → ℕ → List ℕ
+given_at ks n = given_in (slice_get ks n)
+
+-- what each object holds
+abbrev pub holds : List Kept → Heap
+holds ks n = option_map (held_by (kind_at ks) (given_at ks n)) (kind_at ks n)
+
+-- one is given more
+abbrev pub more_given : List ℕ → Kept → Kept
+more_given xs k = record { kind = k.kind; given = k.given ++ xs }
+
+-- the list, with f of what stands at a place
+abbrev pub update : {A : Type 0} → List A → ℕ → (A → A) → List A
+update [] n f = []
+update (x ∷ xs) zero f = f x ∷ xs
+update (x ∷ xs) (suc n) f = x ∷ update xs n f
+
+-- the first of them receives the others
+abbrev pub received : List ℕ → List Kept → List Kept
+received [] ks = ks
+received (r ∷ xs) ks = update ks r (more_given xs)
+
+-- a text
+abbrev pub is_text_kind : Option Kind → Bool
+is_text_kind (Some (OfValue (string t))) = true
+is_text_kind k = false
+
+-- all of these are texts
+abbrev pub are_text_kinds : List Kept → List ℕ → Bool
+are_text_kinds ks [] = true
+are_text_kinds ks (n ∷ ns) = cond (is_text_kind (kind_at ks n)) (are_text_kinds ks ns) false

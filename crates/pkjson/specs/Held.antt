@@ -1,0 +1,8 @@
+-- What the fields of the arena say.
+use Rattle.pkjson.specs.declared.arena.Arena.{Arena as Held}
+use Rattle.pkjson.specs.Arena.{Arena}
+use Rattle.pkjson.specs.Seen.{shape_seen, kept_all}
+
+-- the stack, the memo and the objects
+abbrev pub seen : Held → Arena
+seen a = record { shape = shape_seen a.stack.items a.memo.entries; kept = kept_all a.objects.items }

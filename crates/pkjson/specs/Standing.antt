@@ -1,0 +1,53 @@
+-- How far a plain pickle was followed.
+use Rattle.std.specs.Prelude.{◌≡◌, ◌⊎◌, ℕ, Bool, List, [], ◌∷◌, ◌++◌, length, All, Option, Some, None}
+use Rattle.pkops.specs.declared.inst.Inst.{Inst}
+use Rattle.pkops.specs.declared.op.Op.TheVariants as op
+use Rattle.pkops.specs.Inst.{instruction_of}
+use Rattle.pkops.specs.Spelling.{Instruction, spelling}
+use Rattle.pkread.specs.Admission.{IsAllowed}
+use Rattle.pkread.specs.Sequence.{spellings}
+use Rattle.pkcheck.specs.Runs.{State, start}
+use Rattle.pkcheck.specs.WholeRuns.{EndsWell}
+use Rattle.pkjson.specs.Plain.{plain_run, first_fault}
+use Rattle.pkjson.specs.Arena.{Arena}
+use Rattle.pkjson.specs.Mirrors.{MirrorsState}
+
+-- some instruction is STOP
+abbrev pub HasStop : List Instruction → Type 0
+HasStop [] = ⊥
+HasStop (i ∷ is) = (i.op ≡ op.Stop) ⊎ HasStop is
+
+-- the front of the bytes, where an instruction stands there: that one, and how many bytes spell it
+abbrev pub IsFront : ℕ → List ℕ → Option (Inst × ℕ) → Type 0
+IsFront limit bytes None = (i : Instruction) (more : List ℕ) → bytes ≡ spelling i ++ more → IsAllowed limit i → ⊥
+IsFront limit bytes (Some p) = (i : Instruction) (more : List ℕ) → bytes ≡ spelling i ++ more → IsAllowed limit i → (instruction_of p.0 ≡ i) × (p.1 ≡ length (spelling i))
+
+-- the pickle p was followed up to the bytes `rest`, which stand at this offset; so far its objects are these, and
+-- nothing is amiss
+pub record Stands (limit : ℕ) (p : List Instruction) (rest : List ℕ) (at : ℕ) (a : Arena) : Type 0 where
+  pub after : List Instruction
+  pub tail : List ℕ
+  pub spelled : rest ≡ spellings after ++ tail
+  pub allowed : All (IsAllowed limit) after
+  pub stops : HasStop after
+  pub state : State
+  pub listed : List ℕ → List ℕ → Bool
+  pub well : EndsWell listed (plain_run after state)
+  pub run : plain_run p start ≡ plain_run after state
+  pub fault : first_fault 0 p start ≡ first_fault at after state
+  pub mirrors : MirrorsState a state
+
+-- the same, with the next instruction
+pub record StandsAt (limit : ℕ) (p : List Instruction) (rest : List ℕ) (at : ℕ) (a : Arena) (i : Instruction) : Type 0 where
+  pub after : List Instruction
+  pub tail : List ℕ
+  pub spelled : rest ≡ spelling i ++ (spellings after ++ tail)
+  pub here : IsAllowed limit i
+  pub allowed : All (IsAllowed limit) after
+  pub stops : (i.op ≡ op.Stop) ⊎ HasStop after
+  pub state : State
+  pub listed : List ℕ → List ℕ → Bool
+  pub well : EndsWell listed (plain_run (i ∷ after) state)
+  pub run : plain_run p start ≡ plain_run (i ∷ after) state
+  pub fault : first_fault 0 p start ≡ first_fault at (i ∷ after) state
+  pub mirrors : MirrorsState a state

@@ -1,0 +1,53 @@
+-- What an object unfolds to.
+use Rattle.std.specs.Prelude.{◌≡◌, ℕ, suc, ◌+◌, List, [], ◌∷◌, Option, Some}
+use Rattle.serde_json.specs.Data.{Data, null, boolean, number, string, array, object, Items, no_items, item, Members, no_members, member}
+
+-- what an object holds at the end
+pub data Content : Type 0 where
+  Scalar : Data → Content
+  Sequence : List ℕ → Content
+  Pairs : List (List ℕ × ℕ) → Content
+
+-- of each object's number
+abbrev pub Heap : Type 0
+Heap = ℕ → Option Content
+
+-- a value is finite, so what reaches itself unfolds to none
+abbrev mutual
+  pub Unfolds : Heap → ℕ → Data → Type 0
+  Unfolds h x (array vs) = (xs : List ℕ) × (h x ≡ Some (Sequence xs)) × UnfoldItems h xs vs
+  Unfolds h x (object ms) = (ps : List (List ℕ × ℕ)) × (h x ≡ Some (Pairs ps)) × UnfoldMembers h ps ms
+  Unfolds h x null = h x ≡ Some (Scalar null)
+  Unfolds h x (boolean b) = h x ≡ Some (Scalar (boolean b))
+  Unfolds h x (number n) = h x ≡ Some (Scalar (number n))
+  Unfolds h x (string t) = h x ≡ Some (Scalar (string t))
+
+  pub UnfoldItems : Heap → List ℕ → Items → Type 0
+  UnfoldItems h [] no_items = Unit {0}
+  UnfoldItems h (x ∷ xs) (item v vs) = Unfolds h x v × UnfoldItems h xs vs
+  UnfoldItems h [] (item v vs) = ⊥
+  UnfoldItems h (x ∷ xs) no_items = ⊥
+
+  pub UnfoldMembers : Heap → List (List ℕ × ℕ) → Members → Type 0
+  UnfoldMembers h [] no_members = Unit {0}
+  UnfoldMembers h (p ∷ ps) (member k v ms) = (p.0 ≡ k) × Unfolds h p.1 v × UnfoldMembers h ps ms
+  UnfoldMembers h [] (member k v ms) = ⊥
+  UnfoldMembers h (p ∷ ps) no_members = ⊥
+
+-- how many values it is, keys not counted
+abbrev mutual
+  pub count : Data → ℕ
+  count (array vs) = suc (items_count vs)
+  count (object ms) = suc (members_count ms)
+  count null = 1
+  count (boolean b) = 1
+  count (number n) = 1
+  count (string t) = 1
+
+  pub items_count : Items → ℕ
+  items_count no_items = 0
+  items_count (item v vs) = count v + items_count vs
+
+  pub members_count : Members → ℕ
+  members_count no_members = 0
+  members_count (member k v ms) = count v + members_count ms

@@ -1,0 +1,116 @@
+//! What each plain opcode does to the objects.
+
+ghost use Rattle.std.specs.Prelude.{◌≡◌, IfSome, is_some};
+ghost use Rattle.pkops.specs.Spelling.{Argument, instruction};
+ghost use Rattle.pkcheck.specs.Effects.{effect_of};
+ghost use Rattle.pkjson.specs.Contents.{kind_of};
+ghost use Rattle.pkjson.specs.Plain.{is_plain};
+ghost use Rattle.pkjson.specs.Acting.{ActsAs, KindsAgree};
+
+use pkops::Op;
+
+/// What is taken from the stack: so many objects, or all above the topmost mark and the mark.
+#[derive(Clone, Copy)]
+pub enum Takes {
+    Objects(u8),
+    Slice,
+}
+
+/// What is made of it.
+#[derive(Clone, Copy)]
+pub enum Made {
+    /// A list or a tuple.
+    Items,
+    /// A dict of nothing.
+    NoPairs,
+    /// A dict of keys and values in turn.
+    Pairs,
+    Null,
+    Truth(bool),
+    Int,
+    /// What a line of INT says: a truth value or an integer.
+    IntOrTruth,
+    Text,
+}
+
+/// What receives it: the object below it, a list or a dict.
+#[derive(Clone, Copy)]
+pub enum Filled {
+    Items,
+    Pairs,
+}
+
+/// What looks at no object.
+#[derive(Clone, Copy)]
+pub enum Move {
+    PushesMark,
+    Pops,
+    PopsMark,
+    Duplicates,
+    Stores,
+    StoresNext,
+    Fetches,
+    Passes,
+}
+
+/// What an instruction does.
+#[derive(Clone, Copy)]
+pub enum Action {
+    Makes(Takes, Made),
+    Fills(Takes, Filled),
+    Moves(Move),
+    Stops,
+}
+
+/// What a plain opcode does, and `None` for all others.
+pub fn action_of(op: Op) -> Option<Action>
+    ensures plain { is_some result ≡ is_plain op }
+    ensures acts { IfSome result (λ action. ActsAs action (effect_of op)) }
+    ensures kinds { (arg : Argument) → IfSome result (λ action.
+        KindsAgree action (instruction op arg) (kind_of (instruction op arg))) }
+{
+    match op {
+        Op::None => Some(Action::Makes(Takes::Objects(0), Made::Null)),
+        Op::NewTrue => Some(Action::Makes(Takes::Objects(0), Made::Truth(true))),
+        Op::NewFalse => Some(Action::Makes(Takes::Objects(0), Made::Truth(false))),
+        Op::Int => Some(Action::Makes(Takes::Objects(0), Made::IntOrTruth)),
+        Op::Long => Some(Action::Makes(Takes::Objects(0), Made::Int)),
+        Op::BinInt => Some(Action::Makes(Takes::Objects(0), Made::Int)),
+        Op::BinInt1 => Some(Action::Makes(Takes::Objects(0), Made::Int)),
+        Op::BinInt2 => Some(Action::Makes(Takes::Objects(0), Made::Int)),
+        Op::Long1 => Some(Action::Makes(Takes::Objects(0), Made::Int)),
+        Op::Long4 => Some(Action::Makes(Takes::Objects(0), Made::Int)),
+        Op::Unicode => Some(Action::Makes(Takes::Objects(0), Made::Text)),
+        Op::ShortBinUnicode => Some(Action::Makes(Takes::Objects(0), Made::Text)),
+        Op::BinUnicode => Some(Action::Makes(Takes::Objects(0), Made::Text)),
+        Op::BinUnicode8 => Some(Action::Makes(Takes::Objects(0), Made::Text)),
+        Op::EmptyList => Some(Action::Makes(Takes::Objects(0), Made::Items)),
+        Op::EmptyTuple => Some(Action::Makes(Takes::Objects(0), Made::Items)),
+        Op::Tuple1 => Some(Action::Makes(Takes::Objects(1), Made::Items)),
+        Op::Tuple2 => Some(Action::Makes(Takes::Objects(2), Made::Items)),
+        Op::Tuple3 => Some(Action::Makes(Takes::Objects(3), Made::Items)),
+        Op::List => Some(Action::Makes(Takes::Slice, Made::Items)),
+        Op::Tuple => Some(Action::Makes(Takes::Slice, Made::Items)),
+        Op::EmptyDict => Some(Action::Makes(Takes::Objects(0), Made::NoPairs)),
+        Op::Dict => Some(Action::Makes(Takes::Slice, Made::Pairs)),
+        Op::Append => Some(Action::Fills(Takes::Objects(1), Filled::Items)),
+        Op::Appends => Some(Action::Fills(Takes::Slice, Filled::Items)),
+        Op::SetItem => Some(Action::Fills(Takes::Objects(2), Filled::Pairs)),
+        Op::SetItems => Some(Action::Fills(Takes::Slice, Filled::Pairs)),
+        Op::Mark => Some(Action::Moves(Move::PushesMark)),
+        Op::Pop => Some(Action::Moves(Move::Pops)),
+        Op::PopMark => Some(Action::Moves(Move::PopsMark)),
+        Op::Dup => Some(Action::Moves(Move::Duplicates)),
+        Op::Put => Some(Action::Moves(Move::Stores)),
+        Op::BinPut => Some(Action::Moves(Move::Stores)),
+        Op::LongBinPut => Some(Action::Moves(Move::Stores)),
+        Op::Memoize => Some(Action::Moves(Move::StoresNext)),
+        Op::Get => Some(Action::Moves(Move::Fetches)),
+        Op::BinGet => Some(Action::Moves(Move::Fetches)),
+        Op::LongBinGet => Some(Action::Moves(Move::Fetches)),
+        Op::Proto => Some(Action::Moves(Move::Passes)),
+        Op::Frame => Some(Action::Moves(Move::Passes)),
+        Op::Stop => Some(Action::Stops),
+        _ => None,
+    }
+}

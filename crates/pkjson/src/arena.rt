@@ -1,0 +1,138 @@
+//! The stack, the memo and the objects of a plain run.
+
+ghost use Rattle.std.specs.Prelude.{◌≡◌, [], length, drop, true, IfOk, IfErr, OnOk, MatchOption};
+ghost use Rattle.std.specs.Prelude.{Ok, None};
+ghost use Rattle.pkops.specs.Inst.{instruction_of};
+ghost use Rattle.pkcheck.specs.Shape.{and_then, top};
+ghost use Rattle.pkjson.specs.Arena.{no_object, are_text_kinds};
+ghost use Rattle.pkjson.specs.Acting.{found, found_above, made_of, filled_of, acted, keys_acted};
+ghost use Rattle.pkjson.specs.Acting.{fault_acted, IsLacking};
+ghost use Rattle.pkjson.specs.Halts.{IsWant, IsHalted};
+ghost use Rattle.pkjson.specs.Plain.{every_other, taken};
+ghost use Rattle.pkjson.specs.Kinds.{kind_seen};
+ghost use Rattle.pkjson.specs.Mirrors.{EntriesBelow};
+ghost use Rattle.pkjson.specs.Held.{seen};
+
+use crate::action::{Action, Filled, Made, Takes};
+use crate::halt::Halt;
+use crate::kinds::{Kind, kind_of};
+use crate::moves::{Memo, apply};
+use crate::objects::{Object, fill, make};
+use crate::slots::{Slot, place_of, receiver_of, top};
+use crate::texts::keys_are_texts;
+use pkops::Inst;
+use std::alloc::Global;
+use std::collections::BTreeMap;
+
+/// The stack and the memo, which name objects by their numbers, and the objects.
+#[derive(Drop)]
+pub struct Arena {
+    pub stack: Vec<Slot>,
+    pub memo: Memo,
+    pub objects: Vec<Object>,
+}
+
+impl Arena {
+    /// Nothing is there.
+    pub fn new(alloc: Global) -> Arena
+        ensures { seen result ≡ no_object }
+    {
+        Arena {
+            stack: Vec::new(alloc),
+            memo: BTreeMap::new(alloc),
+            objects: Vec::new(alloc),
+        }
+    }
+
+    /// The number of the object on top.
+    pub fn top(&self) -> Option<usize>
+        ensures { MatchOption result (IsLacking (top (seen self.now).shape.entries))
+            (λ n. top (seen self.now).shape.entries
+            ≡ Ok (n, drop 1 (seen self.now).shape.entries)) }
+    {
+        top(&self.stack)
+    }
+
+    /// Whether the keys that an action sets are texts.
+    fn sets_texts(&self, action: Action) -> bool
+        ensures { result ≡ are_text_kinds (seen self.now).kept
+            (keys_acted action (seen self.now).shape.entries) }
+    {
+        match action {
+            Action::Makes(takes, Made::Pairs) => self.texts_above(takes),
+            Action::Fills(takes, Filled::Pairs) => self.texts_above(takes),
+            _ => true,
+        }
+    }
+
+    /// Whether the keys among what is taken are texts.
+    fn texts_above(&self, takes: Takes) -> bool
+        ensures { result ≡ are_text_kinds (seen self.now).kept
+            (every_other true (taken (found takes (seen self.now).shape.entries))) }
+    {
+        match place_of(&self.stack, takes) {
+            Some(place) => keys_are_texts(&self.objects, &self.stack[place..]),
+            None => true,
+        }
+    }
+
+    /// Makes an object of what is taken.
+    fn make(&mut self, alloc: Global, takes: Takes, kind: Kind) -> Result<(), Halt>
+        ensures ok { OnOk result (and_then (found takes (seen self.old).shape.entries)
+            (λ t. Ok (made_of (kind_seen kind) t (seen self.old))) ≡ Ok (seen self.new)) }
+        ensures err { IfErr result (IsWant (found takes (seen self.old).shape.entries)) }
+    {
+        let Some(place) = place_of(&self.stack, takes) else {
+            return Err(Halt::Lacks);
+        };
+        match make(alloc, &mut self.stack, &mut self.objects, place, kind) {
+            Ok(()) => Ok(()),
+            Err(_) => Err(Halt::OutOfMemory),
+        }
+    }
+
+    /// Gives what is taken to the object below it.
+    fn fill(&mut self, alloc: Global, takes: Takes) -> Result<(), Halt>
+        requires { EntriesBelow (length (seen self.old).kept) (seen self.old).shape.entries }
+        ensures ok { OnOk result (and_then (found_above takes (seen self.old).shape.entries)
+            (λ t. Ok (filled_of t (seen self.old))) ≡ Ok (seen self.new)) }
+        ensures err { IfErr result (IsWant (found_above takes (seen self.old).shape.entries)) }
+    {
+        let Some((place, receiver)) = receiver_of(&self.stack, takes) else {
+            return Err(Halt::Lacks);
+        };
+        match fill(alloc, &mut self.stack, &mut self.objects, place, receiver) {
+            Ok(()) => Ok(()),
+            Err(_) => Err(Halt::OutOfMemory),
+        }
+    }
+
+    /// Does what a plain instruction does that isn't STOP.
+    pub fn act(&mut self, alloc: Global, action: Action, inst: &Inst<'_>) -> Result<(), Halt>
+        requires { EntriesBelow (length (seen self.old).kept) (seen self.old).shape.entries }
+        ensures ok { OnOk result
+            ((fault_acted action (instruction_of inst.now) (seen self.old) ≡ None)
+            × (acted action (instruction_of inst.now) (seen self.old) ≡ Ok (seen self.new))) }
+        ensures err { IfErr result (IsHalted action (instruction_of inst.now) (seen self.old)) }
+    {
+        if !self.sets_texts(action) {
+            return Err(Halt::OtherKey);
+        }
+        match action {
+            Action::Makes(takes, made) => match kind_of(alloc, made, inst) {
+                Ok(kind) => self.make(alloc, takes, kind),
+                Err(halt) => Err(halt),
+            },
+            Action::Fills(takes, _) => self.fill(alloc, takes),
+            Action::Moves(what) => {
+                apply(
+                    &mut self.stack,
+                    &mut self.memo,
+                    what,
+                    inst.memo_number().unwrap_or(0),
+                )
+            }
+            Action::Stops => Ok(()),
+        }
+    }
+}

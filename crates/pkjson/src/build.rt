@@ -1,0 +1,81 @@
+//! The value that an object unfolds to.
+
+ghost use Rattle.std.specs.Prelude.{◌<◌, length, All, IfOk};
+ghost use Rattle.serde_json.specs.View.{view, items_view, members_view};
+ghost use Rattle.pkjson.specs.Unfolds.{Unfolds, UnfoldItems, UnfoldMembers};
+ghost use Rattle.pkjson.specs.Nodes.{heap, named, IsClosed, Ascending, AreOrdered};
+ghost use Rattle.pkjson.specs.Fits.{Fits, ItemsFit, MembersFit};
+
+use crate::node::Node;
+use serde_json::{Map, Value};
+use std::alloc::{AllocError, Global};
+
+/// The value of an object, which has one of at most so many levels.
+#[cycle(building)]
+pub fn build(
+    alloc: Global,
+    nodes: &[Node<'_>],
+    place: usize,
+    levels: u32,
+) -> Result<Value, AllocError>
+    requires closed { IsClosed nodes.now }
+    requires ordered { AreOrdered nodes.now }
+    requires place { place < length nodes.now }
+    requires fits { Fits (heap nodes.now) levels place }
+    ensures { IfOk result (λ w. Unfolds (heap nodes.now) place (view w)) }
+{
+    match &nodes[place] {
+        Node::Null => Ok(Value::Null),
+        Node::Bool(truth) => Ok(Value::Bool(*truth)),
+        Node::Int(number) => Ok(Value::from(*number)),
+        Node::Text(text) => Ok(Value::String(text.to_string(alloc)?)),
+        Node::List(items) => Ok(Value::Array(build_items(alloc, nodes, items, levels - 1)?)),
+        Node::Dict(members) => Ok(Value::Object(build_members(alloc, nodes, members, levels - 1)?)),
+    }
+}
+
+/// Their values, in order.
+#[cycle(building)]
+fn build_items(
+    alloc: Global,
+    nodes: &[Node<'_>],
+    items: &[usize],
+    levels: u32,
+) -> Result<Vec<Value>, AllocError>
+    requires closed { IsClosed nodes.now }
+    requires ordered { AreOrdered nodes.now }
+    requires places { All (λ x. x < length nodes.now) items.now }
+    requires fits { ItemsFit (heap nodes.now) levels items.now }
+    ensures { IfOk result (λ v. UnfoldItems (heap nodes.now) items.now (items_view v.items)) }
+{
+    let mut values = Vec::new(alloc);
+    for item in items {
+        let value = build(alloc, nodes, *item, levels)?;
+        values.push(value)?;
+    }
+    Ok(values)
+}
+
+/// Their members.
+#[cycle(building)]
+fn build_members(
+    alloc: Global,
+    nodes: &[Node<'_>],
+    members: &[(&str, usize)],
+    levels: u32,
+) -> Result<Map<String, Value>, AllocError>
+    requires closed { IsClosed nodes.now }
+    requires ordered { AreOrdered nodes.now }
+    requires places { All (λ p. p.1 < length nodes.now) members.now }
+    requires fits { MembersFit (heap nodes.now) levels (named members.now) }
+    requires ascending { Ascending (named members.now) }
+    ensures { IfOk result (λ m.
+        UnfoldMembers (heap nodes.now) (named members.now) (members_view m.entries)) }
+{
+    let mut built = Map::new(alloc);
+    for (key, value) in members {
+        let member = build(alloc, nodes, *value, levels)?;
+        serde_json::put(&mut built, alloc, key, member)?;
+    }
+    Ok(built)
+}

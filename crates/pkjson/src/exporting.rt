@@ -1,0 +1,147 @@
+//! The value of a plain pickle.
+
+ghost use Rattle.std.specs.Prelude.{◌≡◌, ◌<◌, ◌≤◌, length, replicate, IfOk, IfErr, IfSome, None};
+ghost use Rattle.serde_json.specs.View.{view};
+ghost use Rattle.pkread.specs.Rows.{sight};
+ghost use Rattle.pkjson.specs.Export.{IsValueOf, IsRefused, IsAccepted};
+ghost use Rattle.pkjson.specs.Arena.{holds};
+ghost use Rattle.pkjson.specs.Held.{seen};
+ghost use Rattle.pkjson.specs.Settled.{AreGivenBelow};
+ghost use Rattle.pkjson.specs.Nodes.{heap, IsClosed, AreOrdered};
+ghost use Rattle.pkjson.specs.Result.{IsValue, IsTooLarge, TellsRefusal};
+
+use crate::arena::Arena;
+use crate::build::build;
+use crate::error::ExportError;
+use crate::judge::{Weight, judge};
+use crate::node::Node;
+use crate::replay::replay;
+use crate::settle::settle;
+use pkcheck::{Policy, check};
+use pkops::Limits;
+use pkread::{Memory, Reason, Refusal};
+use serde_json::Value;
+use std::alloc::{AllocError, Global};
+
+/// The value of the plain pickle at the front of the bytes: of its lists and tuples as arrays, of
+/// its dicts as objects with their members in the byte order of the keys. Nothing is run, and bytes
+/// behind the pickle's STOP are not looked at.
+///
+/// A list or a dict that is reached in many ways is copied wherever it is reached, as it stands at
+/// the end. The last value of a key stands.
+///
+/// # Errors
+///
+/// The first of these: `Check`, where the pickle isn't accepted; `NotPlain`, `Key` and `Number`,
+/// for the first instruction that is no part of plain data, also where its object is dropped
+/// later; `TooDeep`, where the result has no value within the limit on depth, as one that holds
+/// itself; `TooMany`, where it is of more values than the limit. `OutOfMemory` may stand in place
+/// of any answer, where memory was refused.
+pub fn export(alloc: Global, bytes: &[u8], limits: &Limits) -> Result<Value, ExportError>
+    ensures value { IfOk result (λ value. IsValueOf limits.now bytes.now (view value)) }
+    ensures error { IfErr result (IsRefused limits.now bytes.now) }
+{
+    accept(alloc, bytes, limits)?;
+    let (arena, place) = replay(alloc, bytes, limits)?;
+    settled_value(alloc, &arena, place, limits)
+}
+
+/// The value of an object as it stands, within the limits.
+fn settled_value(
+    alloc: Global,
+    arena: &Arena,
+    place: usize,
+    limits: &Limits,
+) -> Result<Value, ExportError>
+    requires within { place < length (seen arena.now).kept }
+    requires closed { AreGivenBelow (length (seen arena.now).kept) (seen arena.now).kept }
+    ensures ok { IfOk result (λ w. IsValue
+        (holds (seen arena.now).kept) limits.now.depth limits.now.values place (view w)) }
+    ensures err { IfErr result (IsTooLarge
+        (holds (seen arena.now).kept) limits.now.depth limits.now.values place) }
+{
+    let Ok(nodes) = settle(alloc, &arena.objects) else {
+        return Err(ExportError::OutOfMemory);
+    };
+    value_of(alloc, &nodes, place, deepest(limits), most(limits))
+}
+
+/// How deep the value may be.
+fn deepest(limits: &Limits) -> u32
+    ensures value { result ≡ limits.now.depth }
+    ensures small { result ≤ 1_000_000 }
+{
+    limits.depth() as u32
+}
+
+/// Of how many values it may be.
+fn most(limits: &Limits) -> u32
+    ensures value { result ≡ limits.now.values }
+    ensures small { result ≤ 1_000_000 }
+{
+    limits.values() as u32
+}
+
+/// Checks the pickle, whatever it imports.
+fn accept(alloc: Global, bytes: &[u8], limits: &Limits) -> Result<(), ExportError>
+    ensures ok { IfOk result (λ _. IsAccepted limits.now bytes.now) }
+    ensures err { IfErr result (IsRefused limits.now bytes.now) }
+{
+    let mut source = Memory::new(bytes);
+    match check(alloc, &mut source, &Policy::AnyImport, limits) {
+        Ok(_) => Ok(()),
+        Err(no) => Err(refusal_of(no.at, no.reason)),
+    }
+}
+
+/// The error for a refusal of `check`.
+fn refusal_of(at: u64, reason: Reason) -> ExportError
+    ensures { TellsRefusal at reason result }
+{
+    match reason {
+        Reason::OutOfMemory => ExportError::OutOfMemory,
+        _ => ExportError::Check(Refusal { at, reason }),
+    }
+}
+
+/// A weight for none of so many objects.
+fn no_weights(alloc: Global, count: usize) -> Result<Vec<Option<Weight>>, AllocError>
+    ensures { IfOk result (λ v. v.items ≡ replicate count None) }
+{
+    let mut weights = Vec::new(alloc);
+    for _place in 0..count {
+        weights.push(None)?;
+    }
+    Ok(weights)
+}
+
+/// The value of an object, within the limits.
+fn value_of(
+    alloc: Global,
+    nodes: &[Node<'_>],
+    place: usize,
+    deepest: u32,
+    most: u32,
+) -> Result<Value, ExportError>
+    requires closed { IsClosed nodes.now }
+    requires ordered { AreOrdered nodes.now }
+    requires place { place < length nodes.now }
+    requires deepest { deepest ≤ 1_000_000 }
+    requires most { most ≤ 1_000_000 }
+    ensures ok { IfOk result (λ w. IsValue (heap nodes.now) deepest most place (view w)) }
+    ensures err { IfErr result (IsTooLarge (heap nodes.now) deepest most place) }
+{
+    let Ok(mut done) = no_weights(alloc, nodes.len()) else {
+        return Err(ExportError::OutOfMemory);
+    };
+    let Some(weight) = judge(nodes, &mut done, place, deepest, most + 1) else {
+        return Err(ExportError::TooDeep);
+    };
+    if weight.count > most {
+        return Err(ExportError::TooMany);
+    }
+    match build(alloc, nodes, place, deepest) {
+        Ok(value) => Ok(value),
+        Err(_) => Err(ExportError::OutOfMemory),
+    }
+}

@@ -1,0 +1,129 @@
+//! The integers that arguments name, where 64 bits with a sign hold them.
+
+ghost use Rattle.std.specs.Prelude.{◌≡◌, ◌<◌, ◌≤◌, ◌^◌, ◌-◌, cond, ltb, nat_eq, pos, negsuc, neg_ℤ};
+ghost use Rattle.std.specs.Prelude.{Some, None};
+ghost use Rattle.pkops.specs.Spelling.{shown_arg};
+ghost use Rattle.pkjson.specs.Capped.{IsCapped};
+ghost use Rattle.pkjson.specs.Integers.{decimal_after, line_integer, has_sign, natural};
+ghost use Rattle.pkjson.specs.Integers.{twos_complement, integer_named, word_of};
+
+use pkops::Arg;
+
+/// The integer that an argument names.
+pub fn integer(arg: Arg<'_>) -> Option<i64>
+    ensures { result ≡ word_of (integer_named (shown_arg arg.entry)) }
+{
+    match arg {
+        Arg::I4(number) => Some(i64::from(number)),
+        Arg::U1(number) => Some(i64::from(number)),
+        Arg::U2(number) => Some(i64::from(number)),
+        Arg::U4(number) => Some(i64::from(number)),
+        Arg::U8(number) => positive(number),
+        Arg::Line(line) => of_line(line),
+        Arg::Counted(bytes) => of_bytes(bytes),
+        _ => Some(0),
+    }
+}
+
+/// The number itself.
+fn positive(number: u64) -> Option<i64>
+    ensures { result ≡ word_of (pos number) }
+{
+    if number < 1 << 63 {
+        Some(number as i64)
+    } else {
+        None
+    }
+}
+
+/// The number's complement, which is one less than its negative.
+fn complement(number: u64) -> Option<i64>
+    ensures { result ≡ word_of (negsuc number) }
+{
+    if number < 1 << 63 {
+        Some(-(number as i64) - 1)
+    } else {
+        None
+    }
+}
+
+/// The number's negative.
+fn negative(number: u64) -> Option<i64>
+    ensures { result ≡ word_of (neg_ℤ (pos number)) }
+{
+    if number == 0 {
+        return Some(0);
+    }
+    complement(number - 1)
+}
+
+/// The integer of a line of digits.
+fn of_line(line: &[u8]) -> Option<i64>
+    ensures { result ≡ word_of (line_integer line.now) }
+{
+    let [first, digits @ ..] = line else {
+        return Some(0);
+    };
+    if *first == b'-' {
+        negative(decimal(digits))
+    } else {
+        positive(decimal(line))
+    }
+}
+
+/// The number of the digits, up to an L; a number above 2^63 stands for each above it.
+fn decimal(digits: &[u8]) -> u64
+    ensures { IsCapped (2 ^ 63) (decimal_after 0 digits.now) result }
+{
+    let mut value: u64 = 0;
+    for digit in digits {
+        if *digit == b'L' {
+            return value;
+        }
+        if value > 922_337_203_685_477_580 {
+            return u64::MAX;
+        }
+        value = value * 10 + u64::from(digit.saturating_sub(b'0'));
+    }
+    value
+}
+
+/// The integer of bytes in two's complement, the lowest byte first.
+fn of_bytes(bytes: &[u8]) -> Option<i64>
+    ensures { result ≡ word_of (twos_complement bytes.now) }
+{
+    if has_sign(bytes) {
+        complement(natural(bytes, true))
+    } else {
+        positive(natural(bytes, false))
+    }
+}
+
+/// The highest bit.
+fn has_sign(bytes: &[u8]) -> bool
+    ensures { result ≡ has_sign bytes.now }
+{
+    match bytes {
+        [.., top] => *top >= 128,
+        [] => false,
+    }
+}
+
+/// The natural number of the bytes, or of their complements; a number from 2^63 on stands for each
+/// other.
+fn natural(bytes: &[u8], flip: bool) -> u64
+    ensures { IsCapped (2 ^ 63 - 1) (natural flip bytes.now) result }
+{
+    let mut value: u64 = 0;
+    let mut place = bytes.len();
+    while place > 0 {
+        if value >= 1 << 55 {
+            return u64::MAX;
+        }
+        place -= 1;
+        let byte = bytes[place];
+        let digit = if flip { 255 - byte } else { byte };
+        value = value * 256 + u64::from(digit);
+    }
+    value
+}

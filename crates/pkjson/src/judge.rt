@@ -1,0 +1,194 @@
+//! How deep each object is and of how many values, before any value is made.
+
+ghost use Rattle.std.specs.Prelude.{◌≡◌, ◌<◌, ◌≤◌, ◌+◌, ◌^◌, min, max, length, All, MatchOption};
+ghost use Rattle.std.specs.Prelude.{IfSome};
+ghost use Rattle.pkjson.specs.Nodes.{heap, named, IsClosed};
+ghost use Rattle.pkjson.specs.Weighs.{Weighs, IsDeeper, ItemsWeigh, AreDeeper, MembersWeigh};
+ghost use Rattle.pkjson.specs.Weighs.{MembersDeeper, IsTrusted, IsBounded, HaveRoom};
+
+use crate::node::Node;
+
+/// A depth, and a number of values that stops at a cap.
+#[derive(Clone, Copy)]
+pub struct Weight {
+    pub depth: u32,
+    pub count: u32,
+}
+
+/// The weight of both.
+fn joined(one: Weight, other: Weight, cap: u32) -> Weight
+    requires one { one.count ≤ cap }
+    requires other { other.count ≤ cap }
+    requires room { cap < 2 ^ 31 }
+    ensures { result ≡ record {
+      depth = max one.depth other.depth;
+      count = min cap (one.count + other.count);
+    } }
+{
+    Weight {
+        depth: one.depth.max(other.depth),
+        count: cap.min(one.count + other.count),
+    }
+}
+
+/// The weight of what has these parts.
+fn raised(inner: Weight, cap: u32) -> Weight
+    requires depth { inner.depth < 2 ^ 31 }
+    requires count { inner.count ≤ cap }
+    requires room { cap < 2 ^ 31 }
+    ensures { result ≡ record { depth = inner.depth + 1; count = min cap (inner.count + 1) } }
+{
+    Weight {
+        depth: inner.depth + 1,
+        count: cap.min(inner.count + 1),
+    }
+}
+
+/// The object's weight, where it has at most so many levels. Each object is weighed once: `done`
+/// keeps what was found.
+#[cycle(judging)]
+pub fn judge(
+    nodes: &[Node<'_>],
+    done: &mut [Option<Weight>],
+    place: usize,
+    levels: u32,
+    cap: u32,
+) -> Option<Weight>
+    requires closed { IsClosed nodes.now }
+    requires place { place < length nodes.now }
+    requires same { length done.old ≡ length nodes.now }
+    requires trusted { IsTrusted (heap nodes.now) cap done.old }
+    requires room { HaveRoom levels cap }
+    ensures trusted { IsTrusted (heap nodes.now) cap done.new }
+    ensures bounds { IfSome result (IsBounded levels cap) }
+    ensures weight { MatchOption result
+        (IsDeeper (heap nodes.now) levels place) (Weighs (heap nodes.now) cap place) }
+{
+    if let Some(weight) = done[place] {
+        if weight.depth <= levels {
+            Some(weight)
+        } else {
+            None
+        }
+    } else {
+        match judge_node(nodes, done, place, levels, cap) {
+            Some(weight) => {
+                done[place] = Some(weight);
+                Some(weight)
+            }
+            None => None,
+        }
+    }
+}
+
+/// The same, where nothing was found of it yet.
+#[cycle(judging)]
+fn judge_node(
+    nodes: &[Node<'_>],
+    done: &mut [Option<Weight>],
+    place: usize,
+    levels: u32,
+    cap: u32,
+) -> Option<Weight>
+    requires closed { IsClosed nodes.now }
+    requires place { place < length nodes.now }
+    requires same { length done.old ≡ length nodes.now }
+    requires trusted { IsTrusted (heap nodes.now) cap done.old }
+    requires room { HaveRoom levels cap }
+    ensures trusted { IsTrusted (heap nodes.now) cap done.new }
+    ensures bounds { IfSome result (IsBounded levels cap) }
+    ensures weight { MatchOption result
+        (IsDeeper (heap nodes.now) levels place) (Weighs (heap nodes.now) cap place) }
+{
+    match &nodes[place] {
+        Node::List(items) => {
+            if levels == 0 {
+                return None;
+            }
+            match judge_items(nodes, done, items, levels - 1, cap) {
+                Some(inner) => Some(raised(inner, cap)),
+                None => None,
+            }
+        }
+        Node::Dict(members) => {
+            if levels == 0 {
+                return None;
+            }
+            match judge_members(nodes, done, members, levels - 1, cap) {
+                Some(inner) => Some(raised(inner, cap)),
+                None => None,
+            }
+        }
+        Node::Null => Some(Weight { depth: 0, count: 1 }),
+        Node::Bool(_) => Some(Weight { depth: 0, count: 1 }),
+        Node::Int(_) => Some(Weight { depth: 0, count: 1 }),
+        Node::Text(_) => Some(Weight { depth: 0, count: 1 }),
+    }
+}
+
+/// The greatest depth and the sum of the counts, where none has more levels.
+#[cycle(judging)]
+fn judge_items(
+    nodes: &[Node<'_>],
+    done: &mut [Option<Weight>],
+    items: &[usize],
+    levels: u32,
+    cap: u32,
+) -> Option<Weight>
+    requires closed { IsClosed nodes.now }
+    requires places { All (λ x. x < length nodes.now) items.now }
+    requires same { length done.old ≡ length nodes.now }
+    requires trusted { IsTrusted (heap nodes.now) cap done.old }
+    requires room { HaveRoom levels cap }
+    ensures trusted { IsTrusted (heap nodes.now) cap done.new }
+    ensures bounds { IfSome result (IsBounded levels cap) }
+    ensures weight { MatchOption result
+        (AreDeeper (heap nodes.now) levels items.now) (ItemsWeigh (heap nodes.now) cap items.now) }
+{
+    let mut sum = Weight { depth: 0, count: 0 };
+    for item in items {
+        match judge(nodes, done, *item, levels, cap) {
+            Some(weight) => {
+                sum = joined(sum, weight, cap);
+            }
+            None => {
+                return None;
+            }
+        }
+    }
+    Some(sum)
+}
+
+/// The greatest depth of their values and the sum of the counts, where none has more levels.
+#[cycle(judging)]
+fn judge_members(
+    nodes: &[Node<'_>],
+    done: &mut [Option<Weight>],
+    members: &[(&str, usize)],
+    levels: u32,
+    cap: u32,
+) -> Option<Weight>
+    requires closed { IsClosed nodes.now }
+    requires places { All (λ p. p.1 < length nodes.now) members.now }
+    requires same { length done.old ≡ length nodes.now }
+    requires trusted { IsTrusted (heap nodes.now) cap done.old }
+    requires room { HaveRoom levels cap }
+    ensures trusted { IsTrusted (heap nodes.now) cap done.new }
+    ensures bounds { IfSome result (IsBounded levels cap) }
+    ensures weight { MatchOption result
+        (MembersDeeper (heap nodes.now) levels (named members.now))
+        (MembersWeigh (heap nodes.now) cap (named members.now)) }
+{
+    let mut sum = Weight { depth: 0, count: 0 };
+    for (_key, value) in members {
+        match judge(nodes, done, *value, levels, cap) {
+            Some(weight) => {
+                sum = joined(sum, weight, cap);
+            }
+            None => {
+                return None;
+            }
+        }
+    }
+    Some(sum)
+}

@@ -1,0 +1,89 @@
+//! What an object is.
+
+ghost use Rattle.std.specs.Prelude.{◌≡◌, IfOk, IfErr, true, false};
+ghost use Rattle.pkops.specs.Inst.{instruction_of};
+ghost use Rattle.pkops.specs.Spelling.{shown_arg};
+ghost use Rattle.pkjson.specs.Contents.{says_true};
+ghost use Rattle.pkjson.specs.Acting.{kind_made, number_made};
+ghost use Rattle.pkjson.specs.Halts.{IsNoKind};
+ghost use Rattle.pkjson.specs.Kinds.{kind_seen};
+
+use crate::action::Made;
+use crate::halt::Halt;
+use crate::integer::integer;
+use pkops::{Arg, Inst, text_of};
+use std::alloc::Global;
+
+/// What an object is, and the value of a scalar.
+#[derive(Drop)]
+pub enum Kind {
+    /// A list or a tuple.
+    Items,
+    /// A dict.
+    Pairs,
+    Null,
+    Bool(bool),
+    Int(i64),
+    Text(String),
+}
+
+/// What an instruction makes.
+pub fn kind_of(alloc: Global, made: Made, inst: &Inst<'_>) -> Result<Kind, Halt>
+    ensures fits { IfOk result (λ _. number_made made (instruction_of inst.now) ≡ true) }
+    ensures kind { IfOk result (λ kind. kind_seen kind ≡ kind_made made (instruction_of inst.now)) }
+    ensures err { IfErr result (IsNoKind (number_made made (instruction_of inst.now))) }
+{
+    match made {
+        Made::Items => Ok(Kind::Items),
+        Made::NoPairs => Ok(Kind::Pairs),
+        Made::Pairs => Ok(Kind::Pairs),
+        Made::Null => Ok(Kind::Null),
+        Made::Truth(truth) => Ok(Kind::Bool(truth)),
+        Made::Text => text(alloc, inst),
+        Made::Int => number(inst),
+        Made::IntOrTruth => {
+            if inst.names_bool() {
+                Ok(Kind::Bool(says_true(inst.arg())))
+            } else {
+                number(inst)
+            }
+        }
+    }
+}
+
+/// A text.
+fn text(alloc: Global, inst: &Inst<'_>) -> Result<Kind, Halt>
+    ensures kind { IfOk result (λ kind. kind_seen kind
+        ≡ kind_made Made.Text (instruction_of inst.now)) }
+    ensures err { IfErr result (λ halt. halt ≡ Halt.OutOfMemory) }
+{
+    match text_of(alloc, inst) {
+        Ok(Some(text)) => Ok(Kind::Text(text)),
+        Ok(None) => Ok(Kind::Text(String::new(alloc))),
+        Err(_) => Err(Halt::OutOfMemory),
+    }
+}
+
+/// An integer.
+fn number(inst: &Inst<'_>) -> Result<Kind, Halt>
+    ensures fits { IfOk result (λ _. number_made Made.Int (instruction_of inst.now) ≡ true) }
+    ensures kind { IfOk result (λ kind. kind_seen kind
+        ≡ kind_made Made.Int (instruction_of inst.now)) }
+    ensures err { IfErr result (λ halt. (halt ≡ Halt.LargeNumber)
+        × (number_made Made.Int (instruction_of inst.now) ≡ false)) }
+{
+    match integer(inst.arg()) {
+        Some(number) => Ok(Kind::Int(number)),
+        None => Err(Halt::LargeNumber),
+    }
+}
+
+/// What INT says: 01 is True, and 00 False.
+fn says_true(arg: Arg<'_>) -> bool
+    ensures { result ≡ says_true (shown_arg arg.entry) }
+{
+    match arg {
+        Arg::Line([_, last]) => *last == b'1',
+        _ => false,
+    }
+}

@@ -1,0 +1,26 @@
+//! The data of a plain pickle as a JSON value, without running it.
+#![tactic(auto)]
+
+mod action;
+mod arena;
+mod build;
+mod error;
+mod exporting;
+mod halt;
+mod integer;
+mod judge;
+mod kinds;
+pub mod laws;
+mod moves;
+mod node;
+mod objects;
+mod replay;
+mod settle;
+mod slots;
+mod texts;
+
+pub use error::ExportError;
+pub use exporting::export;
+
+#[cfg(test)]
+mod tests;

@@ -1,0 +1,126 @@
+//! The moves, which look at no object.
+
+ghost use Rattle.std.specs.Prelude.{◌≡◌, [], ◌∷◌, IfErr, OnOk, Ok};
+ghost use Rattle.pkcheck.specs.Shape.{moved};
+ghost use Rattle.pkjson.specs.Acting.{move_of};
+ghost use Rattle.pkjson.specs.Halts.{IsWant};
+ghost use Rattle.pkjson.specs.Seen.{entry_of, shown, shape_seen};
+
+use crate::action::Move;
+use crate::halt::Halt;
+use crate::slots::{Slot, mark_place, top};
+use std::collections::BTreeMap;
+
+/// The numbers of the objects that were stored, by theirs in the memo.
+pub type Memo = BTreeMap<u64, usize>;
+
+/// Puts an entry on top.
+#[tactic(auto, using(crate::proofs::Entries::shown_append))]
+fn push(stack: &mut Vec<Slot>, slot: Slot) -> Result<(), Halt>
+    ensures ok { OnOk result (shown stack.new.items [] ≡ entry_of slot ∷ shown stack.old.items []) }
+    ensures err { IfErr result (λ halt. halt ≡ Halt.OutOfMemory) }
+{
+    match stack.push(slot) {
+        Ok(()) => Ok(()),
+        Err(_) => Err(Halt::OutOfMemory),
+    }
+}
+
+/// Takes the topmost entry.
+fn pop(stack: &mut Vec<Slot>, memo: &Memo) -> Result<(), Halt>
+    ensures ok { OnOk result
+        (moved (move_of Move.Pops) 0 (shape_seen stack.old.items memo.now.entries)
+        ≡ Ok (shape_seen stack.new.items memo.now.entries)) }
+    ensures err { IfErr result (IsWant
+        (moved (move_of Move.Pops) 0 (shape_seen stack.old.items memo.now.entries))) }
+{
+    let count = stack.len();
+    if count == 0 {
+        return Err(Halt::Lacks);
+    }
+    stack.truncate(count - 1);
+    Ok(())
+}
+
+/// Takes what stands above the topmost mark, and the mark.
+fn pop_mark(stack: &mut Vec<Slot>, memo: &Memo) -> Result<(), Halt>
+    ensures ok { OnOk result
+        (moved (move_of Move.PopsMark) 0 (shape_seen stack.old.items memo.now.entries)
+        ≡ Ok (shape_seen stack.new.items memo.now.entries)) }
+    ensures err { IfErr result (IsWant
+        (moved (move_of Move.PopsMark) 0 (shape_seen stack.old.items memo.now.entries))) }
+{
+    let Some(place) = mark_place(stack) else {
+        return Err(Halt::Lacks);
+    };
+    stack.truncate(place);
+    Ok(())
+}
+
+/// Pushes the top once more.
+fn duplicate(stack: &mut Vec<Slot>, memo: &Memo) -> Result<(), Halt>
+    ensures ok { OnOk result
+        (moved (move_of Move.Duplicates) 0 (shape_seen stack.old.items memo.now.entries)
+        ≡ Ok (shape_seen stack.new.items memo.now.entries)) }
+    ensures err { IfErr result (IsWant
+        (moved (move_of Move.Duplicates) 0 (shape_seen stack.old.items memo.now.entries))) }
+{
+    let Some(number) = top(stack) else {
+        return Err(Halt::Lacks);
+    };
+    push(stack, Slot::Object(number))
+}
+
+/// Stores the top under a number.
+fn store(stack: &[Slot], memo: &mut Memo, number: u64) -> Result<(), Halt>
+    ensures ok { OnOk result
+        (moved (move_of Move.Stores) number (shape_seen stack.now memo.old.entries)
+        ≡ Ok (shape_seen stack.now memo.new.entries)) }
+    ensures err { IfErr result (IsWant
+        (moved (move_of Move.Stores) number (shape_seen stack.now memo.old.entries))) }
+{
+    let Some(object) = top(stack) else {
+        return Err(Halt::Lacks);
+    };
+    match memo.insert(number, object) {
+        Ok(_) => Ok(()),
+        Err(_) => Err(Halt::OutOfMemory),
+    }
+}
+
+/// Pushes what was stored under a number.
+fn fetch(stack: &mut Vec<Slot>, memo: &Memo, number: u64) -> Result<(), Halt>
+    ensures ok { OnOk result
+        (moved (move_of Move.Fetches) number (shape_seen stack.old.items memo.now.entries)
+        ≡ Ok (shape_seen stack.new.items memo.now.entries)) }
+    ensures err { IfErr result (IsWant
+        (moved (move_of Move.Fetches) number (shape_seen stack.old.items memo.now.entries))) }
+{
+    match memo.get(&number) {
+        Some(object) => push(stack, Slot::Object(*object)),
+        None => Err(Halt::Lacks),
+    }
+}
+
+/// Does what the move does.
+pub fn apply(stack: &mut Vec<Slot>, memo: &mut Memo, what: Move, number: u32) -> Result<(), Halt>
+    ensures ok { OnOk result
+        (moved (move_of what) number (shape_seen stack.old.items memo.old.entries)
+        ≡ Ok (shape_seen stack.new.items memo.new.entries)) }
+    ensures err { IfErr result (IsWant
+        (moved (move_of what) number (shape_seen stack.old.items memo.old.entries))) }
+{
+    match what {
+        Move::PushesMark => push(stack, Slot::Mark),
+        Move::Pops => pop(stack, memo),
+        Move::PopsMark => pop_mark(stack, memo),
+        Move::Duplicates => duplicate(stack, memo),
+        Move::Stores => store(stack, memo, number as u64),
+        Move::StoresNext => {
+            let next = memo.len() as u64;
+            store(stack, memo, next)
+        }
+        Move::Fetches => fetch(stack, memo, number as u64),
+        Move::Passes => Ok(()),
+    }
+}

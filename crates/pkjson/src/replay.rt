@@ -1,0 +1,58 @@
+//! Follows a pickle that `check` accepts, as far as it is plain.
+
+ghost use Rattle.std.specs.Prelude.{IfOk, IfErr};
+ghost use Rattle.pkjson.specs.Export.{IsAccepted, IsRefused};
+ghost use Rattle.pkjson.specs.Standing.{IsFront};
+ghost use Rattle.pkjson.specs.Replayed.{Replays};
+
+use crate::action::{Action, action_of};
+use crate::arena::Arena;
+use crate::error::ExportError;
+use crate::halt::Halt;
+use pkops::{Inst, Limits, Scan, scan};
+use std::alloc::Global;
+
+/// The instruction at the front of the bytes, and how many bytes spell it.
+fn front<'a>(bytes: &'a [u8], limits: &Limits) -> Option<(Inst<'a>, usize)>
+    ensures { IsFront limits.now.counted bytes.now result }
+{
+    match scan(bytes, limits) {
+        Scan::Whole(inst, length) => Some((inst, length)),
+        Scan::More => None,
+        Scan::Bad(_) => None,
+    }
+}
+
+/// The objects at the STOP of a pickle, and the number of its result; or what of it is first no
+/// part of plain data.
+pub fn replay(alloc: Global, bytes: &[u8], limits: &Limits) -> Result<(Arena, usize), ExportError>
+    requires { IsAccepted limits.now bytes.now }
+    ensures ok { IfOk result (λ r. Replays limits.now bytes.now r.0 r.1) }
+    ensures err { IfErr result (IsRefused limits.now bytes.now) }
+{
+    let mut arena = Arena::new(alloc);
+    let mut rest = bytes;
+    'instructions: loop {
+        let at = (bytes.len() - rest.len()) as u64;
+        let Some((inst, length)) = front(rest, limits) else {
+            unreachable!()
+        };
+        let Some(action) = action_of(inst.op()) else {
+            return Err(ExportError::NotPlain(at, inst.op()));
+        };
+        if let Action::Stops = action {
+            let Some(place) = arena.top() else {
+                unreachable!()
+            };
+            return Ok((arena, place));
+        }
+        match arena.act(alloc, action, &inst) {
+            Ok(()) => {}
+            Err(Halt::OtherKey) => return Err(ExportError::Key(at)),
+            Err(Halt::LargeNumber) => return Err(ExportError::Number(at)),
+            Err(Halt::OutOfMemory) => return Err(ExportError::OutOfMemory),
+            Err(Halt::Lacks) => unreachable!(),
+        }
+        rest = &rest[length..];
+    }
+}

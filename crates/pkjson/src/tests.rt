@@ -1,0 +1,113 @@
+//! Worked pickles and the JSON that they are, or why they are none.
+
+use crate::{ExportError, export};
+use pkops::{Limits, Op};
+use pkread::{Reason, Refusal};
+use std::alloc::Global;
+use std::test::Fail;
+
+const VALUES: [(&[u8], &str); 12] = [
+    (b"}\x8c\x01aK\x01s.", "{\"a\":1}"),
+    (b"]]\x94ah\x00Na0.", "[[null]]"),
+    (b"I01\n.", "true"),
+    (b"I1\n.", "1"),
+    (b"\x8a\x00.", "0"),
+    (
+        b"\x8a\x08\x00\x00\x00\x00\x00\x00\x00\x80.",
+        "-9223372036854775808",
+    ),
+    (
+        b"\x8a\x0a\x00\x00\x00\x00\x00\x00\x00\x80\xff\xff.",
+        "-9223372036854775808",
+    ),
+    (b"L-9223372036854775808L\n.", "-9223372036854775808"),
+    (b"}\x8c\x01bNs\x8c\x01a\x88s.", "{\"a\":true,\"b\":null}"),
+    (b"}\x8c\x01aK\x01s\x8c\x01aK\x02s.", "{\"a\":2}"),
+    (b"(\x8c\x01b(l\x8c\x01a(K\x01td.", "{\"a\":[1],\"b\":[]}"),
+    (b"](I00\nJ\xff\xff\xff\xffM\x00\x01e.", "[false,-1,256]"),
+];
+
+const REFUSED: [(&[u8], ExportError); 8] = [
+    (b"}K\x01Ns.", ExportError::Key(4)),
+    (b"C\x000N.", ExportError::NotPlain(0, Op::ShortBinBytes)),
+    (
+        b"\x8a\x09\x00\x00\x00\x00\x00\x00\x00\x80\x00.",
+        ExportError::Number(0),
+    ),
+    (b"I9223372036854775808\n.", ExportError::Number(0)),
+    (b"L-9223372036854775809L\n.", ExportError::Number(0)),
+    (b"]q\x00h\x00a.", ExportError::TooDeep),
+    (b"cm\nf\n.", ExportError::NotPlain(0, Op::Global)),
+    (
+        b"NN.",
+        ExportError::Check(Refusal {
+            at: 2,
+            reason: Reason::LeftOver,
+        }),
+    ),
+];
+
+/// A first byte, others so many times, and STOP.
+fn repeated(alloc: Global, first: u8, others: &[u8], count: usize) -> Result<Vec<u8>, Fail> {
+    let mut bytes = Vec::new(alloc);
+    bytes.push(first)?;
+    for _ in 0..count {
+        bytes.extend_from_slice(others)?;
+    }
+    bytes.push(b'.')?;
+    Ok(bytes)
+}
+
+#[test]
+fn values(rt: HostRuntime) -> Result<(), Fail> {
+    for (bytes, wanted) in VALUES {
+        let value = export(rt.alloc(), bytes, &Limits::STANDARD)?;
+        let text = value.to_string(rt.alloc())?;
+        assert_eq!(rt; text.as_str(), wanted);
+    }
+    Ok(())
+}
+
+#[test]
+fn refusals(rt: HostRuntime) {
+    for (bytes, wanted) in REFUSED {
+        match export(rt.alloc(), bytes, &Limits::STANDARD) {
+            Ok(_) => panic!(rt; "a value"),
+            Err(error) => assert_eq!(rt; error, wanted),
+        }
+    }
+}
+
+#[test]
+fn depth(rt: HostRuntime) -> Result<(), Fail> {
+    let deep = repeated(rt.alloc(), b')', b"\x85", 99)?;
+    let value = export(rt.alloc(), &deep, &Limits::STANDARD)?;
+    let text = value.to_string(rt.alloc())?;
+    assert_eq!(rt; text.len(), 200);
+    let deeper = repeated(rt.alloc(), b')', b"\x85", 100)?;
+    match export(rt.alloc(), &deeper, &Limits::STANDARD) {
+        Ok(_) => panic!(rt; "a value"),
+        Err(error) => assert_eq!(rt; error, ExportError::TooDeep),
+    }
+    Ok(())
+}
+
+#[test]
+fn sizes(rt: HostRuntime) -> Result<(), Fail> {
+    for (count, wanted) in [
+        (19, ExportError::TooMany),
+        (99, ExportError::TooMany),
+        (100, ExportError::TooDeep),
+    ] {
+        let bytes = repeated(rt.alloc(), b')', b"2\x86", count)?;
+        match export(rt.alloc(), &bytes, &Limits::STANDARD) {
+            Ok(_) => panic!(rt; "a value"),
+            Err(error) => assert_eq!(rt; error, wanted),
+        }
+    }
+    let bytes = repeated(rt.alloc(), b')', b"2\x86", 18)?;
+    let value = export(rt.alloc(), &bytes, &Limits::STANDARD)?;
+    let text = value.to_string(rt.alloc())?;
+    assert_eq!(rt; text.len(), 1_310_717);
+    Ok(())
+}

@@ -1,0 +1,37 @@
+//! Which objects are texts.
+
+ghost use Rattle.std.specs.Prelude.{◌≡◌, true};
+ghost use Rattle.pkjson.specs.Arena.{kind_at, is_text_kind, are_text_kinds};
+ghost use Rattle.pkjson.specs.Plain.{every_other};
+ghost use Rattle.pkjson.specs.Seen.{kept_all, numbers_of};
+
+use crate::kinds::Kind;
+use crate::objects::Object;
+use crate::slots::Slot;
+
+/// Whether the object of a number is a text.
+fn is_text(objects: &[Object], number: usize) -> bool
+    ensures { result ≡ is_text_kind (kind_at (kept_all objects.now) number) }
+{
+    if number >= objects.len() {
+        return false;
+    }
+    matches!(objects[number].kind, Kind::Text(_))
+}
+
+/// Whether the first, third, fifth object among these entries and so on are texts.
+pub fn keys_are_texts(objects: &[Object], slots: &[Slot]) -> bool
+    ensures { result
+        ≡ are_text_kinds (kept_all objects.now) (every_other true (numbers_of slots.now)) }
+{
+    let mut is_key = true;
+    for slot in slots {
+        if let Slot::Object(number) = *slot {
+            if is_key && !is_text(objects, number) {
+                return false;
+            }
+            is_key = !is_key;
+        }
+    }
+    true
+}

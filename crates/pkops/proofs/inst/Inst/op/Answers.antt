@@ -1,0 +1,5 @@
+use Rattle.pkops.proofs.Good.{had_good}
+use Rattle.pkops.proofs.inst.Inst.op.Goals as goal
+
+pub returns-clause-good : goal.returns-clause-good
+returns-clause-good c = had_good _ c.args.self.now.good

@@ -1,0 +1,5 @@
+use Rattle.pkops.proofs.Decided.{keeps_is, passes_of}
+use Rattle.pkops.proofs.laws.rules_are_computed.Goals as goal
+
+pub returns : goal.returns
+returns c = λ rule arg. (passes_of rule arg, keeps_is rule arg)

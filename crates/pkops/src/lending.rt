@@ -1,0 +1,86 @@
+//! The argument of bytes whose layout is known: nothing is looked for.
+
+ghost use Rattle.std.specs.Prelude.{◌≡◌, ◌+◌, ◌-◌, ◌≤◌, ℕ, length, take, drop};
+ghost use Rattle.byteorder.specs.Endian.{little_number};
+ghost use Rattle.pkops.specs.Spelling.{Argument, shown_arg, size_of};
+ghost use Rattle.pkops.specs.Lying.{Lies, count_in};
+
+use crate::arg::Arg;
+use crate::layout::{Layout, Width};
+use crate::op::Op;
+use crate::table::layout_of_op;
+use byteorder::{ByteOrder, LittleEndian};
+
+/// The argument of all the bytes, whose code is that of the opcode; the first of two lines has so
+/// many bytes.
+#[inline]
+pub fn argument_of<'a>(op: Op, split: usize, bytes: &'a [u8]) -> Arg<'a>
+    requires { (limit : ℕ) × (arg : Argument) × Lies limit op arg split bytes.now }
+    ensures { (limit : ℕ) (arg : Argument) →
+        Lies limit op arg split bytes.now → shown_arg result ≡ arg }
+{
+    match layout_of_op(op) {
+        Layout::Nothing => Arg::None,
+        Layout::U1 => Arg::U1(bytes[1]),
+        Layout::U2 => Arg::U2(u16_behind(bytes)),
+        Layout::I4 => Arg::I4(u32_behind(bytes).cast_signed()),
+        Layout::U4 => Arg::U4(u32_behind(bytes)),
+        Layout::U8 => Arg::U8(u64_behind(bytes)),
+        Layout::F8 => Arg::F8(behind(1, bytes)),
+        Layout::Line(_) => Arg::Line(between(1, bytes.len() - 1, bytes)),
+        Layout::Pair(_) => Arg::Pair(
+            between(1, split + 1, bytes),
+            between(split + 2, bytes.len() - 1, bytes),
+        ),
+        Layout::Counted(width, _) => Arg::Counted(behind(width.size() + 1, bytes)),
+    }
+}
+
+/// The count behind the code.
+#[inline]
+pub fn count_behind(width: Width, bytes: &[u8]) -> u64
+    requires { size_of width + 1 ≤ length bytes.now }
+    ensures { result ≡ count_in width (drop 1 bytes.now) }
+{
+    match width {
+        Width::One => u64::from(bytes[1]),
+        Width::Four => u64::from(u32_behind(bytes)),
+        Width::Eight => u64_behind(bytes),
+    }
+}
+
+fn u16_behind(bytes: &[u8]) -> u16
+    requires { 3 ≤ length bytes.now }
+    ensures { result ≡ little_number 2 (drop 1 bytes.now) }
+{
+    LittleEndian::read_u16(&bytes[1..])
+}
+
+fn u32_behind(bytes: &[u8]) -> u32
+    requires { 5 ≤ length bytes.now }
+    ensures { result ≡ little_number 4 (drop 1 bytes.now) }
+{
+    LittleEndian::read_u32(&bytes[1..])
+}
+
+fn u64_behind(bytes: &[u8]) -> u64
+    requires { 9 ≤ length bytes.now }
+    ensures { result ≡ little_number 8 (drop 1 bytes.now) }
+{
+    LittleEndian::read_u64(&bytes[1..])
+}
+
+fn behind(n: usize, bytes: &[u8]) -> &[u8]
+    requires { n ≤ length bytes.now }
+    ensures { result.now ≡ drop n bytes.now }
+{
+    &bytes[n..]
+}
+
+fn between(from: usize, to: usize, bytes: &[u8]) -> &[u8]
+    requires low { from ≤ to }
+    requires high { to ≤ length bytes.now }
+    ensures { result.now ≡ take (to - from) (drop from bytes.now) }
+{
+    &bytes[from..to]
+}

@@ -1,0 +1,20 @@
+//! Opcodes whose payload a reader may pass over.
+
+ghost use Rattle.std.specs.Prelude.{◌≡◌};
+ghost use Rattle.pkops.specs.Payloads.{is_passed};
+
+use crate::op::Op;
+
+impl Op {
+    /// The argument is a payload of bytes, any bytes, which a reader may take without holding it:
+    /// BINBYTES, SHORT_BINBYTES, BINBYTES8 and BYTEARRAY8.
+    #[inline]
+    pub fn passed(self) -> bool
+        ensures { result ≡ is_passed self }
+    {
+        matches!(
+            self,
+            Op::BinBytes | Op::ShortBinBytes | Op::BinBytes8 | Op::ByteArray8
+        )
+    }
+}

@@ -1,0 +1,134 @@
+-- What the answers of `optimize` rest on.
+use Rattle.std.proofs.Common.{◌≡◌, ℕ, suc, ◌+◌, ◌<◌, ◌≤◌, ◌^◌, Bool, true, false, List, [], ◌∷◌, ◌++◌, length, map, Option, Some, None, ◌⊎◌, inl, inr, refl, sym, ap, subst, ◌∙◌, arith}
+use Rattle.std.specs.Prelude.{◌≢◌, All}
+use Rattle.std.specs.Io.KnownBytes.{Consumes}
+use Rattle.pkops.specs.Limits.{Bounds}
+use Rattle.pkops.specs.Spelling.{Instruction}
+use Rattle.pkops.specs.declared.op.Op.TheVariants.{Stop}
+use Rattle.pkread.specs.Admission.{IsAllowed}
+use Rattle.pkread.specs.Framing.{CountingIsExact}
+use Rattle.pkread.specs.Sequence.{IsSequence, spellings}
+use Rattle.pkread.specs.declared.refusal.Refusal.{Refusal}
+use Rattle.pkcheck.specs.Listing.{permitted_by}
+use Rattle.pkcheck.specs.Runs.{WentOn, Raised, Stopped, Stuck, Outcome, start}
+use Rattle.pkcheck.specs.Covers.{imports_of}
+use Rattle.pkcheck.specs.WholeRuns.{Ended, Reached, EndedBy, AllListed, EndsWell, run}
+use Rattle.pkopt.specs.declared.slim.Slim.{Slim}
+use Rattle.pkcheck.specs.Accepted.{Accepted}
+use Rattle.pkcheck.specs.Knowledge.{Asked}
+use Rattle.pkcheck.specs.Refused.{Refused}
+use Rattle.pkread.specs.Rows.{Sight}
+use Rattle.pkopt.specs.declared.fate.Plan.{Plan}
+use Rattle.pkopt.specs.Passes.{AreNumbers}
+use Rattle.pkopt.specs.Answer.{in_memory, Checks, pickle, Optimizes, PassesLimit, FailsCheck, IsRefused}
+use Rattle.pkopt.specs.Fates.{IsSlim, IsSlimOf, StopsSlim, IsPastAt, IsPlanFor}
+use Rattle.pkopt.specs.FrameBytes.{framed_bytes}
+use Rattle.pkopt.specs.Fronts.{EndsInStop, Front}
+use Rattle.pkopt.specs.Limit.{IsPastLimit}
+use Rattle.pkopt.specs.OneFrame.{has_frame, optimized}
+use Rattle.pkopt.specs.RunsAlike.{RunsAlike, SameEnd}
+use Rattle.pkopt.specs.Slim.{slim}
+use Rattle.pkopt.specs.Writers.{Writes, after, sources, is_read, new_number, after_all}
+use Rattle.pkopt.proofs.AlikeSteps.{IsFree}
+use Rattle.pkopt.proofs.NewNumbers.{after_all_le, new_least, new_up_to}
+use Rattle.pkopt.proofs.OneFraming.{optimized_alike, optimized_framed, optimized_bytes, slim_bytes}
+use Rattle.pkopt.proofs.Rereading.{all_read, after_all-append}
+use Rattle.pkopt.proofs.Sequencing.{optimized_sequence}
+use Rattle.pkopt.proofs.Slimming.{AreSmall, slim_alike}
+
+-- a run that ends well isn't stuck
+free_if_well : (list : List ℕ → List ℕ → Bool) (e : Ended) → EndsWell list e → IsFree e
+free_if_well list (Reached s) h = tt
+free_if_well list (EndedBy (WentOn s)) h = h
+free_if_well list (EndedBy (Raised s)) h = tt
+free_if_well list (EndedBy (Stopped r s)) h = tt
+free_if_well list (EndedBy (Stuck b)) h = h
+
+-- what ends as one that ends well does, ends well
+well_alike : (list : List ℕ → List ℕ → Bool) (a b : Ended) → SameEnd a b → EndsWell list a → EndsWell list b
+well_alike list (Reached s) (Reached t) same h = subst (λ events. AllListed list (imports_of events)) same.1.events h
+well_alike list (EndedBy (Stopped x s)) (EndedBy (Stopped y t)) same h = (sym same.1 ∙ h.0, subst (λ events. AllListed list (imports_of events)) same.2.events h.1)
+well_alike list (EndedBy (Raised s)) (EndedBy (Raised t)) same h = subst (λ events. AllListed list (imports_of events)) same.events h
+well_alike list a b same h = absurd same
+
+ends_in_stop : (limit : ℕ) (front : List Instruction) (last : Instruction) → All (IsAllowed limit) (front ++ last ∷ []) → last.op ≡ Stop → All (λ i. i.op ≢ Stop) front → EndsInStop limit (front ++ last ∷ [])
+ends_in_stop limit [] last each stop none = (each 0 last (omega arith), inl (stop, refl))
+ends_in_stop limit (i ∷ front) last each stop none =
+    (each 0 i (omega arith), inr (none 0 i (omega arith), ends_in_stop limit front last (λ k d lt. each (suc k) d (omega (arith, lt))) stop (λ k d lt. none (suc k) d (omega (arith, lt)))))
+
+sequence_ends : (limit : ℕ) (p : List Instruction) → IsSequence limit p → EndsInStop limit p
+sequence_ends limit p h =
+    let s = h.stops in
+    subst (EndsInStop limit) (sym s.2) (ends_in_stop limit s.0 s.1 (subst (All (IsAllowed limit)) s.2 h.each) s.3 s.4)
+
+-- the pickle stands at the front
+pub at_front : (limits : Bounds) (bytes : List ℕ) (c : Checks limits bytes) → Front limits.counted bytes (pickle c)
+at_front limits bytes c = record { ends = sequence_ends limits.counted (pickle c) c.accepted.sequence; rest = c.rest; spelled = c.accepted.bytes.bytes }
+
+-- the new numbers are small
+small_numbers : (p : List Instruction) (limit : ℕ) → limit < 2 ^ 32 → new_number (sources [] p) (length (after_all p [])) ≤ limit → (w : ℕ) → w < length (after_all p []) → new_number (sources [] p) w < 2 ^ 32
+small_numbers p limit small le w lt = let up = new_up_to (sources [] p) w (length (after_all p [])) (omega (arith, lt)) in omega (arith, up, le, small)
+
+-- no write is past the limit
+none_past : (p : List Instruction) (limit : ℕ) → new_number (sources [] p) (length (after_all p [])) ≤ limit → (before : List Instruction) → IsPastLimit limit p before → ⊥
+none_past p limit le before (i, rest, parts, more, read, number) =
+    let ws = after_all before [] in
+    let all : after_all p [] ≡ after_all rest (after i ws) = ap (λ q. after_all q []) parts ∙ after_all-append before (i ∷ rest) [] in
+    let size : length (after_all p []) ≡ length (after_all rest (after i ws)) = ap (λ (x : Writes). length x) all in
+    let up = after_all_le rest (after i ws) in
+    let less = new_least (sources [] p) (length ws) (length (after_all p [])) (omega (arith, size, up, more)) read in
+    omega (arith, less, le, number)
+
+spelled_by : (b : Bool) (limits : Bounds) (bytes : List ℕ) (c : Checks limits bytes) → has_frame (pickle c) ≡ b → (out slim_out : List ℕ) → slim_out ≡ spellings (slim (pickle c)) → ((b ≡ true) × (out ≡ framed_bytes slim_out)) ⊎ ((b ≡ false) × (out ≡ slim_out)) → out ≡ spellings (optimized (pickle c))
+spelled_by b limits bytes c f out slim_out e (inl h) = h.1 ∙ ap framed_bytes e ∙ optimized_bytes limits.counted (pickle c) (at_front limits bytes c).ends (f ∙ h.0)
+spelled_by b limits bytes c f out slim_out e (inr h) = h.1 ∙ e ∙ slim_bytes (pickle c) (f ∙ h.0)
+
+-- the answer where the slim form was written
+pub optimizes : CountingIsExact → (limits : Bounds) (bytes : List ℕ) (c : Checks limits bytes) (limit : ℕ) (out : Slim) (result : List ℕ) → limit < 2 ^ 32 → length out.bytes.items < 2 ^ 64 → limit ≡ limits.memo → IsSlim (pickle c) limit out
+    → ((out.framed ≡ true) × (result ≡ framed_bytes out.bytes.items)) ⊎ ((out.framed ≡ false) × (result ≡ out.bytes.items)) → Optimizes limits bytes result
+optimizes exact limits bytes c limit out result lt short same h how =
+    let p = pickle c in
+    let small = small_numbers p limit lt h.fits in
+    let smaller : AreSmall (sources [] p) (length (after_all p [])) = λ w inside. let s = small w inside in omega (arith, s) in
+    let alike : RunsAlike p (optimized p) = optimized_alike p (slim_alike p smaller (λ os. free_if_well (permitted_by None) (run p os start) (c.accepted.sound os))) in
+    record {
+      checks = c;
+      spelled = spelled_by out.framed limits bytes c (sym h.framed_so) result out.bytes.items h.spelled how;
+      alike = alike;
+      read = all_read p smaller;
+      sequence = optimized_sequence limits.counted p small (subst (λ (l : List ℕ). length l < 2 ^ 64) h.spelled short) (at_front limits bytes c).ends;
+      framed = optimized_framed exact limits.counted p (at_front limits bytes c).ends;
+      sound = λ os. well_alike (permitted_by None) (run p os start) (run (optimized p) os start) (alike os) (c.accepted.sound os);
+      fits = none_past p limits.memo (subst (λ m. new_number (sources [] p) (length (after_all p [])) ≤ m) same h.fits);
+    }
+
+-- the refusal of a write past the limit
+pub passes_limit : (limits : Bounds) (bytes : List ℕ) (c : Checks limits bytes) (limit : ℕ) (refusal : Refusal) → limit ≡ limits.memo → IsPastAt (pickle c) limit refusal → PassesLimit limits bytes refusal
+passes_limit limits bytes c limit refusal same h = record { checks = c; before = h.before; past = subst (λ m. IsPastLimit m (pickle c) h.before) same h.past; place = h.place; reason = h.why }
+
+-- a check of bytes in memory
+pub checks_memory : (limits : Bounds) (bytes left rest : List ℕ) (taken : ℕ) (imports : List Asked) → left ≡ bytes → Accepted None limits (in_memory left) (in_memory rest) taken imports → Checks limits bytes
+checks_memory limits bytes left rest taken imports e h = record { rest = rest; taken = taken; imports = imports; accepted = subst (λ b. Accepted None limits (in_memory b) (in_memory rest) taken imports) e h }
+
+pub fails_memory : (limits : Bounds) (bytes left : List ℕ) (after : Sight) (refusal : Refusal) (pair : Option Asked) → left ≡ bytes → Refused None limits (in_memory left) after refusal.at refusal.reason pair → FailsCheck limits bytes refusal
+fails_memory limits bytes left after refusal pair e h = record { after = after; pair = pair; refused = subst (λ b. Refused None limits (in_memory b) after refusal.at refusal.reason pair) e h }
+
+pub plan_for : (p : List Instruction) (plan : Plan) (writes : ℕ) → (plan.sources.items ≡ sources [] p) × (writes ≡ length (after_all p [])) → AreNumbers plan.sources.items writes plan.limit plan.numbers.items → IsPlanFor p plan
+plan_for p plan writes e h = record {
+  reads = e.0;
+  writes = subst (λ (l : List (Option ℕ)). AreNumbers l (length (after_all p [])) plan.limit plan.numbers.items) e.0 (subst (λ w. AreNumbers plan.sources.items w plan.limit plan.numbers.items) e.1 h);
+}
+
+-- the refusal where the slim form could not be written
+pub slim_refused : (limits : Bounds) (bytes : List ℕ) (c : Checks limits bytes) (plan : Plan) (refusal : Refusal) → plan.limit ≡ limits.memo → IsPlanFor (pickle c) plan → StopsSlim limits.counted bytes plan refusal → IsRefused limits bytes refusal
+slim_refused limits bytes c plan refusal same planned h = elim (h (pickle c) (at_front limits bytes c) planned) [
+  | inl past ↦ inr (inl (passes_limit limits bytes c plan.limit refusal same past))
+  | inr none ↦ inr (inr (record { checks = c; place = none.0; reason = none.1 }))
+]
+
+-- the answer where it could be
+pub slim_optimizes : CountingIsExact → (limits : Bounds) (bytes : List ℕ) (c : Checks limits bytes) (plan : Plan) (out : Slim) (result : List ℕ) → plan.limit < 2 ^ 32 → length out.bytes.items < 2 ^ 64 → plan.limit ≡ limits.memo → ((p : List Instruction) → Front limits.counted bytes p → IsPlanFor p plan) → IsSlimOf limits.counted bytes plan out
+    → ((out.framed ≡ true) × (result ≡ framed_bytes out.bytes.items)) ⊎ ((out.framed ≡ false) × (result ≡ out.bytes.items)) → Optimizes limits bytes result
+slim_optimizes exact limits bytes c plan out result lt short same planned h how =
+    let front = at_front limits bytes c in
+    optimizes exact limits bytes c plan.limit out result lt short same (h (pickle c) front (planned (pickle c) front)) how

@@ -1,0 +1,81 @@
+-- What an answer of `optimize` says.
+use Rattle.std.specs.Prelude.{◌≡◌, ℕ, ◌⊎◌, List, length, map, Option, Some, None}
+use Rattle.pkops.specs.Limits.{Bounds}
+use Rattle.pkops.specs.Spelling.{Instruction}
+use Rattle.pkread.specs.Framing.{Framed}
+use Rattle.pkread.specs.Pieces.{piece_of}
+use Rattle.pkread.specs.Rows.{Sight}
+use Rattle.pkread.specs.Sequence.{IsSequence, spellings}
+use Rattle.pkread.specs.declared.refusal.Reason.TheVariants.{TooLarge, OutOfMemory}
+use Rattle.pkread.specs.declared.refusal.Refusal.{Refusal}
+use Rattle.pkcheck.specs.Accepted.{Accepted}
+use Rattle.pkcheck.specs.Knowledge.{Asked}
+use Rattle.pkcheck.specs.Listing.{permitted_by}
+use Rattle.pkcheck.specs.Refused.{Refused}
+use Rattle.pkcheck.specs.WholeRuns.{Sound}
+use Rattle.pkopt.specs.Limit.{IsPastLimit}
+use Rattle.pkopt.specs.OneFrame.{optimized}
+use Rattle.pkopt.specs.RunsAlike.{RunsAlike, AllRead}
+
+-- bytes in memory, as a check sees them
+abbrev pub in_memory : List ℕ → Sight
+in_memory bytes = record { left = Some bytes; failures = 0 }
+
+-- a check under any import says yes to the pickle at the front of the bytes
+pub record Checks (limits : Bounds) (bytes : List ℕ) : Type 0 where
+  pub rest : List ℕ
+  pub taken : ℕ
+  pub imports : List Asked
+  pub accepted : Accepted None limits (in_memory bytes) (in_memory rest) taken imports
+
+-- the instructions of that pickle
+abbrev pub pickle : {limits : Bounds} {bytes : List ℕ} → Checks limits bytes → List Instruction
+pickle checks = checks.accepted.instructions
+
+-- these bytes are the optimized form of the pickle at the front of the others
+pub record Optimizes (limits : Bounds) (bytes out : List ℕ) : Type 0 where
+  -- the pickle passes the check
+  pub checks : Checks limits bytes
+  -- the bytes spell its slim form, in one frame if it had any
+  pub spelled : out ≡ spellings (optimized (pickle checks))
+  -- whatever operations answer, both do the same in the same order, with the same operands and
+  -- results, and end alike
+  pub alike : RunsAlike (pickle checks) (optimized (pickle checks))
+  -- each memo write that stayed is read
+  pub read : AllRead (optimized (pickle checks))
+  -- which is one sequence itself, and each instruction lies whole within its frame
+  pub sequence : IsSequence limits.counted (optimized (pickle checks))
+  pub framed : Framed (map piece_of (optimized (pickle checks)))
+  -- whatever operations answer, each step of it finds what it needs, and STOP leaves nothing but
+  -- the result
+  pub sound : Sound (optimized (pickle checks)) (permitted_by None)
+  -- no write has a number as large as the limit
+  pub fits : (before : List Instruction) → IsPastLimit limits.memo (pickle checks) before → ⊥
+
+-- the check refuses the pickle, at this place and for this reason
+pub record FailsCheck (limits : Bounds) (bytes : List ℕ) (refusal : Refusal) : Type 0 where
+  pub after : Sight
+  pub pair : Option Asked
+  pub refused : Refused None limits (in_memory bytes) after refusal.at refusal.reason pair
+
+-- the pickle passes the check, and at this place stands a write that is read and whose number would
+-- be the limit
+pub record PassesLimit (limits : Bounds) (bytes : List ℕ) (refusal : Refusal) : Type 0 where
+  pub checks : Checks limits bytes
+  pub before : List Instruction
+  pub past : IsPastLimit limits.memo (pickle checks) before
+  pub place : refusal.at ≡ length (spellings before)
+  pub reason : refusal.reason ≡ TooLarge
+
+-- the pickle passes the check, and then there was no memory
+pub record LacksMemory (limits : Bounds) (bytes : List ℕ) (refusal : Refusal) : Type 0 where
+  pub checks : Checks limits bytes
+  pub place : refusal.at ≡ 0
+  pub reason : refusal.reason ≡ OutOfMemory
+
+-- the one, the other or the third
+abbrev pub IsRefused : Bounds → List ℕ → Refusal → Type 0
+IsRefused limits bytes refusal =
+    FailsCheck limits bytes refusal
+    ⊎ PassesLimit limits bytes refusal
+    ⊎ LacksMemory limits bytes refusal

@@ -1,0 +1,125 @@
+-- What becomes of each instruction in the slim form, as the second pass over a pickle finds it.
+use Rattle.std.specs.Prelude.{◌≡◌, ◌≢◌, ◌⊎◌, ℕ, ◌+◌, ◌≤◌, Bool, true, cond, nat_eq, ◌||◌, List, [], ◌++◌, length, Option, None, Some, slice_index_or}
+use Rattle.pkops.specs.declared.op.Op.{Op}
+use Rattle.pkops.specs.declared.op.Op.TheVariants as op
+use Rattle.pkops.specs.Operands.{names_memo_entry}
+use Rattle.pkops.specs.Spelling.{Nothing, Instruction, instruction, spelling}
+use Rattle.pkread.specs.Sequence.{spellings}
+use Rattle.pkread.specs.declared.refusal.Reason.{Reason}
+use Rattle.pkread.specs.declared.refusal.Reason.TheVariants as reason
+use Rattle.pkread.specs.declared.refusal.Refusal.{Refusal}
+use Rattle.pkopt.specs.declared.fate.Fate.{Fate}
+use Rattle.pkopt.specs.declared.fate.Fate.TheVariants.{Goes, Stays, Gets, IsPast}
+use Rattle.pkopt.specs.declared.fate.Plan.{Plan}
+use Rattle.pkopt.specs.declared.memo.MemoUse.{MemoUse}
+use Rattle.pkopt.specs.declared.memo.MemoUse.TheVariants.{Stores, StoresNext, Fetches, Neither}
+use Rattle.pkopt.specs.declared.slim.Slim.{Slim}
+use Rattle.pkopt.specs.Fronts.{Front}
+use Rattle.pkopt.specs.Limit.{IsPastLimit}
+use Rattle.pkopt.specs.OneFrame.{has_frame}
+use Rattle.pkopt.specs.Passes.{AreNumbers, memo_use}
+use Rattle.pkopt.specs.Slim.{is_frame, renumbered, slim}
+use Rattle.pkopt.specs.Writers.{sources, new_number, after_all}
+
+-- that of a write under the number that it names
+abbrev pub stored_fate : ℕ → Option ℕ → Fate
+stored_fate limit None = Goes
+stored_fate limit (Some n) = cond (nat_eq n limit) IsPast (Gets n)
+
+-- that of a write under the number of entries
+abbrev pub next_fate : ℕ → Option ℕ → Fate
+next_fate limit None = Goes
+next_fate limit (Some n) = cond (nat_eq n limit) IsPast Stays
+
+-- that of a read of a write with this new number
+abbrev pub kept_fate : Option ℕ → Fate
+kept_fate None = Goes
+kept_fate (Some n) = Gets n
+
+-- that of a read
+abbrev pub fetched_fate : List (Option ℕ) → Option ℕ → Fate
+fetched_fate numbers None = Stays
+fetched_fate numbers (Some w) = kept_fate (slice_index_or numbers w None)
+
+-- that of an instruction that doesn't use the memo
+abbrev pub passed_fate : Op → Fate
+passed_fate o = cond (is_frame o) Goes Stays
+
+-- that of an instruction, behind so many writes and reads
+abbrev pub fate_by : MemoUse → (sources numbers : List (Option ℕ)) → ℕ → Op → ℕ → ℕ → Fate
+fate_by Stores sources numbers limit o writes reads =
+    stored_fate limit (slice_index_or numbers writes None)
+fate_by StoresNext sources numbers limit o writes reads =
+    next_fate limit (slice_index_or numbers writes None)
+fate_by Fetches sources numbers limit o writes reads =
+    fetched_fate numbers (slice_index_or sources reads None)
+fate_by Neither sources numbers limit o writes reads = passed_fate o
+
+-- the same, by a plan
+abbrev pub fate_in : Plan → Op → ℕ → ℕ → Fate
+fate_in plan o writes reads =
+    fate_by (memo_use o) plan.sources.items plan.numbers.items plan.limit o writes reads
+
+-- what is written of an instruction of this opcode that these bytes spell
+abbrev pub Emits : Fate → Op → List ℕ → List ℕ → List ℕ → Type 0
+Emits Stays o spelled old new = new ≡ old ++ spelled
+Emits (Gets n) o spelled old new =
+    names_memo_entry o ≡ true → new ≡ old ++ spelling (renumbered n (instruction o Nothing))
+Emits f o spelled old new = new ≡ old
+
+-- how many writes and reads there are behind an instruction
+abbrev pub writes_after : MemoUse → ℕ → ℕ
+writes_after Stores writes = writes + 1
+writes_after StoresNext writes = writes + 1
+writes_after _ writes = writes
+
+abbrev pub reads_after : MemoUse → ℕ → ℕ
+reads_after Fetches reads = reads + 1
+reads_after _ reads = reads
+
+-- one more instruction was written
+pub record Adds (plan : Plan) (o : Op) (spelled : List ℕ) (old new : Slim) : Type 0 where
+  pub goes_on : fate_in plan o old.writes old.reads ≢ IsPast
+  pub writes_now : new.writes ≡ writes_after (memo_use o) old.writes
+  pub reads_now : new.reads ≡ reads_after (memo_use o) old.reads
+  pub framed_now : new.framed ≡ old.framed || is_frame o
+  pub bytes_now : Emits (fate_in plan o old.writes old.reads) o spelled old.bytes.items new.bytes.items
+
+-- it was not: there was no memory, or its number would be the limit
+abbrev pub IsHalted : Plan → Op → Slim → Reason → Type 0
+IsHalted plan o old r =
+    (r ≡ reason.OutOfMemory) ⊎ ((r ≡ reason.TooLarge) × (fate_in plan o old.writes old.reads ≡ IsPast))
+
+-- the refusal; want of memory has no place
+abbrev pub refusal_at : ℕ → Reason → Refusal
+refusal_at at reason.OutOfMemory = record { at = 0; reason = reason.OutOfMemory }
+refusal_at at r = record { at = at; reason = r }
+
+-- the plan is right of this pickle
+pub record IsPlanFor (p : List Instruction) (plan : Plan) : Type 0 where
+  pub reads : plan.sources.items ≡ sources [] p
+  pub writes : AreNumbers (sources [] p) (length (after_all p [])) plan.limit plan.numbers.items
+
+-- what was written is the slim form
+pub record IsSlim (p : List Instruction) (limit : ℕ) (out : Slim) : Type 0 where
+  pub spelled : out.bytes.items ≡ spellings (slim p)
+  pub framed_so : out.framed ≡ has_frame p
+  pub fits : new_number (sources [] p) (length (after_all p [])) ≤ limit
+
+-- where the plan is right, the slim form of the pickle at the front of the bytes was written
+abbrev pub IsSlimOf : ℕ → List ℕ → Plan → Slim → Type 0
+IsSlimOf limit bytes plan out =
+    (p : List Instruction) → Front limit bytes p → IsPlanFor p plan → IsSlim p plan.limit out
+
+-- at this place stands a write that is read, and its number would be the limit
+pub record IsPastAt (p : List Instruction) (limit : ℕ) (refusal : Refusal) : Type 0 where
+  pub before : List Instruction
+  pub past : IsPastLimit limit p before
+  pub place : refusal.at ≡ length (spellings before)
+  pub why : refusal.reason ≡ reason.TooLarge
+
+-- where the plan is right, the slim form could not be written for this reason
+abbrev pub StopsSlim : ℕ → List ℕ → Plan → Refusal → Type 0
+StopsSlim limit bytes plan refusal =
+    (p : List Instruction) → Front limit bytes p → IsPlanFor p plan →
+    IsPastAt p plan.limit refusal ⊎ ((refusal.at ≡ 0) × (refusal.reason ≡ reason.OutOfMemory))

@@ -1,0 +1,15 @@
+-- A FRAME put into the bytes of a pickle.
+use Rattle.std.specs.Prelude.{ℕ, ◌-◌, cond, nat_eq, List, [], ◌∷◌, ◌++◌, length, take, drop}
+use Rattle.pkops.specs.declared.op.Op.TheVariants.{Frame}
+use Rattle.pkops.specs.Spelling.{Number, instruction, spelling}
+
+-- how many bytes stand before the frame: the two of a PROTO that comes first
+abbrev pub head_length : List ℕ → ℕ
+head_length (code ∷ protocol ∷ bytes) = cond (nat_eq code 128) 2 0
+head_length bytes = 0
+
+-- the bytes, all but the head in one frame
+abbrev pub framed_bytes : List ℕ → List ℕ
+framed_bytes bytes =
+    let head = head_length bytes in
+    take head bytes ++ (spelling (instruction Frame (Number 8 (length bytes - head))) ++ drop head bytes)

@@ -1,0 +1,11 @@
+pub mod Writers
+pub mod Slim
+pub mod OneFrame
+pub mod RunsAlike
+pub mod Limit
+pub mod Traces
+pub mod Answer
+pub mod Fronts
+pub mod Passes
+pub mod Fates
+pub mod FrameBytes

@@ -1,0 +1,128 @@
+//! What becomes of each instruction in the slim form.
+
+ghost use Rattle.std.specs.Prelude.{◌≡◌, None, slice_index_or};
+ghost use Rattle.pkopt.specs.Fates.{fate_in, fetched_fate, kept_fate};
+ghost use Rattle.pkopt.specs.Fates.{next_fate, passed_fate, stored_fate};
+
+use crate::memo::{MemoUse, memo_use};
+use pkops::Op;
+
+/// What becomes of an instruction.
+#[derive(Clone, Copy)]
+pub(crate) enum Fate {
+    /// It goes.
+    Goes,
+    /// It stays as it is.
+    Stays,
+    /// It stays with this number.
+    Gets(u32),
+    /// It is a write that is read, and its number would be the limit.
+    IsPast,
+}
+
+/// What is known of the memo instructions of a pickle.
+#[derive(Drop)]
+pub(crate) struct Plan {
+    /// The write that each read reads.
+    pub sources: Vec<Option<usize>>,
+    /// The new number of each write that is read.
+    pub numbers: Vec<Option<u32>>,
+    /// The number that none may have.
+    pub limit: u32,
+}
+
+/// The new number of a write, if it stays.
+fn number_of(numbers: &[Option<u32>], write: usize) -> Option<u32>
+    ensures { result ≡ slice_index_or numbers.now write None }
+{
+    if write < numbers.len() {
+        numbers[write]
+    } else {
+        None
+    }
+}
+
+/// The write that a read reads, if there is one.
+fn source_of(sources: &[Option<usize>], read: usize) -> Option<usize>
+    ensures { result ≡ slice_index_or sources.now read None }
+{
+    if read < sources.len() {
+        sources[read]
+    } else {
+        None
+    }
+}
+
+/// That of a write under a number.
+fn stored_fate(number: Option<u32>, limit: u32) -> Fate
+    ensures { result ≡ stored_fate limit number }
+{
+    match number {
+        Some(number) => {
+            if number == limit {
+                Fate::IsPast
+            } else {
+                Fate::Gets(number)
+            }
+        }
+        None => Fate::Goes,
+    }
+}
+
+/// That of a write under the number of entries.
+fn next_fate(number: Option<u32>, limit: u32) -> Fate
+    ensures { result ≡ next_fate limit number }
+{
+    match number {
+        Some(number) => {
+            if number == limit {
+                Fate::IsPast
+            } else {
+                Fate::Stays
+            }
+        }
+        None => Fate::Goes,
+    }
+}
+
+/// That of a read of a write with this new number.
+fn kept_fate(number: Option<u32>) -> Fate
+    ensures { result ≡ kept_fate number }
+{
+    match number {
+        Some(number) => Fate::Gets(number),
+        None => Fate::Goes,
+    }
+}
+
+/// That of a read.
+fn fetched_fate(numbers: &[Option<u32>], source: Option<usize>) -> Fate
+    ensures { result ≡ fetched_fate numbers.now source }
+{
+    match source {
+        Some(write) => kept_fate(number_of(numbers, write)),
+        None => Fate::Stays,
+    }
+}
+
+/// That of an instruction that doesn't use the memo.
+fn passed_fate(op: Op) -> Fate
+    ensures { result ≡ passed_fate op }
+{
+    match op {
+        Op::Frame => Fate::Goes,
+        _ => Fate::Stays,
+    }
+}
+
+/// What becomes of an instruction, behind so many writes and reads.
+pub(crate) fn fate_of(plan: &Plan, op: Op, writes: usize, reads: usize) -> Fate
+    ensures { result ≡ fate_in plan.now op writes reads }
+{
+    match memo_use(op) {
+        MemoUse::Stores => stored_fate(number_of(&plan.numbers, writes), plan.limit),
+        MemoUse::StoresNext => next_fate(number_of(&plan.numbers, writes), plan.limit),
+        MemoUse::Fetches => fetched_fate(&plan.numbers, source_of(&plan.sources, reads)),
+        MemoUse::Neither => passed_fate(op),
+    }
+}

@@ -1,0 +1,71 @@
+//! The new numbers of the memo writes that stay.
+
+ghost use Rattle.std.specs.Prelude.{◌≡◌, ◌≤◌, IfOk, List, None, Option, Some, cond, min, suc, ℕ};
+ghost use Rattle.pkopt.specs.Passes.{AreKept, AreNumbers};
+
+use std::alloc::{AllocError, Global};
+
+/// Of each write, whether some read reads it.
+fn kept_among(
+    alloc: Global,
+    sources: &[Option<usize>],
+    writes: usize,
+) -> Result<Vec<bool>, AllocError>
+    ensures { IfOk result (λ kept. AreKept sources.now writes kept.items) }
+{
+    let mut kept = vec![in alloc; false; writes]?;
+    for source in sources {
+        if let Some(write) = *source {
+            if write < kept.len() {
+                kept[write] = true;
+            }
+        }
+    }
+    Ok(kept)
+}
+
+/// The number of a write, if it stays.
+fn number_if(stays: bool, next: u32) -> Option<u32>
+    ensures { result ≡ cond stays (Some next) None }
+{
+    if stays { Some(next) } else { None }
+}
+
+/// The next number after a write, no greater than the limit.
+fn number_after(stays: bool, next: u32, limit: u32) -> u32
+    requires { next ≤ limit }
+    ensures { result ≡ cond stays (min (suc next) limit) next }
+{
+    if stays && next < limit {
+        next + 1
+    } else {
+        next
+    }
+}
+
+/// Numbers those that stay, up to the limit, which all later ones have too.
+fn numbered(alloc: Global, kept: &[bool], limit: u32) -> Result<Vec<Option<u32>>, AllocError>
+    ensures { IfOk result (λ numbers. (vs : List (Option ℕ)) (writes : ℕ) →
+        AreKept vs writes kept.now → AreNumbers vs writes limit numbers.items) }
+{
+    let mut numbers = Vec::new(alloc);
+    let mut next: u32 = 0;
+    for stays in kept {
+        numbers.push(number_if(*stays, next))?;
+        next = number_after(*stays, next, limit);
+    }
+    Ok(numbers)
+}
+
+/// Of each write that some read reads, its new number, or the limit where it is past that.
+pub(crate) fn new_numbers(
+    alloc: Global,
+    sources: &[Option<usize>],
+    writes: usize,
+    limit: u32,
+) -> Result<Vec<Option<u32>>, AllocError>
+    ensures { IfOk result (λ numbers. AreNumbers sources.now writes limit numbers.items) }
+{
+    let kept = kept_among(alloc, sources, writes)?;
+    numbered(alloc, &kept, limit)
+}

@@ -1,0 +1,92 @@
+//! The optimized form of a pickle.
+
+ghost use Rattle.std.specs.Prelude.{◌≡◌, ◌<◌, ◌^◌, IfErr, IfOk, OnOk, List, length};
+ghost use Rattle.pkops.specs.Spelling.{Instruction};
+ghost use Rattle.pkread.specs.declared.refusal.Reason.TheVariants as reason;
+ghost use Rattle.pkopt.specs.Answer.{IsRefused, Optimizes, Checks, FailsCheck};
+ghost use Rattle.pkopt.specs.Fates.{IsPlanFor};
+ghost use Rattle.pkopt.specs.Fronts.{Front};
+
+use crate::fate::Plan;
+use crate::frame::in_frame;
+use crate::memo::trace_memo;
+use crate::numbers::new_numbers;
+use crate::slim::slim_of;
+use pkcheck::{Policy, check};
+use pkops::Limits;
+use pkread::laws::framed;
+use pkread::{Memory, Reason, Refusal};
+use std::alloc::{AllocError, Global};
+
+/// Why nothing comes where memory is lacking outside the check.
+fn lacks_memory() -> Refusal
+    ensures at { result.at ≡ 0 }
+    ensures reason { result.reason ≡ reason.OutOfMemory }
+{
+    Refusal {
+        at: 0,
+        reason: Reason::OutOfMemory,
+    }
+}
+
+/// What is known of the memo instructions of the pickle at the front of the bytes.
+fn plan_of(alloc: Global, bytes: &[u8], limits: &Limits) -> Result<Plan, AllocError>
+    ensures plan { IfOk result (λ plan. (p : List Instruction) →
+        Front limits.now.counted bytes.now p → IsPlanFor p plan) }
+    ensures limit { IfOk result (λ plan. plan.limit ≡ limits.now.memo) }
+    ensures small { IfOk result (λ plan. plan.limit < 2 ^ 32) }
+{
+    let trace = trace_memo(alloc, bytes, limits)?;
+    let limit = limits.memo() as u32;
+    let numbers = new_numbers(alloc, &trace.sources, trace.writes, limit)?;
+    Ok(Plan {
+        sources: trace.sources,
+        numbers,
+        limit,
+    })
+}
+
+/// Checks the pickle at the front of the bytes, under any import.
+fn checked(alloc: Global, bytes: &[u8], limits: &Limits) -> Result<(), Refusal>
+    ensures ok { OnOk result (Checks limits.now bytes.now) }
+    ensures err { IfErr result (λ refusal. FailsCheck limits.now bytes.now refusal) }
+{
+    let mut source = Memory::new(bytes);
+    match check(alloc, &mut source, &Policy::AnyImport, limits) {
+        Ok(_) => Ok(()),
+        Err(no) => Err(Refusal {
+            at: no.at,
+            reason: no.reason,
+        }),
+    }
+}
+
+/// The same pickle in less: without memo writes that nothing reads, with those that stay numbered
+/// from 0 on, and in one frame if it had any. Bytes behind its STOP are no part of it.
+///
+/// The pickle is checked first, as `check` does it under any import. Then every run of the result
+/// is a run of the pickle, whatever operations answer: it does the same in the same order, to the
+/// same operands and with the same results, and it ends alike. A refusal is that of the check; or
+/// `TooLarge` at the write whose new number would be the limit on the memo; or `OutOfMemory` at 0,
+/// where memory was lacking outside the check.
+pub fn optimize(alloc: Global, bytes: &[u8], limits: &Limits) -> Result<Vec<u8>, Refusal>
+    ensures ok { IfOk result (λ out. Optimizes limits.now bytes.now out.items) }
+    ensures err { IfErr result (λ refusal. IsRefused limits.now bytes.now refusal) }
+{
+    checked(alloc, bytes, limits)?;
+    framed();
+    let Ok(plan) = plan_of(alloc, bytes, limits) else {
+        return Err(lacks_memory());
+    };
+    let slim = match slim_of(alloc, bytes, limits, &plan) {
+        Ok(slim) => slim,
+        Err(refusal) => return Err(refusal),
+    };
+    if slim.framed {
+        let Ok(out) = in_frame(alloc, &slim.bytes) else {
+            return Err(lacks_memory());
+        };
+        return Ok(out);
+    }
+    Ok(slim.bytes)
+}

@@ -1,0 +1,62 @@
+//! Writes memo instructions with other numbers.
+
+ghost use Rattle.std.specs.Prelude.{◌≡◌, ◌++◌, ◌∷◌, [], OnOk, cond, ltb, true};
+ghost use Rattle.std.specs.Fmt.{decimal};
+ghost use Rattle.pkops.specs.Operands.{names_memo_entry};
+ghost use Rattle.pkops.specs.Spelling.{Nothing, Number, instruction, line_feed, spelling};
+ghost use Rattle.pkops.specs.Table.{code_of};
+ghost use Rattle.pkopt.specs.Slim.{renumbered};
+
+use pkops::{Op, row};
+use std::alloc::AllocError;
+use std::io::Write;
+
+/// The code byte of an opcode.
+fn code(op: Op) -> u8
+    ensures { result ≡ code_of op }
+{
+    row(op).code
+}
+
+/// Adds an opcode and the line of a number.
+fn push_line(out: &mut Vec<u8>, op: Op, number: u32) -> Result<(), AllocError>
+    ensures { OnOk result (out.new.items
+        ≡ out.old.items ++ code_of op ∷ (decimal number ++ line_feed ∷ [])) }
+{
+    out.push(code(op))?;
+    let Ok(()) = writeln!(out, "{number}") else {
+        return Err(AllocError);
+    };
+    Ok(())
+}
+
+/// Adds the shorter opcode and a number of one byte, or the longer and one of four.
+fn push_binary(out: &mut Vec<u8>, short: Op, long: Op, number: u32) -> Result<(), AllocError>
+    ensures { OnOk result (out.new.items ≡ out.old.items ++ cond (ltb number 256)
+        (spelling (instruction short (Number 1 number)))
+        (spelling (instruction long (Number 4 number)))) }
+{
+    if number < 256 {
+        out.push(code(short))?;
+        out.push(number as u8)?;
+        return Ok(());
+    }
+    out.push(code(long))?;
+    out.extend_from_slice(&number.to_le_bytes())
+}
+
+/// Adds the instruction of a memo opcode with this number.
+pub(crate) fn push_renumbered(out: &mut Vec<u8>, op: Op, number: u32) -> Result<(), AllocError>
+    ensures { OnOk result (names_memo_entry op ≡ true → out.new.items
+        ≡ out.old.items ++ spelling (renumbered number (instruction op Nothing))) }
+{
+    match op {
+        Op::Put => push_line(out, Op::Put, number),
+        Op::Get => push_line(out, Op::Get, number),
+        Op::BinPut => push_binary(out, Op::BinPut, Op::LongBinPut, number),
+        Op::LongBinPut => push_binary(out, Op::BinPut, Op::LongBinPut, number),
+        Op::BinGet => push_binary(out, Op::BinGet, Op::LongBinGet, number),
+        Op::LongBinGet => push_binary(out, Op::BinGet, Op::LongBinGet, number),
+        _ => Ok(()),
+    }
+}

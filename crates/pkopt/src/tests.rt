@@ -1,0 +1,104 @@
+//! Worked pickles and their optimized forms.
+
+use crate::optimize;
+use pkcheck::{Policy, check};
+use pkops::Limits;
+use pkread::{Memory, Reason, Refusal};
+use std::process::Abort;
+use std::test::Fail;
+
+/// Pickles without frames, and what is left of them.
+const UNFRAMED: [(&[u8], &[u8]); 7] = [
+    (b"]q\x00Nq\x01ah\x000.", b"]q\x00Nah\x000."),
+    (b"]\x94N\x94ah\x010.", b"]N\x94ah\x000."),
+    (b"]r,\x01\x00\x00Naj,\x01\x00\x000.", b"]q\x00Nah\x000."),
+    (b"Np7\ng7\n0.", b"Np0\ng0\n0."),
+    (b"Nq\x00]q\x000h\x000.", b"N]q\x000h\x000."),
+    (b"Nq\x00h\x000q\x00h\x000.", b"Nq\x00h\x000q\x01h\x010."),
+    (b"N.N", b"N."),
+];
+
+/// Pickles with frames, and the same in one.
+const FRAMED: [(&[u8], &[u8]); 4] = [
+    (
+        b"\x80\x04\x95\x02\x00\x00\x00\x00\x00\x00\x00N.",
+        b"\x80\x04\x95\x02\x00\x00\x00\x00\x00\x00\x00N.",
+    ),
+    (
+        b"\x80\x04\x95\x03\x00\x00\x00\x00\x00\x00\x00N\x94.",
+        b"\x80\x04\x95\x02\x00\x00\x00\x00\x00\x00\x00N.",
+    ),
+    (
+        b"\x80\x04\x95\x01\x00\x00\x00\x00\x00\x00\x00N\x95\x01\x00\x00\x00\x00\x00\x00\x00.",
+        b"\x80\x04\x95\x02\x00\x00\x00\x00\x00\x00\x00N.",
+    ),
+    (
+        b"N\x95\x01\x00\x00\x00\x00\x00\x00\x00.",
+        b"\x95\x02\x00\x00\x00\x00\x00\x00\x00N.",
+    ),
+];
+
+/// Holds the optimized form of each pickle to the bytes beside it, and sees that it passes the
+/// check.
+fn optimize_each<T: Abort + AllocGlobal>(rt: &T, rows: &[(&[u8], &[u8])]) -> Result<(), Fail> {
+    for (pickle, wanted) in rows {
+        let Ok(out) = optimize(rt.alloc(), pickle, &Limits::STANDARD) else {
+            return Err(Fail::from("an answer of the other kind"));
+        };
+        assert_eq!(rt; out.as_slice(), *wanted, "{pickle:?}");
+        let mut source = Memory::new(&out);
+        let answer = check(
+            rt.alloc(),
+            &mut source,
+            &Policy::AnyImport,
+            &Limits::STANDARD,
+        );
+        assert!(rt; answer.is_ok(), "{pickle:?}");
+    }
+    Ok(())
+}
+
+#[test]
+fn without_frames(rt: HostRuntime) -> Result<(), Fail> {
+    optimize_each(&rt, &UNFRAMED)
+}
+
+#[test]
+fn in_one_frame(rt: HostRuntime) -> Result<(), Fail> {
+    optimize_each(&rt, &FRAMED)
+}
+
+/// Under a limit of one memo entry, the second write that stays is one too many.
+#[test]
+fn past_the_limit(rt: HostRuntime) -> Result<(), Fail> {
+    let Some(limits) = Limits::new(16, 100, 1, 1, 1) else {
+        return Err(Fail::from("an answer of the other kind"));
+    };
+    let Err(refusal) = optimize(rt.alloc(), b"Nq\x00h\x000q\x00h\x000.", &limits) else {
+        return Err(Fail::from("an answer of the other kind"));
+    };
+    assert_eq!(rt;
+        refusal,
+        Refusal {
+            at: 6,
+            reason: Reason::TooLarge
+        }
+    );
+    Ok(())
+}
+
+/// A refusal of the check is answered as it is.
+#[test]
+fn refused_by_the_check(rt: HostRuntime) -> Result<(), Fail> {
+    let Err(refusal) = optimize(rt.alloc(), b"Nq\x05h\x060.", &Limits::STANDARD) else {
+        return Err(Fail::from("an answer of the other kind"));
+    };
+    assert_eq!(rt;
+        refusal,
+        Refusal {
+            at: 3,
+            reason: Reason::MissingMemo(6)
+        }
+    );
+    Ok(())
+}

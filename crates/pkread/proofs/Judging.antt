@@ -1,0 +1,151 @@
+-- What was gathered is judged.
+use Rattle.std.proofs.Common.{◌≡◌, ◌≢◌, ℕ, ◌<◌, ◌≤◌, List, [], ◌∷◌, ◌++◌, length, take, Option, Some, None, Result, Ok, Err, refl, sym, ap, ◌∙◌, subst, inl, arith, append-nil}
+use Rattle.std.specs.Prelude.{IfErr, IfOk, IfSome, SomeIff}
+use Rattle.std.specs.Option.{option_map}
+use Rattle.std.proofs.lemmas.List.{take_all, length-take}
+use Rattle.pkops.proofs.Growing.{lies_begun}
+use Rattle.pkops.proofs.Scans.{nothing_begun}
+use Rattle.pkops.proofs.Sizes.{begun_is_short}
+use Rattle.pkops.specs.Answer.{IsWhole}
+use Rattle.pkops.specs.Contents.{IsGood}
+use Rattle.pkops.specs.Inst.{instruction_of}
+use Rattle.pkops.specs.Lying.{Lies}
+use Rattle.pkops.specs.Scanning.{HasFault}
+use Rattle.pkops.specs.Spelling.{Argument, Instruction, instruction, spelling}
+use Rattle.pkops.specs.Table.{code_of}
+use Rattle.pkops.specs.declared.fault.Fault.TheVariants as fault
+use Rattle.pkops.specs.declared.inst.Inst.{Inst}
+use Rattle.pkops.specs.declared.op.Op.{Op}
+use Rattle.pkread.proofs.Behind.{fronts_more, stops_lacking}
+use Rattle.pkread.proofs.Given.{IsGathered}
+use Rattle.pkread.proofs.LinesBehind.{stops_more}
+use Rattle.pkread.proofs.Objections.{objection_is_amiss}
+use Rattle.pkread.proofs.OneRow.{one_row}
+use Rattle.pkread.specs.Admission.{objection}
+use Rattle.pkread.specs.Private.Gathering.{Gathers, HoldsTaken, IsFound, RowBehind, Stops}
+use Rattle.pkread.specs.Rows.{FrontsBegin, IsAmiss, Refuses, Row, Sight, Takes, bound}
+use Rattle.pkread.specs.Private.Taking.{LacksSome, Took}
+use Rattle.pkread.specs.declared.gather.Found.{Found}
+use Rattle.pkread.specs.declared.refusal.Reason.{Reason}
+use Rattle.pkread.specs.declared.refusal.Reason.TheVariants.{Source, Truncated, UnknownOpcode, BadArgument, TooLarge, ExtensionCode, UnsupportedProtocol, OutOfMemory}
+
+-- what is good is whole
+pub whole_of : (limit : ℕ) (o : Op) (arg : Argument) (split : ℕ) (b : List ℕ) → Lies limit o arg split b → IsGood (instruction o arg) → IsWhole limit b (instruction o arg) (length b)
+whole_of limit o arg split b l good = record {
+  fits = omega arith;
+  spells = record { spelled = take_all (length b) b (omega arith) ∙ l.spelled; good = good };
+  within = l.laid.within;
+}
+
+pub broken_of : (limit : ℕ) (o : Op) (arg : Argument) (split : ℕ) (b : List ℕ) → Lies limit o arg split b → (IsGood (instruction o arg) → ⊥) → HasFault limit fault.BadArgument b
+broken_of limit o arg split b l bad = inl (instruction o arg, [], record { laid = l.laid; parts = l.spelled ∙ sym (append-nil (spelling (instruction o arg))); bad = bad })
+
+judged_is : (r : Option Inst) (inst : Inst) (i : Instruction) → SomeIff (option_map instruction_of r) (IsGood i) i → r ≡ Some inst → IsGood i × (instruction_of inst ≡ i)
+judged_is None inst i h e = absurd cc
+judged_is (Some j) inst i h e =
+    let same : j ≡ inst = cc in
+    let old = h.1 in
+    (h.0, cc)
+
+pub if_some : {A : Type 0} {P : A → Type 0} (r : Option A) → ((x : A) → r ≡ Some x → P x) → IfSome r P
+if_some None f = tt
+if_some (Some x) f = f x refl
+
+-- a good instruction that is not admitted
+pub objected : (limit : ℕ) (o : Op) (arg given : Argument) (split : ℕ) (b : List ℕ) (r : Option Inst) (inst : Inst) (found : Option Reason) → SomeIff (option_map instruction_of r) (IsGood (instruction o given)) (instruction o given) → r ≡ Some inst → found ≡ objection (instruction_of inst) → given ≡ arg → Lies limit o arg split b → (x : Reason) → found ≡ Some x → IsAmiss limit b x
+objected limit o arg given split b r inst found h e f same l x g =
+    let j = judged_is r inst (instruction o given) h e in
+    let good : IsGood (instruction o arg) = subst (λ (a : Argument). IsGood (instruction o a)) same j.0 in
+    objection_is_amiss limit b (instruction o arg) (length b) x (whole_of limit o arg split b l good) (ap (λ (a : Argument). objection (instruction o a)) (sym same) ∙ (ap objection (sym j.1) ∙ (sym f ∙ g)))
+
+amiss_behind : (limit : ℕ) (m n : Sight) (run b : List ℕ) (u : ℕ) (r : Reason) → Takes m n run → IsAmiss limit b r → RowBehind limit m n run b u r
+amiss_behind limit m n run b u (UnknownOpcode c) k w = (k, w)
+amiss_behind limit m n run b u BadArgument k w = (k, w)
+amiss_behind limit m n run b u TooLarge k w = (k, inl w)
+amiss_behind limit m n run b u ExtensionCode k w = (k, w)
+amiss_behind limit m n run b u (UnsupportedProtocol p) k w = (k, w)
+amiss_behind limit m n run b u _ k w = absurd w
+
+-- an instruction that is amiss once it is whole
+pub stops_amiss : (limit t u : ℕ) (o : Op) (arg : Argument) (split : ℕ) (c old new : List ℕ) (m n : Sight) (r : Reason) → Took c old m t new n u → Lies limit o arg split new → IsAmiss limit new r → Stops limit old m t new n u r
+stops_amiss limit t u o arg split c old new m n r k l w = record {
+  bytes = c;
+  held = k.held;
+  count_is = k.count;
+  fronts = lies_begun limit o arg split new l;
+  row = amiss_behind limit m n c new u r k.taken w;
+}
+
+none_of : (c : List ℕ) → length c < 1 → c ≡ []
+none_of [] l = refl
+none_of (x ∷ c) l = absurd (omega arith)
+
+-- no code came
+pub code_stops : (limit t u : ℕ) (old new : List ℕ) (m n : Sight) (r : Reason) → old ≡ [] → LacksSome 1 old m t new n u r → Stops limit old m t new n u r
+code_stops limit t u old new m n r e s = stops_lacking limit 1 t u old new m n r s (rw (e, none_of s.bytes s.lacks) (nothing_begun limit))
+
+pub code_is : (x t u : ℕ) (old new : List ℕ) (m n : Sight) → old ≡ [] → Took (x ∷ []) old m t new n u → new ≡ x ∷ []
+code_is x t u old new m n e k = k.held ∙ ap (λ (b : List ℕ). b ++ x ∷ []) e
+
+-- a code of no opcode
+pub unknown_stops : (limit x t u : ℕ) (old new : List ℕ) (m n : Sight) → old ≡ [] → Took (x ∷ []) old m t new n u → ((o : Op) → code_of o ≢ x) → Stops limit old m t new n u (UnknownOpcode x)
+unknown_stops limit x t u old new m n e k none =
+    let is = code_is x t u old new m n e k in
+    let w : HasFault limit (fault.UnknownOpcode x) (x ∷ []) = ([], refl, none) in
+    record {
+      bytes = x ∷ [];
+      held = k.held;
+      count_is = k.count;
+      fronts = rw is (fronts_more limit [] x (nothing_begun limit));
+      row = (k.taken, rw is w);
+    }
+
+row_of : (limit : ℕ) (m n : Sight) (b : List ℕ) (u : ℕ) (r : Reason) → RowBehind limit m n b b u r → Row limit m n b u r
+row_of limit m n b u Source w = w
+row_of limit m n b u Truncated w = w
+row_of limit m n b u TooLarge w = w
+row_of limit m n b u OutOfMemory w = w
+row_of limit m n b u _ w = w
+
+-- what stops with all the bytes taken is refused
+pub refuses_of : (limit t u : ℕ) (old new : List ℕ) (m n : Sight) (r : Reason) → old ≡ [] → Stops limit old m t new n u r → Refuses limit m n new t u r
+refuses_of limit t u old new m n r e s =
+    let is : new ≡ s.bytes = s.held ∙ ap (λ (c : List ℕ). c ++ s.bytes) e in
+    let row : Row limit m n new u r = row_of limit m n new u r (subst (λ (c : List ℕ). RowBehind limit m n c new u r) (sym is) s.row) in
+    record { taken = omega (arith, s.count_is, ap length is); fronts = s.fronts; row = row; alone = one_row limit m n new u r row }
+
+pub refused_all : {A : Type 0} (limit t u : ℕ) (old new b : List ℕ) (m n : Sight) (r : Result A Reason) → old ≡ [] → b ≡ new → IfErr r (Stops limit old m t new n u) → IfErr r (λ reason. (bytes : List ℕ) × Refuses limit m n bytes t u reason × HoldsTaken reason bytes b)
+refused_all limit t u old new b m n (Ok x) e f h = tt
+refused_all limit t u old new b m n (Err x) e f h = (new, refuses_of limit t u old new m n x e h, record { exact = λ _. f; within = omega (arith, ap length f) })
+
+-- what was found was gathered
+pub gathered_all : (limit t u : ℕ) (old new b : List ℕ) (m n : Sight) (r : Result Found Reason) → old ≡ [] → b ≡ new → IfOk r (λ f. IsFound limit new f.op f.split) → IfOk r (λ _. (bytes : List ℕ) × Took bytes old m t new n u) → IfOk r (λ _. Gathers limit m n b t u)
+gathered_all limit t u old new b m n (Err x) e f h k = tt
+gathered_all limit t u old new b m n (Ok x) e f h k =
+    let took = k.1 in
+    let is : new ≡ k.0 = took.held ∙ ap (λ (c : List ℕ). c ++ k.0) e in
+    rw f (record {
+      taken = omega (arith, took.count, ap length is);
+      fronts = lies_begun limit x.op h.arg x.split new h.lies;
+      source = rw is took.taken;
+    })
+
+-- bytes of which each shorter front begins an instruction are not many
+pub short : (limit : ℕ) (b : List ℕ) → FrontsBegin limit b → length b ≤ bound limit
+short limit [] f = omega arith
+short limit (x ∷ b) f =
+    let s = begun_is_short limit (take (length b) (x ∷ b)) (f (length b) (omega arith)) in
+    omega (arith, s, length-take (length b) (x ∷ b))
+
+pub bounded : (limit t u : ℕ) (old new b : List ℕ) (m n : Sight) (r : Result Found Reason) → b ≡ new → IfOk r (λ f. IsFound limit new f.op f.split) → IfErr r (Stops limit old m t new n u) → length b ≤ bound limit
+bounded limit t u old new b m n (Ok x) f h k = rw f (short limit new (lies_begun limit x.op h.arg x.split new h.lies))
+bounded limit t u old new b m n (Err x) f h k = rw f (short limit new k.fronts)
+
+-- as the lemmas on a reader's step take it
+abbrev pub found_gathered : (limit : ℕ) (b : List ℕ) (o : Op) (split : ℕ) → IsFound limit b o split → IsGathered limit b o
+found_gathered limit b o split f = record { instruction = instruction o f.arg; whole = whole_of limit o f.arg split b f.lies f.good; admitted = f.admitted; opcode = refl }
+
+-- what stops behind a code stops behind what was held before it
+pub all_stop_more : {A : Type 0} (limit t u v : ℕ) (c old mid new : List ℕ) (m n p : Sight) (r : Result A Reason) → Took c old m t mid n u → IfErr r (Stops limit mid n u new p v) → IfErr r (Stops limit old m t new p v)
+all_stop_more limit t u v c old mid new m n p (Ok x) k h = tt
+all_stop_more limit t u v c old mid new m n p (Err x) k h = stops_more limit t u v c old mid new m n p x k h

@@ -1,0 +1,138 @@
+-- Payloads that are passed over.
+use Rattle.std.proofs.Common.{◌≡◌, ℕ, ◌+◌, ◌-◌, ◌<◌, ◌≤◌, true, false, List, [], ◌∷◌, ◌++◌, length, take, drop, refl, sym, ap, ◌∙◌, inl, inr, arith}
+use Rattle.std.specs.Prelude.{IsTrue, max}
+use Rattle.std.proofs.lemmas.List.{length-take, take-append-drop}
+use Rattle.pkops.proofs.OpcodesFound.{one_code}
+use Rattle.pkops.proofs.Counts.{begun_is_counted}
+use Rattle.pkops.proofs.Growing.{lies_begun}
+use Rattle.pkops.specs.Admitted.{is_admitted_by}
+use Rattle.pkops.specs.Payloads.{HasCount, is_passed}
+use Rattle.pkops.specs.Spelling.{Argument, Counted, instruction, layout_at, spelling}
+use Rattle.pkops.specs.Table.{code_of}
+use Rattle.pkops.specs.declared.layout.Layout.TheVariants as layout
+use Rattle.pkops.specs.declared.layout.Width.{Width}
+use Rattle.pkops.specs.declared.layout.Width.TheVariants as width
+use Rattle.pkops.specs.declared.op.Op.{Op}
+use Rattle.pkops.specs.declared.op.Op.TheVariants as op
+use Rattle.pkread.proofs.Behind.{payload_lie, payload_stops, payload_took}
+use Rattle.pkread.proofs.Judging.{refuses_of}
+use Rattle.pkread.proofs.LinesBehind.{stops_more}
+use Rattle.pkread.proofs.Taking.{lacks_after, took_both}
+use Rattle.pkread.specs.Private.Judging.{IsPlain}
+use Rattle.pkread.specs.Private.Gathering.{Counts, Gathers, IsFound, Stops}
+use Rattle.pkread.specs.Heads.{HoldsFew, PassesBy}
+use Rattle.pkread.specs.Private.Passing.{GrowsPassing, PassedAll, PassedSome, StopsPassing}
+use Rattle.pkread.specs.Rows.{FrontsBegin, Refuses, Sight}
+use Rattle.pkread.specs.Private.Taking.{LacksSome, Took}
+use Rattle.pkread.specs.declared.refusal.Reason.{Reason}
+
+-- the argument of a passed opcode needs no look
+pub passed_plain : (o : Op) → is_passed o ≡ true → IsPlain o
+passed_plain op.BinBytes e = record { contents = refl; admitted = λ arg. refl }
+passed_plain op.ShortBinBytes e = record { contents = refl; admitted = λ arg. refl }
+passed_plain op.BinBytes8 e = record { contents = refl; admitted = λ arg. refl }
+passed_plain op.ByteArray8 e = record { contents = refl; admitted = λ arg. refl }
+passed_plain _ e = absurd cc
+
+passed_admitted : (o : Op) (arg : Argument) → is_passed o ≡ true → IsTrue (is_admitted_by o arg)
+passed_admitted op.BinBytes arg e = refl
+passed_admitted op.ShortBinBytes arg e = refl
+passed_admitted op.BinBytes8 arg e = refl
+passed_admitted op.ByteArray8 arg e = refl
+passed_admitted _ arg e = absurd cc
+
+-- the other two have counts of eight bytes
+pub passed_wide : (o : Op) → is_passed o ≡ true → (o ≡ op.ShortBinBytes → ⊥) → (o ≡ op.BinBytes → ⊥) → layout_at o ≡ layout.Counted width.Eight false
+passed_wide op.BinBytes e h0 h1 = absurd (h1 refl)
+passed_wide op.ShortBinBytes e h0 h1 = absurd (h0 refl)
+passed_wide op.BinBytes8 e h0 h1 = refl
+passed_wide op.ByteArray8 e h0 h1 = refl
+passed_wide _ e h0 h1 = absurd cc
+
+-- bytes that were taken behind others, as if those were held
+pub took_over : (c d old mid new : List ℕ) (o m p : Sight) (t u v : ℕ) → Took c old o t (old ++ c) m u → Took d mid m u new p v → Took (c ++ d) old o t (old ++ (c ++ d)) p v
+took_over c d old mid new o m p t u v k l =
+    let w = took_both c d old (old ++ c) ((old ++ c) ++ d) o m p t u v k (record { fit = l.fit; held = refl; taken = l.taken; count = l.count }) in
+    record { fit = w.fit; held = refl; taken = w.taken; count = w.count }
+
+-- fewer came than were left
+pub lacks_over : (count left t u w : ℕ) (c old mid new : List ℕ) (o m p : Sight) (reason : Reason) → Took c old o t (old ++ c) m u → length c + left ≡ count → LacksSome left mid m u new p w reason → PassedSome count old o t p w reason
+lacks_over count left t u w c old mid new o m p reason k all s =
+    ((old ++ c) ++ s.bytes, lacks_after count left t u w c old (old ++ c) ((old ++ c) ++ s.bytes) o m p reason k all (record { bytes = s.bytes; fit = s.fit; held = refl; count_is = s.count_is; lacks = s.lacks; row = s.row }))
+
+-- the payload behind a count
+pub payload_passes : (limit t u v x : ℕ) (o : Op) (size : Width) (old mid : List ℕ) (m n p : Sight) → old ≡ code_of o ∷ [] → layout_at o ≡ layout.Counted size false → Counts limit size false x old m t mid n u → PassedAll x mid n u p v → GrowsPassing limit o x old m t p v
+payload_passes limit t u v x o size old mid m n p e lay c s = record {
+  new = s.0;
+  bytes = c.field ++ s.1.bytes;
+  took = payload_took limit t u v x o size false old mid s.0 m n p e lay c s.1;
+  payload = s.1.bytes;
+  count_is = s.1.all;
+  lies = payload_lie limit t u v x o size false old mid s.0 m n p e lay c s.1;
+}
+
+pub payload_stops_passing : (limit t u v x : ℕ) (o : Op) (size : Width) (old mid : List ℕ) (m n p : Sight) (r : Reason) → old ≡ code_of o ∷ [] → layout_at o ≡ layout.Counted size false → Counts limit size false x old m t mid n u → PassedSome x mid n u p v r → StopsPassing limit old m t p v r
+payload_stops_passing limit t u v x o size old mid m n p r e lay c s = (s.0, payload_stops limit t u v x o size false old mid s.0 m n p e lay c r s.1)
+
+-- an instruction whose payload was passed over
+pub passes_by : (limit t u v count : ℕ) (o : Op) (old mid : List ℕ) (m n p : Sight) → old ≡ [] → is_passed o ≡ true → Took (code_of o ∷ []) old m t mid n u → GrowsPassing limit o count mid n u p v → PassesBy limit o count m p t v
+passes_by limit t u v count o old mid m n p e q k g =
+    let all = took_both (code_of o ∷ []) g.bytes old mid g.new m n p t u v k g.took in
+    let is : g.new ≡ code_of o ∷ g.bytes = all.held ∙ ap (λ (b : List ℕ). b ++ (code_of o ∷ g.bytes)) e in
+    let s : code_of o ∷ g.bytes ≡ spelling (instruction o (Counted g.payload)) = sym is ∙ g.lies.spelled in
+    record {
+      payload = g.payload;
+      one = record {
+        passed = q;
+        count_is = g.count_is;
+        allowed = record {
+          good = record { suits = g.lies.laid.suits; contents = rw (passed_plain o q).contents tt };
+          within = g.lies.laid.within;
+          admitted = passed_admitted o (Counted g.payload) q;
+        };
+      };
+      bytes = rw s at all.taken;
+      taken = all.count ∙ ap (λ (b : List ℕ). t + length b) s;
+    }
+
+-- bytes of which each shorter front begins an instruction that is not passed are few
+pub held_few : (limit old now : ℕ) (o : Op) (b behind : List ℕ) → is_passed o ≡ false → b ≡ code_of o ∷ behind → FrontsBegin limit b → now ≡ max old (length b) → HoldsFew old b now
+held_few limit old now o b behind q is f e =
+    let some : 0 < length b = omega (arith, ap length is) in
+    let k = length b - 1 in
+    let w = begun_is_counted limit (take k b) (drop k b) (f k (omega arith)) in
+    let len : length (take k b) ≡ k = omega (arith, length-take k b) in
+    elim w [
+      | inl few ↦ inl (omega (arith, few, len, e))
+      | inr many ↦
+          let has : HasCount many.0 b many.1 = rw (take-append-drop k b) at many.2 in
+          let same : code_of many.0 ≡ code_of o = let both : code_of many.0 ∷ has.behind ≡ code_of o ∷ behind = sym has.begins ∙ is in cc in
+          let held : is_passed many.0 ≡ false = ap is_passed (one_code many.0 o same) ∙ q in
+          let few = many.3 in
+          inr (many.0, many.1, held, has, omega (arith, few, len, e))
+    ]
+
+-- the refusal of an instruction that is held
+pub refused_held : (limit t u v most now : ℕ) (o : Op) (old mid new : List ℕ) (m n p : Sight) (r : Reason) → old ≡ [] → is_passed o ≡ false → Took (code_of o ∷ []) old m t mid n u → Stops limit mid n u new p v r → now ≡ max most (length new) → (bytes : List ℕ) × Refuses limit m p bytes t v r × HoldsFew most bytes now
+refused_held limit t u v most now o old mid new m n p r e q k s same =
+    let all = stops_more limit t u v (code_of o ∷ []) old mid new m n p r k s in
+    let is : new ≡ code_of o ∷ s.bytes = s.held ∙ ap (λ (b : List ℕ). b ++ s.bytes) (k.held ∙ ap (λ (b : List ℕ). b ++ code_of o ∷ []) e) in
+    let why = refuses_of limit t v old new m p r e all in
+    (new, why, held_few limit most now o new s.bytes q is why.fronts same)
+
+-- the refusal of an instruction that is passed
+pub refused_passing : (limit t u v most now : ℕ) (o : Op) (old mid : List ℕ) (m n p : Sight) (r : Reason) → old ≡ [] → Took (code_of o ∷ []) old m t mid n u → StopsPassing limit mid n u p v r → now ≤ max most 131_075 → (bytes : List ℕ) × Refuses limit m p bytes t v r × HoldsFew most bytes now
+refused_passing limit t u v most now o old mid m n p r e k s few =
+    let all = stops_more limit t u v (code_of o ∷ []) old mid s.0 m n p r k s.1 in
+    (s.0, refuses_of limit t v old s.0 m p r e all, inl few)
+
+-- an instruction that is held
+pub found_held : (limit t u v most now : ℕ) (o f : Op) (split : ℕ) (old mid new : List ℕ) (m n p : Sight) → old ≡ [] → is_passed o ≡ false → Took (code_of o ∷ []) old m t mid n u → ((bytes : List ℕ) × Took bytes mid n u new p v) → IsFound limit new f split → f ≡ o → now ≡ max most (length new) → (is_passed f ≡ false) × Gathers limit m p new t v × HoldsFew most new now
+found_held limit t u v most now o f split old mid new m n p e q k l found same now_is =
+    let all = took_both (code_of o ∷ []) l.0 old mid new m n p t u v k l.1 in
+    let is : new ≡ code_of o ∷ l.0 = all.held ∙ ap (λ (b : List ℕ). b ++ (code_of o ∷ l.0)) e in
+    let fronts = lies_begun limit f found.arg split new found.lies in (
+      ap is_passed same ∙ q,
+      record { taken = all.count ∙ ap (λ (b : List ℕ). t + length b) (sym is); fronts = fronts; source = rw is all.taken },
+      held_few limit most now o new l.0 q is fronts now_is,
+    )

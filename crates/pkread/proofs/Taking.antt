@@ -1,0 +1,151 @@
+-- Reads, and what several of them take.
+use Rattle.std.proofs.Common.{◌≡◌, ◌≢◌, ℕ, zero, suc, ◌+◌, ◌-◌, ◌%◌, ◌^◌, ◌<◌, ◌≤◌, List, [], ◌∷◌, ◌++◌, length, take, drop, get_or, Option, None, Some, refl, sym, ap, ◌∙◌, arith, length-append, append_assoc, append-nil}
+use Rattle.std.specs.Io.KnownBytes.{Consumes}
+use Rattle.std.specs.List.{AllByRecursion}
+use Rattle.std.proofs.lemmas.List.{length-take, length-drop, get_or-drop}
+use Rattle.std.proofs.Math.Seq.{take-add}
+use Rattle.pkread.proofs.Gathering.{Consumes-more, Takes-more, Takes-none}
+use Rattle.pkread.specs.Rows.{Sight, Takes, all_bytes}
+use Rattle.pkread.specs.Private.Taking.{AreBytes, LackRow, LacksSome, PulledInto, Reads, ReadsByte, ReadsNone, Took, TookAll}
+use Rattle.pkread.specs.declared.refusal.Reason.{Reason}
+use Rattle.pkread.specs.declared.refusal.Reason.TheVariants.{Source, Truncated, TooLarge, OutOfMemory}
+
+pub AreBytes-take : (n : ℕ) (c : List ℕ) → AreBytes c → AreBytes (take n c)
+AreBytes-take zero c f i = omega arith
+AreBytes-take (suc n) [] f i = f i
+AreBytes-take (suc n) (x ∷ c) f zero = f 0
+AreBytes-take (suc n) (x ∷ c) f (suc i) = AreBytes-take n c (λ k. f (suc k)) i
+
+pub AreBytes-drop : (n : ℕ) (c : List ℕ) → AreBytes c → AreBytes (drop n c)
+AreBytes-drop n c h i = rw get_or-drop (h (n + i))
+
+pub AreBytes-both : (a b : List ℕ) → AreBytes a → AreBytes b → AreBytes (a ++ b)
+AreBytes-both [] b f g i = g i
+AreBytes-both (x ∷ a) b f g zero = f 0
+AreBytes-both (x ∷ a) b f g (suc i) = AreBytes-both a b (λ k. f (suc k)) g i
+
+-- what stands in a store behind a place was read
+pub pulled_reads : (wanted n from : ℕ) (items mid new : List ℕ) (before after : Sight) → from + wanted ≤ length mid → take from mid ≡ take from items → PulledInto wanted n from mid new before after → 0 < n → Reads wanted n (take from items) before (take (from + n) new) after
+pulled_reads wanted n from items mid new before after room same p some =
+    let size = p.size in
+    let within = p.within in
+    record {
+      bytes = take n (drop from new);
+      fit = AreBytes-take n (drop from new) (AreBytes-drop from new p.fit);
+      held = take-add from n new ∙ ap (λ (l : List ℕ). l ++ take n (drop from new)) (p.same ∙ same);
+      taken = p.taken;
+      some = some;
+      within = within;
+      count = omega (arith, length-take n (drop from new), length-drop from new);
+    }
+
+-- nothing was taken so far
+pub takes_none : (s : Sight) → Takes s s []
+takes_none s = none_of s.left s.failures
+  where
+    none_of : (left : Option (List ℕ)) (f : ℕ) → let s : Sight = record { left = left; failures = f } in Takes s s []
+    none_of None f = record { bytes = tt; count = refl }
+    none_of (Some xs) f = record { bytes = refl; count = refl }
+
+pub took_none : (b : List ℕ) (s : Sight) (t : ℕ) → Took [] b s t b s t
+took_none b s t = record { fit = λ i. omega arith; held = sym (append-nil b); taken = takes_none s; count = omega arith }
+
+-- one read more
+pub took_more : (c old mid new : List ℕ) (o m p : Sight) (t u v wanted n : ℕ) → Took c old o t mid m u → (r : Reads wanted n mid m new p) → v ≡ u + n → Took (c ++ r.bytes) old o t new p v
+took_more c old mid new o m p t u v wanted n k r w =
+    let is = r.count in
+    record {
+      fit = AreBytes-both c r.bytes k.fit r.fit;
+      held = r.held ∙ (ap (λ (b : List ℕ). b ++ r.bytes) k.held ∙ append_assoc old c r.bytes);
+      taken = Takes-more k.taken r.taken;
+      count = omega (arith, w, k.count, is, length-append c r.bytes);
+    }
+
+lack_row : (o m p : Sight) (c : List ℕ) (u : ℕ) (r : Reason) → Takes o m c → u < all_bytes → ReadsNone m p r → LackRow o p c u r
+lack_row o m p c u Source k l h = record { between = m.left; bytes = k.bytes; count = h ∙ ap (λ (f : ℕ). (f + 1) % (2 ^ 64)) k.count }
+lack_row o m p c u Truncated k l h = (Takes-none k h.0, h.1, l)
+lack_row o m p c u OutOfMemory k l h = Takes-none k h
+lack_row o m p c u _ k l h = absurd h
+
+-- a read gave none
+pub lacks_there : (c old mid new : List ℕ) (o m p : Sight) (t u count : ℕ) (r : Reason) → Took c old o t mid m u → length c < count → u < all_bytes → new ≡ mid → ReadsNone m p r → LacksSome count old o t new p u r
+lacks_there c old mid new o m p t u count r k lacks l same h = record {
+  bytes = c;
+  fit = k.fit;
+  held = same ∙ k.held;
+  count_is = k.count;
+  lacks = lacks;
+  row = lack_row o m p c u r k.taken l h;
+}
+
+-- no byte more may be taken
+pub lacks_room : (c old mid : List ℕ) (o m : Sight) (t u count : ℕ) → Took c old o t mid m u → length c < count → u ≡ all_bytes → LacksSome count old o t mid m u TooLarge
+lacks_room c old mid o m t u count k lacks e = record { bytes = c; fit = k.fit; held = k.held; count_is = k.count; lacks = lacks; row = (k.taken, e) }
+
+-- what was taken in two steps
+pub took_both : (c d old mid new : List ℕ) (o m p : Sight) (t u v : ℕ) → Took c old o t mid m u → Took d mid m u new p v → Took (c ++ d) old o t new p v
+took_both c d old mid new o m p t u v k l = record {
+  fit = AreBytes-both c d k.fit l.fit;
+  held = l.held ∙ (ap (λ (b : List ℕ). b ++ d) k.held ∙ append_assoc old c d);
+  taken = Takes-more k.taken l.taken;
+  count = omega (arith, k.count, l.count, length-append c d);
+}
+
+pub lack_more : (o m p : Sight) (c d : List ℕ) (u : ℕ) (r : Reason) → Takes o m c → LackRow m p d u r → LackRow o p (c ++ d) u r
+lack_more o m p c d u Source k h = record { between = h.between; bytes = Consumes-more o.left m.left h.between c d k.bytes h.bytes; count = h.count ∙ ap (λ (f : ℕ). (f + 1) % (2 ^ 64)) k.count }
+lack_more o m p c d u Truncated k h = (Takes-more k h.0, h.1, h.2)
+lack_more o m p c d u TooLarge k h = (Takes-more k h.0, h.1)
+lack_more o m p c d u OutOfMemory k h = Takes-more k h
+lack_more o m p c d u _ k h = absurd h
+
+-- one byte was read
+pub took_byte : (x t u : ℕ) (old new : List ℕ) (m n : Sight) → ReadsByte x old m new n → u ≡ t + 1 → Took (x ∷ []) old m t new n u
+took_byte x t u old new m n r e = record { fit = byte_fits x r.fit; held = r.held; taken = r.taken; count = e }
+  where
+    byte_fits : (x : ℕ) → x < 256 → AreBytes (x ∷ [])
+    byte_fits x h zero = h
+    byte_fits x h (suc i) = omega arith
+
+-- a byte more that ends no line
+pub endless_more : (c : List ℕ) (x : ℕ) → AllByRecursion (λ byte. byte ≢ 10) c → x ≢ 10 → AllByRecursion (λ byte. byte ≢ 10) (c ++ x ∷ [])
+endless_more [] x h ne = (ne, tt)
+endless_more (y ∷ c) x h ne = (h.0, endless_more c x h.1 ne)
+
+-- fewer came behind some that were taken
+pub lacks_after : (count left t u w : ℕ) (c old mid new : List ℕ) (o m p : Sight) (reason : Reason) → Took c old o t mid m u → length c + left ≡ count → LacksSome left mid m u new p w reason → LacksSome count old o t new p w reason
+lacks_after count left t u w c old mid new o m p reason k all s =
+    let lacks = s.lacks in
+    record {
+      bytes = c ++ s.bytes;
+      fit = AreBytes-both c s.bytes k.fit s.fit;
+      held = s.held ∙ (ap (λ (b : List ℕ). b ++ s.bytes) k.held ∙ append_assoc old c s.bytes);
+      count_is = omega (arith, s.count_is, k.count, length-append c s.bytes);
+      lacks = omega (arith, all, lacks, length-append c s.bytes);
+      row = lack_more o m p c s.bytes w reason k.taken s.row;
+    }
+
+-- one read, and then the rest
+pub took_rest : (count n wanted t u v w : ℕ) (old mid new : List ℕ) (o m p : Sight) → n ≤ count → Reads wanted n old o mid m → u ≡ t + n → v ≡ count - n → TookAll v mid m u new p w → TookAll count old o t new p w
+took_rest count n wanted t u v w old mid new o m p le r e f s =
+    let is = r.count in
+    let all = s.all in
+    let first = took_more [] old old mid o o m t t u wanted n (took_none old o t) r e in
+    record { bytes = r.bytes ++ s.bytes; took = took_both r.bytes s.bytes old mid new o m p t u w first s.took; all = omega (arith, is, all, length-append r.bytes s.bytes) }
+
+pub lacks_rest : (count n wanted t u v w : ℕ) (old mid new : List ℕ) (o m p : Sight) (reason : Reason) → n ≤ count → Reads wanted n old o mid m → u ≡ t + n → v ≡ count - n → LacksSome v mid m u new p w reason → LacksSome count old o t new p w reason
+lacks_rest count n wanted t u v w old mid new o m p reason le r e f s =
+    let is = r.count in
+    lacks_after count v t u w r.bytes old mid new o m p reason (took_more [] old old mid o o m t t u wanted n (took_none old o t) r e) (omega arith) s
+
+all_of_one : (n : ℕ) (to : List ℕ) → length to ≡ 1 → n ≤ length to → 0 < n → take n to ≡ get_or to 0 0 ∷ []
+all_of_one n [] e le some = absurd (omega arith)
+all_of_one n (x ∷ []) e le some = let is : n ≡ 1 = omega arith in rw is refl
+all_of_one n (x ∷ y ∷ to) e le some = absurd (omega arith)
+
+-- a byte was put behind those held
+pub byte_reads : (n held : ℕ) (items mid new to : List ℕ) (before after : Sight) → length to ≡ 1 → n ≤ length to → 0 < n → take (held + 1) new ≡ take held mid ++ get_or to 0 0 ∷ [] → take held mid ≡ take held items → Consumes before.left after.left (take n to) → after.failures ≡ before.failures → get_or to 0 0 < 256 → ReadsByte (get_or to 0 0) (take held items) before (take (held + 1) new) after
+byte_reads n held items mid new to before after e le some put same took still fits = record {
+  fit = fits;
+  held = put ∙ ap (λ (l : List ℕ). l ++ get_or to 0 0 ∷ []) same;
+  taken = record { bytes = rw (all_of_one n to e le some) at took; count = still };
+}

@@ -1,0 +1,11 @@
+use Rattle.pkread.proofs.FramesSoFar.{frames_break, frames_go_on, frames_hold}
+use Rattle.pkread.proofs.laws.frames.Goals as goal
+
+pub returns-clause-more : goal.returns-clause-more
+returns-clause-more c = frames_go_on
+
+pub returns-clause-all : goal.returns-clause-all
+returns-clause-all c = frames_hold
+
+pub returns-clause-refused : goal.returns-clause-refused
+returns-clause-refused c = frames_break

@@ -1,0 +1,17 @@
+use Rattle.pkread.proofs.Run.{end_of_heads, head_is_read, passed_is_read, reading_begins, refusal_of_heads}
+use Rattle.pkread.proofs.laws.heads.Goals as goal
+
+pub returns-clause-begins : goal.returns-clause-begins
+returns-clause-begins c = reading_begins
+
+pub returns-clause-given : goal.returns-clause-given
+returns-clause-given c = head_is_read
+
+pub returns-clause-passed : goal.returns-clause-passed
+returns-clause-passed c = passed_is_read
+
+pub returns-clause-ended : goal.returns-clause-ended
+returns-clause-ended c = end_of_heads
+
+pub returns-clause-refused : goal.returns-clause-refused
+returns-clause-refused c = refusal_of_heads

@@ -1,0 +1,14 @@
+use Rattle.pkread.proofs.Run.{end_is_read, next_is_read, reading_begins, refusal_is_read}
+use Rattle.pkread.proofs.laws.nexts.Goals as goal
+
+pub returns-clause-begins : goal.returns-clause-begins
+returns-clause-begins c = reading_begins
+
+pub returns-clause-given : goal.returns-clause-given
+returns-clause-given c = next_is_read
+
+pub returns-clause-ended : goal.returns-clause-ended
+returns-clause-ended c = end_is_read
+
+pub returns-clause-refused : goal.returns-clause-refused
+returns-clause-refused c = refusal_is_read

@@ -1,0 +1,31 @@
+use Rattle.std.proofs.Common.{◌≡◌, refl}
+use Rattle.std.proofs.lemmas.Result.{err_from_is_err_and}
+use Rattle.pkread.specs.Core.{Open}
+use Rattle.pkread.specs.Reading.{state}
+use Rattle.pkread.proofs.Given.{is_allowed}
+use Rattle.pkread.proofs.HeadSteps.{gives_held, refuses_head, shows_head_open, steps_head_open}
+use Rattle.pkread.proofs.Judging.{found_gathered}
+use Rattle.pkread.proofs.reader.Reader+R.next_head.Goals as goal
+
+pub returns-in_err-op : goal.returns-in_err-op
+returns-in_err-op g c =
+    let open' : c.args.self.now.core.phase ≡ Open = cc (c.in-Open.ensures) in
+    let p = err_from_is_err_and c.from_residual.result c.from_residual.ensures.1 in
+    let e = c.in_err-op.ensures in
+    let old = state g.R.Source.left g.R.Source.failures c.args.self.now in (
+      (refl, λ _. tt, (refl, (e.limit, steps_head_open old _ _ open' (rw (p.1, p.2) (refuses_head old _ _ e.place.0 e.least e.err e.place.1))), λ ne. absurd (ne open'))),
+      record { shows = shows_head_open old _ open' (rw (p.1, p.2) e.place.0); after = tt },
+    )
+
+pub returns-in-Held : goal.returns-in-Held
+returns-in-Held g c =
+    let open' : c.args.self.now.core.phase ≡ Open = cc (c.in-Open.ensures) in
+    let e = c.in_ok-op.ensures in
+    let f = rw c.in-Held.is at e.held in
+    let next = rw c.in-Held.is at e.next in
+    let w = found_gathered _ _ _ _ f.0 in
+    let h = c.instruction.ensures f.0.arg (rw e.limit f.0.lies) in
+    let old = state g.R.Source.left g.R.Source.failures c.args.self.now in (
+      (refl, λ _. tt, (refl, (e.limit, steps_head_open old _ _ open' (gives_held old _ _ c.collect_head.new.self.held.bytes c.in-Held.found.op _ w h f.1 c.taken-at.ensures f.3 next e.within f.2 f.4)), λ ne. absurd (ne open'))),
+      record { shows = shows_head_open old _ open' (c.taken-at.ensures, is_allowed _ _ _ _ w h); after = tt },
+    )

@@ -1,0 +1,6 @@
+-- Nobody has to believe these: what the functions that take bytes tell one another. Only private
+-- functions cite them, and the contracts of `Reader` follow from them.
+pub mod Taking
+pub mod Gathering
+pub mod Passing
+pub mod Judging

@@ -1,0 +1,48 @@
+-- What a loop over `genops` knows: the instructions that it was given so far.
+use Rattle.std.specs.Prelude.{◌≡◌, ℕ, List, [], ◌∷◌, ◌++◌, All, length, Option, Some, None, Result, Ok, Err, MatchBool}
+use Rattle.pkops.specs.Inst.{instruction_of}
+use Rattle.pkops.specs.Spelling.{Instruction}
+use Rattle.pkops.specs.declared.inst.Inst.{Inst}
+use Rattle.pkops.specs.declared.op.Op.TheVariants.{Stop}
+use Rattle.pkread.specs.Admission.{IsAllowed}
+use Rattle.pkread.specs.Genops.{GivesItem, RefusesItem, Walk, Walks, walk_of}
+use Rattle.pkread.specs.Sequence.{IsSequence, NoStop, StopIsLast, spellings}
+use Rattle.pkread.specs.declared.refusal.Refusal.{Refusal}
+
+-- from the front of the bytes on, a walk in this state has given these instructions, and no refusal
+pub record HasWalked (bytes : List ℕ) (limit : ℕ) (instructions : List Instruction) (walk : Walk)
+    : Type 0 where
+  pub same_limit : walk.limit ≡ limit
+  pub each : All (IsAllowed limit) instructions
+  pub so_far : MatchBool walk.done (StopIsLast instructions) (NoStop instructions)
+  pub parts : bytes ≡ spellings instructions ++ walk.bytes
+  pub offset : walk.at ≡ length (spellings instructions)
+
+-- a new walk has given nothing
+abbrev pub WalkBegins : Type 0
+WalkBegins = (bytes : List ℕ) (limit : ℕ) → HasWalked bytes limit [] (walk_of bytes limit)
+
+-- an instruction is given behind the others
+abbrev pub ItemIsWalked : Type 0
+ItemIsWalked =
+    (bytes : List ℕ) (limit : ℕ) (p : List Instruction) (old new : Walk)
+    (item : Option (Result (ℕ × Inst) Refusal)) (at : ℕ) (inst : Inst) →
+    HasWalked bytes limit p old → Walks old item new → item ≡ Some (Ok (at, inst)) →
+    NoStop p × HasWalked bytes limit (p ++ instruction_of inst ∷ []) new
+    × GivesItem old at (instruction_of inst) new
+
+-- where nothing more is given, the instructions are a sequence
+abbrev pub EndIsWalked : Type 0
+EndIsWalked =
+    (bytes : List ℕ) (limit : ℕ) (p : List Instruction) (old new : Walk)
+    (item : Option (Result (ℕ × Inst) Refusal)) →
+    HasWalked bytes limit p old → Walks old item new → item ≡ None →
+    IsSequence limit p × (new ≡ old)
+
+-- a refusal is given, and STOP was not
+abbrev pub RefusalIsWalked : Type 0
+RefusalIsWalked =
+    (bytes : List ℕ) (limit : ℕ) (p : List Instruction) (old new : Walk)
+    (item : Option (Result (ℕ × Inst) Refusal)) (refusal : Refusal) →
+    HasWalked bytes limit p old → Walks old item new → item ≡ Some (Err refusal) →
+    NoStop p × RefusesItem old refusal new

@@ -1,0 +1,168 @@
+//! Takes the bytes of one instruction from a source, and holds no byte payload.
+
+ghost use Rattle.std.specs.Prelude.{◌≡◌, ◌∷◌, ◌≤◌, [], ℕ, List, IfOk, IfErr, true};
+ghost use Rattle.std.specs.Prelude.{false, length, max};
+ghost use Rattle.pkops.specs.Payloads.{is_passed};
+ghost use Rattle.pkops.specs.Spelling.{layout_at};
+ghost use Rattle.pkops.specs.Table.{code_of};
+ghost use Rattle.pkops.specs.declared.layout.Layout.TheVariants as layout;
+ghost use Rattle.pkread.specs.Private.Gathering.{Gathers, IsFound, Stops};
+ghost use Rattle.pkread.specs.Heads.{HoldsFew, PassesBy};
+ghost use Rattle.pkread.specs.Private.Passing.{GrowsPassing, IfHeld, IfPassed, PassedAll};
+ghost use Rattle.pkread.specs.Private.Passing.{PassedSome, StopsPassing, most_now};
+ghost use Rattle.pkread.specs.Rows.{Refuses, bound, sight};
+ghost use Rattle.pkread.specs.Private.Taking.{Took};
+
+use crate::arms::take_count;
+use crate::blocks::take_block;
+use crate::buffer::Buffer;
+use crate::gather::{Found, gather_behind, take_op};
+use crate::refusal::Reason;
+use crate::source::Source;
+use pkops::{Op, Width};
+
+/// What was gathered: all of an instruction, or the length of a payload that is gone.
+#[derive(Clone, Copy, Debug)]
+pub(crate) enum Gathered {
+    Passed { op: Op, count: u64 },
+    Held(Found),
+}
+
+/// Takes just so many bytes more, in blocks, and forgets each block.
+fn pass_over<R: Source>(
+    source: &mut R,
+    buffer: &mut Buffer,
+    taken: &mut u64,
+    count: usize,
+) -> Result<(), Reason>
+    requires few { length buffer.old.bytes ≤ 9 }
+    ensures least { buffer.old.most ≤ buffer.new.most }
+    ensures most { buffer.new.most ≤ max buffer.old.most 131_075 }
+    ensures held { buffer.new.bytes ≡ buffer.old.bytes }
+    ensures ok { IfOk result (λ _. PassedAll count
+        buffer.old.bytes (sight R.left R.failures source.old) taken.old
+        (sight R.left R.failures source.new) taken.new) }
+    ensures err { IfErr result (PassedSome count
+        buffer.old.bytes (sight R.left R.failures source.old) taken.old
+        (sight R.left R.failures source.new) taken.new) }
+{
+    let head = buffer.bytes().len();
+    let mut left = count;
+    'blocks: loop {
+        if left == 0 {
+            return Ok(());
+        }
+        left -= take_block(source, buffer, taken, left)?;
+        buffer.cut(head);
+    }
+}
+
+/// How many bytes the count of a passed opcode has. None of these counts has a sign.
+fn count_width(op: Op) -> Width
+    requires { is_passed op ≡ true }
+    ensures { layout_at op ≡ layout.Counted result false }
+{
+    match op {
+        Op::ShortBinBytes => Width::One,
+        Op::BinBytes => Width::Four,
+        _ => Width::Eight,
+    }
+}
+
+/// Takes the argument behind the code of a passed opcode, and gives the length of its payload.
+#[inline(never)]
+fn pass_argument<R: Source>(
+    source: &mut R,
+    buffer: &mut Buffer,
+    taken: &mut u64,
+    limit: u64,
+    op: Op,
+) -> Result<u64, Reason>
+    requires code { buffer.old.bytes ≡ code_of op ∷ [] }
+    requires passed { is_passed op ≡ true }
+    ensures least { buffer.old.most ≤ buffer.new.most }
+    ensures most { buffer.new.most ≤ max buffer.old.most 131_075 }
+    ensures few { length buffer.new.bytes ≤ 9 }
+    ensures ok { IfOk result (λ count. GrowsPassing limit op count
+        buffer.old.bytes (sight R.left R.failures source.old) taken.old
+        (sight R.left R.failures source.new) taken.new) }
+    ensures err { IfErr result (StopsPassing limit
+        buffer.old.bytes (sight R.left R.failures source.old) taken.old
+        (sight R.left R.failures source.new) taken.new) }
+{
+    let count = take_count(source, buffer, taken, limit, op, count_width(op), false)?;
+    pass_over(source, buffer, taken, count)?;
+    Ok(count as u64)
+}
+
+/// Takes an instruction, and leaves the most that was held but for a payload that is passed.
+#[inline]
+fn gather_parts<R: Source>(
+    source: &mut R,
+    buffer: &mut Buffer,
+    taken: &mut u64,
+    limit: u64,
+) -> Result<Gathered, Reason>
+    requires { buffer.old.bytes ≡ [] }
+    ensures least { buffer.old.most ≤ buffer.new.most }
+    ensures bound { most_now buffer.new ≤ max buffer.old.most (bound limit) }
+    ensures passed { IfOk result (λ g. IfPassed g (λ op count. PassesBy limit op count
+        (sight R.left R.failures source.old) (sight R.left R.failures source.new)
+        taken.old taken.new)) }
+    ensures few { IfOk result (λ g. IfPassed g (λ _ _.
+        most_now buffer.new ≤ max buffer.old.most 131_075)) }
+    ensures held { IfOk result (λ g. IfHeld g (λ f.
+        IsFound limit buffer.new.bytes f.op f.split
+        × (is_passed f.op ≡ false)
+        × (buffer.new.most ≡ buffer.old.most)
+        × Gathers limit
+        (sight R.left R.failures source.old) (sight R.left R.failures source.new)
+        buffer.new.bytes taken.old taken.new
+        × HoldsFew buffer.old.most buffer.new.bytes (most_now buffer.new))) }
+    ensures err { IfErr result (λ reason. (bytes : List ℕ) × Refuses limit
+        (sight R.left R.failures source.old) (sight R.left R.failures source.new)
+        bytes taken.old taken.new reason
+        × HoldsFew buffer.old.most bytes (most_now buffer.new)) }
+{
+    let op = take_op(source, buffer, taken)?;
+    if op.passed() {
+        let count = pass_argument(source, buffer, taken, limit, op)?;
+        return Ok(Gathered::Passed { op, count });
+    }
+    let found = gather_behind(source, buffer, taken, limit, op)?;
+    Ok(Gathered::Held(found))
+}
+
+/// Takes bytes until they spell an instruction, as `gather` does, but holds no byte payload.
+#[inline]
+pub(crate) fn gather_head<R: Source>(
+    source: &mut R,
+    buffer: &mut Buffer,
+    taken: &mut u64,
+    limit: u64,
+) -> Result<Gathered, Reason>
+    requires { buffer.old.bytes ≡ [] }
+    ensures least { buffer.old.most ≤ buffer.new.most }
+    ensures bound { buffer.new.most ≤ max buffer.old.most (bound limit) }
+    ensures passed { IfOk result (λ g. IfPassed g (λ op count. PassesBy limit op count
+        (sight R.left R.failures source.old) (sight R.left R.failures source.new)
+        taken.old taken.new)) }
+    ensures few { IfOk result (λ g. IfPassed g (λ _ _.
+        buffer.new.most ≤ max buffer.old.most 131_075)) }
+    ensures held { IfOk result (λ g. IfHeld g (λ f.
+        IsFound limit buffer.new.bytes f.op f.split
+        × (is_passed f.op ≡ false)
+        × (buffer.new.most ≡ max buffer.old.most (length buffer.new.bytes))
+        × Gathers limit
+        (sight R.left R.failures source.old) (sight R.left R.failures source.new)
+        buffer.new.bytes taken.old taken.new
+        × HoldsFew buffer.old.most buffer.new.bytes buffer.new.most)) }
+    ensures err { IfErr result (λ reason. (bytes : List ℕ) × Refuses limit
+        (sight R.left R.failures source.old) (sight R.left R.failures source.new)
+        bytes taken.old taken.new reason
+        × HoldsFew buffer.old.most bytes buffer.new.most) }
+{
+    let gathered = gather_parts(source, buffer, taken, limit);
+    buffer.raise();
+    gathered
+}

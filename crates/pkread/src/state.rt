@@ -1,0 +1,212 @@
+//! What a reader keeps beside its source: the bytes of an instruction, and how it goes on.
+
+ghost use Rattle.std.specs.Prelude.{◌≡◌, ◌≤◌, [], ℕ, List, IfOk, IfErr, false, length, max};
+ghost use Rattle.pkops.specs.Inst.{instruction_of};
+ghost use Rattle.pkops.specs.Lying.{Lies};
+ghost use Rattle.pkops.specs.Payloads.{is_passed};
+ghost use Rattle.pkops.specs.Spelling.{Argument, instruction};
+ghost use Rattle.pkread.specs.Core.{phase_after, shown_phase};
+ghost use Rattle.pkread.specs.Heads.{HoldsFew, PassesBy};
+ghost use Rattle.pkread.specs.Private.Gathering.{Gathers, IsFound};
+ghost use Rattle.pkread.specs.Private.Passing.{IfHeld, IfPassed};
+ghost use Rattle.pkread.specs.Reading.{Raises};
+ghost use Rattle.pkread.specs.Rows.{Refuses, all_bytes, bound, sight};
+
+use crate::buffer::Buffer;
+use crate::gather::{Found, gather};
+use crate::heads::{Gathered, gather_head};
+use crate::refusal::{Reason, Refusal};
+use crate::source::Source;
+use pkops::{Inst, Limits, Op, argument_of};
+use std::alloc::Global;
+use std::marker::Model;
+
+/// How a reader goes on.
+#[derive(Clone, Copy, Debug, Drop)]
+pub(crate) enum Phase {
+    /// With the next instruction.
+    Open,
+    /// STOP was given.
+    Ended,
+    /// With the same refusal, for ever.
+    Refused(Refusal),
+}
+
+/// What a reader keeps beside its source. It stands apart so that a reader can be let go with
+/// the source still known.
+#[derive(Debug, Drop)]
+pub struct Core {
+    buffer: Buffer,
+    taken: u64,
+    limits: Limits,
+    phase: Phase,
+}
+
+impl Model for Core {
+    ghost use Rattle.std.specs.Prelude.{◌≤◌};
+    ghost use Rattle.pkread.specs.Core.{CoreView, shown_phase};
+    ghost use Rattle.pkread.specs.Rows.{bound};
+
+    ghost Value = { CoreView };
+
+    ghost view = { λ c. record {
+      held = c.buffer;
+      taken = c.taken;
+      limit = c.limits.counted;
+      phase = shown_phase c.phase;
+    } };
+
+    ghost invariant = { λ c. c.buffer.most ≤ bound c.limits.counted };
+}
+
+impl Core {
+    ghost use Rattle.pkread.specs.Core.{CoreView, phase_after, shown_phase};
+    ghost use Rattle.pkread.specs.Held.{none_held};
+    ghost use Rattle.pkread.specs.Core as phase;
+
+    pub(crate) fn new(alloc: Global, limits: &Limits) -> Core
+        ensures { result ≡ record {
+          held = none_held;
+          taken = 0;
+          limit = limits.now.counted;
+          phase = phase.Open;
+        } }
+    {
+        Core {
+            buffer: Buffer::new(alloc),
+            taken: 0,
+            limits: *limits,
+            phase: Phase::Open,
+        }
+    }
+
+    pub(crate) fn taken(&self) -> u64
+        ensures { result ≡ self.now.taken }
+    {
+        self.taken
+    }
+
+    pub(crate) fn phase(&self) -> Phase
+        ensures { shown_phase result ≡ self.now.phase }
+    {
+        self.phase
+    }
+
+    pub(crate) fn most(&self) -> usize
+        ensures most { result ≡ self.now.held.most }
+        ensures bound { result ≤ bound self.now.limit }
+    {
+        self.buffer.most()
+    }
+
+    /// Goes on behind an instruction of the opcode.
+    #[inline]
+    fn give(&mut self, op: Op)
+        requires { self.old.phase ≡ phase.Open }
+        ensures { self.new ≡ record self.old { phase = phase_after op } }
+    {
+        match op {
+            Op::Stop => self.phase = Phase::Ended,
+            _ => {}
+        }
+    }
+
+    /// Refuses, now and for ever.
+    fn refuse(&mut self, at: u64, reason: Reason) -> Refusal
+        ensures refusal { result ≡ record { at = at; reason = reason } }
+        ensures after { self.new ≡ record self.old { phase = phase.Refused result } }
+    {
+        let refusal = Refusal { at, reason };
+        self.phase = Phase::Refused(refusal);
+        refusal
+    }
+
+    /// The instruction that was gathered, without a second look at its contents.
+    #[inline]
+    pub(crate) fn instruction(&self, found: Found) -> Inst<'_>
+        requires { IsFound self.now.limit self.now.held.bytes found.op found.split }
+        ensures { (arg : Argument) →
+            Lies self.now.limit found.op arg found.split self.now.held.bytes →
+            instruction_of result ≡ instruction found.op arg }
+    {
+        let arg = argument_of(found.op, found.split, self.buffer.bytes());
+        Inst::known(found.op, arg)
+    }
+
+    /// Takes the bytes of the next instruction.
+    pub(crate) fn collect<R: Source>(&mut self, source: &mut R) -> Result<Found, Refusal>
+        requires { self.old.phase ≡ phase.Open }
+        ensures limit { self.new.limit ≡ self.old.limit }
+        ensures whole { IfOk result (λ f.
+            IsFound self.old.limit self.new.held.bytes f.op f.split
+            × (self.new.phase ≡ phase_after f.op)) }
+        ensures ok { IfOk result (λ _. Gathers self.old.limit
+            (sight R.left R.failures source.old) (sight R.left R.failures source.new)
+            self.new.held.bytes self.old.taken self.new.taken) }
+        ensures most { IfOk result (λ _.
+            self.new.held.most ≡ max self.old.held.most (length self.new.held.bytes)) }
+        ensures within { self.new.taken ≤ all_bytes }
+        ensures place { IfErr result (λ r.
+            (r.at ≡ self.old.taken) × (self.new.phase ≡ phase.Refused r)) }
+        ensures err { IfErr result (λ r. (bytes : List ℕ) × Refuses self.old.limit
+            (sight R.left R.failures source.old) (sight R.left R.failures source.new)
+            bytes self.old.taken self.new.taken r.reason
+            × Raises self.old.held.most bytes r.reason self.new.held.most) }
+    {
+        let at = self.taken;
+        let limit = self.limits.counted();
+        self.buffer.clear();
+        let gathered = gather(source, &mut self.buffer, &mut self.taken, limit);
+        let _taken = self.taken;
+        match gathered {
+            Ok(found) => {
+                self.give(found.op);
+                Ok(found)
+            }
+            Err(reason) => Err(self.refuse(at, reason)),
+        }
+    }
+
+    /// Takes the bytes of the next instruction, and holds no byte payload.
+    pub(crate) fn collect_head<R: Source>(&mut self, source: &mut R) -> Result<Gathered, Refusal>
+        requires { self.old.phase ≡ phase.Open }
+        ensures limit { self.new.limit ≡ self.old.limit }
+        ensures least { self.old.held.most ≤ self.new.held.most }
+        ensures passed { IfOk result (λ g. IfPassed g (λ op count. PassesBy self.old.limit op count
+            (sight R.left R.failures source.old) (sight R.left R.failures source.new)
+            self.old.taken self.new.taken)) }
+        ensures open { IfOk result (λ g. IfPassed g (λ _ _. self.new.phase ≡ phase.Open)) }
+        ensures few { IfOk result (λ g. IfPassed g (λ _ _.
+            self.new.held.most ≤ max self.old.held.most 131_075)) }
+        ensures held { IfOk result (λ g. IfHeld g (λ f.
+            IsFound self.old.limit self.new.held.bytes f.op f.split
+            × (is_passed f.op ≡ false)
+            × (self.new.held.most ≡ max self.old.held.most (length self.new.held.bytes))
+            × Gathers self.old.limit
+            (sight R.left R.failures source.old) (sight R.left R.failures source.new)
+            self.new.held.bytes self.old.taken self.new.taken
+            × HoldsFew self.old.held.most self.new.held.bytes self.new.held.most)) }
+        ensures next { IfOk result (λ g. IfHeld g (λ f. self.new.phase ≡ phase_after f.op)) }
+        ensures within { self.new.taken ≤ all_bytes }
+        ensures place { IfErr result (λ r.
+            (r.at ≡ self.old.taken) × (self.new.phase ≡ phase.Refused r)) }
+        ensures err { IfErr result (λ r. (bytes : List ℕ) × Refuses self.old.limit
+            (sight R.left R.failures source.old) (sight R.left R.failures source.new)
+            bytes self.old.taken self.new.taken r.reason
+            × HoldsFew self.old.held.most bytes self.new.held.most) }
+    {
+        let at = self.taken;
+        let limit = self.limits.counted();
+        self.buffer.clear();
+        let gathered = gather_head(source, &mut self.buffer, &mut self.taken, limit);
+        let _taken = self.taken;
+        match gathered {
+            Ok(Gathered::Passed { op, count }) => Ok(Gathered::Passed { op, count }),
+            Ok(Gathered::Held(found)) => {
+                self.give(found.op);
+                Ok(Gathered::Held(found))
+            }
+            Err(reason) => Err(self.refuse(at, reason)),
+        }
+    }
+}

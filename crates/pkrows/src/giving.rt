@@ -1,0 +1,103 @@
+//! Sources for tests: bytes in pieces, a long run of one byte, and requests that are watched.
+
+use pkread::{ReadFailed, Source};
+
+/// Bytes in memory, of which a pull gives so many at most.
+#[derive(Drop)]
+pub struct Pieces<'a> {
+    rest: &'a [u8],
+    most: usize,
+}
+
+impl<'a> Pieces<'a> {
+    pub fn new(bytes: &'a [u8], most: usize) -> Pieces<'a> {
+        Pieces { rest: bytes, most }
+    }
+}
+
+impl Source for Pieces<'_> {
+    ghost failures = { λ _. 0 };
+
+    fn pull(&mut self, to: &mut [u8]) -> Result<usize, ReadFailed> {
+        let count = to.len().min(self.most).min(self.rest.len());
+        to[..count].copy_from_slice(&self.rest[..count]);
+        self.rest = &self.rest[count..];
+        Ok(count)
+    }
+}
+
+/// A head, a byte again and again, and a tail.
+#[derive(Drop)]
+pub struct Filled<'a> {
+    head: &'a [u8],
+    filling: usize,
+    tail: &'a [u8],
+}
+
+impl<'a> Filled<'a> {
+    pub fn new(head: &'a [u8], filling: usize, tail: &'a [u8]) -> Filled<'a> {
+        Filled {
+            head,
+            filling,
+            tail,
+        }
+    }
+}
+
+impl Source for Filled<'_> {
+    ghost failures = { λ _. 0 };
+
+    fn pull(&mut self, to: &mut [u8]) -> Result<usize, ReadFailed> {
+        if self.head.is_empty() && self.filling > 0 {
+            let count = to.len().min(self.filling);
+            to[..count].fill(b'a');
+            self.filling -= count;
+            return Ok(count);
+        }
+        if self.head.is_empty() {
+            self.head = self.tail;
+            self.tail = &[];
+        }
+        let count = to.len().min(self.head.len());
+        to[..count].copy_from_slice(&self.head[..count]);
+        self.head = &self.head[count..];
+        Ok(count)
+    }
+}
+
+/// A source whose requests are held to those that are wanted.
+#[derive(Drop)]
+pub struct Watched<'a, R> {
+    source: R,
+    wanted: &'a [usize],
+    other: bool,
+}
+
+impl<'a, R: Source> Watched<'a, R> {
+    pub fn new(source: R, wanted: &'a [usize]) -> Watched<'a, R> {
+        Watched {
+            source,
+            wanted,
+            other: false,
+        }
+    }
+
+    /// Whether the requests were those that are wanted, all of them and no other.
+    pub fn saw_them(&self) -> bool {
+        self.wanted.is_empty() && !self.other
+    }
+}
+
+impl<R: Source> Source for Watched<'_, R> {
+    ghost left = { λ w. R.left w.source };
+
+    ghost failures = { λ w. R.failures w.source };
+
+    fn pull(&mut self, to: &mut [u8]) -> Result<usize, ReadFailed> {
+        match self.wanted.split_first() {
+            Some((first, rest)) if *first == to.len() => self.wanted = rest,
+            _ => self.other = true,
+        }
+        self.source.pull(to)
+    }
+}

@@ -1,0 +1,69 @@
+-- The data of a plain pickle as JSON: what is read, what is written, and how it ends.
+use Rattle.std.specs.Prelude.{◌≡◌, ℕ, ◌+◌, ◌%◌, ◌^◌, List, ◌++◌, codes, decimal, Option, None}
+use Rattle.std.specs.Io.KnownBytes.{Appends, IsAtEnd}
+use Rattle.serde_json.specs.Data.{Data}
+use Rattle.serde_json.specs.Written.{compact_text}
+use Rattle.pkops.specs.Limits.{Bounds}
+use Rattle.pkops.specs.Table.{row_of}
+use Rattle.pkops.specs.declared.op.Op.{Op}
+use Rattle.pkread.specs.Rows.{Sight, Takes}
+use Rattle.pkjson.specs.Export.{IsRefused, IsValueOf}
+use Rattle.pkjson.specs.declared.error.ExportError.{ExportError}
+use Rattle.pkjson.specs.declared.error.ExportError.TheVariants.{Check, NotPlain, Key, Number, TooDeep, TooMany, OutOfMemory}
+use Rattle.pktool.specs.Verdict.{no_line}
+use Rattle.pktool.specs.declared.checking.Outcome.{Outcome}
+use Rattle.pktool.specs.declared.checking.Outcome.TheVariants.{Done, Refused, Unread}
+
+-- these are all bytes of the source, and no read of them failed
+abbrev pub TakesAll : Sight → Sight → List ℕ → Type 0
+TakesAll old new bytes = Takes old new bytes × IsAtEnd new.left
+
+-- the count of failed reads went up by one
+abbrev pub OneFailed : ℕ → ℕ → Type 0
+OneFailed old new = new ≡ (old + 1) % (2 ^ 64)
+
+-- the compact text of a value, and a line end
+abbrev pub value_line : Data → List ℕ
+value_line v = compact_text v ++ codes "\n"
+
+-- `no at P: REASON`
+abbrev pub fault_line : ℕ → List ℕ → List ℕ
+fault_line at reason = codes "no at " ++ (decimal at ++ (codes ": " ++ (reason ++ codes "\n")))
+
+-- `no at P: NotPlain(NAME)`
+abbrev pub not_plain_line : ℕ → Op → List ℕ
+not_plain_line at op =
+    codes "no at "
+    ++ (decimal at ++ (codes ": NotPlain(" ++ ((row_of op).name ++ codes ")\n")))
+
+-- why there is no value
+abbrev pub error_line : ExportError → List ℕ
+error_line (Check refusal) = no_line refusal.at refusal.reason None
+error_line (NotPlain at op) = not_plain_line at op
+error_line (Key at) = fault_line at (codes "Key")
+error_line (Number at) = fault_line at (codes "Number")
+error_line TooDeep = codes "no: TooDeep\n"
+error_line TooMany = codes "no: TooMany\n"
+error_line OutOfMemory = codes "no: OutOfMemory\n"
+
+-- the text is that of the value of the pickle at the front of the bytes
+abbrev pub IsTextFor : Bounds → List ℕ → List ℕ → Type 0
+IsTextFor limits bytes text = (v : Data) × IsValueOf limits bytes v × (text ≡ compact_text v)
+
+-- the error is that of the bytes of a source. Without memory there may not be all of them
+abbrev pub IsErrorFor : Bounds → Sight → Sight → ExportError → Type 0
+IsErrorFor limits old new OutOfMemory = new.failures ≡ old.failures
+IsErrorFor limits old new error =
+    (bytes : List ℕ) × TakesAll old new bytes × IsRefused limits bytes error
+
+-- how it ends: with the line of the value of all bytes, with the line of the error, or, exactly
+-- where a read failed, with no line
+abbrev pub EndsWith : Bounds → Sight → Sight → Option (List ℕ) → Option (List ℕ) → Outcome → Type 0
+EndsWith limits old new before after Done =
+    (bytes : List ℕ) × TakesAll old new bytes
+    × (v : Data) × IsValueOf limits bytes v × Appends before after (value_line v)
+EndsWith limits old new before after Refused =
+    (error : ExportError) × IsErrorFor limits old new error
+    × Appends before after (error_line error)
+EndsWith limits old new before after Unread =
+    OneFailed old.failures new.failures × (after ≡ before)

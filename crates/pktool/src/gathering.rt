@@ -1,0 +1,37 @@
+//! A source that is read whole.
+ghost use Rattle.std.specs.Prelude.{◌≡◌, IfErr, IfOk, IfSome};
+ghost use Rattle.pkread.specs.Rows.{sight};
+ghost use Rattle.pktool.specs.Json.{OneFailed, TakesAll};
+
+use pkread::{ReadFailed, Source};
+use std::alloc::Global;
+
+/// How many bytes are asked of a source at a time.
+const SIZE: usize = 4096;
+
+/// Takes all bytes of a source. It gives nothing where there is no memory for them.
+///
+/// # Errors
+///
+/// The source's own, at the first read that fails.
+#[tactic(auto, using(crate::proofs::Exports::takes_none, crate::proofs::Exports::takes_then))]
+pub fn take_all<R: Source>(alloc: Global, source: &mut R) -> Result<Option<Vec<u8>>, ReadFailed>
+    ensures all { IfOk result (λ found. IfSome found (λ bytes. TakesAll
+        (sight R.left R.failures source.old) (sight R.left R.failures source.new) bytes.items)) }
+    ensures none { IfOk result (λ _. R.failures source.new ≡ R.failures source.old) }
+    ensures err { IfErr result (λ _. OneFailed (R.failures source.old) (R.failures source.new)) }
+{
+    let mut bytes = Vec::new(alloc);
+    let mut block = [0u8; SIZE];
+    'blocks: loop {
+        let Ok(count) = source.pull(&mut block) else {
+            return Err(ReadFailed);
+        };
+        if count == 0 {
+            return Ok(Some(bytes));
+        }
+        let Ok(()) = bytes.extend_from_slice(&block[..count]) else {
+            return Ok(None);
+        };
+    }
+}

@@ -1,0 +1,46 @@
+//! The lines of the imports of a pickle.
+ghost use Rattle.std.specs.Prelude.{OnOk, flat_map, map};
+ghost use Rattle.std.specs.Io.KnownBytes.{Appends};
+ghost use Rattle.pkcheck.specs.Import.{asked_shown};
+ghost use Rattle.pktool.specs.Imports.{import_line, import_lines};
+
+use crate::printing::quoted::write_quoted;
+use pkcheck::{Asked, No, Yes};
+use std::io;
+use std::io::Write;
+
+/// Writes a line for each import of a yes, and nothing for a no.
+pub fn write_imports<W: Write>(answer: &Result<Yes, No>, out: &mut W) -> io::Result<()>
+    ensures { OnOk result (Appends (W.contents out.old) (W.contents out.new)
+        (import_lines answer.now)) }
+{
+    match answer {
+        Ok(yes) => write_each(yes.imports.as_slice(), out),
+        Err(_) => Ok(()),
+    }
+}
+
+fn write_each<W: Write>(imports: &[Asked], out: &mut W) -> io::Result<()>
+    ensures { OnOk result (Appends (W.contents out.old) (W.contents out.new)
+        (flat_map import_line (map asked_shown imports.now))) }
+{
+    for import in imports {
+        write_import(import, out)?;
+    }
+    Ok(())
+}
+
+fn write_import<W: Write>(import: &Asked, out: &mut W) -> io::Result<()>
+    ensures { OnOk result (Appends (W.contents out.old) (W.contents out.new)
+        (import_line (asked_shown import.now))) }
+{
+    match import {
+        Asked::Pair { module, name } => {
+            write_quoted(module.as_bytes(), out)?;
+            out.write_all(b" ")?;
+            write_quoted(name.as_bytes(), out)?;
+            out.write_all(b"\n")
+        }
+        Asked::Unknown => out.write_all(b"unknown\n"),
+    }
+}
