@@ -1,51 +1,16 @@
--- runs and what the checker knows of them
-pub mod Alike
-pub mod CoversBy
-pub mod Verdicts
-pub mod Following
-pub mod Refusing
-pub mod Answering
-pub mod Soundness
-pub mod Showing
-pub mod Standing
-pub mod Examples
--- the machine
+pub mod Covering
+pub mod Stepping
+pub mod Wholes
+pub mod ListFile
+-- what the machine keeps: the stack, the memo, the texts, the imports
 pub mod Shown
 pub mod Bars
 pub mod Cells
 pub mod Joining
 pub mod Resolving
+pub mod Noting
 pub mod Topmost
 pub mod Places
-pub mod Errs
 pub mod Limited
 pub mod Settled
-pub mod Placed
-pub mod Moving
-pub mod Judged
-pub mod Going
 pub mod OpenMarks
-pub mod Memory
-pub mod Extensions
-pub mod Stops
-pub mod CoveredStep
-pub mod Passing
-pub mod Longest
--- whole runs, and a check
-pub mod RunSteps
-pub mod Walk
-pub mod Listed
-pub mod FramesSoFar
-pub mod Faultless
-pub mod TextsMade
-pub mod Given
-pub mod Payloads
-pub mod Checked
-pub mod Hearing
-mod AnswerExamples
--- the list
-pub mod ListFaults
-pub mod Items
-pub mod Index
-pub mod ListBound
-mod ListRows

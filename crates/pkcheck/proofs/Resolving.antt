@@ -14,8 +14,9 @@ use Rattle.pkcheck.specs.Private.Denials.{IsLack, IsFaultOf}
 use Rattle.pkops.specs.Limits.{Bounds}
 use Rattle.pkcheck.specs.Runs.{Text}
 use Rattle.pkcheck.specs.Knowledge.{Known, Knowledge}
+use Rattle.pkcheck.specs.Private.Noted.{Noted}
 use Rattle.pkcheck.specs.Private.Slots.{IsNumbered, known, seen, remembered, resolved, Stands, StandsIf, Sees, Resolves, Grows}
-use Rattle.pkcheck.proofs.Alike.{SameResult, Pointwise-map, Pointwise-append, AlikeEntry-map, AlikeTaken, operands_alike, front_alike, moved_alike}
+use Rattle.pkcheck.proofs.Covering.Alike.{SameResult, Pointwise-map, Pointwise-append, AlikeEntry-map, AlikeTaken, operands_alike, front_alike, moved_alike}
 
 abbrev first : Result (Value × List (Entry Value)) Breach → Option Value
 first (Ok t) = Some t.0
@@ -246,9 +247,9 @@ given_sees ts v None es h s = absurd h
 
 -- ---- an operation
 
-pub operate_resolves : {A E : Type 0} (x : Result A E) (ts us : List (List ℕ)) (es fs : List (Entry Value)) (cs : List (ℕ × Value)) (I : Type 0) → Resolves ts (record { entries = es; memo = cs }) → OnOk x (Sees us fs (seen us fs)) → OnOk x (Grows ts us) → OnErr x ((fs ≡ es) × (us ≡ ts) × I) → Resolves us (record { entries = fs; memo = cs })
-operate_resolves (Ok a) ts us es fs cs I r s g k = record { entries = s; memo = recalls_grown ts us g cs r.memo }
-operate_resolves (Err e) ts us es fs cs I r s g k = rw (k.0, k.1) r
+pub operate_resolves : {A E : Type 0} (x : Result A E) (l m : Noted) (es fs : List (Entry Value)) (cs : List (ℕ × Value)) → Resolves l.texts (record { entries = es; memo = cs }) → OnOk x (Sees m.texts fs (seen m.texts fs)) → OnOk x (Grows l.texts m.texts) → OnErr x ((fs ≡ es) × (m ≡ l)) → Resolves m.texts (record { entries = fs; memo = cs })
+operate_resolves (Ok a) l m es fs cs r s g k = record { entries = s; memo = recalls_grown l.texts m.texts g cs r.memo }
+operate_resolves (Err e) l m es fs cs r s g k = rw (k.0, k.1) r
 
 pub remembered_on : {A E : Type 0} (x : Result A E) (ts us : List (List ℕ)) (cs : List (ℕ × Value)) (P : A → List (ℕ × Known) → Type 0) → Pointwise (AlikeCell (Stands ts)) cs (remembered ts cs) → OnOk x (Grows ts us) → IfOk x (λ a. P a (remembered ts cs)) → IfOk x (λ a. P a (remembered us cs))
 remembered_on (Ok a) ts us cs P r g h = subst (λ m. P a m) (recalls_same ts us g cs r) h

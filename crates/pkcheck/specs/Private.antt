@@ -2,6 +2,7 @@
 -- functions cite. The lemmas of `proofs/` show that they come to what the other definitions say.
 pub mod Places
 pub mod Slots
+pub mod Noted
 pub mod Joined
 pub mod Denials
 pub mod Judging

@@ -3,7 +3,8 @@ use Rattle.std.specs.Prelude.{ℕ, suc, Bool, true, false, if◌then◌else◌}
 use Rattle.pkops.specs.declared.op.Op.{Op}
 use Rattle.pkops.specs.declared.op.Op.TheVariants as op
 
--- whether the opcode makes a text (the notes of `UNICODE` and its binary forms in CPython's `pickletools`)
+-- whether the opcode makes a text (the notes of `UNICODE` and its binary forms in CPython's
+-- `pickletools`)
 abbrev pub makes_text : Op → Bool
 makes_text op.Unicode = true
 makes_text op.ShortBinUnicode = true

@@ -1,14 +1,13 @@
 //! What an import asks for.
-ghost use Rattle.std.specs.Prelude.{◌≡◌, ◌⊎◌, map, option_map, IfOk, IfErr, None, Some};
-ghost use Rattle.pkcheck.specs.Private.Slots.{known};
+ghost use Rattle.std.specs.Prelude.{◌≡◌, ℕ, List, map, option_map, IfOk, IfErr, None, Some};
+ghost use Rattle.pkcheck.specs.Private.Slots.{IsNumbered, known};
+ghost use Rattle.pkcheck.specs.Private.Noted.{AreNumbered, IsNamed, IsNamedIf, named_asked};
 ghost use Rattle.pkcheck.specs.Knowledge.{AskedPair, asked_of, operands_asked, NotText};
 ghost use Rattle.pkops.specs.Inst.{instruction_of};
 ghost use Rattle.pkcheck.specs.Import.{asked_shown};
-ghost use Rattle.pkcheck.specs.Private.Denials.{MayName};
 
 use crate::machine::effects::Names;
 use crate::machine::stack::Operands;
-use crate::machine::texts::Texts;
 use crate::machine::value::Value;
 use pkops::Inst;
 use pkread::Reason;
@@ -26,6 +25,31 @@ pub enum Asked {
     },
     /// A pair that the pickle does not show.
     Unknown,
+}
+
+/// The same, lent by what lists the import.
+#[derive(Clone, Copy, Debug, PartialEq, Eq)]
+pub enum Import<'a> {
+    /// A pair, as the pickle writes it.
+    Pair {
+        /// The module.
+        module: &'a str,
+        /// The name in it.
+        name: &'a str,
+    },
+    /// A pair that the pickle does not show.
+    Unknown,
+}
+
+/// What a step names.
+#[derive(Clone, Copy)]
+pub enum Named<'a> {
+    /// A pair that the pickle does not show.
+    Unknown,
+    /// The texts of these numbers: the module and the name.
+    Made(u32, u32),
+    /// The module and the name, as the instruction spells them.
+    Written(&'a str, &'a str),
 }
 
 /// A pair of these names.
@@ -46,49 +70,44 @@ pub fn pair_of(alloc: Global, module_name: &str, name: &str) -> Result<Asked, Re
 }
 
 /// The pair that two operands name.
-pub fn texts_asked(
-    alloc: Global,
-    texts: &Texts,
-    module_name: Value,
-    name: Value,
-) -> Result<Asked, Reason>
-    ensures ok { IfOk result
-        (λ a. operands_asked None (known texts.now module_name) (known texts.now name)
-        ≡ Ok (Some (asked_shown a))) }
-    ensures err { IfErr result (λ r. ((operands_asked None (known texts.now module_name)
-        (known texts.now name) ≡ Err NotText) × (r ≡ Reason.NotText)) ⊎ (r ≡ Reason.OutOfMemory)) }
+pub fn operands_named<'a>(module_name: Value, name: Value) -> Result<Named<'a>, Reason>
+    ensures ok { (ts : List (List ℕ)) → IfOk result
+        (λ a. operands_asked None (known ts module_name) (known ts name)
+        ≡ Ok (Some (named_asked ts a))) }
+    ensures within { (count : ℕ) → IsNumbered count module_name → IsNumbered count name
+        → IfOk result (IsNamed count) }
+    ensures err { (ts : List (List ℕ)) → IfErr result
+        (λ r. (operands_asked None (known ts module_name) (known ts name) ≡ Err NotText)
+        × (r ≡ Reason.NotText)) }
 {
     match module_name {
         Value::Made(_) => Err(Reason::NotText),
         Value::Unknown => match name {
             Value::Made(_) => Err(Reason::NotText),
-            _ => Ok(Asked::Unknown),
+            _ => Ok(Named::Unknown),
         },
         Value::Text(first) => match name {
             Value::Made(_) => Err(Reason::NotText),
-            Value::Unknown => Ok(Asked::Unknown),
-            Value::Text(second) => pair_of(
-                alloc,
-                texts.get(first as usize),
-                texts.get(second as usize),
-            ),
+            Value::Unknown => Ok(Named::Unknown),
+            Value::Text(second) => Ok(Named::Made(first, second)),
         },
     }
 }
 
 /// What the operation asks for.
-pub fn asked_by(
-    alloc: Global,
+pub fn asked_by<'a>(
     names: Names,
-    inst: &Inst,
-    texts: &Texts,
+    inst: &Inst<'a>,
     operands: &Operands<'_>,
-) -> Result<Option<Asked>, Reason>
-    ensures ok { IfOk result (λ a. asked_of None names (instruction_of inst.now)
-        (map (known texts.now) operands.now) ≡ Ok (option_map asked_shown a)) }
-    ensures err { IfErr result (λ r. ((asked_of None names (instruction_of inst.now)
-        (map (known texts.now) operands.now) ≡ Err NotText) × (r ≡ Reason.NotText)) ⊎ (MayName names
-        × (r ≡ Reason.OutOfMemory))) }
+) -> Result<Option<Named<'a>>, Reason>
+    ensures ok { (ts : List (List ℕ)) → IfOk result (λ a. asked_of None names
+        (instruction_of inst.now) (map (known ts) operands.now)
+        ≡ Ok (option_map (named_asked ts) a)) }
+    ensures within { (count : ℕ) → AreNumbered count operands.now
+        → IfOk result (IsNamedIf count) }
+    ensures err { (ts : List (List ℕ)) → IfErr result (λ r. (asked_of None names
+        (instruction_of inst.now) (map (known ts) operands.now) ≡ Err NotText)
+        × (r ≡ Reason.NotText)) }
 {
     match names {
         Names::NoName => Ok(None),
@@ -96,13 +115,13 @@ pub fn asked_by(
             let Some((module_name, name)) = inst.pair() else {
                 return Ok(None);
             };
-            Ok(Some(pair_of(alloc, module_name, name)?))
+            Ok(Some(Named::Written(module_name, name)))
         }
         Names::OfOperands => {
             let Some((module_name, name)) = operands.pair() else {
                 return Ok(None);
             };
-            Ok(Some(texts_asked(alloc, texts, module_name, name)?))
+            Ok(Some(operands_named(module_name, name)?))
         }
     }
 }

@@ -8,12 +8,14 @@ mod import;
 mod imports;
 mod listening;
 mod machine;
+mod pairs;
 mod policy;
 
 pub use allow::{Allow, AllowError, Where};
 pub use checking::{No, Yes, check};
-pub use import::Asked;
+pub use import::{Asked, Import};
 pub use imports::Imports;
 pub use listening::{Listener, check_heard};
 pub use machine::{Machine, Moved};
+pub use pairs::Pair;
 pub use policy::Policy;

@@ -2,13 +2,13 @@
 
 ghost use Rattle.std.specs.Prelude.{◌≡◌, ◌∷◌, ◌++◌, [], List, IfOk, MatchResult, OnOk, Result};
 ghost use Rattle.pkops.specs.Inst.{instruction_of};
+ghost use Rattle.pkops.specs.Limits.{holding_all};
 ghost use Rattle.pkread.specs.Rows.{sight};
 ghost use Rattle.pkcheck.specs.Answered.{CountsFailures};
 ghost use Rattle.pkcheck.specs.Heard.{Heard, IsRightAndHeard, heard};
 ghost use Rattle.pkcheck.specs.Import.{policy_of};
 
 use crate::checking::{No, Yes};
-use crate::imports::Imports;
 use crate::machine::Machine;
 use crate::machine::in_frames::judge;
 use crate::policy::Policy;
@@ -40,7 +40,8 @@ pub trait Listener {
 
 /// Checks the pickle at the front of a source, as [`check`](crate::check) does, while a listener
 /// hears of each of its instructions, in order: of those that are accepted, and of the one that is
-/// refused where it was read whole and is admitted.
+/// refused where it was read whole and is admitted. It holds each payload, so `counted` is the
+/// limit on all of them.
 ///
 /// # Errors
 ///
@@ -53,7 +54,7 @@ pub fn check_heard<R: Source, L: Listener>(
     listener: &mut L,
 ) -> Result<Result<Yes, No>, L::Error>
     ensures answer { IfOk result (λ answer. (hs : List Heard)
-        × IsRightAndHeard (policy_of policy.now) limits.now
+        × IsRightAndHeard (policy_of policy.now) (holding_all limits.now)
         (sight R.left R.failures source.old) (sight R.left R.failures source.new) answer hs
         × L.hears listener.old listener.new hs) }
     ensures count { MatchResult result
@@ -62,9 +63,10 @@ pub fn check_heard<R: Source, L: Listener>(
 {
     nexts();
     frames();
-    let mut reader = Reader::new(alloc, source, limits);
+    let limits = limits.holding_all();
+    let mut reader = Reader::new(alloc, source, &limits);
     let mut frames = Frames::new();
-    let mut machine = Machine::new(alloc, limits);
+    let mut machine = Machine::new(alloc, &limits);
     'instructions: loop {
         match reader.next() {
             Err(refusal) => {
@@ -77,7 +79,7 @@ pub fn check_heard<R: Source, L: Listener>(
             Ok(Next::Ended) => {
                 return Ok(Ok(Yes {
                     taken: reader.taken(),
-                    imports: Imports::from_vec(machine.into_imports()),
+                    imports: machine.into_imports(),
                 }));
             }
             Ok(Next::Inst { at, inst }) => {

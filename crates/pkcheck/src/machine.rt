@@ -3,6 +3,7 @@
 pub(crate) mod effects;
 mod held;
 pub(crate) mod in_frames;
+pub(crate) mod ledger;
 mod memo;
 mod moves;
 mod operate;
@@ -11,15 +12,16 @@ mod stepping;
 pub(crate) mod texts;
 pub(crate) mod value;
 
-ghost use Rattle.std.specs.Prelude.{◌≡◌, map, option_map, is_some, IfOk, IfErr, IsTrue, OnOk, true};
+ghost use Rattle.std.specs.Prelude.{◌≡◌, option_map, is_some, IfOk, IfErr, IsTrue, OnOk, true};
 ghost use Rattle.std.specs.Prelude.{false};
+ghost use Rattle.std.specs.List.{slice_get};
 ghost use Rattle.pkops.specs.Inst.{instruction_of};
 ghost use Rattle.pkops.specs.Admitted.{is_admitted};
 ghost use Rattle.pkops.specs.Spelling.{Instruction};
 ghost use Rattle.pkcheck.specs.Shape.{marks_of};
 ghost use Rattle.pkcheck.specs.Runs.{State, start};
 ghost use Rattle.pkcheck.specs.Covers.{Covers};
-ghost use Rattle.pkcheck.specs.Import.{asked_shown, policy_of, pair_shown};
+ghost use Rattle.pkcheck.specs.Import.{asked_shown, import_shown, policy_of, pair_shown};
 ghost use Rattle.pkops.specs.Payloads.{is_passed};
 ghost use Rattle.pkcheck.specs.Stepping.{AnswersAgain, AppendsPermitted, Fails, GoesOn, IfFirst};
 ghost use Rattle.pkcheck.specs.Stepping.{IsNoFalseAlarm, IsStep, MayLackMemory, MeansInEachRun};
@@ -27,7 +29,8 @@ ghost use Rattle.pkcheck.specs.Stepping.{PassesNoFault, RefusesForGood, UnknownI
 ghost use Rattle.pkcheck.specs.Texts.{texts_then};
 ghost use Rattle.pkcheck.specs.View.{fresh, has_off_list, stopped_by};
 
-use crate::import::Asked;
+use crate::import::{Asked, Import};
+use crate::imports::Imports;
 use crate::machine::effects::class_passed;
 use crate::machine::held::Held;
 use crate::machine::stepping::advance;
@@ -45,7 +48,6 @@ pub use stepping::Moved;
 pub struct Machine {
     alloc: Global,
     held: Held,
-    imports: Vec<Asked>,
     limits: Limits,
     refused: Option<Reason>,
     off: Option<Asked>,
@@ -57,7 +59,7 @@ impl Model for Machine {
 
     ghost Value = { View };
 
-    ghost use Rattle.std.specs.Prelude.{◌≡◌, None, is_some, length, map, option_map};
+    ghost use Rattle.std.specs.Prelude.{◌≡◌, None, is_some, length, option_map};
     ghost use Rattle.pkcheck.specs.Import.{asked_shown, pair_shown};
     ghost use Rattle.pkcheck.specs.Private.Denials.{IsWithin};
     ghost use Rattle.pkcheck.specs.View.{has_off_list};
@@ -65,7 +67,7 @@ impl Model for Machine {
     ghost view = { λ m. record {
       knowledge = m.held.knowledge;
       limits = m.limits;
-      imports = map asked_shown m.imports.items;
+      imports = m.held.imports;
       off = option_map asked_shown m.off;
       refused = m.refused;
       stopped = m.stopped;
@@ -88,7 +90,6 @@ impl Machine {
         Machine {
             alloc,
             held: Held::new(alloc),
-            imports: Vec::new(alloc),
             limits: *limits,
             refused: None,
             off: None,
@@ -135,14 +136,7 @@ impl Machine {
         if let Some(reason) = self.refused {
             return Err(reason);
         }
-        match advance(
-            self.alloc,
-            &mut self.held,
-            &mut self.imports,
-            &self.limits,
-            inst,
-            policy,
-        ) {
+        match advance(self.alloc, &mut self.held, &self.limits, inst, policy) {
             Ok(moved) => {
                 self.stopped = is_stopped(moved);
                 Ok(moved)
@@ -200,11 +194,12 @@ impl Machine {
         self.held.texts()
     }
 
-    /// The imports so far, in order.
-    pub fn imports(&self) -> &[Asked]
-        ensures { map asked_shown result.now ≡ self.now.imports }
+    /// The import of a number among those so far, which are counted from 0, in order. `None` past
+    /// the last.
+    pub fn import(&self, number: usize) -> Option<Import<'_>>
+        ensures { option_map import_shown result ≡ slice_get self.now.imports number }
     {
-        &self.imports
+        self.held.import(number)
     }
 
     /// The pair that was off the list: the module and the name, after a refusal for this reason
@@ -225,11 +220,11 @@ impl Machine {
     }
 
     /// The imports, without the rest of the machine.
-    pub(crate) fn into_imports(self) -> Vec<Asked>
-        ensures { map asked_shown result.items ≡ self.imports }
+    pub(crate) fn into_imports(self) -> Imports
+        ensures { result ≡ self.imports }
     {
-        let Machine { imports, .. } = self;
-        imports
+        let Machine { held, .. } = self;
+        held.into_imports()
     }
 
     /// The pair that was off the list, without the rest of the machine.

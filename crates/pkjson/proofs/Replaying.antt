@@ -1,9 +1,11 @@
 -- From an accepted pickle to the end of its plain run.
 use Rattle.std.proofs.Common.{◌≡◌, inl, inr, ℕ, List, [], ◌∷◌, ◌++◌, length, take, drop, replicate, refl, sym, ap, ◌∙◌, subst, arith, Option, Some, None, length-append}
+use Rattle.std.specs.Prelude.{Bool, true, false, if◌then◌else◌, slice_index_or}
 use Rattle.std.proofs.Math.Seq.{take-append_seam, drop-append_seam}
 use Rattle.std.specs.Io.KnownBytes.{Consumes}
 use Rattle.pkops.specs.declared.op.Op.TheVariants as op
-use Rattle.pkops.specs.Limits.{Bounds}
+use Rattle.pkops.specs.Limits.{Bounds, holding_all}
+use Rattle.pkops.specs.Payloads.{is_passed, payload_limit}
 use Rattle.pkops.specs.Spelling.{Instruction, spelling}
 use Rattle.pkops.specs.Answer.{Answer, Whole, More, Bad, Answers}
 use Rattle.pkops.specs.declared.fault.Fault.{Fault}
@@ -44,15 +46,20 @@ nothing_yet = record {
   objects = record { kinds = λ n. refl; given = λ n. refl };
 }
 
+-- one limit for all
+one_limit : (limit : ℕ) (passed : Bool) → (if passed then limit else limit) ≡ limit
+one_limit limit true = refl
+one_limit limit false = refl
+
 pub stands_first : (limits : Bounds) (bytes : List ℕ) (p : List Instruction) → AcceptedAs limits bytes p → Stands limits.counted p bytes 0 no_object
 stands_first limits bytes p h = subst (λ q. Stands limits.counted q bytes 0 no_object) h.is (by_accepted h.accepted.instructions h.accepted.sequence (consumed bytes (spellings h.accepted.instructions) h.new.left h.accepted.bytes.bytes) h.accepted.sound)
   where
-    by_accepted : (q : List Instruction) → IsSequence limits.counted q → (ys : List ℕ) × (bytes ≡ spellings q ++ ys) → ((os : List Outcome) → EndsWell (permitted_by None) (run q os start)) → Stands limits.counted q bytes 0 no_object
+    by_accepted : (q : List Instruction) → IsSequence (payload_limit (holding_all limits)) q → (ys : List ℕ) × (bytes ≡ spellings q ++ ys) → ((os : List Outcome) → EndsWell (permitted_by None) (run q os start)) → Stands limits.counted q bytes 0 no_object
     by_accepted q s c w = record {
       after = q;
       tail = c.0;
       spelled = c.1;
-      allowed = s.each;
+      allowed = λ k d lt. let i = slice_index_or q k d in subst (λ (l : ℕ). IsAllowed l i) (one_limit limits.counted (is_passed i.op)) (s.each k d lt);
       stops = subst HasStop (sym s.stops.2) (has_stop s.stops.0 s.stops.1 s.stops.3);
       state = start;
       listed = permitted_by None;
@@ -90,11 +97,13 @@ whole_more i n e = cc
 pub whole_bad : (i : Instruction) (n : ℕ) (f : Fault) → Whole i n ≡ Bad f → ⊥
 whole_bad i n f e = cc
 
--- what `check` accepts
-pub accepted_as : (limits : Bounds) (bytes : List ℕ) (old new : Sight) (taken : ℕ) (imports : List Asked) → old ≡ in_memory bytes → Accepted None limits old new taken imports → IsAccepted limits bytes
-accepted_as limits bytes old new taken imports e a = subst (λ s. Accepted None limits s new taken imports → IsAccepted limits bytes) (sym e) (λ b. (b.instructions, record { new = new; taken = taken; imports = imports; accepted = b; is = refl })) a
+-- what `check` accepts, under the limits that hold all payloads
+pub accepted_as : (limits held : Bounds) (bytes : List ℕ) (old new : Sight) (taken : ℕ) (imports : List Asked) → held ≡ holding_all limits → old ≡ in_memory bytes → Accepted None held old new taken imports → IsAccepted limits bytes
+accepted_as limits held bytes old new taken imports l e a =
+    let b : Accepted None (holding_all limits) (in_memory bytes) new taken imports = subst (λ s. Accepted None (holding_all limits) s new taken imports) e (subst (λ h. Accepted None h old new taken imports) l a) in
+    (b.instructions, record { new = new; taken = taken; imports = imports; accepted = b; is = refl })
 
 -- and what it refuses
-pub refused_as : (limits : Bounds) (bytes : List ℕ) (old new : Sight) (at : ℕ) (why : Reason) (pair : Option Asked) (e : ExportError) → old ≡ in_memory bytes → Refused None limits old new at why pair → TellsRefusal at why e → IsRefused limits bytes e
-refused_as limits bytes old new at why pair e s r (inl q) = rw q tt
-refused_as limits bytes old new at why pair e s r (inr q) = rw q.1 ((new, pair, subst (λ o. Refused None limits o new at why pair) s r), q.0)
+pub refused_as : (limits held : Bounds) (bytes : List ℕ) (old new : Sight) (at : ℕ) (why : Reason) (pair : Option Asked) (e : ExportError) → held ≡ holding_all limits → old ≡ in_memory bytes → Refused None held old new at why pair → TellsRefusal at why e → IsRefused limits bytes e
+refused_as limits held bytes old new at why pair e l s r (inl q) = rw q tt
+refused_as limits held bytes old new at why pair e l s r (inr q) = rw q.1 ((new, pair, subst (λ o. Refused None (holding_all limits) o new at why pair) s (subst (λ h. Refused None h old new at why pair) l r)), q.0)

@@ -81,7 +81,9 @@ move_of move.Passes = moves.Passes
 abbrev pub acted : Action → Instruction → Arena → Result Arena Breach
 acted (Makes t m) i a = and_then (found t a.shape.entries) (λ u. Ok (made_of (kind_made m i) u a))
 acted (Fills t f) i a = and_then (found_above t a.shape.entries) (λ u. Ok (filled_of u a))
-acted (Moves m) i a = and_then (moved (move_of m) (memo_number i) a.shape) (λ h. Ok (record { shape = h; kept = a.kept }))
+acted (Moves m) i a =
+    and_then (moved (move_of m) (memo_number i) a.shape)
+    (λ h. Ok (record { shape = h; kept = a.kept }))
 acted Stops i a = Ok a
 
 -- the keys that it sets

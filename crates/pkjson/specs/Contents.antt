@@ -65,7 +65,8 @@ pub data Kind : Type 0 where
 
 -- the value that INT names: False, True or an integer
 abbrev pub int_value : Instruction → Data
-int_value i = cond (names_bool i) (boolean (says_true i.arg)) (number (of_integer (integer_named i.arg)))
+int_value i =
+    cond (names_bool i) (boolean (says_true i.arg)) (number (of_integer (integer_named i.arg)))
 
 -- the kind by what the opcode gives. Of the classes below no other is made by a plain instruction
 abbrev pub kind_given : Gives → Instruction → Kind

@@ -1,7 +1,7 @@
 -- What an export answers.
 use Rattle.std.specs.Prelude.{◌≡◌, ◌≢◌, ℕ, ◌<◌, ◌≤◌, List, Option, Some, None}
 use Rattle.serde_json.specs.Data.{Data, depth}
-use Rattle.pkops.specs.Limits.{Bounds}
+use Rattle.pkops.specs.Limits.{Bounds, holding_all}
 use Rattle.pkops.specs.Spelling.{Instruction}
 use Rattle.pkread.specs.Rows.{Sight}
 use Rattle.pkread.specs.declared.refusal.Reason.TheVariants as reason
@@ -20,12 +20,13 @@ use Rattle.pkjson.specs.Plain.{Fault, OtherOpcode, OtherKey, LargeNumber, plain_
 abbrev pub in_memory : List ℕ → Sight
 in_memory bytes = record { left = Some bytes; failures = 0 }
 
--- whatever it imports, the bytes have an accepted pickle at their front: these instructions
+-- whatever it imports, the bytes have an accepted pickle at their front, with one limit for all
+-- payloads: these instructions
 pub record AcceptedAs (limits : Bounds) (bytes : List ℕ) (p : List Instruction) : Type 0 where
   pub new : Sight
   pub taken : ℕ
   pub imports : List Asked
-  pub accepted : Accepted None limits (in_memory bytes) new taken imports
+  pub accepted : Accepted None (holding_all limits) (in_memory bytes) new taken imports
   pub is : accepted.instructions ≡ p
 
 -- some instructions are the accepted pickle at the front
@@ -34,9 +35,13 @@ IsAccepted limits bytes = (p : List Instruction) × AcceptedAs limits bytes p
 
 -- the accepted pickle has this fault, and it is the first one
 abbrev pub FaultsAt : Bounds → List ℕ → ℕ → Fault → Type 0
-FaultsAt limits bytes at fault = (p : List Instruction) × AcceptedAs limits bytes p × (first_fault 0 p start ≡ Some (at, fault))
+FaultsAt limits bytes at fault =
+    (p : List Instruction)
+    × AcceptedAs limits bytes p
+    × (first_fault 0 p start ≡ Some (at, fault))
 
--- the accepted pickle is plain, and its run in which every ask goes on ends with this object after these events
+-- the accepted pickle is plain, and its run in which every ask goes on ends with this object after
+-- these events
 pub record Results (limits : Bounds) (bytes : List ℕ) (x : ℕ) (events : List Event) : Type 0 where
   pub instructions : List Instruction
   pub accepted : AcceptedAs limits bytes instructions
@@ -74,7 +79,8 @@ pub record HasTooMany (limits : Bounds) (bytes : List ℕ) : Type 0 where
 -- what each error says of the bytes
 abbrev pub IsRefused : Bounds → List ℕ → ExportError → Type 0
 IsRefused limits bytes (Check r) =
-    ((new : Sight) × (pair : Option Asked) × Refused None limits (in_memory bytes) new r.at r.reason pair)
+    ((new : Sight) × (pair : Option Asked)
+    × Refused None (holding_all limits) (in_memory bytes) new r.at r.reason pair)
     × (r.reason ≢ reason.OutOfMemory)
 IsRefused limits bytes (NotPlain at op) = FaultsAt limits bytes at (OtherOpcode op)
 IsRefused limits bytes (Key at) = FaultsAt limits bytes at OtherKey

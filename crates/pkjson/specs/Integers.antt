@@ -10,7 +10,8 @@ decimal_after n (c ∷ cs) = cond (nat_eq c 76) n (decimal_after (n * 10 + (c - 
 -- the integer of a line: digits, with a minus before them where it is negative
 abbrev pub line_integer : List ℕ → ℤ
 line_integer [] = pos 0
-line_integer (c ∷ cs) = cond (nat_eq c 45) (neg_ℤ (pos (decimal_after 0 cs))) (pos (decimal_after 0 (c ∷ cs)))
+line_integer (c ∷ cs) =
+    cond (nat_eq c 45) (neg_ℤ (pos (decimal_after 0 cs))) (pos (decimal_after 0 (c ∷ cs)))
 
 -- the highest bit of bytes that have their lowest first
 abbrev pub has_sign : List ℕ → Bool
@@ -23,12 +24,14 @@ abbrev pub natural : Bool → List ℕ → ℕ
 natural flip [] = 0
 natural flip (b ∷ bs) = cond flip (255 - b) b + natural flip bs * 256
 
--- two's complement, the lowest byte first (CPython's `pickletools.decode_long`): where the highest bit is set, the
--- complement of the bytes is what is missing to -1
+-- two's complement, the lowest byte first (CPython's `pickletools.decode_long`): where the highest
+-- bit is set, the complement of the bytes is what is missing to -1
 abbrev pub twos_complement : List ℕ → ℤ
-twos_complement bs = cond (has_sign bs) (negsuc (natural (has_sign bs) bs)) (pos (natural (has_sign bs) bs))
+twos_complement bs =
+    cond (has_sign bs) (negsuc (natural (has_sign bs) bs)) (pos (natural (has_sign bs) bs))
 
--- the integer that an argument names: a number as it stands, a line of digits, or the bytes of LONG1 and LONG4
+-- the integer that an argument names: a number as it stands, a line of digits, or the bytes of
+-- LONG1 and LONG4
 abbrev pub integer_named : Argument → ℤ
 integer_named (Signed z) = z
 integer_named (Number width n) = pos n

@@ -21,4 +21,6 @@ AreDerivations =
 
 -- the plain run is the run in which every ask goes on
 abbrev pub PlainRunsAreRuns : Type 0
-PlainRunsAreRuns = (p : List Instruction) (s : State) → run p (replicate (length p) goes_on) s ≡ plain_run p s
+PlainRunsAreRuns =
+    (p : List Instruction) (s : State)
+    → run p (replicate (length p) goes_on) s ≡ plain_run p s

@@ -62,8 +62,8 @@ is_plain op.Memoize = true
 is_plain op.Stop = true
 is_plain _ = false
 
--- why an instruction is no part of plain data: its opcode, a dict key that isn't text, or an integer
--- outside 64 bits with a sign
+-- why an instruction is no part of plain data: its opcode, a dict key that isn't text, or an
+-- integer outside 64 bits with a sign
 pub data Fault : Type 0 where
   OtherOpcode : Op → Fault
   OtherKey : Fault
@@ -140,9 +140,10 @@ abbrev pub fault_here : Option Fault → ℕ → Option (ℕ × Fault) → Optio
 fault_here (Some f) at later = Some (at, f)
 fault_here None at later = later
 
--- the first fault of these instructions along that run, with the offset of its instruction; the first of
--- them stands at this offset
+-- the first fault of these instructions along that run, with the offset of its instruction; the
+-- first of them stands at this offset
 abbrev pub first_fault : ℕ → List Instruction → State → Option (ℕ × Fault)
 first_fault at [] s = None
 first_fault at (i ∷ is) s =
-    fault_here (fault_of i s) at (fault_after (step i s goes_on) (first_fault (at + length (spelling i)) is))
+    fault_here (fault_of i s) at
+    (fault_after (step i s goes_on) (first_fault (at + length (spelling i)) is))

@@ -14,10 +14,13 @@ IsValue h deepest most x v = Unfolds h x v × (depth v ≤ deepest) × (count v 
 -- why it has none
 abbrev pub IsTooLarge : Heap → ℕ → ℕ → ℕ → ExportError → Type 0
 IsTooLarge h deepest most x TooDeep = (v : Data) → Unfolds h x v → deepest < depth v
-IsTooLarge h deepest most x TooMany = (v : Data) × Unfolds h x v × (depth v ≤ deepest) × (most < count v)
+IsTooLarge h deepest most x TooMany =
+    (v : Data) × Unfolds h x v × (depth v ≤ deepest) × (most < count v)
 IsTooLarge h deepest most x OutOfMemory = Unit {0}
 IsTooLarge h deepest most x e = ⊥
 
 -- the error that tells a refusal: want of memory by its own
 abbrev pub TellsRefusal : ℕ → Reason → ExportError → Type 0
-TellsRefusal at why e = (e ≡ OutOfMemory) ⊎ ((why ≢ reason.OutOfMemory) × (e ≡ Check (record { at = at; reason = why })))
+TellsRefusal at why e =
+    (e ≡ OutOfMemory)
+    ⊎ ((why ≢ reason.OutOfMemory) × (e ≡ Check (record { at = at; reason = why })))

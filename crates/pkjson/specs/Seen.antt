@@ -34,7 +34,8 @@ numbers_of (slot.Object n ∷ ss) = n ∷ numbers_of ss
 
 -- what stands from a place on, and what stands below it
 abbrev pub taken_at : ℕ → List Slot → Taken ℕ
-taken_at place ss = record { operands = numbers_of (drop place ss); below = shown (take place ss) [] }
+taken_at place ss =
+    record { operands = numbers_of (drop place ss); below = shown (take place ss) [] }
 
 -- what is taken stands from a place on, or something lacks
 abbrev pub FindsPlace : Result (Taken ℕ) Breach → List Slot → Option ℕ → Type 0
@@ -46,7 +47,10 @@ abbrev pub FindsObject : Result (Taken ℕ) Breach → List Slot → Option (ℕ
 FindsObject x ss None = IsLacking x
 FindsObject x ss (Some p) =
     (p.0 < length ss)
-    × (x ≡ Ok (record { operands = p.1 ∷ numbers_of (drop (p.0 + 1) ss); below = shown (take p.0 ss) [] }))
+    × (x ≡ Ok (record {
+      operands = p.1 ∷ numbers_of (drop (p.0 + 1) ss);
+      below = shown (take p.0 ss) [];
+    }))
     × (shown (take (p.0 + 1) ss) [] ≡ Item p.1 ∷ shown (take p.0 ss) [])
 
 -- the stack and the memo

@@ -19,12 +19,16 @@ HasStop (i ∷ is) = (i.op ≡ op.Stop) ⊎ HasStop is
 
 -- the front of the bytes, where an instruction stands there: that one, and how many bytes spell it
 abbrev pub IsFront : ℕ → List ℕ → Option (Inst × ℕ) → Type 0
-IsFront limit bytes None = (i : Instruction) (more : List ℕ) → bytes ≡ spelling i ++ more → IsAllowed limit i → ⊥
-IsFront limit bytes (Some p) = (i : Instruction) (more : List ℕ) → bytes ≡ spelling i ++ more → IsAllowed limit i → (instruction_of p.0 ≡ i) × (p.1 ≡ length (spelling i))
+IsFront limit bytes None =
+    (i : Instruction) (more : List ℕ) → bytes ≡ spelling i ++ more → IsAllowed limit i → ⊥
+IsFront limit bytes (Some p) =
+    (i : Instruction) (more : List ℕ) → bytes ≡ spelling i ++ more → IsAllowed limit i
+    → (instruction_of p.0 ≡ i) × (p.1 ≡ length (spelling i))
 
--- the pickle p was followed up to the bytes `rest`, which stand at this offset; so far its objects are these, and
--- nothing is amiss
-pub record Stands (limit : ℕ) (p : List Instruction) (rest : List ℕ) (at : ℕ) (a : Arena) : Type 0 where
+-- the pickle p was followed up to the bytes `rest`, which stand at this offset; so far its objects
+-- are these, and nothing is amiss
+pub record Stands (limit : ℕ) (p : List Instruction) (rest : List ℕ) (at : ℕ)
+    (a : Arena) : Type 0 where
   pub after : List Instruction
   pub tail : List ℕ
   pub spelled : rest ≡ spellings after ++ tail
@@ -38,7 +42,8 @@ pub record Stands (limit : ℕ) (p : List Instruction) (rest : List ℕ) (at : �
   pub mirrors : MirrorsState a state
 
 -- the same, with the next instruction
-pub record StandsAt (limit : ℕ) (p : List Instruction) (rest : List ℕ) (at : ℕ) (a : Arena) (i : Instruction) : Type 0 where
+pub record StandsAt (limit : ℕ) (p : List Instruction) (rest : List ℕ) (at : ℕ) (a : Arena)
+    (i : Instruction) : Type 0 where
   pub after : List Instruction
   pub tail : List ℕ
   pub spelled : rest ≡ spelling i ++ (spellings after ++ tail)

@@ -16,7 +16,8 @@ Heap = ℕ → Option Content
 abbrev mutual
   pub Unfolds : Heap → ℕ → Data → Type 0
   Unfolds h x (array vs) = (xs : List ℕ) × (h x ≡ Some (Sequence xs)) × UnfoldItems h xs vs
-  Unfolds h x (object ms) = (ps : List (List ℕ × ℕ)) × (h x ≡ Some (Pairs ps)) × UnfoldMembers h ps ms
+  Unfolds h x (object ms) =
+      (ps : List (List ℕ × ℕ)) × (h x ≡ Some (Pairs ps)) × UnfoldMembers h ps ms
   Unfolds h x null = h x ≡ Some (Scalar null)
   Unfolds h x (boolean b) = h x ≡ Some (Scalar (boolean b))
   Unfolds h x (number n) = h x ≡ Some (Scalar (number n))

@@ -14,7 +14,11 @@ IsDeeper h levels x = (v : Data) → Unfolds h x v → levels < depth v
 
 -- the same of these items together
 unfoldable pub ItemsWeigh : Heap → ℕ → List ℕ → Weight → Type 0
-ItemsWeigh h cap xs w = (vs : Items) × UnfoldItems h xs vs × (w.depth ≡ items_depth vs) × (w.count ≡ min cap (items_count vs))
+ItemsWeigh h cap xs w =
+    (vs : Items)
+    × UnfoldItems h xs vs
+    × (w.depth ≡ items_depth vs)
+    × (w.count ≡ min cap (items_count vs))
 
 -- some of them is deeper
 unfoldable pub AreDeeper : Heap → ℕ → List ℕ → Type 0
@@ -22,7 +26,11 @@ AreDeeper h levels xs = (vs : Items) → UnfoldItems h xs vs → levels < items_
 
 -- the same of the values of these members
 unfoldable pub MembersWeigh : Heap → ℕ → List (List ℕ × ℕ) → Weight → Type 0
-MembersWeigh h cap ps w = (ms : Members) × UnfoldMembers h ps ms × (w.depth ≡ members_depth ms) × (w.count ≡ min cap (members_count ms))
+MembersWeigh h cap ps w =
+    (ms : Members)
+    × UnfoldMembers h ps ms
+    × (w.depth ≡ members_depth ms)
+    × (w.count ≡ min cap (members_count ms))
 
 -- some of them is deeper
 unfoldable pub MembersDeeper : Heap → ℕ → List (List ℕ × ℕ) → Type 0

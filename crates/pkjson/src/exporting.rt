@@ -82,13 +82,18 @@ fn most(limits: &Limits) -> u32
     limits.values() as u32
 }
 
-/// Checks the pickle, whatever it imports.
+/// Checks the pickle, whatever it imports. Its payloads are all held, and have one limit.
 fn accept(alloc: Global, bytes: &[u8], limits: &Limits) -> Result<(), ExportError>
     ensures ok { IfOk result (λ _. IsAccepted limits.now bytes.now) }
     ensures err { IfErr result (IsRefused limits.now bytes.now) }
 {
     let mut source = Memory::new(bytes);
-    match check(alloc, &mut source, &Policy::AnyImport, limits) {
+    match check(
+        alloc,
+        &mut source,
+        &Policy::AnyImport,
+        &limits.holding_all(),
+    ) {
         Ok(_) => Ok(()),
         Err(no) => Err(refusal_of(no.at, no.reason)),
     }

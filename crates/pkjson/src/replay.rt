@@ -13,7 +13,7 @@ use pkops::{Inst, Limits, Scan, scan};
 use std::alloc::Global;
 
 /// The instruction at the front of the bytes, and how many bytes spell it.
-fn front<'a>(bytes: &'a [u8], limits: &Limits) -> Option<(Inst<'a>, usize)>
+fn whole_at_front<'a>(bytes: &'a [u8], limits: &Limits) -> Option<(Inst<'a>, usize)>
     ensures { IsFront limits.now.counted bytes.now result }
 {
     match scan(bytes, limits) {
@@ -34,7 +34,7 @@ pub fn replay(alloc: Global, bytes: &[u8], limits: &Limits) -> Result<(Arena, us
     let mut rest = bytes;
     'instructions: loop {
         let at = (bytes.len() - rest.len()) as u64;
-        let Some((inst, length)) = front(rest, limits) else {
+        let Some((inst, length)) = whole_at_front(rest, limits) else {
             unreachable!()
         };
         let Some(action) = action_of(inst.op()) else {

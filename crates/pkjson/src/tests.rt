@@ -83,7 +83,10 @@ fn depth(rt: HostRuntime) -> Result<(), Fail> {
     let deep = repeated(rt.alloc(), b')', b"\x85", 99)?;
     let value = export(rt.alloc(), &deep, &Limits::STANDARD)?;
     let text = value.to_string(rt.alloc())?;
-    assert_eq!(rt; text.len(), 200);
+    let mut wanted = Vec::new(rt.alloc());
+    wanted.resize(100, b'[')?;
+    wanted.resize(200, b']')?;
+    assert_eq!(rt; text.as_bytes(), wanted.as_slice());
     let deeper = repeated(rt.alloc(), b')', b"\x85", 100)?;
     match export(rt.alloc(), &deeper, &Limits::STANDARD) {
         Ok(_) => panic!(rt; "a value"),

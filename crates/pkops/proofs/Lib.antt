@@ -26,4 +26,5 @@ pub mod Names
 pub mod Decided
 pub mod Good
 pub mod TextNamed
+pub mod OldBytesNamed
 pub mod Rows

@@ -1,20 +1,15 @@
 -- Strings in quotes, read from left to right, are those of the grammar.
-use Rattle.std.proofs.Common.{◌≡◌, ℕ, true, false, ◌&&◌, not, eqb, leb, List, [], ◌∷◌, ◌++◌, Option, Some, None, refl, sym, ap, subst, ◌∙◌, inl, inr}
+use Rattle.std.proofs.Common.{◌≡◌, ℕ, true, false, ◌&&◌, not, eqb, leb, List, [], ◌∷◌, Option, Some, None, refl, sym, ap, subst, ◌∙◌, inl, inr}
 use Rattle.std.specs.Prelude.{is_some}
 use Rattle.std.specs.List.{All, flat_map}
 use Rattle.std.specs.Char.{is_ascii_hexdigit}
 use Rattle.std.proofs.lemmas.Bool.{and_parts, cases_Bool, eqb-true, eqb-false, ne_eqb, leb-true, le-leb, both_ways}
-use Rattle.std.proofs.lemmas.List.Elements.{All-cons}
 use Rattle.pkops.specs.OldStrings.{Item, plain, escape, hex, print_item, is_escape_letter, IsItem, is_plain, hex_at, escape_at, item_at, items_of}
 use Rattle.pkops.specs.Deciding.{are_items}
 use Rattle.pkops.proofs.FormsRead.{IsRead, IsPrinted, AreInverse, read_of, printed_of}
 
 abbrev pub Items : ℕ → List ℕ → Type 0
 Items quote bytes = (items : List Item) × All (IsItem quote) items × (bytes ≡ flat_map print_item items)
-
-pub one_more : (quote : ℕ) (item : Item) (bytes : List ℕ) → IsItem quote item → Items quote bytes → Items quote (print_item item ++ bytes)
-one_more quote item bytes h (items, all, e) =
-    (item ∷ items, All-cons (IsItem quote) item items h all, ap (λ (rest : List ℕ). print_item item ++ rest) e)
 
 -- ---- one item
 
@@ -84,13 +79,21 @@ module _ (quote : ℕ) where
 
   -- ---- the items of bytes
 
+  -- items that are printed are read
+  pub items_of_printed : (items : List Item) → All (IsItem quote) items → items_of quote (flat_map print_item items) ≡ Some items
+  items_of_printed items all = read_of (item_at quote) print_item (IsItem quote) inverse items all
+
+  -- items that are read were printed
+  pub items_printed : (bytes : List ℕ) (items : List Item) → items_of quote bytes ≡ Some items → All (IsItem quote) items × (bytes ≡ flat_map print_item items)
+  items_printed bytes items e = printed_of (item_at quote) print_item (IsItem quote) inverse bytes items e
+
   found : (bytes : List ℕ) (read : Option (List Item)) → items_of quote bytes ≡ read → is_some read ≡ true → Items quote bytes
   found bytes None e some = absurd cc
-  found bytes (Some items) e some = let p = printed_of (item_at quote) print_item (IsItem quote) inverse bytes items e in (items, p.0, p.1)
+  found bytes (Some items) e some = let p = items_printed bytes items e in (items, p.0, p.1)
 
   pub items_is : (bytes : List ℕ) → are_items quote bytes ≡ true → Items quote bytes
   items_is bytes e = found bytes (items_of quote bytes) refl e
 
   pub is_items_of : (bytes : List ℕ) → Items quote bytes → are_items quote bytes ≡ true
   is_items_of bytes (items, all, e) =
-      ap (are_items quote) e ∙ ap is_some (read_of (item_at quote) print_item (IsItem quote) inverse items all)
+      ap (are_items quote) e ∙ ap is_some (items_of_printed items all)

@@ -14,6 +14,7 @@ use Rattle.pkops.specs.OldStrings.{IsStringLine}
 use Rattle.pkops.specs.Escapes.{SpellsText}
 use Rattle.pkops.specs.Forms.{forms_behind}
 use Rattle.pkops.specs.Scanning.{longest}
+use Rattle.pkops.specs.OldBytes.{old_bytes}
 use Rattle.pkops.specs.Text.{text_bytes}
 use Rattle.pkops.proofs.EscapesSpelled.{points_of_spelled, spelled_points}
 use Rattle.pkops.proofs.Floats.{float_is, is_float_of}
@@ -179,6 +180,21 @@ no_lone_quote h = let e = is_string_of (codes "'") h in cc
 no_octal_escape : IsStringLine (codes "'\\0'") → ⊥
 unfolding forms_behind
 no_octal_escape h = let e = is_string_of (codes "'\\0'") h in cc
+
+-- the letter a by its number
+old_string_by_number : old_bytes (instruction op.String (Line (codes "'\\x61'"))) ≡ Some (0x61 ∷ [])
+unfolding forms_behind
+old_string_by_number = refl
+
+old_string_of_escapes : old_bytes (instruction op.String (Line (codes "'\\n\\r\\t\\\\\\''"))) ≡ Some (0x0a ∷ 0x0d ∷ 0x09 ∷ 0x5c ∷ 0x27 ∷ [])
+unfolding forms_behind
+old_string_of_escapes = refl
+
+old_string_of_a_payload : old_bytes (instruction op.ShortBinString (Counted (0xe9 ∷ []))) ≡ Some (0xe9 ∷ [])
+old_string_of_a_payload = refl
+
+no_old_string : old_bytes (instruction op.ShortBinBytes (Counted (0xe9 ∷ []))) ≡ None
+no_old_string = refl
 
 no_surrogate : (points : List ℕ) → SpellsText (codes "\\ud800") points → ⊥
 unfolding forms_behind

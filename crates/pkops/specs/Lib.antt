@@ -8,6 +8,7 @@ pub mod Floats
 pub mod OldStrings
 pub mod Escapes
 pub mod Text
+pub mod OldBytes
 pub mod Operands
 pub mod Admitted
 pub mod Payloads
@@ -15,5 +16,6 @@ pub mod Limits
 pub mod Scanning
 pub mod Answer
 pub mod Lying
+pub mod Growth
 pub mod Deciding
 pub mod Private

@@ -13,15 +13,31 @@ pub record Bounds : Type 0 where
   pub depth : ℕ
   -- JSON values
   pub values : ℕ
+  -- bytes of a payload that is passed over
+  pub passed : ℕ
 
 -- these numbers
-abbrev pub bounds : (counted stack memo depth values : ℕ) → Bounds
-bounds counted stack memo depth values =
-    record { counted = counted; stack = stack; memo = memo; depth = depth; values = values }
+abbrev pub bounds : (counted stack memo depth values passed : ℕ) → Bounds
+bounds counted stack memo depth values passed = record {
+  counted = counted;
+  stack = stack;
+  memo = memo;
+  depth = depth;
+  values = values;
+  passed = passed;
+}
 
--- the greatest numbers that limits may have
+-- the numbers that stand where none are asked for
 abbrev pub standard : Bounds
-standard = bounds 16_777_216 1_000_000 1_000_000 100 1_000_000
+standard = bounds 16_777_216 1_000_000 1_000_000 100 1_000_000 16_777_216
+
+-- the greatest numbers that limits may have: the standard ones, but for payloads passed over
+abbrev pub greatest : Bounds
+greatest = record standard { passed = 1_099_511_627_776 }
+
+-- the same for a reader that holds every payload: one limit for all
+abbrev pub holding_all : Bounds → Bounds
+holding_all limits = record limits { passed = limits.counted }
 
 -- each number is at most the other's
 pub record AreWithin (a b : Bounds) : Type 0 where
@@ -30,3 +46,4 @@ pub record AreWithin (a b : Bounds) : Type 0 where
   pub memo : a.memo ≤ b.memo
   pub depth : a.depth ≤ b.depth
   pub values : a.values ≤ b.values
+  pub passed : a.passed ≤ b.passed

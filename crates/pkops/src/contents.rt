@@ -14,6 +14,7 @@ use crate::contents::numeral::{is_int_line, is_long_line, memo_number};
 use crate::contents::old_string::is_string_line;
 use crate::op::Op;
 
+pub mod digit;
 pub mod escapes;
 pub mod float;
 pub mod name;

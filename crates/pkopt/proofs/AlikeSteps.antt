@@ -1,13 +1,12 @@
 -- A step in two states that differ in their memos alone.
-use Rattle.std.proofs.Common.{◌≡◌, ℕ, Bool, true, false, List, [], ◌∷◌, map, Option, Some, None, Result, Ok, Err, refl, sym, subst}
+use Rattle.std.proofs.Common.{◌≡◌, ℕ, Bool, true, false, List, [], ◌∷◌, map, Result, Ok, Err, refl, sym, subst}
 use Rattle.pkops.specs.Spelling.{Instruction}
-use Rattle.pkops.specs.Operands.{memo_number}
 use Rattle.pkcheck.specs.declared.machine.effects.Names.{Names}
 use Rattle.pkcheck.specs.declared.machine.effects.Gives.{Gives}
 use Rattle.pkcheck.specs.declared.machine.effects.Effect.{Effect}
 use Rattle.pkcheck.specs.declared.machine.effects.Effect.TheVariants.{Operates, Moves, Stops}
 use Rattle.pkcheck.specs.declared.machine.effects.Move.TheVariants.{PushesMark, Pops, PopsMark, Duplicates, Stores, StoresNext, Fetches, Passes, Extends}
-use Rattle.pkcheck.specs.Shape.{Breach, Entry, Mark, Item, Shape, Taken, and_then, slice, operands, top, popped}
+use Rattle.pkcheck.specs.Shape.{Breach, Entry, Item, Taken, and_then, slice, operands, top, popped}
 use Rattle.pkcheck.specs.Runs.{Import, State, Outcome, Raise, Go, Stepped, WentOn, Raised, Stopped, Stuck, Named, NoImport, Pair, NotTexts, class_at, named, with_event, asks, come_of, operated, move_step, stop_step, operate_step, perform}
 use Rattle.pkcheck.specs.WholeRuns.{Ended, Reached, EndedBy, go_on}
 use Rattle.pkopt.specs.RunsAlike.{SameHistory, SameEnd}

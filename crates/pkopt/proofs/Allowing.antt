@@ -1,11 +1,10 @@
 -- Each instruction of the slim form is good, admitted and within the limits.
-use Rattle.std.proofs.Common.{◌≡◌, ℕ, suc, ◌<◌, ◌≤◌, ◌^◌, Bool, true, false, cond, ltb, List, [], ◌∷◌, ◌++◌, length, get_or, Option, None, Some, ◌⊎◌, inl, inr, refl, sym, ap, subst, ◌∙◌, arith}
+use Rattle.std.proofs.Common.{◌≡◌, ℕ, suc, ◌<◌, ◌≤◌, ◌^◌, Bool, true, false, cond, ltb, List, [], ◌∷◌, ◌++◌, length, get_or, Option, None, Some, inl, inr, refl, sym, ap, subst, ◌∙◌, arith}
 use Rattle.std.specs.Prelude.{◌≢◌, ◌&&◌}
 use Rattle.std.specs.List.{AllByRecursion}
 use Rattle.std.specs.Char.{is_ascii_digit}
 use Rattle.std.specs.Int.{IsInRange}
 use Rattle.std.specs.Fmt.{decimal}
-use Rattle.std.specs.Str.Parse.{digits_value}
 use Rattle.std.proofs.lemmas.Bool.{le-leb, ltb-true}
 use Rattle.std.proofs.lemmas.Fmt.{decimal_digit, decimal_nonempty, first_decimal, digits_decimal, length-decimal-le}
 use Rattle.std.proofs.lemmas.Grind.{get_or_default_zero}
@@ -21,7 +20,7 @@ use Rattle.pkcheck.specs.declared.machine.effects.Effect.TheVariants.{Moves}
 use Rattle.pkcheck.specs.declared.machine.effects.Move.TheVariants.{Stores, StoresNext, Fetches}
 use Rattle.pkcheck.specs.Effects.{effect_of}
 use Rattle.pkopt.specs.Fronts.{EndsInStop}
-use Rattle.pkopt.specs.Slim.{form_of, argument_for, renumbered, is_frame, read_left, left_of, slim_from, slim}
+use Rattle.pkopt.specs.Slim.{form_of, argument_for, is_frame, read_left, left_of, slim_from, slim}
 use Rattle.pkopt.specs.Writers.{Writes, last_write, wrote, after, sources, is_read, new_number, after_all}
 use Rattle.pkopt.proofs.Fating.{last_write_lt}
 use Rattle.pkopt.proofs.NewForms.{NamesNumber, decimal_says}

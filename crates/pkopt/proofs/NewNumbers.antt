@@ -1,6 +1,6 @@
 -- The new numbers of the memo writes that stay.
-use Rattle.std.proofs.Common.{◌≡◌, ℕ, zero, suc, ◌+◌, ◌<◌, ◌≤◌, Bool, true, false, cond, ◌||◌, List, [], ◌∷◌, ◌++◌, length, Option, Some, None, ◌⊎◌, inl, inr, refl, sym, ap, subst, ◌∙◌, arith}
-use Rattle.std.specs.Prelude.{nat_eq, ◌≢◌}
+use Rattle.std.proofs.Common.{◌≡◌, ℕ, zero, suc, ◌<◌, ◌≤◌, Bool, true, false, cond, List, [], ◌∷◌, length, Option, ◌⊎◌, inl, inr, refl, ap, subst, arith}
+use Rattle.std.specs.Prelude.{◌≢◌}
 use Rattle.std.proofs.lemmas.Bool.Decides.{eqb_tells}
 use Rattle.pkops.specs.Spelling.{Instruction}
 use Rattle.pkops.specs.Operands.{memo_number}
@@ -8,7 +8,7 @@ use Rattle.pkcheck.specs.declared.machine.effects.Effect.{Effect}
 use Rattle.pkcheck.specs.declared.machine.effects.Effect.TheVariants.{Moves}
 use Rattle.pkcheck.specs.declared.machine.effects.Move.TheVariants.{Stores, StoresNext}
 use Rattle.pkcheck.specs.Effects.{effect_of}
-use Rattle.pkopt.specs.Writers.{Writes, wrote, after, is_read, new_number, after_all, different}
+use Rattle.pkopt.specs.Writers.{Writes, wrote, after, is_read, new_number, after_all}
 
 pub tells_eq : (a b : ℕ) → (a ≡ b) ⊎ (a ≢ b)
 tells_eq a b = elim (eqb_tells a b) [ inl h ↦ inl h.1 | inr h ↦ inr h.1 ]

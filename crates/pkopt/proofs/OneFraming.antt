@@ -1,5 +1,5 @@
 -- The optimized form is framed, has the same runs, and its bytes are those of the slim form with a FRAME put in.
-use Rattle.std.proofs.Common.{◌≡◌, ℕ, suc, ◌+◌, ◌-◌, ◌<◌, ◌≤◌, Bool, true, false, cond, ltb, ◌||◌, List, [], ◌∷◌, ◌++◌, length, take, drop, get_or, map, Option, None, Some, option_map, All, ◌⊎◌, inl, inr, refl, sym, ap, subst, ◌∙◌, arith, MatchOption, length-append}
+use Rattle.std.proofs.Common.{◌≡◌, ℕ, suc, ◌+◌, ◌-◌, ◌<◌, Bool, true, false, cond, ltb, ◌||◌, List, [], ◌∷◌, ◌++◌, length, take, drop, get_or, map, Option, None, Some, option_map, All, ◌⊎◌, inl, inr, refl, sym, ap, subst, ◌∙◌, arith, MatchOption, length-append}
 use Rattle.std.specs.Prelude.{nat_eq, ◌≢◌}
 use Rattle.std.proofs.lemmas.Bool.Decides.{nat_tests}
 use Rattle.std.proofs.lemmas.List.Elements.{All-nil, All-cons}
@@ -10,7 +10,7 @@ use Rattle.pkops.specs.Operands.{memo_number}
 use Rattle.pkops.specs.Spelling.{Argument, Nothing, Number, Signed, Float, Line, Pair, Counted, Instruction, instruction, Suits, layout_at, laid, spelling}
 use Rattle.pkops.specs.Table.{code_of}
 use Rattle.pkread.specs.Admission.{IsAllowed}
-use Rattle.pkread.specs.Framing.{Role, stop, other, Piece, total, counted, one_later, refused_at, Framed, FirstUnframed, CountingIsExact}
+use Rattle.pkread.specs.Framing.{Role, stop, other, total, counted, one_later, refused_at, Framed, FirstUnframed, CountingIsExact}
 use Rattle.pkread.specs.Genops.{is_stop}
 use Rattle.pkread.specs.Pieces.{role_of, number_of, piece_of}
 use Rattle.pkread.specs.Sequence.{spellings}

@@ -1,8 +1,8 @@
 -- What the answers of `optimize` rest on.
-use Rattle.std.proofs.Common.{◌≡◌, ℕ, suc, ◌+◌, ◌<◌, ◌≤◌, ◌^◌, Bool, true, false, List, [], ◌∷◌, ◌++◌, length, map, Option, Some, None, ◌⊎◌, inl, inr, refl, sym, ap, subst, ◌∙◌, arith}
-use Rattle.std.specs.Prelude.{◌≢◌, All}
-use Rattle.std.specs.Io.KnownBytes.{Consumes}
-use Rattle.pkops.specs.Limits.{Bounds}
+use Rattle.std.proofs.Common.{◌≡◌, ℕ, suc, ◌<◌, ◌≤◌, ◌^◌, Bool, true, false, List, [], ◌∷◌, ◌++◌, length, Option, None, ◌⊎◌, inl, inr, refl, sym, ap, subst, ◌∙◌, arith}
+use Rattle.std.specs.Prelude.{◌≢◌, All, if◌then◌else◌, slice_index_or}
+use Rattle.pkops.specs.Limits.{Bounds, holding_all}
+use Rattle.pkops.specs.Payloads.{is_passed, payload_limit}
 use Rattle.pkops.specs.Spelling.{Instruction}
 use Rattle.pkops.specs.declared.op.Op.TheVariants.{Stop}
 use Rattle.pkread.specs.Admission.{IsAllowed}
@@ -10,7 +10,7 @@ use Rattle.pkread.specs.Framing.{CountingIsExact}
 use Rattle.pkread.specs.Sequence.{IsSequence, spellings}
 use Rattle.pkread.specs.declared.refusal.Refusal.{Refusal}
 use Rattle.pkcheck.specs.Listing.{permitted_by}
-use Rattle.pkcheck.specs.Runs.{WentOn, Raised, Stopped, Stuck, Outcome, start}
+use Rattle.pkcheck.specs.Runs.{WentOn, Raised, Stopped, Stuck, start}
 use Rattle.pkcheck.specs.Covers.{imports_of}
 use Rattle.pkcheck.specs.WholeRuns.{Ended, Reached, EndedBy, AllListed, EndsWell, run}
 use Rattle.pkopt.specs.declared.slim.Slim.{Slim}
@@ -28,7 +28,7 @@ use Rattle.pkopt.specs.Limit.{IsPastLimit}
 use Rattle.pkopt.specs.OneFrame.{has_frame, optimized}
 use Rattle.pkopt.specs.RunsAlike.{RunsAlike, SameEnd}
 use Rattle.pkopt.specs.Slim.{slim}
-use Rattle.pkopt.specs.Writers.{Writes, after, sources, is_read, new_number, after_all}
+use Rattle.pkopt.specs.Writers.{Writes, after, sources, new_number, after_all}
 use Rattle.pkopt.proofs.AlikeSteps.{IsFree}
 use Rattle.pkopt.proofs.NewNumbers.{after_all_le, new_least, new_up_to}
 use Rattle.pkopt.proofs.OneFraming.{optimized_alike, optimized_framed, optimized_bytes, slim_bytes}
@@ -56,14 +56,25 @@ ends_in_stop limit [] last each stop none = (each 0 last (omega arith), inl (sto
 ends_in_stop limit (i ∷ front) last each stop none =
     (each 0 i (omega arith), inr (none 0 i (omega arith), ends_in_stop limit front last (λ k d lt. each (suc k) d (omega (arith, lt))) stop (λ k d lt. none (suc k) d (omega (arith, lt)))))
 
-sequence_ends : (limit : ℕ) (p : List Instruction) → IsSequence limit p → EndsInStop limit p
+sequence_ends : (limit : ℕ) (p : List Instruction) → IsSequence (λ _. limit) p → EndsInStop limit p
 sequence_ends limit p h =
     let s = h.stops in
     subst (EndsInStop limit) (sym s.2) (ends_in_stop limit s.0 s.1 (subst (All (IsAllowed limit)) s.2 h.each) s.3 s.4)
 
+-- one limit for all
+one_limit : (limit : ℕ) (passed : Bool) → (if passed then limit else limit) ≡ limit
+one_limit limit true = refl
+one_limit limit false = refl
+
+held_sequence : (limits : Bounds) (p : List Instruction) → IsSequence (payload_limit (holding_all limits)) p → IsSequence (λ _. limits.counted) p
+held_sequence limits p h = record {
+  each = λ k d lt. let i = slice_index_or p k d in subst (λ (l : ℕ). IsAllowed l i) (one_limit limits.counted (is_passed i.op)) (h.each k d lt);
+  stops = h.stops;
+}
+
 -- the pickle stands at the front
 pub at_front : (limits : Bounds) (bytes : List ℕ) (c : Checks limits bytes) → Front limits.counted bytes (pickle c)
-at_front limits bytes c = record { ends = sequence_ends limits.counted (pickle c) c.accepted.sequence; rest = c.rest; spelled = c.accepted.bytes.bytes }
+at_front limits bytes c = record { ends = sequence_ends limits.counted (pickle c) (held_sequence limits (pickle c) c.accepted.sequence); rest = c.rest; spelled = c.accepted.bytes.bytes }
 
 -- the new numbers are small
 small_numbers : (p : List Instruction) (limit : ℕ) → limit < 2 ^ 32 → new_number (sources [] p) (length (after_all p [])) ≤ limit → (w : ℕ) → w < length (after_all p []) → new_number (sources [] p) w < 2 ^ 32
@@ -107,11 +118,11 @@ pub passes_limit : (limits : Bounds) (bytes : List ℕ) (c : Checks limits bytes
 passes_limit limits bytes c limit refusal same h = record { checks = c; before = h.before; past = subst (λ m. IsPastLimit m (pickle c) h.before) same h.past; place = h.place; reason = h.why }
 
 -- a check of bytes in memory
-pub checks_memory : (limits : Bounds) (bytes left rest : List ℕ) (taken : ℕ) (imports : List Asked) → left ≡ bytes → Accepted None limits (in_memory left) (in_memory rest) taken imports → Checks limits bytes
-checks_memory limits bytes left rest taken imports e h = record { rest = rest; taken = taken; imports = imports; accepted = subst (λ b. Accepted None limits (in_memory b) (in_memory rest) taken imports) e h }
+pub checks_memory : (limits : Bounds) (bytes left rest : List ℕ) (taken : ℕ) (imports : List Asked) → left ≡ bytes → Accepted None (holding_all limits) (in_memory left) (in_memory rest) taken imports → Checks limits bytes
+checks_memory limits bytes left rest taken imports e h = record { rest = rest; taken = taken; imports = imports; accepted = subst (λ b. Accepted None (holding_all limits) (in_memory b) (in_memory rest) taken imports) e h }
 
-pub fails_memory : (limits : Bounds) (bytes left : List ℕ) (after : Sight) (refusal : Refusal) (pair : Option Asked) → left ≡ bytes → Refused None limits (in_memory left) after refusal.at refusal.reason pair → FailsCheck limits bytes refusal
-fails_memory limits bytes left after refusal pair e h = record { after = after; pair = pair; refused = subst (λ b. Refused None limits (in_memory b) after refusal.at refusal.reason pair) e h }
+pub fails_memory : (limits : Bounds) (bytes left : List ℕ) (after : Sight) (refusal : Refusal) (pair : Option Asked) → left ≡ bytes → Refused None (holding_all limits) (in_memory left) after refusal.at refusal.reason pair → FailsCheck limits bytes refusal
+fails_memory limits bytes left after refusal pair e h = record { after = after; pair = pair; refused = subst (λ b. Refused None (holding_all limits) (in_memory b) after refusal.at refusal.reason pair) e h }
 
 pub plan_for : (p : List Instruction) (plan : Plan) (writes : ℕ) → (plan.sources.items ≡ sources [] p) × (writes ≡ length (after_all p [])) → AreNumbers plan.sources.items writes plan.limit plan.numbers.items → IsPlanFor p plan
 plan_for p plan writes e h = record {

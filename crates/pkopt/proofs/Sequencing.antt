@@ -1,5 +1,5 @@
 -- The optimized form is one sequence of instructions.
-use Rattle.std.proofs.Common.{◌≡◌, ℕ, suc, ◌<◌, ◌^◌, Bool, true, false, cond, List, [], ◌∷◌, ◌++◌, length, ◌⊎◌, inl, inr, refl, sym, ap, subst, ◌∙◌, arith, length-append}
+use Rattle.std.proofs.Common.{◌≡◌, ℕ, ◌<◌, ◌^◌, Bool, true, false, cond, List, [], ◌∷◌, ◌++◌, length, inl, inr, refl, sym, ap, ◌∙◌, arith, length-append}
 use Rattle.std.specs.Prelude.{◌≢◌, All}
 use Rattle.std.proofs.lemmas.List.Elements.{All-nil, All-cons}
 use Rattle.pkops.specs.declared.op.Op.{Op}
@@ -69,7 +69,7 @@ optimized_ends true q h = in_frame_ends q h
 optimized_ends false q h = h
 
 -- each instruction is allowed, the last is STOP, and no other is
-pub optimized_sequence : (limit : ℕ) (p : List Instruction) → ((w : ℕ) → w < length (after_all p []) → new_number (sources [] p) w < 2 ^ 32) → length (spellings (slim p)) < 2 ^ 64 → EndsInStop limit p → IsSequence limit (optimized p)
+pub optimized_sequence : (limit : ℕ) (p : List Instruction) → ((w : ℕ) → w < length (after_all p []) → new_number (sources [] p) w < 2 ^ 32) → length (spellings (slim p)) < 2 ^ 64 → EndsInStop limit p → IsSequence (λ _. limit) (optimized p)
 optimized_sequence limit p small short h = record {
   each = all_allowed limit (optimized p) (optimized_allowed limit (has_frame p) (slim p) short (slim_allowed limit p small h));
   stops = stops_last (optimized p) (optimized_ends (has_frame p) (slim p) (slim_stops limit p h));

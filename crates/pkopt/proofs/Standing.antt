@@ -9,7 +9,7 @@ use Rattle.pkread.specs.Sequence.{spellings}
 use Rattle.pkcheck.specs.Effects.{effect_of}
 use Rattle.pkopt.specs.Fronts.{Front}
 use Rattle.pkopt.specs.Passes.{Follows}
-use Rattle.pkopt.specs.Writers.{after, read_by, sources, after_all}
+use Rattle.pkopt.specs.Writers.{read_by, sources, after_all}
 use Rattle.pkopt.proofs.Following.{FollowsOn, after_all-more, sources-more}
 use Rattle.pkopt.proofs.Scanning.{scanned, whole_first, behind, behind_split, stops}
 

@@ -1,25 +1,22 @@
 -- The slim form, written instruction by instruction.
-use Rattle.std.proofs.Common.{◌≡◌, ℕ, ◌+◌, ◌-◌, ◌≤◌, Bool, true, false, ◌||◌, List, [], ◌∷◌, ◌++◌, length, take, drop, Option, ◌⊎◌, inl, inr, refl, sym, ap, subst, ◌∙◌, arith, append_assoc, append-nil, length-append}
+use Rattle.std.proofs.Common.{◌≡◌, ℕ, ◌-◌, ◌≤◌, Bool, true, false, ◌||◌, List, [], ◌∷◌, ◌++◌, length, drop, Option, ◌⊎◌, inl, inr, refl, sym, ap, subst, ◌∙◌, arith, append_assoc, append-nil, length-append}
 use Rattle.std.specs.Prelude.{◌≢◌}
-use Rattle.pkops.specs.Answer.{Answer, Answers, Whole, IsWhole}
-use Rattle.pkops.specs.Operands.{memo_number}
+use Rattle.pkops.specs.Answer.{Answer, Answers, Whole}
 use Rattle.pkops.specs.Spelling.{Instruction, spelling}
 use Rattle.pkops.specs.declared.op.Op.TheVariants.{Stop}
 use Rattle.pkread.specs.Sequence.{spellings}
 use Rattle.pkread.specs.declared.refusal.Reason.{Reason}
 use Rattle.pkread.specs.declared.refusal.Reason.TheVariants as reason
-use Rattle.pkread.specs.declared.refusal.Refusal.{Refusal}
 use Rattle.pkcheck.specs.Effects.{effect_of}
 use Rattle.pkopt.specs.declared.fate.Fate.{Fate}
-use Rattle.pkopt.specs.declared.fate.Fate.TheVariants.{Goes, Stays, Gets, IsPast}
 use Rattle.pkopt.specs.declared.fate.Plan.{Plan}
 use Rattle.pkopt.specs.declared.slim.Slim.{Slim}
 use Rattle.pkopt.specs.Fates.{fate_by, fate_in, writes_after, Adds, IsHalted, refusal_at, IsPlanFor, IsSlim, IsPastAt}
 use Rattle.pkopt.specs.Fronts.{Front}
 use Rattle.pkopt.specs.OneFrame.{has_frame}
 use Rattle.pkopt.specs.Passes.{memo_use}
-use Rattle.pkopt.specs.Slim.{is_frame, left_of, slim_from, slim}
-use Rattle.pkopt.specs.Writers.{Writes, after, sources, is_read, new_number, after_all}
+use Rattle.pkopt.specs.Slim.{is_frame, left_of, slim_from}
+use Rattle.pkopt.specs.Writers.{Writes, after, sources, new_number, after_all}
 use Rattle.pkopt.proofs.Fating.{At, Written, RightFor, fate_right, at_next, on_right, past_right}
 use Rattle.pkopt.proofs.Following.{after_all-more}
 use Rattle.pkopt.proofs.Standing.{Stands, stands_first, stands_next, stands_last, stands_scanned}

@@ -1,6 +1,6 @@
 -- What an answer of `optimize` says.
 use Rattle.std.specs.Prelude.{◌≡◌, ℕ, ◌⊎◌, List, length, map, Option, Some, None}
-use Rattle.pkops.specs.Limits.{Bounds}
+use Rattle.pkops.specs.Limits.{Bounds, holding_all}
 use Rattle.pkops.specs.Spelling.{Instruction}
 use Rattle.pkread.specs.Framing.{Framed}
 use Rattle.pkread.specs.Pieces.{piece_of}
@@ -21,12 +21,19 @@ use Rattle.pkopt.specs.RunsAlike.{RunsAlike, AllRead}
 abbrev pub in_memory : List ℕ → Sight
 in_memory bytes = record { left = Some bytes; failures = 0 }
 
--- a check under any import says yes to the pickle at the front of the bytes
+-- a check under any import, with one limit for all payloads, says yes to the pickle at the front of
+-- the bytes
 pub record Checks (limits : Bounds) (bytes : List ℕ) : Type 0 where
   pub rest : List ℕ
   pub taken : ℕ
   pub imports : List Asked
-  pub accepted : Accepted None limits (in_memory bytes) (in_memory rest) taken imports
+  pub accepted : Accepted None (holding_all limits) (in_memory bytes) (in_memory rest) taken imports
+
+-- a check of the bytes under any import takes so many
+abbrev pub TakesAsChecked : Bounds → List ℕ → ℕ → Type 0
+TakesAsChecked limits bytes taken =
+    (after : Sight) × (imports : List Asked)
+    × Accepted None (holding_all limits) (in_memory bytes) after taken imports
 
 -- the instructions of that pickle
 abbrev pub pickle : {limits : Bounds} {bytes : List ℕ} → Checks limits bytes → List Instruction
@@ -44,7 +51,7 @@ pub record Optimizes (limits : Bounds) (bytes out : List ℕ) : Type 0 where
   -- each memo write that stayed is read
   pub read : AllRead (optimized (pickle checks))
   -- which is one sequence itself, and each instruction lies whole within its frame
-  pub sequence : IsSequence limits.counted (optimized (pickle checks))
+  pub sequence : IsSequence (λ _. limits.counted) (optimized (pickle checks))
   pub framed : Framed (map piece_of (optimized (pickle checks)))
   -- whatever operations answer, each step of it finds what it needs, and STOP leaves nothing but
   -- the result
@@ -56,7 +63,8 @@ pub record Optimizes (limits : Bounds) (bytes out : List ℕ) : Type 0 where
 pub record FailsCheck (limits : Bounds) (bytes : List ℕ) (refusal : Refusal) : Type 0 where
   pub after : Sight
   pub pair : Option Asked
-  pub refused : Refused None limits (in_memory bytes) after refusal.at refusal.reason pair
+  pub refused : Refused None (holding_all limits)
+      (in_memory bytes) after refusal.at refusal.reason pair
 
 -- the pickle passes the check, and at this place stands a write that is read and whose number would
 -- be the limit

@@ -1,7 +1,6 @@
 -- What becomes of each instruction in the slim form, as the second pass over a pickle finds it.
-use Rattle.std.specs.Prelude.{◌≡◌, ◌≢◌, ◌⊎◌, ℕ, ◌+◌, ◌≤◌, Bool, true, cond, nat_eq, ◌||◌, List, [], ◌++◌, length, Option, None, Some, slice_index_or}
+use Rattle.std.specs.Prelude.{◌≡◌, ◌≢◌, ◌⊎◌, ℕ, ◌+◌, ◌≤◌, true, cond, nat_eq, ◌||◌, List, [], ◌++◌, length, Option, None, Some, slice_index_or}
 use Rattle.pkops.specs.declared.op.Op.{Op}
-use Rattle.pkops.specs.declared.op.Op.TheVariants as op
 use Rattle.pkops.specs.Operands.{names_memo_entry}
 use Rattle.pkops.specs.Spelling.{Nothing, Instruction, instruction, spelling}
 use Rattle.pkread.specs.Sequence.{spellings}
@@ -83,12 +82,14 @@ pub record Adds (plan : Plan) (o : Op) (spelled : List ℕ) (old new : Slim) : T
   pub writes_now : new.writes ≡ writes_after (memo_use o) old.writes
   pub reads_now : new.reads ≡ reads_after (memo_use o) old.reads
   pub framed_now : new.framed ≡ old.framed || is_frame o
-  pub bytes_now : Emits (fate_in plan o old.writes old.reads) o spelled old.bytes.items new.bytes.items
+  pub bytes_now :
+      Emits (fate_in plan o old.writes old.reads) o spelled old.bytes.items new.bytes.items
 
 -- it was not: there was no memory, or its number would be the limit
 abbrev pub IsHalted : Plan → Op → Slim → Reason → Type 0
 IsHalted plan o old r =
-    (r ≡ reason.OutOfMemory) ⊎ ((r ≡ reason.TooLarge) × (fate_in plan o old.writes old.reads ≡ IsPast))
+    (r ≡ reason.OutOfMemory)
+    ⊎ ((r ≡ reason.TooLarge) × (fate_in plan o old.writes old.reads ≡ IsPast))
 
 -- the refusal; want of memory has no place
 abbrev pub refusal_at : ℕ → Reason → Refusal

@@ -1,5 +1,5 @@
 -- A FRAME put into the bytes of a pickle.
-use Rattle.std.specs.Prelude.{ℕ, ◌-◌, cond, nat_eq, List, [], ◌∷◌, ◌++◌, length, take, drop}
+use Rattle.std.specs.Prelude.{ℕ, ◌-◌, cond, nat_eq, List, ◌∷◌, ◌++◌, length, take, drop}
 use Rattle.pkops.specs.declared.op.Op.TheVariants.{Frame}
 use Rattle.pkops.specs.Spelling.{Number, instruction, spelling}
 
@@ -12,4 +12,5 @@ head_length bytes = 0
 abbrev pub framed_bytes : List ℕ → List ℕ
 framed_bytes bytes =
     let head = head_length bytes in
-    take head bytes ++ (spelling (instruction Frame (Number 8 (length bytes - head))) ++ drop head bytes)
+    take head bytes
+    ++ (spelling (instruction Frame (Number 8 (length bytes - head))) ++ drop head bytes)

@@ -1,5 +1,5 @@
 -- What the two passes over a pickle keep, and what they find.
-use Rattle.std.specs.Prelude.{◌≡◌, ℕ, ◌<◌, ◌≤◌, Bool, false, cond, min, List, [], ◌∷◌, ◌++◌, drop, length, map, Option, Some, None, slice_index_or}
+use Rattle.std.specs.Prelude.{◌≡◌, ℕ, ◌<◌, Bool, false, cond, min, List, [], ◌++◌, length, Option, Some, None, slice_index_or}
 use Rattle.pkops.specs.declared.op.Op.{Op}
 use Rattle.pkops.specs.declared.op.Op.TheVariants as op
 use Rattle.pkops.specs.Spelling.{Instruction}

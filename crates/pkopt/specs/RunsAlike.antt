@@ -1,7 +1,7 @@
 -- What a pickle and its optimized form have in common: every run.
 use Rattle.std.specs.Prelude.{◌≡◌, ℕ, ◌<◌, true, List, [], length}
 use Rattle.pkops.specs.Spelling.{Instruction}
-use Rattle.pkcheck.specs.Runs.{State, Outcome, Stepped, Raised, Stopped, start}
+use Rattle.pkcheck.specs.Runs.{State, Outcome, Raised, Stopped, start}
 use Rattle.pkcheck.specs.WholeRuns.{Ended, Reached, EndedBy, run}
 use Rattle.pkopt.specs.Writers.{sources, is_read, after_all}
 

@@ -12,4 +12,4 @@ mod slim;
 #[cfg(test)]
 mod tests;
 
-pub use optimizing::optimize;
+pub use optimizing::{Form, optimize, optimized_form};

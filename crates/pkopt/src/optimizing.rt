@@ -3,7 +3,7 @@
 ghost use Rattle.std.specs.Prelude.{◌≡◌, ◌<◌, ◌^◌, IfErr, IfOk, OnOk, List, length};
 ghost use Rattle.pkops.specs.Spelling.{Instruction};
 ghost use Rattle.pkread.specs.declared.refusal.Reason.TheVariants as reason;
-ghost use Rattle.pkopt.specs.Answer.{IsRefused, Optimizes, Checks, FailsCheck};
+ghost use Rattle.pkopt.specs.Answer.{IsRefused, Optimizes, Checks, FailsCheck, TakesAsChecked};
 ghost use Rattle.pkopt.specs.Fates.{IsPlanFor};
 ghost use Rattle.pkopt.specs.Fronts.{Front};
 
@@ -46,14 +46,21 @@ fn plan_of(alloc: Global, bytes: &[u8], limits: &Limits) -> Result<Plan, AllocEr
     })
 }
 
-/// Checks the pickle at the front of the bytes, under any import.
-fn checked(alloc: Global, bytes: &[u8], limits: &Limits) -> Result<(), Refusal>
+/// Checks the pickle at the front of the bytes, under any import, and tells how many bytes it
+/// takes. Its payloads are all held, and have one limit.
+fn checked(alloc: Global, bytes: &[u8], limits: &Limits) -> Result<u64, Refusal>
     ensures ok { OnOk result (Checks limits.now bytes.now) }
+    ensures taken { IfOk result (TakesAsChecked limits.now bytes.now) }
     ensures err { IfErr result (λ refusal. FailsCheck limits.now bytes.now refusal) }
 {
     let mut source = Memory::new(bytes);
-    match check(alloc, &mut source, &Policy::AnyImport, limits) {
-        Ok(_) => Ok(()),
+    match check(
+        alloc,
+        &mut source,
+        &Policy::AnyImport,
+        &limits.holding_all(),
+    ) {
+        Ok(yes) => Ok(yes.taken),
         Err(no) => Err(Refusal {
             at: no.at,
             reason: no.reason,
@@ -61,19 +68,26 @@ fn checked(alloc: Global, bytes: &[u8], limits: &Limits) -> Result<(), Refusal>
     }
 }
 
-/// The same pickle in less: without memo writes that nothing reads, with those that stay numbered
-/// from 0 on, and in one frame if it had any. Bytes behind its STOP are no part of it.
+/// A pickle in its optimized form.
+#[derive(Debug, Drop)]
+pub struct Form {
+    /// How many bytes the pickle takes, up to and with its STOP.
+    pub taken: u64,
+    /// The optimized form.
+    pub bytes: Vec<u8>,
+}
+
+/// What `optimize` gives, and how many bytes the pickle takes.
 ///
-/// The pickle is checked first, as `check` does it under any import. Then every run of the result
-/// is a run of the pickle, whatever operations answer: it does the same in the same order, to the
-/// same operands and with the same results, and it ends alike. A refusal is that of the check; or
-/// `TooLarge` at the write whose new number would be the limit on the memo; or `OutOfMemory` at 0,
-/// where memory was lacking outside the check.
-pub fn optimize(alloc: Global, bytes: &[u8], limits: &Limits) -> Result<Vec<u8>, Refusal>
-    ensures ok { IfOk result (λ out. Optimizes limits.now bytes.now out.items) }
+/// # Errors
+///
+/// Those of `optimize`.
+pub fn optimized_form(alloc: Global, bytes: &[u8], limits: &Limits) -> Result<Form, Refusal>
+    ensures ok { IfOk result (λ form. Optimizes limits.now bytes.now form.bytes.items) }
+    ensures taken { IfOk result (λ form. TakesAsChecked limits.now bytes.now form.taken) }
     ensures err { IfErr result (λ refusal. IsRefused limits.now bytes.now refusal) }
 {
-    checked(alloc, bytes, limits)?;
+    let taken = checked(alloc, bytes, limits)?;
     framed();
     let Ok(plan) = plan_of(alloc, bytes, limits) else {
         return Err(lacks_memory());
@@ -86,7 +100,29 @@ pub fn optimize(alloc: Global, bytes: &[u8], limits: &Limits) -> Result<Vec<u8>,
         let Ok(out) = in_frame(alloc, &slim.bytes) else {
             return Err(lacks_memory());
         };
-        return Ok(out);
+        return Ok(Form { taken, bytes: out });
     }
-    Ok(slim.bytes)
+    Ok(Form {
+        taken,
+        bytes: slim.bytes,
+    })
+}
+
+/// The same pickle in less: without memo writes that nothing reads, with those that stay numbered
+/// from 0 on, and in one frame if it had any. Bytes behind its STOP are no part of it.
+///
+/// The pickle is checked first, as `check` does it under any import, with `counted` as the limit on
+/// all payloads. Then every run of the result
+/// is a run of the pickle, whatever operations answer: it does the same in the same order, to the
+/// same operands and with the same results, and it ends alike. A refusal is that of the check; or
+/// `TooLarge` at the write whose new number would be the limit on the memo; or `OutOfMemory` at 0,
+/// where memory was lacking outside the check.
+pub fn optimize(alloc: Global, bytes: &[u8], limits: &Limits) -> Result<Vec<u8>, Refusal>
+    ensures ok { IfOk result (λ out. Optimizes limits.now bytes.now out.items) }
+    ensures err { IfErr result (λ refusal. IsRefused limits.now bytes.now refusal) }
+{
+    match optimized_form(alloc, bytes, limits) {
+        Ok(form) => Ok(form.bytes),
+        Err(refusal) => Err(refusal),
+    }
 }

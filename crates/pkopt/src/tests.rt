@@ -42,8 +42,9 @@ const FRAMED: [(&[u8], &[u8]); 4] = [
 /// check.
 fn optimize_each<T: Abort + AllocGlobal>(rt: &T, rows: &[(&[u8], &[u8])]) -> Result<(), Fail> {
     for (pickle, wanted) in rows {
-        let Ok(out) = optimize(rt.alloc(), pickle, &Limits::STANDARD) else {
-            return Err(Fail::from("an answer of the other kind"));
+        let out = match optimize(rt.alloc(), pickle, &Limits::STANDARD) {
+            Ok(out) => out,
+            Err(refusal) => panic!(rt; "{pickle:?}: {refusal:?}"),
         };
         assert_eq!(rt; out.as_slice(), *wanted, "{pickle:?}");
         let mut source = Memory::new(&out);
@@ -53,7 +54,7 @@ fn optimize_each<T: Abort + AllocGlobal>(rt: &T, rows: &[(&[u8], &[u8])]) -> Res
             &Policy::AnyImport,
             &Limits::STANDARD,
         );
-        assert!(rt; answer.is_ok(), "{pickle:?}");
+        assert_eq!(rt; answer.err().map(|no| no.reason), None, "{pickle:?}");
     }
     Ok(())
 }
@@ -81,6 +82,32 @@ fn past_the_limit(rt: HostRuntime) -> Result<(), Fail> {
         refusal,
         Refusal {
             at: 6,
+            reason: Reason::TooLarge
+        }
+    );
+    Ok(())
+}
+
+/// A payload is held here, so the limit on those passed over doesn't count.
+#[test]
+fn a_large_payload_is_held(rt: HostRuntime) -> Result<(), Fail> {
+    let Some(limits) = Limits::STANDARD.with_passed(16_777_217) else {
+        return Err(Fail::from("limits"));
+    };
+    let mut pickle = Vec::new(rt.alloc());
+    pickle.extend_from_slice(b"B\x01\0\0\x01")?;
+    pickle.resize(16_777_222, b'a')?;
+    pickle.push(b'.')?;
+    let mut source = Memory::new(&pickle);
+    let answer = check(rt.alloc(), &mut source, &Policy::AnyImport, &limits);
+    assert!(rt; answer.is_ok());
+    let Err(refusal) = optimize(rt.alloc(), &pickle, &limits) else {
+        return Err(Fail::from("an answer of the other kind"));
+    };
+    assert_eq!(rt;
+        refusal,
+        Refusal {
+            at: 0,
             reason: Reason::TooLarge
         }
     );

@@ -2,9 +2,8 @@
 use Rattle.std.proofs.Common.{◌≡◌, ℕ, ◌+◌, ◌-◌, ◌<◌, ◌≤◌, Bool, List, [], ◌∷◌, ◌++◌, length, take, drop, refl, ap, ◌∙◌, inl, inr, arith, add-one, length-append, append_assoc}
 use Rattle.std.proofs.lemmas.List.{length-take, take-append-drop, take-append-le, take_at}
 use Rattle.std.proofs.lemmas.Bool.{cases_lt}
-use Rattle.pkops.proofs.Fronts.{fronts_begin}
-use Rattle.pkops.proofs.Growing.{field_begun, field_lies, payload_begun, payload_lies, count_negative, count_large}
-use Rattle.pkops.specs.Lying.{IsFixed, Lies, count_in, field_len}
+use Rattle.pkops.specs.Growth.{BegunLaws, CountLaws, FieldLaws}
+use Rattle.pkops.specs.Lying.{IsCountField, IsFixed, Lies, count_in, field_len}
 use Rattle.pkops.specs.Scanning.{Begun}
 use Rattle.pkops.specs.Spelling.{Counted, count_limit, layout_at, size_of}
 use Rattle.pkops.specs.Table.{code_of}
@@ -20,12 +19,12 @@ use Rattle.pkread.specs.declared.refusal.Reason.{Reason}
 use Rattle.pkread.specs.declared.refusal.Reason.TheVariants.{Source, Truncated, BadArgument, TooLarge, OutOfMemory}
 
 -- the fronts of what begins an instruction
-pub begun_fronts : (limit : ℕ) (b : List ℕ) → Begun limit b → FrontsBegin limit b
-begun_fronts limit b h k l = fronts_begin limit (take k b) (drop k b) (rw (take-append-drop k b) h)
+pub begun_fronts : BegunLaws → (limit : ℕ) (b : List ℕ) → Begun limit b → FrontsBegin limit b
+begun_fronts laws limit b h k l = laws.fronts limit (take k b) (drop k b) (rw (take-append-drop k b) h)
 
 -- the fronts of what has a byte more
-pub fronts_more : (limit : ℕ) (b : List ℕ) (x : ℕ) → Begun limit b → (k : ℕ) → k < length (b ++ x ∷ []) → Begun limit (take k (b ++ x ∷ []))
-fronts_more limit b x h k l = elim (cases_lt k (length b)) [ inl lt ↦ rw (take-append-le k b (x ∷ []) (omega arith)) (begun_fronts limit b h k lt) | inr ge ↦ let same : k ≡ length b = omega (arith, length-append b (x ∷ []), l) in rw (same, take_at b (x ∷ []) (length b) refl) h ]
+pub fronts_more : BegunLaws → (limit : ℕ) (b : List ℕ) (x : ℕ) → Begun limit b → (k : ℕ) → k < length (b ++ x ∷ []) → Begun limit (take k (b ++ x ∷ []))
+fronts_more laws limit b x h k l = elim (cases_lt k (length b)) [ inl lt ↦ rw (take-append-le k b (x ∷ []) (omega arith)) (begun_fronts laws limit b h k lt) | inr ge ↦ let same : k ≡ length b = omega (arith, length-append b (x ∷ []), l) in rw (same, take_at b (x ∷ []) (length b) refl) h ]
 
 pub row_behind : (limit : ℕ) (m n : Sight) (run b : List ℕ) (u : ℕ) (r : Reason) → Begun limit b → LackRow m n run u r → RowBehind limit m n run b u r
 row_behind limit m n run b u Source h w = (w, h)
@@ -35,39 +34,39 @@ row_behind limit m n run b u OutOfMemory h w = w
 row_behind limit m n run b u _ h w = absurd w
 
 -- fewer bytes came than are needed
-pub stops_lacking : (limit count t u : ℕ) (old new : List ℕ) (m n : Sight) (r : Reason) → (s : LacksSome count old m t new n u r) → Begun limit (old ++ s.bytes) → Stops limit old m t new n u r
-stops_lacking limit count t u old new m n r s h =
+pub stops_lacking : BegunLaws → (limit count t u : ℕ) (old new : List ℕ) (m n : Sight) (r : Reason) → (s : LacksSome count old m t new n u r) → Begun limit (old ++ s.bytes) → Stops limit old m t new n u r
+stops_lacking laws limit count t u old new m n r s h =
     let h' : Begun limit new = rw s.held h in
-    record { bytes = s.bytes; held = s.held; count_is = s.count_is; fronts = begun_fronts limit new h'; row = row_behind limit m n s.bytes new u r h' s.row }
+    record { bytes = s.bytes; held = s.held; count_is = s.count_is; fronts = begun_fronts laws limit new h'; row = row_behind limit m n s.bytes new u r h' s.row }
 
 -- an argument of a fixed length
-pub field_stops : (limit count t u : ℕ) (o : Op) (old new : List ℕ) (m n : Sight) (r : Reason) → old ≡ code_of o ∷ [] → count ≡ field_len (layout_at o) → LacksSome count old m t new n u r → Stops limit old m t new n u r
-field_stops limit count t u o old new m n r e w s =
+pub field_stops : BegunLaws → FieldLaws → (limit count t u : ℕ) (o : Op) (old new : List ℕ) (m n : Sight) (r : Reason) → old ≡ code_of o ∷ [] → count ≡ field_len (layout_at o) → LacksSome count old m t new n u r → Stops limit old m t new n u r
+field_stops laws field limit count t u o old new m n r e w s =
     let l = s.lacks in
-    stops_lacking limit count t u old new m n r s (rw e (field_begun limit o s.bytes s.fit (omega arith)))
+    stops_lacking laws limit count t u old new m n r s (rw e (field.begun limit o s.bytes s.fit (omega arith)))
 
-pub field_grows : (limit count t u : ℕ) (o : Op) (old new : List ℕ) (m n : Sight) → old ≡ code_of o ∷ [] → IsFixed (layout_at o) → count ≡ field_len (layout_at o) → TookAll count old m t new n u → Grows limit o 0 old m t new n u
-field_grows limit count t u o old new m n e f w s =
+pub field_grows : FieldLaws → (limit count t u : ℕ) (o : Op) (old new : List ℕ) (m n : Sight) → old ≡ code_of o ∷ [] → IsFixed (layout_at o) → count ≡ field_len (layout_at o) → TookAll count old m t new n u → Grows limit o 0 old m t new n u
+field_grows field limit count t u o old new m n e f w s =
     let l = s.all in
-    let g = field_lies limit o s.bytes s.took.fit f (omega arith) in
+    let g = field.whole limit o s.bytes s.took.fit f (omega arith) in
     let is : new ≡ code_of o ∷ s.bytes = s.took.held ∙ ap (λ (b : List ℕ). b ++ s.bytes) e in
     record { bytes = s.bytes; took = s.took; arg = g.0; lies = rw is g.1 }
 
 -- no argument
-pub nothing_grows : (limit t : ℕ) (o : Op) (old : List ℕ) (m : Sight) → old ≡ code_of o ∷ [] → layout_at o ≡ layout.Nothing → Grows limit o 0 old m t old m t
-nothing_grows limit t o old m e lay =
+pub nothing_grows : FieldLaws → (limit t : ℕ) (o : Op) (old : List ℕ) (m : Sight) → old ≡ code_of o ∷ [] → layout_at o ≡ layout.Nothing → Grows limit o 0 old m t old m t
+nothing_grows field limit t o old m e lay =
     let f : IsFixed (layout_at o) = rw lay tt in
     let w : 0 ≡ field_len (layout_at o) = rw lay refl in
-    field_grows limit 0 t t o old old m m e f w (record { bytes = []; took = took_none old m t; all = refl })
+    field_grows field limit 0 t t o old old m m e f w (record { bytes = []; took = took_none old m t; all = refl })
 
-count_front : (limit : ℕ) (o : Op) (size : Width) (signed : Bool) (field : List ℕ) → layout_at o ≡ layout.Counted size signed → AreBytes field → length field ≡ size_of size → (k : ℕ) → k < length (code_of o ∷ field) → Begun limit (take k (code_of o ∷ field))
-count_front limit o size signed field lay fits len k l =
+count_front : BegunLaws → FieldLaws → (limit : ℕ) (o : Op) (size : Width) (signed : Bool) (field : List ℕ) → layout_at o ≡ layout.Counted size signed → AreBytes field → length field ≡ size_of size → (k : ℕ) → k < length (code_of o ∷ field) → Begun limit (take k (code_of o ∷ field))
+count_front laws fields limit o size signed field lay fits len k l =
     elim (cases_lt 0 k) [
-      | inr none ↦ let e : k ≡ 0 = omega arith in rw e (fronts_begin limit [] (code_of o ∷ []) (field_begun limit o [] (λ i. omega arith) (rw lay (small size))))
+      | inr none ↦ let e : k ≡ 0 = omega arith in rw e (laws.fronts limit [] (code_of o ∷ []) (fields.begun limit o [] (λ i. omega arith) (rw lay (small size))))
       | inl some ↦
           let j = k - 1 in
           let e : k ≡ j + 1 = omega arith in
-          rw (e, add-one) (field_begun limit o (take j field) (AreBytes-take j field fits) (rw lay (omega (arith, length-take j field))))
+          rw (e, add-one) (fields.begun limit o (take j field) (AreBytes-take j field fits) (rw lay (omega (arith, length-take j field))))
     ]
   where
     small : (size : Width) → 0 < size_of size
@@ -86,24 +85,27 @@ module _ (limit t u : ℕ) (o : Op) (size : Width) (signed : Bool) (old new : Li
   pub count_is : (b : List ℕ) (x : ℕ) → b ≡ new → x ≡ count_in size (drop 1 b) → x ≡ count_in size s.bytes
   count_is b x f g = g ∙ ap (λ (c : List ℕ). count_in size (drop 1 c)) (f ∙ count_held)
 
-  stops_fault : (r : Reason) → IsAmiss limit (code_of o ∷ s.bytes) r → RowBehind limit m n s.bytes new u r → Stops limit old m t new n u r
-  stops_fault r w row = record {
+  count_field : IsCountField o size signed s.bytes
+  count_field = record { lay = lay; len = s.all }
+
+  stops_fault : BegunLaws → FieldLaws → (r : Reason) → IsAmiss limit (code_of o ∷ s.bytes) r → RowBehind limit m n s.bytes new u r → Stops limit old m t new n u r
+  stops_fault laws fields r w row = record {
     bytes = s.bytes;
     held = s.took.held;
     count_is = s.took.count;
-    fronts = rw count_held (count_front limit o size signed s.bytes lay s.took.fit s.all);
+    fronts = rw count_held (count_front laws fields limit o size signed s.bytes lay s.took.fit s.all);
     row = row;
   }
 
-  pub stops_negative : (x : ℕ) → x ≡ count_in size s.bytes → count_limit size signed ≤ x → Stops limit old m t new n u BadArgument
-  stops_negative x is over =
-      let w = count_negative limit o size signed lay s.bytes s.all s.took.fit (rw is at over) in
-      stops_fault BadArgument w (s.took.taken, rw count_held w)
+  pub stops_negative : BegunLaws → FieldLaws → CountLaws → (x : ℕ) → x ≡ count_in size s.bytes → count_limit size signed ≤ x → Stops limit old m t new n u BadArgument
+  stops_negative laws fields counts x is over =
+      let w = counts.negative limit o size signed s.bytes count_field s.took.fit (rw is at over) in
+      stops_fault laws fields BadArgument w (s.took.taken, rw count_held w)
 
-  pub stops_large : (x : ℕ) → x ≡ count_in size s.bytes → x < count_limit size signed → limit < x → Stops limit old m t new n u TooLarge
-  stops_large x is under over =
-      let w = count_large limit o size signed lay s.bytes s.all s.took.fit (rw is at under) (rw is at over) in
-      stops_fault TooLarge w (s.took.taken, inl (rw count_held w))
+  pub stops_large : BegunLaws → FieldLaws → CountLaws → (x : ℕ) → x ≡ count_in size s.bytes → x < count_limit size signed → limit < x → Stops limit old m t new n u TooLarge
+  stops_large laws fields counts x is under over =
+      let w = counts.large limit o size signed s.bytes count_field s.took.fit (rw is at under) (rw is at over) in
+      stops_fault laws fields TooLarge w (s.took.taken, inl (rw count_held w))
 
   pub counts_field : (x : ℕ) → x ≡ count_in size s.bytes → x < count_limit size signed → x ≤ limit → Counts limit size signed x old m t new n u
   counts_field x is under within = record { field = s.bytes; took = s.took; len = s.all; count = is; under = under; within = within }
@@ -113,34 +115,34 @@ module _ (limit t u v x : ℕ) (o : Op) (size : Width) (signed : Bool) (old mid 
   payload_held : (more : List ℕ) → mid ++ more ≡ code_of o ∷ (c.field ++ more)
   payload_held more = ap (λ (b : List ℕ). b ++ more) (c.took.held ∙ ap (λ (b : List ℕ). b ++ c.field) e)
 
-  pub payload_stops : (r : Reason) → LacksSome x mid n u new p v r → Stops limit old m t new p v r
-  payload_stops r s =
+  pub payload_stops : BegunLaws → CountLaws → (r : Reason) → LacksSome x mid n u new p v r → Stops limit old m t new p v r
+  payload_stops laws counts r s =
       let both : AreBytes (c.field ++ s.bytes) = AreBytes-both c.field s.bytes c.took.fit s.fit in
       let under = c.under in
       let within = c.within in
       let is = c.count in
       let lacks = s.lacks in
-      let h : Begun limit new = rw (s.held, payload_held s.bytes) (payload_begun limit o size signed lay c.field c.len s.bytes both (omega arith) (omega arith) (omega arith)) in
+      let h : Begun limit new = rw (s.held, payload_held s.bytes) (counts.begun limit o size signed c.field s.bytes (record { lay = lay; len = c.len }) both (omega arith) (omega arith) (omega arith)) in
       record {
         bytes = c.field ++ s.bytes;
         held = s.held ∙ (ap (λ (b : List ℕ). b ++ s.bytes) c.took.held ∙ append_assoc old c.field s.bytes);
         count_is = omega (arith, s.count_is, c.took.count, length-append c.field s.bytes);
-        fronts = begun_fronts limit new h;
+        fronts = begun_fronts laws limit new h;
         row = row_behind limit m p (c.field ++ s.bytes) new v r h (lack_more m n p c.field s.bytes v r c.took.taken s.row);
       }
 
-  pub payload_lie : (s : TookAll x mid n u new p v) → Lies limit o (Counted s.bytes) 0 new
-  payload_lie s =
+  pub payload_lie : CountLaws → (s : TookAll x mid n u new p v) → Lies limit o (Counted s.bytes) 0 new
+  payload_lie counts s =
       let both : AreBytes (c.field ++ s.bytes) = AreBytes-both c.field s.bytes c.took.fit s.took.fit in
       let under = c.under in
       let within = c.within in
       let is = c.count in
       let all = s.all in
-      let lies = payload_lies limit o size signed lay c.field c.len s.bytes both (omega arith) (omega arith) (omega arith) in
+      let lies = counts.whole limit o size signed c.field s.bytes (record { lay = lay; len = c.len }) both (omega arith) (omega arith) (omega arith) in
       rw (s.took.held, payload_held s.bytes) lies
 
   pub payload_took : (s : TookAll x mid n u new p v) → Took (c.field ++ s.bytes) old m t new p v
   payload_took s = took_both c.field s.bytes old mid new m n p t u v c.took s.took
 
-  pub payload_grows : TookAll x mid n u new p v → Grows limit o 0 old m t new p v
-  payload_grows s = record { bytes = c.field ++ s.bytes; took = payload_took s; arg = Counted s.bytes; lies = payload_lie s }
+  pub payload_grows : CountLaws → TookAll x mid n u new p v → Grows limit o 0 old m t new p v
+  payload_grows counts s = record { bytes = c.field ++ s.bytes; took = payload_took s; arg = Counted s.bytes; lies = payload_lie counts s }

@@ -77,22 +77,6 @@ unframed_last p i m e h w =
     let s = same_split ps b (piece_of i) q a (sym at) is in
     breaks (subst (λ x. IsFramed x q a) s.0 (subst (λ x. IsFramed ps x a) s.1 (subst (λ x. IsFramed ps (piece_of i) x) (sym s.2) w)))
 
-split_after : (ps : List Piece) (q : Piece) (qs : List Piece) (m : ℕ) → ((n : ℕ) → counted_all n (ps ++ q ∷ qs) ≡ Some m → (j : ℕ) × (k : ℕ) × (counted_all n ps ≡ Some j) × (counted j q ≡ Some k)) → (r : Option ℕ) → and_then r (λ n. counted_all n (ps ++ q ∷ qs)) ≡ Some m → (j : ℕ) × (k : ℕ) × (and_then r (λ n. counted_all n ps) ≡ Some j) × (counted j q ≡ Some k)
-split_after ps q qs m go None e = cc
-split_after ps q qs m go (Some n) e = go n e
-
-passed_first : (qs : List Piece) (m : ℕ) (r : Option ℕ) → and_then r (λ n. counted_all n qs) ≡ Some m → (k : ℕ) × (r ≡ Some k)
-passed_first qs m None e = cc
-passed_first qs m (Some k) e = (k, refl)
-
-counted_split : (ps : List Piece) (q : Piece) (qs : List Piece) (n m : ℕ) → counted_all n (ps ++ q ∷ qs) ≡ Some m → (j : ℕ) × (k : ℕ) × (counted_all n ps ≡ Some j) × (counted j q ≡ Some k)
-counted_split [] q qs n m e = let s = passed_first qs m (counted n q) e in (n, s.0, refl, s.1)
-counted_split (p ∷ ps) q qs n m e = split_after ps q qs m (λ o i. counted_split ps q qs o m i) (counted n p) e
-
--- each instruction of what the rule passes is framed behind those before it
-pub framed_in : (before : List Instruction) (i : Instruction) (after : List Instruction) (m : ℕ) → counted_all 0 (map piece_of (before ++ i ∷ after)) ≡ Some m → IsFramed (map piece_of before) (piece_of i) []
-framed_in before i after m e = let s = counted_split (map piece_of before) (piece_of i) (map piece_of after) 0 m (ap (counted_all 0) (sym (map-append piece_of before (i ∷ after))) ∙ e) in framed_last before i s.0 s.1 s.2 s.3
-
 -- the laws of a list that grows at its end
 
 pub frames_go_on : FramesGoOn

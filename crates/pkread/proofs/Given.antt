@@ -29,20 +29,20 @@ pub spelled : (limit : ℕ) (b : List ℕ) (i : Instruction) → IsWhole limit b
 spelled limit b i w = sym (take_all (length b) b (omega arith)) ∙ w.spells.spelled
 
 allowed : (limit : ℕ) (b : List ℕ) (i : Instruction) (n : ℕ) → IsWhole limit b i n → objection i ≡ None → IsAllowed limit i
-allowed limit b i n w e = record { good = w.spells.good; within = w.within; admitted = no_objection i w.spells.good e }
+allowed limit b i n w e = record { good = w.spells.good; within = w.within; admitted = no_objection i e }
 
 -- what was gathered is allowed
 pub is_allowed : (limit : ℕ) (b : List ℕ) (op : Op) (j : Instruction) (t : IsGathered limit b op) → j ≡ t.instruction → IsAllowed limit j
 is_allowed limit b op j t e = rw e (allowed limit b t.instruction (length b) t.whole t.admitted)
 
 -- what was gathered is given
-pub gives_whole : (old new : State) (at : ℕ) (b : List ℕ) (op : Op) (j : Instruction) (w : IsGathered old.limit b op) → j ≡ w.instruction → at ≡ old.taken → Gathers old.limit old.source new.source b old.taken new.taken → new.phase ≡ phase_after op → new.taken ≤ all_bytes → new.most ≡ max old.most (length b) → Gives old at j new
+pub gives_whole : (old new : State) (at : ℕ) (b : List ℕ) (op : Op) (j : Instruction) (w : IsGathered old.limits.counted b op) → j ≡ w.instruction → at ≡ old.taken → Gathers old.limits.counted old.source new.source b old.taken new.taken → new.phase ≡ phase_after op → new.taken ≤ all_bytes → new.most ≡ max old.most (length b) → Gives old at j new
 gives_whole old new at b op j w same t g p l m =
     rw same (
-    let s = spelled old.limit b w.instruction w.whole in
+    let s = spelled old.limits.counted b w.instruction w.whole in
     record {
       place = t;
-      allowed = allowed old.limit b w.instruction (length b) w.whole w.admitted;
+      allowed = allowed old.limits.counted b w.instruction (length b) w.whole w.admitted;
       bytes = rw s at g.source;
       taken = g.taken ∙ ap (λ (l : List ℕ). old.taken + length l) s;
       within = l;

@@ -3,14 +3,12 @@ use Rattle.std.proofs.Common.{◌≡◌, ◌≢◌, ℕ, ◌<◌, ◌≤◌, Lis
 use Rattle.std.specs.Prelude.{IfErr, IfOk, IfSome, SomeIff}
 use Rattle.std.specs.Option.{option_map}
 use Rattle.std.proofs.lemmas.List.{take_all, length-take}
-use Rattle.pkops.proofs.Growing.{lies_begun}
-use Rattle.pkops.proofs.Scans.{nothing_begun}
-use Rattle.pkops.proofs.Sizes.{begun_is_short}
 use Rattle.pkops.specs.Answer.{IsWhole}
 use Rattle.pkops.specs.Contents.{IsGood}
+use Rattle.pkops.specs.Growth.{BegunLaws}
 use Rattle.pkops.specs.Inst.{instruction_of}
 use Rattle.pkops.specs.Lying.{Lies}
-use Rattle.pkops.specs.Scanning.{HasFault}
+use Rattle.pkops.specs.Scanning.{HasFault, longest}
 use Rattle.pkops.specs.Spelling.{Argument, Instruction, instruction, spelling}
 use Rattle.pkops.specs.Table.{code_of}
 use Rattle.pkops.specs.declared.fault.Fault.TheVariants as fault
@@ -20,10 +18,10 @@ use Rattle.pkread.proofs.Behind.{fronts_more, stops_lacking}
 use Rattle.pkread.proofs.Given.{IsGathered}
 use Rattle.pkread.proofs.LinesBehind.{stops_more}
 use Rattle.pkread.proofs.Objections.{objection_is_amiss}
-use Rattle.pkread.proofs.OneRow.{one_row}
+use Rattle.pkread.proofs.OneRow.{OneAnswer, one_row}
 use Rattle.pkread.specs.Admission.{objection}
 use Rattle.pkread.specs.Private.Gathering.{Gathers, HoldsTaken, IsFound, RowBehind, Stops}
-use Rattle.pkread.specs.Rows.{FrontsBegin, IsAmiss, Refuses, Row, Sight, Takes, bound}
+use Rattle.pkread.specs.Rows.{FrontsBegin, IsAmiss, Refuses, Row, Sight, Takes}
 use Rattle.pkread.specs.Private.Taking.{LacksSome, Took}
 use Rattle.pkread.specs.declared.gather.Found.{Found}
 use Rattle.pkread.specs.declared.refusal.Reason.{Reason}
@@ -67,12 +65,12 @@ amiss_behind limit m n run b u (UnsupportedProtocol p) k w = (k, w)
 amiss_behind limit m n run b u _ k w = absurd w
 
 -- an instruction that is amiss once it is whole
-pub stops_amiss : (limit t u : ℕ) (o : Op) (arg : Argument) (split : ℕ) (c old new : List ℕ) (m n : Sight) (r : Reason) → Took c old m t new n u → Lies limit o arg split new → IsAmiss limit new r → Stops limit old m t new n u r
-stops_amiss limit t u o arg split c old new m n r k l w = record {
+pub stops_amiss : BegunLaws → (limit t u : ℕ) (o : Op) (arg : Argument) (split : ℕ) (c old new : List ℕ) (m n : Sight) (r : Reason) → Took c old m t new n u → Lies limit o arg split new → IsAmiss limit new r → Stops limit old m t new n u r
+stops_amiss laws limit t u o arg split c old new m n r k l w = record {
   bytes = c;
   held = k.held;
   count_is = k.count;
-  fronts = lies_begun limit o arg split new l;
+  fronts = laws.whole limit o arg split new l;
   row = amiss_behind limit m n c new u r k.taken w;
 }
 
@@ -81,22 +79,22 @@ none_of [] l = refl
 none_of (x ∷ c) l = absurd (omega arith)
 
 -- no code came
-pub code_stops : (limit t u : ℕ) (old new : List ℕ) (m n : Sight) (r : Reason) → old ≡ [] → LacksSome 1 old m t new n u r → Stops limit old m t new n u r
-code_stops limit t u old new m n r e s = stops_lacking limit 1 t u old new m n r s (rw (e, none_of s.bytes s.lacks) (nothing_begun limit))
+pub code_stops : BegunLaws → (limit t u : ℕ) (old new : List ℕ) (m n : Sight) (r : Reason) → old ≡ [] → LacksSome 1 old m t new n u r → Stops limit old m t new n u r
+code_stops laws limit t u old new m n r e s = stops_lacking laws limit 1 t u old new m n r s (rw (e, none_of s.bytes s.lacks) (laws.nothing limit))
 
 pub code_is : (x t u : ℕ) (old new : List ℕ) (m n : Sight) → old ≡ [] → Took (x ∷ []) old m t new n u → new ≡ x ∷ []
 code_is x t u old new m n e k = k.held ∙ ap (λ (b : List ℕ). b ++ x ∷ []) e
 
 -- a code of no opcode
-pub unknown_stops : (limit x t u : ℕ) (old new : List ℕ) (m n : Sight) → old ≡ [] → Took (x ∷ []) old m t new n u → ((o : Op) → code_of o ≢ x) → Stops limit old m t new n u (UnknownOpcode x)
-unknown_stops limit x t u old new m n e k none =
+pub unknown_stops : BegunLaws → (limit x t u : ℕ) (old new : List ℕ) (m n : Sight) → old ≡ [] → Took (x ∷ []) old m t new n u → ((o : Op) → code_of o ≢ x) → Stops limit old m t new n u (UnknownOpcode x)
+unknown_stops laws limit x t u old new m n e k none =
     let is = code_is x t u old new m n e k in
     let w : HasFault limit (fault.UnknownOpcode x) (x ∷ []) = ([], refl, none) in
     record {
       bytes = x ∷ [];
       held = k.held;
       count_is = k.count;
-      fronts = rw is (fronts_more limit [] x (nothing_begun limit));
+      fronts = rw is (fronts_more laws limit [] x (laws.nothing limit));
       row = (k.taken, rw is w);
     }
 
@@ -108,38 +106,38 @@ row_of limit m n b u OutOfMemory w = w
 row_of limit m n b u _ w = w
 
 -- what stops with all the bytes taken is refused
-pub refuses_of : (limit t u : ℕ) (old new : List ℕ) (m n : Sight) (r : Reason) → old ≡ [] → Stops limit old m t new n u r → Refuses limit m n new t u r
-refuses_of limit t u old new m n r e s =
+pub refuses_of : OneAnswer → (limit t u : ℕ) (old new : List ℕ) (m n : Sight) (r : Reason) → old ≡ [] → Stops limit old m t new n u r → Refuses limit m n new t u r
+refuses_of one limit t u old new m n r e s =
     let is : new ≡ s.bytes = s.held ∙ ap (λ (c : List ℕ). c ++ s.bytes) e in
     let row : Row limit m n new u r = row_of limit m n new u r (subst (λ (c : List ℕ). RowBehind limit m n c new u r) (sym is) s.row) in
-    record { taken = omega (arith, s.count_is, ap length is); fronts = s.fronts; row = row; alone = one_row limit m n new u r row }
+    record { taken = omega (arith, s.count_is, ap length is); fronts = s.fronts; row = row; alone = one_row one limit m n new u r row }
 
-pub refused_all : {A : Type 0} (limit t u : ℕ) (old new b : List ℕ) (m n : Sight) (r : Result A Reason) → old ≡ [] → b ≡ new → IfErr r (Stops limit old m t new n u) → IfErr r (λ reason. (bytes : List ℕ) × Refuses limit m n bytes t u reason × HoldsTaken reason bytes b)
-refused_all limit t u old new b m n (Ok x) e f h = tt
-refused_all limit t u old new b m n (Err x) e f h = (new, refuses_of limit t u old new m n x e h, record { exact = λ _. f; within = omega (arith, ap length f) })
+pub refused_all : {A : Type 0} → OneAnswer → (limit t u : ℕ) (old new b : List ℕ) (m n : Sight) (r : Result A Reason) → old ≡ [] → b ≡ new → IfErr r (Stops limit old m t new n u) → IfErr r (λ reason. (bytes : List ℕ) × Refuses limit m n bytes t u reason × HoldsTaken reason bytes b)
+refused_all one limit t u old new b m n (Ok x) e f h = tt
+refused_all one limit t u old new b m n (Err x) e f h = (new, refuses_of one limit t u old new m n x e h, record { exact = λ _. f; within = omega (arith, ap length f) })
 
 -- what was found was gathered
-pub gathered_all : (limit t u : ℕ) (old new b : List ℕ) (m n : Sight) (r : Result Found Reason) → old ≡ [] → b ≡ new → IfOk r (λ f. IsFound limit new f.op f.split) → IfOk r (λ _. (bytes : List ℕ) × Took bytes old m t new n u) → IfOk r (λ _. Gathers limit m n b t u)
-gathered_all limit t u old new b m n (Err x) e f h k = tt
-gathered_all limit t u old new b m n (Ok x) e f h k =
+pub gathered_all : BegunLaws → (limit t u : ℕ) (old new b : List ℕ) (m n : Sight) (r : Result Found Reason) → old ≡ [] → b ≡ new → IfOk r (λ f. IsFound limit new f.op f.split) → IfOk r (λ _. (bytes : List ℕ) × Took bytes old m t new n u) → IfOk r (λ _. Gathers limit m n b t u)
+gathered_all laws limit t u old new b m n (Err x) e f h k = tt
+gathered_all laws limit t u old new b m n (Ok x) e f h k =
     let took = k.1 in
     let is : new ≡ k.0 = took.held ∙ ap (λ (c : List ℕ). c ++ k.0) e in
     rw f (record {
       taken = omega (arith, took.count, ap length is);
-      fronts = lies_begun limit x.op h.arg x.split new h.lies;
+      fronts = laws.whole limit x.op h.arg x.split new h.lies;
       source = rw is took.taken;
     })
 
 -- bytes of which each shorter front begins an instruction are not many
-pub short : (limit : ℕ) (b : List ℕ) → FrontsBegin limit b → length b ≤ bound limit
-short limit [] f = omega arith
-short limit (x ∷ b) f =
-    let s = begun_is_short limit (take (length b) (x ∷ b)) (f (length b) (omega arith)) in
+pub short : BegunLaws → (limit : ℕ) (b : List ℕ) → FrontsBegin limit b → length b ≤ longest limit
+short laws limit [] f = omega arith
+short laws limit (x ∷ b) f =
+    let s = laws.short limit (take (length b) (x ∷ b)) (f (length b) (omega arith)) in
     omega (arith, s, length-take (length b) (x ∷ b))
 
-pub bounded : (limit t u : ℕ) (old new b : List ℕ) (m n : Sight) (r : Result Found Reason) → b ≡ new → IfOk r (λ f. IsFound limit new f.op f.split) → IfErr r (Stops limit old m t new n u) → length b ≤ bound limit
-bounded limit t u old new b m n (Ok x) f h k = rw f (short limit new (lies_begun limit x.op h.arg x.split new h.lies))
-bounded limit t u old new b m n (Err x) f h k = rw f (short limit new k.fronts)
+pub bounded : BegunLaws → (limit t u : ℕ) (old new b : List ℕ) (m n : Sight) (r : Result Found Reason) → b ≡ new → IfOk r (λ f. IsFound limit new f.op f.split) → IfErr r (Stops limit old m t new n u) → length b ≤ longest limit
+bounded laws limit t u old new b m n (Ok x) f h k = rw f (short laws limit new (laws.whole limit x.op h.arg x.split new h.lies))
+bounded laws limit t u old new b m n (Err x) f h k = rw f (short laws limit new k.fronts)
 
 -- as the lemmas on a reader's step take it
 abbrev pub found_gathered : (limit : ℕ) (b : List ℕ) (o : Op) (split : ℕ) → IsFound limit b o split → IsGathered limit b o

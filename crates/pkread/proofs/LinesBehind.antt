@@ -2,7 +2,7 @@
 use Rattle.std.proofs.Common.{◌≡◌, ◌≢◌, ℕ, ◌+◌, ◌-◌, ◌%◌, ◌^◌, ◌≤◌, ◌⊎◌, List, [], ◌∷◌, ◌++◌, length, refl, sym, ap, ◌∙◌, subst, inl, inr, arith, length-append, append_assoc}
 use Rattle.std.specs.List.{AllByRecursion}
 use Rattle.std.proofs.lemmas.List.{take_all}
-use Rattle.pkops.proofs.Fields.{not_nil}
+use Rattle.pkops.specs.Growth.{BegunLaws}
 use Rattle.pkops.specs.Scanning.{Begun, HasFault, IsLong}
 use Rattle.pkops.specs.Spelling.{IsLine, Line, Pair, instruction, layout_at}
 use Rattle.pkops.specs.Table.{code_of}
@@ -28,7 +28,7 @@ line_begun limit most o text lay short clean = (
   record {
     may = record { suits = rw lay (record { short = short; whole = clean }); within = λ _. tt };
     parts = refl;
-    lacks = not_nil (10 ∷ []) (omega arith);
+    lacks = λ e. cc;
   },
 )
 
@@ -52,7 +52,7 @@ pair_begun limit most o text lay short clean = (
   record {
     may = record { suits = rw lay (record { short = short; whole = clean }, record { short = omega arith; whole = tt }); within = λ _. tt };
     parts = ap (λ (l : List ℕ). code_of o ∷ l) (append_assoc text (10 ∷ []) (10 ∷ []));
-    lacks = not_nil (10 ∷ 10 ∷ []) (omega arith);
+    lacks = λ e. cc;
   },
 )
 
@@ -63,7 +63,7 @@ second_begun limit most o first text lay line short clean = (
   record {
     may = record { suits = rw lay (line, record { short = short; whole = clean }); within = λ _. tt };
     parts = ap (λ (l : List ℕ). code_of o ∷ l) (sym (append_assoc (first ++ 10 ∷ []) text (10 ∷ [])));
-    lacks = not_nil (10 ∷ []) (omega arith);
+    lacks = λ e. cc;
   },
 )
 
@@ -86,20 +86,20 @@ line_row limit most m n run b u OutOfMemory w short long = row_behind limit m n 
 line_row limit most m n run b u _ w short long = absurd w.1
 
 -- no line behind bytes behind which there may be one
-line_stops : (limit most t u : ℕ) (old new : List ℕ) (m n : Sight) (r : Reason) → ((c : List ℕ) → length c ≤ most → Endless c → Begun limit (old ++ c)) → ((c : List ℕ) → length c ≡ most + 1 → Endless c → HasFault limit fault.TooLarge (old ++ c)) → LacksLine most old m t new n u r → Stops limit old m t new n u r
-line_stops limit most t u old new m n r begun fault s =
+line_stops : BegunLaws → (limit most t u : ℕ) (old new : List ℕ) (m n : Sight) (r : Reason) → ((c : List ℕ) → length c ≤ most → Endless c → Begun limit (old ++ c)) → ((c : List ℕ) → length c ≡ most + 1 → Endless c → HasFault limit fault.TooLarge (old ++ c)) → LacksLine most old m t new n u r → Stops limit old m t new n u r
+line_stops laws limit most t u old new m n r begun fault s =
     record {
       bytes = s.bytes;
       held = s.held;
       count_is = s.count_is;
       fronts = rw s.held (elim (line_length most m n s.bytes u r s.row) [
-        | inl short ↦ begun_fronts limit (old ++ s.bytes) (begun s.bytes short s.endless)
+        | inl short ↦ begun_fronts laws limit (old ++ s.bytes) (begun s.bytes short s.endless)
         | inr long ↦
             let l = last_of s.bytes most long in
             let clean : Endless (l.0 ++ l.1 ∷ []) = rw l.2 at s.endless in
             let len = l.3 in
             let same : old ++ s.bytes ≡ (old ++ l.0) ++ l.1 ∷ [] = ap (λ (c : List ℕ). old ++ c) l.2 ∙ sym (append_assoc old l.0 (l.1 ∷ [])) in
-            subst (λ (b : List ℕ). FrontsBegin limit b) (sym same) (fronts_more limit (old ++ l.0) l.1 (begun l.0 (omega arith) (Endless-front l.0 (l.1 ∷ []) clean)))
+            subst (λ (b : List ℕ). FrontsBegin limit b) (sym same) (fronts_more laws limit (old ++ l.0) l.1 (begun l.0 (omega arith) (Endless-front l.0 (l.1 ∷ []) clean)))
       ]);
       row = rw s.held (line_row limit most m n s.bytes (old ++ s.bytes) u r s.row (λ short. begun s.bytes short s.endless) (λ long. fault s.bytes long s.endless));
     }
@@ -121,9 +121,9 @@ stops_more limit t u v c old mid new m n p r k s = record {
   row = row_more limit m n p c s.bytes new v r k.taken s.row;
 }
 
-pub one_stops : (limit most t u : ℕ) (o : Op) (old new : List ℕ) (m n : Sight) (r : Reason) → old ≡ code_of o ∷ [] → layout_at o ≡ layout.Line most → LacksLine most old m t new n u r → Stops limit old m t new n u r
-one_stops limit most t u o old new m n r e lay s =
-    line_stops limit most t u old new m n r
+pub one_stops : BegunLaws → (limit most t u : ℕ) (o : Op) (old new : List ℕ) (m n : Sight) (r : Reason) → old ≡ code_of o ∷ [] → layout_at o ≡ layout.Line most → LacksLine most old m t new n u r → Stops limit old m t new n u r
+one_stops laws limit most t u o old new m n r e lay s =
+    line_stops laws limit most t u old new m n r
     (λ c short clean. rw e (line_begun limit most o c lay short clean))
     (λ c long clean. rw e (o, c, refl, rw lay (is_long most c long clean)))
     s
@@ -140,9 +140,9 @@ one_grows limit most t u o old new m n e lay s = record {
   };
 }
 
-pub first_stops : (limit most t u : ℕ) (o : Op) (old new : List ℕ) (m n : Sight) (r : Reason) → old ≡ code_of o ∷ [] → layout_at o ≡ layout.Pair most → LacksLine most old m t new n u r → Stops limit old m t new n u r
-first_stops limit most t u o old new m n r e lay s =
-    line_stops limit most t u old new m n r
+pub first_stops : BegunLaws → (limit most t u : ℕ) (o : Op) (old new : List ℕ) (m n : Sight) (r : Reason) → old ≡ code_of o ∷ [] → layout_at o ≡ layout.Pair most → LacksLine most old m t new n u r → Stops limit old m t new n u r
+first_stops laws limit most t u o old new m n r e lay s =
+    line_stops laws limit most t u old new m n r
     (λ c short clean. rw e (pair_begun limit most o c lay short clean))
     (λ c long clean. rw e (o, c, refl, rw lay (inl (is_long most c long clean))))
     s
@@ -151,8 +151,8 @@ module _ (limit most t u v : ℕ) (o : Op) (old mid new : List ℕ) (m n p : Sig
   mid_is : mid ≡ code_of o ∷ (first.text ++ 10 ∷ [])
   mid_is = first.took.held ∙ ap (λ (b : List ℕ). b ++ (first.text ++ 10 ∷ [])) e
 
-  pub second_stops : (r : Reason) → LacksLine most mid n u new p v r → Stops limit old m t new p v r
-  second_stops r s = stops_more limit t u v (first.text ++ 10 ∷ []) old mid new m n p r first.took (line_stops limit most u v mid new n p r
+  pub second_stops : BegunLaws → (r : Reason) → LacksLine most mid n u new p v r → Stops limit old m t new p v r
+  second_stops laws r s = stops_more limit t u v (first.text ++ 10 ∷ []) old mid new m n p r first.took (line_stops laws limit most u v mid new n p r
       (λ c short clean. rw mid_is (second_begun limit most o first.text c lay first.line short clean))
       (λ c long clean. rw mid_is (o, (first.text ++ 10 ∷ []) ++ c, refl, rw lay (inr (first.text, c, first.line, refl, is_long most c long clean))))
       s)

@@ -1,6 +1,5 @@
 -- At most one reason of reading has its row.
 use Rattle.std.proofs.Common.{◌≡◌, ◌≢◌, ℕ, ◌+◌, ◌%◌, ◌^◌, ◌<◌, List, Some, None, refl, sym, ◌∙◌, arith, inl, inr}
-use Rattle.pkops.proofs.Sole.{one_answer}
 use Rattle.pkops.specs.Answer.{Answer, Answers, Bad, More, Whole}
 use Rattle.pkops.specs.declared.fault.Fault.TheVariants as fault
 use Rattle.pkread.specs.Admission.{objection}
@@ -9,6 +8,10 @@ use Rattle.pkread.specs.Genops.{IsRefused}
 use Rattle.pkread.specs.Rows.{IsAmiss, Row, Sight, all_bytes}
 use Rattle.pkread.specs.declared.refusal.Reason.{Reason}
 use Rattle.pkread.specs.declared.refusal.Reason.TheVariants.{Source, Truncated, UnknownOpcode, BadArgument, TooLarge, ExtensionCode, UnsupportedProtocol, OutOfMemory}
+
+-- what `pkops` promises of the answers of a scan
+abbrev pub OneAnswer : Type 0
+OneAnswer = (limit : ℕ) (bytes : List ℕ) (r s : Answer) → Answers limit bytes r → Answers limit bytes s → r ≡ s
 
 -- what is known of the source where the bytes only begin an instruction
 abbrev Waits : Sight → Sight → ℕ → Reason → Type 0
@@ -65,11 +68,11 @@ along : (limit : ℕ) (o n : Sight) (b : List ℕ) (t : ℕ) (r s : Reason) (a c
 along limit o n b t r s a c e p q = comes_alone o n t c r s (rw e at p) q
 
 -- two reasons with their rows are one, want of memory aside
-pub one_row : (limit : ℕ) (o n : Sight) (b : List ℕ) (t : ℕ) (r : Reason) → Row limit o n b t r → r ≢ OutOfMemory → (s : Reason) → s ≢ OutOfMemory → Row limit o n b t s → s ≡ r
-one_row limit o n b t r p ne s nf q =
+pub one_row : OneAnswer → (limit : ℕ) (o n : Sight) (b : List ℕ) (t : ℕ) (r : Reason) → Row limit o n b t r → r ≢ OutOfMemory → (s : Reason) → s ≢ OutOfMemory → Row limit o n b t s → s ≡ r
+one_row one limit o n b t r p ne s nf q =
     let x = row_comes limit o n b t r ne p in
     let y = row_comes limit o n b t s nf q in
-    along limit o n b t r s x.0 y.0 (one_answer limit b x.0 y.0 x.1 y.1) x.2 y.2
+    along limit o n b t r s x.0 y.0 (one limit b x.0 y.0 x.1 y.1) x.2 y.2
 
 -- a source of which nothing is told
 abbrev blind : Sight
@@ -85,24 +88,24 @@ refused_row limit b (UnsupportedProtocol p) w = ((record { bytes = tt; count = r
 refused_row limit b _ w = absurd w
 
 -- the same of the bytes of a slice
-pub one_refused : (limit : ℕ) (b : List ℕ) (r : Reason) → IsRefused limit b r → (s : Reason) → IsRefused limit b s → s ≡ r
-one_refused limit b r p s q =
+pub one_refused : OneAnswer → (limit : ℕ) (b : List ℕ) (r : Reason) → IsRefused limit b r → (s : Reason) → IsRefused limit b s → s ≡ r
+one_refused one limit b r p s q =
     let x = refused_row limit b r p in
     let y = refused_row limit b s q in
-    one_row limit blind blind b 0 r x.0 x.1 s y.1 y.0
+    one_row one limit blind blind b 0 r x.0 x.1 s y.1 y.0
 
 -- a reason that is refused, and no other is
 abbrev pub RefusedAlone : ℕ → List ℕ → Reason → Type 0
 RefusedAlone limit bytes reason = IsRefused limit bytes reason × ((other : Reason) → IsRefused limit bytes other → other ≡ reason)
 
 -- what is refused for one reason is refused for no other
-pub alone : (limit : ℕ) (b : List ℕ) (r : Reason) → IsRefused limit b r → RefusedAlone limit b r
-alone limit b r p = (p, one_refused limit b r p)
+pub alone : OneAnswer → (limit : ℕ) (b : List ℕ) (r : Reason) → IsRefused limit b r → RefusedAlone limit b r
+alone one limit b r p = (p, one_refused one limit b r p)
 
 amiss_refused : (limit : ℕ) (b : List ℕ) (r : Reason) → IsAmiss limit b r → IsRefused limit b r
 amiss_refused limit b Truncated p = absurd p
 amiss_refused limit b _ p = p
 
 -- the same of what is amiss
-pub amiss_alone : (limit : ℕ) (b : List ℕ) (r : Reason) → IsAmiss limit b r → RefusedAlone limit b r
-amiss_alone limit b r p = alone limit b r (amiss_refused limit b r p)
+pub amiss_alone : OneAnswer → (limit : ℕ) (b : List ℕ) (r : Reason) → IsAmiss limit b r → RefusedAlone limit b r
+amiss_alone one limit b r p = alone one limit b r (amiss_refused limit b r p)

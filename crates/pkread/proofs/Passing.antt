@@ -1,12 +1,11 @@
 -- Payloads that are passed over.
-use Rattle.std.proofs.Common.{◌≡◌, ℕ, ◌+◌, ◌-◌, ◌<◌, ◌≤◌, true, false, List, [], ◌∷◌, ◌++◌, length, take, drop, refl, sym, ap, ◌∙◌, inl, inr, arith}
-use Rattle.std.specs.Prelude.{IsTrue, max}
+use Rattle.std.proofs.Common.{◌≡◌, ℕ, ◌+◌, ◌-◌, ◌<◌, ◌≤◌, true, false, List, [], ◌∷◌, ◌++◌, length, take, drop, refl, sym, ap, subst, ◌∙◌, inl, inr, arith}
+use Rattle.std.specs.Prelude.{IsTrue, max, Bool, if◌then◌else◌}
 use Rattle.std.proofs.lemmas.List.{length-take, take-append-drop}
-use Rattle.pkops.proofs.OpcodesFound.{one_code}
-use Rattle.pkops.proofs.Counts.{begun_is_counted}
-use Rattle.pkops.proofs.Growing.{lies_begun}
 use Rattle.pkops.specs.Admitted.{is_admitted_by}
-use Rattle.pkops.specs.Payloads.{HasCount, is_passed}
+use Rattle.pkops.specs.Growth.{BegunLaws, CountLaws}
+use Rattle.pkops.specs.Limits.{Bounds}
+use Rattle.pkops.specs.Payloads.{HasCount, is_passed, is_passed_code, payload_limit_at}
 use Rattle.pkops.specs.Spelling.{Argument, Counted, instruction, layout_at, spelling}
 use Rattle.pkops.specs.Table.{code_of}
 use Rattle.pkops.specs.declared.layout.Layout.TheVariants as layout
@@ -16,6 +15,7 @@ use Rattle.pkops.specs.declared.op.Op.{Op}
 use Rattle.pkops.specs.declared.op.Op.TheVariants as op
 use Rattle.pkread.proofs.Behind.{payload_lie, payload_stops, payload_took}
 use Rattle.pkread.proofs.Judging.{refuses_of}
+use Rattle.pkread.proofs.OneRow.{OneAnswer}
 use Rattle.pkread.proofs.LinesBehind.{stops_more}
 use Rattle.pkread.proofs.Taking.{lacks_after, took_both}
 use Rattle.pkread.specs.Private.Judging.{IsPlain}
@@ -61,18 +61,18 @@ lacks_over count left t u w c old mid new o m p reason k all s =
     ((old ++ c) ++ s.bytes, lacks_after count left t u w c old (old ++ c) ((old ++ c) ++ s.bytes) o m p reason k all (record { bytes = s.bytes; fit = s.fit; held = refl; count_is = s.count_is; lacks = s.lacks; row = s.row }))
 
 -- the payload behind a count
-pub payload_passes : (limit t u v x : ℕ) (o : Op) (size : Width) (old mid : List ℕ) (m n p : Sight) → old ≡ code_of o ∷ [] → layout_at o ≡ layout.Counted size false → Counts limit size false x old m t mid n u → PassedAll x mid n u p v → GrowsPassing limit o x old m t p v
-payload_passes limit t u v x o size old mid m n p e lay c s = record {
+pub payload_passes : CountLaws → (limit t u v x : ℕ) (o : Op) (size : Width) (old mid : List ℕ) (m n p : Sight) → old ≡ code_of o ∷ [] → layout_at o ≡ layout.Counted size false → Counts limit size false x old m t mid n u → PassedAll x mid n u p v → GrowsPassing limit o x old m t p v
+payload_passes counts limit t u v x o size old mid m n p e lay c s = record {
   new = s.0;
   bytes = c.field ++ s.1.bytes;
   took = payload_took limit t u v x o size false old mid s.0 m n p e lay c s.1;
   payload = s.1.bytes;
   count_is = s.1.all;
-  lies = payload_lie limit t u v x o size false old mid s.0 m n p e lay c s.1;
+  lies = payload_lie limit t u v x o size false old mid s.0 m n p e lay c counts s.1;
 }
 
-pub payload_stops_passing : (limit t u v x : ℕ) (o : Op) (size : Width) (old mid : List ℕ) (m n p : Sight) (r : Reason) → old ≡ code_of o ∷ [] → layout_at o ≡ layout.Counted size false → Counts limit size false x old m t mid n u → PassedSome x mid n u p v r → StopsPassing limit old m t p v r
-payload_stops_passing limit t u v x o size old mid m n p r e lay c s = (s.0, payload_stops limit t u v x o size false old mid s.0 m n p e lay c r s.1)
+pub payload_stops_passing : BegunLaws → CountLaws → (limit t u v x : ℕ) (o : Op) (size : Width) (old mid : List ℕ) (m n p : Sight) (r : Reason) → old ≡ code_of o ∷ [] → layout_at o ≡ layout.Counted size false → Counts limit size false x old m t mid n u → PassedSome x mid n u p v r → StopsPassing limit old m t p v r
+payload_stops_passing laws counts limit t u v x o size old mid m n p r e lay c s = (s.0, payload_stops limit t u v x o size false old mid s.0 m n p e lay c laws counts r s.1)
 
 -- an instruction whose payload was passed over
 pub passes_by : (limit t u v count : ℕ) (o : Op) (old mid : List ℕ) (m n p : Sight) → old ≡ [] → is_passed o ≡ true → Took (code_of o ∷ []) old m t mid n u → GrowsPassing limit o count mid n u p v → PassesBy limit o count m p t v
@@ -95,12 +95,16 @@ passes_by limit t u v count o old mid m n p e q k g =
       taken = all.count ∙ ap (λ (b : List ℕ). t + length b) s;
     }
 
+-- what `pkops` promises of the codes
+abbrev pub OneCode : Type 0
+OneCode = (a b : Op) → code_of a ≡ code_of b → a ≡ b
+
 -- bytes of which each shorter front begins an instruction that is not passed are few
-pub held_few : (limit old now : ℕ) (o : Op) (b behind : List ℕ) → is_passed o ≡ false → b ≡ code_of o ∷ behind → FrontsBegin limit b → now ≡ max old (length b) → HoldsFew old b now
-held_few limit old now o b behind q is f e =
+pub held_few : BegunLaws → OneCode → (limit old now : ℕ) (o : Op) (b behind : List ℕ) → is_passed o ≡ false → b ≡ code_of o ∷ behind → FrontsBegin limit b → now ≡ max old (length b) → HoldsFew old b now
+held_few laws one_code limit old now o b behind q is f e =
     let some : 0 < length b = omega (arith, ap length is) in
     let k = length b - 1 in
-    let w = begun_is_counted limit (take k b) (drop k b) (f k (omega arith)) in
+    let w = laws.counted limit (take k b) (drop k b) (f k (omega arith)) in
     let len : length (take k b) ≡ k = omega (arith, length-take k b) in
     elim w [
       | inl few ↦ inl (omega (arith, few, len, e))
@@ -112,27 +116,37 @@ held_few limit old now o b behind q is f e =
           inr (many.0, many.1, held, has, omega (arith, few, len, e))
     ]
 
+code_is_passed : (o : Op) → is_passed_code (code_of o) ≡ is_passed o
+code_is_passed op.BinBytes = refl
+code_is_passed _ = refl
+
+-- the limit by the bytes of an instruction is that of its opcode
+limit_at_code : (limits : Bounds) (o : Op) (b behind : List ℕ) (passed : Bool) → b ≡ code_of o ∷ behind → is_passed o ≡ passed → payload_limit_at limits b ≡ (if passed then limits.passed else limits.counted)
+limit_at_code limits o b behind passed e q = ap (payload_limit_at limits) e ∙ ap (λ x. if x then limits.passed else limits.counted) (code_is_passed o ∙ q)
+
 -- the refusal of an instruction that is held
-pub refused_held : (limit t u v most now : ℕ) (o : Op) (old mid new : List ℕ) (m n p : Sight) (r : Reason) → old ≡ [] → is_passed o ≡ false → Took (code_of o ∷ []) old m t mid n u → Stops limit mid n u new p v r → now ≡ max most (length new) → (bytes : List ℕ) × Refuses limit m p bytes t v r × HoldsFew most bytes now
-refused_held limit t u v most now o old mid new m n p r e q k s same =
-    let all = stops_more limit t u v (code_of o ∷ []) old mid new m n p r k s in
+pub refused_held : BegunLaws → OneCode → OneAnswer → (limits : Bounds) (t u v most now : ℕ) (o : Op) (old mid new : List ℕ) (m n p : Sight) (r : Reason) → old ≡ [] → is_passed o ≡ false → Took (code_of o ∷ []) old m t mid n u → Stops limits.counted mid n u new p v r → now ≡ max most (length new) → (bytes : List ℕ) × Refuses (payload_limit_at limits bytes) m p bytes t v r × HoldsFew most bytes now
+refused_held laws one_code one limits t u v most now o old mid new m n p r e q k s same =
+    let all = stops_more limits.counted t u v (code_of o ∷ []) old mid new m n p r k s in
     let is : new ≡ code_of o ∷ s.bytes = s.held ∙ ap (λ (b : List ℕ). b ++ s.bytes) (k.held ∙ ap (λ (b : List ℕ). b ++ code_of o ∷ []) e) in
-    let why = refuses_of limit t v old new m p r e all in
-    (new, why, held_few limit most now o new s.bytes q is why.fronts same)
+    let why = refuses_of one limits.counted t v old new m p r e all in
+    (new, subst (λ l. Refuses l m p new t v r) (sym (limit_at_code limits o new s.bytes false is q)) why, held_few laws one_code limits.counted most now o new s.bytes q is why.fronts same)
 
 -- the refusal of an instruction that is passed
-pub refused_passing : (limit t u v most now : ℕ) (o : Op) (old mid : List ℕ) (m n p : Sight) (r : Reason) → old ≡ [] → Took (code_of o ∷ []) old m t mid n u → StopsPassing limit mid n u p v r → now ≤ max most 131_075 → (bytes : List ℕ) × Refuses limit m p bytes t v r × HoldsFew most bytes now
-refused_passing limit t u v most now o old mid m n p r e k s few =
-    let all = stops_more limit t u v (code_of o ∷ []) old mid s.0 m n p r k s.1 in
-    (s.0, refuses_of limit t v old s.0 m p r e all, inl few)
+pub refused_passing : OneAnswer → (limits : Bounds) (t u v most now : ℕ) (o : Op) (old mid : List ℕ) (m n p : Sight) (r : Reason) → old ≡ [] → is_passed o ≡ true → Took (code_of o ∷ []) old m t mid n u → StopsPassing limits.passed mid n u p v r → now ≤ max most 131_075 → (bytes : List ℕ) × Refuses (payload_limit_at limits bytes) m p bytes t v r × HoldsFew most bytes now
+refused_passing one limits t u v most now o old mid m n p r e q k s few =
+    let all = stops_more limits.passed t u v (code_of o ∷ []) old mid s.0 m n p r k s.1 in
+    let is : s.0 ≡ code_of o ∷ s.1.bytes = s.1.held ∙ ap (λ (b : List ℕ). b ++ s.1.bytes) (k.held ∙ ap (λ (b : List ℕ). b ++ code_of o ∷ []) e) in
+    let why = refuses_of one limits.passed t v old s.0 m p r e all in
+    (s.0, subst (λ l. Refuses l m p s.0 t v r) (sym (limit_at_code limits o s.0 s.1.bytes true is q)) why, inl few)
 
 -- an instruction that is held
-pub found_held : (limit t u v most now : ℕ) (o f : Op) (split : ℕ) (old mid new : List ℕ) (m n p : Sight) → old ≡ [] → is_passed o ≡ false → Took (code_of o ∷ []) old m t mid n u → ((bytes : List ℕ) × Took bytes mid n u new p v) → IsFound limit new f split → f ≡ o → now ≡ max most (length new) → (is_passed f ≡ false) × Gathers limit m p new t v × HoldsFew most new now
-found_held limit t u v most now o f split old mid new m n p e q k l found same now_is =
+pub found_held : BegunLaws → OneCode → (limit t u v most now : ℕ) (o f : Op) (split : ℕ) (old mid new : List ℕ) (m n p : Sight) → old ≡ [] → is_passed o ≡ false → Took (code_of o ∷ []) old m t mid n u → ((bytes : List ℕ) × Took bytes mid n u new p v) → IsFound limit new f split → f ≡ o → now ≡ max most (length new) → (is_passed f ≡ false) × Gathers limit m p new t v × HoldsFew most new now
+found_held laws one_code limit t u v most now o f split old mid new m n p e q k l found same now_is =
     let all = took_both (code_of o ∷ []) l.0 old mid new m n p t u v k l.1 in
     let is : new ≡ code_of o ∷ l.0 = all.held ∙ ap (λ (b : List ℕ). b ++ (code_of o ∷ l.0)) e in
-    let fronts = lies_begun limit f found.arg split new found.lies in (
+    let fronts = laws.whole limit f found.arg split new found.lies in (
       ap is_passed same ∙ q,
       record { taken = all.count ∙ ap (λ (b : List ℕ). t + length b) (sym is); fronts = fronts; source = rw is all.taken },
-      held_few limit most now o new l.0 q is fronts now_is,
+      held_few laws one_code limit most now o new l.0 q is fronts now_is,
     )

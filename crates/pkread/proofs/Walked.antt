@@ -1,6 +1,6 @@
 -- The instructions that a walk over a slice has given.
-use Rattle.std.proofs.Common.{◌≡◌, ◌≢◌, ℕ, ◌+◌, Bool, true, false, List, [], ◌∷◌, ◌++◌, length, Option, Some, None, Result, Ok, Err, refl, sym, ap, ◌∙◌, subst, arith, length-append, append_assoc}
-use Rattle.std.specs.Prelude.{All, MatchBool, MatchOption}
+use Rattle.std.proofs.Common.{◌≡◌, ◌≢◌, ℕ, Bool, true, false, List, [], ◌∷◌, ◌++◌, length, Option, Some, None, Result, Ok, Err, refl, sym, ap, ◌∙◌, subst, arith, length-append, append_assoc}
+use Rattle.std.specs.Prelude.{MatchBool, MatchOption}
 use Rattle.std.proofs.lemmas.List.Elements.{All-nil, All-push}
 use Rattle.pkops.specs.Inst.{instruction_of}
 use Rattle.pkops.specs.Spelling.{Instruction, spelling}
@@ -9,9 +9,9 @@ use Rattle.pkops.specs.declared.op.Op.{Op}
 use Rattle.pkops.specs.declared.op.Op.TheVariants as op
 use Rattle.pkread.proofs.Run.{spellings-more}
 use Rattle.pkread.specs.Admission.{IsAllowed}
-use Rattle.pkread.specs.Genops.{GivesItem, RefusesItem, Walk, Walks, Yields, is_stop, walk_of}
-use Rattle.pkread.specs.Sequence.{IsSequence, NoStop, StopIsLast, spellings}
-use Rattle.pkread.specs.Walked.{EndIsWalked, HasWalked, ItemIsWalked, RefusalIsWalked, WalkBegins}
+use Rattle.pkread.specs.Genops.{GivesItem, RefusesItem, Walk, Yields, is_stop}
+use Rattle.pkread.specs.Sequence.{NoStop, StopIsLast, spellings}
+use Rattle.pkread.specs.Walked.{EndIsWalked, ItemIsWalked, RefusalIsWalked, WalkBegins}
 use Rattle.pkread.specs.declared.refusal.Refusal.{Refusal}
 
 pub walk_begins : WalkBegins

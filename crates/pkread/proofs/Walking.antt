@@ -23,7 +23,7 @@ gives_item b at limit n i stops w e s =
     let spelled : take n b ≡ spelling (instruction_of i) = w.spells.spelled in
     record {
       place = refl;
-      allowed = record { good = w.spells.good; within = w.within; admitted = no_objection (instruction_of i) w.spells.good e };
+      allowed = record { good = w.spells.good; within = w.within; admitted = no_objection (instruction_of i) e };
       bytes = rw rest (sym (take-append-drop n b) ∙ ap (λ (l : List ℕ). l ++ drop n b) spelled);
       offset = omega (arith, size, ap length spelled);
       limit = refl;

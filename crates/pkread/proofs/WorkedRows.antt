@@ -2,13 +2,15 @@
 use Rattle.std.proofs.Common.{◌≡◌, ◌≢◌, ℕ, List, [], ◌∷◌, None, Some, arith, refl}
 use Rattle.std.proofs.lemmas.List.Elements.{All-nil, All-push}
 use Rattle.std.specs.Iterator.{at_most}
+use Rattle.pkops.specs.Limits.{Bounds, standard}
+use Rattle.pkops.specs.Payloads.{payload_limit, payload_limit_at}
 use Rattle.pkops.specs.Spelling.{Instruction, Nothing, Number, Pair, instruction}
 use Rattle.pkops.specs.declared.op.Op.TheVariants as op
 use Rattle.pkread.specs.Admission.{IsAllowed, objection}
 use Rattle.pkread.specs.Framing.{Piece, Role, contents, counted, frame, other, refused_at, stop, total}
 use Rattle.pkread.specs.Genops.{most_items, walk_of}
 use Rattle.pkread.specs.Pieces.{piece_of}
-use Rattle.pkread.specs.Rows.{IsAmiss, Takes, bound}
+use Rattle.pkread.specs.Rows.{IsAmiss, Takes}
 use Rattle.pkread.specs.Sequence.{IsSequence, spellings}
 use Rattle.pkread.specs.declared.refusal.Reason.TheVariants.{ExtensionCode, UnsupportedProtocol}
 
@@ -89,18 +91,11 @@ allows_none limit = record { good = record { suits = tt; contents = tt }; within
 allows_stop : (limit : ℕ) → IsAllowed limit (instruction op.Stop Nothing)
 allows_stop limit = record { good = record { suits = tt; contents = tt }; within = tt; admitted = refl }
 
-none_stop_sequence : (limit : ℕ) → IsSequence limit none_stop
+none_stop_sequence : (limit : ℕ) → IsSequence (λ _. limit) none_stop
 none_stop_sequence limit = record {
   each = All-push (IsAllowed limit) (instruction op.None Nothing ∷ []) (instruction op.Stop Nothing) (All-push (IsAllowed limit) [] (instruction op.None Nothing) (All-nil (IsAllowed limit)) (allows_none limit)) (allows_stop limit);
   stops = (instruction op.None Nothing ∷ [], instruction op.Stop Nothing, refl, refl, All-push (λ i. i.op ≢ op.Stop) [] (instruction op.None Nothing) (All-nil (λ i. i.op ≢ op.Stop)) (λ e. cc));
 }
-
--- the buffer's bound under the standard limit and under none
-bound_standard : bound 16_777_216 ≡ 16_777_225
-bound_standard = refl
-
-bound_none : bound 0 ≡ 131_075
-bound_none = refl
 
 -- a walk over two bytes has three items at most, and none once it is done
 items_of_two : most_items (walk_of (0x4e ∷ 0x2e ∷ []) 0) ≡ at_most 3
@@ -109,3 +104,19 @@ items_of_two = refl
 -- a source of two bytes gives one of them
 takes_one : Takes (record { left = Some (0x4e ∷ 0x2e ∷ []); failures = 0 }) (record { left = Some (0x2e ∷ []); failures = 0 }) (0x4e ∷ [])
 takes_one = record { bytes = refl; count = refl }
+
+-- a payload of bytes may have as many as the limit on those passed over says, one of text as many as that on those held
+abbrev three_and_five : Bounds
+three_and_five = record standard { counted = 3; passed = 5 }
+
+limit_of_bytes : payload_limit three_and_five op.BinBytes ≡ 5
+limit_of_bytes = refl
+
+limit_of_text : payload_limit three_and_five op.BinUnicode ≡ 3
+limit_of_text = refl
+
+limit_at_bytes : payload_limit_at three_and_five (0x42 ∷ []) ≡ 5
+limit_at_bytes = refl
+
+limit_at_text : payload_limit_at three_and_five (0x58 ∷ []) ≡ 3
+limit_at_text = refl

@@ -1,5 +1,6 @@
 -- What contracts see of a reader, its source aside.
 use Rattle.std.specs.Prelude.{ℕ}
+use Rattle.pkops.specs.Limits.{Bounds}
 use Rattle.pkops.specs.declared.op.Op.{Op}
 use Rattle.pkops.specs.declared.op.Op.TheVariants.{Stop}
 use Rattle.pkread.specs.Held.{Held}
@@ -20,11 +21,11 @@ shown_phase declared.TheVariants.Open = Open
 shown_phase declared.TheVariants.Ended = Ended
 shown_phase (declared.TheVariants.Refused refusal) = Refused refusal
 
--- the buffer, the number of bytes taken, the limit on payloads, and how the reader goes on
+-- the buffer, the number of bytes taken, the limits, and how the reader goes on
 pub record CoreView : Type 0 where
   pub held : Held
   pub taken : ℕ
-  pub limit : ℕ
+  pub limits : Bounds
   pub phase : Phase
 
 -- how a reader goes on once it has given an instruction of the opcode

@@ -1,7 +1,8 @@
--- What a call of `next_head` does: a byte payload is taken and not held.
+-- What a call of `next_head` does: a byte payload is taken and not held, and has a limit of its
+-- own.
 use Rattle.std.specs.Prelude.{◌≡◌, ◌⊎◌, ℕ, ◌+◌, ◌≤◌, false, IsTrue, List, length, max, Result, Ok, Err, MatchResult}
 use Rattle.pkops.specs.Inst.{instruction_of}
-use Rattle.pkops.specs.Payloads.{HasCount, is_passed}
+use Rattle.pkops.specs.Payloads.{HasCount, is_passed, payload_limit_at}
 use Rattle.pkops.specs.Spelling.{Counted, instruction, spelling}
 use Rattle.pkops.specs.declared.op.Op.{Op}
 use Rattle.pkread.specs.Core.{Phase, Open, Ended, Refused}
@@ -39,17 +40,19 @@ HoldsFew old bytes new =
 -- a payload was passed over, of the instruction at the place
 pub record Passes (old : State) (at : ℕ) (op : Op) (count : ℕ) (new : State) : Type 0 where
   pub place : at ≡ old.taken
-  pub passes : PassesBy old.limit op count old.source new.source old.taken new.taken
+  pub passes : PassesBy old.limits.passed op count old.source new.source old.taken new.taken
   pub within : new.taken ≤ all_bytes
   pub least : old.most ≤ new.most
   pub most : new.most ≤ max old.most 131_075
   pub phase : new.phase ≡ Open
 
--- the bytes from the place on were taken, and show the reason, as at a refusal of `next`
+-- the bytes from the place on were taken, and show the reason, as at a refusal of `next`; where
+-- they begin an instruction of a passed opcode, under the limit on payloads passed over
 pub record RefusesHead (old : State) (r : Refusal) (new : State) : Type 0 where
   pub place : r.at ≡ old.taken
   pub why : (bytes : List ℕ)
-      × Refuses old.limit old.source new.source bytes old.taken new.taken r.reason
+      × Refuses (payload_limit_at old.limits bytes)
+      old.source new.source bytes old.taken new.taken r.reason
       × (old.most ≤ new.most)
       × HoldsFew old.most bytes new.most
   pub failures : CountsAt r.reason old.source.failures new.source.failures
@@ -74,13 +77,14 @@ StepsHeadFrom (Refused r) old result new = (result ≡ Err r) × (new ≡ old)
 -- one call of `next_head`
 abbrev pub StepsHead : State → Result Head Refusal → State → Type 0
 StepsHead old result new =
-    (new.limit ≡ old.limit) × StepsHeadFrom old.phase old result new
+    (new.limits ≡ old.limits) × StepsHeadFrom old.phase old result new
 
 -- the place is known at once, and that the instruction is allowed
 abbrev pub ShowsHead : State → Head → Type 0
-ShowsHead old (head.Inst at inst) = (at ≡ old.taken) × IsAllowed old.limit (instruction_of inst)
+ShowsHead old (head.Inst at inst) =
+    (at ≡ old.taken) × IsAllowed old.limits.counted (instruction_of inst)
 ShowsHead old (head.Passed at op count) =
-    (at ≡ old.taken) × (payload : List ℕ) × IsPassed old.limit op count payload
+    (at ≡ old.taken) × (payload : List ℕ) × IsPassed old.limits.passed op count payload
 ShowsHead old head.Ended = ⊥
 
 -- the answer by the phase, with no word of the state after

@@ -20,8 +20,8 @@ number_of _ = 0
 abbrev pub piece_of : Instruction → Piece
 piece_of i = record { length = length (spelling i); role = role_of i.op (number_of i.arg) }
 
--- where the rule passes the instructions with so many bytes left open, and one more behind them, that
--- one is framed behind them
+-- where the rule passes the instructions with so many bytes left open, and one more behind them,
+-- that one is framed behind them
 abbrev pub FramesGoOn : Type 0
 FramesGoOn =
     (before : List Instruction) (i : Instruction) (left after : ℕ) →

@@ -2,6 +2,7 @@
 use Rattle.std.specs.Prelude.{◌≡◌, ◌≢◌, ℕ, ◌+◌, ◌≤◌, Bool, true, false, List, length, max, Option, Result, Ok, Err, MatchResult}
 use base.Fml.{GName}
 use Rattle.pkops.specs.Inst.{instruction_of}
+use Rattle.pkops.specs.Limits.{Bounds}
 use Rattle.pkops.specs.Spelling.{Instruction, spelling}
 use Rattle.pkread.specs.Admission.{IsAllowed}
 use Rattle.pkread.specs.Core.{Phase, Open, Ended, Refused, CoreView, phase_after}
@@ -22,12 +23,12 @@ source_of r = r.source.now
 abbrev pub source_name : {R B : Type 0} → Reader R B → GName
 source_name r = r.source.ghost_name
 
--- the sight of the source, the number of bytes taken, the limit on payloads, the most bytes ever
--- held, and how the reader goes on
+-- the sight of the source, the number of bytes taken, the limits, the most bytes ever held, and how
+-- the reader goes on
 pub record State : Type 0 where
   pub source : Sight
   pub taken : ℕ
-  pub limit : ℕ
+  pub limits : Bounds
   pub most : ℕ
   pub phase : Phase
 
@@ -36,14 +37,20 @@ abbrev pub state : {R : Type 0} → (R → Option (List ℕ)) → (R → ℕ) �
 state left failures r = record {
   source = sight left failures (source_of r);
   taken = r.core.taken;
-  limit = r.core.limit;
+  limits = r.core.limits;
   most = r.core.held.most;
   phase = r.core.phase;
 }
 
 -- the state of a new reader
-abbrev pub begun : Sight → ℕ → State
-begun source limit = record { source = source; taken = 0; limit = limit; most = 0; phase = Open }
+abbrev pub begun : Sight → Bounds → State
+begun source limits = record {
+  source = source;
+  taken = 0;
+  limits = limits;
+  most = 0;
+  phase = Open;
+}
 
 -- STOP was given
 abbrev pub is_ended : Phase → Bool
@@ -66,7 +73,7 @@ LeavesSource old new = old.core.phase ≢ Open → source_of new ≡ source_of o
 -- the instruction given is the one that the bytes taken spell, at the place where they begin
 pub record Gives (old : State) (at : ℕ) (i : Instruction) (new : State) : Type 0 where
   pub place : at ≡ old.taken
-  pub allowed : IsAllowed old.limit i
+  pub allowed : IsAllowed old.limits.counted i
   pub bytes : Takes old.source new.source (spelling i)
   pub taken : new.taken ≡ old.taken + length (spelling i)
   pub within : new.taken ≤ all_bytes
@@ -84,7 +91,7 @@ pub record Raises (old : ℕ) (bytes : List ℕ) (reason : Reason) (new : ℕ) :
 pub record RefusesAt (old : State) (r : Refusal) (new : State) : Type 0 where
   pub place : r.at ≡ old.taken
   pub why : (bytes : List ℕ) ×
-      Refuses old.limit old.source new.source bytes old.taken new.taken r.reason ×
+      Refuses old.limits.counted old.source new.source bytes old.taken new.taken r.reason ×
       Raises old.most bytes r.reason new.most
   pub failures : CountsAt r.reason old.source.failures new.source.failures
   pub phase : new.phase ≡ Refused r
@@ -104,11 +111,12 @@ StepsFrom (Refused r) old result new = (result ≡ Err r) × (new ≡ old)
 
 -- one call of `next`
 abbrev pub Steps : State → Result Next Refusal → State → Type 0
-Steps old result new = (new.limit ≡ old.limit) × StepsFrom old.phase old result new
+Steps old result new = (new.limits ≡ old.limits) × StepsFrom old.phase old result new
 
 -- the place is known at once, and that the instruction is allowed
 abbrev pub ShowsNext : State → Next → Type 0
-ShowsNext old (next.Inst at inst) = (at ≡ old.taken) × IsAllowed old.limit (instruction_of inst)
+ShowsNext old (next.Inst at inst) =
+    (at ≡ old.taken) × IsAllowed old.limits.counted (instruction_of inst)
 ShowsNext old next.Ended = ⊥
 
 -- the answer by the phase, with no word of the state after

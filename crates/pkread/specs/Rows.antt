@@ -1,5 +1,5 @@
 -- What holds of the bytes where a reader refuses them: a row for each reason.
-use Rattle.std.specs.Prelude.{◌≡◌, ◌≢◌, ℕ, ◌+◌, ◌-◌, ◌^◌, ◌%◌, ◌<◌, ◌⊎◌, List, length, take, max, Option, Some}
+use Rattle.std.specs.Prelude.{◌≡◌, ◌≢◌, ℕ, ◌+◌, ◌-◌, ◌^◌, ◌%◌, ◌<◌, ◌⊎◌, List, length, take, Option, Some}
 use Rattle.std.specs.Io.KnownBytes.{Consumes, IsAtEnd}
 use Rattle.pkops.specs.Answer.{IsWhole}
 use Rattle.pkops.specs.Scanning.{Begun, HasFault}
@@ -32,12 +32,6 @@ pub record Fails (old new : Sight) (run : List ℕ) : Type 0 where
 -- the most bytes that a reader takes
 abbrev pub all_bytes : ℕ
 all_bytes = 2 ^ 64 - 1
-
--- the most bytes that a reader's buffer holds: the longest counted argument with its code and
--- count,
--- or two lines with their code
-abbrev pub bound : ℕ → ℕ
-bound limit = max (limit + 9) 131_075
 
 -- a front of the bytes is an instruction, which is not admitted for the reason
 abbrev pub IsBarred : ℕ → List ℕ → Reason → Type 0

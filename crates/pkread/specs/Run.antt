@@ -1,10 +1,12 @@
 -- What a loop over a reader's calls knows: the instructions that it was given so far.
 use Rattle.std.specs.Prelude.{◌≡◌, ℕ, ◌+◌, List, [], ◌∷◌, ◌++◌, All, length, Result, Ok, Err}
 use Rattle.pkops.specs.Inst.{instruction_of}
+use Rattle.pkops.specs.Limits.{Bounds}
+use Rattle.pkops.specs.Payloads.{payload_limit}
 use Rattle.pkops.specs.Spelling.{Counted, Instruction, instruction, spelling}
 use Rattle.pkops.specs.declared.inst.Inst.{Inst}
 use Rattle.pkops.specs.declared.op.Op.{Op}
-use Rattle.pkread.specs.Admission.{IsAllowed}
+use Rattle.pkread.specs.Admission.{IsAllowedBy}
 use Rattle.pkread.specs.Core.{Phase, Open, Ended, Refused}
 use Rattle.pkread.specs.Heads.{IsPassed, Passes, RefusesHead, StepsHead}
 use Rattle.pkread.specs.Reading.{Gives, RefusesAt, State, Steps, begun}
@@ -17,26 +19,35 @@ use Rattle.pkread.specs.declared.reader.Next.TheVariants as next
 use Rattle.pkread.specs.declared.refusal.Refusal.{Refusal}
 
 -- STOP was given last, and only where the reader has ended; a reader that has refused is left alone
-abbrev pub SoFar : ℕ → List Instruction → Phase → Type 0
-SoFar limit instructions Open = NoStop instructions
-SoFar limit instructions Ended = StopIsLast instructions
-SoFar limit instructions (Refused refusal) = ⊥
+abbrev pub SoFar : List Instruction → Phase → Type 0
+SoFar instructions Open = NoStop instructions
+SoFar instructions Ended = StopIsLast instructions
+SoFar instructions (Refused refusal) = ⊥
 
--- from the start of the source on, a reader in this state has given these instructions
-pub record Reads (start : Sight) (limit : ℕ) (instructions : List Instruction)
+-- from the start of the source on, a reader in this state has given these instructions, within the
+-- limits of their opcodes
+pub record Reads (start : Sight) (limit : Op → ℕ) (instructions : List Instruction)
     (state : State) : Type 0 where
-  pub same_limit : state.limit ≡ limit
-  pub each : All (IsAllowed limit) instructions
-  pub so_far : SoFar limit instructions state.phase
+  pub each : All (IsAllowedBy limit) instructions
+  pub so_far : SoFar instructions state.phase
   pub bytes : Takes start state.source (spellings instructions)
   pub count : state.taken ≡ length (spellings instructions)
 
 -- a new reader has given nothing
 abbrev pub ReadingBegins : Type 0
-ReadingBegins = (start : Sight) (limit : ℕ) → Reads start limit [] (begun start limit)
+ReadingBegins =
+    (start : Sight) (limit : Op → ℕ) (limits : Bounds) → Reads start limit [] (begun start limits)
+
+-- the limits that `next` goes by: one for all opcodes
+abbrev pub HoldsTo : State → (Op → ℕ) → Type 0
+HoldsTo state limit = (op : Op) → state.limits.counted ≡ limit op
+
+-- the limits that `next_head` goes by: another one for passed opcodes
+abbrev pub PassesTo : State → (Op → ℕ) → Type 0
+PassesTo state limit = (op : Op) → payload_limit state.limits op ≡ limit op
 
 -- an instruction more was given
-pub record ReadsMore (start : Sight) (limit : ℕ) (before : List Instruction)
+pub record ReadsMore (start : Sight) (limit : Op → ℕ) (before : List Instruction)
     (i : Instruction) (after : State) : Type 0 where
   pub no_stop : NoStop before
   pub reads : Reads start limit (before ++ i ∷ []) after
@@ -44,27 +55,30 @@ pub record ReadsMore (start : Sight) (limit : ℕ) (before : List Instruction)
 -- where `next` gives an instruction, it was given behind the others
 abbrev pub NextIsRead : Type 0
 NextIsRead =
-    (start : Sight) (limit : ℕ) (p : List Instruction) (old new : State)
+    (start : Sight) (limit : Op → ℕ) (p : List Instruction) (old new : State)
     (result : Result Next Refusal) (at : ℕ) (inst : Inst) →
-    Reads start limit p old → Steps old result new → result ≡ Ok (next.Inst at inst) →
+    HoldsTo old limit → Reads start limit p old → Steps old result new →
+    result ≡ Ok (next.Inst at inst) →
     ReadsMore start limit p (instruction_of inst) new × Gives old at (instruction_of inst) new
 
 -- the same of `next_head`
 abbrev pub HeadIsRead : Type 0
 HeadIsRead =
-    (start : Sight) (limit : ℕ) (p : List Instruction) (old new : State)
+    (start : Sight) (limit : Op → ℕ) (p : List Instruction) (old new : State)
     (result : Result Head Refusal) (at : ℕ) (inst : Inst) →
-    Reads start limit p old → StepsHead old result new → result ≡ Ok (head.Inst at inst) →
+    PassesTo old limit → Reads start limit p old → StepsHead old result new →
+    result ≡ Ok (head.Inst at inst) →
     ReadsMore start limit p (instruction_of inst) new × Gives old at (instruction_of inst) new
 
 -- where it passes over a payload, some instruction with a payload of that length was given, which
 -- the bytes taken spell
 abbrev pub PassedIsRead : Type 0
 PassedIsRead =
-    (start : Sight) (limit : ℕ) (p : List Instruction) (old new : State)
+    (start : Sight) (limit : Op → ℕ) (p : List Instruction) (old new : State)
     (result : Result Head Refusal) (at : ℕ) (op : Op) (count : ℕ) →
-    Reads start limit p old → StepsHead old result new → result ≡ Ok (head.Passed at op count) →
-    (payload : List ℕ) × IsPassed limit op count payload
+    PassesTo old limit → Reads start limit p old → StepsHead old result new →
+    result ≡ Ok (head.Passed at op count) →
+    (payload : List ℕ) × IsPassed (limit op) op count payload
     × ReadsMore start limit p (instruction op (Counted payload)) new
     × Takes old.source new.source (spelling (instruction op (Counted payload)))
     × (new.taken ≡ old.taken + length (spelling (instruction op (Counted payload))))
@@ -73,7 +87,7 @@ PassedIsRead =
 -- where a call says that the reader has ended, the instructions are a sequence, and nothing changed
 abbrev pub EndIsRead : Type 0
 EndIsRead =
-    (start : Sight) (limit : ℕ) (p : List Instruction) (old new : State)
+    (start : Sight) (limit : Op → ℕ) (p : List Instruction) (old new : State)
     (result : Result Next Refusal) →
     Reads start limit p old → Steps old result new → result ≡ Ok next.Ended →
     IsSequence limit p × (new ≡ old)
@@ -81,7 +95,7 @@ EndIsRead =
 -- the same of `next_head`
 abbrev pub EndOfHeads : Type 0
 EndOfHeads =
-    (start : Sight) (limit : ℕ) (p : List Instruction) (old new : State)
+    (start : Sight) (limit : Op → ℕ) (p : List Instruction) (old new : State)
     (result : Result Head Refusal) →
     Reads start limit p old → StepsHead old result new → result ≡ Ok head.Ended →
     IsSequence limit p × (new ≡ old)
@@ -89,7 +103,7 @@ EndOfHeads =
 -- where a call refuses, it refuses here for the first time, and STOP was not given
 abbrev pub RefusalIsRead : Type 0
 RefusalIsRead =
-    (start : Sight) (limit : ℕ) (p : List Instruction) (old new : State)
+    (start : Sight) (limit : Op → ℕ) (p : List Instruction) (old new : State)
     (result : Result Next Refusal) (refusal : Refusal) →
     Reads start limit p old → Steps old result new → result ≡ Err refusal →
     NoStop p × RefusesAt old refusal new
@@ -97,7 +111,7 @@ RefusalIsRead =
 -- the same of `next_head`
 abbrev pub RefusalOfHeads : Type 0
 RefusalOfHeads =
-    (start : Sight) (limit : ℕ) (p : List Instruction) (old new : State)
+    (start : Sight) (limit : Op → ℕ) (p : List Instruction) (old new : State)
     (result : Result Head Refusal) (refusal : Refusal) →
     Reads start limit p old → StepsHead old result new → result ≡ Err refusal →
     NoStop p × RefusesHead old refusal new

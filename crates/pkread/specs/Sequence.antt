@@ -1,8 +1,9 @@
 -- Whole sequences of instructions, and the bytes that spell them.
 use Rattle.std.specs.Prelude.{◌≡◌, ◌≢◌, ℕ, ◌+◌, ◌^◌, ◌%◌, List, [], ◌∷◌, ◌++◌, All, flat_map}
 use Rattle.pkops.specs.Spelling.{Instruction, spelling}
+use Rattle.pkops.specs.declared.op.Op.{Op}
 use Rattle.pkops.specs.declared.op.Op.TheVariants.{Stop}
-use Rattle.pkread.specs.Admission.{IsAllowed}
+use Rattle.pkread.specs.Admission.{IsAllowedBy}
 use Rattle.pkread.specs.declared.refusal.Reason.{Reason}
 use Rattle.pkread.specs.declared.refusal.Reason.TheVariants.{Source}
 
@@ -20,9 +21,10 @@ StopIsLast instructions =
     (front : List Instruction) × (last : Instruction)
     × (instructions ≡ front ++ last ∷ []) × (last.op ≡ Stop) × NoStop front
 
--- each instruction is good, admitted and within the limits, the last is STOP, and no other is
-pub record IsSequence (limit : ℕ) (instructions : List Instruction) : Type 0 where
-  pub each : All (IsAllowed limit) instructions
+-- each instruction is good, admitted and within the limit of its opcode, the last is STOP, and no
+-- other is
+pub record IsSequence (limit : Op → ℕ) (instructions : List Instruction) : Type 0 where
+  pub each : All (IsAllowedBy limit) instructions
   pub stops : StopIsLast instructions
 
 -- the count of failures goes up by one at Source, and stays at every other reason

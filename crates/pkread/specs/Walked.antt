@@ -3,7 +3,6 @@ use Rattle.std.specs.Prelude.{◌≡◌, ℕ, List, [], ◌∷◌, ◌++◌, All
 use Rattle.pkops.specs.Inst.{instruction_of}
 use Rattle.pkops.specs.Spelling.{Instruction}
 use Rattle.pkops.specs.declared.inst.Inst.{Inst}
-use Rattle.pkops.specs.declared.op.Op.TheVariants.{Stop}
 use Rattle.pkread.specs.Admission.{IsAllowed}
 use Rattle.pkread.specs.Genops.{GivesItem, RefusesItem, Walk, Walks, walk_of}
 use Rattle.pkread.specs.Sequence.{IsSequence, NoStop, StopIsLast, spellings}
@@ -37,7 +36,7 @@ EndIsWalked =
     (bytes : List ℕ) (limit : ℕ) (p : List Instruction) (old new : Walk)
     (item : Option (Result (ℕ × Inst) Refusal)) →
     HasWalked bytes limit p old → Walks old item new → item ≡ None →
-    IsSequence limit p × (new ≡ old)
+    IsSequence (λ _. limit) p × (new ≡ old)
 
 -- a refusal is given, and STOP was not
 abbrev pub RefusalIsWalked : Type 0

@@ -14,9 +14,6 @@ use crate::arms::Behind;
 use crate::refusal::Reason;
 use pkops::{Arg, Fault, Inst, Op, Width, argument_of};
 
-/// The highest protocol that is read.
-const HIGHEST_PROTOCOL: u8 = 5;
-
 /// The reason of the same name as the fault.
 pub(crate) fn reason_of(fault: Fault) -> Reason
     ensures { result ≡ reason_of fault }
@@ -32,16 +29,12 @@ pub(crate) fn reason_of(fault: Fault) -> Reason
 pub(crate) fn objection_to(inst: Inst<'_>) -> Option<Reason>
     ensures { result ≡ objection (instruction_of inst.entry) }
 {
+    if inst.admitted() {
+        return None;
+    }
     match (inst.op(), inst.arg()) {
-        (Op::Ext1 | Op::Ext2 | Op::Ext4, _) => Some(Reason::ExtensionCode),
-        (Op::Proto, Arg::U1(protocol)) => {
-            if protocol > HIGHEST_PROTOCOL {
-                Some(Reason::UnsupportedProtocol(protocol))
-            } else {
-                None
-            }
-        }
-        _ => None,
+        (Op::Proto, Arg::U1(protocol)) => Some(Reason::UnsupportedProtocol(protocol)),
+        _ => Some(Reason::ExtensionCode),
     }
 }
 

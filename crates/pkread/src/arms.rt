@@ -14,6 +14,7 @@ use crate::buffer::Buffer;
 use crate::lines::line;
 use crate::refusal::Reason;
 use crate::source::Source;
+use pkops::laws::growth;
 use pkops::{Op, Width, count_behind, is_count};
 
 /// What was taken behind a code: the number of bytes of the first of two lines, and whether the
@@ -49,6 +50,7 @@ pub(crate) fn fixed<R: Source>(
         buffer.old.bytes (sight R.left R.failures source.old) taken.old
         buffer.new.bytes (sight R.left R.failures source.new) taken.new reason) }
 {
+    growth();
     take_few(source, buffer, taken, width)?;
     Ok(Behind { split: 0, plain })
 }
@@ -75,6 +77,7 @@ pub(crate) fn take_count<R: Source>(
         buffer.old.bytes (sight R.left R.failures source.old) taken.old
         buffer.new.bytes (sight R.left R.failures source.new) taken.new) }
 {
+    growth();
     take_few(source, buffer, taken, width.size())?;
     let count = count_behind(width, buffer.bytes());
     if !is_count(width, signed, count) {
@@ -110,6 +113,7 @@ pub(crate) fn counted<R: Source>(
         buffer.old.bytes (sight R.left R.failures source.old) taken.old
         buffer.new.bytes (sight R.left R.failures source.new) taken.new) }
 {
+    growth();
     let count = take_count(source, buffer, taken, limit, op, width, signed)?;
     take(source, buffer, taken, count)?;
     Ok(Behind { split: 0, plain })
@@ -134,6 +138,7 @@ pub(crate) fn one_line<R: Source>(
         buffer.old.bytes (sight R.left R.failures source.old) taken.old
         buffer.new.bytes (sight R.left R.failures source.new) taken.new reason) }
 {
+    growth();
     line(source, buffer, taken, most)?;
     Ok(Behind {
         split: 0,
@@ -160,6 +165,7 @@ pub(crate) fn two_lines<R: Source>(
         buffer.old.bytes (sight R.left R.failures source.old) taken.old
         buffer.new.bytes (sight R.left R.failures source.new) taken.new reason) }
 {
+    growth();
     line(source, buffer, taken, most)?;
     let split = buffer.bytes().len() - 2;
     line(source, buffer, taken, most)?;

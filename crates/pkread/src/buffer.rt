@@ -99,19 +99,15 @@ impl Buffer {
             (sight R.left R.failures source.old) (sight R.left R.failures source.new)) }
     {
         let held = self.held;
-        let Ok(()) = make_room(&mut self.store, held, 1) else {
-            return Err(Reason::OutOfMemory);
-        };
+        make_room(&mut self.store, held, 1)?;
         let mut one = [0];
-        match source.pull(&mut one) {
-            Ok(0) => Err(Reason::Truncated),
-            Ok(_) => {
-                put(&mut self.store, held, one[0]);
-                self.held = held + 1;
-                Ok(one[0])
-            }
-            Err(_) => Err(Reason::Source),
+        let count = source.pull(&mut one)?;
+        if count == 0 {
+            return Err(Reason::Truncated);
         }
+        put(&mut self.store, held, one[0]);
+        self.held = held + 1;
+        Ok(one[0])
     }
 
     /// One read of at most so many bytes, which stand behind the others then.
@@ -128,17 +124,13 @@ impl Buffer {
             (sight R.left R.failures source.old) (sight R.left R.failures source.new)) }
     {
         let held = self.held;
-        let Ok(()) = make_room(&mut self.store, held, wanted) else {
-            return Err(Reason::OutOfMemory);
-        };
-        match pull_into(source, &mut self.store, held, wanted) {
-            Ok(0) => Err(Reason::Truncated),
-            Ok(n) => {
-                self.held = held + n;
-                Ok(n)
-            }
-            Err(_) => Err(Reason::Source),
+        make_room(&mut self.store, held, wanted)?;
+        let count = pull_into(source, &mut self.store, held, wanted)?;
+        if count == 0 {
+            return Err(Reason::Truncated);
         }
+        self.held = held + count;
+        Ok(count)
     }
 }
 

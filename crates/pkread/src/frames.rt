@@ -39,6 +39,7 @@ impl Frames {
     /// Takes the next instruction: its opcode, the number of bytes that spell it, and the
     /// argument where it is a FRAME (else `arg` is not looked at; `frame_argument` gives it). An
     /// instruction that breaks the frame rules is refused and leaves everything as it was.
+    #[inline(always)]
     pub fn take(&mut self, op: Op, length: u64, arg: u64) -> Result<(), BrokenFrame>
         requires { 0 < length }
         ensures { Took self.old (record { length = length; role = role_of op arg })

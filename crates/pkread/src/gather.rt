@@ -2,10 +2,11 @@
 
 ghost use Rattle.std.specs.Prelude.{◌≡◌, ◌∷◌, ◌≤◌, [], ℕ, List, IfOk, IfErr, true};
 ghost use Rattle.std.specs.Prelude.{length, max};
+ghost use Rattle.pkops.specs.Scanning.{longest};
 ghost use Rattle.pkops.specs.Table.{code_of};
 ghost use Rattle.pkread.specs.Private.Judging.{IsPlain};
 ghost use Rattle.pkread.specs.Private.Gathering.{Gathers, Grows, HoldsTaken, IsFound, Stops};
-ghost use Rattle.pkread.specs.Rows.{Refuses, bound, sight};
+ghost use Rattle.pkread.specs.Rows.{Refuses, sight};
 ghost use Rattle.pkread.specs.Private.Taking.{Took};
 
 use crate::admission::{
@@ -16,6 +17,7 @@ use crate::blocks::take_byte;
 use crate::buffer::Buffer;
 use crate::refusal::Reason;
 use crate::source::Source;
+use pkops::laws::{growth, one_answer};
 use pkops::{Layout, Op, layout_of_op, op_of_byte};
 
 /// What was gathered: an opcode, and the number of bytes of the first of two lines.
@@ -44,6 +46,7 @@ fn behind_code<R: Source>(
         buffer.old.bytes (sight R.left R.failures source.old) taken.old
         buffer.new.bytes (sight R.left R.failures source.new) taken.new) }
 {
+    growth();
     match layout_of_op(op) {
         Layout::Nothing => Ok(Behind {
             split: 0,
@@ -82,6 +85,7 @@ pub(crate) fn take_op<R: Source>(
         buffer.old.bytes (sight R.left R.failures source.old) taken.old
         buffer.new.bytes (sight R.left R.failures source.new) taken.new reason) }
 {
+    growth();
     let code = take_byte(source, buffer, taken)?;
     let Some(op) = op_of_byte(code) else {
         return Err(Reason::UnknownOpcode(code));
@@ -109,6 +113,7 @@ pub(crate) fn gather_behind<R: Source>(
         buffer.old.bytes (sight R.left R.failures source.old) taken.old
         buffer.new.bytes (sight R.left R.failures source.new) taken.new) }
 {
+    growth();
     let behind = behind_code(source, buffer, taken, limit, op)?;
     match objection_in(op, behind, buffer.bytes()) {
         Some(reason) => Err(reason),
@@ -159,8 +164,10 @@ pub(crate) fn gather<R: Source>(
         (sight R.left R.failures source.old) (sight R.left R.failures source.new)
         bytes taken.old taken.new reason × HoldsTaken reason bytes buffer.new.bytes) }
     ensures most { buffer.new.most ≡ max buffer.old.most (length buffer.new.bytes) }
-    ensures bound { length buffer.new.bytes ≤ bound limit }
+    ensures bound { length buffer.new.bytes ≤ longest limit }
 {
+    growth();
+    one_answer();
     let gathered = gather_held(source, buffer, taken, limit);
     buffer.raise();
     gathered

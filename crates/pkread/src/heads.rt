@@ -2,7 +2,8 @@
 
 ghost use Rattle.std.specs.Prelude.{◌≡◌, ◌∷◌, ◌≤◌, [], ℕ, List, IfOk, IfErr, true};
 ghost use Rattle.std.specs.Prelude.{false, length, max};
-ghost use Rattle.pkops.specs.Payloads.{is_passed};
+ghost use Rattle.pkops.specs.Payloads.{is_passed, payload_limit_at};
+ghost use Rattle.pkops.specs.Scanning.{longest};
 ghost use Rattle.pkops.specs.Spelling.{layout_at};
 ghost use Rattle.pkops.specs.Table.{code_of};
 ghost use Rattle.pkops.specs.declared.layout.Layout.TheVariants as layout;
@@ -10,7 +11,7 @@ ghost use Rattle.pkread.specs.Private.Gathering.{Gathers, IsFound, Stops};
 ghost use Rattle.pkread.specs.Heads.{HoldsFew, PassesBy};
 ghost use Rattle.pkread.specs.Private.Passing.{GrowsPassing, IfHeld, IfPassed, PassedAll};
 ghost use Rattle.pkread.specs.Private.Passing.{PassedSome, StopsPassing, most_now};
-ghost use Rattle.pkread.specs.Rows.{Refuses, bound, sight};
+ghost use Rattle.pkread.specs.Rows.{Refuses, sight};
 ghost use Rattle.pkread.specs.Private.Taking.{Took};
 
 use crate::arms::take_count;
@@ -19,7 +20,8 @@ use crate::buffer::Buffer;
 use crate::gather::{Found, gather_behind, take_op};
 use crate::refusal::Reason;
 use crate::source::Source;
-use pkops::{Op, Width};
+use pkops::laws::{growth, one_answer, one_code};
+use pkops::{Limits, Op, Width};
 
 /// What was gathered: all of an instruction, or the length of a payload that is gone.
 #[derive(Clone, Copy, Debug)]
@@ -90,6 +92,7 @@ fn pass_argument<R: Source>(
         buffer.old.bytes (sight R.left R.failures source.old) taken.old
         (sight R.left R.failures source.new) taken.new) }
 {
+    growth();
     let count = take_count(source, buffer, taken, limit, op, count_width(op), false)?;
     pass_over(source, buffer, taken, count)?;
     Ok(count as u64)
@@ -101,35 +104,39 @@ fn gather_parts<R: Source>(
     source: &mut R,
     buffer: &mut Buffer,
     taken: &mut u64,
-    limit: u64,
+    limits: Limits,
 ) -> Result<Gathered, Reason>
     requires { buffer.old.bytes ≡ [] }
     ensures least { buffer.old.most ≤ buffer.new.most }
-    ensures bound { most_now buffer.new ≤ max buffer.old.most (bound limit) }
-    ensures passed { IfOk result (λ g. IfPassed g (λ op count. PassesBy limit op count
+    ensures bound { most_now buffer.new ≤ max buffer.old.most (longest limits.counted) }
+    ensures passed { IfOk result (λ g. IfPassed g (λ op count. PassesBy limits.passed op count
         (sight R.left R.failures source.old) (sight R.left R.failures source.new)
         taken.old taken.new)) }
     ensures few { IfOk result (λ g. IfPassed g (λ _ _.
         most_now buffer.new ≤ max buffer.old.most 131_075)) }
     ensures held { IfOk result (λ g. IfHeld g (λ f.
-        IsFound limit buffer.new.bytes f.op f.split
+        IsFound limits.counted buffer.new.bytes f.op f.split
         × (is_passed f.op ≡ false)
         × (buffer.new.most ≡ buffer.old.most)
-        × Gathers limit
+        × Gathers limits.counted
         (sight R.left R.failures source.old) (sight R.left R.failures source.new)
         buffer.new.bytes taken.old taken.new
         × HoldsFew buffer.old.most buffer.new.bytes (most_now buffer.new))) }
-    ensures err { IfErr result (λ reason. (bytes : List ℕ) × Refuses limit
+    ensures err { IfErr result (λ reason. (bytes : List ℕ)
+        × Refuses (payload_limit_at limits bytes)
         (sight R.left R.failures source.old) (sight R.left R.failures source.new)
         bytes taken.old taken.new reason
         × HoldsFew buffer.old.most bytes (most_now buffer.new)) }
 {
+    growth();
+    one_answer();
+    one_code();
     let op = take_op(source, buffer, taken)?;
     if op.passed() {
-        let count = pass_argument(source, buffer, taken, limit, op)?;
+        let count = pass_argument(source, buffer, taken, limits.passed(), op)?;
         return Ok(Gathered::Passed { op, count });
     }
-    let found = gather_behind(source, buffer, taken, limit, op)?;
+    let found = gather_behind(source, buffer, taken, limits.counted(), op)?;
     Ok(Gathered::Held(found))
 }
 
@@ -139,30 +146,31 @@ pub(crate) fn gather_head<R: Source>(
     source: &mut R,
     buffer: &mut Buffer,
     taken: &mut u64,
-    limit: u64,
+    limits: Limits,
 ) -> Result<Gathered, Reason>
     requires { buffer.old.bytes ≡ [] }
     ensures least { buffer.old.most ≤ buffer.new.most }
-    ensures bound { buffer.new.most ≤ max buffer.old.most (bound limit) }
-    ensures passed { IfOk result (λ g. IfPassed g (λ op count. PassesBy limit op count
+    ensures bound { buffer.new.most ≤ max buffer.old.most (longest limits.counted) }
+    ensures passed { IfOk result (λ g. IfPassed g (λ op count. PassesBy limits.passed op count
         (sight R.left R.failures source.old) (sight R.left R.failures source.new)
         taken.old taken.new)) }
     ensures few { IfOk result (λ g. IfPassed g (λ _ _.
         buffer.new.most ≤ max buffer.old.most 131_075)) }
     ensures held { IfOk result (λ g. IfHeld g (λ f.
-        IsFound limit buffer.new.bytes f.op f.split
+        IsFound limits.counted buffer.new.bytes f.op f.split
         × (is_passed f.op ≡ false)
         × (buffer.new.most ≡ max buffer.old.most (length buffer.new.bytes))
-        × Gathers limit
+        × Gathers limits.counted
         (sight R.left R.failures source.old) (sight R.left R.failures source.new)
         buffer.new.bytes taken.old taken.new
         × HoldsFew buffer.old.most buffer.new.bytes buffer.new.most)) }
-    ensures err { IfErr result (λ reason. (bytes : List ℕ) × Refuses limit
+    ensures err { IfErr result (λ reason. (bytes : List ℕ)
+        × Refuses (payload_limit_at limits bytes)
         (sight R.left R.failures source.old) (sight R.left R.failures source.new)
         bytes taken.old taken.new reason
         × HoldsFew buffer.old.most bytes buffer.new.most) }
 {
-    let gathered = gather_parts(source, buffer, taken, limit);
+    let gathered = gather_parts(source, buffer, taken, limits);
     buffer.raise();
     gathered
 }

@@ -3,7 +3,8 @@
 ghost use Rattle.std.specs.Prelude.{◌≡◌, ◌≤◌, []};
 ghost use Rattle.std.specs.Borrow.{sem};
 ghost use Rattle.pkread.specs.Reading.{source_name, source_of};
-ghost use Rattle.pkread.specs.Rows.{bound, sight};
+ghost use Rattle.pkops.specs.Scanning.{longest};
+ghost use Rattle.pkread.specs.Rows.{sight};
 
 use crate::heads::Gathered;
 use crate::refusal::Refusal;
@@ -85,7 +86,7 @@ impl<'r, R: Source> Reader<'r, R> {
     pub fn new(alloc: Global, source: &'r mut R, limits: &Limits) -> Reader<'r, R>
         ensures source { source_name result ≡ source.entry.ghost_name }
         ensures state { state R.left R.failures result
-            ≡ begun (sight R.left R.failures source.old) limits.now.counted }
+            ≡ begun (sight R.left R.failures source.old) limits.now }
     {
         Reader {
             source,
@@ -108,10 +109,10 @@ impl<'r, R: Source> Reader<'r, R> {
     }
 
     /// The greatest number of bytes that the buffer has held. It is never above the larger of
-    /// 131,075 and the limit on payloads plus 9.
+    /// 131,075 and the limit on payloads that are held plus 9.
     pub fn most_held(&self) -> usize
         ensures most { result ≡ (state R.left R.failures self.now).most }
-        ensures bound { result ≤ bound (state R.left R.failures self.now).limit }
+        ensures bound { result ≤ longest (state R.left R.failures self.now).limits.counted }
     {
         self.core.most()
     }
@@ -143,8 +144,8 @@ impl<'r, R: Source> Reader<'r, R> {
 
     /// Takes the next instruction from the source as `next` does, but holds no payload of a passed
     /// opcode: it is taken block by block, and only its length is told. Calls of the two may be
-    /// mixed. Refusals, their places and the bytes taken are those of `next`, but where memory
-    /// runs out.
+    /// mixed. The limit on such a payload is `passed`, and not `counted`. Else refusals, their
+    /// places and the bytes taken are those of `next`, but where memory runs out.
     ///
     /// One call raises `most_held` to 131,075 at most, or to 9 and the count of an instruction
     /// whose payload is held.

@@ -1,5 +1,9 @@
 //! Why a pickle is refused, and where.
 
+use crate::frames::BrokenFrame;
+use crate::source::ReadFailed;
+use std::alloc::{AllocError, AllocFailed};
+
 /// Why a pickle is refused. The variants stand in the order in which they are tried for one
 /// instruction, but `TooLarge` for the stack or the memo, which is tried last, and `OutOfMemory`,
 /// which may come in place of any answer of a call that grows something.
@@ -43,6 +47,54 @@ pub enum Reason {
     LeftOver,
     /// Memory ran out.
     OutOfMemory,
+}
+
+impl From<ReadFailed> for Reason {
+    ghost use Rattle.std.specs.Prelude.{◌≡◌};
+    ghost use Rattle.pkread.specs.declared.refusal.Reason.TheVariants.{Source};
+
+    ghost from_gives = { λ _ reason. reason ≡ Source };
+
+    #[inline]
+    fn from(_failed: ReadFailed) -> Reason {
+        Reason::Source
+    }
+}
+
+impl From<BrokenFrame> for Reason {
+    ghost use Rattle.std.specs.Prelude.{◌≡◌};
+    ghost use Rattle.pkread.specs.declared.refusal.Reason.TheVariants.{BrokenFrame};
+
+    ghost from_gives = { λ _ reason. reason ≡ BrokenFrame };
+
+    #[inline]
+    fn from(_broken: BrokenFrame) -> Reason {
+        Reason::BrokenFrame
+    }
+}
+
+impl From<AllocError> for Reason {
+    ghost use Rattle.std.specs.Prelude.{◌≡◌};
+    ghost use Rattle.pkread.specs.declared.refusal.Reason.TheVariants.{OutOfMemory};
+
+    ghost from_gives = { λ _ reason. reason ≡ OutOfMemory };
+
+    #[inline]
+    fn from(_refused: AllocError) -> Reason {
+        Reason::OutOfMemory
+    }
+}
+
+impl<T: Drop> From<AllocFailed<T>> for Reason {
+    ghost use Rattle.std.specs.Prelude.{◌≡◌};
+    ghost use Rattle.pkread.specs.declared.refusal.Reason.TheVariants.{OutOfMemory};
+
+    ghost from_gives = { λ _ reason. reason ≡ OutOfMemory };
+
+    #[inline]
+    fn from(_refused: AllocFailed<T>) -> Reason {
+        Reason::OutOfMemory
+    }
 }
 
 /// A refusal: a place and a reason.

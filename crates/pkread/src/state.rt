@@ -3,14 +3,15 @@
 ghost use Rattle.std.specs.Prelude.{◌≡◌, ◌≤◌, [], ℕ, List, IfOk, IfErr, false, length, max};
 ghost use Rattle.pkops.specs.Inst.{instruction_of};
 ghost use Rattle.pkops.specs.Lying.{Lies};
-ghost use Rattle.pkops.specs.Payloads.{is_passed};
+ghost use Rattle.pkops.specs.Payloads.{is_passed, payload_limit_at};
+ghost use Rattle.pkops.specs.Scanning.{longest};
 ghost use Rattle.pkops.specs.Spelling.{Argument, instruction};
 ghost use Rattle.pkread.specs.Core.{phase_after, shown_phase};
 ghost use Rattle.pkread.specs.Heads.{HoldsFew, PassesBy};
 ghost use Rattle.pkread.specs.Private.Gathering.{Gathers, IsFound};
 ghost use Rattle.pkread.specs.Private.Passing.{IfHeld, IfPassed};
 ghost use Rattle.pkread.specs.Reading.{Raises};
-ghost use Rattle.pkread.specs.Rows.{Refuses, all_bytes, bound, sight};
+ghost use Rattle.pkread.specs.Rows.{Refuses, all_bytes, sight};
 
 use crate::buffer::Buffer;
 use crate::gather::{Found, gather};
@@ -45,18 +46,18 @@ pub struct Core {
 impl Model for Core {
     ghost use Rattle.std.specs.Prelude.{◌≤◌};
     ghost use Rattle.pkread.specs.Core.{CoreView, shown_phase};
-    ghost use Rattle.pkread.specs.Rows.{bound};
+    ghost use Rattle.pkops.specs.Scanning.{longest};
 
     ghost Value = { CoreView };
 
     ghost view = { λ c. record {
       held = c.buffer;
       taken = c.taken;
-      limit = c.limits.counted;
+      limits = c.limits;
       phase = shown_phase c.phase;
     } };
 
-    ghost invariant = { λ c. c.buffer.most ≤ bound c.limits.counted };
+    ghost invariant = { λ c. c.buffer.most ≤ longest c.limits.counted };
 }
 
 impl Core {
@@ -68,7 +69,7 @@ impl Core {
         ensures { result ≡ record {
           held = none_held;
           taken = 0;
-          limit = limits.now.counted;
+          limits = limits.now;
           phase = phase.Open;
         } }
     {
@@ -94,7 +95,7 @@ impl Core {
 
     pub(crate) fn most(&self) -> usize
         ensures most { result ≡ self.now.held.most }
-        ensures bound { result ≤ bound self.now.limit }
+        ensures bound { result ≤ longest self.now.limits.counted }
     {
         self.buffer.most()
     }
@@ -122,11 +123,11 @@ impl Core {
     }
 
     /// The instruction that was gathered, without a second look at its contents.
-    #[inline]
+    #[inline(always)]
     pub(crate) fn instruction(&self, found: Found) -> Inst<'_>
-        requires { IsFound self.now.limit self.now.held.bytes found.op found.split }
+        requires { IsFound self.now.limits.counted self.now.held.bytes found.op found.split }
         ensures { (arg : Argument) →
-            Lies self.now.limit found.op arg found.split self.now.held.bytes →
+            Lies self.now.limits.counted found.op arg found.split self.now.held.bytes →
             instruction_of result ≡ instruction found.op arg }
     {
         let arg = argument_of(found.op, found.split, self.buffer.bytes());
@@ -136,11 +137,11 @@ impl Core {
     /// Takes the bytes of the next instruction.
     pub(crate) fn collect<R: Source>(&mut self, source: &mut R) -> Result<Found, Refusal>
         requires { self.old.phase ≡ phase.Open }
-        ensures limit { self.new.limit ≡ self.old.limit }
+        ensures limits { self.new.limits ≡ self.old.limits }
         ensures whole { IfOk result (λ f.
-            IsFound self.old.limit self.new.held.bytes f.op f.split
+            IsFound self.old.limits.counted self.new.held.bytes f.op f.split
             × (self.new.phase ≡ phase_after f.op)) }
-        ensures ok { IfOk result (λ _. Gathers self.old.limit
+        ensures ok { IfOk result (λ _. Gathers self.old.limits.counted
             (sight R.left R.failures source.old) (sight R.left R.failures source.new)
             self.new.held.bytes self.old.taken self.new.taken) }
         ensures most { IfOk result (λ _.
@@ -148,7 +149,7 @@ impl Core {
         ensures within { self.new.taken ≤ all_bytes }
         ensures place { IfErr result (λ r.
             (r.at ≡ self.old.taken) × (self.new.phase ≡ phase.Refused r)) }
-        ensures err { IfErr result (λ r. (bytes : List ℕ) × Refuses self.old.limit
+        ensures err { IfErr result (λ r. (bytes : List ℕ) × Refuses self.old.limits.counted
             (sight R.left R.failures source.old) (sight R.left R.failures source.new)
             bytes self.old.taken self.new.taken r.reason
             × Raises self.old.held.most bytes r.reason self.new.held.most) }
@@ -170,19 +171,19 @@ impl Core {
     /// Takes the bytes of the next instruction, and holds no byte payload.
     pub(crate) fn collect_head<R: Source>(&mut self, source: &mut R) -> Result<Gathered, Refusal>
         requires { self.old.phase ≡ phase.Open }
-        ensures limit { self.new.limit ≡ self.old.limit }
+        ensures limits { self.new.limits ≡ self.old.limits }
         ensures least { self.old.held.most ≤ self.new.held.most }
-        ensures passed { IfOk result (λ g. IfPassed g (λ op count. PassesBy self.old.limit op count
-            (sight R.left R.failures source.old) (sight R.left R.failures source.new)
+        ensures passed { IfOk result (λ g. IfPassed g (λ op count. PassesBy self.old.limits.passed
+            op count (sight R.left R.failures source.old) (sight R.left R.failures source.new)
             self.old.taken self.new.taken)) }
         ensures open { IfOk result (λ g. IfPassed g (λ _ _. self.new.phase ≡ phase.Open)) }
         ensures few { IfOk result (λ g. IfPassed g (λ _ _.
             self.new.held.most ≤ max self.old.held.most 131_075)) }
         ensures held { IfOk result (λ g. IfHeld g (λ f.
-            IsFound self.old.limit self.new.held.bytes f.op f.split
+            IsFound self.old.limits.counted self.new.held.bytes f.op f.split
             × (is_passed f.op ≡ false)
             × (self.new.held.most ≡ max self.old.held.most (length self.new.held.bytes))
-            × Gathers self.old.limit
+            × Gathers self.old.limits.counted
             (sight R.left R.failures source.old) (sight R.left R.failures source.new)
             self.new.held.bytes self.old.taken self.new.taken
             × HoldsFew self.old.held.most self.new.held.bytes self.new.held.most)) }
@@ -190,15 +191,16 @@ impl Core {
         ensures within { self.new.taken ≤ all_bytes }
         ensures place { IfErr result (λ r.
             (r.at ≡ self.old.taken) × (self.new.phase ≡ phase.Refused r)) }
-        ensures err { IfErr result (λ r. (bytes : List ℕ) × Refuses self.old.limit
+        ensures err { IfErr result (λ r. (bytes : List ℕ) × Refuses
+            (payload_limit_at self.old.limits bytes)
             (sight R.left R.failures source.old) (sight R.left R.failures source.new)
             bytes self.old.taken self.new.taken r.reason
             × HoldsFew self.old.held.most bytes self.new.held.most) }
     {
         let at = self.taken;
-        let limit = self.limits.counted();
+        let limits = self.limits;
         self.buffer.clear();
-        let gathered = gather_head(source, &mut self.buffer, &mut self.taken, limit);
+        let gathered = gather_head(source, &mut self.buffer, &mut self.taken, limits);
         let _taken = self.taken;
         match gathered {
             Ok(Gathered::Passed { op, count }) => Ok(Gathered::Passed { op, count }),

@@ -8,6 +8,7 @@ ghost use Rattle.pkread.specs.Genops.{IsRefused, is_stop, walk_of};
 
 use crate::admission::{objection_to, reason_of};
 use crate::refusal::{Reason, Refusal};
+use pkops::laws::one_answer;
 use pkops::{Inst, Limits, Op, Scan, scan};
 use std::marker::Model;
 
@@ -67,7 +68,7 @@ impl<'a> Iterator for Genops<'a> {
             return None;
         }
         let at = self.at;
-        match front(self.rest, &self.limits) {
+        match admitted_at_front(self.rest, &self.limits) {
             Ok((inst, length)) => {
                 self.rest = &self.rest[length..];
                 self.at += length as u64;
@@ -90,13 +91,14 @@ fn is_stop(op: Op) -> bool
 }
 
 /// The instruction that a front of the bytes spells, and how many bytes that front has.
-fn front<'a>(bytes: &'a [u8], limits: &Limits) -> Result<(Inst<'a>, usize), Reason>
+fn admitted_at_front<'a>(bytes: &'a [u8], limits: &Limits) -> Result<(Inst<'a>, usize), Reason>
     ensures ok { IfOk result (λ given.
         IsWhole limits.now.counted bytes.now (instruction_of given.0) given.1
         × (objection (instruction_of given.0) ≡ None)) }
     ensures err { IfErr result (λ reason. IsRefused limits.now.counted bytes.now reason
         × ((other : Reason) → IsRefused limits.now.counted bytes.now other → other ≡ reason)) }
 {
+    one_answer();
     match scan(bytes, limits) {
         Scan::Whole(inst, length) => match objection_to(inst) {
             Some(reason) => Err(reason),

@@ -1,7 +1,7 @@
 //! What a scan answers at the edges: cut and negative counts, the limits, and contents that keep or
 //! break a rule.
 
-use pkops::{Arg, Fault, Inst, Limits, Op, Scan, assemble, scan, text_of};
+use pkops::{Arg, Fault, Inst, Limits, Op, Scan, assemble, old_bytes_of, scan, text_of};
 use std::test::Fail;
 
 #[derive(Clone, Copy, Debug, PartialEq, Eq)]
@@ -207,6 +207,31 @@ fn texts(rt: HostRuntime) -> Result<(), Fail> {
         };
         let named = text_of(rt.alloc(), &inst)?;
         assert_eq!(rt; named.as_ref().map(|text| text.as_str()), text, "{bytes:?}");
+    }
+    Ok(())
+}
+
+#[test]
+fn bytes_of_old_strings(rt: HostRuntime) -> Result<(), Fail> {
+    for (bytes, wanted) in [
+        (b"S'\\x61'\n".as_slice(), Some(b"a".as_slice())),
+        (
+            b"S\"\\n\\r\\t\\\\\\''\"\n".as_slice(),
+            Some(b"\n\r\t\\''".as_slice()),
+        ),
+        (b"U\x01\xe9".as_slice(), Some(b"\xe9".as_slice())),
+        (b"T\x01\x00\x00\x00a".as_slice(), Some(b"a".as_slice())),
+        (b"C\x01a".as_slice(), None),
+    ] {
+        let Scan::Whole(inst, _) = scan(bytes, &Limits::STANDARD) else {
+            return Err(Fail::from("an instruction"));
+        };
+        let named = old_bytes_of(rt.alloc(), &inst)?;
+        assert_eq!(rt;
+            named.as_ref().map(|named| named.as_slice()),
+            wanted,
+            "{bytes:?}"
+        );
     }
     Ok(())
 }

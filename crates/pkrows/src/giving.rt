@@ -30,14 +30,16 @@ impl Source for Pieces<'_> {
 #[derive(Drop)]
 pub struct Filled<'a> {
     head: &'a [u8],
+    byte: u8,
     filling: usize,
     tail: &'a [u8],
 }
 
 impl<'a> Filled<'a> {
-    pub fn new(head: &'a [u8], filling: usize, tail: &'a [u8]) -> Filled<'a> {
+    pub fn new(head: &'a [u8], byte: u8, filling: usize, tail: &'a [u8]) -> Filled<'a> {
         Filled {
             head,
+            byte,
             filling,
             tail,
         }
@@ -50,7 +52,7 @@ impl Source for Filled<'_> {
     fn pull(&mut self, to: &mut [u8]) -> Result<usize, ReadFailed> {
         if self.head.is_empty() && self.filling > 0 {
             let count = to.len().min(self.filling);
-            to[..count].fill(b'a');
+            to[..count].fill(self.byte);
             self.filling -= count;
             return Ok(count);
         }

@@ -12,6 +12,8 @@ mod giving;
 #[cfg(test)]
 mod judging;
 #[cfg(test)]
+mod limited;
+#[cfg(test)]
 mod lists;
 #[cfg(test)]
 mod machines;
@@ -21,6 +23,10 @@ mod opcodes;
 mod readers;
 #[cfg(test)]
 mod requests;
+#[cfg(test)]
+mod sequences;
+#[cfg(test)]
+mod sizes;
 #[cfg(test)]
 mod sources;
 #[cfg(test)]

@@ -39,8 +39,8 @@ fn the_first_error(rt: HostRuntime) {
             "version = 1.0\n[imports]",
             AllowError::Shape(Where::Version),
         ),
-        ("version = 2", AllowError::Version),
-        ("version = 2\nmore = 1", AllowError::Version),
+        ("version = 3", AllowError::Version),
+        ("version = 3\nmore = 1", AllowError::Version),
         ("version = 1\nmore = 1", AllowError::Shape(Where::TopKey)),
         ("version = 1", AllowError::Shape(Where::Imports)),
         (
@@ -103,6 +103,18 @@ fn the_texts_of_errors(rt: HostRuntime) -> Result<(), Fail> {
         (
             AllowError::Shape(Where::Name),
             "the list has a wrong shape: name",
+        ),
+        (
+            AllowError::Shape(Where::Limits),
+            "the list has a wrong shape: limits",
+        ),
+        (
+            AllowError::Shape(Where::LimitKey),
+            "the list has a wrong shape: limit key",
+        ),
+        (
+            AllowError::Shape(Where::Limit),
+            "the list has a wrong shape: limit",
         ),
         (AllowError::Version, "the list has an unknown version"),
         (AllowError::OutOfMemory, "out of memory"),

@@ -1,7 +1,8 @@
 //! The machine, step by step.
 
-use pkcheck::{Machine, Policy};
+use pkcheck::{Machine, Moved, Policy};
 use pkops::{Arg, Inst, Limits, Op, Scan, scan};
+use pkread::Reason;
 use std::test::Fail;
 
 fn step(machine: &mut Machine, inst: &Inst<'_>) -> Result<(), Fail> {
@@ -26,5 +27,22 @@ fn a_text_doubled_stands_once(rt: HostRuntime) -> Result<(), Fail> {
         step(&mut machine, &double)?;
     }
     assert_eq!(rt; machine.texts(), 1);
+    Ok(())
+}
+
+// bytes take no items, so that an APPEND to a payload that was passed over is refused
+#[test]
+fn a_passed_payload_is_known_as_bytes(rt: HostRuntime) -> Result<(), Fail> {
+    let none = Inst::new(Op::None, Arg::None).ok_or("NONE")?;
+    let append = Inst::new(Op::Append, Arg::None).ok_or("APPEND")?;
+    let mut machine = Machine::new(rt.alloc(), &Limits::STANDARD);
+    let passed = machine.step_passed(Op::BinBytes, &Policy::AnyImport);
+    assert_eq!(rt; passed, Ok(Moved::On));
+    step(&mut machine, &none)?;
+    if machine.stopped() || !append.admitted() {
+        return Err(Fail::from("a step that may be taken"));
+    }
+    let appended = machine.step(&append, &Policy::AnyImport);
+    assert_eq!(rt; appended, Err(Reason::WrongClass));
     Ok(())
 }

@@ -68,7 +68,7 @@ fn what_is_asked_for(rt: HostRuntime) {
 
 #[test]
 fn a_payload_in_blocks(rt: HostRuntime) {
-    let payload = Filled::new(b"B\x10\x27\0\0", 10_000, b".N");
+    let payload = Filled::new(b"B\x10\x27\0\0", b'a', 10_000, b".N");
     let mut source = Watched::new(payload, &[1, 4, 4096, 4096, 1808, 1]);
     let said = judge(&rt, &Policy::AnyImport, &Limits::STANDARD, &mut source);
     assert_eq!(rt; (said, source.saw_them()), (Verdict::Yes(10_006, 0), true));
@@ -83,7 +83,7 @@ fn the_largest_payload_whole_and_cut(rt: HostRuntime) {
         (16_777_216, b"", Verdict::No(16_777_221, Reason::Truncated)),
         (16_777_215, b"", Verdict::No(0, Reason::Truncated)),
     ] {
-        let mut source = Filled::new(LARGEST, filling, tail);
+        let mut source = Filled::new(LARGEST, b'a', filling, tail);
         let said = judge(&rt, &Policy::AnyImport, &Limits::STANDARD, &mut source);
         assert_eq!(rt; said, verdict);
     }

@@ -5,7 +5,8 @@ use pkops::{Inst, Limits, Op, Scan, assemble, op_of_byte, row, scan, write_inst}
 use pkread::genops;
 use std::test::Fail;
 
-type Spelling = (Op, &'static str, &'static [u8]);
+/// An opcode, its name and a spelling of it.
+pub type Spelling = (Op, &'static str, &'static [u8]);
 
 const SPELLINGS: [Spelling; 68] = [
     (Op::Int, "INT", b"I12\n"),
@@ -90,8 +91,9 @@ const SPELLINGS: [Spelling; 68] = [
     (Op::Stop, "STOP", b"."),
 ];
 
-// The tests take the table from here, so that only one proof goes over it.
-fn spellings() -> &'static [Spelling] {
+/// A spelling of each opcode. The tests take the table from here, so that only one proof goes over
+/// it.
+pub fn spellings() -> &'static [Spelling] {
     &SPELLINGS
 }
 

@@ -1,7 +1,7 @@
 //! Verdicts of `check` on worked pickles, under lists, under any import, and under small limits.
 
 use crate::judging::{Verdict, judge_each};
-use pkcheck::{Allow, Asked, Policy, check};
+use pkcheck::{Allow, Asked, Import, Policy, check};
 use pkops::Limits;
 use pkread::{Memory, Reason};
 use std::test::Fail;
@@ -171,10 +171,13 @@ fn imports_are_listed_in_order(rt: HostRuntime) -> Result<(), Fail> {
     ) else {
         return Err(Fail::from("a yes"));
     };
-    let [Asked::Pair { module, name }, Asked::Unknown] = yes.imports.as_slice() else {
-        return Err(Fail::from("a pair, then one that is unknown"));
+    let pair = Import::Pair {
+        module: "m",
+        name: "f",
     };
-    assert_eq!(rt; (module.as_str(), name.as_str()), ("m", "f"));
+    assert_eq!(rt; yes.imports.get(0), Some(pair));
+    assert_eq!(rt; yes.imports.get(1), Some(Import::Unknown));
+    assert_eq!(rt; yes.imports.get(2), None);
     Ok(())
 }
 

@@ -1,14 +1,13 @@
 -- How an export ends, put together of its steps.
-use Rattle.std.proofs.Common.{◌≡◌, ℕ, List, [], ◌∷◌, ◌++◌, Option, Some, None, Result, Ok, Err, OnOk, refl, sym, ap, subst, ◌∙◌, append_assoc}
+use Rattle.std.proofs.Common.{ℕ, List, [], ◌∷◌, ◌++◌, Option, Some, None, Result, Ok, Err, OnOk, refl, sym, ap, subst, ◌∙◌, append_assoc}
 use Rattle.std.specs.Io.KnownBytes.{Appends, Consumes}
-use Rattle.serde_json.specs.Written.{compact_text}
 use Rattle.pkops.specs.Limits.{Bounds}
 use Rattle.pkread.specs.Rows.{Sight, Takes}
 use Rattle.pkjson.specs.Export.{IsRefused}
 use Rattle.pkjson.specs.declared.error.ExportError.{ExportError}
 use Rattle.pkjson.specs.declared.error.ExportError.TheVariants.{Check, NotPlain, Key, Number, TooDeep, TooMany, OutOfMemory}
 use Rattle.pktool.specs.Json.{EndsWith, IsErrorFor, IsTextFor, TakesAll}
-use Rattle.pktool.specs.Lists.{appends_then}
+use Rattle.pktool.specs.Private.Lists.{appends_then}
 use Rattle.pktool.specs.declared.checking.Outcome.TheVariants.{Done}
 
 consumes_none : (a : Option (List ℕ)) → Consumes a a []

@@ -15,7 +15,7 @@ use Rattle.pkcheck.specs.declared.machine.effects.Gives.TheVariants.{Makes, Make
 use Rattle.pkjson.specs.Contents.{Kind, contents, kinds, kind_of, kind_given, gives_of, held_by, maker, all_given, says_true}
 use Rattle.pkjson.specs.Export.{IsValueOf}
 use Rattle.pkjson.specs.Integers.{integer_named}
-use Rattle.pkjson.specs.Unfolds.{Content, Scalar, Sequence, Pairs, Unfolds, UnfoldItems, UnfoldMembers}
+use Rattle.pkjson.specs.Unfolds.{Content, Scalar, Unfolds, UnfoldItems, UnfoldMembers}
 
 integer : (z : ℤ) → is_float (of_integer z) ≡ false
 integer (pos n) = refl

@@ -4,6 +4,6 @@ pub mod Quoted
 pub mod Verdict
 pub mod Listing
 pub mod Imports
-pub mod Lists
+pub mod Private
 pub mod Optimized
 pub mod Json

@@ -57,7 +57,8 @@ pair_text _ = []
 -- `yes: N bytes, M imports`
 abbrev pub yes_line : ℕ → ℕ → List ℕ
 yes_line taken imports =
-    codes "yes: " ++ (decimal taken ++ (codes " bytes, " ++ (decimal imports ++ codes " imports\n")))
+    codes "yes: "
+    ++ (decimal taken ++ (codes " bytes, " ++ (decimal imports ++ codes " imports\n")))
 
 -- `no at P: REASON`
 abbrev pub no_line : ℕ → Reason → Option Asked → List ℕ

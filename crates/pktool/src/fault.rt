@@ -72,5 +72,8 @@ fn name_of(part: Where) -> &'static str {
         Where::Imports => "Imports",
         Where::Module => "Module",
         Where::Name => "Name",
+        Where::Limits => "Limits",
+        Where::LimitKey => "LimitKey",
+        Where::Limit => "Limit",
     }
 }

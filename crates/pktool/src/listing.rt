@@ -2,6 +2,7 @@
 ghost use Rattle.std.specs.Prelude.{◌≡◌, IfOk, List, Result};
 ghost use Rattle.std.proofs.Common.{◌∙◌, refl};
 ghost use Rattle.std.specs.Io.KnownBytes.{Appends};
+ghost use Rattle.pkops.specs.Limits.{holding_all};
 ghost use Rattle.pkread.specs.Rows.{sight};
 ghost use Rattle.pkcheck.specs.Answered.{CountsFailures};
 ghost use Rattle.pkcheck.specs.Heard.{Heard, IsRightAndHeard};
@@ -10,7 +11,7 @@ ghost use Rattle.pkcheck.specs.declared.policy.Policy.TheVariants.{AnyImport};
 ghost use Rattle.pkcheck.specs.declared.checking.Yes.{Yes};
 ghost use Rattle.pkcheck.specs.declared.checking.No.{No};
 ghost use Rattle.pktool.specs.Listing.{listing};
-ghost use Rattle.pktool.specs.Lists.{Lists, lists_more, lists_none};
+ghost use Rattle.pktool.specs.Private.Lists.{Lists, lists_more, lists_none};
 ghost use Rattle.pktool.specs.Verdict.{outcome_of};
 
 use crate::checking::Outcome;
@@ -60,7 +61,7 @@ pub fn dis_to<R: Source, W: Write>(
     out: &mut W,
 ) -> Result<Outcome, io::Error>
     ensures { IfOk result (λ outcome. (answer : Result Yes No) × (hs : List Heard)
-        × IsRightAndHeard (policy_of AnyImport) limits.now
+        × IsRightAndHeard (policy_of AnyImport) (holding_all limits.now)
         (sight R.left R.failures source.old) (sight R.left R.failures source.new) answer hs
         × CountsFailures (R.failures source.old) (R.failures source.new) answer
         × Appends (W.contents out.old) (W.contents out.new) (listing answer hs)

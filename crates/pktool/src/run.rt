@@ -8,12 +8,13 @@ use crate::fault::{Fault, unwritten, write_fault};
 use crate::files::{open_source, read_list, read_whole};
 use crate::importing::imports_to;
 use crate::listing::dis_to;
-use crate::optimizing::{optimized, write_sizes};
+use crate::optimizing::write_sizes;
 use crate::printing::write_no;
 use crate::replacing::replace;
 use pkcheck::{No, Policy};
 use pkops::Limits;
-use pkread::Reason;
+use pkopt::optimized_form;
+use pkread::{Reason, Refusal};
 use std::alloc::Global;
 use std::io::Write;
 use std::rt::Files;
@@ -26,10 +27,9 @@ const REFUSED: u8 = 1;
 const FAULT: u8 = 2;
 
 /// There is no memory to read a file whole.
-const NO_MEMORY: No = No {
+const NO_MEMORY: Refusal = Refusal {
     at: 0,
     reason: Reason::OutOfMemory,
-    pair: None,
 };
 
 /// Does the command that the words ask for, the program's name first, and gives its status:
@@ -37,8 +37,8 @@ const NO_MEMORY: No = No {
 ///
 /// The answer goes to `out`, which is flushed, and a fault to `err`. Faults are looked for in the
 /// words, the list, the file that is read, the answer and the file that is written, in this order.
-/// An answer that `out` doesn't take is a fault, of which nothing is told where `out` is a pipe that
-/// was closed; a fault that `err` doesn't take changes nothing.
+/// An answer that `out` doesn't take is a fault, of which nothing is told where `out` is a pipe
+/// that was closed; a fault that `err` doesn't take changes nothing.
 pub fn run<R: Files, O: Write, E: Write>(
     rt: &R,
     alloc: Global,
@@ -72,7 +72,7 @@ fn done<'a, R: Files, O: Write>(
     }
 }
 
-/// `check --allow LIST FILE`.
+/// `check --allow LIST FILE`, under the limits of the list.
 fn check_file<'a, R: Files, O: Write>(
     rt: &R,
     alloc: Global,
@@ -88,7 +88,7 @@ fn check_file<'a, R: Files, O: Write>(
         alloc,
         &mut source,
         &Policy::Listed(&list),
-        &Limits::STANDARD,
+        &list.limits(),
         out,
     ) {
         Ok(outcome) => Ok(outcome),
@@ -154,9 +154,9 @@ fn optimize_file<'a, R: Files, O: Write>(
     out: &mut O,
 ) -> Result<Outcome, Fault<'a>> {
     let Some(bytes) = read_whole(rt, alloc, file)? else {
-        return refused(&NO_MEMORY, out);
+        return refused(NO_MEMORY, out);
     };
-    match optimized(alloc, bytes.as_slice(), &Limits::STANDARD) {
+    match optimized_form(alloc, bytes.as_slice(), &Limits::STANDARD) {
         Ok(form) => {
             let Ok(()) = replace(rt, alloc, to, form.bytes.as_slice()) else {
                 return Err(Fault::Unmade(to));
@@ -166,13 +166,18 @@ fn optimize_file<'a, R: Files, O: Write>(
                 Err(error) => Err(unwritten(&error)),
             }
         }
-        Err(no) => refused(&no, out),
+        Err(refusal) => refused(refusal, out),
     }
 }
 
 /// Tells of a refusal.
-fn refused<'a, O: Write>(no: &No, out: &mut O) -> Result<Outcome, Fault<'a>> {
-    match write_no(no, out) {
+fn refused<'a, O: Write>(refusal: Refusal, out: &mut O) -> Result<Outcome, Fault<'a>> {
+    let no = No {
+        at: refusal.at,
+        reason: refusal.reason,
+        pair: None,
+    };
+    match write_no(&no, out) {
         Ok(()) => Ok(Outcome::Refused),
         Err(error) => Err(unwritten(&error)),
     }

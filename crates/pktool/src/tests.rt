@@ -2,6 +2,7 @@
 mod exporting;
 mod listing;
 mod optimizing;
+mod writing;
 
 use crate::fault::write_fault;
 use crate::run::run;
@@ -17,6 +18,8 @@ const LISTED: &str = "version = 1\n[imports]\ncollections = [\"OrderedDict\"]\n"
 
 const NOTHING: &str = "version = 1\n[imports]\n";
 
+const STACK_OF_ONE: &str = "version = 2\nimports = {}\nlimits = { stack = 1 }\n";
+
 const ONE_IMPORT: &str = "yes: 28 bytes, 1 imports\n";
 
 const OFF_LIST: &str = "no at 0: ImportOffList(\"collections\",\"OrderedDict\")\n";
@@ -24,24 +27,39 @@ const OFF_LIST: &str = "no at 0: ImportOffList(\"collections\",\"OrderedDict\")\
 const QUOTED: &str = "no at 7: ImportOffList(\"\\x22\",\"\\xc3\\xa9\")\n";
 
 /// A list, a pickle, and the status and the line of its check.
-static ANSWERS: [(&str, &[u8], u8, &str); 5] = [
+static ANSWERS: [(&str, &[u8], u8, &str); 7] = [
     (LISTED, b"ccollections\nOrderedDict\n)R.", 0, ONE_IMPORT),
     (LISTED, b"ccollections\nOrderedDict\n)R.N", 0, ONE_IMPORT),
     (NOTHING, b"ccollections\nOrderedDict\n)R.", 1, OFF_LIST),
     (NOTHING, b"\x8c\x01\"\x8c\x02\xc3\xa9\x93.", 1, QUOTED),
     (NOTHING, b"\xff", 1, "no at 0: UnknownOpcode(255)\n"),
+    (NOTHING, b"NN.", 1, "no at 2: LeftOver\n"),
+    (STACK_OF_ONE, b"NN.", 1, "no at 1: TooLarge\n"),
 ];
 
 /// What is no list, and what standard error says of it.
-static NO_LISTS: [(&[u8], &str); 8] = [
+static NO_LISTS: [(&[u8], &str); 12] = [
     (b"version =", "list: Syntax\n"),
     (b"# \xff\n", "list: Syntax\n"),
     (b"imports = {}\n", "list: Shape(Version)\n"),
-    (b"version = 2\n", "list: Version\n"),
+    (b"version = 2\n", "list: Shape(Imports)\n"),
+    (b"version = 3\n", "list: Version\n"),
     (b"version = 1\nlimits = {}\n", "list: Shape(TopKey)\n"),
     (b"version = 1\n", "list: Shape(Imports)\n"),
     (b"version = 1\nimports = { a = 1 }", "list: Shape(Module)\n"),
     (b"version = 1\nimports = { a = [1] }", "list: Shape(Name)\n"),
+    (
+        b"version = 2\nimports = {}\nlimits = 1",
+        "list: Shape(Limits)\n",
+    ),
+    (
+        b"version = 2\nimports = {}\nlimits = { heap = 1 }",
+        "list: Shape(LimitKey)\n",
+    ),
+    (
+        b"version = 2\nimports = {}\nlimits = { stack = 1000001 }",
+        "list: Shape(Limit)\n",
+    ),
 ];
 
 /// Runs a command, and compares its status and its outputs.

@@ -9,7 +9,7 @@ use Rattle.pkcheck.specs.declared.machine.effects.Takes.TheVariants.{Objects, Sl
 use Rattle.pkcheck.specs.Runs.{Text, Plain}
 use Rattle.pkcheck.specs.Shape.{Entry, Mark, Item, Shape, Taken}
 use Rattle.pkcheck.specs.Covers.{Pointwise, AlikeEntry, Alike}
-use Rattle.pkcheck.specs.Knowledge.{Known, Knowledge}
+use Rattle.pkcheck.specs.Knowledge.{Asked, Known, Knowledge}
 
 -- an entry of the stack
 abbrev pub entry_of : Slot → Entry Value
@@ -121,10 +121,11 @@ module _ (ts : List (List ℕ)) where
   abbrev pub Resolves : Shape Value → Type 0
   Resolves h = Alike Stands h (resolved h)
 
--- what is known, and how many texts are in the table
+-- what is known, how many texts are in the table, and the imports so far
 pub record Holding : Type 0 where
   pub knowledge : Knowledge
   pub texts : ℕ
+  pub imports : List Asked
 
 -- the table after is the one before, with others behind
 pub record Grows (before after : List (List ℕ)) : Type 0 where

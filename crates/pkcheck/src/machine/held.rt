@@ -1,21 +1,25 @@
-//! What is known along a pickle: the stack, the memo, and the texts that both name by number.
-ghost use Rattle.std.specs.Prelude.{◌≡◌, ◌⊎◌, ◌≤◌, length, map, IfOk, IfErr, OnOk, OnErr};
+//! What is known along a pickle: the stack, the memo, the texts that both name by number, and the
+//! imports.
+ghost use Rattle.std.specs.Prelude.{◌≡◌, ◌⊎◌, ◌≤◌, [], length, option_map, IfOk, IfErr, OnOk};
+ghost use Rattle.std.specs.Prelude.{OnErr};
+ghost use Rattle.std.specs.List.{slice_get};
 ghost use Rattle.pkcheck.specs.Private.Denials.{IsDenied, IsForMemory, IsFaultOf, IsStopFault};
 ghost use Rattle.pkcheck.specs.Private.Denials.{MayOperate, Passes, WantsRoom, WellGiven};
 ghost use Rattle.pkcheck.specs.Private.Denials.{with_made};
-ghost use Rattle.pkcheck.specs.Import.{asked_shown, policy_of};
+ghost use Rattle.pkcheck.specs.Import.{import_shown, policy_of};
 ghost use Rattle.pkcheck.specs.Knowledge.{learn, stop_learned, within, nothing_known};
 ghost use Rattle.pkcheck.specs.Shape.{and_then, marks_of, moved, top};
 ghost use Rattle.pkcheck.specs.View.{texts_given};
 ghost use Rattle.pkops.specs.Inst.{instruction_of};
 
-use crate::import::Asked;
+use crate::import::Import;
+use crate::imports::Imports;
 use crate::machine::effects::{Class, Effect, Gives, Move, Names, Takes};
+use crate::machine::ledger::Ledger;
 use crate::machine::memo::Memo;
 use crate::machine::moves::apply;
 use crate::machine::operate::{Denial, operate};
 use crate::machine::stack::Stack;
-use crate::machine::texts::Texts;
 use crate::machine::value::Value;
 use crate::policy::Policy;
 use pkops::{Inst, Limits};
@@ -23,12 +27,12 @@ use pkread::Reason;
 use std::alloc::Global;
 use std::marker::Model;
 
-/// What is known of the stack and the memo.
+/// What is known of the stack and the memo, and the imports so far.
 #[derive(Drop)]
 pub struct Held {
     stack: Stack,
     memo: Memo,
-    texts: Texts,
+    ledger: Ledger,
 }
 
 impl Model for Held {
@@ -38,22 +42,24 @@ impl Model for Held {
     ghost Value = { Holding };
 
     ghost view = { λ h. record {
-      knowledge = resolved h.texts (record { entries = h.stack; memo = h.memo });
-      texts = length h.texts;
+      knowledge = resolved h.ledger.texts (record { entries = h.stack; memo = h.memo });
+      texts = length h.ledger.texts;
+      imports = h.ledger.asked;
     } };
 
-    ghost invariant = { λ h. Resolves h.texts (record { entries = h.stack; memo = h.memo }) };
+    ghost invariant = { λ h.
+        Resolves h.ledger.texts (record { entries = h.stack; memo = h.memo }) };
 }
 
 impl Held {
     /// Nothing is known, and nothing is there. It takes no memory.
     pub fn new(alloc: Global) -> Held
-        ensures { result ≡ record { knowledge = nothing_known; texts = 0 } }
+        ensures { result ≡ record { knowledge = nothing_known; texts = 0; imports = [] } }
     {
         Held {
             stack: Stack::new(alloc),
             memo: Memo::new(alloc),
-            texts: Texts::new(alloc),
+            ledger: Ledger::new(alloc),
         }
     }
 
@@ -68,7 +74,22 @@ impl Held {
     pub fn texts(&self) -> usize
         ensures { result ≡ self.now.texts }
     {
-        self.texts.len()
+        self.ledger.texts()
+    }
+
+    /// The import of a number, counted from 0.
+    pub fn import(&self, number: usize) -> Option<Import<'_>>
+        ensures { option_map import_shown result ≡ slice_get self.now.imports number }
+    {
+        self.ledger.get(number)
+    }
+
+    /// The imports, without the rest.
+    pub fn into_imports(self) -> Imports
+        ensures { result ≡ self.imports }
+    {
+        let Held { ledger, .. } = self;
+        Imports::from_ledger(ledger)
     }
 
     /// Pushes a new object of this class.
@@ -76,6 +97,7 @@ impl Held {
         ensures ok { OnOk result (self.new.knowledge ≡ with_made class self.old.knowledge) }
         ensures room { OnOk result (length self.new.knowledge.entries ≤ limits.now.stack) }
         ensures texts { self.new.texts ≡ self.old.texts }
+        ensures imports { self.new.imports ≡ self.old.imports }
         ensures kept { OnErr result (self.new ≡ self.old) }
         ensures err { IfErr result (WantsRoom limits.now.stack
             (length self.old.knowledge.entries)) }
@@ -91,6 +113,7 @@ impl Held {
         ensures room { OnOk result ((length self.new.knowledge.entries ≤ limits.now.stack)
             × (length self.new.knowledge.memo ≤ limits.now.memo)) }
         ensures texts { self.new.texts ≡ self.old.texts }
+        ensures imports { self.new.imports ≡ self.old.imports }
         ensures err { IfErr result (λ r. (self.new ≡ self.old)
             × IsFaultOf what limits.now (moved what number self.old.knowledge) r) }
     {
@@ -101,7 +124,6 @@ impl Held {
     pub fn operate(
         &mut self,
         alloc: Global,
-        imports: &mut Vec<Asked>,
         limits: &Limits,
         takes: Takes,
         names: Names,
@@ -114,12 +136,11 @@ impl Held {
         ensures ok { IfOk result (λ b. Passes (learn (policy_of policy.now)
             (Effect.Operates takes names gives)
             (instruction_of inst.now) self.old.knowledge) self.new.knowledge
-            (map asked_shown imports.old.items) (map asked_shown imports.new.items) b) }
+            self.old.imports self.new.imports b) }
         ensures room { OnOk result ((length self.new.knowledge.entries ≤ limits.now.stack)
             × (length self.new.knowledge.memo ≡ length self.old.knowledge.memo)) }
         ensures texts { OnOk result (self.new.texts ≡ texts_given gives self.old.texts) }
-        ensures kept { OnErr result ((self.new ≡ self.old) × (imports.new.items
-            ≡ imports.old.items)) }
+        ensures kept { OnErr result (self.new ≡ self.old) }
         ensures err { IfErr result (λ d. IsDenied (and_then (learn (policy_of policy.now)
             (Effect.Operates takes names gives) (instruction_of inst.now) self.old.knowledge)
             (within limits.now)) d ⊎ (MayOperate names gives × IsForMemory d)) }
@@ -127,8 +148,7 @@ impl Held {
         operate(
             alloc,
             &mut self.stack,
-            &mut self.texts,
-            imports,
+            &mut self.ledger,
             limits,
             takes,
             names,
@@ -144,6 +164,7 @@ impl Held {
             (top self.old.knowledge.entries)
             ≡ Ok (record { after = self.new.knowledge; import = None })) }
         ensures texts { self.new.texts ≡ self.old.texts }
+        ensures imports { self.new.imports ≡ self.old.imports }
         ensures room { (length self.new.knowledge.entries ≤ length self.old.knowledge.entries)
             × (self.new.knowledge.memo ≡ self.old.knowledge.memo) }
         ensures kept { OnErr result (self.new ≡ self.old) }

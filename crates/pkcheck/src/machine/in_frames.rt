@@ -30,9 +30,7 @@ pub(crate) fn judge(
     ensures err { IfErr result (IsRefused (policy_of policy.now) (instruction_of inst.now)
         frames.old machine.old machine.new) }
 {
-    let Ok(()) = frames.take(inst.op(), inst.len(), frame_length(inst)) else {
-        return Err(Reason::BrokenFrame);
-    };
+    frames.take(inst.op(), inst.len(), frame_length(inst))?;
     machine.step(inst, policy)?;
     Ok(())
 }
@@ -55,9 +53,7 @@ pub(crate) fn judge_passed(
     ensures err { IfErr result (λ reason. (i : Instruction) → HasLength i op length
         → IsRefused (policy_of policy.now) i frames.old machine.old machine.new reason) }
 {
-    let Ok(()) = frames.take(op, length, 0) else {
-        return Err(Reason::BrokenFrame);
-    };
+    frames.take(op, length, 0)?;
     machine.step_passed(op, policy)?;
     Ok(())
 }

@@ -145,8 +145,6 @@ fn put(
     if !has_room && !rest.contains_key(&number) {
         return Err(Reason::TooLarge);
     }
-    match rest.insert(number, value) {
-        Ok(_) => Ok(()),
-        Err(_) => Err(Reason::OutOfMemory),
-    }
+    rest.insert(number, value)?;
+    Ok(())
 }

@@ -1,14 +1,15 @@
 //! The operations, which take objects and give one.
 ghost use Rattle.std.specs.Prelude.{◌≡◌, ◌⊎◌, ◌≤◌, ◌+◌, ℕ, List, [], ◌∷◌, ◌++◌, length, suc, map};
 ghost use Rattle.std.specs.Prelude.{option_map, IfOk, IfErr, OnOk, OnErr, IsSome, is_some, None};
-ghost use Rattle.std.specs.Prelude.{Some, true};
-ghost use Rattle.std.specs.Option.{option_to_list};
+ghost use Rattle.std.specs.Prelude.{Some, true, Ok, Err, if◌then◌else◌};
 ghost use Rattle.pkcheck.specs.Private.Places.{above, below};
 ghost use Rattle.pkcheck.specs.View.{texts_given};
 ghost use Rattle.pkcheck.specs.Private.Slots.{known, seen, Grows, Sees, StandsIf};
 ghost use Rattle.pkops.specs.Inst.{instruction_of};
 ghost use Rattle.pkcheck.specs.Runs.{Plain, Text, int_or_bool, text};
-ghost use Rattle.pkcheck.specs.Import.{asked_shown, policy_of};
+ghost use Rattle.pkcheck.specs.Import.{policy_of};
+ghost use Rattle.pkcheck.specs.Private.Noted.{AreNumbered, IsNamedIf, named_asked};
+ghost use Rattle.pkcheck.specs.Knowledge.{AskedPair, OffList, permitted};
 ghost use Rattle.pkcheck.specs.Knowledge.{Known, suits, wrong_first, wrong_receiver, known_given};
 ghost use Rattle.pkcheck.specs.Knowledge.{learn, within};
 ghost use Rattle.pkcheck.specs.Shape.{Item, and_then, front, put};
@@ -16,11 +17,12 @@ ghost use Rattle.pkcheck.specs.Private.Denials.{judged, ruled, IsDenied, IsForMe
 ghost use Rattle.pkcheck.specs.Private.Denials.{MayGive, MayOperate, Passes, WantsRoom, WellGiven};
 ghost use Rattle.pkcheck.specs.Private.Denials.{IsNoText};
 
-use crate::import::{Asked, asked_by};
+use crate::import::{Asked, Named, asked_by, pair_of};
 use crate::machine::effects::{Class, Effect, Gives, Names, Takes, Wanted};
+use crate::machine::ledger::Ledger;
 use crate::machine::stack::{Operands, Stack};
-use crate::machine::texts::Texts;
 use crate::machine::value::Value;
+use crate::pairs;
 use crate::policy::Policy;
 use pkops::{Inst, Limits};
 use pkread::Reason;
@@ -73,53 +75,84 @@ pub fn receiver_fault(gives: Gives, operands: &Operands<'_>) -> bool
     }
 }
 
-/// The import, where the policy lets it pass.
-pub fn permit(policy: &Policy, asked: Asked) -> Result<Asked, Denial>
-    ensures ok { IfOk result (λ a. ruled (policy_of policy.now) (asked_shown asked)
-        ≡ Ok (Some (asked_shown a))) }
+/// Whether the policy lets the import pass.
+pub fn permit(
+    alloc: Global,
+    policy: &Policy,
+    ledger: &Ledger,
+    named: Named<'_>,
+) -> Result<(), Denial>
+    ensures ok { OnOk result (
+        ruled (policy_of policy.now) (named_asked ledger.now.texts named.entry)
+        ≡ Ok (Some (named_asked ledger.now.texts named.entry))) }
     ensures err { IfErr result (λ d. IsDenied (ruled (policy_of policy.now)
-        (asked_shown asked)) d) }
+        (named_asked ledger.now.texts named.entry)) d ⊎ IsForMemory d) }
+{
+    if let Policy::AnyImport = policy {
+        return Ok(());
+    }
+    match named {
+        Named::Unknown => Err(Denial {
+            reason: Reason::UnknownImport,
+            pair: None,
+        }),
+        Named::Made(first, second) => {
+            permit_pair(alloc, policy, ledger.text(first), ledger.text(second))
+        }
+        Named::Written(module_name, name) => permit_pair(alloc, policy, module_name, name),
+    }
+}
+
+/// Whether the policy lets the pair pass.
+fn permits(policy: &Policy, module_name: &str, name: &str) -> bool
+    ensures { permitted (policy_of policy.now) module_name.now name.now
+        ≡ if result then Ok (Some (AskedPair module_name.now name.now))
+        else Err (OffList module_name.now name.now) }
 {
     match policy {
-        Policy::AnyImport => Ok(asked),
-        Policy::Listed(list) => match &asked {
-            Asked::Unknown => Err(Denial {
-                reason: Reason::UnknownImport,
-                pair: None,
-            }),
-            Asked::Pair {
-                module: module_name,
-                name,
-            } => {
-                if list.contains(module_name.as_str(), name.as_str()) {
-                    Ok(asked)
-                } else {
-                    Err(Denial {
-                        reason: Reason::ImportOffList,
-                        pair: Some(asked),
-                    })
-                }
-            }
-        },
+        Policy::Listed(list) => list.contains(module_name, name),
+        Policy::Pairs(pairs) => pairs::have(pairs, module_name.as_bytes(), name.as_bytes()),
+        Policy::AnyImport => true,
+    }
+}
+
+/// The same, with the refusal of a pair that may not pass.
+fn permit_pair(alloc: Global, policy: &Policy, module_name: &str, name: &str) -> Result<(), Denial>
+    ensures ok { OnOk result (permitted (policy_of policy.now) module_name.now name.now
+        ≡ Ok (Some (AskedPair module_name.now name.now))) }
+    ensures err { IfErr result (λ d. IsDenied (permitted (policy_of policy.now) module_name.now
+        name.now) d ⊎ IsForMemory d) }
+{
+    if permits(policy, module_name, name) {
+        return Ok(());
+    }
+    match pair_of(alloc, module_name, name) {
+        Ok(pair) => Err(Denial {
+            reason: Reason::ImportOffList,
+            pair: Some(pair),
+        }),
+        Err(reason) => Err(Denial { reason, pair: None }),
     }
 }
 
 /// What the receiver and the names say.
-pub fn judge(
+pub fn judge<'a>(
     alloc: Global,
     names: Names,
     gives: Gives,
-    inst: &Inst,
+    inst: &Inst<'a>,
     policy: &Policy,
-    texts: &Texts,
+    ledger: &Ledger,
     operands: &Operands<'_>,
-) -> Result<Option<Asked>, Denial>
+) -> Result<Option<Named<'a>>, Denial>
+    requires numbered { AreNumbered (length ledger.now.texts) operands.now }
     ensures ok { IfOk result (λ a. judged (policy_of policy.now) names gives
-        (instruction_of inst.now) (map (known texts.now) operands.now)
-        ≡ Ok (option_map asked_shown a)) }
+        (instruction_of inst.now) (map (known ledger.now.texts) operands.now)
+        ≡ Ok (option_map (named_asked ledger.now.texts) a)) }
+    ensures within { IfOk result (IsNamedIf (length ledger.now.texts)) }
     ensures err { IfErr result (λ d. IsDenied (judged (policy_of policy.now) names gives
-        (instruction_of inst.now) (map (known texts.now) operands.now)) d ⊎ (MayName names
-        × IsForMemory d)) }
+        (instruction_of inst.now) (map (known ledger.now.texts) operands.now)) d
+        ⊎ (MayName names × IsForMemory d)) }
 {
     if receiver_fault(gives, operands) {
         return Err(Denial {
@@ -127,11 +160,11 @@ pub fn judge(
             pair: None,
         });
     }
-    match asked_by(alloc, names, inst, texts, operands) {
+    match asked_by(names, inst, operands) {
         Err(reason) => Err(Denial { reason, pair: None }),
         Ok(None) => Ok(None),
-        Ok(Some(asked)) => match permit(policy, asked) {
-            Ok(asked) => Ok(Some(asked)),
+        Ok(Some(named)) => match permit(alloc, policy, ledger, named) {
+            Ok(()) => Ok(Some(named)),
             Err(denial) => Err(denial),
         },
     }
@@ -192,48 +225,33 @@ pub fn give(
     }
 }
 
-/// Lists an import, if there is one.
-pub fn list(imports: &mut Vec<Asked>, asked: Option<Asked>) -> Result<bool, Reason>
-    ensures ok { IfOk result (λ b. (imports.new.items ≡ imports.old.items ++ option_to_list asked)
-        × (b ≡ is_some asked)) }
-    ensures err { IfErr result (λ r. (imports.new.items ≡ imports.old.items) × IsSome asked
-        × (r ≡ Reason.OutOfMemory)) }
-{
-    match asked {
-        None => Ok(false),
-        Some(import) => match imports.push(import) {
-            Ok(()) => Ok(true),
-            Err(_) => Err(Reason::OutOfMemory),
-        },
-    }
-}
-
 /// Puts the text of an instruction into the table, and names it on top.
 fn make_text(
     alloc: Global,
     stack: &mut Stack,
-    texts: &mut Texts,
+    ledger: &mut Ledger,
     limits: &Limits,
     inst: &Inst,
 ) -> Result<(), Reason>
-    requires sees { Sees texts.old stack.old (seen texts.old stack.old) }
-    ensures ok { OnOk result (seen texts.new stack.new
-        ≡ Item (Some (Text (text (instruction_of inst.now)))) ∷ seen texts.old stack.old) }
-    ensures sees { OnOk result (Sees texts.new stack.new (seen texts.new stack.new)) }
-    ensures grows { OnOk result (Grows texts.old texts.new) }
-    ensures count { OnOk result (length texts.new ≡ suc (length texts.old)) }
+    requires sees { Sees ledger.old.texts stack.old (seen ledger.old.texts stack.old) }
+    ensures ok { OnOk result (seen ledger.new.texts stack.new
+        ≡ Item (Some (Text (text (instruction_of inst.now)))) ∷ seen ledger.old.texts stack.old) }
+    ensures sees { OnOk result (Sees ledger.new.texts stack.new (seen ledger.new.texts stack.new)) }
+    ensures grows { OnOk result (Grows ledger.old.texts ledger.new.texts) }
+    ensures count { OnOk result (length ledger.new.texts ≡ suc (length ledger.old.texts)) }
+    ensures asked { OnOk result (ledger.new.asked ≡ ledger.old.asked) }
     ensures room { OnOk result (length stack.new ≤ limits.now.stack) }
-    ensures err { IfErr result (λ r. (stack.new ≡ stack.old) × (texts.new ≡ texts.old)
+    ensures err { IfErr result (λ r. (stack.new ≡ stack.old) × (ledger.new ≡ ledger.old)
         × WantsRoom limits.now.stack (length stack.old) r) }
 {
     let place = stack.len();
-    let Ok(number) = u32::try_from(texts.len()) else {
+    let Ok(number) = u32::try_from(ledger.texts()) else {
         return Err(Reason::OutOfMemory);
     };
     if let Err(reason) = stack.push(limits, Value::Text(number)) {
         return Err(reason);
     }
-    let Ok(()) = texts.add(alloc, inst) else {
+    let Ok(()) = ledger.add_text(alloc, inst) else {
         stack.truncate(place);
         return Err(Reason::OutOfMemory);
     };
@@ -244,8 +262,7 @@ fn make_text(
 fn replace(
     alloc: Global,
     stack: &mut Stack,
-    texts: &Texts,
-    imports: &mut Vec<Asked>,
+    ledger: &mut Ledger,
     limits: &Limits,
     takes: Takes,
     names: Names,
@@ -256,20 +273,20 @@ fn replace(
     requires within { length stack.old ≤ limits.now.stack }
     requires given { WellGiven gives names takes }
     requires no_text { IsNoText gives }
-    requires sees { Sees texts.now stack.old (seen texts.now stack.old) }
+    requires sees { Sees ledger.old.texts stack.old (seen ledger.old.texts stack.old) }
     ensures ok { (m : List (ℕ × Known))
         → IfOk result (λ b. Passes (learn (policy_of policy.now) (Effect.Operates takes names gives)
-        (instruction_of inst.now) (record { entries = seen texts.now stack.old; memo = m }))
-        (record { entries = seen texts.now stack.new; memo = m })
-        (map asked_shown imports.old.items) (map asked_shown imports.new.items) b) }
-    ensures sees { OnOk result (Sees texts.now stack.new (seen texts.now stack.new)) }
+        (instruction_of inst.now) (record { entries = seen ledger.old.texts stack.old; memo = m }))
+        (record { entries = seen ledger.new.texts stack.new; memo = m })
+        ledger.old.asked ledger.new.asked b) }
+    ensures sees { OnOk result (Sees ledger.new.texts stack.new (seen ledger.new.texts stack.new)) }
+    ensures texts { ledger.new.texts ≡ ledger.old.texts }
     ensures room { OnOk result (length stack.new ≤ limits.now.stack) }
-    ensures kept { OnErr result ((stack.new ≡ stack.old) × (imports.new.items
-        ≡ imports.old.items)) }
+    ensures kept { OnErr result ((stack.new ≡ stack.old) × (ledger.new ≡ ledger.old)) }
     ensures err { (m : List (ℕ × Known))
         → IfErr result (λ d. IsDenied (and_then (learn (policy_of policy.now)
         (Effect.Operates takes names gives) (instruction_of inst.now)
-        (record { entries = seen texts.now stack.old; memo = m })) (within limits.now)) d
+        (record { entries = seen ledger.old.texts stack.old; memo = m })) (within limits.now)) d
         ⊎ (MayOperate names gives × IsForMemory d)) }
 {
     let place = match stack.find(takes) {
@@ -277,20 +294,20 @@ fn replace(
         Err(reason) => return Err(Denial { reason, pair: None }),
     };
     let operands = stack.operands(place);
-    let asked = match judge(alloc, names, gives, inst, policy, texts, &operands) {
-        Ok(asked) => asked,
+    let named = match judge(alloc, names, gives, inst, policy, ledger, &operands) {
+        Ok(named) => named,
         Err(denial) => return Err(denial),
     };
     let value = value_of(gives, inst);
-    let count = imports.len();
-    let is_import = match list(imports, asked) {
+    let count = ledger.len();
+    let is_import = match ledger.list(named) {
         Ok(is_import) => is_import,
         Err(reason) => return Err(Denial { reason, pair: None }),
     };
     match give(stack, limits, place, value) {
         Ok(()) => Ok(is_import),
         Err(reason) => {
-            imports.truncate(count);
+            ledger.keep(count);
             Err(Denial { reason, pair: None })
         }
     }
@@ -331,8 +348,7 @@ fn create(stack: &mut Stack, limits: &Limits, gives: Gives, inst: &Inst) -> Resu
 pub fn operate(
     alloc: Global,
     stack: &mut Stack,
-    texts: &mut Texts,
-    imports: &mut Vec<Asked>,
+    ledger: &mut Ledger,
     limits: &Limits,
     takes: Takes,
     names: Names,
@@ -342,26 +358,26 @@ pub fn operate(
 ) -> Result<bool, Denial>
     requires within { length stack.old ≤ limits.now.stack }
     requires given { WellGiven gives names takes }
-    requires sees { Sees texts.old stack.old (seen texts.old stack.old) }
+    requires sees { Sees ledger.old.texts stack.old (seen ledger.old.texts stack.old) }
     ensures ok { (m : List (ℕ × Known))
         → IfOk result (λ b. Passes (learn (policy_of policy.now) (Effect.Operates takes names gives)
-        (instruction_of inst.now) (record { entries = seen texts.old stack.old; memo = m }))
-        (record { entries = seen texts.new stack.new; memo = m })
-        (map asked_shown imports.old.items) (map asked_shown imports.new.items) b) }
-    ensures sees { OnOk result (Sees texts.new stack.new (seen texts.new stack.new)) }
-    ensures grows { OnOk result (Grows texts.old texts.new) }
-    ensures count { OnOk result (length texts.new ≡ texts_given gives (length texts.old)) }
+        (instruction_of inst.now) (record { entries = seen ledger.old.texts stack.old; memo = m }))
+        (record { entries = seen ledger.new.texts stack.new; memo = m })
+        ledger.old.asked ledger.new.asked b) }
+    ensures sees { OnOk result (Sees ledger.new.texts stack.new (seen ledger.new.texts stack.new)) }
+    ensures grows { OnOk result (Grows ledger.old.texts ledger.new.texts) }
+    ensures count { OnOk result (
+        length ledger.new.texts ≡ texts_given gives (length ledger.old.texts)) }
     ensures room { OnOk result (length stack.new ≤ limits.now.stack) }
-    ensures kept { OnErr result ((stack.new ≡ stack.old) × (texts.new ≡ texts.old)
-        × (imports.new.items ≡ imports.old.items)) }
+    ensures kept { OnErr result ((stack.new ≡ stack.old) × (ledger.new ≡ ledger.old)) }
     ensures err { (m : List (ℕ × Known))
         → IfErr result (λ d. IsDenied (and_then (learn (policy_of policy.now)
         (Effect.Operates takes names gives) (instruction_of inst.now)
-        (record { entries = seen texts.old stack.old; memo = m })) (within limits.now)) d
+        (record { entries = seen ledger.old.texts stack.old; memo = m })) (within limits.now)) d
         ⊎ (MayOperate names gives × IsForMemory d)) }
 {
     if let Gives::MakesText = gives {
-        return match make_text(alloc, stack, texts, limits, inst) {
+        return match make_text(alloc, stack, ledger, limits, inst) {
             Ok(()) => Ok(false),
             Err(reason) => Err(Denial { reason, pair: None }),
         };
@@ -373,6 +389,6 @@ pub fn operate(
         };
     }
     replace(
-        alloc, stack, texts, imports, limits, takes, names, gives, inst, policy,
+        alloc, stack, ledger, limits, takes, names, gives, inst, policy,
     )
 }

@@ -1,13 +1,12 @@
 //! One step over what is known.
-ghost use Rattle.std.specs.Prelude.{◌≡◌, ◌⊎◌, ◌≤◌, length, map, IfOk, IfErr, OnOk, OnErr};
+ghost use Rattle.std.specs.Prelude.{◌≡◌, ◌⊎◌, ◌≤◌, length, IfOk, IfErr, OnOk, OnErr};
 ghost use Rattle.pkcheck.specs.Effects.{effect_of};
 ghost use Rattle.pkcheck.specs.Knowledge.{advance};
 ghost use Rattle.pkcheck.specs.View.{texts_after};
 ghost use Rattle.pkops.specs.Inst.{instruction_of};
-ghost use Rattle.pkcheck.specs.Import.{asked_shown, policy_of};
+ghost use Rattle.pkcheck.specs.Import.{policy_of};
 ghost use Rattle.pkcheck.specs.Private.Denials.{IsDenied, IsForMemory, GoesTo, MayWantMemory};
 
-use crate::import::Asked;
 use crate::machine::effects::{Effect, effect_by};
 use crate::machine::held::Held;
 use crate::machine::operate::Denial;
@@ -31,7 +30,6 @@ pub enum Moved {
 pub fn advance(
     alloc: Global,
     held: &mut Held,
-    imports: &mut Vec<Asked>,
     limits: &Limits,
     inst: &Inst,
     policy: &Policy,
@@ -41,19 +39,19 @@ pub fn advance(
     ensures ok { IfOk result (λ v. GoesTo (effect_of (instruction_of inst.now).op)
         (advance (policy_of policy.now) limits.now
         (instruction_of inst.now) held.old.knowledge) held.new.knowledge
-        (map asked_shown imports.old.items) (map asked_shown imports.new.items) v) }
+        held.old.imports held.new.imports v) }
     ensures room { OnOk result ((length held.new.knowledge.entries ≤ limits.now.stack)
         × (length held.new.knowledge.memo ≤ limits.now.memo)) }
     ensures texts { OnOk result (held.new.texts
         ≡ texts_after (effect_of (instruction_of inst.now).op) held.old.texts) }
-    ensures kept { OnErr result ((held.new ≡ held.old) × (imports.new.items ≡ imports.old.items)) }
+    ensures kept { OnErr result (held.new ≡ held.old) }
     ensures err { IfErr result (λ d. IsDenied (advance (policy_of policy.now) limits.now
         (instruction_of inst.now) held.old.knowledge) d
         ⊎ (MayWantMemory (effect_of (instruction_of inst.now).op) × IsForMemory d)) }
 {
     match effect_by(inst) {
         Effect::Operates(takes, names, gives) => {
-            match held.operate(alloc, imports, limits, takes, names, gives, inst, policy) {
+            match held.operate(alloc, limits, takes, names, gives, inst, policy) {
                 Ok(is_import) => {
                     if is_import {
                         Ok(Moved::Import)

@@ -13,7 +13,7 @@ use std::marker::Model;
 
 /// The texts that a pickle made, in the order of their making, one behind the other in one buffer.
 /// Equal ones are not joined.
-#[derive(Drop)]
+#[derive(Debug, Drop)]
 pub struct Texts {
     /// Their bytes in UTF-8.
     bytes: Vec<u8>,
@@ -83,6 +83,14 @@ impl Texts {
             return Err(AllocError);
         };
         Ok(())
+    }
+
+    /// Puts a copy of this text behind the others.
+    pub fn put(&mut self, text: &str) -> Result<(), AllocError>
+        ensures ok { OnOk result (self.new ≡ self.old ++ text.now ∷ []) }
+        ensures err { OnErr result (self.new ≡ self.old) }
+    {
+        self.push(text.as_bytes())
     }
 
     /// Puts the text of an instruction behind the others.

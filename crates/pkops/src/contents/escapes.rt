@@ -1,12 +1,12 @@
 //! Text with escapes: the line of UNICODE.
 
 ghost use Rattle.std.specs.Prelude.{◌≡◌, Some, None, if◌then◌else◌, encode_utf8_all, IfOk, IfSome};
-ghost use Rattle.std.specs.Prelude.{is_some, string_bytes, ◌<◌};
+ghost use Rattle.std.specs.Prelude.{is_some, string_bytes};
 ghost use Rattle.std.specs.Option.{option_map};
-ghost use Rattle.std.specs.Char.{is_ascii_hexdigit, digit_value};
 ghost use Rattle.pkops.specs.Private.EscapeSteps.{IsSmall, digit_step, step_of};
 ghost use Rattle.pkops.specs.Escapes.{points_of};
 
+use crate::contents::digit::hex_value;
 use std::alloc::{AllocError, Global};
 
 /// Where a reader of text with escapes stands.
@@ -76,7 +76,7 @@ fn step(state: State, byte: u8) -> Option<(State, Option<char>)>
             let Some(digit) = hex_value(byte) else {
                 return None;
             };
-            digit_step(left, value * 16 + digit)
+            digit_step(left, value * 16 + u32::from(digit))
         }
     }
 }
@@ -95,17 +95,5 @@ fn digit_step(left: u8, value: u32) -> Option<(State, Option<char>)>
         Some((State::Digits(left - 1, value), None))
     } else {
         None
-    }
-}
-
-fn hex_value(byte: u8) -> Option<u32>
-    ensures value { result ≡ (if is_ascii_hexdigit byte then Some (digit_value byte) else None) }
-    ensures small { IfSome result (λ digit. digit < 16) }
-{
-    match byte {
-        b'0'..=b'9' => Some(u32::from(byte - b'0')),
-        b'a'..=b'f' => Some(u32::from(byte - b'a') + 10),
-        b'A'..=b'F' => Some(u32::from(byte - b'A') + 10),
-        _ => None,
     }
 }

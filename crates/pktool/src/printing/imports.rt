@@ -1,11 +1,11 @@
 //! The lines of the imports of a pickle.
-ghost use Rattle.std.specs.Prelude.{OnOk, flat_map, map};
+ghost use Rattle.std.specs.Prelude.{OnOk, flat_map};
 ghost use Rattle.std.specs.Io.KnownBytes.{Appends};
-ghost use Rattle.pkcheck.specs.Import.{asked_shown};
+ghost use Rattle.pkcheck.specs.Import.{import_shown};
 ghost use Rattle.pktool.specs.Imports.{import_line, import_lines};
 
 use crate::printing::quoted::write_quoted;
-use pkcheck::{Asked, No, Yes};
+use pkcheck::{Import, Imports, No, Yes};
 use std::io;
 use std::io::Write;
 
@@ -15,32 +15,35 @@ pub fn write_imports<W: Write>(answer: &Result<Yes, No>, out: &mut W) -> io::Res
         (import_lines answer.now)) }
 {
     match answer {
-        Ok(yes) => write_each(yes.imports.as_slice(), out),
+        Ok(yes) => write_each(&yes.imports, out),
         Err(_) => Ok(()),
     }
 }
 
-fn write_each<W: Write>(imports: &[Asked], out: &mut W) -> io::Result<()>
+fn write_each<W: Write>(imports: &Imports, out: &mut W) -> io::Result<()>
     ensures { OnOk result (Appends (W.contents out.old) (W.contents out.new)
-        (flat_map import_line (map asked_shown imports.now))) }
+        (flat_map import_line imports.now)) }
 {
-    for import in imports {
+    for number in 0..imports.len() {
+        let Some(import) = imports.get(number) else {
+            unreachable!()
+        };
         write_import(import, out)?;
     }
     Ok(())
 }
 
-fn write_import<W: Write>(import: &Asked, out: &mut W) -> io::Result<()>
+fn write_import<W: Write>(import: Import<'_>, out: &mut W) -> io::Result<()>
     ensures { OnOk result (Appends (W.contents out.old) (W.contents out.new)
-        (import_line (asked_shown import.now))) }
+        (import_line (import_shown import.entry))) }
 {
     match import {
-        Asked::Pair { module, name } => {
+        Import::Pair { module, name } => {
             write_quoted(module.as_bytes(), out)?;
             out.write_all(b" ")?;
             write_quoted(name.as_bytes(), out)?;
             out.write_all(b"\n")
         }
-        Asked::Unknown => out.write_all(b"unknown\n"),
+        Import::Unknown => out.write_all(b"unknown\n"),
     }
 }

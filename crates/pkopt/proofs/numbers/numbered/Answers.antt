@@ -1,4 +1,4 @@
-use Rattle.std.proofs.Common.{arith, sym, ap, ◌∙◌, ◌≡◌, length, length-append, false, ◌+◌, ◌∷◌, []}
+use Rattle.std.proofs.Common.{arith, sym, ap, length, length-append, ◌+◌, ◌∷◌, []}
 use Rattle.pkopt.proofs.Keeping.{numbers_on, after_within}
 use Rattle.pkopt.proofs.numbers.numbered.Goals as goal
 

@@ -1,4 +1,4 @@
-use Rattle.std.proofs.Common.{arith, sym, ap, subst, ◌∙◌, ◌≡◌, ◌⊎◌, ◌+◌, ◌-◌, ◌≤◌, length, take, refl}
+use Rattle.std.proofs.Common.{sym, subst, ◌∙◌, ◌≡◌, ◌⊎◌, ◌+◌, ◌-◌, ◌≤◌, length, take, refl}
 use Rattle.pkops.specs.Inst.{instruction_of}
 use Rattle.pkread.specs.declared.refusal.Reason.TheVariants as reason
 use Rattle.pkopt.specs.Fates.{Adds, IsHalted, IsPastAt}

@@ -5,7 +5,7 @@ use Rattle.pkread.proofs.arms.counted.Goals as goal
 pub returns-in_err-take-clause-err : goal.returns-in_err-take-clause-err
 returns-in_err-take-clause-err g c =
     let p = err_from_is_err_and c.from_residual-in_err-take.result c.from_residual-in_err-take.ensures.1 in
-    rw (p.1, p.2) (payload_stops c.args.limit _ _ _ c.in_ok-count.count c.args.op c.args.width c.args.signed _ _ _ _ _ _ c.requires.code c.requires.lay c.in_ok-count.ensures.ok _ c.in_err-take.ensures.err)
+    rw (p.1, p.2) (payload_stops c.args.limit _ _ _ c.in_ok-count.count c.args.op c.args.width c.args.signed _ _ _ _ _ _ c.requires.code c.requires.lay c.in_ok-count.ensures.ok c.growth.ensures.begun c.growth.ensures.count _ c.in_err-take.ensures.err)
 
 pub returns-clause-ok : goal.returns-clause-ok
-returns-clause-ok g c = payload_grows c.args.limit _ _ _ c.in_ok-count.count c.args.op c.args.width c.args.signed _ _ _ _ _ _ c.requires.code c.requires.lay c.in_ok-count.ensures.ok c.in_ok-take.ensures.ok
+returns-clause-ok g c = payload_grows c.args.limit _ _ _ c.in_ok-count.count c.args.op c.args.width c.args.signed _ _ _ _ _ _ c.requires.code c.requires.lay c.in_ok-count.ensures.ok c.growth.ensures.count c.in_ok-take.ensures.ok

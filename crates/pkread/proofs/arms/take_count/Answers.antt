@@ -8,7 +8,7 @@ use Rattle.pkread.proofs.arms.take_count.Goals as goal
 pub returns-in_err-take_few-clause-err : goal.returns-in_err-take_few-clause-err
 returns-in_err-take_few-clause-err g c =
     let p = err_from_is_err_and c.from_residual.result c.from_residual.ensures.1 in
-    rw (p.1, p.2) (field_stops c.args.limit c.size.result _ _ c.args.op _ _ _ _ _ c.requires.code (rw (c.requires.lay, c.size.ensures) refl) c.in_err-take_few.ensures.err)
+    rw (p.1, p.2) (field_stops c.growth.ensures.begun c.growth.ensures.field c.args.limit c.size.result _ _ c.args.op _ _ _ _ _ c.requires.code (rw (c.requires.lay, c.size.ensures) refl) c.in_err-take_few.ensures.err)
 
 pub returns-then-not-is_count-clause-err : goal.returns-then-not-is_count-clause-err
 returns-then-not-is_count-clause-err g c =
@@ -17,7 +17,7 @@ returns-then-not-is_count-clause-err g c =
     let e = c.is_count.ensures in
     let f = c.if-not-is_count.true in
     let over : count_limit c.args.width c.args.signed ≤ c.count_behind-count.result = grind (arith, nat_tests) in
-    stops_negative c.args.limit _ _ c.args.op c.args.width c.args.signed _ _ _ _ c.requires.code c.requires.lay s c.count_behind-count.result is over
+    stops_negative c.args.limit _ _ c.args.op c.args.width c.args.signed _ _ _ _ c.requires.code c.requires.lay s c.growth.ensures.begun c.growth.ensures.field c.growth.ensures.count c.count_behind-count.result is over
 
 pub returns-then-count-limit-clause-err : goal.returns-then-count-limit-clause-err
 returns-then-count-limit-clause-err g c =
@@ -27,4 +27,4 @@ returns-then-count-limit-clause-err g c =
     let f = c.if-not-is_count.false in
     let under : c.count_behind-count.result < count_limit c.args.width c.args.signed = grind (arith, nat_tests) in
     let over : c.args.limit < c.count_behind-count.result = c.if-count-limit.true in
-    stops_large c.args.limit _ _ c.args.op c.args.width c.args.signed _ _ _ _ c.requires.code c.requires.lay s c.count_behind-count.result is under over
+    stops_large c.args.limit _ _ c.args.op c.args.width c.args.signed _ _ _ _ c.requires.code c.requires.lay s c.growth.ensures.begun c.growth.ensures.field c.growth.ensures.count c.count_behind-count.result is under over

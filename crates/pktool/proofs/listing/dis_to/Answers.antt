@@ -1,5 +1,5 @@
 use Rattle.std.proofs.Common.{rules}
-use Rattle.pktool.specs.Lists.{lists_all}
+use Rattle.pktool.specs.Private.Lists.{lists_all}
 use Rattle.pktool.proofs.listing.dis_to.Goals as goal
 
 pub returns-in-Ok : goal.returns-in-Ok

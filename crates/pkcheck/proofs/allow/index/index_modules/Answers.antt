@@ -2,7 +2,7 @@ use Rattle.std.proofs.Common.{◌∙◌, sym, string_bytes}
 use Rattle.std.specs.BTreeMap.{get_by_text}
 use Rattle.toml.specs.View.{members_view, view}
 use Rattle.pkcheck.proofs.Cells.{has_none}
-use Rattle.pkcheck.proofs.Index.{has_or_end, module_past, module_added}
+use Rattle.pkcheck.proofs.ListFile.Index.{has_or_end, module_past, module_added}
 use Rattle.pkcheck.proofs.allow.index.index_modules.Goals as goal
 
 pub loop-module_name-preserved : goal.loop-module_name-preserved

@@ -1,10 +1,10 @@
-use Rattle.std.proofs.Common.{◌∙◌, Some, map, option_map, refl}
+use Rattle.std.proofs.Common.{◌∙◌, Some, option_map, refl}
 use Rattle.pkops.specs.Inst.{instruction_of}
 use Rattle.pkcheck.specs.Knowledge.{Knowledge}
 use Rattle.pkcheck.specs.Import.{asked_shown, policy_of}
-use Rattle.pkcheck.proofs.Longest.{longest}
-use Rattle.pkcheck.proofs.CoveredStep.{alarm_by, covered_by, denied, memory_by, no_fault_by, permitted_by, unknown_by}
-use Rattle.pkcheck.proofs.TextsMade.{texts_by_opcode}
+use Rattle.pkcheck.proofs.Stepping.Longest.{longest}
+use Rattle.pkcheck.proofs.Stepping.CoveredStep.{alarm_by, covered_by, denied, memory_by, no_fault_by, permitted_by, unknown_by}
+use Rattle.pkcheck.proofs.Stepping.TextsMade.{texts_by_opcode}
 use Rattle.pkcheck.proofs.machine.Machine.step.Goals as goal
 
 pub returns-in-Ok-clause-goes_on : goal.returns-in-Ok-clause-goes_on
@@ -36,7 +36,7 @@ pub returns-in-Err-clause-fails : goal.returns-in-Err-clause-fails
 returns-in-Err-clause-fails c fresh =
     let kept = c.in-Err.ensures.kept in
     denied (policy_of c.args.policy.now) (instruction_of c.args.inst.now) c.args.self.now _ _ c.in-Err.denial refl
-    (rw (← c.self.view_is) (λ j. record { knowledge = (kept.0 j).knowledge; limits = c.self.inside.limits; imports = map asked_shown (kept.1 j); off = option_map asked_shown c.in-Err.denial.pair; refused = Some c.in-Err.denial.reason; stopped = c.self.inside.stopped; texts = (kept.0 j).texts }))
+    (rw (← c.self.view_is) (λ j. record { knowledge = (kept j).knowledge; limits = c.self.inside.limits; imports = (kept j).imports; off = option_map asked_shown c.in-Err.denial.pair; refused = Some c.in-Err.denial.reason; stopped = c.self.inside.stopped; texts = (kept j).texts }))
     (rw (← c.self.view_is) c.in-Err.ensures.err)
 
 pub returns-in-Err-clause-alarm : goal.returns-in-Err-clause-alarm

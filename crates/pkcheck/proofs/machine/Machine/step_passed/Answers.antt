@@ -1,13 +1,13 @@
-use Rattle.std.proofs.Common.{◌≤◌, None, Some, map, option_map, length, ap, subst, sym, ◌∙◌}
+use Rattle.std.proofs.Common.{◌≤◌, None, Some, option_map, length, ap, subst, sym, ◌∙◌}
 use Rattle.pkcheck.specs.Effects.{effect_of}
 use Rattle.pkcheck.specs.Import.{asked_shown, policy_of}
 use Rattle.pkcheck.specs.Knowledge.{Knowledge}
 use Rattle.pkcheck.specs.declared.machine.stepping.Moved.TheVariants.{On}
 use Rattle.pkops.specs.Payloads.{is_passed}
 use Rattle.std.specs.Prelude.{IsTrue}
-use Rattle.pkcheck.proofs.CoveredStep.{fails, goes_on}
-use Rattle.pkcheck.proofs.Longest.{longest}
-use Rattle.pkcheck.proofs.Passing.{lacks_room, passed_admitted, passes}
+use Rattle.pkcheck.proofs.Stepping.CoveredStep.{fails, goes_on}
+use Rattle.pkcheck.proofs.Stepping.Longest.{longest}
+use Rattle.pkcheck.proofs.Stepping.Passing.{lacks_room, passed_admitted, passes}
 use Rattle.pkcheck.proofs.machine.Machine.step_passed.Goals as goal
 
 pub returns-in-Ok : goal.returns-in-Ok
@@ -17,7 +17,7 @@ returns-in-Ok c i same =
     let stack = subst (λ (k : Knowledge). length k.entries ≤ c.self.inside.limits.stack) c.in-Ok.ensures.ok c.in-Ok.ensures.room in
     goes_on p i c.args.self.now _ On
     (passes p i c.args.self.now _ c.class_passed.result e (rw (← c.self.view_is) stack) (rw (← c.self.view_is) (c.self.invariant.0 c.in_default.is).1) c.requires.running
-    (rw (← c.self.view_is) (λ j. record { knowledge = c.in-Ok.ensures.ok j; limits = c.self.inside.limits; imports = map asked_shown c.self.inside.imports.items; off = option_map asked_shown c.self.inside.off; refused = c.self.inside.refused; stopped = c.self.inside.stopped; texts = c.in-Ok.ensures.texts j })))
+    (rw (← c.self.view_is) (λ j. record { knowledge = c.in-Ok.ensures.ok j; limits = c.self.inside.limits; imports = c.make.ensures.imports j; off = option_map asked_shown c.self.inside.off; refused = c.self.inside.refused; stopped = c.self.inside.stopped; texts = c.in-Ok.ensures.texts j })))
     (rw (← c.self.view_is) c.in_default.is)
 
 pub returns-in-Err : goal.returns-in-Err
@@ -27,4 +27,4 @@ returns-in-Err c i same =
     let (v, long) = longest c.args.policy.now in
     fails p i c.args.self.now _ c.in-Err.reason v long (passed_admitted i.op i.arg (subst (λ o. IsTrue (is_passed o)) (sym same) c.requires.passed)) (rw (← c.self.view_is) c.in_default.is)
     (lacks_room p i c.args.self.now _ c.class_passed.result e c.in-Err.reason (rw (← c.self.view_is) c.in-Err.ensures.err)
-    (rw (← c.self.view_is) (λ j. record { knowledge = (c.in-Err.ensures.kept j).knowledge; limits = c.self.inside.limits; imports = map asked_shown c.self.inside.imports.items; off = None; refused = Some c.in-Err.reason; stopped = c.self.inside.stopped; texts = (c.in-Err.ensures.kept j).texts })))
+    (rw (← c.self.view_is) (λ j. record { knowledge = (c.in-Err.ensures.kept j).knowledge; limits = c.self.inside.limits; imports = (c.in-Err.ensures.kept j).imports; off = None; refused = Some c.in-Err.reason; stopped = c.self.inside.stopped; texts = (c.in-Err.ensures.kept j).texts })))

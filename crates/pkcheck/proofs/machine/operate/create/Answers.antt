@@ -1,8 +1,8 @@
 use Rattle.std.proofs.Common.{◌∙◌, ap}
 use Rattle.pkcheck.specs.Private.Slots.{seen}
 use Rattle.pkops.specs.Inst.{instruction_of}
-use Rattle.pkcheck.proofs.Errs.{ok_on}
-use Rattle.pkcheck.proofs.Judged.{none_given}
+use Rattle.pkcheck.proofs.Stepping.Errs.{ok_on}
+use Rattle.pkcheck.proofs.Stepping.Judged.{none_given}
 use Rattle.pkcheck.proofs.Resolving.{given_seen, given_sees}
 use Rattle.pkcheck.proofs.machine.operate.create.Goals as goal
 

@@ -1,13 +1,14 @@
-use Rattle.std.proofs.Common.{◌≡◌, false, refl}
-use Rattle.std.specs.String.{string_bytes}
-use Rattle.pkcheck.specs.Knowledge.{UnknownImport, OffList}
-use Rattle.pkcheck.specs.Allow.{lists}
+use Rattle.std.proofs.Common.{◌≡◌, Err, inl, refl}
+use Rattle.pkcheck.specs.Knowledge.{UnknownImport, unknown_pair}
+use Rattle.pkcheck.specs.Import.{policy_of}
+use Rattle.pkcheck.specs.declared.policy.Policy.{Policy}
+use Rattle.pkcheck.specs.declared.policy.Policy.TheVariants.{Listed, Pairs, AnyImport}
 use Rattle.pkcheck.proofs.machine.operate.permit.Goals as goal
 
-pub returns-in-Unknown-clause-err : goal.returns-in-Unknown-clause-err
-returns-in-Unknown-clause-err c = (UnknownImport, rw (c.in-Listed.is, c.in-Unknown.is) refl, refl, refl)
+unknown_refused : (policy : Policy) → (policy ≡ AnyImport → ⊥) → unknown_pair (policy_of policy) ≡ Err UnknownImport
+unknown_refused (Listed list) h = refl
+unknown_refused (Pairs pairs) h = refl
+unknown_refused AnyImport h = absurd (h refl)
 
-pub returns-else-contains-clause-err : goal.returns-else-contains-clause-err
-returns-else-contains-clause-err c =
-    let f : lists c.in-Listed.list.now (string_bytes c.in-Pair.module_name) (string_bytes c.in-Pair.name) ≡ false = cc in
-    (OffList (string_bytes c.in-Pair.module_name) (string_bytes c.in-Pair.name), rw (c.in-Listed.is, c.in-Pair.is, f) refl, refl, rw c.in-Pair.is refl)
+pub returns-in-Unknown-clause-err : goal.returns-in-Unknown-clause-err
+returns-in-Unknown-clause-err c = inl (UnknownImport, rw c.in-Unknown.is (unknown_refused c.args.policy.now c.in_default.not-AnyImport), refl, refl)

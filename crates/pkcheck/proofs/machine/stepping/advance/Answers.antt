@@ -1,20 +1,20 @@
-use Rattle.std.proofs.Common.{◌∙◌, refl, sym, None, map}
+use Rattle.std.proofs.Common.{◌∙◌, refl, sym, None}
 use Rattle.pkcheck.specs.declared.machine.effects.Effect.TheVariants.{Stops}
-use Rattle.pkcheck.specs.Import.{policy_of, asked_shown}
+use Rattle.pkcheck.specs.Import.{policy_of}
 use Rattle.pkops.specs.Inst.{instruction_of}
-use Rattle.pkcheck.proofs.Going.{goes_by, denied_by, move_denied, move_passes, stop_denied, said_import, said_on}
+use Rattle.pkcheck.proofs.Stepping.Going.{goes_by, denied_by, move_denied, move_passes, stop_denied, said_import, said_on}
 use Rattle.pkcheck.proofs.machine.stepping.advance.Goals as goal
 
 pub returns-then-is_import-clause-ok : goal.returns-then-is_import-clause-ok
 returns-then-is_import-clause-ok c =
     let passes = c.in-Ok.ensures.ok in
-    goes_by (policy_of c.args.policy.now) c.args.limits.now (instruction_of c.args.inst.now) c.args.held.now.knowledge _ c.operate.new.self.knowledge passes.0 (map asked_shown c.args.imports.now.items) (map asked_shown c.operate.new.imports.items) _
+    goes_by (policy_of c.args.policy.now) c.args.limits.now (instruction_of c.args.inst.now) c.args.held.now.knowledge _ c.operate.new.self.knowledge passes.0 c.args.held.now.imports c.operate.new.self.imports _
     (sym c.in-Operates.ensures.value) passes.1 c.in-Ok.ensures.room.0 (rw c.in-Ok.ensures.room.1 c.requires.memo) passes.2 (said_import c.in-Operates.takes c.in-Operates.names c.in-Operates.gives passes.0 (sym c.if-is_import.true ∙ passes.3))
 
 pub returns-else-is_import-clause-ok : goal.returns-else-is_import-clause-ok
 returns-else-is_import-clause-ok c =
     let passes = c.in-Ok.ensures.ok in
-    goes_by (policy_of c.args.policy.now) c.args.limits.now (instruction_of c.args.inst.now) c.args.held.now.knowledge _ c.operate.new.self.knowledge passes.0 (map asked_shown c.args.imports.now.items) (map asked_shown c.operate.new.imports.items) _
+    goes_by (policy_of c.args.policy.now) c.args.limits.now (instruction_of c.args.inst.now) c.args.held.now.knowledge _ c.operate.new.self.knowledge passes.0 c.args.held.now.imports c.operate.new.self.imports _
     (sym c.in-Operates.ensures.value) passes.1 c.in-Ok.ensures.room.0 (rw c.in-Ok.ensures.room.1 c.requires.memo) passes.2 (said_on c.in-Operates.takes c.in-Operates.names c.in-Operates.gives passes.0 (sym c.if-is_import.false ∙ passes.3))
 
 pub returns-in-Err-clause-err : goal.returns-in-Err-clause-err
@@ -22,8 +22,8 @@ returns-in-Err-clause-err c = denied_by (policy_of c.args.policy.now) c.args.lim
 
 pub returns-in-Ok-apply-clause-ok : goal.returns-in-Ok-apply-clause-ok
 returns-in-Ok-apply-clause-ok c =
-    goes_by (policy_of c.args.policy.now) c.args.limits.now (instruction_of c.args.inst.now) c.args.held.now.knowledge _ c.apply.new.self.knowledge None (map asked_shown c.args.imports.now.items) (map asked_shown c.args.imports.now.items) _
-    (sym c.in-Moves.ensures.value) (move_passes (policy_of c.args.policy.now) c.args.limits.now (instruction_of c.args.inst.now) c.args.held.now.knowledge c.in-Moves.what _ (rw (c.unwrap_or.ensures, c.memo_number.ensures) at c.in-Ok-apply.ensures.ok)) c.in-Ok-apply.ensures.room.0 c.in-Ok-apply.ensures.room.1 refl refl
+    goes_by (policy_of c.args.policy.now) c.args.limits.now (instruction_of c.args.inst.now) c.args.held.now.knowledge _ c.apply.new.self.knowledge None c.args.held.now.imports c.apply.new.self.imports _
+    (sym c.in-Moves.ensures.value) (move_passes (policy_of c.args.policy.now) c.args.limits.now (instruction_of c.args.inst.now) c.args.held.now.knowledge c.in-Moves.what _ (rw (c.unwrap_or.ensures, c.memo_number.ensures) at c.in-Ok-apply.ensures.ok)) c.in-Ok-apply.ensures.room.0 c.in-Ok-apply.ensures.room.1 c.apply.ensures.imports refl
 
 pub returns-in-Err-apply-clause-err : goal.returns-in-Err-apply-clause-err
 returns-in-Err-apply-clause-err c =

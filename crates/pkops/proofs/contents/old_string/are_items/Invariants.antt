@@ -1,8 +1,13 @@
 use Rattle.std.proofs.Common.{◌≡◌, drop}
+use Rattle.std.specs.Prelude.{is_some}
 use Rattle.pkops.specs.Deciding.{are_items}
-use Rattle.pkops.proofs.OldStrings.{is_outside, place_after}
+use Rattle.pkops.specs.Private.Places.{IsSmall}
+use Rattle.pkops.proofs.OldStrings.{spelled}
 use Rattle.pkops.proofs.contents.old_string.are_items.Given as goal
 
--- what is left leads from the place as the whole does from the beginning
+-- what is left spells bytes from the place on exactly where the whole does from the beginning
 abbrev pub invariant-bytes : goal.invariant-bytes
-invariant-bytes l = is_outside (place_after l.quote l.place (drop l.byte-index l.inside)) ≡ are_items l.quote l.inside
+invariant-bytes l = record {
+  kept : is_some (spelled l.quote l.place (drop l.byte-index l.inside)) ≡ are_items l.quote l.inside;
+  small : IsSmall l.place;
+}

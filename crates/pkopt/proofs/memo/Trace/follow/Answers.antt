@@ -1,4 +1,4 @@
-use Rattle.std.proofs.Common.{rules, sym, ap, ◌∙◌}
+use Rattle.std.proofs.Common.{sym, ap, ◌∙◌}
 use Rattle.pkops.specs.Inst.{instruction_of}
 use Rattle.pkopt.specs.Passes.{memo_use}
 use Rattle.pkopt.proofs.Following.{effect_stores, effect_next, store_step, next_step}

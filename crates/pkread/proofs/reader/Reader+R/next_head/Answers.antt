@@ -13,7 +13,7 @@ returns-in_err-op g c =
     let p = err_from_is_err_and c.from_residual.result c.from_residual.ensures.1 in
     let e = c.in_err-op.ensures in
     let old = state g.R.Source.left g.R.Source.failures c.args.self.now in (
-      (refl, λ _. tt, (refl, (e.limit, steps_head_open old _ _ open' (rw (p.1, p.2) (refuses_head old _ _ e.place.0 e.least e.err e.place.1))), λ ne. absurd (ne open'))),
+      (refl, λ _. tt, (refl, (e.limits, steps_head_open old _ _ open' (rw (p.1, p.2) (refuses_head old _ _ e.place.0 e.least e.err e.place.1))), λ ne. absurd (ne open'))),
       record { shows = shows_head_open old _ open' (rw (p.1, p.2) e.place.0); after = tt },
     )
 
@@ -24,8 +24,8 @@ returns-in-Held g c =
     let f = rw c.in-Held.is at e.held in
     let next = rw c.in-Held.is at e.next in
     let w = found_gathered _ _ _ _ f.0 in
-    let h = c.instruction.ensures f.0.arg (rw e.limit f.0.lies) in
+    let h = c.instruction.ensures f.0.arg (rw e.limits f.0.lies) in
     let old = state g.R.Source.left g.R.Source.failures c.args.self.now in (
-      (refl, λ _. tt, (refl, (e.limit, steps_head_open old _ _ open' (gives_held old _ _ c.collect_head.new.self.held.bytes c.in-Held.found.op _ w h f.1 c.taken-at.ensures f.3 next e.within f.2 f.4)), λ ne. absurd (ne open'))),
+      (refl, λ _. tt, (refl, (e.limits, steps_head_open old _ _ open' (gives_held old _ _ c.collect_head.new.self.held.bytes c.in-Held.found.op _ w h f.1 c.taken-at.ensures f.3 next e.within f.2 f.4)), λ ne. absurd (ne open'))),
       record { shows = shows_head_open old _ open' (c.taken-at.ensures, is_allowed _ _ _ _ w h); after = tt },
     )

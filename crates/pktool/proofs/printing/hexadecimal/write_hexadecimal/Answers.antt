@@ -1,7 +1,7 @@
 use Rattle.std.proofs.Common.{refl, List, [], ◌++◌, ℕ, ap, sym, ◌∙◌, append_assoc}
 use Rattle.hex.specs.Hex.{encode_with}
 use Rattle.pktool.proofs.Lines.{encode_with-append}
-use Rattle.pktool.specs.Lists.{appends_none, appends_then}
+use Rattle.pktool.specs.Private.Lists.{appends_none, appends_then}
 use Rattle.pktool.proofs.printing.hexadecimal.write_hexadecimal.Goals as goal
 
 pub loop-rest-init : goal.loop-rest-init

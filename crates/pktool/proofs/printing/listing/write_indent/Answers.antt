@@ -1,6 +1,6 @@
 use Rattle.pktool.proofs.Lines.{indent_more}
 use Rattle.pktool.specs.Listing.{indent}
-use Rattle.pktool.specs.Lists.{appends_none, appends_then}
+use Rattle.pktool.specs.Private.Lists.{appends_none, appends_then}
 use Rattle.pktool.proofs.printing.listing.write_indent.Goals as goal
 
 pub loop-mark-init : goal.loop-mark-init

@@ -2,7 +2,7 @@ use Rattle.std.proofs.Common.{◌∙◌, ◌-◌, [], ◌∷◌, ◌++◌, ap, i
 use Rattle.std.proofs.lemmas.Bool.{ltb-false}
 use Rattle.std.proofs.Math.ListN.{set, length-set}
 use Rattle.pkcheck.specs.Private.Slots.{ArePositive, numbered, zeroth}
-use Rattle.pkcheck.proofs.Errs.{on_both, ok_on, err_on}
+use Rattle.pkcheck.proofs.Stepping.Errs.{on_both, ok_on, err_on}
 use Rattle.pkcheck.proofs.Cells.{length_cells, more_end, more_rest, more_zero, positive_stored, put_end, put_rest, put_row, put_zero}
 use Rattle.pkcheck.proofs.machine.memo.Memo.store.Goals as goal
 use Rattle.pkcheck.proofs.machine.memo.Memo.store.Goals.{in-Ok, in-Err}

@@ -2,7 +2,7 @@ use Rattle.std.proofs.Common.{◌≡◌, ◌∙◌, ◌∷◌, length, ap, sym, 
 use Rattle.pkcheck.specs.Private.Denials.{WantsRoom}
 use Rattle.pkcheck.specs.Private.Places.{below}
 use Rattle.pkcheck.specs.Shape.{Item}
-use Rattle.pkcheck.proofs.Errs.{err_on, ok_on}
+use Rattle.pkcheck.proofs.Stepping.Errs.{err_on, ok_on}
 use Rattle.pkcheck.proofs.Limited.{length_shown}
 use Rattle.pkcheck.proofs.Places.{below_all, below_shown, how_long}
 use Rattle.pkcheck.proofs.machine.stack.Stack.replace.Goals as goal

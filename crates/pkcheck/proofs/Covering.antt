@@ -1,0 +1,11 @@
+-- Runs, and what the checker knows of them.
+pub mod Alike
+pub mod CoversBy
+pub mod Verdicts
+pub mod Following
+pub mod Refusing
+pub mod Answering
+pub mod Soundness
+pub mod Showing
+pub mod Standing
+pub mod Examples

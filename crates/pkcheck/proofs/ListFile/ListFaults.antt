@@ -1,0 +1,89 @@
+-- No rule of the list file speaks of memory.
+use Rattle.std.proofs.Common.{◌≢◌, ◌==◌, ℕ, not, length, Bool, true, false, Option, Some, None, codes}
+use Rattle.toml.specs.Data.{Data, string, integer, float, boolean, datetime, array, table, Members, no_members, member, get_member}
+use Rattle.pkcheck.specs.declared.allow.error.AllowError.{AllowError}
+use Rattle.pkcheck.specs.declared.allow.error.AllowError.TheVariants.{Shape, Version, OutOfMemory}
+use Rattle.pkcheck.specs.declared.allow.error.Where.TheVariants as part
+use Rattle.pkcheck.specs.ListFile.{Text, kept_or, or_else, is_version, is_two, is_top_key, version_fault, keys_fault, module_fault, modules_fault, imports_fault, greatest_at, is_limit, limit_fault, each_limit_fault, limits_fault, fault_of, are_names}
+
+abbrev IsOfRule : Option AllowError → Type 0
+IsOfRule fault = fault ≢ Some OutOfMemory
+
+kept_or_is : (is_kept : Bool) (error : AllowError) → error ≢ OutOfMemory → IsOfRule (kept_or is_kept error)
+kept_or_is true error other = λ h. cc
+kept_or_is false error other = λ h. other (cc)
+
+or_else_is : (first next : Option AllowError) → IsOfRule first → IsOfRule next → IsOfRule (or_else first next)
+or_else_is (Some error) next first_is next_is = first_is
+or_else_is None next first_is next_is = next_is
+
+version_is : (value : Option Data) → IsOfRule (version_fault value)
+version_is None = λ h. cc
+version_is (Some (integer number)) = kept_or_is (is_version number) Version (λ h. cc)
+version_is (Some (string _)) = λ h. cc
+version_is (Some (float _)) = λ h. cc
+version_is (Some (boolean _)) = λ h. cc
+version_is (Some (datetime _)) = λ h. cc
+version_is (Some (array _)) = λ h. cc
+version_is (Some (table _)) = λ h. cc
+
+keys_is : (limited : Bool) (document : Members) → IsOfRule (keys_fault limited document)
+keys_is limited no_members = λ h. cc
+keys_is limited (member key value rest) =
+    or_else_is (kept_or (is_top_key limited key) (Shape part.TopKey)) (keys_fault limited rest)
+    (kept_or_is (is_top_key limited key) (Shape part.TopKey) (λ h. cc)) (keys_is limited rest)
+
+module_is : (key : Text) (value : Data) → IsOfRule (module_fault key value)
+module_is key (array values) =
+    or_else_is (kept_or (not (length key == 0)) (Shape part.Module)) (kept_or (are_names values) (Shape part.Name))
+    (kept_or_is (not (length key == 0)) (Shape part.Module) (λ h. cc)) (kept_or_is (are_names values) (Shape part.Name) (λ h. cc))
+module_is key (string _) = λ h. cc
+module_is key (integer _) = λ h. cc
+module_is key (float _) = λ h. cc
+module_is key (boolean _) = λ h. cc
+module_is key (datetime _) = λ h. cc
+module_is key (table _) = λ h. cc
+
+modules_is : (modules : Members) → IsOfRule (modules_fault modules)
+modules_is no_members = λ h. cc
+modules_is (member key value rest) =
+    or_else_is (module_fault key value) (modules_fault rest) (module_is key value) (modules_is rest)
+
+imports_is : (value : Option Data) → IsOfRule (imports_fault value)
+imports_is (Some (table modules)) = modules_is modules
+imports_is None = λ h. cc
+imports_is (Some (string _)) = λ h. cc
+imports_is (Some (integer _)) = λ h. cc
+imports_is (Some (float _)) = λ h. cc
+imports_is (Some (boolean _)) = λ h. cc
+imports_is (Some (datetime _)) = λ h. cc
+imports_is (Some (array _)) = λ h. cc
+
+limit_is : (most : Option ℕ) (value : Data) → IsOfRule (limit_fault most value)
+limit_is (Some most) value = kept_or_is (is_limit most value) (Shape part.Limit) (λ h. cc)
+limit_is None value = λ h. cc
+
+each_limit_is : (limits : Members) → IsOfRule (each_limit_fault limits)
+each_limit_is no_members = λ h. cc
+each_limit_is (member key value rest) =
+    or_else_is (limit_fault (greatest_at key) value) (each_limit_fault rest) (limit_is (greatest_at key) value) (each_limit_is rest)
+
+limits_is : (value : Option Data) → IsOfRule (limits_fault value)
+limits_is None = λ h. cc
+limits_is (Some (table limits)) = each_limit_is limits
+limits_is (Some (string _)) = λ h. cc
+limits_is (Some (integer _)) = λ h. cc
+limits_is (Some (float _)) = λ h. cc
+limits_is (Some (boolean _)) = λ h. cc
+limits_is (Some (datetime _)) = λ h. cc
+limits_is (Some (array _)) = λ h. cc
+
+pub fault_is : (document : Members) → fault_of document ≢ Some OutOfMemory
+fault_is document =
+    let version = get_member (codes "version") document in
+    let imports = get_member (codes "imports") document in
+    let limits = get_member (codes "limits") document in
+    let limited = is_two version in
+    let behind = or_else_is (imports_fault imports) (limits_fault limits) (imports_is imports) (limits_is limits) in
+    or_else_is (version_fault version) (or_else (keys_fault limited document) (or_else (imports_fault imports) (limits_fault limits))) (version_is version)
+    (or_else_is (keys_fault limited document) (or_else (imports_fault imports) (limits_fault limits)) (keys_is limited document) behind)

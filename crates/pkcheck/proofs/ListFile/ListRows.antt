@@ -1,0 +1,89 @@
+-- List files as users write them, judged by the definitions.
+use Rattle.std.proofs.Common.{◌≡◌, refl, codes, Bool, true, false, Err, Ok, Result}
+use Rattle.toml.proofs.OnLiterals.{toml_on_literals}
+use Rattle.toml.specs.Data.{Members, get_member}
+use Rattle.pkops.specs.Limits.{Bounds, standard}
+use Rattle.pkcheck.specs.declared.allow.error.AllowError.{AllowError}
+use Rattle.pkcheck.specs.declared.allow.error.AllowError.TheVariants.{Syntax, Shape, Version}
+use Rattle.pkcheck.specs.declared.allow.error.Where.TheVariants as part
+use Rattle.pkcheck.specs.ListFile.{Text, limits_in, list_of, lists_in}
+
+no_toml : list_of (codes "version = ") ≡ Err Syntax
+unfolding toml_on_literals
+no_toml = refl
+
+no_version : list_of (codes "version = 1.0") ≡ Err (Shape part.Version)
+unfolding toml_on_literals
+no_version = refl
+
+version_three : list_of (codes "version = 3\nlimits = 1") ≡ Err Version
+unfolding toml_on_literals
+version_three = refl
+
+other_top_key : list_of (codes "version = 1\nlimits = 1") ≡ Err (Shape part.TopKey)
+unfolding toml_on_literals
+other_top_key = refl
+
+no_imports : list_of (codes "version = 1") ≡ Err (Shape part.Imports)
+unfolding toml_on_literals
+no_imports = refl
+
+-- the modules are judged in byte order, and not as they stand
+later_module : list_of (codes "version = 1\nimports = { b = [1], a = 2 }") ≡ Err (Shape part.Module)
+unfolding toml_on_literals
+later_module = refl
+
+empty_module : list_of (codes "version = 1\nimports = { \"\" = [1] }") ≡ Err (Shape part.Module)
+unfolding toml_on_literals
+empty_module = refl
+
+empty_name : list_of (codes "version = 1\nimports = { a = [\"\"] }") ≡ Err (Shape part.Name)
+unfolding toml_on_literals
+empty_name = refl
+
+-- the text is a list, and it has the pair
+abbrev has_pair : Result Members AllowError → Text → Text → Bool
+has_pair (Ok list) key name = lists_in (get_member (codes "imports") list) key name
+has_pair (Err error) key name = false
+
+abbrev two_modules : Text
+two_modules = codes "version = 1\nimports = { a = [\"b\", \"c\"], \"a.b\" = [\"c\"] }"
+
+second_name : has_pair (list_of two_modules) (codes "a") (codes "c") ≡ true
+unfolding toml_on_literals
+second_name = refl
+
+dotted_module : has_pair (list_of two_modules) (codes "a.b") (codes "c") ≡ true
+unfolding toml_on_literals
+dotted_module = refl
+
+-- a name of another module
+other_module : has_pair (list_of two_modules) (codes "a.b") (codes "b") ≡ false
+unfolding toml_on_literals
+other_module = refl
+
+-- the modules are judged before the limits, and these before their keys
+no_imports_of_two : list_of (codes "version = 2\nlimits = 1") ≡ Err (Shape part.Imports)
+unfolding toml_on_literals
+no_imports_of_two = refl
+
+no_limits : list_of (codes "version = 2\nimports = {}\nlimits = 1") ≡ Err (Shape part.Limits)
+unfolding toml_on_literals
+no_limits = refl
+
+large_limit : list_of (codes "version = 2\nimports = {}\nlimits = { stack = 1000001 }") ≡ Err (Shape part.Limit)
+unfolding toml_on_literals
+large_limit = refl
+
+other_limit : list_of (codes "version = 2\nimports = {}\nlimits = { heap = 1 }") ≡ Err (Shape part.LimitKey)
+unfolding toml_on_literals
+other_limit = refl
+
+-- the limits of a list
+abbrev limits_read : Result Members AllowError → Bounds
+limits_read (Ok list) = limits_in (get_member (codes "limits") list)
+limits_read (Err error) = standard
+
+one_limit : limits_read (list_of (codes "version = 2\nimports = {}\nlimits = { passed = 16777217 }")) ≡ record standard { passed = 16_777_217 }
+unfolding toml_on_literals
+one_limit = refl

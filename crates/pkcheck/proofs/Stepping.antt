@@ -1,0 +1,13 @@
+-- A step of the machine, by its parts.
+pub mod Errs
+pub mod Placed
+pub mod Moving
+pub mod Judged
+pub mod Going
+pub mod Memory
+pub mod Extensions
+pub mod TextsMade
+pub mod Stops
+pub mod CoveredStep
+pub mod Passing
+pub mod Longest

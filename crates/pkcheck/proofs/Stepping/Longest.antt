@@ -1,0 +1,30 @@
+-- For each policy some text is longer than all that is listed.
+use Rattle.std.proofs.Common.{◌≡◌, ℕ, ◌+◌, ◌<◌, ◌≤◌, Bool, true, List, Some, length, arith}
+use Rattle.std.specs.Prelude.{replicate}
+use Rattle.std.proofs.lemmas.List.{length-replicate}
+use Rattle.pkcheck.specs.declared.policy.Policy.{Policy}
+use Rattle.pkcheck.specs.declared.policy.Policy.TheVariants.{Listed, Pairs, AnyImport}
+use Rattle.pkcheck.specs.Allow.{lists}
+use Rattle.pkcheck.specs.Pairs.{have}
+use Rattle.pkcheck.specs.Import.{policy_of}
+use Rattle.std.proofs.lemmas.List.Elements.{All-replicate}
+use Rattle.std.proofs.lemmas.Str.{IsUtf8-from_ascii}
+use Rattle.std.proofs.lemmas.Str.Ascii.{IsAscii-from_all}
+use Rattle.pkcheck.proofs.Covering.Answering.{Word}
+use Rattle.pkcheck.proofs.Covering.Showing.{IsLonger}
+use Rattle.pkcheck.proofs.ListFile.ListBound.{lists_bound, pairs_bound}
+
+-- so many letters
+abbrev letters : ℕ → Word
+letters n = record { text = replicate n 97; utf8 = IsUtf8-from_ascii _ (IsAscii-from_all _ (All-replicate (λ b. b < 128) n 97 (omega arith))) }
+
+-- of what no module and no name is longer, a text is longer
+bounded : (list : List ℕ → List ℕ → Bool) (bound : ℕ) → ((m n : List ℕ) → list m n ≡ true → (length m ≤ bound) × (length n ≤ bound))
+    → (v : Word) × IsLonger (Some list) v.text
+bounded list bound below =
+    (letters (bound + 1), λ m n h. let g = below m n h in let r = length-replicate {A = ℕ} (bound + 1) 97 in (omega (arith, g.0, r), omega (arith, g.1, r)))
+
+pub longest : (policy : Policy) → (v : Word) × IsLonger (policy_of policy) v.text
+longest (Listed list) = let (bound, below) = lists_bound list.now in bounded (lists list.now) bound below
+longest (Pairs pairs) = let (bound, below) = pairs_bound pairs.now in bounded (have pairs.now) bound below
+longest AnyImport = (letters 0, tt)

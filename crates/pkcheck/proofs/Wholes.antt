@@ -1,0 +1,11 @@
+-- Whole runs, and a check.
+pub mod RunSteps
+pub mod Walk
+pub mod Listed
+pub mod FramesSoFar
+pub mod Faultless
+pub mod Given
+pub mod Payloads
+pub mod Checked
+pub mod Hearing
+mod AnswerExamples

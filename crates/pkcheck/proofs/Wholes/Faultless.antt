@@ -1,0 +1,105 @@
+-- What the checker and the frames pass has no fault.
+use Rattle.std.proofs.Common.{◌≡◌, ℕ, suc, List, [], ◌∷◌, ◌++◌, length, map, Option, Some, sym, ap, subst, ◌∙◌}
+use Rattle.pkops.specs.Limits.{Bounds}
+use Rattle.pkops.specs.Spelling.{Instruction}
+use Rattle.pkread.specs.Pieces.{FramesGoOn, piece_of}
+use Rattle.pkcheck.specs.Covers.{Asks, IsObject}
+use Rattle.pkcheck.proofs.Covering.CoversBy.{CoversBy, FollowsBy, FollowsIfOk, any_answer, objects_grow}
+use Rattle.pkcheck.proofs.Covering.Verdicts.{StopsLast}
+use Rattle.pkcheck.specs.Knowledge.{Knowledge, Policy, Asked, AskedUnknown, Progress, advance, nothing_known}
+use Rattle.pkcheck.specs.Listing.{EachAsks, UnknownIsOpen}
+use Rattle.pkread.specs.Framing.{IsFramed, counted_all}
+use Rattle.pkread.specs.declared.refusal.Reason.{Reason}
+use Rattle.pkread.specs.declared.refusal.Reason.TheVariants as reason
+use Rattle.pkcheck.specs.Faults.{Arrivals, HasFaultHere, everyone}
+use Rattle.pkcheck.specs.RunFaults.{HasFault, IsFaultless, RunsBehind}
+use Rattle.pkcheck.specs.Runs.{State, Stepped, WentOn, Raised, Stopped, Stuck, start, step}
+use Rattle.pkcheck.proofs.Covering.Verdicts.{Yes, verdict}
+use Rattle.pkcheck.proofs.Covering.Following.{step_follows}
+use Rattle.pkcheck.proofs.Covering.Standing.{Stands, no_fault, unknown_exactly}
+use Rattle.pkcheck.proofs.Covering.Answering.{Answered}
+use Rattle.pkcheck.proofs.Wholes.FramesSoFar.{framed_in}
+use Rattle.pkcheck.proofs.Stepping.Stops.{nowhere_before}
+use Rattle.pkcheck.proofs.Wholes.Walk.{Along, along, verdict_first, verdict_split}
+
+pub nothing_covers : CoversBy IsObject nothing_known start
+nothing_covers = record { entries = tt; memo = tt }
+
+pub nothing_covers_by : (v : List ℕ) → CoversBy (Answered v) nothing_known start
+nothing_covers_by v = record { entries = tt; memo = tt }
+
+-- what is known along instructions stands for the runs that get behind them
+pub stands_behind : (policy : Policy) (limits : Bounds) (before : List Instruction) (known : Knowledge) → Along policy limits before nothing_known known → Stands known (RunsBehind before)
+stands_behind policy limits before known a = record {
+  each = λ s g. a.each start s g.0 nothing_covers g.1;
+  real = λ s g. (g.0, g.2);
+  answers = λ v n. v.utf8;
+  some = λ v. let m = a.some v start (nothing_covers_by v.text) in (m.0, m.1, m.2);
+}
+
+-- a fault of an instruction that is framed is one of the machine
+pub machine_fault : (policy : Policy) (limits : Bounds) (before : List Instruction) (i : Instruction) → IsFramed (map piece_of before) (piece_of i) [] → (here : Arrivals) (r : Reason) → HasFault policy limits before here i r → HasFaultHere policy limits here i r
+machine_fault policy limits before i w here reason.BrokenFrame h = absurd (h w)
+machine_fault policy limits before i w here reason.MissingMark h = h
+machine_fault policy limits before i w here reason.MissingItem h = h
+machine_fault policy limits before i w here (reason.MissingMemo n) h = h
+machine_fault policy limits before i w here reason.OddItems h = h
+machine_fault policy limits before i w here reason.WrongClass h = h
+machine_fault policy limits before i w here reason.NotText h = h
+machine_fault policy limits before i w here reason.UnknownImport h = h
+machine_fault policy limits before i w here reason.ImportOffList h = h
+machine_fault policy limits before i w here reason.LeftOver h = h
+machine_fault policy limits before i w here reason.TooLarge h = h
+machine_fault policy limits before i w here reason.Source h = h
+machine_fault policy limits before i w here reason.Truncated h = h
+machine_fault policy limits before i w here (reason.UnknownOpcode b) h = h
+machine_fault policy limits before i w here reason.BadArgument h = h
+machine_fault policy limits before i w here reason.ExtensionCode h = h
+machine_fault policy limits before i w here (reason.UnsupportedProtocol n) h = h
+machine_fault policy limits before i w here reason.OutOfMemory h = h
+
+same_place : {A : Type 0} (xs ys : List A) (a b : A) (us vs : List A) → length xs ≡ length ys → xs ++ a ∷ us ≡ ys ++ b ∷ vs → a ≡ b
+same_place [] [] a b us vs n e = cc
+same_place (x ∷ xs) (y ∷ ys) a b us vs n e = same_place xs ys a b us vs (cc) (cc)
+same_place [] (y ∷ ys) a b us vs n e = cc
+same_place (x ∷ xs) [] a b us vs n e = cc
+
+-- a step that follows imports what is listed
+asks_so : (q : Progress) (s : State) (st : Stepped) → FollowsBy IsObject q s st → Asks q.import s st
+asks_so q s (WentOn t) h = h.1
+asks_so q s (Raised t) h = h
+asks_so q s (Stopped r t) h = (h.3, h.4)
+asks_so q s (Stuck b) h = h
+
+module _ (policy : Policy) (limits : Bounds) where
+  -- an entry an instruction
+  pub length-asked : (p : List Instruction) (k known : Knowledge) (asked : List (Option Asked)) → verdict policy limits p k ≡ Yes known asked → length asked ≡ length p
+  length-asked [] k known asked e = let same : ◌≡◌ {A = List (Option Asked)} [] asked = cc in ap length (sym same)
+  length-asked (i ∷ p) k known asked e =
+      let f = verdict_first (advance policy limits i k) (verdict policy limits p) known asked e in
+      ap length f.rest.first ∙ ap suc (length-asked p f.passed.after known f.rest.listed f.rest.accepts)
+
+  module _ (p : List Instruction) (known : Knowledge) (asked : List (Option Asked)) (last : StopsLast p) (accepts : verdict policy limits p nothing_known ≡ Yes known asked) where
+    pub faultless : FramesGoOn → (still_open : ℕ) → counted_all 0 (map piece_of p) ≡ Some still_open → IsFaultless policy limits p
+    faultless goes_on still_open frames before i after e reason h =
+        let s = verdict_split policy limits before i after nothing_known known asked (ap (λ x. verdict policy limits x nothing_known) (sym e) ∙ accepts) in
+        let a = along policy limits before nothing_known s.known s.earlier (nowhere_before before i after (subst StopsLast e last)) s.accepts in
+        let w = framed_in goes_on before i after still_open (ap (λ x. counted_all 0 (map piece_of x)) (sym e) ∙ frames) in
+        no_fault policy limits i s.known (RunsBehind before) (stands_behind policy limits before s.known a) s.passed s.passes reason (machine_fault policy limits before i w (everyone (RunsBehind before)) reason h)
+
+    pub unknown_is_open : UnknownIsOpen p asked
+    unknown_is_open before i after earlier later e g n =
+        let s = verdict_split policy limits before i after nothing_known known asked (ap (λ x. verdict policy limits x nothing_known) (sym e) ∙ accepts) in
+        let a = along policy limits before nothing_known s.known s.earlier (nowhere_before before i after (subst StopsLast e last)) s.accepts in
+        let m = length-asked before nothing_known s.known s.earlier s.accepts in
+        unknown_exactly policy limits i s.known (RunsBehind before) (stands_behind policy limits before s.known a) s.passed s.passes (same_place s.earlier earlier s.passed.import (Some AskedUnknown) s.later later (m ∙ sym n) (sym s.listed ∙ g))
+
+    pub each_asks : EachAsks p asked
+    each_asks before i after earlier import later e g n state outcome gets =
+        let s = verdict_split policy limits before i after nothing_known known asked (ap (λ x. verdict policy limits x nothing_known) (sym e) ∙ accepts) in
+        let a = along policy limits before nothing_known s.known s.earlier (nowhere_before before i after (subst StopsLast e last)) s.accepts in
+        let m = length-asked before nothing_known s.known s.earlier s.accepts in
+        let same = same_place s.earlier earlier s.passed.import import s.later later (m ∙ sym n) (sym s.listed ∙ g) in
+        let covered = a.each start state gets.0 nothing_covers gets.1 in
+        let follows = subst (λ x. FollowsIfOk IsObject x state (step i state outcome)) s.passes (step_follows IsObject objects_grow policy limits i s.known state outcome covered (any_answer state.objects outcome)) in
+        subst (λ x. Asks x state (step i state outcome)) same (asks_so s.passed state (step i state outcome) follows)

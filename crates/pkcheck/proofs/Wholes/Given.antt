@@ -1,0 +1,119 @@
+-- What a reader gave or refused behind the instructions before, by whichever of its calls.
+use Rattle.std.proofs.Common.{◌≡◌, ℕ, suc, ◌+◌, true, false, List, [], ◌∷◌, ◌++◌, length, refl, sym, ap, subst, ◌∙◌, arith, Result, Ok, Err}
+use Rattle.std.specs.Prelude.{All, Bool, IsTrue, if◌then◌else◌}
+use Rattle.pkops.specs.Inst.{instruction_of}
+use Rattle.pkops.specs.Limits.{Bounds}
+use Rattle.pkops.specs.Payloads.{is_passed, is_passed_code, payload_limit, payload_limit_at}
+use Rattle.pkops.specs.Spelling.{Counted, Instruction, instruction, spelling}
+use Rattle.pkops.specs.declared.inst.Inst.{Inst}
+use Rattle.pkops.specs.declared.op.Op.{Op}
+use Rattle.pkops.specs.declared.op.Op.TheVariants as op
+use Rattle.pkread.specs.Admission.{IsAllowedBy}
+use Rattle.pkread.specs.Core.{Open, phase_after}
+use Rattle.pkread.specs.Heads.{IsPassed, StepsHead}
+use Rattle.pkread.specs.Reading.{Gives, State, Steps}
+use Rattle.pkread.specs.Rows.{Refuses, Sight, Takes}
+use Rattle.pkread.specs.Run.{HeadIsRead, HoldsTo, NextIsRead, PassedIsRead, PassesTo, Reads, ReadsMore, RefusalIsRead, RefusalOfHeads}
+use Rattle.pkread.specs.Sequence.{NoStop}
+use Rattle.pkread.specs.declared.reader.Head.{Head}
+use Rattle.pkread.specs.declared.reader.Head.TheVariants as head
+use Rattle.pkread.specs.declared.reader.Next.{Next}
+use Rattle.pkread.specs.declared.reader.Next.TheVariants as next
+use Rattle.pkread.specs.declared.refusal.Refusal.{Refusal}
+
+last_of : {X : Type 0} (P : X → Type 0) (xs : List X) (x : X) → All P (xs ++ x ∷ []) → P x
+last_of P [] x h = h 0 x (omega arith)
+last_of P (y ∷ xs) x h = last_of P xs x (λ k d lt. h (suc k) d (omega (arith, lt)))
+
+-- where payloads that are passed over have the limit of all others, that is the limit
+one_limit : (limits : Bounds) → limits.passed ≡ limits.counted → (passed : Bool) → (if passed then limits.passed else limits.counted) ≡ limits.counted
+one_limit limits e true = e
+one_limit limits e false = refl
+
+one_limit_at : (limits : Bounds) → limits.passed ≡ limits.counted → (b : List ℕ) → payload_limit_at limits b ≡ limits.counted
+one_limit_at limits e [] = refl
+one_limit_at limits e (code ∷ b) = one_limit limits e (is_passed_code code)
+
+module _ (start : Sight) (limits : Bounds) (p : List Instruction) (s : State) where
+  -- the bytes of this instruction were taken at the place
+  pub record Took (at : ℕ) (i : Instruction) (t : State) : Type 0 where
+    pub more : ReadsMore start (payload_limit limits) p i t
+    pub same_limits : t.limits ≡ s.limits
+    pub place : at ≡ s.taken
+    pub allowed : IsAllowedBy (payload_limit limits) i
+    pub bytes : Takes s.source t.source (spelling i)
+    pub taken : t.taken ≡ s.taken + length (spelling i)
+    pub phase : t.phase ≡ phase_after i.op
+
+  -- the payload of this opcode, with so many bytes, was passed over
+  pub record Passed (at : ℕ) (o : Op) (count : ℕ) (t : State) : Type 0 where
+    pub payload : List ℕ
+    pub one : IsPassed (payload_limit limits o) o count payload
+    pub took : Took at (instruction o (Counted payload)) t
+
+  -- these bytes were taken at the place, and refused
+  pub record Turned (r : Refusal) (t : State) : Type 0 where
+    pub no_stop : NoStop p
+    pub place : r.at ≡ s.taken
+    pub bytes : List ℕ
+    pub why : Refuses (payload_limit_at limits bytes) s.source t.source bytes s.taken t.taken r.reason
+
+  gave : (at : ℕ) (i : Instruction) (t : State) → t.limits ≡ s.limits → ReadsMore start (payload_limit limits) p i t × Gives s at i t → Took at i t
+  gave at i t same w = record {
+    more = w.0;
+    same_limits = same;
+    place = w.1.place;
+    allowed = last_of (IsAllowedBy (payload_limit limits)) p i w.0.reads.each;
+    bytes = w.1.bytes;
+    taken = w.1.taken;
+    phase = w.1.phase;
+  }
+
+  module _ (reads : Reads start (payload_limit limits) p s) (same : s.limits ≡ limits) (t : State) where
+    -- by `next`, which holds each payload, where there is one limit for all
+    module _ (one : limits.passed ≡ limits.counted) where
+      holds : HoldsTo s (payload_limit limits)
+      holds o = ap (λ l. l.counted) same ∙ sym (one_limit limits one (is_passed o))
+
+      pub took_next : NextIsRead → (r : Result Next Refusal) (at : ℕ) (i : Inst) → Steps s r t → r ≡ Ok (next.Inst at i) → Took at (instruction_of i) t
+      took_next law r at i k e = gave at (instruction_of i) t k.0 (law start (payload_limit limits) p s t r at i holds reads k e)
+
+      pub refused_next : RefusalIsRead → (r : Result Next Refusal) (x : Refusal) → Steps s r t → r ≡ Err x → Turned x t
+      refused_next law r x k e =
+          let w = law start (payload_limit limits) p s t r x reads k e in
+          let b = w.1.why.0 in
+          record { no_stop = w.0; place = w.1.place; bytes = b; why = subst (λ l. Refuses l s.source t.source b s.taken t.taken x.reason) (ap (λ l. l.counted) same ∙ sym (one_limit_at limits one b)) w.1.why.1 }
+
+    -- by `next_head`
+    passes : PassesTo s (payload_limit limits)
+    passes o = ap (λ l. payload_limit l o) same
+
+    pub took_head : HeadIsRead → (r : Result Head Refusal) (at : ℕ) (i : Inst) → StepsHead s r t → r ≡ Ok (head.Inst at i) → Took at (instruction_of i) t
+    took_head law r at i k e = gave at (instruction_of i) t k.0 (law start (payload_limit limits) p s t r at i passes reads k e)
+
+    open_after : (o : Op) → IsTrue (is_passed o) → Open ≡ phase_after o
+    open_after op.Stop h = cc
+    open_after _ h = refl
+
+    pub took_passed : PassedIsRead → (r : Result Head Refusal) (at : ℕ) (o : Op) (count : ℕ) → StepsHead s r t → r ≡ Ok (head.Passed at o count) → Passed at o count t
+    took_passed law r at o count k e =
+        let (payload, one, more, bytes, taken, g) = law start (payload_limit limits) p s t r at o count passes reads k e in
+        record {
+          payload = payload;
+          one = one;
+          took = record {
+            more = more;
+            same_limits = k.0;
+            place = g.place;
+            allowed = one.allowed;
+            bytes = bytes;
+            taken = taken;
+            phase = g.phase ∙ open_after o one.passed;
+          };
+        }
+
+    pub refused_head : RefusalOfHeads → (r : Result Head Refusal) (x : Refusal) → StepsHead s r t → r ≡ Err x → Turned x t
+    refused_head law r x k e =
+        let w = law start (payload_limit limits) p s t r x reads k e in
+        let b = w.1.why.0 in
+        record { no_stop = w.0; place = w.1.place; bytes = b; why = subst (λ l. Refuses (payload_limit_at l b) s.source t.source b s.taken t.taken x.reason) same w.1.why.1 }

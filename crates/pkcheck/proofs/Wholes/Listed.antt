@@ -1,0 +1,136 @@
+-- The imports of every run are those that the checker lists.
+use Rattle.std.proofs.Common.{◌≡◌, ℕ, Bool, true, false, List, [], ◌∷◌, ◌++◌, Option, Some, None, Result, Ok, Err, inl, inr, refl, sym, ap, subst, ◌∙◌, append-nil, append_assoc}
+use Rattle.pkcheck.specs.declared.machine.effects.Gives.{Gives}
+use Rattle.pkcheck.specs.declared.machine.effects.Names.{Names}
+use Rattle.pkcheck.specs.declared.machine.effects.Effect.{Effect}
+use Rattle.pkcheck.specs.declared.machine.effects.Effect.TheVariants.{Operates, Moves, Stops}
+use Rattle.pkcheck.specs.Effects.{effect_of}
+use Rattle.pkcheck.specs.Shape.{Breach, Shape, Taken, operands, moved}
+use Rattle.pkops.specs.Spelling.{Instruction}
+use Rattle.pkops.specs.Operands.{memo_number}
+use Rattle.pkcheck.specs.Runs.{State, Event, Outcome, Raise, Go, Stepped, WentOn, Raised, Stopped, Stuck, Named, NoImport, Pair, NotTexts, asks, come_of, operated, move_step, operate_step, perform, step, effect_asks}
+use Rattle.pkcheck.specs.Knowledge.{Knowledge, Policy, Asked, AskedPair, AskedUnknown, Progress, advance}
+use Rattle.pkops.specs.Limits.{Bounds}
+use Rattle.pkcheck.specs.Covers.{Pointwise, IsObject, imports_of, IsAsked, Adds}
+use Rattle.pkcheck.proofs.Covering.CoversBy.{any_answer, CoversBy, FollowsBy, FollowsIfOk, objects_grow}
+use Rattle.pkcheck.specs.Import.{asks_more}
+use Rattle.pkcheck.specs.WholeRuns.{Ended, first_outcome, outcomes_after, go_on, run, Sound, EndsWell, AllListed}
+use Rattle.pkcheck.proofs.Covering.Verdicts.{Yes, verdict, IsYes}
+use Rattle.pkcheck.specs.Runs.{start}
+use Rattle.pkcheck.specs.Knowledge.{nothing_known}
+use Rattle.pkcheck.proofs.Covering.Verdicts.{StopsLast}
+use Rattle.pkcheck.specs.Listing.{StandsFor, IsBeginning, ImportsAreListed, imports_among, permitted_by}
+use Rattle.pkcheck.proofs.Covering.Alike.{Pointwise-append}
+use Rattle.pkcheck.proofs.Covering.Following.{step_follows}
+use Rattle.pkcheck.proofs.Covering.Soundness.{emptied, imports_of-append, sound}
+use Rattle.pkcheck.proofs.Wholes.Walk.{verdict_first}
+
+-- only a STOP stops
+asked_stops : (b : Bool) (gives : Gives) (i : Instruction) (t : Taken ℕ) (o : Outcome) (r : ℕ) (s u : State) → come_of b gives i t o s ≡ Stopped r u → ⊥
+asked_stops true gives i t Raise r s u e = cc
+asked_stops true gives i t (Go n k) r s u e = cc
+asked_stops false gives i t o r s u e = cc
+
+operate_stops : (nm : Named) (gives : Gives) (i : Instruction) (t : Taken ℕ) (o : Outcome) (r : ℕ) (s u : State) → operated nm gives i t o s ≡ Stopped r u → ⊥
+operate_stops NoImport gives i t o r s u e = asked_stops (asks gives) gives i t o r s u e
+operate_stops (Pair a b) gives i t o r s u e = asked_stops (asks gives) gives i t o r _ u e
+operate_stops NotTexts gives i t o r s u e = cc
+
+next_stops : (names : Names) (gives : Gives) (i : Instruction) (o : Outcome) (r : ℕ) (s u : State) (y : Result (Taken ℕ) Breach) → operate_step names gives i o s y ≡ Stopped r u → ⊥
+next_stops names gives i o r s u (Ok t) e = operate_stops _ gives i t o r s u e
+next_stops names gives i o r s u (Err b) e = cc
+
+shape_stops : (r : ℕ) (s u : State) (y : Result (Shape ℕ) Breach) → move_step s y ≡ Stopped r u → ⊥
+shape_stops r s u (Ok h) e = cc
+shape_stops r s u (Err b) e = cc
+
+pub only_stop : (e : Effect) (i : Instruction) (r : ℕ) (s u : State) (o : Outcome) → perform e i s o ≡ Stopped r u → e ≡ Stops
+only_stop (Operates takes names gives) i r s u o h = absurd (next_stops names gives i o r s u (operands takes s.shape.entries) h)
+only_stop (Moves m) i r s u o h = absurd (shape_stops r s u (moved m (memo_number i) s.shape) h)
+only_stop Stops i r s u o h = refl
+
+stop_is_last : (i : Instruction) (is : List Instruction) → StopsLast (i ∷ is) → effect_of i.op ≡ Stops → is ≡ []
+stop_is_last i [] h e = refl
+stop_is_last i (j ∷ is) h e = absurd (h.0 e)
+
+after_first : (i : Instruction) (is : List Instruction) → StopsLast (i ∷ is) → StopsLast is
+after_first i [] h = tt
+after_first i (j ∷ is) h = h.1
+
+-- what is all is a beginning
+all_begins : (as' bs : List Asked) (ps : List (List ℕ × List ℕ)) → Pointwise StandsFor as' ps → IsBeginning (as' ++ bs) ps
+all_begins [] bs [] h = tt
+all_begins (a ∷ as') bs (p ∷ ps) h = (h.0, all_begins as' bs ps h.1)
+all_begins [] bs (p ∷ ps) h = absurd h
+all_begins (a ∷ as') bs [] h = tt
+
+asked_stands : (a : Option Asked) (as' : List Asked) (ps qs : List (List ℕ × List ℕ)) → Pointwise StandsFor as' ps → IsAsked a qs → Pointwise StandsFor (asks_more a as') (ps ++ qs)
+asked_stands None as' ps qs h e = subst (Pointwise StandsFor as') (sym (append-nil ps) ∙ ap (λ x. ps ++ x) (sym e)) h
+asked_stands (Some (AskedPair m n)) as' ps qs h e = Pointwise-append StandsFor as' ps (AskedPair m n ∷ []) qs h (subst (Pointwise StandsFor (AskedPair m n ∷ [])) (sym e) (refl, tt))
+asked_stands (Some AskedUnknown) as' ps qs h e = Pointwise-append StandsFor as' ps (AskedUnknown ∷ []) qs h (subst (Pointwise StandsFor (AskedUnknown ∷ [])) (sym e.2) (tt, tt))
+
+-- the imports of the events after, where those before are all listed
+adds_stands : (a : Option Asked) (as' : List Asked) (before after : List Event) → Pointwise StandsFor as' (imports_of before) → Adds a before after → Pointwise StandsFor (asks_more a as') (imports_of after)
+adds_stands a as' before after h g =
+    subst (λ es. Pointwise StandsFor (asks_more a as') (imports_of es)) (sym g.grown) (subst (Pointwise StandsFor (asks_more a as')) (sym (imports_of-append before g.added)) (asked_stands a as' (imports_of before) (imports_of g.added) h g.asked))
+
+more_among : (a : Option Asked) (as' : List Asked) (asked : List (Option Asked)) → asks_more a as' ++ imports_among asked ≡ as' ++ imports_among (a ∷ asked)
+more_among None as' asked = refl
+more_among (Some a) as' asked = append_assoc as' (a ∷ []) (imports_among asked)
+
+module _ (p : Policy) (l : Bounds) where
+  step_listed : (q : Progress) (s : State) (st : Stepped) (done : List Asked) (rest : List (Option Asked)) (f : State → Ended) → FollowsBy IsObject q s st → Pointwise StandsFor done (imports_of s.events) → ((r : ℕ) (t : State) → st ≡ Stopped r t → rest ≡ []) → ((t : State) → CoversBy IsObject q.after t → Pointwise StandsFor (asks_more q.import done) (imports_of t.events) → ImportsAreListed (asks_more q.import done ++ imports_among rest) (f t)) → ImportsAreListed (done ++ imports_among (q.import ∷ rest)) (go_on st f)
+  step_listed q s (WentOn t) done rest f g h last on = subst (λ x. ImportsAreListed x (f t)) (more_among q.import done rest) (on t g.0 (adds_stands q.import done s.events t.events h g.1))
+  step_listed q s (Raised t) done rest f (inl g) h last on = subst (λ x. IsBeginning x (imports_of t.events)) (more_among q.import done rest) (all_begins (asks_more q.import done) (imports_among rest) (imports_of t.events) (adds_stands q.import done s.events t.events h g))
+  step_listed q s (Raised t) done rest f (inr g) h last on = all_begins done _ (imports_of t.events) (adds_stands None done s.events t.events h g.1)
+  step_listed q s (Stopped r t) done rest f g h last on =
+      subst (λ x. Pointwise StandsFor (done ++ imports_among (q.import ∷ x)) (imports_of t.events)) (sym (last r t refl))
+      (subst (λ x. Pointwise StandsFor (done ++ imports_among (x ∷ [])) (imports_of t.events)) (sym g.3)
+      (subst (λ x. Pointwise StandsFor (done ++ []) (imports_of x)) (sym g.4) (subst (λ x. Pointwise StandsFor x (imports_of s.events)) (sym (append-nil done)) h)))
+  step_listed q s (Stuck b) done rest f g h last on = absurd g
+
+  none_left : (is : List Instruction) (k known : Knowledge) (asked : List (Option Asked)) → is ≡ [] → verdict p l is k ≡ Yes known asked → asked ≡ []
+  none_left [] k known asked e h = cc
+  none_left (i ∷ is) k known asked e h = cc
+
+  listed_from : (is : List Instruction) (k known : Knowledge) (asked : List (Option Asked)) (done : List Asked) (s : State) (os : List Outcome) → StopsLast is → verdict p l is k ≡ Yes known asked → CoversBy IsObject k s → Pointwise StandsFor done (imports_of s.events) → ImportsAreListed (done ++ imports_among asked) (run is os s)
+  listed_from [] k known asked done s os last e c h = all_begins done (imports_among asked) (imports_of s.events) h
+  listed_from (i ∷ is) k known asked done s os last e c h =
+      let f = verdict_first (advance p l i k) (verdict p l is) known asked e in
+      let st = step i s (first_outcome os) in
+      let w : FollowsBy IsObject f.passed s st = subst (λ x. FollowsIfOk IsObject x s st) f.passes (step_follows IsObject objects_grow p l i k s (first_outcome os) c (any_answer s.objects (first_outcome os))) in
+      subst (λ x. ImportsAreListed (done ++ imports_among x) (go_on st (run is (outcomes_after (effect_asks (effect_of i.op)) os)))) (sym f.rest.first)
+      (step_listed f.passed s st done f.rest.listed (run is (outcomes_after (effect_asks (effect_of i.op)) os)) w h
+      (λ r t g. none_left is f.passed.after known f.rest.listed (stop_is_last i is last (only_stop (effect_of i.op) i r s t (first_outcome os) g)) f.rest.accepts)
+      (λ t d g. listed_from is f.passed.after known f.rest.listed (asks_more f.passed.import done) t _ (after_first i is last) f.rest.accepts d g))
+
+  -- in every run the imports are a beginning of those listed, and all of them where it stopped
+  pub listed : (is : List Instruction) (known : Knowledge) (asked : List (Option Asked)) → StopsLast is → verdict p l is nothing_known ≡ Yes known asked → (os : List Outcome) → ImportsAreListed (imports_among asked) (run is os start)
+  listed is known asked last e os = listed_from is nothing_known known asked [] start os last e (record { entries = tt; memo = tt }) tt
+
+-- any pair is on the list of all pairs
+abbrev any_pair : List ℕ → List ℕ → Bool
+any_pair m n = true
+
+any_listed : (ps : List (List ℕ × List ℕ)) → AllListed any_pair ps
+any_listed [] = tt
+any_listed (p ∷ ps) = (refl, any_listed ps)
+
+step_fine : (q : Progress) (s : State) (st : Stepped) (f : State → Ended) → FollowsBy IsObject q s st → ((t : State) → CoversBy IsObject q.after t → EndsWell any_pair (f t)) → EndsWell any_pair (go_on st f)
+step_fine q s (WentOn t) f g on = on t g.0
+step_fine q s (Raised t) f g on = any_listed (imports_of t.events)
+step_fine q s (Stopped r t) f g on = (emptied q.after.entries t.shape.entries _ g.1 g.2.entries, any_listed (imports_of t.events))
+step_fine q s (Stuck b) f g on = absurd g
+
+fine_from : (l : Bounds) (is : List Instruction) (k known : Knowledge) (asked : List (Option Asked)) (s : State) (os : List Outcome) → verdict None l is k ≡ Yes known asked → CoversBy IsObject k s → EndsWell any_pair (run is os s)
+fine_from l [] k known asked s os e c = any_listed (imports_of s.events)
+fine_from l (i ∷ is) k known asked s os e c =
+    let f = verdict_first (advance None l i k) (verdict None l is) known asked e in
+    let st = step i s (first_outcome os) in
+    let w : FollowsBy IsObject f.passed s st = subst (λ x. FollowsIfOk IsObject x s st) f.passes (step_follows IsObject objects_grow None l i k s (first_outcome os) c (any_answer s.objects (first_outcome os))) in
+    step_fine f.passed s st (run is _) w (λ t d. fine_from l is f.passed.after known f.rest.listed t _ f.rest.accepts d)
+
+-- a yes is sound, whatever the policy
+pub sound_by : (p : Policy) (l : Bounds) (is : List Instruction) (known : Knowledge) (asked : List (Option Asked)) → verdict p l is nothing_known ≡ Yes known asked → Sound is (permitted_by p)
+sound_by None l is known asked e = λ os. fine_from l is nothing_known known asked start os e (record { entries = tt; memo = tt })
+sound_by (Some list) l is known asked e = sound list l is (subst IsYes (sym e) tt)

@@ -1,0 +1,43 @@
+use Rattle.std.proofs.Common.{[], ◌∷◌, ◌++◌, ◌∙◌, length, refl, subst, sym}
+use Rattle.pkcheck.specs.Private.Noted.{IsNamedIf, Noted, entry_asked}
+use Rattle.pkcheck.proofs.Noting.{are_grown, are_more, asked_grown, map_more}
+use Rattle.pkcheck.proofs.Resolving.{same_table}
+use Rattle.pkcheck.proofs.machine.ledger.Ledger.list.Goals as goal
+
+pub invariant_of-self : goal.invariant_of-self
+invariant_of-self c = are_grown c.self.inside.texts c.self.inside.texts c.self.inside.written c.enter.new.written (same_table c.self.inside.texts) c.enter.ensures.grows c.self.inside.entries.items c.self.invariant
+
+pub returns-in-Err-clause-err : goal.returns-in-Err-clause-err
+returns-in-Err-clause-err c =
+    let same = asked_grown c.self.inside.texts c.self.inside.texts c.self.inside.written c.enter.new.written (same_table c.self.inside.texts) c.enter.ensures.grows c.self.inside.entries.items c.self.invariant in (
+      rw (← c.self.view_is) (λ i. record { texts = c.self.inside.texts; asked = same i }),
+      rw c.in-Some.is refl,
+      c.in-Err.ensures.err,
+    )
+
+pub invariant_of-self-in_default-push : goal.invariant_of-self-in_default-push
+invariant_of-self-in_default-push c = rw c.in_default-push.ensures.items (are_grown c.self.inside.texts c.self.inside.texts c.self.inside.written c.enter.new.written (same_table c.self.inside.texts) c.enter.ensures.grows c.self.inside.entries.items c.self.invariant)
+
+pub returns-in_default-push-clause-err : goal.returns-in_default-push-clause-err
+returns-in_default-push-clause-err c =
+    let same = asked_grown c.self.inside.texts c.self.inside.texts c.self.inside.written c.enter.new.written (same_table c.self.inside.texts) c.enter.ensures.grows c.self.inside.entries.items c.self.invariant in (
+      rw (← c.self.view_is, c.in_default-push.ensures.items) (λ i. record { texts = c.self.inside.texts; asked = same i }),
+      rw c.in-Some.is refl,
+      refl,
+    )
+
+pub invariant_of-self-2 : goal.invariant_of-self-2
+invariant_of-self-2 c =
+    let is = subst (λ (n : Noted). IsNamedIf (length n.texts) c.args.named) (sym c.self.view_is) c.requires in
+    let named = subst (IsNamedIf (length c.self.inside.texts)) c.in-Some.is is in
+    let before = are_grown c.self.inside.texts c.self.inside.texts c.self.inside.written c.enter.new.written (same_table c.self.inside.texts) c.enter.ensures.grows c.self.inside.entries.items c.self.invariant in
+    rw c.in-Ok-push.ensures.items (are_more (length c.self.inside.texts) (length c.enter.new.written) c.self.inside.entries.items c.in-Ok.entry before ((c.in-Ok.ensures.ok c.self.inside.texts).1 named))
+
+pub returns-clause-ok : goal.returns-clause-ok
+returns-clause-ok c =
+    let same = asked_grown c.self.inside.texts c.self.inside.texts c.self.inside.written c.enter.new.written (same_table c.self.inside.texts) c.enter.ensures.grows c.self.inside.entries.items c.self.invariant in
+    let more = map_more (entry_asked c.self.inside.texts c.enter.new.written) c.self.inside.entries.items c.in-Ok.entry in
+    let asks = (c.in-Ok.ensures.ok c.self.inside.texts).0 in (
+      rw (← c.self.view_is, c.in-Ok-push.ensures.items, c.in-Some.is) (λ i. record { texts = c.self.inside.texts; asked = (more ∙ (λ j. same j ++ asks j ∷ [])) i }),
+      rw c.in-Some.is refl,
+    )

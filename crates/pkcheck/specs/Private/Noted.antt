@@ -1,0 +1,52 @@
+-- What a ledger holds: the texts that a pickle made, and the imports that it asked for.
+use Rattle.std.specs.Prelude.{ℕ, ◌<◌, List, [], ◌∷◌, Option, Some, None, get_or, ⊤}
+use Rattle.pkcheck.specs.declared.import.Named.{Named}
+use Rattle.pkcheck.specs.declared.import.Named.TheVariants as named
+use Rattle.pkcheck.specs.declared.machine.ledger.Entry.{Entry}
+use Rattle.pkcheck.specs.declared.machine.ledger.Entry.TheVariants as entry
+use Rattle.pkcheck.specs.declared.machine.value.Value.{Value}
+use Rattle.pkcheck.specs.Knowledge.{Asked, AskedPair, AskedUnknown}
+use Rattle.pkcheck.specs.Private.Slots.{IsNumbered}
+
+-- the texts, and the imports in order
+pub record Noted : Type 0 where
+  pub texts : List (List ℕ)
+  pub asked : List Asked
+
+-- what an import names, by the texts
+abbrev pub named_asked : List (List ℕ) → Named → Asked
+named_asked ts named.Unknown = AskedUnknown
+named_asked ts (named.Made m n) = AskedPair (get_or ts m []) (get_or ts n [])
+named_asked ts (named.Written m n) = AskedPair m.now n.now
+
+-- it names no text past the last of so many
+abbrev pub IsNamed : ℕ → Named → Type 0
+IsNamed count (named.Made m n) = (m < count) × (n < count)
+IsNamed count name = ⊤
+
+-- the same, where there is one
+abbrev pub IsNamedIf : ℕ → Option Named → Type 0
+IsNamedIf count (Some name) = IsNamed count name
+IsNamedIf count None = ⊤
+
+-- an entry, by the texts and by the names that were written out
+abbrev pub entry_asked : List (List ℕ) → List (List ℕ) → Entry → Asked
+entry_asked ts ws entry.Unknown = AskedUnknown
+entry_asked ts ws (entry.Made m n) = AskedPair (get_or ts m []) (get_or ts n [])
+entry_asked ts ws (entry.Written m n) = AskedPair (get_or ws m []) (get_or ws n [])
+
+-- it names no text past the last of so many, and no name past the last of so many
+abbrev pub IsEntry : ℕ → ℕ → Entry → Type 0
+IsEntry made written entry.Unknown = ⊤
+IsEntry made written (entry.Made m n) = (m < made) × (n < made)
+IsEntry made written (entry.Written m n) = (m < written) × (n < written)
+
+-- none of these does
+abbrev pub AreEntries : ℕ → ℕ → List Entry → Type 0
+AreEntries made written [] = ⊤
+AreEntries made written (e ∷ es) = IsEntry made written e × AreEntries made written es
+
+-- none of these objects is a text past the last of so many
+abbrev pub AreNumbered : ℕ → List Value → Type 0
+AreNumbered count [] = ⊤
+AreNumbered count (v ∷ vs) = IsNumbered count v × AreNumbered count vs

@@ -1,0 +1,191 @@
+//! The texts that a pickle made, and the imports that it asked for, which name them by number.
+ghost use Rattle.std.specs.List.{slice_get};
+ghost use Rattle.std.specs.Prelude.{◌≡◌, ℕ, List, ◌∷◌, ◌++◌, [], length, take, get_or, is_some};
+ghost use Rattle.std.specs.Prelude.{map, option_map, IfOk, IfErr, IsSome, OnErr, OnOk};
+ghost use Rattle.pkcheck.specs.Import.{asks_more, import_shown};
+ghost use Rattle.pkcheck.specs.Knowledge.{AskedPair};
+ghost use Rattle.pkcheck.specs.Private.Noted.{IsEntry, IsNamed, IsNamedIf, entry_asked};
+ghost use Rattle.pkcheck.specs.Private.Noted.{named_asked};
+ghost use Rattle.pkcheck.specs.Private.Slots.{Grows};
+ghost use Rattle.pkcheck.specs.Runs.{text};
+ghost use Rattle.pkops.specs.Inst.{instruction_of};
+
+use crate::import::{Import, Named};
+use crate::machine::texts::Texts;
+use pkops::Inst;
+use pkread::Reason;
+use std::alloc::{AllocError, Global};
+use std::marker::Model;
+
+/// An import that is listed.
+#[derive(Clone, Copy, Debug)]
+pub enum Entry {
+    /// Its pair is not known.
+    Unknown,
+    /// The module and the name are texts of these numbers.
+    Made(u32, u32),
+    /// The module and the name were written out under these numbers.
+    Written(u32, u32),
+}
+
+/// The texts that a pickle made, and the imports that it asked for. An import takes the memory of
+/// an entry; of a pair that an instruction spells, the names besides, which the pickle spells too.
+#[derive(Debug, Drop)]
+pub struct Ledger {
+    texts: Texts,
+    /// The names that stand in no text.
+    written: Texts,
+    entries: Vec<Entry>,
+}
+
+impl Model for Ledger {
+    ghost use Rattle.std.specs.Prelude.{length, map};
+    ghost use Rattle.pkcheck.specs.Private.Noted.{AreEntries, Noted, entry_asked};
+
+    ghost Value = { Noted };
+
+    ghost view = { λ l. record {
+      texts = l.texts;
+      asked = map (entry_asked l.texts l.written) l.entries.items;
+    } };
+
+    ghost invariant = { λ l. AreEntries (length l.texts) (length l.written) l.entries.items };
+}
+
+impl Ledger {
+    /// No texts, and no imports. It takes no memory.
+    pub fn new(alloc: Global) -> Ledger
+        ensures { result ≡ record { texts = []; asked = [] } }
+    {
+        Ledger {
+            texts: Texts::new(alloc),
+            written: Texts::new(alloc),
+            entries: Vec::new(alloc),
+        }
+    }
+
+    /// How many texts there are.
+    #[inline]
+    pub fn texts(&self) -> usize
+        ensures { result ≡ length self.now.texts }
+    {
+        self.texts.len()
+    }
+
+    /// The text of a number, and the empty text past the last.
+    pub fn text(&self, number: u32) -> &str
+        ensures { result.now ≡ get_or self.now.texts number [] }
+    {
+        self.texts.get(number as usize)
+    }
+
+    /// Puts the text of an instruction behind the others.
+    #[inline]
+    pub fn add_text(&mut self, alloc: Global, inst: &Inst<'_>) -> Result<(), AllocError>
+        ensures ok { OnOk result (self.new ≡ record {
+          texts = self.old.texts ++ text (instruction_of inst.now) ∷ [];
+          asked = self.old.asked;
+        }) }
+        ensures err { OnErr result (self.new ≡ self.old) }
+    {
+        self.texts.add(alloc, inst)
+    }
+
+    /// How many imports are listed.
+    pub fn len(&self) -> usize
+        ensures { result ≡ length self.now.asked }
+    {
+        self.entries.len()
+    }
+
+    /// The import of a number, counted from 0.
+    pub fn get(&self, number: usize) -> Option<Import<'_>>
+        ensures { option_map import_shown result ≡ slice_get self.now.asked number }
+    {
+        match self.entries.get(number) {
+            None => None,
+            Some(entry) => Some(shown(&self.texts, &self.written, *entry)),
+        }
+    }
+
+    /// Lists an import, if there is one.
+    pub fn list(&mut self, named: Option<Named<'_>>) -> Result<bool, Reason>
+        requires { IsNamedIf (length self.old.texts) named }
+        ensures ok { IfOk result (λ b. (self.new ≡ record {
+          texts = self.old.texts;
+          asked = asks_more (option_map (named_asked self.old.texts) named.entry) self.old.asked;
+        }) × (b ≡ is_some named.entry)) }
+        ensures err { IfErr result (λ r. (self.new ≡ self.old) × IsSome named.entry
+            × (r ≡ Reason.OutOfMemory)) }
+    {
+        let Some(name) = named else {
+            return Ok(false);
+        };
+        let entry = match enter(&mut self.written, name) {
+            Ok(entry) => entry,
+            Err(reason) => return Err(reason),
+        };
+        let Ok(()) = self.entries.push(entry) else {
+            return Err(Reason::OutOfMemory);
+        };
+        Ok(true)
+    }
+
+    /// Takes all imports but the first so many off the list.
+    pub fn keep(&mut self, count: usize)
+        ensures { self.new ≡ record { texts = self.old.texts; asked = take count self.old.asked } }
+    {
+        self.entries.truncate(count);
+    }
+}
+
+/// What an entry says.
+fn shown<'a>(texts: &'a Texts, written: &'a Texts, entry: Entry) -> Import<'a>
+    ensures { import_shown result ≡ entry_asked texts.now written.now entry }
+{
+    match entry {
+        Entry::Unknown => Import::Unknown,
+        Entry::Made(first, second) => Import::Pair {
+            module: texts.get(first as usize),
+            name: texts.get(second as usize),
+        },
+        Entry::Written(first, second) => Import::Pair {
+            module: written.get(first as usize),
+            name: written.get(second as usize),
+        },
+    }
+}
+
+/// The entry of an import. Names that stand in no text are written out.
+fn enter(written: &mut Texts, named: Named<'_>) -> Result<Entry, Reason>
+    ensures grows { Grows written.old written.new }
+    ensures ok { (ts : List (List ℕ)) → IfOk result (λ e. (entry_asked ts written.new e
+        ≡ named_asked ts named.entry) × (IsNamed (length ts) named.entry
+        → IsEntry (length ts) (length written.new) e)) }
+    ensures err { IfErr result (λ r. r ≡ Reason.OutOfMemory) }
+{
+    match named {
+        Named::Unknown => Ok(Entry::Unknown),
+        Named::Made(first, second) => Ok(Entry::Made(first, second)),
+        Named::Written(module_name, name) => {
+            let first = write(written, module_name)?;
+            let second = write(written, name)?;
+            Ok(Entry::Written(first, second))
+        }
+    }
+}
+
+/// Writes a name out, and gives its number.
+fn write(written: &mut Texts, name: &str) -> Result<u32, Reason>
+    ensures ok { IfOk result (λ n. (n ≡ length written.old)
+        × (written.new ≡ written.old ++ name.now ∷ [])) }
+    ensures err { IfErr result (λ r. (written.new ≡ written.old) × (r ≡ Reason.OutOfMemory)) }
+{
+    let Ok(number) = u32::try_from(written.len()) else {
+        return Err(Reason::OutOfMemory);
+    };
+    let Ok(()) = written.put(name) else {
+        return Err(Reason::OutOfMemory);
+    };
+    Ok(number)
+}

@@ -1,0 +1,49 @@
+-- Numbers for C, which are frozen.
+use Rattle.std.specs.Prelude.{ℕ}
+use Rattle.pkread.specs.declared.refusal.Reason.{Reason}
+use Rattle.pkread.specs.declared.refusal.Reason.TheVariants as reason
+use Rattle.pkcheck.specs.declared.allow.error.AllowError.{AllowError}
+use Rattle.pkcheck.specs.declared.allow.error.AllowError.TheVariants as fault
+use Rattle.pkcheck.specs.declared.allow.error.Where.TheVariants as part
+
+-- each reason has a number of its own, from 1 on
+abbrev pub reason_code : Reason → ℕ
+reason_code reason.Source = 1
+reason_code reason.Truncated = 2
+reason_code (reason.UnknownOpcode code) = 3
+reason_code reason.BadArgument = 4
+reason_code reason.TooLarge = 5
+reason_code reason.ExtensionCode = 6
+reason_code (reason.UnsupportedProtocol version) = 7
+reason_code reason.BrokenFrame = 8
+reason_code reason.MissingMark = 9
+reason_code reason.MissingItem = 10
+reason_code (reason.MissingMemo number) = 11
+reason_code reason.OddItems = 12
+reason_code reason.WrongClass = 13
+reason_code reason.NotText = 14
+reason_code reason.UnknownImport = 15
+reason_code reason.ImportOffList = 16
+reason_code reason.LeftOver = 17
+reason_code reason.OutOfMemory = 18
+
+-- its number: a code byte, a protocol or a memo number, and else 0
+abbrev pub reason_number : Reason → ℕ
+reason_number (reason.UnknownOpcode code) = code
+reason_number (reason.UnsupportedProtocol version) = version
+reason_number (reason.MissingMemo number) = number
+reason_number _ = 0
+
+-- each error of a list has a number of its own, from 1 on
+abbrev pub fault_code : AllowError → ℕ
+fault_code fault.Syntax = 1
+fault_code (fault.Shape part.Version) = 2
+fault_code (fault.Shape part.TopKey) = 3
+fault_code (fault.Shape part.Imports) = 4
+fault_code (fault.Shape part.Module) = 5
+fault_code (fault.Shape part.Name) = 6
+fault_code fault.Version = 7
+fault_code fault.OutOfMemory = 8
+fault_code (fault.Shape part.Limits) = 9
+fault_code (fault.Shape part.LimitKey) = 10
+fault_code (fault.Shape part.Limit) = 11

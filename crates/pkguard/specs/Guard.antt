@@ -1,0 +1,119 @@
+-- What a verdict for C says.
+use Rattle.std.specs.Prelude.{◌≡◌, ◌++◌, ◌⊎◌, ℕ, List, length, drop, leb, if◌then◌else◌, codes, Option, Some, Ok, Err}
+use Rattle.std.specs.Str.{IsUtf8}
+use Rattle.toml.specs.Data.{Members, get_member}
+use Rattle.pkops.specs.Limits.{Bounds}
+use Rattle.pkread.specs.Rows.{Sight}
+use Rattle.pkread.specs.declared.refusal.Reason.{Reason}
+use Rattle.pkcheck.specs.Knowledge.{Policy, Asked, AskedPair}
+use Rattle.pkcheck.specs.ListFile.{limits_in, list_of, lists_in}
+use Rattle.pkcheck.specs.Accepted.{Accepted}
+use Rattle.pkcheck.specs.Refused.{Refused}
+use Rattle.pkcheck.specs.declared.allow.error.AllowError.{AllowError}
+use Rattle.pkcheck.specs.declared.allow.error.AllowError.TheVariants.{Syntax, OutOfMemory}
+use Rattle.pkguard.specs.declared.verdict.Verdict.{Verdict}
+use Rattle.pkguard.specs.Codes.{reason_code, reason_number, fault_code}
+
+-- bytes in memory, as a source
+abbrev pub memory : List ℕ → Sight
+memory bytes = record { left = Some bytes; failures = 0 }
+
+-- the verdict of a yes
+abbrev pub verdict_of_yes : (taken imports : ℕ) → Verdict
+verdict_of_yes taken imports = record {
+  status = 0;
+  reason = 0;
+  number = 0;
+  has_pair = 0;
+  at = 0;
+  taken = taken;
+  imports = imports;
+  module_length = 0;
+  name_length = 0;
+}
+
+-- the verdict of a no with a pair, of which C is told the lengths of the names
+abbrev no_with : ℕ → Reason → (has_pair module_length name_length : ℕ) → Verdict
+no_with at reason has_pair module_length name_length = record {
+  status = 1;
+  reason = reason_code reason;
+  number = reason_number reason;
+  has_pair = has_pair;
+  at = at;
+  taken = 0;
+  imports = 0;
+  module_length = module_length;
+  name_length = name_length;
+}
+
+-- the verdict of a no
+abbrev pub verdict_of_no : ℕ → Reason → Option Asked → Verdict
+verdict_of_no at reason (Some (AskedPair module_name name)) =
+    no_with at reason 1 (length module_name) (length name)
+verdict_of_no at reason _ = no_with at reason 0 0 0
+
+-- the verdict where the list can't be read
+abbrev pub verdict_of_fault : AllowError → Verdict
+verdict_of_fault error = record {
+  status = 2;
+  reason = fault_code error;
+  number = 0;
+  has_pair = 0;
+  at = 0;
+  taken = 0;
+  imports = 0;
+  module_length = 0;
+  name_length = 0;
+}
+
+-- bytes at the front of the room, if they fit, and else the room as it was
+abbrev pub placed : List ℕ → List ℕ → List ℕ
+placed bytes room =
+    if leb (length bytes) (length room) then bytes ++ drop (length bytes) room else room
+
+-- the names of a pair at the front of the room, one behind the other
+abbrev pub names_placed : Option Asked → List ℕ → List ℕ
+names_placed (Some (AskedPair module_name name)) room = placed (module_name ++ name) room
+names_placed _ room = room
+
+-- the pickle at the front of the bytes is accepted
+pub record IsYes (policy : Policy) (limits : Bounds) (pickle before after : List ℕ) (verdict : Verdict) : Type 0 where
+  pub rest : List ℕ
+  pub imports : List Asked
+  pub accepted : Accepted policy limits (memory pickle) (memory rest) verdict.taken imports
+  pub told : verdict ≡ verdict_of_yes verdict.taken (length imports)
+  pub room : after ≡ before
+
+-- the pickle at the front of the bytes is refused, at a place and for a reason; the names of the
+-- pair that is off the list are in the room
+pub record IsNo (policy : Policy) (limits : Bounds) (pickle before after : List ℕ) (verdict : Verdict) : Type 0 where
+  pub rest : List ℕ
+  pub why : Reason
+  pub pair : Option Asked
+  pub refused : Refused policy limits (memory pickle) (memory rest) verdict.at why pair
+  pub told : verdict ≡ verdict_of_no verdict.at why pair
+  pub room : after ≡ names_placed pair before
+
+-- the bytes are no list, for this error: they are not UTF-8, or the text breaks a rule; or memory
+-- ran out
+abbrev pub IsNoList : List ℕ → AllowError → Type 0
+IsNoList bytes error =
+    ((IsUtf8 bytes → ⊥) × (error ≡ Syntax))
+    ⊎ ((list_of bytes ≡ Err error) ⊎ (error ≡ OutOfMemory))
+
+-- the list can't be read
+pub record IsFault (list before after : List ℕ) (verdict : Verdict) : Type 0 where
+  pub error : AllowError
+  pub fault : IsNoList list error
+  pub told : verdict ≡ verdict_of_fault error
+  pub room : after ≡ before
+
+-- a list permits its pairs
+abbrev pub policy_in : Members → Policy
+policy_in document = Some (lists_in (get_member (codes "imports") document))
+
+-- the bytes are a list, and this holds under its pairs and its limits
+abbrev pub Under : List ℕ → (Policy → Bounds → Type 0) → Type 0
+Under list P =
+    (document : Members) × (list_of list ≡ Ok document)
+    × P (policy_in document) (limits_in (get_member (codes "limits") document))

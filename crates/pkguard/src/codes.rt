@@ -1,0 +1,64 @@
+//! Numbers for C. They are frozen: a program in C was compiled with them. A new reason or fault
+//! gets the next number, whatever its place in the order.
+ghost use Rattle.std.specs.Prelude.{◌≡◌};
+ghost use Rattle.pkguard.specs.Codes.{fault_code, reason_code, reason_number};
+
+use pkcheck::{AllowError, Where};
+use pkread::Reason;
+
+/// The number of a reason.
+pub fn reason_code(reason: Reason) -> u32
+    ensures { result ≡ reason_code reason }
+{
+    match reason {
+        Reason::Source => 1,
+        Reason::Truncated => 2,
+        Reason::UnknownOpcode(_) => 3,
+        Reason::BadArgument => 4,
+        Reason::TooLarge => 5,
+        Reason::ExtensionCode => 6,
+        Reason::UnsupportedProtocol(_) => 7,
+        Reason::BrokenFrame => 8,
+        Reason::MissingMark => 9,
+        Reason::MissingItem => 10,
+        Reason::MissingMemo(_) => 11,
+        Reason::OddItems => 12,
+        Reason::WrongClass => 13,
+        Reason::NotText => 14,
+        Reason::UnknownImport => 15,
+        Reason::ImportOffList => 16,
+        Reason::LeftOver => 17,
+        Reason::OutOfMemory => 18,
+    }
+}
+
+/// The code byte, the protocol or the memo number that a reason holds, and else 0.
+pub fn reason_number(reason: Reason) -> u32
+    ensures { result ≡ reason_number reason }
+{
+    match reason {
+        Reason::UnknownOpcode(code) => u32::from(code),
+        Reason::UnsupportedProtocol(version) => u32::from(version),
+        Reason::MissingMemo(number) => number,
+        _ => 0,
+    }
+}
+
+/// The number of a list's fault.
+pub fn fault_code(error: AllowError) -> u32
+    ensures { result ≡ fault_code error }
+{
+    match error {
+        AllowError::Syntax => 1,
+        AllowError::Shape(Where::Version) => 2,
+        AllowError::Shape(Where::TopKey) => 3,
+        AllowError::Shape(Where::Imports) => 4,
+        AllowError::Shape(Where::Module) => 5,
+        AllowError::Shape(Where::Name) => 6,
+        AllowError::Version => 7,
+        AllowError::OutOfMemory => 8,
+        AllowError::Shape(Where::Limits) => 9,
+        AllowError::Shape(Where::LimitKey) => 10,
+        AllowError::Shape(Where::Limit) => 11,
+    }
+}

@@ -1,0 +1,102 @@
+//! The checker for C: a static library, whose functions check a pickle that lies in memory.
+//!
+//! `python/storklocker/storklocker.h` declares them for C. None wants anything of its arguments
+//! that C's types don't say, so none has a `requires`. Nothing is kept between calls and nothing is
+//! to be freed, so any number of threads may call, and share pairs, lists and settings.
+#![tactic(auto)]
+
+mod codes;
+mod list;
+mod settings;
+mod verdict;
+
+ghost use Rattle.std.specs.Prelude.{◌≡◌, ◌≤◌, Some};
+ghost use Rattle.pkops.specs.Limits.{greatest};
+ghost use Rattle.pkcheck.specs.Import.{policy_of};
+ghost use Rattle.pkcheck.specs.Pairs.{have};
+ghost use Rattle.pkguard.specs.Guard.{IsFault, IsNo, IsYes, Under};
+ghost use Rattle.pkguard.specs.Settings.{limits_within};
+
+use pkcheck::{Pair, Policy, check};
+use pkops::Limits;
+use pkread::Memory;
+pub use settings::Settings;
+use std::alloc::Global;
+pub use verdict::Verdict;
+
+/// Checks the pickle at the front of some bytes under pairs of a module and a name, and gives the
+/// status, which also stands in the verdict.
+///
+/// Of pairs in order, by module and then by name, a listed one is found in logarithmic time; in any
+/// other order the answer is the same. `room` gets the two names of a refused pair, one behind the
+/// other, where it has room for both, and stays as it is where it hasn't.
+#[unsafe(no_mangle)]
+pub extern "C" fn storklocker_check_pairs(
+    alloc: Global,
+    pairs: &[Pair<'_>],
+    settings: &Settings,
+    pickle: &[u8],
+    room: &mut [u8],
+    out: &mut Verdict,
+) -> u32
+    ensures status { result ≡ out.new.status }
+    ensures bound { out.new.status ≤ 1 }
+    ensures yes { out.new.status ≡ 0 → IsYes (Some (have pairs.now))
+        (limits_within greatest settings.now) pickle.now room.old room.new out.new }
+    ensures no { out.new.status ≡ 1 → IsNo (Some (have pairs.now))
+        (limits_within greatest settings.now) pickle.now room.old room.new out.new }
+{
+    let limits = settings::limits_of(settings, &Limits::GREATEST);
+    *out = answered(alloc, &Policy::Pairs(pairs), &limits, pickle, room);
+    out.status
+}
+
+/// The same under the text of a list file, which is read anew at each call. Its limits hold as well
+/// as the settings: each limit is the smaller of the two.
+#[unsafe(no_mangle)]
+pub extern "C" fn storklocker_check_list(
+    alloc: Global,
+    list: &[u8],
+    settings: &Settings,
+    pickle: &[u8],
+    room: &mut [u8],
+    out: &mut Verdict,
+) -> u32
+    ensures status { result ≡ out.new.status }
+    ensures bound { out.new.status ≤ 2 }
+    ensures yes { out.new.status ≡ 0 → Under list.now (λ policy limits. IsYes policy
+        (limits_within limits settings.now) pickle.now room.old room.new out.new) }
+    ensures no { out.new.status ≡ 1 → Under list.now (λ policy limits. IsNo policy
+        (limits_within limits settings.now) pickle.now room.old room.new out.new) }
+    ensures fault { out.new.status ≡ 2 → IsFault list.now room.old room.new out.new }
+{
+    *out = match list::list_from(alloc, list) {
+        Err(error) => verdict::of_fault(error),
+        Ok(allow) => {
+            let limits = settings::limits_of(settings, &allow.limits());
+            answered(alloc, &Policy::Listed(&allow), &limits, pickle, room)
+        }
+    };
+    out.status
+}
+
+/// What `check` answers.
+fn answered(
+    alloc: Global,
+    policy: &Policy<'_>,
+    limits: &Limits,
+    pickle: &[u8],
+    room: &mut [u8],
+) -> Verdict
+    ensures bound { result.status ≤ 1 }
+    ensures yes { result.status ≡ 0
+        → IsYes (policy_of policy.now) limits.now pickle.now room.old room.new result }
+    ensures no { result.status ≡ 1
+        → IsNo (policy_of policy.now) limits.now pickle.now room.old room.new result }
+{
+    let mut source = Memory::new(pickle);
+    match check(alloc, &mut source, policy, limits) {
+        Ok(yes) => verdict::of_yes(&yes),
+        Err(no) => verdict::of_no(&no, room),
+    }
+}

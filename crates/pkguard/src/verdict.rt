@@ -1,0 +1,105 @@
+//! What is told to C.
+ghost use Rattle.std.specs.Prelude.{◌≡◌, ◌++◌, length, option_map};
+ghost use Rattle.pkcheck.specs.Import.{asked_shown};
+ghost use Rattle.pkguard.specs.Guard.{placed, verdict_of_fault, verdict_of_no, verdict_of_yes};
+ghost use Rattle.pkguard.specs.Guard.{names_placed};
+
+use crate::codes::{fault_code, reason_code, reason_number};
+use pkcheck::{AllowError, Asked, No, Yes};
+
+/// A verdict for C. What a status doesn't speak of is 0.
+#[repr(C)]
+#[derive(Clone, Copy, Debug, Drop)]
+pub struct Verdict {
+    /// 0 at a yes, 1 at a no, 2 where the list can't be read.
+    pub status: u32,
+    /// The number of the reason at status 1, of the list's fault at status 2.
+    pub reason: u32,
+    /// The code byte, protocol or memo number that the reason has.
+    pub number: u32,
+    /// 1 where a pair is told.
+    pub has_pair: u32,
+    /// The offset of the refused instruction, at status 1.
+    pub at: u64,
+    /// How many bytes the pickle has, at status 0.
+    pub taken: u64,
+    /// How many imports it makes, at status 0.
+    pub imports: u64,
+    /// How many bytes the module of the pair has.
+    pub module_length: u64,
+    /// How many bytes its name has.
+    pub name_length: u64,
+}
+
+/// The verdict where a list can't be read.
+pub fn of_fault(error: AllowError) -> Verdict
+    ensures { result ≡ verdict_of_fault error }
+{
+    Verdict {
+        status: 2,
+        reason: fault_code(error),
+        number: 0,
+        has_pair: 0,
+        at: 0,
+        taken: 0,
+        imports: 0,
+        module_length: 0,
+        name_length: 0,
+    }
+}
+
+/// The verdict of a yes.
+pub fn of_yes(yes: &Yes) -> Verdict
+    ensures { result ≡ verdict_of_yes yes.now.taken (length yes.now.imports) }
+{
+    Verdict {
+        status: 0,
+        reason: 0,
+        number: 0,
+        has_pair: 0,
+        at: 0,
+        taken: yes.taken,
+        imports: yes.imports.len() as u64,
+        module_length: 0,
+        name_length: 0,
+    }
+}
+
+/// The verdict of a no. The names of its pair go to the front of `room`, if both fit.
+pub fn of_no(no: &No, room: &mut [u8]) -> Verdict
+    ensures told { result
+        ≡ verdict_of_no no.now.at no.now.reason (option_map asked_shown no.now.pair) }
+    ensures place { result.at ≡ no.now.at }
+    ensures names { room.new ≡ names_placed (option_map asked_shown no.now.pair) room.old }
+{
+    let (has_pair, module_length, name_length) = match &no.pair {
+        Some(Asked::Pair { module, name }) => {
+            place_both(room, module.as_bytes(), name.as_bytes());
+            (1, module.len() as u64, name.len() as u64)
+        }
+        _ => (0, 0, 0),
+    };
+    Verdict {
+        status: 1,
+        reason: reason_code(no.reason),
+        number: reason_number(no.reason),
+        has_pair,
+        at: no.at,
+        taken: 0,
+        imports: 0,
+        module_length,
+        name_length,
+    }
+}
+
+/// Puts bytes and others behind them at the front of `room`, if both fit.
+fn place_both(room: &mut [u8], first: &[u8], second: &[u8])
+    ensures { room.new ≡ placed (first.now ++ second.now) room.old }
+{
+    let start = first.len();
+    let more = second.len();
+    if start <= room.len() && more <= room.len() - start {
+        room[..start].copy_from_slice(first);
+        room[start..start + more].copy_from_slice(second);
+    }
+}

@@ -1,0 +1,13 @@
+use Rattle.std.proofs.Common.{ap, ◌∙◌}
+use Rattle.pkops.specs.Answer.{Whole, shown_scan}
+use Rattle.pkjson.proofs.Replaying.{front_answers, whole_same, whole_more, whole_bad}
+use Rattle.pkjson.proofs.replay.whole_at_front.Goals as goal
+
+pub returns-in-Whole : goal.returns-in-Whole
+returns-in-Whole c = λ i more e h. whole_same i _ _ _ (c.scan.ensures.only (Whole i _) (front_answers _ _ more i e h) ∙ ap shown_scan c.in-Whole.is)
+
+pub returns-in-More : goal.returns-in-More
+returns-in-More c = λ i more e h. whole_more i _ (c.scan.ensures.only (Whole i _) (front_answers _ _ more i e h) ∙ ap shown_scan c.in-More.is)
+
+pub returns-in-Bad : goal.returns-in-Bad
+returns-in-Bad c = λ i more e h. whole_bad i _ _ (c.scan.ensures.only (Whole i _) (front_answers _ _ more i e h) ∙ ap shown_scan c.in-Bad.is)

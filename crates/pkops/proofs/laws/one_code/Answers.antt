@@ -1,0 +1,5 @@
+use Rattle.pkops.proofs.OpcodesFound.{one_code}
+use Rattle.pkops.proofs.laws.one_code.Goals as goal
+
+pub returns : goal.returns
+returns c = one_code

@@ -1,0 +1,147 @@
+//! Limits from a list file: what they are, the first error of those that are none, and what a check
+//! says under them.
+
+use crate::giving::Filled;
+use crate::judging::{Verdict, judge, judge_each};
+use pkcheck::{Allow, AllowError, Policy, Where};
+use pkops::Limits;
+use pkread::Reason;
+use std::test::Fail;
+
+/// All limits but `passed`.
+const HELD: &str = "version = 2
+imports = {}
+[limits]
+counted = 1
+stack = 2
+memo = 3
+depth = 4
+values = 5
+";
+
+/// All limits, in another order.
+const ALL: &str = "version = 2
+imports = {}
+[limits]
+passed = 1_099_511_627_776
+values = 5
+depth = 4
+memo = 3
+stack = 2
+counted = 1
+";
+
+#[test]
+fn limits_of_a_list(rt: HostRuntime) -> Result<(), Fail> {
+    let Some(held) = Limits::new(1, 2, 3, 4, 5) else {
+        return Err(Fail::from("no limit is above its standard one"));
+    };
+    let Some(all) = held.with_passed(1_099_511_627_776) else {
+        return Err(Fail::from("the greatest limit"));
+    };
+    for (text, wanted) in [
+        ("version = 1\n[imports]", Limits::STANDARD),
+        ("version = 2\n[imports]", Limits::STANDARD),
+        ("version = 2\n[imports]\n[limits]", Limits::STANDARD),
+        (HELD, held),
+        (ALL, all),
+    ] {
+        assert_eq!(rt;
+            Allow::from_toml(rt.alloc(), text)?.limits(),
+            wanted,
+            "{text}"
+        );
+    }
+    assert!(rt; held.with_passed(1_099_511_627_777).is_none());
+    assert_eq!(rt; Limits::STANDARD.passed(), 16_777_216);
+    assert_eq!(rt; all.passed(), 1_099_511_627_776);
+    assert_eq!(rt; all.holding_all().passed(), 1);
+    Ok(())
+}
+
+#[test]
+fn the_first_error_of_limits(rt: HostRuntime) {
+    for (text, wanted) in [
+        ("version = 2", Where::Imports),
+        ("version = 2\nlimits = 1", Where::Imports),
+        ("version = 2\nimports = {}\nmore = 1", Where::TopKey),
+        ("version = 1\nimports = {}\nlimits = {}", Where::TopKey),
+        (
+            "version = 2\nimports = { m = 1 }\nlimits = 1",
+            Where::Module,
+        ),
+        ("version = 2\nimports = {}\nlimits = 1", Where::Limits),
+        (
+            "version = 2\nimports = {}\nlimits = { heap = 1 }",
+            Where::LimitKey,
+        ),
+        (
+            "version = 2\nimports = {}\nlimits = { stack = 1000001 }",
+            Where::Limit,
+        ),
+        (
+            "version = 2\nimports = {}\nlimits = { passed = 1099511627777 }",
+            Where::Limit,
+        ),
+        (
+            "version = 2\nimports = {}\nlimits = { memo = -1 }",
+            Where::Limit,
+        ),
+        (
+            "version = 2\nimports = {}\nlimits = { memo = 1.0 }",
+            Where::Limit,
+        ),
+        (
+            "version = 2\nimports = {}\nlimits = { stack = -1, heap = 1 }",
+            Where::LimitKey,
+        ),
+        (
+            "version = 2\nimports = {}\nlimits = { value = 1, stack = -1 }",
+            Where::Limit,
+        ),
+    ] {
+        let Err(error) = Allow::from_toml(rt.alloc(), text) else {
+            assert!(rt; false, "no error: {text}");
+            return;
+        };
+        assert_eq!(rt; error, AllowError::Shape(wanted), "{text}");
+    }
+}
+
+const OVER_ONE_OBJECT: [(&[u8], Verdict); 2] = [
+    (b"NN.", Verdict::No(1, Reason::TooLarge)),
+    (b"N.", Verdict::Yes(2, 0)),
+];
+
+#[test]
+fn a_stack_of_one(rt: HostRuntime) -> Result<(), Fail> {
+    let allow = Allow::from_toml(
+        rt.alloc(),
+        "version = 2\nimports = {}\nlimits = { stack = 1 }",
+    )?;
+    judge_each(
+        &rt,
+        &Policy::Listed(&allow),
+        &allow.limits(),
+        &OVER_ONE_OBJECT,
+    );
+    Ok(())
+}
+
+/// A payload of one byte more than the standard limit, under that limit and under its own.
+#[test]
+fn a_large_payload_is_passed_over(rt: HostRuntime) -> Result<(), Fail> {
+    for (list, verdict) in [
+        ("version = 2\n[imports]", Verdict::No(0, Reason::TooLarge)),
+        (
+            "version = 2\nimports = {}\nlimits = { passed = 16777217 }",
+            Verdict::Yes(16_777_223, 0),
+        ),
+    ] {
+        let allow = Allow::from_toml(rt.alloc(), list)?;
+        let mut source = Filled::new(b"B\x01\0\0\x01", b'a', 16_777_217, b".");
+        let said = judge(&rt, &Policy::Listed(&allow), &allow.limits(), &mut source);
+        assert_eq!(rt; said, verdict, "{list}");
+    }
+    Ok(())
+}

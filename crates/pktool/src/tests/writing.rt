@@ -1,0 +1,87 @@
+//! Writers that fail at each write in turn: the call fails, and gives no other answer.
+use crate::checking::{Outcome, check_to};
+use crate::exporting::json_to;
+use crate::importing::imports_to;
+use crate::listing::dis_to;
+use pkcheck::Policy;
+use pkops::Limits;
+use pkread::Memory;
+use std::alloc::Global;
+use std::io;
+use std::io::{ErrorKind, Write};
+use std::test::Fail;
+
+/// Takes so many writes, then fails.
+#[derive(Drop)]
+struct Tiring {
+    left: usize,
+}
+
+impl Write for Tiring {
+    fn write(&mut self, bytes: &[u8]) -> io::Result<usize> {
+        if self.left == 0 {
+            return Err(io::Error::from(ErrorKind::StorageFull));
+        }
+        self.left -= 1;
+        Ok(bytes.len())
+    }
+
+    fn flush(&mut self) -> io::Result<()> {
+        Ok(())
+    }
+}
+
+#[derive(Clone, Copy, Debug)]
+enum Call {
+    Check,
+    Dis,
+    Imports,
+    Json,
+}
+
+/// A call that writes, a pickle, and how the call ends.
+static ENDS: [(Call, &[u8], Outcome); 8] = [
+    (Call::Check, b"cm\nf\n.", Outcome::Done),
+    (Call::Check, b"\xff", Outcome::Refused),
+    (Call::Dis, b"(\x8c\x01\"K\x01d.", Outcome::Done),
+    (Call::Dis, b"(.", Outcome::Refused),
+    (Call::Imports, b"cm\nf\n)R\x8c\x01b\x93.", Outcome::Done),
+    (Call::Imports, b"N", Outcome::Refused),
+    (Call::Json, b"}\x8c\x01aK\x01s.", Outcome::Done),
+    (Call::Json, b"]q\x00h\x00a.", Outcome::Refused),
+];
+
+fn answer(
+    alloc: Global,
+    call: Call,
+    pickle: &[u8],
+    out: &mut Tiring,
+) -> Result<Outcome, io::Error> {
+    let source = &mut Memory::new(pickle);
+    let limits = &Limits::STANDARD;
+    match call {
+        Call::Check => check_to(alloc, source, &Policy::AnyImport, limits, out),
+        Call::Dis => dis_to(alloc, source, limits, out),
+        Call::Imports => imports_to(alloc, source, limits, out),
+        Call::Json => json_to(alloc, source, limits, out),
+    }
+}
+
+/// More writes than any of these answers takes.
+const AMPLE: usize = 1_000;
+
+#[test]
+fn fails_with_its_writer(rt: HostRuntime) -> Result<(), Fail> {
+    for (call, pickle, wanted) in ENDS.as_slice() {
+        let mut ample = Tiring { left: AMPLE };
+        let ended = answer(rt.alloc(), *call, pickle, &mut ample)?;
+        assert_eq!(rt; ended, *wanted, "{call:?}");
+        let needed = AMPLE.wrapping_sub(ample.left);
+        assert!(rt; needed > 0);
+        for left in 0..needed {
+            let ended = answer(rt.alloc(), *call, pickle, &mut Tiring { left });
+            assert!(rt; ended.is_err(), "{call:?} after {left} writes");
+        }
+    }
+    Ok(())
+}
