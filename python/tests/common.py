@@ -1,0 +1,49 @@
+"""Where things are, and what several tests use."""
+
+import collections
+import datetime
+import os
+import pathlib
+import pickle
+import subprocess
+
+import storklocker
+
+ROOT = pathlib.Path(__file__).resolve().parents[2]
+PACKAGE = ROOT / "python" / "storklocker"
+GUARD = ROOT / "crates" / "pkguard"
+PROGRAM = os.environ.get("PKTOOL", str(ROOT / "pktool"))
+COMPILER = os.environ.get("CC", "cc")
+
+LIST_TEXT = (
+    b"version = 1\n[imports]\n"
+    b'collections = ["OrderedDict", "deque"]\ndatetime = ["datetime"]\n'
+)
+LISTED = [("collections", "OrderedDict"), ("collections", "deque"), ("datetime", "datetime")]
+BY_PAIRS = storklocker.AllowList(LISTED)
+BY_TEXT = storklocker.AllowList.from_text(LIST_TEXT)
+
+OBJECTS = [
+    [1, 2.5, "a", b"b", None, {"k": (1,)}],
+    collections.OrderedDict(a=1),
+    collections.deque([1, 2]),
+    datetime.datetime(2026, 1, 2),
+    {1, 2},
+    print,
+    collections.Counter("aab"),
+]
+SEEDS = [pickle.dumps(value, protocol) for value in OBJECTS for protocol in range(6)]
+
+
+def compiled(folder, source, *more):
+    """A C program, built in a folder."""
+    made = pathlib.Path(folder) / pathlib.Path(source).stem
+    words = [COMPILER, "-O2", "-Wall", "-Wextra", "-Werror", f"-I{PACKAGE}", "-o", str(made)]
+    subprocess.run([*words, str(source), *more], check=True)
+    return str(made)
+
+
+def toolchain():
+    """The folder of the toolchain."""
+    said = subprocess.run(["rt", "doc"], check=True, capture_output=True, text=True)
+    return pathlib.Path(said.stdout.strip()).parent

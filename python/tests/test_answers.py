@@ -1,0 +1,182 @@
+"""What the module answers: the worked cases, and the same as the program over mutated pickles."""
+
+import pathlib
+import pickle
+import random
+import subprocess
+import tempfile
+import unittest
+
+import storklocker
+from common import BY_PAIRS, BY_TEXT, LIST_TEXT, PROGRAM, ROOT, SEEDS
+
+EXAMPLES = ROOT / "examples"
+# Too large to lie beside the others: examples/run-all makes it too.
+LARGE = {"large-payload": b"B\1\0\0\1" + bytes(16_777_217) + b"."}
+PIECES = (b"(", b".", b"0", b"h\x00", b"cos\nsystem\n", b"\x95\x03\0\0\0\0\0\0\0", b"U\x01a")
+
+
+def said_of(data, listed):
+    """What the module says, in the program's words."""
+    try:
+        return str(storklocker.check(data, listed()))
+    except storklocker.ListFault as fault:
+        return str(fault)
+
+
+class Cases(unittest.TestCase):
+    def test_worked_cases(self):
+        count = 0
+        for line in (EXAMPLES / "cases.tsv").read_text().splitlines():
+            if line.startswith("#"):
+                continue
+            name, listed, _status, wanted = line.split("\t")
+            data = LARGE.get(name) or (EXAMPLES / "pickles" / f"{name}.pickle").read_bytes()
+            file = EXAMPLES / "lists" / f"{listed}.toml"
+            with self.subTest(pickle=name, list=listed):
+                self.assertEqual(said_of(data, lambda: storklocker.AllowList.from_file(file)), wanted)
+            count += 1
+        self.assertGreater(count, 40)
+
+    def test_each_fault_of_a_list(self):
+        for text, fault in (
+            ("version", "Syntax"),
+            (b"\xff", "Syntax"),
+            ("version = true\n[imports]", "Shape(Version)"),
+            ("version = 1\nother = 1\n[imports]", "Shape(TopKey)"),
+            ("version = 1", "Shape(Imports)"),
+            ("version = 1\n[imports]\na = 1", "Shape(Module)"),
+            ('version = 1\n[imports]\na = [""]', "Shape(Name)"),
+            ("version = 9\n[imports]", "Version"),
+        ):
+            with self.subTest(text=text), self.assertRaises(storklocker.ListFault) as raised:
+                storklocker.AllowList.from_text(text)
+            self.assertEqual(raised.exception.fault, fault)
+
+
+def mutated(chance):
+    """One of the seeds, with up to three changes."""
+    data = bytearray(chance.choice(SEEDS))
+    for _ in range(chance.randrange(4)):
+        place, kind = chance.randrange(len(data)), chance.random()
+        if kind < 0.5:
+            data[place] = chance.randrange(256)
+        elif kind < 0.8:
+            del data[place : place + chance.randrange(1, 5)]
+        else:
+            data[place:place] = chance.choice(PIECES)
+        if not data:
+            data = bytearray(b".")
+    return bytes(data)
+
+
+class Agreement(unittest.TestCase):
+    def test_one_answer_from_module_and_program(self):
+        chance = random.Random(5)
+        answers = {"yes": 0, "no": 0}
+        with tempfile.TemporaryDirectory() as folder:
+            listed, file = pathlib.Path(folder, "list.toml"), pathlib.Path(folder, "pickle")
+            listed.write_bytes(LIST_TEXT)
+            words = [PROGRAM, "check", "--allow", str(listed), str(file)]
+            for _ in range(1000):
+                data = mutated(chance)
+                file.write_bytes(data)
+                ran = subprocess.run(words, capture_output=True, text=True)
+                verdict = storklocker.check(data, BY_PAIRS)
+                self.assertEqual(f"{verdict}\n", ran.stdout, data)
+                self.assertEqual(ran.returncode, 0 if verdict else 1, data)
+                self.assertEqual(storklocker.check(data, BY_TEXT), verdict, data)
+                answers[ran.stdout.split()[0].rstrip(":")] += 1
+        self.assertGreater(min(answers.values()), 100)
+
+
+class Loads(unittest.TestCase):
+    def test_a_listed_pickle_is_loaded(self):
+        for data in SEEDS:
+            if not storklocker.check(data, BY_PAIRS):
+                continue
+            for given in (data, bytearray(data), memoryview(data)):
+                loaded = storklocker.loads(given, BY_PAIRS)
+                self.assertEqual(loaded, pickle.loads(data))
+
+    def test_a_refused_pickle_is_not_loaded(self):
+        data = b"cos\nsystem\n(S'exit 3'\ntR."
+        with self.assertRaises(storklocker.Refused) as raised:
+            storklocker.loads(data, BY_PAIRS)
+        refused = raised.exception
+        self.assertEqual(refused.at, 0)
+        self.assertIs(refused.reason, storklocker.Reason.ImportOffList)
+        self.assertEqual(refused.pair, ("os", "system"))
+        self.assertIsInstance(refused, pickle.UnpicklingError)
+        self.assertEqual(str(refused), 'no at 0: ImportOffList("os","system")')
+        self.assertEqual(str(pickle.loads(pickle.dumps(refused))), str(refused))
+
+    def test_bytes_behind_stop_are_told(self):
+        with self.assertRaises(storklocker.MoreBytes) as raised:
+            storklocker.loads(b"N.N.", BY_PAIRS)
+        self.assertEqual((raised.exception.taken, raised.exception.length), (2, 4))
+
+    def test_names_are_not_mapped_unless_told(self):
+        data = b"c__builtin__\nlist\n)R."
+        with self.assertRaises(ModuleNotFoundError):
+            storklocker.loads(data, storklocker.AllowList([("__builtin__", "list")]))
+        told = storklocker.AllowList([("__builtin__", "list")])
+        self.assertEqual(storklocker.loads(data, told, fix_imports=True), [])
+
+    def test_what_can_change_is_not_checked(self):
+        for data in (bytearray(b"N."), memoryview(b"N."), "N.", None):
+            with self.subTest(data=data), self.assertRaises(TypeError):
+                storklocker.check(data, BY_PAIRS)
+        for data in ("N.", 5, [78, 46]):
+            with self.subTest(data=data), self.assertRaises(TypeError):
+                storklocker.loads(data, BY_PAIRS)
+
+    def test_limits(self):
+        few = storklocker.Limits(stack=1)
+        told = storklocker.check(b"NN.", BY_PAIRS, limits=few)
+        self.assertEqual((told.at, told.reason), (1, storklocker.Reason.TooLarge))
+        endless = storklocker.Limits(stack=2**64 - 1)
+        self.assertEqual(storklocker.check(b"N" * 1_000_001, BY_PAIRS, limits=endless).at, 1_000_000)
+        with self.assertRaises(ValueError):
+            storklocker.Limits(memo=-1)
+
+    def test_limits_of_a_list_file(self):
+        text = "version = 2\n[imports]\n[limits]\nstack = 1\npassed = 16777217\n"
+        listed = storklocker.AllowList.from_text(text)
+        self.assertEqual(storklocker.check(b"NN.", listed).at, 1)
+        data = b"B" + (16_777_217).to_bytes(4, "little") + bytes(16_777_217) + b"."
+        self.assertEqual(storklocker.check(data, listed).taken, 16_777_223)
+        told = storklocker.check(data, listed, limits=storklocker.STANDARD)
+        self.assertEqual((told.at, told.reason), (0, storklocker.Reason.TooLarge))
+        many = storklocker.Limits(passed=16_777_217)
+        self.assertEqual(storklocker.check(data, BY_PAIRS, limits=many).taken, 16_777_223)
+        with self.assertRaises(storklocker.ListFault) as told:
+            storklocker.AllowList.from_text("version = 2\n[imports]\n[limits]\nheap = 1\n")
+        self.assertEqual(told.exception.fault, "Shape(LimitKey)")
+
+
+class Pairs(unittest.TestCase):
+    def test_each_of_many_pairs_is_found(self):
+        pairs = [(f"m{i % 7}", f"n{i * 37 % 101}") for i in range(300)]
+        listed = storklocker.AllowList(pairs)
+        for module, name in pairs:
+            self.assertTrue(storklocker.check(f"c{module}\n{name}\n.".encode(), listed))
+        for module, name in (("m7", "n0"), ("m0", "n"), ("m", "0n0"), ("m0", "n1000")):
+            data = f"c{module}\n{name}\n.".encode()
+            told = storklocker.check(data, listed)
+            self.assertEqual(told.pair, (module, name))
+
+    def test_names_beyond_ascii(self):
+        module, name = "müll", "\u540d\x7f\""
+        data = f"\x8c{chr(len(module.encode()))}".encode("latin-1") + module.encode()
+        data += bytes([0x8C, len(name.encode())]) + name.encode() + b"\x93."
+        self.assertTrue(storklocker.check(data, storklocker.AllowList([(module, name)])))
+        told = storklocker.check(data, BY_PAIRS)
+        self.assertEqual(told.pair, (module, name))
+        self.assertEqual(
+            str(told), r'no at 14: ImportOffList("m\xc3\xbcll","\xe5\x90\x8d\x7f\x22")'
+        )
+
+    def test_no_pairs_permit_nothing(self):
+        self.assertTrue(storklocker.check(b"N.", storklocker.AllowList([])))
+        self.assertFalse(storklocker.check(b"ca\nb\n.", storklocker.AllowList([])))
