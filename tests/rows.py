@@ -1,0 +1,126 @@
+"""Worked rows: a command, what it is run on, and the answer that the format's description gives."""
+import dataclasses
+import pathlib
+
+EXAMPLES = pathlib.Path(__file__).resolve().parent.parent / "examples"
+
+# Too large to lie beside the others: examples/run-all makes it too.
+LARGE = {"large-payload": b"B\1\0\0\1" + bytes(16_777_217) + b"."}
+
+
+@dataclasses.dataclass(frozen=True)
+class Row:
+    """A command on a pickle, under the text of a list where it wants one. Where no answer is written down, that with
+    nothing refused stands for it."""
+
+    name: str
+    command: str
+    pickle: bytes
+    allow: str | None = None
+    status: int | None = None
+    said: str | None = None
+    result: bytes | None = None
+
+
+MARKED = """\
+    0: 28 MARK
+    1: 8c   SHORT_BINUNICODE "a"
+    4: 4b   BININT1 1
+    6: 64   DICT
+    7: 2e STOP
+highest protocol: 4
+"""
+OPEN_MARK = """\
+    0: 28 MARK
+    1: 2e   STOP
+no at 1: MissingItem
+"""
+CALL = """\
+    0: 80 PROTO 2
+    2: 63 GLOBAL "m" "f"
+    7: 8a LONG1 <ff>
+   10: 85 TUPLE1
+   11: 52 REDUCE
+   12: 2e STOP
+highest protocol: 2
+"""
+
+DIS = [
+    ("28 8c 01 61 4b 01 64 2e", 0, MARKED),
+    ("28 2e", 1, OPEN_MARK),
+    ("80 02 63 6d 0a 66 0a 8a 01 ff 85 52 2e", 0, CALL),
+    ("82 05 2e", 1, "no at 0: ExtensionCode\n"),
+    ("4e 8c 05 61", 1, "    0: 4e NONE\nno at 1: Truncated\n"),
+]
+
+IMPORTS = [
+    ("63 6d 0a 66 0a 29 52 8c 01 62 93 2e", 0, '"m" "f"\nunknown\nyes: 12 bytes, 2 imports\n'),
+    ("4e", 1, "no at 1: Truncated\n"),
+]
+
+OPTIMIZE = [
+    ("5d 71 00 4e 71 01 61 68 00 30 2e", "5d 71 00 4e 61 68 00 30 2e", "11 bytes to 9 bytes\n"),
+    ("5d 94 4e 94 61 68 01 30 2e", "5d 4e 94 61 68 00 30 2e", "9 bytes to 8 bytes\n"),
+    ("5d 72 2c 01 00 00 4e 61 6a 2c 01 00 00 30 2e", "5d 71 00 4e 61 68 00 30 2e", "15 bytes to 9 bytes\n"),
+    ("4e 70 37 0a 67 37 0a 30 2e", "4e 70 30 0a 67 30 0a 30 2e", "9 bytes to 9 bytes\n"),
+    ("4e 71 00 5d 71 00 30 68 00 30 2e", "4e 5d 71 00 30 68 00 30 2e", "11 bytes to 9 bytes\n"),
+    (
+        "80 04 95 01 00 00 00 00 00 00 00 4e 95 01 00 00 00 00 00 00 00 2e",
+        "80 04 95 02 00 00 00 00 00 00 00 4e 2e",
+        "22 bytes to 13 bytes\n",
+    ),
+    ("4e 95 01 00 00 00 00 00 00 00 2e", "95 02 00 00 00 00 00 00 00 4e 2e", "11 bytes to 11 bytes\n"),
+]
+
+JSON = [
+    ("7d 8c 01 61 4b 01 73 2e", 0, '{"a":1}\n'),
+    ("5d 71 00 68 00 61 2e", 1, "no: TooDeep\n"),
+    ("5d 5d 94 61 68 00 4e 61 30 2e", 0, "[[null]]\n"),
+    ("49 30 31 0a 2e", 0, "true\n"),
+    ("49 31 0a 2e", 0, "1\n"),
+    ("8a 00 2e", 0, "0\n"),
+    ("8a 08 00 00 00 00 00 00 00 80 2e", 0, "-9223372036854775808\n"),
+    ("8a 09 00 00 00 00 00 00 00 80 00 2e", 1, "no at 0: Number\n"),
+    ("7d 8c 01 62 4e 73 8c 01 61 88 73 2e", 0, '{"a":true,"b":null}\n'),
+    ("7d 8c 01 61 4b 01 73 8c 01 61 4b 02 73 2e", 0, '{"a":2}\n'),
+    ("7d 4b 01 4e 73 2e", 1, "no at 4: Key\n"),
+    ("43 00 30 4e 2e", 1, "no at 0: NotPlain(SHORT_BINBYTES)\n"),
+    ("29" + "85" * 99 + "2e", 0, "[" * 100 + "]" * 100 + "\n"),
+    ("29" + "85" * 100 + "2e", 1, "no: TooDeep\n"),
+]
+
+
+def checks():
+    """The table of checks."""
+    rows = []
+    for line in (EXAMPLES / "cases.tsv").read_text().splitlines():
+        if line.startswith("#"):
+            continue
+        pickle, allow, status, said = line.split("\t")
+        contents = LARGE.get(pickle) or (EXAMPLES / "pickles" / f"{pickle}.pickle").read_bytes()
+        listed = (EXAMPLES / "lists" / f"{allow}.toml").read_text()
+        rows.append(Row(f"{pickle} under {allow}", "check", contents, listed, int(status), said + "\n"))
+    return rows
+
+
+def others():
+    """Rows of the other commands with known answers."""
+    rows = [Row(given, "dis", bytes.fromhex(given), None, status, said) for given, status, said in DIS]
+    rows += [Row(given, "imports", bytes.fromhex(given), None, status, said) for given, status, said in IMPORTS]
+    for given, result, said in OPTIMIZE:
+        rows.append(Row(given, "optimize", bytes.fromhex(given), None, 0, said, bytes.fromhex(result)))
+    rows += [Row(given[:40], "json", bytes.fromhex(given), None, status, said) for given, status, said in JSON]
+    return rows
+
+
+def unknown():
+    """Each pickle of the examples through the commands whose answer on it isn't written down."""
+    rows = []
+    for file in sorted((EXAMPLES / "pickles").glob("*.pickle")):
+        for command in ("dis", "imports", "optimize", "json"):
+            rows.append(Row(file.stem, command, file.read_bytes()))
+    return rows
+
+
+def every():
+    return checks() + others() + unknown()
