@@ -137,6 +137,11 @@ IMPORTS = {
     "one import again and again": Hostile(
         repeated(b"h\0h\x01\x930", head=b"Vm\nq\x000Vf\nq\x010"), list_of([("m", ["f"])])
     ),
+    "one GLOBAL of short names again and again": Hostile(imports([("m", "f")]), list_of([("m", ["f"])])),
+    "two GLOBALs of short names in turns": Hostile(
+        imports([("m", "f"), ("m", "g")]), list_of([("m", ["f", "g"])])
+    ),
+    "one INST of short names again and again": Hostile(repeated(b"(im\nf\n0"), list_of([("m", ["f"])])),
     "lines: GLOBAL, two of them": Hostile(imports([(LONG, LONG)]), list_of([(LONG, [LONG])])),
     "lines: INST, two of them": Hostile(
         repeated(b"(i" + with_line(f"{LONG}\n".encode(), LONG.encode())), list_of([(LONG, [LONG])])

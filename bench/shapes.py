@@ -29,6 +29,24 @@ def plain(protocol, records=RECORDS):
     yield pickle.dumps([record(i) for i in range(records)], protocol)
 
 
+def exported(protocol, records=60_000):
+    """The same without their floats, as many as may be exported: some 720,000 values."""
+    rows = [record(i) for i in range(records)]
+    for row in rows:
+        del row["score"]
+    yield pickle.dumps(rows, protocol)
+
+
+def texts(count=200_000):
+    """A list of texts of a line each."""
+    yield pickle.dumps([f"line {i} of a text, which is as long as lines are" for i in range(count)], 4)
+
+
+def integers(count=900_000):
+    """A list of integers of all lengths."""
+    yield pickle.dumps([(i * 0x9E3779B97F4A7C15) % 2**64 - 2**63 >> i % 64 for i in range(count)], 4)
+
+
 def datetimes(count=300_000):
     """Objects that a class makes: each is a name fetched, ten bytes, a call."""
     first = datetime.datetime(2001, 2, 3)
@@ -47,6 +65,15 @@ SHAPES = {
     "plain data, protocol 4": functools.partial(plain, 4),
     "datetimes, protocol 4": datetimes,
     "byte strings, protocol 4": byte_strings,
+}
+
+# Plain data within the limits of JSON. `pktool json` is to take no longer than `json.dumps(pickle.loads(..))` on each.
+EXPORTED = {
+    "records, protocol 0": functools.partial(exported, 0),
+    "records, protocol 2": functools.partial(exported, 2),
+    "records, protocol 4": functools.partial(exported, 4),
+    "texts, protocol 4": texts,
+    "integers, protocol 4": integers,
 }
 
 # The names that these import.

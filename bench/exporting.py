@@ -1,0 +1,51 @@
+#!/usr/bin/env python3
+"""Times the whole command `pktool json` beside `json.dumps(pickle.loads(..))` on plain data, in the same run.
+
+What is measured is processor time, and the peak memory beside the size of the file. Python works on bytes in memory with
+the garbage collector off; the command starts, reads its file, writes its line into a pipe and ends.
+"""
+import argparse
+import pathlib
+import sys
+import tempfile
+
+import program
+import shapes
+
+DUMPS = "json.dumps(pickle.loads(data))"
+
+
+def measure(path, rounds):
+    """The best run of the command, and of Python."""
+    ours = program.best_of(rounds, lambda: program.run("json", path))
+    if ours.status != 0:
+        sys.exit(ours.line)
+    return ours, program.best_of(rounds, lambda: program.python(DUMPS, path))
+
+
+def main():
+    words = argparse.ArgumentParser(description=__doc__.splitlines()[0])
+    words.add_argument("--rounds", type=int, default=5, help="how often each runs (5); the best counts")
+    words.add_argument("--shape", choices=shapes.EXPORTED, action="append", help="this shape alone; may be given again")
+    asked = words.parse_args()
+    program.build()
+    print("| Shape | MB | Seconds | Times Python | Peak MB | Peak of Python, MB |")
+    print("|---|---|---|---|---|---|")
+    kept = True
+    with tempfile.TemporaryDirectory() as folder:
+        path = pathlib.Path(folder, "file.pickle")
+        for name in asked.shape or shapes.EXPORTED:
+            size = shapes.write_apart(path, shapes.EXPORTED[name])
+            ours, theirs = measure(path, asked.rounds)
+            kept = kept and ours.seconds <= theirs.seconds
+            print(
+                f"| {name} | {size / 1e6:.1f} | {ours.seconds:.3f} | {ours.seconds / theirs.seconds:.2f} "
+                f"| {ours.peak / 1e6:.0f} | {theirs.peak / 1e6:.0f} |",
+                flush=True,
+            )
+    print("\nThe target is no more than 1.00 times what Python takes.")
+    return 0 if kept else 1
+
+
+if __name__ == "__main__":
+    sys.exit(main())

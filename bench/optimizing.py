@@ -1,0 +1,55 @@
+#!/usr/bin/env python3
+"""Times the whole command `pktool optimize` beside `pickletools.optimize` and beside `pktool check`, in the same run.
+
+What is measured is processor time, and the peak memory beside the size of the file. `pickletools.optimize` works on
+bytes in memory with the garbage collector off; the command starts, reads its file, writes the other and ends.
+"""
+import argparse
+import pathlib
+import sys
+import tempfile
+
+import program
+import shapes
+
+LEAST_RATIO = 100
+
+
+def measure(folder, make, rounds):
+    """The best run of the command, a run of Python, the best run of the check, and the size of the file."""
+    path, out, allow = folder / "file.pickle", folder / "out.pickle", folder / "list.toml"
+    allow.write_text(shapes.LIST)
+    size = shapes.write_apart(path, make)
+    check = program.best(allow, path, rounds)
+    ours = program.best_of(rounds, lambda: program.run("optimize", path, out))
+    if ours.status != 0:
+        sys.exit(ours.line)
+    theirs = program.python("pickletools.optimize(data)", path)
+    return ours, theirs, check, size
+
+
+def main():
+    words = argparse.ArgumentParser(description=__doc__.splitlines()[0])
+    words.add_argument("--rounds", type=int, default=3, help="how often each command runs (3); the best counts")
+    words.add_argument("--shape", choices=shapes.SHAPES, action="append", help="this shape alone; may be given again")
+    asked = words.parse_args()
+    program.build()
+    print("| Shape | MB | Seconds | Times `pktool check` | Times faster than `pickletools.optimize` | Peak MB | Its peak MB |")
+    print("|---|---|---|---|---|---|---|")
+    kept = True
+    for name in asked.shape or shapes.SHAPES:
+        with tempfile.TemporaryDirectory() as folder:
+            ours, theirs, check, size = measure(pathlib.Path(folder), shapes.SHAPES[name], asked.rounds)
+        ratio = theirs.seconds / ours.seconds
+        kept = kept and ratio >= LEAST_RATIO
+        print(
+            f"| {name} | {size / 1e6:.1f} | {ours.seconds:.3f} | {ours.seconds / check.seconds:.2f} | {ratio:.1f} "
+            f"| {ours.peak / 1e6:.0f} | {theirs.peak / 1e6:.0f} |",
+            flush=True,
+        )
+    print(f"\n{LEAST_RATIO} times or more is the target.")
+    return 0 if kept else 1
+
+
+if __name__ == "__main__":
+    sys.exit(main())

@@ -1,0 +1,102 @@
+"""Files that are made to cost `pktool optimize` or `pktool json` time or memory, beside those that cost a check much."""
+import struct
+
+from hostile_shapes import ENTRIES, MEGABYTE, repeated, runs, times
+
+KEY = 2 * MEGABYTE
+
+
+def fetched(numbers):
+    """An object stored under each of the numbers, and fetched from there at once."""
+
+    def make(_):
+        yield b"N"
+        for number in numbers():
+            yield b"r" + struct.pack("<I", number) + b"j" + struct.pack("<I", number) + b"0"
+        yield b"."
+
+    return make
+
+
+def memoized(_):
+    """A million objects memoized, and each of them fetched."""
+    yield b"N"
+    yield from times(b"\x94", ENTRIES)
+    for number in range(ENTRIES):
+        yield b"j" + struct.pack("<I", number) + b"0"
+    yield b"."
+
+
+def key(number):
+    """A long text that is kept under a number; all of them are equal."""
+    return b"X" + struct.pack("<I", KEY) + b"a" * KEY + b"q" + bytes([number]) + b"0"
+
+
+def keyed(sets, *numbers):
+    """A dict of long keys, set so many times."""
+    return runs(*((key(number), 1) for number in numbers), (b"}", 1), (sets, 200_000 // len(numbers)), (b".", 1))
+
+
+def layered(_):
+    """Ninety layers of lists, each list of all lists of the layer before."""
+    width = 240
+    yield b"]q\x00"
+    for layer in range(90):
+        for place in range(width):
+            yield b"("
+            for below in range(width if layer else 0):
+                yield b"j" + struct.pack("<I", (layer - 1) % 2 * width + below)
+            yield b"lr" + struct.pack("<I", layer % 2 * width + place) + b"0"
+    yield b"."
+
+
+def branching(_):
+    """Two hundred thousand dicts of one key."""
+    yield b"]X\x01\0\0\0aq\x000"
+    yield from times(b"}h\0Nsa", 200_000)
+    yield b"."
+
+
+def wide(_):
+    """A dict of as many keys as a file of some megabytes has."""
+    yield b"}("
+    for number in range(300_000):
+        yield b"\x8c\x06" + f"{number * 7919 % 1_000_000:06}".encode() + b"N"
+    yield b"u."
+
+
+# Those for each command.
+OPTIMIZED = {
+    "one number stored and fetched": repeated(b"q\0h\x000", head=b"N", tail=b"."),
+    "one number stored": repeated(b"q\0", head=b"N", tail=b"."),
+    "one number fetched": repeated(b"h\x000", head=b"Nq\0", tail=b"."),
+    "one line stored and fetched": repeated(b"p0\ng0\n0", head=b"N", tail=b"."),
+    "a million memoized and fetched": memoized,
+    "rising numbers stored and fetched": fetched(lambda: range(ENTRIES)),
+    "falling numbers stored and fetched": fetched(lambda: range(ENTRIES - 1, -1, -1)),
+    "empty frames between": repeated(b"\x95" + bytes(8) + b"N0"),
+}
+
+EXPORTED = {
+    "scalars dropped": repeated(b"N0"),
+    "lists dropped": repeated(b"]0"),
+    "dicts dropped": repeated(b"}0"),
+    "tuples of one, dropped": repeated(b"N\x850"),
+    "texts dropped": repeated(b"\x8c\x01a0"),
+    "integers dropped": repeated(b"\x8a\x01a0"),
+    "a list in a list, filled item by item": repeated(b"Na", head=b"]", tail=b"0N."),
+    "a list of one text": repeated(b"h\0a", head=b"X\x01\0\0\0aq\x000]", tail=b"0N."),
+    "a dict of one key": repeated(b"h\0Ns", head=b"X\x01\0\0\0aq\x000}", tail=b"."),
+    "a dict of one long key": keyed(b"h\0Ns", 0),
+    "a dict of two long keys that are equal": keyed(b"h\0Nsh\1Ns", 0, 1),
+    "dicts of one key": branching,
+    "a dict of many keys": wide,
+    "layers of lists": layered,
+    "doubled 18 times": runs((b")", 1), (b"2\x86", 18), (b".", 1)),
+    "doubled 99 times": runs((b")", 1), (b"2\x86", 99), (b".", 1)),
+    "lists in lists": runs((b"]", ENTRIES), (b"a", ENTRIES - 1), (b".", 1)),
+    "tuples in tuples": repeated(b"\x85", head=b")", tail=b"."),
+    "a list that holds itself a million times": runs((b"]q\0", 1), (b"h\0a", ENTRIES), (b".", 1)),
+    "as many values as may be": runs((b"]", 1), (b"Na", ENTRIES - 1), (b".", 1)),
+    "one value more": runs((b"]", 1), (b"Na", ENTRIES), (b".", 1)),
+}
