@@ -77,7 +77,8 @@ names_placed (Some (AskedPair module_name name)) room = placed (module_name ++ n
 names_placed _ room = room
 
 -- the pickle at the front of the bytes is accepted
-pub record IsYes (policy : Policy) (limits : Bounds) (pickle before after : List ℕ) (verdict : Verdict) : Type 0 where
+pub record IsYes (policy : Policy) (limits : Bounds) (pickle before after : List ℕ)
+    (verdict : Verdict) : Type 0 where
   pub rest : List ℕ
   pub imports : List Asked
   pub accepted : Accepted policy limits (memory pickle) (memory rest) verdict.taken imports
@@ -86,7 +87,8 @@ pub record IsYes (policy : Policy) (limits : Bounds) (pickle before after : List
 
 -- the pickle at the front of the bytes is refused, at a place and for a reason; the names of the
 -- pair that is off the list are in the room
-pub record IsNo (policy : Policy) (limits : Bounds) (pickle before after : List ℕ) (verdict : Verdict) : Type 0 where
+pub record IsNo (policy : Policy) (limits : Bounds) (pickle before after : List ℕ)
+    (verdict : Verdict) : Type 0 where
   pub rest : List ℕ
   pub why : Reason
   pub pair : Option Asked

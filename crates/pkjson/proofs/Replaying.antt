@@ -1,6 +1,7 @@
 -- From an accepted pickle to the end of its plain run.
 use Rattle.std.proofs.Common.{◌≡◌, inl, inr, ℕ, List, [], ◌∷◌, ◌++◌, length, take, drop, replicate, refl, sym, ap, ◌∙◌, subst, arith, Option, Some, None, length-append}
-use Rattle.std.specs.Prelude.{Bool, true, false, if◌then◌else◌, slice_index_or}
+use Rattle.std.proofs.lemmas.Bool.{cond_both}
+use Rattle.std.specs.Prelude.{slice_index_or}
 use Rattle.std.proofs.Math.Seq.{take-append_seam, drop-append_seam}
 use Rattle.std.specs.Io.KnownBytes.{Consumes}
 use Rattle.pkops.specs.declared.op.Op.TheVariants as op
@@ -46,11 +47,6 @@ nothing_yet = record {
   objects = record { kinds = λ n. refl; given = λ n. refl };
 }
 
--- one limit for all
-one_limit : (limit : ℕ) (passed : Bool) → (if passed then limit else limit) ≡ limit
-one_limit limit true = refl
-one_limit limit false = refl
-
 pub stands_first : (limits : Bounds) (bytes : List ℕ) (p : List Instruction) → AcceptedAs limits bytes p → Stands limits.counted p bytes 0 no_object
 stands_first limits bytes p h = subst (λ q. Stands limits.counted q bytes 0 no_object) h.is (by_accepted h.accepted.instructions h.accepted.sequence (consumed bytes (spellings h.accepted.instructions) h.new.left h.accepted.bytes.bytes) h.accepted.sound)
   where
@@ -59,7 +55,7 @@ stands_first limits bytes p h = subst (λ q. Stands limits.counted q bytes 0 no_
       after = q;
       tail = c.0;
       spelled = c.1;
-      allowed = λ k d lt. let i = slice_index_or q k d in subst (λ (l : ℕ). IsAllowed l i) (one_limit limits.counted (is_passed i.op)) (s.each k d lt);
+      allowed = λ k d lt. let i = slice_index_or q k d in cond_both (is_passed i.op) limits.counted limits.counted (λ l. IsAllowed l i → IsAllowed limits.counted i) (λ _ a. a) (λ _ a. a) (s.each k d lt);
       stops = subst HasStop (sym s.stops.2) (has_stop s.stops.0 s.stops.1 s.stops.3);
       state = start;
       listed = permitted_by None;

@@ -1,6 +1,7 @@
 -- What the answers of `optimize` rest on.
 use Rattle.std.proofs.Common.{◌≡◌, ℕ, suc, ◌<◌, ◌≤◌, ◌^◌, Bool, true, false, List, [], ◌∷◌, ◌++◌, length, Option, None, ◌⊎◌, inl, inr, refl, sym, ap, subst, ◌∙◌, arith}
-use Rattle.std.specs.Prelude.{◌≢◌, All, if◌then◌else◌, slice_index_or}
+use Rattle.std.proofs.lemmas.Bool.{cond_both}
+use Rattle.std.specs.Prelude.{◌≢◌, All, slice_index_or}
 use Rattle.pkops.specs.Limits.{Bounds, holding_all}
 use Rattle.pkops.specs.Payloads.{is_passed, payload_limit}
 use Rattle.pkops.specs.Spelling.{Instruction}
@@ -61,14 +62,9 @@ sequence_ends limit p h =
     let s = h.stops in
     subst (EndsInStop limit) (sym s.2) (ends_in_stop limit s.0 s.1 (subst (All (IsAllowed limit)) s.2 h.each) s.3 s.4)
 
--- one limit for all
-one_limit : (limit : ℕ) (passed : Bool) → (if passed then limit else limit) ≡ limit
-one_limit limit true = refl
-one_limit limit false = refl
-
 held_sequence : (limits : Bounds) (p : List Instruction) → IsSequence (payload_limit (holding_all limits)) p → IsSequence (λ _. limits.counted) p
 held_sequence limits p h = record {
-  each = λ k d lt. let i = slice_index_or p k d in subst (λ (l : ℕ). IsAllowed l i) (one_limit limits.counted (is_passed i.op)) (h.each k d lt);
+  each = λ k d lt. let i = slice_index_or p k d in cond_both (is_passed i.op) limits.counted limits.counted (λ l. IsAllowed l i → IsAllowed limits.counted i) (λ _ a. a) (λ _ a. a) (h.each k d lt);
   stops = h.stops;
 }
 
