@@ -28,6 +28,7 @@ class Reason(enum.IntEnum):
     ImportOffList = 16
     LeftOver = 17
     OutOfMemory = 18
+    NotAscii = 19
 
 
 NUMBERED = frozenset((Reason.UnknownOpcode, Reason.UnsupportedProtocol, Reason.MissingMemo))

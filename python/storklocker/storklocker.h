@@ -65,7 +65,8 @@ enum storklocker_reason {
     STORKLOCKER_UNKNOWN_IMPORT = 15,
     STORKLOCKER_IMPORT_OFF_LIST = 16,
     STORKLOCKER_LEFT_OVER = 17,
-    STORKLOCKER_OUT_OF_MEMORY = 18
+    STORKLOCKER_OUT_OF_MEMORY = 18,
+    STORKLOCKER_NOT_ASCII = 19
 };
 
 /* Why a list can't be read. The numbers never change. */

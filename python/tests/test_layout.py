@@ -18,7 +18,7 @@ STRUCTURES = {
 REASONS = (
     "Source Truncated UnknownOpcode BadArgument TooLarge ExtensionCode UnsupportedProtocol BrokenFrame "
     "MissingMark MissingItem MissingMemo OddItems WrongClass NotText UnknownImport ImportOffList LeftOver "
-    "OutOfMemory"
+    "OutOfMemory NotAscii"
 ).split()
 FAULTS = (
     "Syntax Shape(Version) Shape(TopKey) Shape(Imports) Shape(Module) Shape(Name) Version OutOfMemory "

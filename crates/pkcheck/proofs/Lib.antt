@@ -10,6 +10,7 @@ pub mod Joining
 pub mod Resolving
 pub mod Noting
 pub mod Topmost
+pub mod Numbered
 pub mod Places
 pub mod Limited
 pub mod Settled

@@ -7,6 +7,7 @@ pub mod Going
 pub mod Memory
 pub mod Extensions
 pub mod TextsMade
+pub mod Settings
 pub mod Stops
 pub mod CoveredStep
 pub mod Passing

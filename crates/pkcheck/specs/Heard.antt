@@ -8,6 +8,8 @@ use Rattle.pkread.specs.Sequence.{spellings}
 use Rattle.pkread.specs.declared.refusal.Reason.{Reason}
 use Rattle.pkcheck.specs.Answered.{IsRightAnswer}
 use Rattle.pkcheck.specs.Faults.{InEachRun}
+use Rattle.pkcheck.specs.declared.old_strings.OldStrings.{OldStrings}
+use Rattle.pkcheck.specs.declared.old_strings.OldStrings.TheVariants.{Unknown}
 use Rattle.pkcheck.specs.Knowledge.{Policy, Asked}
 use Rattle.pkcheck.specs.Refused.{Why, reading, judging, growing}
 use Rattle.pkcheck.specs.RunFaults.{RunsBehind}
@@ -31,7 +33,7 @@ pub record IsHeardOf (before : List Instruction) (i : Instruction) (h : Heard) :
   pub place : h.at ≡ length (spellings before)
   -- some run gets there, and in each that does as many marks are open
   pub marks :
-      InEachRun (RunsBehind before) (λ state. h.marks ≡ marks_of state.shape.entries)
+      InEachRun (RunsBehind Unknown before) (λ state. h.marks ≡ marks_of state.shape.entries)
 
 -- what is heard of instructions behind others: of each of them, in order
 abbrev pub AreHeardBehind : List Instruction → List Instruction → List Heard → Type 0
@@ -42,16 +44,16 @@ AreHeardBehind before [] (h ∷ hs) = ⊥
 AreHeardBehind before (i ∷ is) [] = ⊥
 
 -- the refused instruction, where it was read whole and admitted
-abbrev pub refused_instruction : {policy : Policy} {limits : Bounds} {before : List Instruction}
-    {here new : Sight} {at : ℕ} {reason : Reason} {pair : Option Asked}
-    → Why policy limits before here new at reason pair → List Instruction
+abbrev pub refused_instruction : {setting : OldStrings} {policy : Policy} {limits : Bounds}
+    {before : List Instruction} {here new : Sight} {at : ℕ} {reason : Reason} {pair : Option Asked}
+    → Why setting policy limits before here new at reason pair → List Instruction
 refused_instruction (reading h) = []
 refused_instruction (judging h) = h.instruction ∷ []
 refused_instruction (growing h) = h.instruction ∷ []
 
 -- the instructions that a right answer is about: those accepted, and then the refused one
 abbrev pub instructions_of : (policy : Policy) (limits : Bounds) (old new : Sight)
-    (answer : Result Yes No) → IsRightAnswer policy limits old new answer → List Instruction
+    (answer : Result Yes No) → IsRightAnswer Unknown policy limits old new answer → List Instruction
 instructions_of policy limits old new (Ok accepted) right = right.instructions
 instructions_of policy limits old new (Err refused) right =
     right.instructions ++ refused_instruction right.why
@@ -60,5 +62,5 @@ instructions_of policy limits old new (Err refused) right =
 -- in order
 pub record IsRightAndHeard (policy : Policy) (limits : Bounds) (old new : Sight)
     (answer : Result Yes No) (hs : List Heard) : Type 0 where
-  pub right : IsRightAnswer policy limits old new answer
+  pub right : IsRightAnswer Unknown policy limits old new answer
   pub each : AreHeardBehind [] (instructions_of policy limits old new answer right) hs

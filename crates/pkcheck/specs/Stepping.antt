@@ -4,8 +4,9 @@ use Rattle.pkops.specs.Spelling.{Instruction}
 use Rattle.pkread.specs.declared.refusal.Reason.{Reason}
 use Rattle.pkread.specs.declared.refusal.Reason.TheVariants.{OutOfMemory}
 use Rattle.pkcheck.specs.declared.machine.stepping.Moved.{Moved}
-use Rattle.pkcheck.specs.Effects.{effect_of}
-use Rattle.pkcheck.specs.Runs.{State, Outcome, AnswersCanBe, CanCome, step}
+use Rattle.pkcheck.specs.declared.old_strings.OldStrings.{OldStrings}
+use Rattle.pkcheck.specs.Effects.{effect_as}
+use Rattle.pkcheck.specs.Runs.{State, Outcome, AnswersCanBe, CanCome, step_as}
 use Rattle.pkcheck.specs.Knowledge.{Policy, Asked, AskedPair, AskedUnknown, Knowledge, Progress, Refusal, reason_of, advance}
 use Rattle.pkcheck.specs.Covers.{Covers, Follows}
 use Rattle.pkcheck.specs.Faults.{Arrivals, AsksForTwo, HasNoFault, IsFirstFault}
@@ -42,8 +43,9 @@ pub record RefusesForGood (before after : View) (reason : Reason) : Type 0 where
 
 -- the states that a knowledge covers, as runs that get to an instruction. In one that is claimed,
 -- what was answered can be
-abbrev pub CoveredBy : Knowledge → Arrivals
-CoveredBy known = record {
+abbrev pub CoveredBy : OldStrings → Knowledge → Arrivals
+CoveredBy setting known = record {
+  setting = setting;
   any = Covers known;
   some = λ state. Covers known state × AnswersCanBe state.objects;
   outcome = CanCome;
@@ -55,20 +57,20 @@ module _ (policy : Policy) (instruction : Instruction) (before after : View) whe
   abbrev pub GoesOn : Moved → Type 0
   GoesOn moved =
       (progress : Progress)
-      × (advance policy before.limits instruction before.knowledge ≡ Ok progress)
+      × (advance before.old_strings policy before.limits instruction before.knowledge ≡ Ok progress)
       × (after ≡ record before {
         knowledge = progress.after;
         imports = asks_more progress.import before.imports;
         stopped = stopped_by moved;
-        texts = texts_after (effect_of instruction.op) before.texts;
+        texts = texts_after (effect_as before.old_strings instruction) before.texts;
       })
-      × (moved ≡ moved_as (effect_of instruction.op) progress.import)
+      × (moved ≡ moved_as (effect_as before.old_strings instruction) progress.import)
 
   -- the instruction is refused for this reason, which changes nothing else
   abbrev pub Refuses : Reason → Type 0
   Refuses reason =
       (refusal : Refusal)
-      × (advance policy before.limits instruction before.knowledge ≡ Err refusal)
+      × (advance before.old_strings policy before.limits instruction before.knowledge ≡ Err refusal)
       × (reason ≡ reason_of refusal)
       × (after ≡ record before { refused = Some reason; off = off_pair refusal })
 
@@ -92,7 +94,7 @@ module _ (policy : Policy) (instruction : Instruction) (before after : View) whe
       × (progress.after ≡ after.knowledge)
       × (after.imports ≡ asks_more progress.import before.imports)
       × IsPermitted policy progress.import
-      × Follows progress state (step instruction state outcome)
+      × Follows progress state (step_as before.old_strings instruction state outcome)
 
   -- that, in every state that is covered and for every outcome there
   abbrev pub MeansInEachRun : Type 0
@@ -101,19 +103,21 @@ module _ (policy : Policy) (instruction : Instruction) (before after : View) whe
 
   -- no fault of the instruction is passed by
   abbrev pub PassesNoFault : Type 0
-  PassesNoFault = HasNoFault policy before.limits (CoveredBy before.knowledge) instruction
+  PassesNoFault =
+      HasNoFault policy before.limits (CoveredBy before.old_strings before.knowledge) instruction
 
   -- an import is listed as Unknown only where two runs ask for different pairs
   abbrev pub UnknownIsNeeded : Type 0
   UnknownIsNeeded =
       after.imports ≡ before.imports ++ AskedUnknown ∷ []
-      → AsksForTwo (CoveredBy before.knowledge) instruction
+      → AsksForTwo (CoveredBy before.old_strings before.knowledge) instruction
 
   -- the reason names the first fault of the instruction, in the states that are covered, or want of
   -- memory
   abbrev pub IsNoFalseAlarm : Reason → Type 0
   IsNoFalseAlarm reason =
-      IsFirstFault policy before.limits (CoveredBy before.knowledge) instruction reason after.off
+      IsFirstFault policy before.limits (CoveredBy before.old_strings before.knowledge)
+      instruction reason after.off
       ⊎ (reason ≡ OutOfMemory)
 
   -- want of memory is no reason where the step wants none

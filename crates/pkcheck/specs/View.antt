@@ -7,15 +7,18 @@ use Rattle.pkcheck.specs.declared.machine.effects.Effect.{Effect}
 use Rattle.pkcheck.specs.declared.machine.effects.Effect.TheVariants.{Operates, Stops}
 use Rattle.pkcheck.specs.declared.machine.effects.Gives.{Gives}
 use Rattle.pkcheck.specs.declared.machine.effects.Gives.TheVariants.{MakesText}
+use Rattle.pkcheck.specs.declared.old_strings.OldStrings.{OldStrings}
 use Rattle.pkcheck.specs.declared.machine.stepping.Moved.{Moved}
 use Rattle.pkcheck.specs.declared.machine.stepping.Moved.TheVariants.{On, Import, Stopped}
 use Rattle.pkcheck.specs.Knowledge.{Knowledge, Asked, AskedPair, Refusal, OffList, nothing_known}
 
--- what the machine knows, its limits, the imports so far, the pair that was off the list, the
--- reason of its refusal, whether STOP was accepted, and how many texts are in the table
+-- what the machine knows, its limits, what old strings become, the imports so far, the pair that
+-- was off the list, the reason of its refusal, whether STOP was accepted, and how many texts are in
+-- the table
 pub record View : Type 0 where
   pub knowledge : Knowledge
   pub limits : Bounds
+  pub old_strings : OldStrings
   pub imports : List Asked
   pub off : Option Asked
   pub refused : Option Reason
@@ -23,10 +26,11 @@ pub record View : Type 0 where
   pub texts : ℕ
 
 -- a machine at its start
-abbrev pub fresh : Bounds → View
-fresh limits = record {
+abbrev pub fresh : OldStrings → Bounds → View
+fresh setting limits = record {
   knowledge = nothing_known;
   limits = limits;
+  old_strings = setting;
   imports = [];
   off = None;
   refused = None;

@@ -8,14 +8,16 @@ mod import;
 mod imports;
 mod listening;
 mod machine;
+mod old_strings;
 mod pairs;
 mod policy;
 
 pub use allow::{Allow, AllowError, Where};
-pub use checking::{No, Yes, check};
+pub use checking::{No, Yes, check, check_as};
 pub use import::{Asked, Import};
 pub use imports::Imports;
 pub use listening::{Listener, check_heard};
 pub use machine::{Machine, Moved};
+pub use old_strings::OldStrings;
 pub use pairs::Pair;
 pub use policy::Policy;

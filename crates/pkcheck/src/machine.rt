@@ -15,6 +15,7 @@ pub(crate) mod value;
 ghost use Rattle.std.specs.Prelude.{◌≡◌, option_map, is_some, IfOk, IfErr, IsTrue, OnOk, true};
 ghost use Rattle.std.specs.Prelude.{false};
 ghost use Rattle.std.specs.List.{slice_get};
+ghost use Rattle.pkcheck.specs.declared.old_strings.OldStrings.TheVariants as OldStrings;
 ghost use Rattle.pkops.specs.Inst.{instruction_of};
 ghost use Rattle.pkops.specs.Admitted.{is_admitted};
 ghost use Rattle.pkops.specs.Spelling.{Instruction};
@@ -34,6 +35,7 @@ use crate::imports::Imports;
 use crate::machine::effects::class_passed;
 use crate::machine::held::Held;
 use crate::machine::stepping::advance;
+use crate::old_strings::OldStrings;
 use crate::policy::Policy;
 use pkops::{Inst, Limits, Op};
 use pkread::Reason;
@@ -49,6 +51,7 @@ pub struct Machine {
     alloc: Global,
     held: Held,
     limits: Limits,
+    old_strings: OldStrings,
     refused: Option<Reason>,
     off: Option<Asked>,
     stopped: bool,
@@ -67,6 +70,7 @@ impl Model for Machine {
     ghost view = { λ m. record {
       knowledge = m.held.knowledge;
       limits = m.limits;
+      old_strings = m.old_strings;
       imports = m.held.imports;
       off = option_map asked_shown m.off;
       refused = m.refused;
@@ -81,16 +85,25 @@ impl Model for Machine {
 }
 
 impl Machine {
-    /// A machine at the first instruction: nothing is known, and nothing is there. It takes no
-    /// memory.
+    /// A machine at the first instruction, where nothing is said of old strings: nothing is known,
+    /// and nothing is there. It takes no memory.
     pub fn new(alloc: Global, limits: &Limits) -> Machine
-        ensures fresh { result ≡ fresh limits.now }
+        ensures fresh { result ≡ fresh OldStrings.Unknown limits.now }
+        ensures covers { Covers result.knowledge start }
+    {
+        Machine::new_as(alloc, limits, OldStrings::Unknown)
+    }
+
+    /// The same, where this becomes of old strings.
+    pub fn new_as(alloc: Global, limits: &Limits, old_strings: OldStrings) -> Machine
+        ensures fresh { result ≡ fresh old_strings limits.now }
         ensures covers { Covers result.knowledge start }
     {
         Machine {
             alloc,
             held: Held::new(alloc),
             limits: *limits,
+            old_strings,
             refused: None,
             off: None,
             stopped: false,
@@ -103,10 +116,10 @@ impl Machine {
     /// # Errors
     ///
     /// The first of these that is no false alarm: `MissingMark`, `MissingItem`, `MissingMemo`,
-    /// `OddItems`, `WrongClass`, `NotText`, `UnknownImport`, `ImportOffList`, `LeftOver`, and
-    /// `TooLarge` where the stack or the memo would be past its limit; or `OutOfMemory`, where a
-    /// growth was refused. A refused step leaves the imports and the marks, and after it the same
-    /// reason is answered for ever.
+    /// `OddItems`, `WrongClass`, `NotText`, `UnknownImport`, `ImportOffList`, `LeftOver`,
+    /// `NotAscii`, and `TooLarge` where the stack or the memo would be past its limit; or
+    /// `OutOfMemory`, where a growth was refused. A refused step leaves the imports and the marks,
+    /// and after it the same reason is answered for ever.
     pub fn step(&mut self, inst: &Inst, policy: &Policy) -> Result<Moved, Reason>
         requires admitted { is_admitted (instruction_of inst.now) ≡ true }
         requires running { self.old.stopped ≡ false }
@@ -123,7 +136,7 @@ impl Machine {
         ensures unknown { OnOk result (UnknownIsNeeded (policy_of policy.now)
             (instruction_of inst.now) self.old self.new) }
         ensures texts { OnOk result (self.new.texts
-            ≡ texts_then (instruction_of inst.now).op self.old.texts) }
+            ≡ texts_then self.old.old_strings (instruction_of inst.now).op self.old.texts) }
         ensures fails { IfFirst self.old result (Fails (policy_of policy.now)
             (instruction_of inst.now) self.old self.new) }
         // no refusal is a false alarm
@@ -136,7 +149,14 @@ impl Machine {
         if let Some(reason) = self.refused {
             return Err(reason);
         }
-        match advance(self.alloc, &mut self.held, &self.limits, inst, policy) {
+        match advance(
+            self.alloc,
+            &mut self.held,
+            &self.limits,
+            self.old_strings,
+            inst,
+            policy,
+        ) {
             Ok(moved) => {
                 self.stopped = is_stopped(moved);
                 Ok(moved)
@@ -187,7 +207,8 @@ impl Machine {
     }
 
     /// The number of texts in the table: a step that goes on raises it by one for UNICODE,
-    /// SHORT_BINUNICODE, BINUNICODE and BINUNICODE8, and leaves it for the others.
+    /// SHORT_BINUNICODE, BINUNICODE and BINUNICODE8, and for an old string that is read as ASCII,
+    /// and leaves it for the others.
     pub fn texts(&self) -> usize
         ensures { result ≡ self.now.texts }
     {

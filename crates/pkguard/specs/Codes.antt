@@ -26,6 +26,7 @@ reason_code reason.UnknownImport = 15
 reason_code reason.ImportOffList = 16
 reason_code reason.LeftOver = 17
 reason_code reason.OutOfMemory = 18
+reason_code reason.NotAscii = 19
 
 -- its number: a code byte, a protocol or a memo number, and else 0
 abbrev pub reason_number : Reason → ℕ

@@ -5,6 +5,7 @@ use Rattle.toml.specs.Data.{Members, get_member}
 use Rattle.pkops.specs.Limits.{Bounds}
 use Rattle.pkread.specs.Rows.{Sight}
 use Rattle.pkread.specs.declared.refusal.Reason.{Reason}
+use Rattle.pkcheck.specs.declared.old_strings.OldStrings.TheVariants.{Unknown}
 use Rattle.pkcheck.specs.Knowledge.{Policy, Asked, AskedPair}
 use Rattle.pkcheck.specs.ListFile.{limits_in, list_of, lists_in}
 use Rattle.pkcheck.specs.Accepted.{Accepted}
@@ -81,7 +82,7 @@ pub record IsYes (policy : Policy) (limits : Bounds) (pickle before after : List
     (verdict : Verdict) : Type 0 where
   pub rest : List ℕ
   pub imports : List Asked
-  pub accepted : Accepted policy limits (memory pickle) (memory rest) verdict.taken imports
+  pub accepted : Accepted Unknown policy limits (memory pickle) (memory rest) verdict.taken imports
   pub told : verdict ≡ verdict_of_yes verdict.taken (length imports)
   pub room : after ≡ before
 
@@ -92,7 +93,7 @@ pub record IsNo (policy : Policy) (limits : Bounds) (pickle before after : List 
   pub rest : List ℕ
   pub why : Reason
   pub pair : Option Asked
-  pub refused : Refused policy limits (memory pickle) (memory rest) verdict.at why pair
+  pub refused : Refused Unknown policy limits (memory pickle) (memory rest) verdict.at why pair
   pub told : verdict ≡ verdict_of_no verdict.at why pair
   pub room : after ≡ names_placed pair before
 

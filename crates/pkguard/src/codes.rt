@@ -29,6 +29,7 @@ pub fn reason_code(reason: Reason) -> u32
         Reason::ImportOffList => 16,
         Reason::LeftOver => 17,
         Reason::OutOfMemory => 18,
+        Reason::NotAscii => 19,
     }
 }
 

@@ -12,6 +12,7 @@ use Rattle.pkops.specs.Answer.{Answer, Whole, More, Bad, Answers}
 use Rattle.pkops.specs.declared.fault.Fault.{Fault}
 use Rattle.pkread.specs.Rows.{Sight}
 use Rattle.pkread.specs.declared.refusal.Reason.{Reason}
+use Rattle.pkcheck.specs.declared.old_strings.OldStrings.TheVariants.{Unknown}
 use Rattle.pkcheck.specs.Knowledge.{Asked}
 use Rattle.pkcheck.specs.Refused.{Refused}
 use Rattle.pkjson.specs.declared.error.ExportError.{ExportError}
@@ -94,12 +95,12 @@ pub whole_bad : (i : Instruction) (n : ℕ) (f : Fault) → Whole i n ≡ Bad f 
 whole_bad i n f e = cc
 
 -- what `check` accepts, under the limits that hold all payloads
-pub accepted_as : (limits held : Bounds) (bytes : List ℕ) (old new : Sight) (taken : ℕ) (imports : List Asked) → held ≡ holding_all limits → old ≡ in_memory bytes → Accepted None held old new taken imports → IsAccepted limits bytes
+pub accepted_as : (limits held : Bounds) (bytes : List ℕ) (old new : Sight) (taken : ℕ) (imports : List Asked) → held ≡ holding_all limits → old ≡ in_memory bytes → Accepted Unknown None held old new taken imports → IsAccepted limits bytes
 accepted_as limits held bytes old new taken imports l e a =
-    let b : Accepted None (holding_all limits) (in_memory bytes) new taken imports = subst (λ s. Accepted None (holding_all limits) s new taken imports) e (subst (λ h. Accepted None h old new taken imports) l a) in
+    let b : Accepted Unknown None (holding_all limits) (in_memory bytes) new taken imports = subst (λ s. Accepted Unknown None (holding_all limits) s new taken imports) e (subst (λ h. Accepted Unknown None h old new taken imports) l a) in
     (b.instructions, record { new = new; taken = taken; imports = imports; accepted = b; is = refl })
 
 -- and what it refuses
-pub refused_as : (limits held : Bounds) (bytes : List ℕ) (old new : Sight) (at : ℕ) (why : Reason) (pair : Option Asked) (e : ExportError) → held ≡ holding_all limits → old ≡ in_memory bytes → Refused None held old new at why pair → TellsRefusal at why e → IsRefused limits bytes e
+pub refused_as : (limits held : Bounds) (bytes : List ℕ) (old new : Sight) (at : ℕ) (why : Reason) (pair : Option Asked) (e : ExportError) → held ≡ holding_all limits → old ≡ in_memory bytes → Refused Unknown None held old new at why pair → TellsRefusal at why e → IsRefused limits bytes e
 refused_as limits held bytes old new at why pair e l s r (inl q) = rw q tt
-refused_as limits held bytes old new at why pair e l s r (inr q) = rw q.1 ((new, pair, subst (λ o. Refused None (holding_all limits) o new at why pair) s (subst (λ h. Refused None h old new at why pair) l r)), q.0)
+refused_as limits held bytes old new at why pair e l s r (inr q) = rw q.1 ((new, pair, subst (λ o. Refused Unknown None (holding_all limits) o new at why pair) s (subst (λ h. Refused Unknown None h old new at why pair) l r)), q.0)

@@ -16,7 +16,6 @@ use Rattle.pkcheck.specs.declared.machine.effects.Takes.{Takes as TakesOf}
 use Rattle.pkcheck.specs.declared.machine.effects.Takes.TheVariants as takes
 use Rattle.pkcheck.specs.declared.machine.effects.Wanted.TheVariants.{WantsList, WantsDict}
 use Rattle.pkcheck.specs.Shape.{Breach, Entry, Item, Taken, and_then, items, slice, front, moved}
-use Rattle.pkcheck.specs.Runs.{text}
 use Rattle.pkjson.specs.declared.action.Action.{Action}
 use Rattle.pkjson.specs.declared.action.Action.TheVariants.{Makes, Fills, Moves, Stops}
 use Rattle.pkjson.specs.declared.action.Filled.{Filled}
@@ -28,7 +27,7 @@ use Rattle.pkjson.specs.declared.action.Move.TheVariants as move
 use Rattle.pkjson.specs.declared.action.Takes.{Takes}
 use Rattle.pkjson.specs.declared.action.Takes.TheVariants.{Objects, Slice}
 use Rattle.pkjson.specs.Integers.{integer_named, fits_word}
-use Rattle.pkjson.specs.Contents.{Kind, OfItems, OfPairs, OfValue, int_value}
+use Rattle.pkjson.specs.Contents.{Kind, OfItems, OfPairs, OfValue, int_value, text_named}
 use Rattle.pkjson.specs.Plain.{Fault, OtherKey, LargeNumber, every_other, taken}
 use Rattle.pkjson.specs.Arena.{Arena, received, are_text_kinds}
 
@@ -62,7 +61,7 @@ kind_made made.NoPairs i = OfPairs
 kind_made made.Pairs i = OfPairs
 kind_made made.Null i = OfValue null
 kind_made (made.Truth b) i = OfValue (boolean b)
-kind_made made.Text i = OfValue (string (text i))
+kind_made made.Text i = OfValue (string (text_named i))
 kind_made made.IntOrTruth i = OfValue (int_value i)
 kind_made made.Int i = OfValue (number (of_integer (integer_named i.arg)))
 

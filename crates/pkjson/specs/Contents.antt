@@ -1,5 +1,5 @@
 -- What each object of a run holds at its end, read off the events.
-use Rattle.std.specs.Prelude.{◌==◌, ℕ, zero, suc, Bool, true, false, cond, List, [], ◌∷◌, ◌++◌, Option, Some, None, option_map}
+use Rattle.std.specs.Prelude.{◌==◌, ℕ, zero, suc, Bool, true, false, cond, List, [], ◌∷◌, ◌++◌, Option, Some, None, option_map, unwrap_or}
 use Rattle.std.specs.Ordering.{nat_cmp}
 use Rattle.std.specs.Cmp.Lexicographic.{slice_cmp}
 use Rattle.std.specs.BTreeMap.{insert_entry}
@@ -9,13 +9,14 @@ use Rattle.pkops.specs.declared.op.Op.{Op}
 use Rattle.pkops.specs.declared.op.Op.TheVariants as op
 use Rattle.pkops.specs.Operands.{names_bool}
 use Rattle.pkops.specs.Spelling.{Argument, Line, Instruction}
+use Rattle.pkops.specs.Text.{text_bytes}
 use Rattle.pkcheck.specs.declared.machine.effects.Class.TheVariants as class
 use Rattle.pkcheck.specs.declared.machine.effects.Gives.{Gives}
 use Rattle.pkcheck.specs.declared.machine.effects.Gives.TheVariants.{Makes, MakesIntOrBool, MakesText, MayMake, Answers}
 use Rattle.pkcheck.specs.declared.machine.effects.Effect.{Effect}
 use Rattle.pkcheck.specs.declared.machine.effects.Effect.TheVariants.{Operates}
 use Rattle.pkcheck.specs.Effects.{effect_of}
-use Rattle.pkcheck.specs.Runs.{Event, Did, text}
+use Rattle.pkcheck.specs.Runs.{Event, Did}
 use Rattle.pkjson.specs.Unfolds.{Content, Scalar, Sequence, Pairs, Heap}
 use Rattle.pkjson.specs.Integers.{integer_named}
 
@@ -68,6 +69,10 @@ abbrev pub int_value : Instruction → Data
 int_value i =
     cond (names_bool i) (boolean (says_true i.arg)) (number (of_integer (integer_named i.arg)))
 
+-- the characters that a text opcode names
+abbrev pub text_named : Instruction → List ℕ
+text_named i = unwrap_or (text_bytes i) []
+
 -- the kind by what the opcode gives. Of the classes below no other is made by a plain instruction
 abbrev pub kind_given : Gives → Instruction → Kind
 kind_given (Makes class.List) i = OfItems
@@ -76,7 +81,7 @@ kind_given (Makes class.Dict) i = OfPairs
 kind_given (MayMake c) i = OfPairs
 kind_given (Makes class.None) i = OfValue null
 kind_given (Makes class.Bool) i = OfValue (boolean (is_true i.op))
-kind_given MakesText i = OfValue (string (text i))
+kind_given MakesText i = OfValue (string (text_named i))
 kind_given MakesIntOrBool i = OfValue (int_value i)
 kind_given g i = OfValue (number (of_integer (integer_named i.arg)))
 

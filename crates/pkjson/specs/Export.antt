@@ -5,6 +5,7 @@ use Rattle.pkops.specs.Limits.{Bounds, holding_all}
 use Rattle.pkops.specs.Spelling.{Instruction}
 use Rattle.pkread.specs.Rows.{Sight}
 use Rattle.pkread.specs.declared.refusal.Reason.TheVariants as reason
+use Rattle.pkcheck.specs.declared.old_strings.OldStrings.TheVariants.{Unknown}
 use Rattle.pkcheck.specs.Accepted.{Accepted}
 use Rattle.pkcheck.specs.Refused.{Refused}
 use Rattle.pkcheck.specs.Knowledge.{Asked}
@@ -26,7 +27,7 @@ pub record AcceptedAs (limits : Bounds) (bytes : List ℕ) (p : List Instruction
   pub new : Sight
   pub taken : ℕ
   pub imports : List Asked
-  pub accepted : Accepted None (holding_all limits) (in_memory bytes) new taken imports
+  pub accepted : Accepted Unknown None (holding_all limits) (in_memory bytes) new taken imports
   pub is : accepted.instructions ≡ p
 
 -- some instructions are the accepted pickle at the front
@@ -80,7 +81,7 @@ pub record HasTooMany (limits : Bounds) (bytes : List ℕ) : Type 0 where
 abbrev pub IsRefused : Bounds → List ℕ → ExportError → Type 0
 IsRefused limits bytes (Check r) =
     ((new : Sight) × (pair : Option Asked)
-    × Refused None (holding_all limits) (in_memory bytes) new r.at r.reason pair)
+    × Refused Unknown None (holding_all limits) (in_memory bytes) new r.at r.reason pair)
     × (r.reason ≢ reason.OutOfMemory)
 IsRefused limits bytes (NotPlain at op) = FaultsAt limits bytes at (OtherOpcode op)
 IsRefused limits bytes (Key at) = FaultsAt limits bytes at OtherKey

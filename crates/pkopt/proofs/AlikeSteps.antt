@@ -4,7 +4,7 @@ use Rattle.pkops.specs.Spelling.{Instruction}
 use Rattle.pkcheck.specs.declared.machine.effects.Names.{Names}
 use Rattle.pkcheck.specs.declared.machine.effects.Gives.{Gives}
 use Rattle.pkcheck.specs.declared.machine.effects.Effect.{Effect}
-use Rattle.pkcheck.specs.declared.machine.effects.Effect.TheVariants.{Operates, Moves, Stops}
+use Rattle.pkcheck.specs.declared.machine.effects.Effect.TheVariants.{Operates, Moves, Stops, Raises}
 use Rattle.pkcheck.specs.declared.machine.effects.Move.TheVariants.{PushesMark, Pops, PopsMark, Duplicates, Stores, StoresNext, Fetches, Passes, Extends}
 use Rattle.pkcheck.specs.Shape.{Breach, Entry, Item, Taken, and_then, slice, operands, top, popped}
 use Rattle.pkcheck.specs.Runs.{Import, State, Outcome, Raise, Go, Stepped, WentOn, Raised, Stopped, Stuck, Named, NoImport, Pair, NotTexts, class_at, named, with_event, asks, come_of, operated, move_step, stop_step, operate_step, perform}
@@ -76,6 +76,7 @@ perform_same (Moves Fetches) i o m s h = absurd h
 perform_same (Moves Passes) i o m s h = (refl, refl)
 perform_same (Moves Extends) i o m s h = tt
 perform_same Stops i o m s h = stop_same (top s.shape.entries) m s
+perform_same Raises i o m s h = record { objects = refl; events = refl }
 
 -- where the runs after the same step are alike, so are these
 pub step_on : (m : List (ℕ × ℕ)) (s : State) (a b : Stepped) (f g : State → Ended) → SameStep m s a b → ((t : State) → t.shape.memo ≡ s.shape.memo → IsFree (f t) → SameEnd (f t) (g (with_memo m t))) → IsFree (go_on a f) → SameEnd (go_on a f) (go_on b g)

@@ -10,6 +10,7 @@ use Rattle.pkread.specs.Admission.{IsAllowed}
 use Rattle.pkread.specs.Framing.{CountingIsExact}
 use Rattle.pkread.specs.Sequence.{IsSequence, spellings}
 use Rattle.pkread.specs.declared.refusal.Refusal.{Refusal}
+use Rattle.pkcheck.specs.declared.old_strings.OldStrings.TheVariants.{Unknown}
 use Rattle.pkcheck.specs.Listing.{permitted_by}
 use Rattle.pkcheck.specs.Runs.{WentOn, Raised, Stopped, Stuck, start}
 use Rattle.pkcheck.specs.Covers.{imports_of}
@@ -114,11 +115,11 @@ pub passes_limit : (limits : Bounds) (bytes : List ℕ) (c : Checks limits bytes
 passes_limit limits bytes c limit refusal same h = record { checks = c; before = h.before; past = subst (λ m. IsPastLimit m (pickle c) h.before) same h.past; place = h.place; reason = h.why }
 
 -- a check of bytes in memory
-pub checks_memory : (limits : Bounds) (bytes left rest : List ℕ) (taken : ℕ) (imports : List Asked) → left ≡ bytes → Accepted None (holding_all limits) (in_memory left) (in_memory rest) taken imports → Checks limits bytes
-checks_memory limits bytes left rest taken imports e h = record { rest = rest; taken = taken; imports = imports; accepted = subst (λ b. Accepted None (holding_all limits) (in_memory b) (in_memory rest) taken imports) e h }
+pub checks_memory : (limits : Bounds) (bytes left rest : List ℕ) (taken : ℕ) (imports : List Asked) → left ≡ bytes → Accepted Unknown None (holding_all limits) (in_memory left) (in_memory rest) taken imports → Checks limits bytes
+checks_memory limits bytes left rest taken imports e h = record { rest = rest; taken = taken; imports = imports; accepted = subst (λ b. Accepted Unknown None (holding_all limits) (in_memory b) (in_memory rest) taken imports) e h }
 
-pub fails_memory : (limits : Bounds) (bytes left : List ℕ) (after : Sight) (refusal : Refusal) (pair : Option Asked) → left ≡ bytes → Refused None (holding_all limits) (in_memory left) after refusal.at refusal.reason pair → FailsCheck limits bytes refusal
-fails_memory limits bytes left after refusal pair e h = record { after = after; pair = pair; refused = subst (λ b. Refused None (holding_all limits) (in_memory b) after refusal.at refusal.reason pair) e h }
+pub fails_memory : (limits : Bounds) (bytes left : List ℕ) (after : Sight) (refusal : Refusal) (pair : Option Asked) → left ≡ bytes → Refused Unknown None (holding_all limits) (in_memory left) after refusal.at refusal.reason pair → FailsCheck limits bytes refusal
+fails_memory limits bytes left after refusal pair e h = record { after = after; pair = pair; refused = subst (λ b. Refused Unknown None (holding_all limits) (in_memory b) after refusal.at refusal.reason pair) e h }
 
 pub plan_for : (p : List Instruction) (plan : Plan) (writes : ℕ) → (plan.sources.items ≡ sources [] p) × (writes ≡ length (after_all p [])) → AreNumbers plan.sources.items writes plan.limit plan.numbers.items → IsPlanFor p plan
 plan_for p plan writes e h = record {

@@ -8,6 +8,7 @@ use Rattle.pkread.specs.Rows.{Sight}
 use Rattle.pkread.specs.Sequence.{IsSequence, spellings}
 use Rattle.pkread.specs.declared.refusal.Reason.TheVariants.{TooLarge, OutOfMemory}
 use Rattle.pkread.specs.declared.refusal.Refusal.{Refusal}
+use Rattle.pkcheck.specs.declared.old_strings.OldStrings.TheVariants.{Unknown}
 use Rattle.pkcheck.specs.Accepted.{Accepted}
 use Rattle.pkcheck.specs.Knowledge.{Asked}
 use Rattle.pkcheck.specs.Listing.{permitted_by}
@@ -27,13 +28,14 @@ pub record Checks (limits : Bounds) (bytes : List ℕ) : Type 0 where
   pub rest : List ℕ
   pub taken : ℕ
   pub imports : List Asked
-  pub accepted : Accepted None (holding_all limits) (in_memory bytes) (in_memory rest) taken imports
+  pub accepted : Accepted Unknown None (holding_all limits) (in_memory bytes) (in_memory rest)
+      taken imports
 
 -- a check of the bytes under any import takes so many
 abbrev pub TakesAsChecked : Bounds → List ℕ → ℕ → Type 0
 TakesAsChecked limits bytes taken =
     (after : Sight) × (imports : List Asked)
-    × Accepted None (holding_all limits) (in_memory bytes) after taken imports
+    × Accepted Unknown None (holding_all limits) (in_memory bytes) after taken imports
 
 -- the instructions of that pickle
 abbrev pub pickle : {limits : Bounds} {bytes : List ℕ} → Checks limits bytes → List Instruction
@@ -55,7 +57,7 @@ pub record Optimizes (limits : Bounds) (bytes out : List ℕ) : Type 0 where
   pub framed : Framed (map piece_of (optimized (pickle checks)))
   -- whatever operations answer, each step of it finds what it needs, and STOP leaves nothing but
   -- the result
-  pub sound : Sound (optimized (pickle checks)) (permitted_by None)
+  pub sound : Sound Unknown (optimized (pickle checks)) (permitted_by None)
   -- no write has a number as large as the limit
   pub fits : (before : List Instruction) → IsPastLimit limits.memo (pickle checks) before → ⊥
 
@@ -63,7 +65,7 @@ pub record Optimizes (limits : Bounds) (bytes out : List ℕ) : Type 0 where
 pub record FailsCheck (limits : Bounds) (bytes : List ℕ) (refusal : Refusal) : Type 0 where
   pub after : Sight
   pub pair : Option Asked
-  pub refused : Refused None (holding_all limits)
+  pub refused : Refused Unknown None (holding_all limits)
       (in_memory bytes) after refusal.at refusal.reason pair
 
 -- the pickle passes the check, and at this place stands a write that is read and whose number would

@@ -45,6 +45,8 @@ pub enum Reason {
     ImportOffList,
     /// Something other than the result is left at STOP.
     LeftOver,
+    /// An old string with a byte above 7f, where old strings are read as ASCII.
+    NotAscii,
     /// Memory ran out.
     OutOfMemory,
 }

@@ -30,6 +30,7 @@ reason_name reason.NotText = codes "NotText"
 reason_name reason.UnknownImport = codes "UnknownImport"
 reason_name reason.ImportOffList = codes "ImportOffList"
 reason_name reason.LeftOver = codes "LeftOver"
+reason_name reason.NotAscii = codes "NotAscii"
 reason_name reason.OutOfMemory = codes "OutOfMemory"
 
 -- its number: a code byte, a protocol or a memo number

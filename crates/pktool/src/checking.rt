@@ -2,6 +2,7 @@
 ghost use Rattle.std.specs.Prelude.{◌≡◌, IfOk, Result};
 ghost use Rattle.std.specs.Io.KnownBytes.{Appends};
 ghost use Rattle.pkread.specs.Rows.{sight};
+ghost use Rattle.pkcheck.specs.declared.old_strings.OldStrings.TheVariants.{Unknown};
 ghost use Rattle.pkcheck.specs.Answered.{CountsFailures, IsRightAnswer};
 ghost use Rattle.pkcheck.specs.Import.{policy_of};
 ghost use Rattle.pkcheck.specs.declared.checking.Yes.{Yes};
@@ -40,7 +41,7 @@ pub fn check_to<R: Source, W: Write>(
     out: &mut W,
 ) -> Result<Outcome, io::Error>
     ensures { IfOk result (λ outcome. (answer : Result Yes No)
-        × IsRightAnswer (policy_of policy.now) limits.now
+        × IsRightAnswer Unknown (policy_of policy.now) limits.now
         (sight R.left R.failures source.old) (sight R.left R.failures source.new) answer
         × CountsFailures (R.failures source.old) (R.failures source.new) answer
         × Appends (W.contents out.old) (W.contents out.new) (verdict_line answer)

@@ -2,6 +2,7 @@
 ghost use Rattle.std.specs.Prelude.{◌≡◌, IfOk, Result};
 ghost use Rattle.std.specs.Io.KnownBytes.{Appends};
 ghost use Rattle.pkread.specs.Rows.{sight};
+ghost use Rattle.pkcheck.specs.declared.old_strings.OldStrings.TheVariants.{Unknown};
 ghost use Rattle.pkcheck.specs.Answered.{CountsFailures, IsRightAnswer};
 ghost use Rattle.pkcheck.specs.Import.{policy_of};
 ghost use Rattle.pkcheck.specs.declared.policy.Policy.TheVariants.{AnyImport};
@@ -32,7 +33,7 @@ pub fn imports_to<R: Source, W: Write>(
     out: &mut W,
 ) -> Result<Outcome, io::Error>
     ensures { IfOk result (λ outcome. (answer : Result Yes No)
-        × IsRightAnswer (policy_of AnyImport) limits.now
+        × IsRightAnswer Unknown (policy_of AnyImport) limits.now
         (sight R.left R.failures source.old) (sight R.left R.failures source.new) answer
         × CountsFailures (R.failures source.old) (R.failures source.new) answer
         × Appends (W.contents out.old) (W.contents out.new) (imports_text answer)

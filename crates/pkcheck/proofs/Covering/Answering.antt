@@ -6,13 +6,13 @@ use Rattle.pkcheck.specs.declared.machine.effects.Names.{Names}
 use Rattle.pkcheck.specs.declared.machine.effects.Names.TheVariants.{NoName, OfArgument, OfOperands}
 use Rattle.pkcheck.specs.declared.machine.effects.Gives.{Gives}
 use Rattle.pkcheck.specs.declared.machine.effects.Effect.{Effect}
-use Rattle.pkcheck.specs.declared.machine.effects.Effect.TheVariants.{Operates, Moves, Stops}
+use Rattle.pkcheck.specs.declared.machine.effects.Effect.TheVariants.{Operates, Moves, Stops, Raises}
 use Rattle.pkcheck.specs.Shape.{top, Breach, Entry, Mark, Item, Shape, Taken, and_then, unless, operands, moved}
 use Rattle.std.specs.Str.{IsUtf8}
 use Rattle.std.proofs.lemmas.List.Elements.{All-append, All-cons, All-nil}
 use Rattle.pkops.specs.Spelling.{Instruction}
 use Rattle.pkcheck.specs.Runs.{argument_named, ObjectClass, AnswersCanBe, CanBe, Text, Plain, Foreign, Object, State, Outcome, Go, Stepped, WentOn, Raised, Stopped, Stuck, Named, NoImport, Pair, NotTexts, class_at, texts_named, of_two, named, asks, come_of, operated, move_step, stop_step, operate_step, perform}
-use Rattle.pkcheck.specs.Knowledge.{argument_asked, Known, Knowledge, Policy, Asked, AskedPair, AskedUnknown, Progress, Refusal, Lacks, WrongClass, NotText, UnknownImport, OffList, LeftOver, TooLarge, wrong_receiver, permitted, unknown_pair, text_fault, operands_asked, asked_of, left_over, move_learned, stop_learned, operate_learned, learn}
+use Rattle.pkcheck.specs.Knowledge.{argument_asked, Known, Knowledge, Policy, Asked, AskedPair, AskedUnknown, Progress, Refusal, Lacks, WrongClass, NotText, UnknownImport, OffList, LeftOver, NotAscii, TooLarge, wrong_receiver, permitted, unknown_pair, text_fault, operands_asked, asked_of, left_over, move_learned, stop_learned, operate_learned, learn}
 use Rattle.pkcheck.specs.Covers.{Pointwise, Alike}
 use Rattle.pkcheck.proofs.Covering.CoversBy.{TrueBy, CoversBy, Choose, OutcomeHolds, IsAnswer}
 use Rattle.pkcheck.specs.Faults.{AsksFor}
@@ -125,6 +125,7 @@ module _ (v : List ℕ) where
   from_two j k nm (Err NotText) h = tt
   from_two j k nm (Err (OffList a b)) h = tt
   from_two j k nm (Err LeftOver) h = tt
+  from_two j k nm (Err NotAscii) h = tt
   from_two j k nm (Err TooLarge) h = h
 
   from_pair : (p : Policy) (ks : List Known) (a b : List ℕ) → NamesExactly ks (Pair a b) (permitted p a b)
@@ -177,6 +178,7 @@ module _ (v : List ℕ) where
     names_go t u nm n c (Err NotText) after e h = tt
     names_go t u nm n c (Err (OffList a b)) after e h = tt
     names_go t u nm n c (Err LeftOver) after e h = tt
+    names_go t u nm n c (Err NotAscii) after e h = tt
     names_go t u nm n c (Err TooLarge) after e h = h
 
     unless_goes : (b : Bool) (st : Stepped) (x : Result Progress Refusal) → here st x → here st (cond b (Err WrongClass) x)
@@ -207,6 +209,7 @@ module _ (v : List ℕ) where
   learn_exactly p (Operates takes names gives) i k s n c h = operate_goes_on takes names gives i k s p n c (operands takes k.entries) (operands takes s.shape.entries) refl (operands_alike (TrueBy (Answered v) s.objects) takes k.entries s.shape.entries h.entries)
   learn_exactly p (Moves m) i k s n c h = shape_goes (Moves m) k s (moved m (memo_number i) k) (moved m (memo_number i) s.shape) (moved_alike (TrueBy (Answered v) s.objects) m (memo_number i) k s.shape h)
   learn_exactly p Stops i k s n c h = stop_goes k s (top k.entries) (top s.shape.entries) (top_alike (TrueBy (Answered v) s.objects) k.entries s.shape.entries h.entries)
+  learn_exactly p Raises i k s n c h = tt
 
   -- each knowledge covers such a state
   record Made (es : List (Entry Known)) (ms : List (ℕ × Known)) : Type 0 where

@@ -1,13 +1,16 @@
 -- Worked examples of the checker over whole lists of instructions, computed.
+use Rattle.pkcheck.specs.declared.old_strings.OldStrings.{OldStrings}
+use Rattle.pkcheck.specs.declared.old_strings.OldStrings.TheVariants.{Unknown, Ascii, Bytes}
 use Rattle.std.proofs.Common.{◌≡◌, ℕ, ◌&&◌, List, [], ◌∷◌, Option, Some, None, refl}
 use Rattle.std.specs.Prelude.{nat_eq}
+use Rattle.std.proofs.Math.Utf8.{encode}
 use Rattle.std.specs.Cmp.Lexicographic.{pointwise}
 use Rattle.pkops.specs.declared.op.Op.{Op}
 use Rattle.pkops.specs.declared.op.Op.TheVariants as op
 use Rattle.pkops.specs.Spelling.{Instruction, Nothing, Number, Pair, Counted, instruction}
 use Rattle.pkops.specs.Limits.{standard}
 use Rattle.pkcheck.specs.Shape.{NoItem, NoMemo, Odd}
-use Rattle.pkcheck.specs.Knowledge.{Policy, Asked, AskedPair, AskedUnknown, Lacks, WrongClass, NotText, UnknownImport, OffList, LeftOver, TooLarge, nothing_known}
+use Rattle.pkcheck.specs.Knowledge.{Policy, Asked, AskedPair, AskedUnknown, Lacks, WrongClass, NotText, UnknownImport, OffList, LeftOver, NotAscii, TooLarge, nothing_known}
 use Rattle.pkcheck.proofs.Covering.Verdicts.{Verdict, Yes, No, verdict}
 
 abbrev bare : Op → Instruction
@@ -28,7 +31,7 @@ abbrev one : List ℕ → List ℕ → Policy
 one m n = Some (λ x y. pointwise nat_eq x m && pointwise nat_eq y n)
 
 abbrev asks : Policy → List Instruction → Verdict
-asks p is = verdict p standard is nothing_known
+asks p is = verdict Unknown p standard is nothing_known
 
 abbrev said : Verdict → Option (List (Option Asked))
 said (Yes k as') = Some as'
@@ -79,8 +82,60 @@ an_odd_slice_before_a_list = refl
 a_mark_below_a_mark : asks (one [] []) (bare op.Mark ∷ bare op.Mark ∷ bare op.None ∷ bare op.SetItems ∷ []) ≡ No 3 (Lacks NoItem)
 a_mark_below_a_mark = refl
 
-past_the_stack_limit : verdict None (record standard { stack = 1 }) (bare op.None ∷ bare op.None ∷ bare op.Stop ∷ []) nothing_known ≡ No 1 TooLarge
+past_the_stack_limit : verdict Unknown None (record standard { stack = 1 }) (bare op.None ∷ bare op.None ∷ bare op.Stop ∷ []) nothing_known ≡ No 1 TooLarge
 past_the_stack_limit = refl
 
 an_import_of_any_name : said (asks None (global (1 ∷ []) (2 ∷ []) ∷ text (98 ∷ []) ∷ bare op.StackGlobal ∷ bare op.Stop ∷ [])) ≡ Some (Some (AskedPair (1 ∷ []) (2 ∷ [])) ∷ None ∷ Some AskedUnknown ∷ None ∷ [])
 an_import_of_any_name = refl
+
+-- ---- old strings
+
+abbrev old : List ℕ → Instruction
+old bytes = instruction op.ShortBinString (Counted bytes)
+
+abbrev asks_as : OldStrings → List Instruction → Verdict
+asks_as setting is = verdict setting (one (97 ∷ []) (98 ∷ [])) standard is nothing_known
+
+-- the names a and b as old strings
+abbrev old_names : List Instruction
+old_names = old (97 ∷ []) ∷ old (98 ∷ []) ∷ bare op.StackGlobal ∷ bare op.Stop ∷ []
+
+old_names_unknown : asks_as Unknown old_names ≡ No 2 UnknownImport
+old_names_unknown = refl
+
+old_names_ascii : said (asks_as Ascii old_names) ≡ Some (None ∷ None ∷ Some (AskedPair (97 ∷ []) (98 ∷ [])) ∷ None ∷ [])
+unfolding encode
+old_names_ascii = refl
+
+old_names_bytes : asks_as Bytes old_names ≡ No 2 NotText
+old_names_bytes = refl
+
+-- a byte that is not ASCII
+abbrev old_byte : List Instruction
+old_byte = old (0xe9 ∷ []) ∷ bare op.Stop ∷ []
+
+old_byte_unknown : said (asks_as Unknown old_byte) ≡ Some (None ∷ None ∷ [])
+old_byte_unknown = refl
+
+old_byte_ascii : asks_as Ascii old_byte ≡ No 0 NotAscii
+old_byte_ascii = refl
+
+old_byte_bytes : said (asks_as Bytes old_byte) ≡ Some (None ∷ None ∷ [])
+old_byte_bytes = refl
+
+-- the stack's limit is tried after it
+old_byte_past_the_limit : verdict Ascii None (record standard { stack = 0 }) old_byte nothing_known ≡ No 0 NotAscii
+old_byte_past_the_limit = refl
+
+-- an old string to which an item is appended
+abbrev old_receiver : List Instruction
+old_receiver = old [] ∷ bare op.None ∷ bare op.Append ∷ bare op.Stop ∷ []
+
+old_receiver_unknown : said (asks_as Unknown old_receiver) ≡ Some (None ∷ None ∷ None ∷ None ∷ [])
+old_receiver_unknown = refl
+
+old_receiver_ascii : asks_as Ascii old_receiver ≡ No 2 WrongClass
+old_receiver_ascii = refl
+
+old_receiver_bytes : asks_as Bytes old_receiver ≡ No 2 WrongClass
+old_receiver_bytes = refl

@@ -1,4 +1,5 @@
 -- A step that the checker lets pass, in every state that it covers.
+use Rattle.pkcheck.specs.declared.old_strings.OldStrings.{OldStrings}
 use Rattle.pkops.specs.Operands.{memo_number, pair_named}
 use Rattle.std.proofs.Common.{◌≡◌, ℕ, ◌<◌, Bool, true, false, cond, ltb, List, [], ◌∷◌, ◌++◌, length, map, Option, Some, None, Result, Ok, Err, ◌⊎◌, inl, inr, refl, sym, ap, subst, ◌∙◌, arith, length-append, append_assoc, append-nil}
 use Rattle.std.specs.Prelude.{slice_get}
@@ -10,11 +11,11 @@ use Rattle.pkcheck.specs.declared.machine.effects.Names.TheVariants.{NoName, OfA
 use Rattle.pkcheck.specs.declared.machine.effects.Gives.{Gives}
 use Rattle.pkcheck.specs.declared.machine.effects.Gives.TheVariants.{Makes, MakesIntOrBool, MakesText, MayMake, Answers, Leaves}
 use Rattle.pkcheck.specs.declared.machine.effects.Effect.{Effect}
-use Rattle.pkcheck.specs.declared.machine.effects.Effect.TheVariants.{Operates, Moves, Stops}
-use Rattle.pkcheck.specs.Effects.{effect_of}
+use Rattle.pkcheck.specs.declared.machine.effects.Effect.TheVariants.{Operates, Moves, Stops, Raises}
+use Rattle.pkcheck.specs.Effects.{effect_as}
 use Rattle.pkcheck.specs.Shape.{top, put, Breach, Entry, Item, Mark, Shape, Taken, and_then, unless, front, moved}
 use Rattle.pkops.specs.Spelling.{Instruction}
-use Rattle.pkcheck.specs.Runs.{argument_named, ObjectClass, Text, Plain, Foreign, Object, Event, Import, Did, State, Outcome, Raise, Go, Stepped, Stopped, Named, NoImport, Pair, NotTexts, class_at, texts_named, named, asks, given, come_of, operated, move_step, stop_step, operate_step, perform, step}
+use Rattle.pkcheck.specs.Runs.{argument_named, ObjectClass, Text, Plain, Foreign, Object, Event, Import, Did, State, Outcome, Raise, Go, Stepped, Stopped, Named, NoImport, Pair, NotTexts, class_at, texts_named, named, asks, given, come_of, operated, move_step, stop_step, operate_step, perform, step_as}
 use Rattle.pkcheck.specs.Knowledge.{argument_asked, Known, Knowledge, Policy, Asked, AskedPair, AskedUnknown, Progress, Refusal, WrongClass, OffList, TooLarge, wrong_receiver, permitted, unknown_pair, operands_asked, asked_of, known_given, within, left_over, move_learned, stop_learned, operate_learned, learn, advance}
 use Rattle.pkops.specs.Limits.{Bounds}
 use Rattle.pkcheck.specs.Covers.{Pointwise, AlikeEntry, AlikeCell, Alike, imports_of, IsAsked, Adds}
@@ -218,6 +219,7 @@ module _ (U : List Object → ℕ → Type 0) where
     learn_follows p (Operates takes names gives) i k s o h w = operate_follows p names gives i k s o _ _ (operands_alike (TrueBy U s.objects) takes k.entries s.shape.entries h.entries) h.memo w
     learn_follows p (Moves m) i k s o h w = shape_follows (moved m (memo_number i) k) s (moved m (memo_number i) s.shape) (moved_alike (TrueBy U s.objects) m (memo_number i) k s.shape h)
     learn_follows p Stops i k s o h w = stop_follows k.memo (top k.entries) s (top s.shape.entries) refl (top_alike (TrueBy U s.objects) k.entries s.shape.entries h.entries) h.memo
+    learn_follows p Raises i k s o h w = tt
 
     within_follows : (l : Bounds) (x : Result Progress Refusal) (s : State) (st : Stepped) → FollowsIfOk U x s st → FollowsIfOk U (and_then x (within l)) s st
     within_follows l (Err r) s st h = tt
@@ -228,5 +230,5 @@ module _ (U : List Object → ℕ → Type 0) where
         ]
 
     -- where the checker goes on, the step finds what it needs, and what is known after covers the state after
-    pub step_follows : (p : Policy) (l : Bounds) (i : Instruction) (k : Knowledge) (s : State) (o : Outcome) → CoversBy U k s → OutcomeHolds U s.objects o → FollowsIfOk U (advance p l i k) s (step i s o)
-    step_follows p l i k s o h w = within_follows l (learn p (effect_of i.op) i k) s (step i s o) (learn_follows p (effect_of i.op) i k s o h w)
+    pub step_follows : (setting : OldStrings) (p : Policy) (l : Bounds) (i : Instruction) (k : Knowledge) (s : State) (o : Outcome) → CoversBy U k s → OutcomeHolds U s.objects o → FollowsIfOk U (advance setting p l i k) s (step_as setting i s o)
+    step_follows setting p l i k s o h w = within_follows l (learn p (effect_as setting i) i k) s (step_as setting i s o) (learn_follows p (effect_as setting i) i k s o h w)

@@ -1,4 +1,5 @@
 -- Where the checker refuses, the fault is there in every state that it covers.
+use Rattle.pkcheck.specs.declared.old_strings.OldStrings.{OldStrings}
 use Rattle.pkops.specs.Operands.{memo_number, pair_named}
 use Rattle.std.proofs.Common.{◌≡◌, ℕ, ◌<◌, Bool, true, false, not, cond, ltb, List, [], ◌∷◌, ◌++◌, length, map, Option, Some, None, Result, Ok, Err, inl, inr, refl, sym, ap, subst, ◌∙◌, append_assoc, ltb-true}
 use Rattle.pkcheck.specs.declared.machine.effects.Takes.{Takes}
@@ -8,12 +9,12 @@ use Rattle.pkcheck.specs.declared.machine.effects.Wanted.{Wanted}
 use Rattle.pkcheck.specs.declared.machine.effects.Gives.{Gives}
 use Rattle.pkcheck.specs.declared.machine.effects.Gives.TheVariants.{Makes, MakesIntOrBool, MakesText, MayMake, Answers, Leaves}
 use Rattle.pkcheck.specs.declared.machine.effects.Effect.{Effect}
-use Rattle.pkcheck.specs.declared.machine.effects.Effect.TheVariants.{Operates, Moves, Stops}
-use Rattle.pkcheck.specs.Effects.{effect_of}
+use Rattle.pkcheck.specs.declared.machine.effects.Effect.TheVariants.{Operates, Moves, Stops, Raises}
+use Rattle.pkcheck.specs.Effects.{effect_as}
 use Rattle.pkcheck.specs.Shape.{top, Breach, Entry, Shape, Taken, and_then, unless, operands, moved}
 use Rattle.pkops.specs.Spelling.{Instruction}
-use Rattle.pkcheck.specs.Runs.{argument_named, Text, Plain, Foreign, Object, Import, Did, State, Outcome, Raise, Go, Stepped, WentOn, Raised, Stopped, Stuck, Named, Pair, class_at, texts_named, named, asks, come_of, operated, move_step, stop_step, operate_step, perform, step}
-use Rattle.pkcheck.specs.Knowledge.{argument_asked, Known, Knowledge, Policy, Asked, AskedPair, Progress, Refusal, Lacks, WrongClass, NotText, UnknownImport, OffList, LeftOver, TooLarge, suits, wrong_first, wrong_receiver, permitted, unknown_pair, operands_asked, asked_of, within, left_over, move_learned, stop_learned, operate_learned, learn, advance}
+use Rattle.pkcheck.specs.Runs.{argument_named, Text, Plain, Foreign, Object, Import, Did, State, Outcome, Raise, Go, Stepped, WentOn, Raised, Stopped, Stuck, Named, Pair, class_at, texts_named, named, asks, come_of, operated, move_step, stop_step, operate_step, perform, step_as}
+use Rattle.pkcheck.specs.Knowledge.{argument_asked, Known, Knowledge, Policy, Asked, AskedPair, Progress, Refusal, Lacks, WrongClass, NotText, UnknownImport, OffList, LeftOver, NotAscii, TooLarge, suits, wrong_first, wrong_receiver, permitted, unknown_pair, operands_asked, asked_of, within, left_over, move_learned, stop_learned, operate_learned, learn, advance}
 use Rattle.pkops.specs.Limits.{Bounds}
 use Rattle.pkcheck.specs.Covers.{Pointwise, AlikeEntry, AlikeCell, Alike, Adds}
 use Rattle.pkcheck.proofs.Covering.CoversBy.{TrueBy, CoversBy, OutcomeHolds, FollowsBy, FollowsIfOk}
@@ -33,6 +34,13 @@ IsTooLarge l (Stopped r t) = IsPast l t
 IsTooLarge l (Raised t) = Unit {0}
 IsTooLarge l (Stuck b) = ⊥
 
+-- the step raises, and imports nothing
+abbrev pub RaisesAlone : State → Stepped → Type 0
+RaisesAlone s (Raised t) = Adds None s.events t.events
+RaisesAlone s (WentOn t) = ⊥
+RaisesAlone s (Stopped r t) = ⊥
+RaisesAlone s (Stuck b) = ⊥
+
 -- what a refusal means in one state and one step of it. An import that is not known has no fault of its own there: two
 -- states show it
 abbrev pub Fault : Policy → Bounds → Effect → State → Stepped → Refusal → Type 0
@@ -42,6 +50,7 @@ Fault p l e s st NotText = HasNonText e s
 Fault p l e s st UnknownImport = HasList p
 Fault p l e s st (OffList m n) = IsOff p m n × AsksFor m n s st
 Fault p l e s st LeftOver = LeavesMore st
+Fault p l e s st NotAscii = RaisesAlone s st
 Fault p l e s st TooLarge = IsTooLarge l st
 
 -- that, where the checker refuses
@@ -138,6 +147,7 @@ module _ (U : List Object → ℕ → Type 0) (p : Policy) where
     names_refused takes names gives i s o u nm (Err (Lacks b)) f e h = absurd h
     names_refused takes names gives i s o u nm (Err WrongClass) f e h = absurd h
     names_refused takes names gives i s o u nm (Err LeftOver) f e h = absurd h
+    names_refused takes names gives i s o u nm (Err NotAscii) f e h = absurd h
     names_refused takes names gives i s o u nm (Err TooLarge) f e h = absurd h
 
     operate_refused : (takes : Takes) (names : Names) (gives : Gives) (i : Instruction) (k : Knowledge) (s : State) (o : Outcome) (x : Result (Taken Known) Breach) (y : Result (Taken ℕ) Breach) → operands takes s.shape.entries ≡ y → SameResult (AlikeTaken (TrueBy U s.objects)) x y → FaultIfErr p l (Operates takes names gives) s (operate_step names gives i o s y) (operate_learned p names gives i k x)
@@ -168,6 +178,7 @@ module _ (U : List Object → ℕ → Type 0) (p : Policy) where
     learn_refused (Operates takes names gives) i k s o h = operate_refused takes names gives i k s o _ _ refl (operands_alike (TrueBy U s.objects) takes k.entries s.shape.entries h.entries)
     learn_refused (Moves m) i k s o h = shape_refused (Moves m) s (moved m (memo_number i) k) (moved m (memo_number i) s.shape) (moved_alike (TrueBy U s.objects) m (memo_number i) k s.shape h)
     learn_refused Stops i k s o h = stop_refused Stops s k.memo (top k.entries) (top s.shape.entries) (top_alike (TrueBy U s.objects) k.entries s.shape.entries h.entries)
+    learn_refused Raises i k s o h = record { added = Did i [] None ∷ []; grown = refl; asked = refl }
 
     more_stack : (q : Progress) (s : State) (st : Stepped) → FollowsBy U q s st → l.stack < length q.after.entries → IsTooLarge l st
     more_stack q s (WentOn t) h lt = inl (subst (λ n. l.stack < n) (length-Pointwise (AlikeEntry (TrueBy U t.objects)) q.after.entries t.shape.entries h.0.entries) lt)
@@ -190,5 +201,5 @@ module _ (U : List Object → ℕ → Type 0) (p : Policy) where
         ] refl
 
     -- where the checker refuses, each state that it covers has the fault, whatever the outcome
-    pub step_refused : Grows U → (i : Instruction) (k : Knowledge) (s : State) (o : Outcome) → CoversBy U k s → OutcomeHolds U s.objects o → FaultIfErr p l (effect_of i.op) s (step i s o) (advance p l i k)
-    step_refused grows i k s o h w = within_refused (effect_of i.op) (learn p (effect_of i.op) i k) s (step i s o) (learn_follows U grows p (effect_of i.op) i k s o h w) (learn_refused (effect_of i.op) i k s o h)
+    pub step_refused : Grows U → (setting : OldStrings) (i : Instruction) (k : Knowledge) (s : State) (o : Outcome) → CoversBy U k s → OutcomeHolds U s.objects o → FaultIfErr p l (effect_as setting i) s (step_as setting i s o) (advance setting p l i k)
+    step_refused grows setting i k s o h w = within_refused (effect_as setting i) (learn p (effect_as setting i) i k) s (step_as setting i s o) (learn_follows U grows p (effect_as setting i) i k s o h w) (learn_refused (effect_as setting i) i k s o h)

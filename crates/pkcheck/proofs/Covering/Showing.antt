@@ -11,15 +11,15 @@ use Rattle.pkcheck.specs.declared.machine.effects.Wanted.{Wanted}
 use Rattle.pkcheck.specs.declared.machine.effects.Gives.{Gives}
 use Rattle.pkcheck.specs.declared.machine.effects.Gives.TheVariants.{Makes, MakesIntOrBool, MakesText, MayMake, Answers, Leaves}
 use Rattle.pkcheck.specs.declared.machine.effects.Effect.{Effect}
-use Rattle.pkcheck.specs.declared.machine.effects.Effect.TheVariants.{Operates, Moves, Stops}
+use Rattle.pkcheck.specs.declared.machine.effects.Effect.TheVariants.{Operates, Moves, Stops, Raises}
 use Rattle.pkcheck.specs.Shape.{Breach, NoMark, NoItem, NoMemo, Odd, Extension, Taken}
 use Rattle.pkcheck.specs.Runs.{ObjectClass, Text, Plain, Foreign, Object, Event, State, Outcome, Raise, Go, Stepped, WentOn, Raised, Stopped, Stuck, Named, NoImport, Pair, NotTexts, asks, come_of, operated, operate_step, perform}
-use Rattle.pkcheck.specs.Knowledge.{Known, Knowledge, Policy, Asked, AskedPair, AskedUnknown, Progress, Refusal, Lacks, WrongClass, NotText, UnknownImport, OffList, LeftOver, TooLarge, wrong_first, wrong_receiver, text_fault, operands_asked, asked_of, operate_learned, learn, within, reason_of}
+use Rattle.pkcheck.specs.Knowledge.{Known, Knowledge, Policy, Asked, AskedPair, AskedUnknown, Progress, Refusal, Lacks, WrongClass, NotText, UnknownImport, OffList, LeftOver, NotAscii, TooLarge, wrong_first, wrong_receiver, text_fault, operands_asked, asked_of, operate_learned, learn, within, reason_of}
 use Rattle.pkcheck.specs.Covers.{Pointwise, AlikeEntry, AlikeCell, IsObject, imports_of, IsAsked, Adds}
 use Rattle.pkcheck.proofs.Covering.CoversBy.{TrueBy, CoversBy, FollowsBy}
-use Rattle.pkcheck.specs.Faults.{IsMade, is_text, WrongReceiver, NonText, HasWrongReceiver, HasNonText, IsOff, AsksFor, LeavesMore, IsPast, GoesOnPast, rank}
+use Rattle.pkcheck.specs.Faults.{IsMade, is_text, WrongReceiver, NonText, HasWrongReceiver, HasNonText, IsOff, AsksFor, LeavesMore, IsPast, GoesOnPast, rank, IsRaise}
 use Rattle.pkcheck.proofs.Covering.Alike.{SameResult, AlikeTaken, operands_alike, length-Pointwise, Alike-map}
-use Rattle.pkcheck.proofs.Covering.Refusing.{HasList, IsTooLarge}
+use Rattle.pkcheck.proofs.Covering.Refusing.{HasList, IsTooLarge, RaisesAlone}
 use Rattle.pkcheck.proofs.Covering.Answering.{Answered, guess, IsGoing}
 use Rattle.pkcheck.specs.Stepping.{IsPermitted}
 use Rattle.pkcheck.proofs.Covering.Soundness.{imports_of-append, emptied}
@@ -175,11 +175,13 @@ module _ (v : List ℕ) (p : Policy) (i : Instruction) (k : Knowledge) (s : Stat
   wrong_learned (Operates takes names gives) g = wrong_at takes names gives _ _ (operands_alike (TrueBy (Answered v) s.objects) takes k.entries s.shape.entries h.entries) g.0 g.1 g.2
   wrong_learned (Moves m) g = absurd g
   wrong_learned Stops g = absurd g
+  wrong_learned Raises g = absurd g
 
   pub non_text_learned : (e : Effect) → HasNonText e s → (learn p e i k ≡ Err NotText) ⊎ (learn p e i k ≡ Err WrongClass)
   non_text_learned (Operates takes names gives) g = non_text_at takes names gives _ _ (operands_alike (TrueBy (Answered v) s.objects) takes k.entries s.shape.entries h.entries) g.0 g.1 g.2
   non_text_learned (Moves m) g = absurd g
   non_text_learned Stops g = absurd g
+  non_text_learned Raises g = absurd g
 
 -- ---- a step that found its operands is not stuck
 
@@ -201,11 +203,13 @@ pub wrong_goes : {A : Type 0} (e : Effect) (i : Instruction) (s : State) (o : Ou
 wrong_goes (Operates takes names gives) i s o c h g = found_goes names gives i o s _ h.0 c h.1 g
 wrong_goes (Moves m) i s o c h g = absurd h
 wrong_goes Stops i s o c h g = absurd h
+wrong_goes Raises i s o c h g = absurd h
 
 pub non_text_goes : {A : Type 0} (e : Effect) (i : Instruction) (s : State) (o : Outcome) (c : Breach) → HasNonText e s → perform e i s o ≡ Stuck c → A
 non_text_goes (Operates takes names gives) i s o c h g = found_goes names gives i o s _ h.0 c h.1 g
 non_text_goes (Moves m) i s o c h g = absurd h
 non_text_goes Stops i s o c h g = absurd h
+non_text_goes Raises i s o c h g = absurd h
 
 pub asks_goes : {A : Type 0} (m n : List ℕ) (s : State) (st : Stepped) (c : Breach) → AsksFor m n s st → st ≡ Stuck c → A
 asks_goes m n s st c h e = absurd (subst (AsksFor m n s) e h)
@@ -219,6 +223,38 @@ leaves_asks m n s (Stopped r t) h g = absurd g
 leaves_asks m n s (WentOn t) h g = absurd h
 leaves_asks m n s (Raised t) h g = absurd h
 leaves_asks m n s (Stuck b) h g = absurd h
+
+-- a raise alone asks for nothing, is not stuck and leaves nothing
+pub raise_asks : {A : Type 0} (m n : List ℕ) (s : State) (st : Stepped) → RaisesAlone s st → AsksFor m n s st → A
+raise_asks m n s (Raised t) h g =
+    let same = append_cancel_left s.events h.added g.added (sym h.grown ∙ g.grown) in
+    let none : ◌≡◌ {A = List (List ℕ × List ℕ)} [] ((m, n) ∷ []) = sym h.asked ∙ (ap imports_of same ∙ g.asked) in
+    cc
+raise_asks m n s (WentOn t) h g = absurd h
+raise_asks m n s (Stopped r t) h g = absurd h
+raise_asks m n s (Stuck b) h g = absurd h
+
+pub raise_goes : {A : Type 0} (s : State) (st : Stepped) (c : Breach) → RaisesAlone s st → st ≡ Stuck c → A
+raise_goes s st c h e = absurd (subst (RaisesAlone s) e h)
+
+pub raise_leaves : {A : Type 0} (s : State) (st : Stepped) → RaisesAlone s st → LeavesMore st → A
+raise_leaves s (Raised t) h g = absurd g
+raise_leaves s (WentOn t) h g = absurd h
+raise_leaves s (Stopped r t) h g = absurd h
+raise_leaves s (Stuck b) h g = absurd h
+
+pub raise_is : (s : State) (st : Stepped) → RaisesAlone s st → IsRaise st
+raise_is s (Raised t) h = tt
+raise_is s (WentOn t) h = h
+raise_is s (Stopped r t) h = h
+raise_is s (Stuck b) h = h
+
+-- a step that goes on does not raise
+pub going_on : (e : Effect) (st : Stepped) → IsGoing e st → IsRaise st → ⊥
+going_on e (Raised t) h g = h
+going_on e (WentOn t) h g = g
+going_on e (Stopped r t) h g = g
+going_on e (Stuck b) h g = g
 
 pub same_breach : (b c : Breach) → Stuck b ≡ Stuck c → b ≡ c
 same_breach b c e = cc
@@ -236,13 +272,14 @@ lacks_turn NoItem = omega arith
 lacks_turn (NoMemo n) = omega arith
 lacks_turn Odd = omega arith
 
-pub last_turn : (r : Refusal) → turn r ≤ 11
+pub last_turn : (r : Refusal) → turn r ≤ 12
 last_turn (Lacks b) = let h = lacks_turn b in omega arith
 last_turn WrongClass = omega arith
 last_turn NotText = omega arith
 last_turn UnknownImport = omega arith
 last_turn (OffList m n) = omega arith
 last_turn LeftOver = omega arith
+last_turn NotAscii = omega arith
 last_turn TooLarge = omega arith
 
 pub same_refusal : (q r : Refusal) → ◌≡◌ {A = Result Progress Refusal} (Err q) (Err r) → q ≡ r

@@ -1,20 +1,21 @@
 -- What the checker accepts is sound over all runs.
+use Rattle.pkcheck.specs.declared.old_strings.OldStrings.{OldStrings}
 use Rattle.pkops.specs.Operands.{memo_number, pair_named}
 use Rattle.std.proofs.Common.{◌≡◌, ℕ, Bool, true, false, cond, ltb, List, [], ◌∷◌, ◌++◌, length, Option, Some, None, Result, Ok, Err, inl, inr, refl, sym, ap, subst}
 use Rattle.pkcheck.specs.declared.machine.effects.Names.{Names}
 use Rattle.pkcheck.specs.declared.machine.effects.Names.TheVariants.{NoName, OfArgument, OfOperands}
 use Rattle.pkcheck.specs.declared.machine.effects.Effect.{Effect}
-use Rattle.pkcheck.specs.declared.machine.effects.Effect.TheVariants.{Operates, Moves, Stops}
-use Rattle.pkcheck.specs.Effects.{effect_of}
+use Rattle.pkcheck.specs.declared.machine.effects.Effect.TheVariants.{Operates, Moves, Stops, Raises}
+use Rattle.pkcheck.specs.Effects.{effect_as}
 use Rattle.pkcheck.specs.Shape.{top, Breach, Entry, Taken, and_then, unless, operands, moved}
 use Rattle.pkops.specs.Spelling.{Instruction}
-use Rattle.pkcheck.specs.Runs.{Text, Plain, Foreign, Event, Import, Did, State, Outcome, Stepped, WentOn, Raised, Stopped, Stuck, step, start}
+use Rattle.pkcheck.specs.Runs.{Text, Plain, Foreign, Event, Import, Did, State, Outcome, Stepped, WentOn, Raised, Stopped, Stuck, step_as, start}
 use Rattle.pkcheck.specs.Knowledge.{argument_asked, Known, Knowledge, Asked, AskedPair, AskedUnknown, Progress, Refusal, WrongClass, OffList, TooLarge, lacking, permitted, operands_asked, asked_of, within, left_over, move_learned, stop_learned, learn, advance, nothing_known}
 use Rattle.pkops.specs.Limits.{Bounds}
 use Rattle.pkcheck.specs.Covers.{Pointwise, AlikeEntry, IsObject, imports_of, IsAsked, Adds}
 use Rattle.pkcheck.specs.Stepping.{IsPermitted}
 use Rattle.pkcheck.proofs.Covering.CoversBy.{any_answer, TrueBy, CoversBy, FollowsBy, FollowsIfOk, objects_grow}
-use Rattle.pkcheck.specs.WholeRuns.{Ended, first_outcome, go_on, run, AllListed, EndsWell, Sound}
+use Rattle.pkcheck.specs.WholeRuns.{Ended, first_outcome, go_on, run_as, AllListed, EndsWell, Sound}
 use Rattle.pkcheck.proofs.Covering.Verdicts.{Verdict, Yes, No, with_import, verdict_on, verdict, IsYes}
 use Rattle.pkcheck.proofs.Covering.Following.{step_follows}
 
@@ -93,13 +94,14 @@ module _ (list : List ℕ → List ℕ → Bool) where
   learn_listed (Operates takes names gives) i k = operate_listed names i _ _ (operands takes k.entries)
   learn_listed (Moves m) i k = shape_listed (moved m (memo_number i) k)
   learn_listed Stops i k = stop_listed k.memo (top k.entries)
+  learn_listed Raises i k = tt
 
   within_listed : (l : Bounds) (x : Result Progress Refusal) → PassesListed list x → PassesListed list (and_then x (within l))
   within_listed l (Err r) h = tt
   within_listed l (Ok q) h = refused_listed (ltb l.stack (length q.after.entries)) TooLarge _ (refused_listed (ltb l.memo (length q.after.memo)) TooLarge (Ok q) h)
 
-  pub advance_listed : (l : Bounds) (i : Instruction) (k : Knowledge) → PassesListed list (advance (Some list) l i k)
-  advance_listed l i k = within_listed l (learn (Some list) (effect_of i.op) i k) (learn_listed (effect_of i.op) i k)
+  pub advance_listed : (setting : OldStrings) (l : Bounds) (i : Instruction) (k : Knowledge) → PassesListed list (advance setting (Some list) l i k)
+  advance_listed setting l i k = within_listed l (learn (Some list) (effect_as setting i) i k) (learn_listed (effect_as setting i) i k)
 
   AllListed-append : (ps qs : List (List ℕ × List ℕ)) → AllListed list ps → AllListed list qs → AllListed list (ps ++ qs)
   AllListed-append [] qs h g = g
@@ -125,17 +127,17 @@ module _ (list : List ℕ → List ℕ → Bool) where
   step_fine q s (Stopped x t) f h g old on = (emptied q.after.entries t.shape.entries (λ x y. AlikeEntry (TrueBy IsObject t.objects) x y) g.1 g.2.entries, subst (λ es. AllListed list (imports_of es)) (sym g.4) old)
   step_fine q s (Stuck b) f h g old on = absurd g
 
-  module _ (l : Bounds) where
-    fine_after : (is : List Instruction) (s : State) (st : Stepped) (os : List Outcome) (x : Result Progress Refusal) → PassesListed list x → FollowsIfOk IsObject x s st → IsYes (verdict_on x (verdict (Some list) l is)) → AllListed list (imports_of s.events) → ((k : Knowledge) (t : State) → IsYes (verdict (Some list) l is k) → CoversBy IsObject k t → AllListed list (imports_of t.events) → EndsWell list (run is os t)) → EndsWell list (go_on st (run is os))
-    fine_after is s st os (Ok q) h g y old on = step_fine q s st (run is os) h g old (λ t c listed. on q.after t (yes_before q.import _ y) c listed)
+  module _ (setting : OldStrings) (l : Bounds) where
+    fine_after : (is : List Instruction) (s : State) (st : Stepped) (os : List Outcome) (x : Result Progress Refusal) → PassesListed list x → FollowsIfOk IsObject x s st → IsYes (verdict_on x (verdict setting (Some list) l is)) → AllListed list (imports_of s.events) → ((k : Knowledge) (t : State) → IsYes (verdict setting (Some list) l is k) → CoversBy IsObject k t → AllListed list (imports_of t.events) → EndsWell list (run_as setting is os t)) → EndsWell list (go_on st (run_as setting is os))
+    fine_after is s st os (Ok q) h g y old on = step_fine q s st (run_as setting is os) h g old (λ t c listed. on q.after t (yes_before q.import _ y) c listed)
     fine_after is s st os (Err r) h g y old on = absurd y
 
-    fine_from : (is : List Instruction) (k : Knowledge) (s : State) (os : List Outcome) → IsYes (verdict (Some list) l is k) → CoversBy IsObject k s → AllListed list (imports_of s.events) → EndsWell list (run is os s)
+    fine_from : (is : List Instruction) (k : Knowledge) (s : State) (os : List Outcome) → IsYes (verdict setting (Some list) l is k) → CoversBy IsObject k s → AllListed list (imports_of s.events) → EndsWell list (run_as setting is os s)
     fine_from [] k s os h c old = old
     fine_from (i ∷ is) k s os h c old =
-        fine_after is s (step i s (first_outcome os)) _ (advance (Some list) l i k) (advance_listed l i k) (step_follows IsObject objects_grow (Some list) l i k s (first_outcome os) c (any_answer s.objects (first_outcome os))) h old
+        fine_after is s (step_as setting i s (first_outcome os)) _ (advance setting (Some list) l i k) (advance_listed setting l i k) (step_follows IsObject objects_grow setting (Some list) l i k s (first_outcome os) c (any_answer s.objects (first_outcome os))) h old
         (λ k' t y c' listed. fine_from is k' t _ y c' listed)
 
   -- a yes is sound
-  pub sound : (l : Bounds) (is : List Instruction) → IsYes (verdict (Some list) l is nothing_known) → Sound is list
-  sound l is y os = fine_from l is nothing_known start os y (record { entries = tt; memo = tt }) tt
+  pub sound : (setting : OldStrings) (l : Bounds) (is : List Instruction) → IsYes (verdict setting (Some list) l is nothing_known) → Sound setting is list
+  sound setting l is y os = fine_from setting l is nothing_known start os y (record { entries = tt; memo = tt }) tt

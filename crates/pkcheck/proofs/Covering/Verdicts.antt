@@ -1,9 +1,9 @@
 -- The checker over a list of instructions.
+use Rattle.pkcheck.specs.declared.old_strings.OldStrings.{OldStrings}
 use Rattle.std.specs.Prelude.{◌≢◌, ℕ, suc, List, [], ◌∷◌, Option, Result, Ok, Err, ⊤}
 use Rattle.pkops.specs.Spelling.{Instruction}
 use Rattle.pkops.specs.Limits.{Bounds}
-use Rattle.pkcheck.specs.declared.machine.effects.Effect.TheVariants.{Stops}
-use Rattle.pkcheck.specs.Effects.{effect_of}
+use Rattle.pkops.specs.declared.op.Op.TheVariants as op
 use Rattle.pkcheck.specs.Knowledge.{Knowledge, Policy, Asked, Progress, Refusal, advance}
 
 -- what it knows at the end and the imports that it listed, an entry an instruction, or the number of the refused
@@ -23,9 +23,9 @@ verdict_on (Ok q) f = with_import q.import (f q.after)
 verdict_on (Err r) f = No 0 r
 
 -- the verdict on these instructions, from what is known
-abbrev pub verdict : Policy → Bounds → List Instruction → Knowledge → Verdict
-verdict p l [] k = Yes k []
-verdict p l (i ∷ is) k = verdict_on (advance p l i k) (verdict p l is)
+abbrev pub verdict : OldStrings → Policy → Bounds → List Instruction → Knowledge → Verdict
+verdict setting p l [] k = Yes k []
+verdict setting p l (i ∷ is) k = verdict_on (advance setting p l i k) (verdict setting p l is)
 
 -- a yes
 abbrev pub IsYes : Verdict → Type 0
@@ -36,4 +36,4 @@ IsYes (No n r) = ⊥
 abbrev pub StopsLast : List Instruction → Type 0
 StopsLast [] = ⊤
 StopsLast (i ∷ []) = ⊤
-StopsLast (i ∷ j ∷ is) = (effect_of i.op ≢ Stops) × StopsLast (j ∷ is)
+StopsLast (i ∷ j ∷ is) = (i.op ≢ op.Stop) × StopsLast (j ∷ is)

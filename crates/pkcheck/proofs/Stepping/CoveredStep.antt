@@ -1,5 +1,6 @@
 -- What follows of a step of the machine, where it goes on as the definitions have it and where it is refused.
-use Rattle.std.proofs.Common.{◌≡◌, ◌⊎◌, inl, inr, Bool, true, ◌++◌, ◌∷◌, [], List, Option, Some, None, Ok, Err, sym, subst, ap, ◌∙◌, ℕ, length, arith, length-append}
+use Rattle.pkcheck.specs.declared.old_strings.OldStrings.{OldStrings}
+use Rattle.std.proofs.Common.{◌≡◌, ◌⊎◌, inl, inr, true, ◌++◌, ◌∷◌, [], List, Option, Some, None, Ok, Err, sym, subst, ap, ◌∙◌, length, arith, length-append}
 use Rattle.std.proofs.lemmas.List.{append_cancel_left}
 use Rattle.std.specs.Prelude.{option_map}
 use Rattle.pkops.specs.Admitted.{is_admitted}
@@ -9,10 +10,10 @@ use Rattle.pkread.specs.declared.refusal.Reason.{Reason}
 use Rattle.pkread.specs.declared.refusal.Reason.TheVariants as reason
 use Rattle.pkcheck.specs.declared.machine.operate.Denial.{Denial}
 use Rattle.pkcheck.specs.declared.machine.stepping.Moved.{Moved}
-use Rattle.pkcheck.specs.Effects.{effect_of}
-use Rattle.pkcheck.specs.Runs.{step}
+use Rattle.pkcheck.specs.Effects.{effect_as}
+use Rattle.pkcheck.specs.Runs.{step_as}
 use Rattle.pkcheck.specs.Shape.{NoMark, NoItem, NoMemo, Odd, Extension}
-use Rattle.pkcheck.specs.Knowledge.{Policy, Asked, AskedPair, AskedUnknown, Progress, Refusal, Lacks, WrongClass, NotText, UnknownImport, OffList, LeftOver, TooLarge, Knowledge, advance, reason_of}
+use Rattle.pkcheck.specs.Knowledge.{Policy, Asked, AskedUnknown, Progress, Refusal, Lacks, WrongClass, NotText, UnknownImport, OffList, LeftOver, NotAscii, TooLarge, Knowledge, advance, reason_of}
 use Rattle.pkcheck.specs.Covers.{IsObject}
 use Rattle.pkcheck.proofs.Covering.CoversBy.{FollowsIfOk, any_answer, objects_grow}
 use Rattle.pkcheck.specs.Faults.{IsFirstFault}
@@ -25,14 +26,13 @@ use Rattle.pkcheck.proofs.Covering.Soundness.{PassesListed, advance_listed}
 use Rattle.pkcheck.proofs.Covering.Answering.{Word}
 use Rattle.pkcheck.proofs.Covering.Showing.{IsLonger}
 use Rattle.pkcheck.proofs.Stepping.Extensions.{no_extension}
-use Rattle.pkcheck.proofs.Stepping.Memory.{wants_none}
-use Rattle.pkcheck.proofs.Stepping.Stops.{wants_no_registry}
+use Rattle.pkcheck.proofs.Stepping.Settings.{wants_no_memory, wants_no_registry}
 use Rattle.pkcheck.proofs.Covering.Standing.{stands_for_covered, no_fault, first_fault, unknown_exactly}
 
 -- what a step lists is permitted
-permitted_ok : (p : Policy) (l : Bounds) (i : Instruction) (k : Knowledge) (q : Progress) → advance p l i k ≡ Ok q → IsPermitted p q.import
-permitted_ok None l i k q e = tt
-permitted_ok (Some list) l i k q e = subst (PassesListed list) e (advance_listed list l i k)
+permitted_ok : (setting : OldStrings) (p : Policy) (l : Bounds) (i : Instruction) (k : Knowledge) (q : Progress) → advance setting p l i k ≡ Ok q → IsPermitted p q.import
+permitted_ok setting None l i k q e = tt
+permitted_ok setting (Some list) l i k q e = subst (PassesListed list) e (advance_listed list setting l i k)
 
 -- no refusal by what is known is for want of memory
 no_memory : (f : Refusal) → reason_of f ≡ reason.OutOfMemory → ⊥
@@ -46,6 +46,7 @@ no_memory NotText e = cc
 no_memory UnknownImport e = cc
 no_memory (OffList m n) e = cc
 no_memory LeftOver e = cc
+no_memory NotAscii e = cc
 no_memory TooLarge e = cc
 
 one_more : (a : Option Asked) (as' : List Asked) (b : Asked) → asks_more a as' ≡ as' ++ b ∷ [] → a ≡ Some b
@@ -60,20 +61,20 @@ module _ (p : Policy) (i : Instruction) (before after : View) where
           q,
           sym (ap (λ (m : View). m.knowledge) becomes),
           ap (λ (m : View). m.imports) becomes,
-          permitted_ok p before.limits i before.knowledge q is,
-          subst (λ x. FollowsIfOk IsObject x s (step i s o)) is (step_follows IsObject objects_grow p before.limits i before.knowledge s o c (any_answer s.objects o)),
+          permitted_ok before.old_strings p before.limits i before.knowledge q is,
+          subst (λ x. FollowsIfOk IsObject x s (step_as before.old_strings i s o)) is (step_follows IsObject objects_grow before.old_strings p before.limits i before.knowledge s o c (any_answer s.objects o)),
         )
 
     pub permitted_by : AppendsPermitted p before.imports after.imports
-    permitted_by = (g.0.import, ap (λ (m : View). m.imports) g.2, permitted_ok p before.limits i before.knowledge g.0 g.1)
+    permitted_by = (g.0.import, ap (λ (m : View). m.imports) g.2, permitted_ok before.old_strings p before.limits i before.knowledge g.0 g.1)
 
     pub no_fault_by : PassesNoFault p i before after
-    no_fault_by = no_fault p before.limits i before.knowledge (CoveredBy before.knowledge) (stands_for_covered before.knowledge) g.0 g.1
+    no_fault_by = no_fault p before.limits i before.knowledge (CoveredBy before.old_strings before.knowledge) (stands_for_covered before.old_strings before.knowledge) g.0 g.1
 
     pub unknown_by : UnknownIsNeeded p i before after
     unknown_by e =
         let (q, is, becomes, f) = g in
-        unknown_exactly p before.limits i before.knowledge (CoveredBy before.knowledge) (stands_for_covered before.knowledge) q is
+        unknown_exactly p before.limits i before.knowledge (CoveredBy before.old_strings before.knowledge) (stands_for_covered before.old_strings before.knowledge) q is
         (one_more q.import before.imports AskedUnknown (sym (ap (λ (m : View). m.imports) becomes) ∙ e))
 
     -- a step that goes on
@@ -93,9 +94,9 @@ module _ (p : Policy) (i : Instruction) (before after : View) where
 
   module _ (r : Reason) where
     -- what was denied is refused so
-    pub denied : (d : Denial) → r ≡ d.reason → after ≡ record before { refused = Some d.reason; off = option_map asked_shown d.pair } → IsDenied (advance p before.limits i before.knowledge) d ⊎ (MayWantMemory (effect_of i.op) × IsForMemory d) → Fails p i before after r
+    pub denied : (d : Denial) → r ≡ d.reason → after ≡ record before { refused = Some d.reason; off = option_map asked_shown d.pair } → IsDenied (advance before.old_strings p before.limits i before.knowledge) d ⊎ (MayWantMemory (effect_as before.old_strings i) × IsForMemory d) → Fails p i before after r
     denied d same becomes (inl (f, is, e, g)) = inl (f, is, same ∙ e, becomes ∙ (λ j. record before { refused = Some (sym same j); off = g j }))
-    denied d same becomes (inr (wants, (e, g))) = inr ((λ none. wants_none i.op none wants), same ∙ e, becomes ∙ (λ j. record before { refused = Some (sym same j); off = g j }))
+    denied d same becomes (inr (wants, (e, g))) = inr ((λ none. wants_no_memory before.old_strings i none wants), same ∙ e, becomes ∙ (λ j. record before { refused = Some (sym same j); off = g j }))
 
     pub memory_by : Fails p i before after r → MayLackMemory p i before after r
     memory_by (inl (f, is, e, becomes)) none lacks = no_memory f (sym e ∙ lacks)
@@ -109,9 +110,9 @@ module _ (p : Policy) (i : Instruction) (before after : View) where
       pub alarm_by : Fails p i before after r → IsNoFalseAlarm p i before after r
       alarm_by (inr (wants, e, becomes)) = inr e
       alarm_by (inl (f, is, e, becomes)) =
-          inl (subst (λ x. IsFirstFault p before.limits (CoveredBy before.knowledge) i x after.off) (sym e)
-          (subst (IsFirstFault p before.limits (CoveredBy before.knowledge) i (reason_of f)) (sym (ap (λ (m : View). m.off) becomes))
-          (first_fault p before.limits i before.knowledge (CoveredBy before.knowledge) (stands_for_covered before.knowledge) v long f is (no_extension p before.limits i before.knowledge f (wants_no_registry i.op i.arg admitted) is))))
+          inl (subst (λ x. IsFirstFault p before.limits (CoveredBy before.old_strings before.knowledge) i x after.off) (sym e)
+          (subst (IsFirstFault p before.limits (CoveredBy before.old_strings before.knowledge) i (reason_of f)) (sym (ap (λ (m : View). m.off) becomes))
+          (first_fault p before.limits i before.knowledge (CoveredBy before.old_strings before.knowledge) (stands_for_covered before.old_strings before.knowledge) v long f is (no_extension before.old_strings p before.limits i before.knowledge f (wants_no_registry before.old_strings i admitted) is))))
 
       -- a step that is refused
       pub fails : before.refused ≡ None → Fails p i before after r → IsStep p i before after (Err r)

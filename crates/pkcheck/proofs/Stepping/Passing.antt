@@ -7,7 +7,7 @@ use Rattle.pkops.specs.declared.op.Op.TheVariants as op
 use Rattle.pkread.specs.declared.refusal.Reason.{Reason}
 use Rattle.pkcheck.specs.declared.machine.effects.Class.{Class}
 use Rattle.pkcheck.specs.declared.machine.stepping.Moved.TheVariants.{On}
-use Rattle.pkcheck.specs.Effects.{effect_of, pushes}
+use Rattle.pkcheck.specs.Effects.{effect_as, pushes}
 use Rattle.pkcheck.specs.Shape.{and_then}
 use Rattle.pkcheck.specs.Knowledge.{Policy, TooLarge, learn, within}
 use Rattle.pkcheck.specs.Private.Denials.{WantsRoom, with_made}
@@ -15,7 +15,7 @@ use Rattle.pkops.specs.Payloads.{is_passed}
 use Rattle.pkcheck.specs.Stepping.{Fails, GoesOn}
 use Rattle.pkcheck.specs.View.{View, moved_as, texts_after}
 use Rattle.pkcheck.proofs.Stepping.Going.{within_fits, within_past}
-use Rattle.pkcheck.proofs.Stepping.Memory.{wants_none}
+use Rattle.pkcheck.proofs.Stepping.Settings.{wants_no_memory}
 
 -- such an instruction is admitted
 pub passed_admitted : (o : Op) (a : Argument) → IsTrue (is_passed o) → is_admitted_by o a ≡ true
@@ -25,8 +25,8 @@ passed_admitted op.BinBytes8 a h = refl
 passed_admitted op.ByteArray8 a h = refl
 passed_admitted _ a h = cc
 
-module _ (p : Policy) (i : Instruction) (before after : View) (c : Class) (e : effect_of i.op ≡ pushes c) where
-  learned : learn p (effect_of i.op) i before.knowledge ≡ Ok (record { after = with_made c before.knowledge; import = None })
+module _ (p : Policy) (i : Instruction) (before after : View) (c : Class) (e : effect_as before.old_strings i ≡ pushes c) where
+  learned : learn p (effect_as before.old_strings i) i before.knowledge ≡ Ok (record { after = with_made c before.knowledge; import = None })
   learned = rw e refl
 
   pub passes : length (with_made c before.knowledge).entries ≤ before.limits.stack → length before.knowledge.memo ≤ before.limits.memo → before.stopped ≡ false → after ≡ record before { knowledge = with_made c before.knowledge } → GoesOn p i before after On
@@ -41,4 +41,4 @@ module _ (p : Policy) (i : Instruction) (before after : View) (c : Class) (e : e
   pub lacks_room : (r : Reason) → WantsRoom before.limits.stack (length before.knowledge.entries) r → after ≡ record before { refused = Some r; off = None } → Fails p i before after r
   lacks_room r (inl h) becomes =
       inl (TooLarge, ap (λ x. and_then x (within before.limits)) learned ∙ within_past before.limits (with_made c before.knowledge) (inl (let le = h.1 in omega (arith, le))), h.0, becomes)
-  lacks_room r (inr h) becomes = inr ((λ none. wants_none i.op none (rw e (inr tt))), h, becomes)
+  lacks_room r (inr h) becomes = inr ((λ none. wants_no_memory before.old_strings i none (rw e (inr tt))), h, becomes)

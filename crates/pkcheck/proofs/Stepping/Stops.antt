@@ -1,34 +1,18 @@
 -- STOP among the instructions of a list.
-use Rattle.std.proofs.Common.{◌≡◌, ◌≢◌, ℕ, List, [], ◌∷◌, ◌++◌, refl, sym, subst}
-use Rattle.std.specs.Prelude.{All, IsTrue}
+use Rattle.std.proofs.Common.{◌≢◌, ℕ, List, [], ◌∷◌, ◌++◌, sym, subst}
+use Rattle.std.specs.Prelude.{All}
 use Rattle.std.proofs.lemmas.List.Elements.{All-head, All-tail}
-use Rattle.pkops.specs.Admitted.{is_admitted_by}
-use Rattle.pkops.specs.Spelling.{Argument, Instruction}
+use Rattle.pkops.specs.Spelling.{Instruction}
 use Rattle.pkops.specs.declared.op.Op.{Op}
 use Rattle.pkops.specs.declared.op.Op.TheVariants as op
 use Rattle.pkread.specs.Sequence.{IsSequence}
-use Rattle.pkcheck.specs.declared.machine.effects.Effect.TheVariants.{Moves, Stops}
-use Rattle.pkcheck.specs.declared.machine.effects.Move.TheVariants.{Extends}
-use Rattle.pkcheck.specs.Effects.{effect_of}
 use Rattle.pkcheck.proofs.Covering.Verdicts.{StopsLast}
 use Rattle.pkcheck.proofs.Wholes.Walk.{StopsNowhere}
-
--- only STOP stops
-only_stop : (o : Op) → o ≢ op.Stop → effect_of o ≢ Stops
-only_stop op.Stop h = λ e. absurd (h refl)
-only_stop _ h = λ e. cc
-
--- only extension codes want a registry, and they are not admitted
-pub wants_no_registry : (o : Op) (a : Argument) → IsTrue (is_admitted_by o a) → effect_of o ≡ Moves Extends → ⊥
-wants_no_registry op.Ext1 a h e = cc
-wants_no_registry op.Ext2 a h e = cc
-wants_no_registry op.Ext4 a h e = cc
-wants_no_registry _ a h e = cc
 
 -- a list with no STOP
 pub stops_nowhere : (p : List Instruction) → All (λ i. i.op ≢ op.Stop) p → StopsNowhere p
 stops_nowhere [] h = tt
-stops_nowhere (i ∷ p) h = (only_stop i.op (All-head (λ j. j.op ≢ op.Stop) i p h), stops_nowhere p (All-tail (λ j. j.op ≢ op.Stop) i p h))
+stops_nowhere (i ∷ p) h = (All-head (λ j. j.op ≢ op.Stop) i p h, stops_nowhere p (All-tail (λ j. j.op ≢ op.Stop) i p h))
 
 -- the same, with one instruction more
 last_more : (p : List Instruction) (i : Instruction) → StopsNowhere p → StopsLast (p ++ i ∷ [])

@@ -4,9 +4,10 @@ use Rattle.pkops.specs.declared.op.Op.{Op}
 use Rattle.pkops.specs.declared.op.Op.TheVariants as op
 use Rattle.pkcheck.specs.Effects.{effect_of}
 use Rattle.pkcheck.specs.Texts.{texts_then}
+use Rattle.pkcheck.specs.declared.old_strings.OldStrings.TheVariants.{Unknown}
 use Rattle.pkcheck.specs.View.{texts_after}
 
-pub texts_by_opcode : (o : Op) (count : ℕ) → texts_after (effect_of o) count ≡ texts_then o count
+pub texts_by_opcode : (o : Op) (count : ℕ) → texts_after (effect_of o) count ≡ texts_then Unknown o count
 texts_by_opcode op.Int count = refl
 texts_by_opcode op.BinInt count = refl
 texts_by_opcode op.BinInt1 count = refl

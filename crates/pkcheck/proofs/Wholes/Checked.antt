@@ -1,12 +1,10 @@
 -- What is known once instructions were read and judged, and the answers that follow.
+use Rattle.pkcheck.specs.declared.old_strings.OldStrings.{OldStrings}
 use Rattle.std.proofs.Common.{◌≡◌, ℕ, ◌<◌, List, [], ◌∷◌, ◌++◌, map, Option, Some, None, Ok, Err, inl, inr, refl, sym, ap, subst, ◌∙◌, arith}
 use Rattle.pkops.specs.Limits.{Bounds}
 use Rattle.pkops.specs.Payloads.{payload_limit, payload_limit_at}
 use Rattle.pkops.specs.Spelling.{Instruction, spelling}
-use Rattle.pkops.specs.declared.op.Op.{Op}
-use Rattle.pkops.specs.declared.op.Op.TheVariants as op
 use Rattle.pkread.specs.Admission.{IsAllowedBy}
-use Rattle.pkread.specs.Core.{phase_after}
 use Rattle.pkread.specs.Framing.{counted, counted_all}
 use Rattle.pkread.specs.Pieces.{piece_of}
 use Rattle.pkread.specs.Reading.{State, begun, has_ended, is_ended}
@@ -17,10 +15,9 @@ use Rattle.pkread.specs.declared.refusal.Reason.{Reason}
 use Rattle.pkread.specs.declared.refusal.Reason.TheVariants as reason
 use Rattle.pkread.specs.declared.refusal.Refusal.{Refusal as ReadRefusal}
 use Rattle.pkcheck.specs.Accepted.{Accepted}
-use Rattle.pkcheck.specs.Effects.{effect_of}
 use Rattle.pkcheck.specs.Import.{asks_more}
 use Rattle.pkcheck.specs.Private.Judging.{IsPassed, BreaksFrame, IsRefusedByMachine, IsRefused}
-use Rattle.pkcheck.specs.Knowledge.{Policy, Asked, Refusal, reason_of, advance, nothing_known, Lacks, WrongClass, NotText, UnknownImport, OffList, LeftOver, TooLarge}
+use Rattle.pkcheck.specs.Knowledge.{Policy, Asked, Refusal, reason_of, advance, nothing_known, Lacks, WrongClass, NotText, UnknownImport, OffList, LeftOver, NotAscii, TooLarge}
 use Rattle.pkcheck.specs.Shape.{NoMark, NoItem, NoMemo, Odd, Extension}
 use Rattle.pkcheck.specs.Listing.{imports_among, ImportsAreListed}
 use Rattle.pkcheck.specs.Refused.{Refused, Why, reading, judging, growing, HasFirstFault}
@@ -31,26 +28,28 @@ use Rattle.pkcheck.proofs.Covering.Answering.{Word}
 use Rattle.pkcheck.specs.Runs.{start}
 use Rattle.pkcheck.proofs.Covering.Verdicts.{Yes, verdict}
 use Rattle.pkcheck.specs.Stepping.{LacksMemory}
-use Rattle.pkcheck.specs.View.{View, fresh, moved_as, stopped_by, off_pair}
-use Rattle.pkcheck.specs.WholeRuns.{run}
+use Rattle.pkcheck.specs.View.{View, fresh, stopped_by, off_pair}
+use Rattle.pkcheck.specs.WholeRuns.{run_as}
 use Rattle.pkcheck.proofs.Wholes.FramesSoFar.{FrameLaws}
 use Rattle.pkcheck.proofs.Wholes.Faultless.{stands_behind, machine_fault, length-asked, each_asks, faultless, unknown_is_open}
 use Rattle.pkcheck.proofs.Wholes.Given.{Took, Turned}
 use Rattle.pkcheck.proofs.Wholes.Listed.{listed, sound_by}
-use Rattle.pkcheck.proofs.Stepping.Stops.{wants_no_registry, stops_nowhere, nowhere_last, sequence_last}
+use Rattle.pkcheck.proofs.Stepping.Stops.{stops_nowhere, nowhere_last, sequence_last}
+use Rattle.pkcheck.proofs.Stepping.Settings.{same_end, wants_no_registry}
 use Rattle.pkcheck.proofs.Covering.Showing.{IsLonger}
 use Rattle.pkcheck.proofs.Covering.Standing.{Stands, has_fault, first, pair_of}
 use Rattle.pkcheck.proofs.Stepping.Extensions.{no_extension}
 use Rattle.pkcheck.proofs.Wholes.Walk.{along, verdict_more}
 
 -- these instructions were read, from a source that was seen so, and judged, and these are their imports
-pub record Checked (policy : Policy) (limits : Bounds) (old : Sight) (p : List Instruction) (asked : List (Option Asked)) (s : State) (still_open : ℕ) (m : View) : Type 0 where
+pub record Checked (setting : OldStrings) (policy : Policy) (limits : Bounds) (old : Sight) (p : List Instruction) (asked : List (Option Asked)) (s : State) (still_open : ℕ) (m : View) : Type 0 where
   pub reads : Reads old (payload_limit limits) p s
   pub read_limits : s.limits ≡ limits
   pub frames : counted_all 0 (map piece_of p) ≡ Some still_open
-  pub accepts : verdict policy limits p nothing_known ≡ Yes m.knowledge asked
+  pub accepts : verdict setting policy limits p nothing_known ≡ Yes m.knowledge asked
   pub imports : m.imports ≡ imports_among asked
   pub same_limits : m.limits ≡ limits
+  pub same_setting : m.old_strings ≡ setting
   pub refused : m.refused ≡ None
   pub off : m.off ≡ None
   pub stopped : m.stopped ≡ has_ended s
@@ -61,12 +60,6 @@ among_more [] (Some a) = refl
 among_more (None ∷ asked) a = among_more asked a
 among_more (Some x ∷ asked) None = ap (λ l. x ∷ l) (among_more asked None)
 among_more (Some x ∷ asked) (Some a) = ap (λ l. x ∷ l) (among_more asked (Some a))
-
--- the machine has stopped where the reader has ended
-same_end : (o : Op) (a : Option Asked) → stopped_by (moved_as (effect_of o) a) ≡ is_ended (phase_after o)
-same_end op.Stop a = refl
-same_end _ None = refl
-same_end _ (Some a) = refl
 
 -- nothing is tried before the frames
 none_earlier : (policy : Policy) (limits : Bounds) (p : List Instruction) (i : Instruction) (here : Arrivals) (r : Reason) → rank r < 1 → HasFault policy limits p here i r → ⊥
@@ -80,6 +73,7 @@ none_earlier policy limits p i here reason.NotText lt h = absurd (omega (arith, 
 none_earlier policy limits p i here reason.UnknownImport lt h = absurd (omega (arith, lt))
 none_earlier policy limits p i here reason.ImportOffList lt h = absurd (omega (arith, lt))
 none_earlier policy limits p i here reason.LeftOver lt h = absurd (omega (arith, lt))
+none_earlier policy limits p i here reason.NotAscii lt h = absurd (omega (arith, lt))
 none_earlier policy limits p i here reason.TooLarge lt h = absurd (omega (arith, lt))
 none_earlier policy limits p i here _ lt h = h
 
@@ -95,6 +89,7 @@ counts_same NotText a b e = e
 counts_same UnknownImport a b e = e
 counts_same (OffList m n) a b e = e
 counts_same LeftOver a b e = e
+counts_same NotAscii a b e = e
 counts_same TooLarge a b e = e
 
 counts_at : (policy : Policy) (i : Instruction) (still_open : ℕ) (m n : View) (why : Reason) → IsRefused policy i still_open m n why → (a b : ℕ) → b ≡ a → CountsAt why a b
@@ -102,8 +97,8 @@ counts_at policy i still_open m n why (inl (e, becomes, is)) a b same = subst (�
 counts_at policy i still_open m n why (inr (o, inl (f, e, is, becomes))) a b same = subst (λ x. CountsAt x a b) (sym is) (counts_same f a b same)
 counts_at policy i still_open m n why (inr (o, inr (wants, is, becomes))) a b same = subst (λ x. CountsAt x a b) (sym is) same
 
-module _ (laws : FrameLaws) (policy : Policy) (limits : Bounds) (old : Sight) where
-  pub checked_none : ReadingBegins → Checked policy limits old [] [] (begun old limits) 0 (fresh limits)
+module _ (laws : FrameLaws) (setting : OldStrings) (policy : Policy) (limits : Bounds) (old : Sight) where
+  pub checked_none : ReadingBegins → Checked setting policy limits old [] [] (begun old limits) 0 (fresh setting limits)
   checked_none begins = record {
     reads = begins old (payload_limit limits) limits;
     read_limits = refl;
@@ -111,30 +106,32 @@ module _ (laws : FrameLaws) (policy : Policy) (limits : Bounds) (old : Sight) wh
     accepts = refl;
     imports = refl;
     same_limits = refl;
+    same_setting = refl;
     refused = refl;
     off = refl;
     stopped = refl;
   }
 
-  module _ (p : List Instruction) (asked : List (Option Asked)) (s : State) (still_open : ℕ) (m : View) (h : Checked policy limits old p asked s still_open m) where
+  module _ (p : List Instruction) (asked : List (Option Asked)) (s : State) (still_open : ℕ) (m : View) (h : Checked setting policy limits old p asked s still_open m) where
     -- one instruction more passed
-    pub checked_took : (t : State) (is_open : ℕ) (n : View) (at : ℕ) (i : Instruction) → Took old limits p s at i t → (g : IsPassed policy i still_open m is_open n) → Checked policy limits old (p ++ i ∷ []) (asked ++ g.1.1.0.import ∷ []) t is_open n
+    pub checked_took : (t : State) (is_open : ℕ) (n : View) (at : ℕ) (i : Instruction) → Took old limits p s at i t → (g : IsPassed policy i still_open m is_open n) → Checked setting policy limits old (p ++ i ∷ []) (asked ++ g.1.1.0.import ∷ []) t is_open n
     checked_took t is_open n at i took (frames, (v, (q, passes, becomes, moved))) =
-        let passes' : advance policy limits i m.knowledge ≡ Ok q = subst (λ l. advance policy l i m.knowledge ≡ Ok q) h.same_limits passes in
+        let passes' : advance setting policy limits i m.knowledge ≡ Ok q = subst (λ o. advance o policy limits i m.knowledge ≡ Ok q) h.same_setting (subst (λ l. advance m.old_strings policy l i m.knowledge ≡ Ok q) h.same_limits passes) in
         record {
           reads = took.more.reads;
           read_limits = took.same_limits ∙ h.read_limits;
           frames = (laws.more p i still_open is_open h.frames frames).0;
-          accepts = verdict_more policy limits p i nothing_known m.knowledge q asked h.accepts passes' ∙ ap (λ x. Yes x.knowledge (asked ++ q.import ∷ [])) (sym becomes);
+          accepts = verdict_more setting policy limits p i nothing_known m.knowledge q asked h.accepts passes' ∙ ap (λ x. Yes x.knowledge (asked ++ q.import ∷ [])) (sym becomes);
           imports = ap (λ x. x.imports) becomes ∙ ap (asks_more q.import) h.imports ∙ sym (among_more asked q.import);
           same_limits = ap (λ x. x.limits) becomes ∙ h.same_limits;
+          same_setting = ap (λ x. x.old_strings) becomes ∙ h.same_setting;
           refused = ap (λ x. x.refused) becomes ∙ h.refused;
           off = ap (λ x. x.off) becomes ∙ h.off;
-          stopped = ap (λ x. x.stopped) becomes ∙ ap stopped_by moved ∙ same_end i.op q.import ∙ ap is_ended (sym took.phase);
+          stopped = ap (λ x. x.stopped) becomes ∙ ap stopped_by moved ∙ same_end m.old_strings i q.import ∙ ap is_ended (sym took.phase);
         }
 
     -- where STOP was read and judged: these instructions are accepted
-    pub accepted : (new : Sight) (taken : ℕ) (imports : List Asked) → IsSequence (payload_limit limits) p → new ≡ s.source → taken ≡ s.taken → imports ≡ m.imports → (a : Accepted policy limits old new taken imports) × (a.instructions ≡ p)
+    pub accepted : (new : Sight) (taken : ℕ) (imports : List Asked) → IsSequence (payload_limit limits) p → new ≡ s.source → taken ≡ s.taken → imports ≡ m.imports → (a : Accepted setting policy limits old new taken imports) × (a.instructions ≡ p)
     accepted new taken imports sequence same count lists =
         let last = sequence_last (payload_limit limits) p sequence in (
           record {
@@ -143,29 +140,29 @@ module _ (laws : FrameLaws) (policy : Policy) (limits : Bounds) (old : Sight) wh
             bytes = rw same h.reads.bytes;
             count = count ∙ h.reads.count;
             framed = laws.all p still_open h.frames;
-            sound = sound_by policy limits p m.knowledge asked h.accepts;
+            sound = sound_by setting policy limits p m.knowledge asked h.accepts;
             asked = asked;
-            each = length-asked policy limits p nothing_known m.knowledge asked h.accepts;
+            each = length-asked setting policy limits p nothing_known m.knowledge asked h.accepts;
             listed = lists ∙ h.imports;
-            imported = λ os. subst (λ l. ImportsAreListed l (run p os start)) (sym (lists ∙ h.imports)) (listed policy limits p m.knowledge asked last h.accepts os);
-            at_each = each_asks policy limits p m.knowledge asked last h.accepts;
-            faultless = faultless policy limits p m.knowledge asked last h.accepts laws.more still_open h.frames;
-            unknown = unknown_is_open policy limits p m.knowledge asked last h.accepts;
+            imported = λ os. subst (λ l. ImportsAreListed l (run_as setting p os start)) (sym (lists ∙ h.imports)) (listed setting policy limits p m.knowledge asked last h.accepts os);
+            at_each = each_asks setting policy limits p m.knowledge asked last h.accepts;
+            faultless = faultless setting policy limits p m.knowledge asked last h.accepts laws.more still_open h.frames;
+            unknown = unknown_is_open setting policy limits p m.knowledge asked last h.accepts;
           },
           refl,
         )
 
     -- where none is STOP, the machine knows what holds in the runs that get behind these instructions
-    pub known_behind : NoStop p → Stands m.knowledge (RunsBehind p)
-    known_behind none = stands_behind policy limits p m.knowledge (along policy limits p nothing_known m.knowledge asked (stops_nowhere p none) h.accepts)
+    pub known_behind : NoStop p → Stands m.knowledge (RunsBehind setting p)
+    known_behind none = stands_behind setting policy limits p m.knowledge (along setting policy limits p nothing_known m.knowledge asked (stops_nowhere p none) h.accepts)
 
     -- a refusal that is about these instructions: those before the place, and the refused one where it was read
     abbrev pub RefusedAfter : ℕ → Reason → Option Asked → Sight → List Instruction → Type 0
     RefusedAfter at reason pair new q =
-        (r : Refused policy limits old new at reason pair) × (r.instructions ++ refused_instruction r.why ≡ q)
+        (r : Refused setting policy limits old new at reason pair) × (r.instructions ++ refused_instruction r.why ≡ q)
 
     -- where none is STOP, and then something is refused
-    refused_here : (at : ℕ) (why : Reason) (pair : Option Asked) (new : Sight) → NoStop p → at ≡ s.taken → (w : Why policy limits p s.source new at why pair) → RefusedAfter at why pair new (p ++ refused_instruction w)
+    refused_here : (at : ℕ) (why : Reason) (pair : Option Asked) (new : Sight) → NoStop p → at ≡ s.taken → (w : Why setting policy limits p s.source new at why pair) → RefusedAfter at why pair new (p ++ refused_instruction w)
     refused_here at reason pair new none place why = (
       record {
         instructions = p;
@@ -175,7 +172,7 @@ module _ (laws : FrameLaws) (policy : Policy) (limits : Bounds) (old : Sight) wh
         bytes = h.reads.bytes;
         place = place ∙ h.reads.count;
         framed = laws.all p still_open h.frames;
-        faultless = faultless policy limits p m.knowledge asked (nowhere_last p (stops_nowhere p none)) h.accepts laws.more still_open h.frames;
+        faultless = faultless setting policy limits p m.knowledge asked (nowhere_last p (stops_nowhere p none)) h.accepts laws.more still_open h.frames;
         why = why;
       },
       refl,
@@ -203,7 +200,7 @@ module _ (laws : FrameLaws) (policy : Policy) (limits : Bounds) (old : Sight) wh
 
       -- it is refused
       abbrev IsWhy : Reason → Option Asked → Type 0
-      IsWhy reason pair = (w : Why policy limits p s.source new at reason pair) × (refused_instruction w ≡ i ∷ [])
+      IsWhy reason pair = (w : Why setting policy limits p s.source new at reason pair) × (refused_instruction w ≡ i ∷ [])
 
       -- the frames refuse it
       breaks_frame : (n : View) (why : Reason) → BreaksFrame i still_open m n why → IsWhy why n.off
@@ -213,7 +210,7 @@ module _ (laws : FrameLaws) (policy : Policy) (limits : Bounds) (old : Sight) wh
           allowed = allowed;
           bytes = takes;
           fault = laws.refused p i still_open h.frames e;
-          first = λ earlier lt g. none_earlier policy limits p i (everyone (RunsBehind p)) earlier lt g;
+          first = λ earlier lt g. none_earlier policy limits p i (everyone (RunsBehind setting p)) earlier lt g;
           asks = ap (λ x. x.off) becomes ∙ h.off;
         }),
         refl,
@@ -234,11 +231,11 @@ module _ (laws : FrameLaws) (policy : Policy) (limits : Bounds) (old : Sight) wh
       )
 
       module _ (long : (v : Word) × IsLonger policy v.text) where
-        known : Stands m.knowledge (RunsBehind p)
+        known : Stands m.knowledge (RunsBehind setting p)
         known = known_behind took.more.no_stop
 
         -- a fault of the machine is one of the instruction
-        behind : (r : Reason) → HasFaultHere policy limits (RunsBehind p) i r → HasFault policy limits p (RunsBehind p) i r
+        behind : (r : Reason) → HasFaultHere policy limits (RunsBehind setting p) i r → HasFault policy limits p (RunsBehind setting p) i r
         behind reason.BrokenFrame g = absurd g
         behind reason.MissingMark g = g
         behind reason.MissingItem g = g
@@ -249,6 +246,7 @@ module _ (laws : FrameLaws) (policy : Policy) (limits : Bounds) (old : Sight) wh
         behind reason.UnknownImport g = g
         behind reason.ImportOffList g = g
         behind reason.LeftOver g = g
+        behind reason.NotAscii g = g
         behind reason.TooLarge g = g
         behind reason.Source g = g
         behind reason.Truncated g = g
@@ -259,21 +257,21 @@ module _ (laws : FrameLaws) (policy : Policy) (limits : Bounds) (old : Sight) wh
         behind reason.OutOfMemory g = g
 
         -- the machine refuses it
-        judged : (is_open : ℕ) (f : Refusal) → counted still_open (piece_of i) ≡ Some is_open → advance policy limits i m.knowledge ≡ Err f → HasFirstFault policy limits p s.source new (reason_of f) (off_pair f)
+        judged : (is_open : ℕ) (f : Refusal) → counted still_open (piece_of i) ≡ Some is_open → advance setting policy limits i m.knowledge ≡ Err f → HasFirstFault setting policy limits p s.source new (reason_of f) (off_pair f)
         judged is_open f o e = record {
           instruction = i;
           allowed = allowed;
           bytes = takes;
-          fault = behind (reason_of f) (has_fault policy limits i m.knowledge (RunsBehind p) known long.0 long.1 f e (no_extension policy limits i m.knowledge f (wants_no_registry i.op i.arg allowed.admitted) e));
-          first = λ earlier lt g. first policy limits i m.knowledge (RunsBehind p) known f e earlier lt (machine_fault policy limits p i (laws.more p i still_open is_open h.frames o).1 (everyone (RunsBehind p)) earlier g);
-          asks = pair_of policy limits i m.knowledge (RunsBehind p) known f e;
+          fault = behind (reason_of f) (has_fault policy limits i m.knowledge (RunsBehind setting p) known long.0 long.1 f e (no_extension setting policy limits i m.knowledge f (wants_no_registry setting i allowed.admitted) e));
+          first = λ earlier lt g. first policy limits i m.knowledge (RunsBehind setting p) known f e earlier lt (machine_fault policy limits p i (laws.more p i still_open is_open h.frames o).1 (everyone (RunsBehind setting p)) earlier g);
+          asks = pair_of policy limits i m.knowledge (RunsBehind setting p) known f e;
         }
 
         refused_by_machine : (n : View) (why : Reason) → IsRefusedByMachine policy i still_open m n why → IsWhy why n.off
         unfolding judged
         refused_by_machine n why ((is_open, o), inr g) = lacks_memory n why g
         refused_by_machine n why ((is_open, o), inl (f, e, is, becomes)) =
-            let e' : advance policy limits i m.knowledge ≡ Err f = subst (λ l. advance policy l i m.knowledge ≡ Err f) h.same_limits e in
+            let e' : advance setting policy limits i m.knowledge ≡ Err f = subst (λ o. advance o policy limits i m.knowledge ≡ Err f) h.same_setting (subst (λ l. advance m.old_strings policy l i m.knowledge ≡ Err f) h.same_limits e) in
             subst (λ x. IsWhy x n.off) (sym is) (subst (λ x. IsWhy (reason_of f) x) (sym (ap (λ x. x.off) becomes)) (judging (judged is_open f o e'), refl))
 
         is_refused : (n : View) (why : Reason) → IsRefused policy i still_open m n why → IsWhy why n.off
@@ -287,5 +285,5 @@ module _ (laws : FrameLaws) (policy : Policy) (limits : Bounds) (old : Sight) wh
             subst (λ x. RefusedAfter at why x new (p ++ i ∷ [])) (sym is) (subst (RefusedAfter at why n.off new) (ap (λ q. p ++ q) w.1) (refused_here at why n.off new took.more.no_stop took.place w.0))
 
     -- no read failed where the frames or the machine refuse
-    pub count_took : (t : State) (at : ℕ) (i : Instruction) (new : Sight) (why : Reason) (pair : Option Asked) → Refused policy limits old new at why pair → Took old limits p s at i t → new ≡ t.source → (n : View) → IsRefused policy i still_open m n why → CountsAt why old.failures new.failures
+    pub count_took : (t : State) (at : ℕ) (i : Instruction) (new : Sight) (why : Reason) (pair : Option Asked) → Refused setting policy limits old new at why pair → Took old limits p s at i t → new ≡ t.source → (n : View) → IsRefused policy i still_open m n why → CountsAt why old.failures new.failures
     count_took t at i new why pair a took same n g = counts_at policy i still_open m n why g old.failures new.failures (ap (λ x. x.failures) same ∙ took.bytes.count ∙ h.reads.bytes.count)

@@ -1,4 +1,5 @@
 -- What the checker and the frames pass has no fault.
+use Rattle.pkcheck.specs.declared.old_strings.OldStrings.{OldStrings}
 use Rattle.std.proofs.Common.{◌≡◌, ℕ, suc, List, [], ◌∷◌, ◌++◌, length, map, Option, Some, sym, ap, subst, ◌∙◌}
 use Rattle.pkops.specs.Limits.{Bounds}
 use Rattle.pkops.specs.Spelling.{Instruction}
@@ -13,7 +14,7 @@ use Rattle.pkread.specs.declared.refusal.Reason.{Reason}
 use Rattle.pkread.specs.declared.refusal.Reason.TheVariants as reason
 use Rattle.pkcheck.specs.Faults.{Arrivals, HasFaultHere, everyone}
 use Rattle.pkcheck.specs.RunFaults.{HasFault, IsFaultless, RunsBehind}
-use Rattle.pkcheck.specs.Runs.{State, Stepped, WentOn, Raised, Stopped, Stuck, start, step}
+use Rattle.pkcheck.specs.Runs.{State, Stepped, WentOn, Raised, Stopped, Stuck, start, step_as}
 use Rattle.pkcheck.proofs.Covering.Verdicts.{Yes, verdict}
 use Rattle.pkcheck.proofs.Covering.Following.{step_follows}
 use Rattle.pkcheck.proofs.Covering.Standing.{Stands, no_fault, unknown_exactly}
@@ -29,8 +30,8 @@ pub nothing_covers_by : (v : List ℕ) → CoversBy (Answered v) nothing_known s
 nothing_covers_by v = record { entries = tt; memo = tt }
 
 -- what is known along instructions stands for the runs that get behind them
-pub stands_behind : (policy : Policy) (limits : Bounds) (before : List Instruction) (known : Knowledge) → Along policy limits before nothing_known known → Stands known (RunsBehind before)
-stands_behind policy limits before known a = record {
+pub stands_behind : (setting : OldStrings) (policy : Policy) (limits : Bounds) (before : List Instruction) (known : Knowledge) → Along setting policy limits before nothing_known known → Stands known (RunsBehind setting before)
+stands_behind setting policy limits before known a = record {
   each = λ s g. a.each start s g.0 nothing_covers g.1;
   real = λ s g. (g.0, g.2);
   answers = λ v n. v.utf8;
@@ -49,6 +50,7 @@ machine_fault policy limits before i w here reason.NotText h = h
 machine_fault policy limits before i w here reason.UnknownImport h = h
 machine_fault policy limits before i w here reason.ImportOffList h = h
 machine_fault policy limits before i w here reason.LeftOver h = h
+machine_fault policy limits before i w here reason.NotAscii h = h
 machine_fault policy limits before i w here reason.TooLarge h = h
 machine_fault policy limits before i w here reason.Source h = h
 machine_fault policy limits before i w here reason.Truncated h = h
@@ -71,35 +73,35 @@ asks_so q s (Raised t) h = h
 asks_so q s (Stopped r t) h = (h.3, h.4)
 asks_so q s (Stuck b) h = h
 
-module _ (policy : Policy) (limits : Bounds) where
+module _ (setting : OldStrings) (policy : Policy) (limits : Bounds) where
   -- an entry an instruction
-  pub length-asked : (p : List Instruction) (k known : Knowledge) (asked : List (Option Asked)) → verdict policy limits p k ≡ Yes known asked → length asked ≡ length p
+  pub length-asked : (p : List Instruction) (k known : Knowledge) (asked : List (Option Asked)) → verdict setting policy limits p k ≡ Yes known asked → length asked ≡ length p
   length-asked [] k known asked e = let same : ◌≡◌ {A = List (Option Asked)} [] asked = cc in ap length (sym same)
   length-asked (i ∷ p) k known asked e =
-      let f = verdict_first (advance policy limits i k) (verdict policy limits p) known asked e in
+      let f = verdict_first (advance setting policy limits i k) (verdict setting policy limits p) known asked e in
       ap length f.rest.first ∙ ap suc (length-asked p f.passed.after known f.rest.listed f.rest.accepts)
 
-  module _ (p : List Instruction) (known : Knowledge) (asked : List (Option Asked)) (last : StopsLast p) (accepts : verdict policy limits p nothing_known ≡ Yes known asked) where
-    pub faultless : FramesGoOn → (still_open : ℕ) → counted_all 0 (map piece_of p) ≡ Some still_open → IsFaultless policy limits p
+  module _ (p : List Instruction) (known : Knowledge) (asked : List (Option Asked)) (last : StopsLast p) (accepts : verdict setting policy limits p nothing_known ≡ Yes known asked) where
+    pub faultless : FramesGoOn → (still_open : ℕ) → counted_all 0 (map piece_of p) ≡ Some still_open → IsFaultless setting policy limits p
     faultless goes_on still_open frames before i after e reason h =
-        let s = verdict_split policy limits before i after nothing_known known asked (ap (λ x. verdict policy limits x nothing_known) (sym e) ∙ accepts) in
-        let a = along policy limits before nothing_known s.known s.earlier (nowhere_before before i after (subst StopsLast e last)) s.accepts in
+        let s = verdict_split setting policy limits before i after nothing_known known asked (ap (λ x. verdict setting policy limits x nothing_known) (sym e) ∙ accepts) in
+        let a = along setting policy limits before nothing_known s.known s.earlier (nowhere_before before i after (subst StopsLast e last)) s.accepts in
         let w = framed_in goes_on before i after still_open (ap (λ x. counted_all 0 (map piece_of x)) (sym e) ∙ frames) in
-        no_fault policy limits i s.known (RunsBehind before) (stands_behind policy limits before s.known a) s.passed s.passes reason (machine_fault policy limits before i w (everyone (RunsBehind before)) reason h)
+        no_fault policy limits i s.known (RunsBehind setting before) (stands_behind setting policy limits before s.known a) s.passed s.passes reason (machine_fault policy limits before i w (everyone (RunsBehind setting before)) reason h)
 
-    pub unknown_is_open : UnknownIsOpen p asked
+    pub unknown_is_open : UnknownIsOpen setting p asked
     unknown_is_open before i after earlier later e g n =
-        let s = verdict_split policy limits before i after nothing_known known asked (ap (λ x. verdict policy limits x nothing_known) (sym e) ∙ accepts) in
-        let a = along policy limits before nothing_known s.known s.earlier (nowhere_before before i after (subst StopsLast e last)) s.accepts in
+        let s = verdict_split setting policy limits before i after nothing_known known asked (ap (λ x. verdict setting policy limits x nothing_known) (sym e) ∙ accepts) in
+        let a = along setting policy limits before nothing_known s.known s.earlier (nowhere_before before i after (subst StopsLast e last)) s.accepts in
         let m = length-asked before nothing_known s.known s.earlier s.accepts in
-        unknown_exactly policy limits i s.known (RunsBehind before) (stands_behind policy limits before s.known a) s.passed s.passes (same_place s.earlier earlier s.passed.import (Some AskedUnknown) s.later later (m ∙ sym n) (sym s.listed ∙ g))
+        unknown_exactly policy limits i s.known (RunsBehind setting before) (stands_behind setting policy limits before s.known a) s.passed s.passes (same_place s.earlier earlier s.passed.import (Some AskedUnknown) s.later later (m ∙ sym n) (sym s.listed ∙ g))
 
-    pub each_asks : EachAsks p asked
+    pub each_asks : EachAsks setting p asked
     each_asks before i after earlier import later e g n state outcome gets =
-        let s = verdict_split policy limits before i after nothing_known known asked (ap (λ x. verdict policy limits x nothing_known) (sym e) ∙ accepts) in
-        let a = along policy limits before nothing_known s.known s.earlier (nowhere_before before i after (subst StopsLast e last)) s.accepts in
+        let s = verdict_split setting policy limits before i after nothing_known known asked (ap (λ x. verdict setting policy limits x nothing_known) (sym e) ∙ accepts) in
+        let a = along setting policy limits before nothing_known s.known s.earlier (nowhere_before before i after (subst StopsLast e last)) s.accepts in
         let m = length-asked before nothing_known s.known s.earlier s.accepts in
         let same = same_place s.earlier earlier s.passed.import import s.later later (m ∙ sym n) (sym s.listed ∙ g) in
         let covered = a.each start state gets.0 nothing_covers gets.1 in
-        let follows = subst (λ x. FollowsIfOk IsObject x state (step i state outcome)) s.passes (step_follows IsObject objects_grow policy limits i s.known state outcome covered (any_answer state.objects outcome)) in
-        subst (λ x. Asks x state (step i state outcome)) same (asks_so s.passed state (step i state outcome) follows)
+        let follows = subst (λ x. FollowsIfOk IsObject x state (step_as setting i state outcome)) s.passes (step_follows IsObject objects_grow setting policy limits i s.known state outcome covered (any_answer state.objects outcome)) in
+        subst (λ x. Asks x state (step_as setting i state outcome)) same (asks_so s.passed state (step_as setting i state outcome) follows)

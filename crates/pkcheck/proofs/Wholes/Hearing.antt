@@ -1,4 +1,5 @@
 -- What is heard along a check.
+use Rattle.pkcheck.specs.declared.old_strings.OldStrings.TheVariants.{Unknown}
 use Rattle.std.proofs.Common.{◌≡◌, ℕ, List, [], ◌∷◌, ◌++◌, append-nil, append_assoc, refl, sym, subst, ◌∙◌}
 use Rattle.std.proofs.lemmas.Str.{IsUtf8-nil}
 use Rattle.std.specs.Prelude.{Option}
@@ -24,12 +25,12 @@ heard_more before [] (y ∷ hs) i x u h = absurd u
 heard_more before (j ∷ p) [] i x u h = absurd u
 
 -- what is heard of the instruction that the reader gives
-pub heard_here : (laws : FrameLaws) (policy : Policy) (limits : Bounds) (old : Sight) (p : List Instruction) (asked : List (Option Asked)) (s : State) (still_open : ℕ) (m : View) → Checked policy limits old p asked s still_open m
+pub heard_here : (laws : FrameLaws) (policy : Policy) (limits : Bounds) (old : Sight) (p : List Instruction) (asked : List (Option Asked)) (s : State) (still_open : ℕ) (m : View) → Checked Unknown policy limits old p asked s still_open m
     → (t : State) (at : ℕ) (i : Instruction) → Took old limits p s at i t
     → (n : ℕ) → ((st : RunState) → Covers m.knowledge st → n ≡ marks_of st.shape.entries)
     → IsHeardOf p i (heard at i n)
 heard_here laws policy limits old p asked s still_open m h t at i took n marks =
-    let known = known_behind laws policy limits old p asked s still_open m h took.more.no_stop in
+    let known = known_behind laws Unknown policy limits old p asked s still_open m h took.more.no_stop in
     let some = known.some (record { text = []; utf8 = IsUtf8-nil }) in
     record {
       same = refl;

@@ -1,20 +1,22 @@
 -- The imports of every run are those that the checker lists.
+use Rattle.pkcheck.specs.declared.old_strings.OldStrings.{OldStrings}
 use Rattle.std.proofs.Common.{◌≡◌, ℕ, Bool, true, false, List, [], ◌∷◌, ◌++◌, Option, Some, None, Result, Ok, Err, inl, inr, refl, sym, ap, subst, ◌∙◌, append-nil, append_assoc}
 use Rattle.pkcheck.specs.declared.machine.effects.Gives.{Gives}
 use Rattle.pkcheck.specs.declared.machine.effects.Names.{Names}
 use Rattle.pkcheck.specs.declared.machine.effects.Effect.{Effect}
-use Rattle.pkcheck.specs.declared.machine.effects.Effect.TheVariants.{Operates, Moves, Stops}
-use Rattle.pkcheck.specs.Effects.{effect_of}
+use Rattle.pkcheck.specs.declared.machine.effects.Effect.TheVariants.{Operates, Moves, Stops, Raises}
+use Rattle.pkcheck.specs.Effects.{effect_as}
 use Rattle.pkcheck.specs.Shape.{Breach, Shape, Taken, operands, moved}
 use Rattle.pkops.specs.Spelling.{Instruction}
 use Rattle.pkops.specs.Operands.{memo_number}
-use Rattle.pkcheck.specs.Runs.{State, Event, Outcome, Raise, Go, Stepped, WentOn, Raised, Stopped, Stuck, Named, NoImport, Pair, NotTexts, asks, come_of, operated, move_step, operate_step, perform, step, effect_asks}
+use Rattle.pkcheck.specs.Runs.{State, Event, Outcome, Raise, Go, Stepped, WentOn, Raised, Stopped, Stuck, Named, NoImport, Pair, NotTexts, asks, come_of, operated, move_step, operate_step, perform, step_as, effect_asks}
 use Rattle.pkcheck.specs.Knowledge.{Knowledge, Policy, Asked, AskedPair, AskedUnknown, Progress, advance}
 use Rattle.pkops.specs.Limits.{Bounds}
 use Rattle.pkcheck.specs.Covers.{Pointwise, IsObject, imports_of, IsAsked, Adds}
+use Rattle.pkcheck.proofs.Stepping.Settings.{only_stop as never_stops}
 use Rattle.pkcheck.proofs.Covering.CoversBy.{any_answer, CoversBy, FollowsBy, FollowsIfOk, objects_grow}
 use Rattle.pkcheck.specs.Import.{asks_more}
-use Rattle.pkcheck.specs.WholeRuns.{Ended, first_outcome, outcomes_after, go_on, run, Sound, EndsWell, AllListed}
+use Rattle.pkcheck.specs.WholeRuns.{Ended, first_outcome, outcomes_after, go_on, run_as, Sound, EndsWell, AllListed}
 use Rattle.pkcheck.proofs.Covering.Verdicts.{Yes, verdict, IsYes}
 use Rattle.pkcheck.specs.Runs.{start}
 use Rattle.pkcheck.specs.Knowledge.{nothing_known}
@@ -48,10 +50,11 @@ pub only_stop : (e : Effect) (i : Instruction) (r : ℕ) (s u : State) (o : Outc
 only_stop (Operates takes names gives) i r s u o h = absurd (next_stops names gives i o r s u (operands takes s.shape.entries) h)
 only_stop (Moves m) i r s u o h = absurd (shape_stops r s u (moved m (memo_number i) s.shape) h)
 only_stop Stops i r s u o h = refl
+only_stop Raises i r s u o h = cc
 
-stop_is_last : (i : Instruction) (is : List Instruction) → StopsLast (i ∷ is) → effect_of i.op ≡ Stops → is ≡ []
-stop_is_last i [] h e = refl
-stop_is_last i (j ∷ is) h e = absurd (h.0 e)
+stop_is_last : (setting : OldStrings) (i : Instruction) (is : List Instruction) → StopsLast (i ∷ is) → effect_as setting i ≡ Stops → is ≡ []
+stop_is_last setting i [] h e = refl
+stop_is_last setting i (j ∷ is) h e = absurd (never_stops setting i h.0 e)
 
 after_first : (i : Instruction) (is : List Instruction) → StopsLast (i ∷ is) → StopsLast is
 after_first i [] h = tt
@@ -78,7 +81,7 @@ more_among : (a : Option Asked) (as' : List Asked) (asked : List (Option Asked))
 more_among None as' asked = refl
 more_among (Some a) as' asked = append_assoc as' (a ∷ []) (imports_among asked)
 
-module _ (p : Policy) (l : Bounds) where
+module _ (setting : OldStrings) (p : Policy) (l : Bounds) where
   step_listed : (q : Progress) (s : State) (st : Stepped) (done : List Asked) (rest : List (Option Asked)) (f : State → Ended) → FollowsBy IsObject q s st → Pointwise StandsFor done (imports_of s.events) → ((r : ℕ) (t : State) → st ≡ Stopped r t → rest ≡ []) → ((t : State) → CoversBy IsObject q.after t → Pointwise StandsFor (asks_more q.import done) (imports_of t.events) → ImportsAreListed (asks_more q.import done ++ imports_among rest) (f t)) → ImportsAreListed (done ++ imports_among (q.import ∷ rest)) (go_on st f)
   step_listed q s (WentOn t) done rest f g h last on = subst (λ x. ImportsAreListed x (f t)) (more_among q.import done rest) (on t g.0 (adds_stands q.import done s.events t.events h g.1))
   step_listed q s (Raised t) done rest f (inl g) h last on = subst (λ x. IsBeginning x (imports_of t.events)) (more_among q.import done rest) (all_begins (asks_more q.import done) (imports_among rest) (imports_of t.events) (adds_stands q.import done s.events t.events h g))
@@ -89,23 +92,23 @@ module _ (p : Policy) (l : Bounds) where
       (subst (λ x. Pointwise StandsFor (done ++ []) (imports_of x)) (sym g.4) (subst (λ x. Pointwise StandsFor x (imports_of s.events)) (sym (append-nil done)) h)))
   step_listed q s (Stuck b) done rest f g h last on = absurd g
 
-  none_left : (is : List Instruction) (k known : Knowledge) (asked : List (Option Asked)) → is ≡ [] → verdict p l is k ≡ Yes known asked → asked ≡ []
+  none_left : (is : List Instruction) (k known : Knowledge) (asked : List (Option Asked)) → is ≡ [] → verdict setting p l is k ≡ Yes known asked → asked ≡ []
   none_left [] k known asked e h = cc
   none_left (i ∷ is) k known asked e h = cc
 
-  listed_from : (is : List Instruction) (k known : Knowledge) (asked : List (Option Asked)) (done : List Asked) (s : State) (os : List Outcome) → StopsLast is → verdict p l is k ≡ Yes known asked → CoversBy IsObject k s → Pointwise StandsFor done (imports_of s.events) → ImportsAreListed (done ++ imports_among asked) (run is os s)
+  listed_from : (is : List Instruction) (k known : Knowledge) (asked : List (Option Asked)) (done : List Asked) (s : State) (os : List Outcome) → StopsLast is → verdict setting p l is k ≡ Yes known asked → CoversBy IsObject k s → Pointwise StandsFor done (imports_of s.events) → ImportsAreListed (done ++ imports_among asked) (run_as setting is os s)
   listed_from [] k known asked done s os last e c h = all_begins done (imports_among asked) (imports_of s.events) h
   listed_from (i ∷ is) k known asked done s os last e c h =
-      let f = verdict_first (advance p l i k) (verdict p l is) known asked e in
-      let st = step i s (first_outcome os) in
-      let w : FollowsBy IsObject f.passed s st = subst (λ x. FollowsIfOk IsObject x s st) f.passes (step_follows IsObject objects_grow p l i k s (first_outcome os) c (any_answer s.objects (first_outcome os))) in
-      subst (λ x. ImportsAreListed (done ++ imports_among x) (go_on st (run is (outcomes_after (effect_asks (effect_of i.op)) os)))) (sym f.rest.first)
-      (step_listed f.passed s st done f.rest.listed (run is (outcomes_after (effect_asks (effect_of i.op)) os)) w h
-      (λ r t g. none_left is f.passed.after known f.rest.listed (stop_is_last i is last (only_stop (effect_of i.op) i r s t (first_outcome os) g)) f.rest.accepts)
+      let f = verdict_first (advance setting p l i k) (verdict setting p l is) known asked e in
+      let st = step_as setting i s (first_outcome os) in
+      let w : FollowsBy IsObject f.passed s st = subst (λ x. FollowsIfOk IsObject x s st) f.passes (step_follows IsObject objects_grow setting p l i k s (first_outcome os) c (any_answer s.objects (first_outcome os))) in
+      subst (λ x. ImportsAreListed (done ++ imports_among x) (go_on st (run_as setting is (outcomes_after (effect_asks (effect_as setting i)) os)))) (sym f.rest.first)
+      (step_listed f.passed s st done f.rest.listed (run_as setting is (outcomes_after (effect_asks (effect_as setting i)) os)) w h
+      (λ r t g. none_left is f.passed.after known f.rest.listed (stop_is_last setting i is last (only_stop (effect_as setting i) i r s t (first_outcome os) g)) f.rest.accepts)
       (λ t d g. listed_from is f.passed.after known f.rest.listed (asks_more f.passed.import done) t _ (after_first i is last) f.rest.accepts d g))
 
   -- in every run the imports are a beginning of those listed, and all of them where it stopped
-  pub listed : (is : List Instruction) (known : Knowledge) (asked : List (Option Asked)) → StopsLast is → verdict p l is nothing_known ≡ Yes known asked → (os : List Outcome) → ImportsAreListed (imports_among asked) (run is os start)
+  pub listed : (is : List Instruction) (known : Knowledge) (asked : List (Option Asked)) → StopsLast is → verdict setting p l is nothing_known ≡ Yes known asked → (os : List Outcome) → ImportsAreListed (imports_among asked) (run_as setting is os start)
   listed is known asked last e os = listed_from is nothing_known known asked [] start os last e (record { entries = tt; memo = tt }) tt
 
 -- any pair is on the list of all pairs
@@ -122,15 +125,15 @@ step_fine q s (Raised t) f g on = any_listed (imports_of t.events)
 step_fine q s (Stopped r t) f g on = (emptied q.after.entries t.shape.entries _ g.1 g.2.entries, any_listed (imports_of t.events))
 step_fine q s (Stuck b) f g on = absurd g
 
-fine_from : (l : Bounds) (is : List Instruction) (k known : Knowledge) (asked : List (Option Asked)) (s : State) (os : List Outcome) → verdict None l is k ≡ Yes known asked → CoversBy IsObject k s → EndsWell any_pair (run is os s)
-fine_from l [] k known asked s os e c = any_listed (imports_of s.events)
-fine_from l (i ∷ is) k known asked s os e c =
-    let f = verdict_first (advance None l i k) (verdict None l is) known asked e in
-    let st = step i s (first_outcome os) in
-    let w : FollowsBy IsObject f.passed s st = subst (λ x. FollowsIfOk IsObject x s st) f.passes (step_follows IsObject objects_grow None l i k s (first_outcome os) c (any_answer s.objects (first_outcome os))) in
-    step_fine f.passed s st (run is _) w (λ t d. fine_from l is f.passed.after known f.rest.listed t _ f.rest.accepts d)
+fine_from : (setting : OldStrings) (l : Bounds) (is : List Instruction) (k known : Knowledge) (asked : List (Option Asked)) (s : State) (os : List Outcome) → verdict setting None l is k ≡ Yes known asked → CoversBy IsObject k s → EndsWell any_pair (run_as setting is os s)
+fine_from setting l [] k known asked s os e c = any_listed (imports_of s.events)
+fine_from setting l (i ∷ is) k known asked s os e c =
+    let f = verdict_first (advance setting None l i k) (verdict setting None l is) known asked e in
+    let st = step_as setting i s (first_outcome os) in
+    let w : FollowsBy IsObject f.passed s st = subst (λ x. FollowsIfOk IsObject x s st) f.passes (step_follows IsObject objects_grow setting None l i k s (first_outcome os) c (any_answer s.objects (first_outcome os))) in
+    step_fine f.passed s st (run_as setting is _) w (λ t d. fine_from setting l is f.passed.after known f.rest.listed t _ f.rest.accepts d)
 
 -- a yes is sound, whatever the policy
-pub sound_by : (p : Policy) (l : Bounds) (is : List Instruction) (known : Knowledge) (asked : List (Option Asked)) → verdict p l is nothing_known ≡ Yes known asked → Sound is (permitted_by p)
-sound_by None l is known asked e = λ os. fine_from l is nothing_known known asked start os e (record { entries = tt; memo = tt })
-sound_by (Some list) l is known asked e = sound list l is (subst IsYes (sym e) tt)
+pub sound_by : (setting : OldStrings) (p : Policy) (l : Bounds) (is : List Instruction) (known : Knowledge) (asked : List (Option Asked)) → verdict setting p l is nothing_known ≡ Yes known asked → Sound setting is (permitted_by p)
+sound_by setting None l is known asked e = λ os. fine_from setting l is nothing_known known asked start os e (record { entries = tt; memo = tt })
+sound_by setting (Some list) l is known asked e = sound list setting l is (subst IsYes (sym e) tt)

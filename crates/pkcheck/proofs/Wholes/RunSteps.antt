@@ -1,4 +1,5 @@
 -- One step of a whole run.
+use Rattle.pkcheck.specs.declared.old_strings.OldStrings.{OldStrings}
 use Rattle.std.proofs.Common.{◌≡◌, ℕ, Bool, true, false, List, [], ◌∷◌, Result, Ok, Err, refl, sym, ap, subst, ◌∙◌}
 use Rattle.std.specs.Prelude.{All}
 use Rattle.std.proofs.lemmas.List.Elements.{All-cons}
@@ -7,14 +8,14 @@ use Rattle.pkops.specs.Limits.{Bounds}
 use Rattle.pkcheck.specs.declared.machine.effects.Names.{Names}
 use Rattle.pkcheck.specs.declared.machine.effects.Gives.{Gives}
 use Rattle.pkcheck.specs.declared.machine.effects.Effect.{Effect}
-use Rattle.pkcheck.specs.declared.machine.effects.Effect.TheVariants.{Operates, Moves, Stops}
-use Rattle.pkcheck.specs.Effects.{effect_of}
+use Rattle.pkcheck.specs.declared.machine.effects.Effect.TheVariants.{Operates, Moves, Stops, Raises}
+use Rattle.pkcheck.specs.Effects.{effect_as}
 use Rattle.pkcheck.specs.Shape.{Breach, Taken, and_then, operands}
-use Rattle.pkcheck.specs.Runs.{Object, State, Outcome, CanCome, Stepped, WentOn, Raised, Stopped, Stuck, Named, NoImport, Pair, NotTexts, asks, come_of, operated, operate_step, perform, step, effect_asks}
+use Rattle.pkcheck.specs.Runs.{Object, State, Outcome, CanCome, Stepped, WentOn, Raised, Stopped, Stuck, Named, NoImport, Pair, NotTexts, asks, come_of, operated, operate_step, perform, step_as, effect_asks}
 use Rattle.pkcheck.specs.Knowledge.{Knowledge, Progress, Refusal, within}
 use Rattle.pkcheck.specs.Covers.{IsObject}
 use Rattle.pkcheck.proofs.Covering.CoversBy.{CoversBy, FollowsBy}
-use Rattle.pkcheck.specs.WholeRuns.{Ended, Reached, first_outcome, outcomes_after, go_on, run}
+use Rattle.pkcheck.specs.WholeRuns.{Ended, Reached, first_outcome, outcomes_after, go_on, run_as}
 use Rattle.pkcheck.proofs.Covering.Answering.{IsGoing, Exactly}
 
 -- a step that asks nothing uses no outcome
@@ -35,25 +36,26 @@ perform_unused : (e : Effect) (i : Instruction) (s : State) (o q : Outcome) → 
 perform_unused (Operates takes names gives) i s o q h = step_unused names gives i o q s (operands takes s.shape.entries) h
 perform_unused (Moves m) i s o q h = refl
 perform_unused Stops i s o q h = refl
+perform_unused Raises i s o q h = refl
 
 kept : (os : List Outcome) → outcomes_after false os ≡ os
 kept [] = refl
 kept (o ∷ os) = refl
 
 -- a run that begins with this outcome, where it asks
-pub run_on : (b : Bool) (i : Instruction) (is : List Instruction) (s : State) (o : Outcome) (os : List Outcome) (x : Ended) → CanCome o → All CanCome os → effect_asks (effect_of i.op) ≡ b → go_on (step i s o) (run is os) ≡ x → (qs : List Outcome) × All CanCome qs × (run (i ∷ is) qs s ≡ x)
-run_on true i is s o os x can all b e = (o ∷ os, All-cons CanCome o os can all, subst (λ c. go_on (step i s o) (run is (outcomes_after c (o ∷ os))) ≡ x) (sym b) e)
-run_on false i is s o os x can all b e =
-    (os, all, subst (λ c. go_on (step i s (first_outcome os)) (run is (outcomes_after c os)) ≡ x) (sym b) (ap (λ st. go_on st (run is (outcomes_after false os))) (perform_unused (effect_of i.op) i s (first_outcome os) o b) ∙ ap (λ qs. go_on (step i s o) (run is qs)) (kept os) ∙ e))
+pub run_on : (setting : OldStrings) (b : Bool) (i : Instruction) (is : List Instruction) (s : State) (o : Outcome) (os : List Outcome) (x : Ended) → CanCome o → All CanCome os → effect_asks (effect_as setting i) ≡ b → go_on (step_as setting i s o) (run_as setting is os) ≡ x → (qs : List Outcome) × All CanCome qs × (run_as setting (i ∷ is) qs s ≡ x)
+run_on setting true i is s o os x can all b e = (o ∷ os, All-cons CanCome o os can all, subst (λ c. go_on (step_as setting i s o) (run_as setting is (outcomes_after c (o ∷ os))) ≡ x) (sym b) e)
+run_on setting false i is s o os x can all b e =
+    (os, all, subst (λ c. go_on (step_as setting i s (first_outcome os)) (run_as setting is (outcomes_after c os)) ≡ x) (sym b) (ap (λ st. go_on st (run_as setting is (outcomes_after false os))) (perform_unused (effect_as setting i) i s (first_outcome os) o b) ∙ ap (λ qs. go_on (step_as setting i s o) (run_as setting is qs)) (kept os) ∙ e))
 
 pub same_reached : (s t : State) → Reached s ≡ Reached t → s ≡ t
 same_reached s t e = cc
 
-pub each_on : (q : Progress) (s : State) (st : Stepped) (is : List Instruction) (os : List Outcome) (t : State) (known : Knowledge) → FollowsBy IsObject q s st → ((u : State) → CoversBy IsObject q.after u → run is os u ≡ Reached t → CoversBy IsObject known t) → go_on st (run is os) ≡ Reached t → CoversBy IsObject known t
-each_on q s (WentOn u) is os t known h on e = on u h.0 e
-each_on q s (Raised u) is os t known h on e = cc
-each_on q s (Stopped r u) is os t known h on e = cc
-each_on q s (Stuck b) is os t known h on e = absurd h
+pub each_on : (setting : OldStrings) (q : Progress) (s : State) (st : Stepped) (is : List Instruction) (os : List Outcome) (t : State) (known : Knowledge) → FollowsBy IsObject q s st → ((u : State) → CoversBy IsObject q.after u → run_as setting is os u ≡ Reached t → CoversBy IsObject known t) → go_on st (run_as setting is os) ≡ Reached t → CoversBy IsObject known t
+each_on setting q s (WentOn u) is os t known h on e = on u h.0 e
+each_on setting q s (Raised u) is os t known h on e = cc
+each_on setting q s (Stopped r u) is os t known h on e = cc
+each_on setting q s (Stuck b) is os t known h on e = absurd h
 
 pub gone : (e : Effect) (U : List Object → ℕ → Type 0) (q : Progress) (s : State) (st : Stepped) → (e ≡ Stops → ⊥) → IsGoing e st → FollowsBy U q s st → (u : State) × (st ≡ WentOn u) × CoversBy U q.after u
 gone e U q s (WentOn u) ne g h = (u, refl, h.0)

@@ -9,7 +9,7 @@ use Rattle.pkcheck.specs.declared.machine.effects.Names.TheVariants.{NoName}
 use Rattle.pkcheck.specs.declared.machine.effects.Move.{Move}
 use Rattle.pkcheck.specs.declared.machine.effects.Move.TheVariants as move
 use Rattle.pkcheck.specs.declared.machine.effects.Effect.{Effect}
-use Rattle.pkcheck.specs.declared.machine.effects.Effect.TheVariants.{Operates, Moves, Stops}
+use Rattle.pkcheck.specs.declared.machine.effects.Effect.TheVariants.{Operates, Moves, Stops, Raises}
 use Rattle.pkcheck.specs.declared.machine.operate.Denial.{Denial}
 use Rattle.pkcheck.specs.declared.machine.stepping.Moved.{Moved}
 use Rattle.pkread.specs.declared.refusal.Reason.{Reason}
@@ -126,6 +126,7 @@ abbrev pub IsWell : Effect → Type 0
 IsWell (Operates takes names gives) = WellGiven gives names takes
 IsWell (Moves m) = ⊤
 IsWell Stops = ⊤
+IsWell Raises = ⊤
 
 -- it goes on: this is known after it, and these imports are listed
 abbrev pub GoesTo : Effect → Result Progress Refusal → Knowledge → List Asked → List Asked
@@ -145,6 +146,7 @@ abbrev pub MayWantMemory : Effect → Type 0
 MayWantMemory (Operates takes names gives) = MayOperate names gives
 MayWantMemory (Moves m) = MoveMayWantMemory m
 MayWantMemory Stops = ⊥
+MayWantMemory Raises = ⊤
 
 -- no more entries of the stack and of the memo than the limits
 abbrev pub IsWithin : Bounds → Knowledge → Type 0

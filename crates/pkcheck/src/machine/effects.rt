@@ -1,12 +1,17 @@
 //! What each opcode does to the stack and the memo.
-ghost use Rattle.std.specs.Prelude.{◌≡◌, IsTrue};
+ghost use Rattle.std.specs.Prelude.{◌≡◌, [], IfOk, IsTrue, OnErr, unwrap_or};
 ghost use Rattle.pkcheck.specs.Effects.{effect_of, pushes, makes, may_make, answers, imports};
-ghost use Rattle.pkcheck.specs.Effects.{fills};
+ghost use Rattle.std.specs.Char.{is_ascii};
+ghost use Rattle.std.specs.List.{list_all};
+ghost use Rattle.pkcheck.specs.Effects.{ascii_string, effect_as, fills, is_old_string};
 ghost use Rattle.pkops.specs.Inst.{instruction_of};
-ghost use Rattle.pkcheck.specs.Private.Denials.{IsWell};
+ghost use Rattle.pkcheck.specs.Private.Denials.{IsWell, MayWantMemory};
+ghost use Rattle.pkops.specs.OldBytes.{old_bytes};
 ghost use Rattle.pkops.specs.Payloads.{is_passed};
 
-use pkops::{Inst, Op};
+use crate::old_strings::OldStrings;
+use pkops::{Inst, Op, old_bytes_of};
+use std::alloc::{AllocError, Global};
 
 /// The classes of objects that opcodes make, texts aside.
 #[derive(Clone, Copy)]
@@ -88,6 +93,7 @@ pub enum Effect {
     Operates(Takes, Names, Gives),
     Moves(Move),
     Stops,
+    Raises,
 }
 
 /// Takes nothing and pushes a new object of this class.
@@ -148,7 +154,7 @@ pub fn effect_of(op: Op) -> Effect
         Op::Long4 => pushes(Class::Int),
         Op::Float => pushes(Class::Float),
         Op::BinFloat => pushes(Class::Float),
-        // strings of Python 2, whose reading is a setting of the reader
+        // strings of Python 2, where nothing is said of their reading
         Op::String => answers(Takes::Objects(0)),
         Op::BinString => answers(Takes::Objects(0)),
         Op::ShortBinString => answers(Takes::Objects(0)),
@@ -232,12 +238,81 @@ pub fn effect_of(op: Op) -> Effect
     }
 }
 
-/// What an instruction does.
-pub fn effect_by(inst: &Inst) -> Effect
-    ensures value { result ≡ effect_of (instruction_of inst.now).op }
+/// What an instruction does, by what old strings become. It errs only where memory is lacking.
+#[inline]
+pub fn effect_by(
+    alloc: Global,
+    old_strings: OldStrings,
+    inst: &Inst<'_>,
+) -> Result<Effect, AllocError>
+    ensures value { IfOk result (λ effect. effect
+        ≡ effect_as old_strings (instruction_of inst.now)) }
+    ensures well { IfOk result IsWell }
+    ensures memory { OnErr result
+        (MayWantMemory (effect_as old_strings (instruction_of inst.now))) }
+{
+    match old_strings {
+        OldStrings::Unknown => Ok(effect_of(inst.op())),
+        OldStrings::Ascii => {
+            if is_old_string(inst.op()) {
+                ascii_string(alloc, inst)
+            } else {
+                Ok(effect_of(inst.op()))
+            }
+        }
+        OldStrings::Bytes => {
+            if is_old_string(inst.op()) {
+                Ok(pushes(Class::Bytes))
+            } else {
+                Ok(effect_of(inst.op()))
+            }
+        }
+    }
+}
+
+/// Whether the opcode is one of an old string.
+#[inline]
+fn is_old_string(op: Op) -> bool
+    ensures { result ≡ is_old_string op }
+{
+    match op {
+        Op::String => true,
+        Op::BinString => true,
+        Op::ShortBinString => true,
+        _ => false,
+    }
+}
+
+/// What an old string does that is read as ASCII.
+#[inline(never)]
+fn ascii_string(alloc: Global, inst: &Inst<'_>) -> Result<Effect, AllocError>
+    ensures value { IfOk result (λ effect. effect
+        ≡ ascii_string (unwrap_or (old_bytes (instruction_of inst.now)) [])) }
+    ensures well { IfOk result IsWell }
+{
+    match old_bytes_of(alloc, inst)? {
+        Some(bytes) => Ok(ascii_effect(&bytes)),
+        None => Ok(ascii_effect(&[])),
+    }
+}
+
+/// The same, of its bytes.
+fn ascii_effect(bytes: &[u8]) -> Effect
+    ensures value { result ≡ ascii_string bytes.now }
     ensures well { IsWell result }
 {
-    effect_of(inst.op())
+    if is_ascii(bytes) {
+        Effect::Operates(Takes::Objects(0), Names::NoName, Gives::MakesText)
+    } else {
+        Effect::Raises
+    }
+}
+
+/// Whether each byte is ASCII.
+fn is_ascii(bytes: &[u8]) -> bool
+    ensures { result ≡ list_all is_ascii bytes.now }
+{
+    bytes.iter().all(|byte| byte.is_ascii())
 }
 
 /// The class of object that an opcode makes whose payload may be passed over.

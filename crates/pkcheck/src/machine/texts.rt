@@ -4,10 +4,11 @@ ghost use Rattle.pkops.specs.Contents.{rule_of};
 ghost use Rattle.pkops.specs.Inst.{instruction_of};
 ghost use Rattle.pkops.specs.declared.contents.Rule.TheVariants as rule;
 ghost use Rattle.std.specs.Prelude.{◌≡◌, [], ◌∷◌, ◌++◌, ◌<◌, ◌≤◌, ◌-◌, length, take, drop, get_or};
-ghost use Rattle.std.specs.Prelude.{true, OnErr, OnOk};
+ghost use Rattle.std.specs.Prelude.{true, IfOk, OnErr, OnOk, encode_utf8_all, string_bytes, unwrap_or};
+ghost use Rattle.pkops.specs.OldBytes.{old_bytes};
 ghost use Rattle.std.specs.Str.{IsUtf8};
 
-use pkops::{Arg, Inst, Op, text_of};
+use pkops::{Arg, Inst, Op, old_bytes_of, text_of};
 use std::alloc::{AllocError, Global};
 use std::marker::Model;
 
@@ -115,9 +116,32 @@ impl Texts {
     {
         match text_of(alloc, inst)? {
             Some(text) => self.push(text.as_bytes()),
-            None => self.push("".as_bytes()),
+            None => self.add_old(alloc, inst),
         }
     }
+
+    /// The same, of an old string.
+    fn add_old(&mut self, alloc: Global, inst: &Inst<'_>) -> Result<(), AllocError>
+        ensures ok { OnOk result (self.new ≡ self.old ++ encode_utf8_all
+            (unwrap_or (old_bytes (instruction_of inst.now)) []) ∷ []) }
+        ensures err { OnErr result (self.new ≡ self.old) }
+    {
+        match old_bytes_of(alloc, inst)? {
+            Some(bytes) => self.put(numbered_by(alloc, &bytes)?.as_str()),
+            None => self.put(""),
+        }
+    }
+}
+
+/// The characters that the bytes number.
+fn numbered_by(alloc: Global, bytes: &[u8]) -> Result<String, AllocError>
+    ensures { IfOk result (λ text. string_bytes text ≡ encode_utf8_all bytes.now) }
+{
+    let mut text = String::new(alloc);
+    'bytes: for byte in bytes {
+        text.push(char::from(*byte))?;
+    }
+    Ok(text)
 }
 
 /// Where a text begins: where the one before it ends.

@@ -39,6 +39,7 @@ fn name_of(reason: Reason) -> &'static str
         Reason::UnknownImport => "UnknownImport",
         Reason::ImportOffList => "ImportOffList",
         Reason::LeftOver => "LeftOver",
+        Reason::NotAscii => "NotAscii",
         Reason::OutOfMemory => "OutOfMemory",
     }
 }

@@ -13,7 +13,7 @@ instructions-init g c =
     let laws : FrameLaws = record { more = c.frames.ensures.more; all = c.frames.ensures.all; refused = c.frames.ensures.refused } in
     record {
       same = refl;
-      checked = ([], [], rw (c.new-reader.ensures.state, c.new-frames.ensures, c.new-machine.ensures.fresh, c.holding_all-limits.ensures) (checked_none laws _ _ _ c.nexts.ensures.begins), [], tt, g.met.L.Listener.hears_none _);
+      checked = ([], [], rw (c.new-reader.ensures.state, c.new-frames.ensures, c.new-machine.ensures.fresh, c.holding_all-limits.ensures) (checked_none laws _ _ _ _ c.nexts.ensures.begins), [], tt, g.met.L.Listener.hears_none _);
     }
 
 pub returns-in-Err-clause-answer : goal.returns-in-Err-clause-answer
@@ -22,7 +22,7 @@ returns-in-Err-clause-answer g c =
     let laws : FrameLaws = record { more = c.frames.ensures.more; all = c.frames.ensures.all; refused = c.frames.ensures.refused } in
     let r = c.instructions.invariant.checked in
     let turned = refused_next _ _ r.0 _ r.2.reads r.2.read_limits _ refl c.nexts.ensures.refused c.next.result c.in-Err.refusal k.1 (cc (c.in-Err.is)) in
-    let w = refused_turned laws _ _ _ r.0 r.1 _ _ _ r.2 _ c.in-Err.refusal _ turned (search rules) in
+    let w = refused_turned laws _ _ _ _ r.0 r.1 _ _ _ r.2 _ c.in-Err.refusal _ turned (search rules) in
     (r.3, record { right = w.0; each = subst (λ p. AreHeardBehind [] p r.3) (sym (w.1 ∙ append-nil r.0)) r.4 }, r.5)
 
 pub returns-in-Ok-Ended-clause-answer : goal.returns-in-Ok-Ended-clause-answer
@@ -31,7 +31,7 @@ returns-in-Ok-Ended-clause-answer g c =
     let laws : FrameLaws = record { more = c.frames.ensures.more; all = c.frames.ensures.all; refused = c.frames.ensures.refused } in
     let r = c.instructions.invariant.checked in
     let e = c.nexts.ensures.ended _ _ r.0 _ _ c.next.result r.2.reads k.1 (cc (c.in-Ok-Ended.is, c.in-Ok-Ended.field-0-is)) in
-    let w = accepted laws _ _ _ r.0 r.1 _ _ _ r.2 _ _ _ e.0 (let same = ap (λ s. s.source) e.1 in search rules) (c.taken.ensures ∙ ap (λ s. s.taken) e.1) c.into_imports.ensures in
+    let w = accepted laws _ _ _ _ r.0 r.1 _ _ _ r.2 _ _ _ e.0 (let same = ap (λ s. s.source) e.1 in search rules) (c.taken.ensures ∙ ap (λ s. s.taken) e.1) c.into_imports.ensures in
     (r.3, record { right = w.0; each = subst (λ p. AreHeardBehind [] p r.3) (sym w.1) r.4 }, r.5)
 
 pub returns-in-Err-judge-clause-answer : goal.returns-in-Err-judge-clause-answer
@@ -42,7 +42,7 @@ returns-in-Err-judge-clause-answer g c =
     let took = took_next _ _ r.0 _ r.2.reads r.2.read_limits _ refl c.nexts.ensures.given c.next.result c.in-Ok-Inst.at c.in-Ok-Inst.inst k.1 (cc (c.in-Ok-Inst.is, c.in-Ok-Inst.field-0-is)) in
     let x = heard c.in-Ok-Inst.at (instruction_of c.in-Ok-Inst.inst) c.marks.result in
     let here = heard_here laws _ _ _ r.0 r.1 _ _ _ r.2 _ c.in-Ok-Inst.at (instruction_of c.in-Ok-Inst.inst) took _ c.marks.ensures.covered in
-    let w = refused_took laws _ _ _ r.0 r.1 _ _ _ r.2 _ c.in-Ok-Inst.at (instruction_of c.in-Ok-Inst.inst) _ took (search rules) (longest c.args.policy.now) _ _ _ c.in-Err-judge.ensures.err c.into_off_list.ensures in
+    let w = refused_took laws _ _ _ _ r.0 r.1 _ _ _ r.2 _ c.in-Ok-Inst.at (instruction_of c.in-Ok-Inst.inst) _ took (search rules) (longest c.args.policy.now) _ _ _ c.in-Err-judge.ensures.err c.into_off_list.ensures in
     let each = subst (λ p. AreHeardBehind [] p (r.3 ++ x ∷ [])) (sym w.1) (heard_more [] r.0 r.3 (instruction_of c.in-Ok-Inst.inst) x r.4 here) in
     (r.3 ++ x ∷ [], record { right = w.0; each = each }, g.met.L.Listener.hears_more _ _ _ r.3 x r.5 c.in_default.ensures)
 
@@ -54,7 +54,7 @@ instructions-preserved g c =
     let took = took_next _ _ r.0 _ r.2.reads r.2.read_limits _ refl c.nexts.ensures.given c.next.result c.in-Ok-Inst.at c.in-Ok-Inst.inst k.1 (cc (c.in-Ok-Inst.is, c.in-Ok-Inst.field-0-is)) in
     let x = heard c.in-Ok-Inst.at (instruction_of c.in-Ok-Inst.inst) c.marks.result in
     let here = heard_here laws _ _ _ r.0 r.1 _ _ _ r.2 _ c.in-Ok-Inst.at (instruction_of c.in-Ok-Inst.inst) took _ c.marks.ensures.covered in
-    let checked = checked_took laws _ _ _ r.0 r.1 _ _ _ r.2 _ _ _ c.in-Ok-Inst.at (instruction_of c.in-Ok-Inst.inst) took c.in_default-judge.ensures.ok in
+    let checked = checked_took laws _ _ _ _ r.0 r.1 _ _ _ r.2 _ _ _ c.in-Ok-Inst.at (instruction_of c.in-Ok-Inst.inst) took c.in_default-judge.ensures.ok in
     let each = heard_more [] r.0 r.3 (instruction_of c.in-Ok-Inst.inst) x r.4 here in
     record {
       same = k.0 ∙ c.instructions.invariant.same;

@@ -4,7 +4,7 @@ use Rattle.pkcheck.specs.Knowledge.{Knowledge}
 use Rattle.pkcheck.specs.Import.{asked_shown, policy_of}
 use Rattle.pkcheck.proofs.Stepping.Longest.{longest}
 use Rattle.pkcheck.proofs.Stepping.CoveredStep.{alarm_by, covered_by, denied, memory_by, no_fault_by, permitted_by, unknown_by}
-use Rattle.pkcheck.proofs.Stepping.TextsMade.{texts_by_opcode}
+use Rattle.pkcheck.proofs.Stepping.Settings.{not_raised, texts_by_setting}
 use Rattle.pkcheck.proofs.machine.Machine.step.Goals as goal
 
 pub returns-in-Ok-clause-goes_on : goal.returns-in-Ok-clause-goes_on
@@ -13,8 +13,8 @@ returns-in-Ok-clause-goes_on c =
     let k : Knowledge = c.advance.new.held.knowledge in (
       record { after = k; import = g.0 },
       rw (← c.self.view_is) g.1,
-      rw (← c.self.view_is) (λ j. record { knowledge = k; limits = c.self.inside.limits; imports = g.2 j; off = option_map asked_shown c.self.inside.off; refused = c.self.inside.refused; stopped = c.is_stopped-self-inside.ensures j; texts = c.in-Ok.ensures.texts j }),
-      g.3,
+      rw (← c.self.view_is) (λ j. record { knowledge = k; limits = c.self.inside.limits; old_strings = c.self.inside.old_strings; imports = g.2 j; off = option_map asked_shown c.self.inside.off; refused = c.self.inside.refused; stopped = c.is_stopped-self-inside.ensures j; texts = c.in-Ok.ensures.texts j }),
+      rw (← c.self.view_is) g.3,
     )
 
 pub returns-in-Ok-clause-covered : goal.returns-in-Ok-clause-covered
@@ -30,13 +30,15 @@ pub returns-in-Ok-clause-unknown : goal.returns-in-Ok-clause-unknown
 returns-in-Ok-clause-unknown c = unknown_by (policy_of c.args.policy.now) (instruction_of c.args.inst.now) c.args.self.now _ c.in-Ok.moved (returns-in-Ok-clause-goes_on c)
 
 pub returns-in-Ok-clause-texts : goal.returns-in-Ok-clause-texts
-returns-in-Ok-clause-texts c = rw (← c.self.view_is) (c.in-Ok.ensures.texts ∙ texts_by_opcode (instruction_of c.args.inst.now).op c.self.inside.held.texts)
+returns-in-Ok-clause-texts c =
+    let g = c.in-Ok.ensures.ok in
+    rw (← c.self.view_is) (c.in-Ok.ensures.texts ∙ texts_by_setting c.self.inside.old_strings (instruction_of c.args.inst.now) c.self.inside.held.texts (not_raised c.self.inside.old_strings (policy_of c.args.policy.now) c.self.inside.limits (instruction_of c.args.inst.now) c.self.inside.held.knowledge _ g.1))
 
 pub returns-in-Err-clause-fails : goal.returns-in-Err-clause-fails
 returns-in-Err-clause-fails c fresh =
     let kept = c.in-Err.ensures.kept in
     denied (policy_of c.args.policy.now) (instruction_of c.args.inst.now) c.args.self.now _ _ c.in-Err.denial refl
-    (rw (← c.self.view_is) (λ j. record { knowledge = (kept j).knowledge; limits = c.self.inside.limits; imports = (kept j).imports; off = option_map asked_shown c.in-Err.denial.pair; refused = Some c.in-Err.denial.reason; stopped = c.self.inside.stopped; texts = (kept j).texts }))
+    (rw (← c.self.view_is) (λ j. record { knowledge = (kept j).knowledge; limits = c.self.inside.limits; old_strings = c.self.inside.old_strings; imports = (kept j).imports; off = option_map asked_shown c.in-Err.denial.pair; refused = Some c.in-Err.denial.reason; stopped = c.self.inside.stopped; texts = (kept j).texts }))
     (rw (← c.self.view_is) c.in-Err.ensures.err)
 
 pub returns-in-Err-clause-alarm : goal.returns-in-Err-clause-alarm
