@@ -120,6 +120,7 @@ impl Machine {
     /// `NotAscii`, and `TooLarge` where the stack or the memo would be past its limit; or
     /// `OutOfMemory`, where a growth was refused. A refused step leaves the imports and the marks,
     /// and after it the same reason is answered for ever.
+    #[inline(always)]
     pub fn step(&mut self, inst: &Inst, policy: &Policy) -> Result<Moved, Reason>
         requires admitted { is_admitted (instruction_of inst.now) ≡ true }
         requires running { self.old.stopped ≡ false }
@@ -164,7 +165,7 @@ impl Machine {
             Err(denial) => {
                 let reason = denial.reason;
                 self.refused = Some(reason);
-                self.off = denial.pair;
+                self.off = unboxed(denial.pair);
                 Err(reason)
             }
         }
@@ -261,6 +262,16 @@ impl Machine {
         ensures { result ≡ self.now.stopped }
     {
         self.stopped
+    }
+}
+
+/// The pair of a refusal, out of its place.
+fn unboxed(pair: Option<Box<Asked>>) -> Option<Asked>
+    ensures { option_map asked_shown result ≡ option_map (λ b. asked_shown b.value) pair }
+{
+    match pair {
+        Some(pair) => Some(Box::into_inner(pair)),
+        None => None,
     }
 }
 

@@ -72,7 +72,7 @@ fn look(op: Op, split: usize, bytes: &[u8]) -> Option<Reason>
 }
 
 /// Whether arguments of one byte need no look.
-#[inline]
+#[inline(always)]
 pub(crate) fn byte_is_plain(op: Op) -> bool
     requires { layout_at op ≡ layout.U1 }
     ensures { result ≡ true → IsPlain op }
@@ -85,7 +85,7 @@ pub(crate) fn byte_is_plain(op: Op) -> bool
 }
 
 /// Whether arguments of two bytes need no look.
-#[inline]
+#[inline(always)]
 pub(crate) fn two_is_plain(op: Op) -> bool
     requires { layout_at op ≡ layout.U2 }
     ensures { result ≡ true → IsPlain op }
@@ -97,7 +97,7 @@ pub(crate) fn two_is_plain(op: Op) -> bool
 }
 
 /// Whether signed arguments need no look.
-#[inline]
+#[inline(always)]
 pub(crate) fn signed_is_plain(op: Op) -> bool
     requires { layout_at op ≡ layout.I4 }
     ensures { result ≡ true → IsPlain op }
@@ -109,7 +109,7 @@ pub(crate) fn signed_is_plain(op: Op) -> bool
 }
 
 /// Whether counted arguments need no look.
-#[inline]
+#[inline(always)]
 pub(crate) fn counted_is_plain(op: Op, width: Width, signed: bool) -> bool
     requires { layout_at op ≡ layout.Counted width signed }
     ensures { result ≡ true → IsPlain op }

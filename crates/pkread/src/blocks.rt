@@ -62,6 +62,7 @@ pub(crate) fn take<R: Source>(
 }
 
 /// The same for some bytes, which most often come in one read.
+#[inline(always)]
 fn take_some<R: Source>(
     source: &mut R,
     buffer: &mut Buffer,
@@ -113,7 +114,7 @@ pub(crate) fn take_byte<R: Source>(
 }
 
 /// The same for a few bytes, which most often come in one read.
-#[inline]
+#[inline(always)]
 pub(crate) fn take_few<R: Source>(
     source: &mut R,
     buffer: &mut Buffer,

@@ -28,7 +28,7 @@ pub(crate) struct Found {
 }
 
 /// Takes the argument behind a code, and gives the number of bytes of the first of two lines.
-#[inline]
+#[inline(always)]
 fn behind_code<R: Source>(
     source: &mut R,
     buffer: &mut Buffer,
@@ -94,7 +94,7 @@ pub(crate) fn take_op<R: Source>(
 }
 
 /// Takes what stands behind a code, and judges the instruction.
-#[inline]
+#[inline(always)]
 pub(crate) fn gather_behind<R: Source>(
     source: &mut R,
     buffer: &mut Buffer,

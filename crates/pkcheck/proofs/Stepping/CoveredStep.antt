@@ -18,7 +18,7 @@ use Rattle.pkcheck.specs.Covers.{IsObject}
 use Rattle.pkcheck.proofs.Covering.CoversBy.{FollowsIfOk, any_answer, objects_grow}
 use Rattle.pkcheck.specs.Faults.{IsFirstFault}
 use Rattle.pkcheck.specs.Import.{asked_shown, asks_more}
-use Rattle.pkcheck.specs.Private.Denials.{IsDenied, IsForMemory, MayWantMemory}
+use Rattle.pkcheck.specs.Private.Denials.{IsDenied, IsForMemory, MayWantMemory, pair_denied}
 use Rattle.pkcheck.specs.View.{View}
 use Rattle.pkcheck.specs.Stepping.{CoveredBy, AppendsPermitted, Fails, GoesOn, IsNoFalseAlarm, IsPermitted, IsStep, MayLackMemory, MeansInEachRun, PassesNoFault, RefusesForGood, UnknownIsNeeded}
 use Rattle.pkcheck.proofs.Covering.Following.{step_follows}
@@ -94,7 +94,7 @@ module _ (p : Policy) (i : Instruction) (before after : View) where
 
   module _ (r : Reason) where
     -- what was denied is refused so
-    pub denied : (d : Denial) → r ≡ d.reason → after ≡ record before { refused = Some d.reason; off = option_map asked_shown d.pair } → IsDenied (advance before.old_strings p before.limits i before.knowledge) d ⊎ (MayWantMemory (effect_as before.old_strings i) × IsForMemory d) → Fails p i before after r
+    pub denied : (d : Denial) → r ≡ d.reason → after ≡ record before { refused = Some d.reason; off = pair_denied d } → IsDenied (advance before.old_strings p before.limits i before.knowledge) d ⊎ (MayWantMemory (effect_as before.old_strings i) × IsForMemory d) → Fails p i before after r
     denied d same becomes (inl (f, is, e, g)) = inl (f, is, same ∙ e, becomes ∙ (λ j. record before { refused = Some (sym same j); off = g j }))
     denied d same becomes (inr (wants, (e, g))) = inr ((λ none. wants_no_memory before.old_strings i none wants), same ∙ e, becomes ∙ (λ j. record before { refused = Some (sym same j); off = g j }))
 

@@ -75,17 +75,21 @@ abbrev pub judged : Policy → Names → Gives → Instruction → List Known
 judged p names gives i ks =
     if wrong_receiver gives ks then Err WrongClass else asked_of p names i ks
 
+-- the pair of a denial
+abbrev pub pair_denied : Denial → Option Asked
+pair_denied d = option_map (λ b. asked_shown b.value) d.pair
+
 -- it is refused for this reason, with this pair
 abbrev pub IsDenied : {A : Type 0} → Result A Refusal → Denial → Type 0
 IsDenied x d =
     (f : Refusal)
     × (x ≡ Err f)
     × (d.reason ≡ reason_of f)
-    × (option_map asked_shown d.pair ≡ off_pair f)
+    × (pair_denied d ≡ off_pair f)
 
 -- it is refused for want of memory, with no pair
 abbrev pub IsForMemory : Denial → Type 0
-IsForMemory d = (d.reason ≡ reason.OutOfMemory) × (option_map asked_shown d.pair ≡ None)
+IsForMemory d = (d.reason ≡ reason.OutOfMemory) × (pair_denied d ≡ None)
 
 -- it passes: this is known after it, and these imports are listed
 abbrev pub Passes : Result Progress Refusal → Knowledge → List Asked → List Asked → Bool → Type 0

@@ -139,6 +139,7 @@ fn fills(takes: Takes, wanted: Wanted) -> Effect
 }
 
 /// What the opcode does: the table of the opcodes' effects, a row an opcode.
+#[inline(always)]
 pub fn effect_of(op: Op) -> Effect
     ensures value { result ≡ effect_of op }
     ensures well { IsWell result }
@@ -239,7 +240,7 @@ pub fn effect_of(op: Op) -> Effect
 }
 
 /// What an instruction does, by what old strings become. It errs only where memory is lacking.
-#[inline]
+#[inline(always)]
 pub fn effect_by(
     alloc: Global,
     old_strings: OldStrings,
@@ -271,7 +272,7 @@ pub fn effect_by(
 }
 
 /// Whether the opcode is one of an old string.
-#[inline]
+#[inline(always)]
 fn is_old_string(op: Op) -> bool
     ensures { result ≡ is_old_string op }
 {

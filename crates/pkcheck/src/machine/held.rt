@@ -106,6 +106,7 @@ impl Held {
     }
 
     /// Does what the move does.
+    #[inline(always)]
     pub fn apply(&mut self, limits: &Limits, what: Move, number: u32) -> Result<(), Reason>
         requires stack { length self.old.knowledge.entries ≤ limits.now.stack }
         requires memo { length self.old.knowledge.memo ≤ limits.now.memo }
@@ -121,6 +122,7 @@ impl Held {
     }
 
     /// Does the operation.
+    #[inline(always)]
     pub fn operate(
         &mut self,
         alloc: Global,

@@ -16,6 +16,7 @@ use pkread::{Frames, Reason, frame_argument};
 
 /// Lets the frames and then the machine judge an instruction. Where the frames refuse it, the
 /// machine stays as it was.
+#[inline(always)]
 pub(crate) fn judge(
     frames: &mut Frames,
     machine: &mut Machine,

@@ -70,7 +70,7 @@ impl Memo {
     }
 
     /// Stores what is known under a number, where the limit leaves room.
-    #[inline]
+    #[inline(always)]
     pub fn store(&mut self, limits: &Limits, number: u64, value: Value) -> Result<(), Reason>
         requires { length self.old ≤ limits.now.memo }
         ensures ok { OnOk result (self.new ≡ stored number value self.old) }

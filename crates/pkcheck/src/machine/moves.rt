@@ -26,7 +26,7 @@ pub fn duplicate(stack: &mut Stack, limits: &Limits) -> Result<(), Reason>
 }
 
 /// Stores the top under a number.
-#[inline]
+#[inline(always)]
 pub fn remember(stack: &Stack, memo: &mut Memo, limits: &Limits, number: u64) -> Result<(), Reason>
     requires { length memo.old ≤ limits.now.memo }
     ensures ok { OnOk result (moved Move.Stores number
@@ -42,7 +42,7 @@ pub fn remember(stack: &Stack, memo: &mut Memo, limits: &Limits, number: u64) ->
 }
 
 /// Pushes what was stored under a number.
-#[inline]
+#[inline(always)]
 pub fn recall(stack: &mut Stack, memo: &Memo, limits: &Limits, number: u32) -> Result<(), Reason>
     ensures ok { OnOk result (moved Move.Fetches number
         (record { entries = stack.old; memo = memo.now })
@@ -59,6 +59,7 @@ pub fn recall(stack: &mut Stack, memo: &Memo, limits: &Limits, number: u32) -> R
 }
 
 /// Does what the move does.
+#[inline(always)]
 pub fn apply(
     stack: &mut Stack,
     memo: &mut Memo,

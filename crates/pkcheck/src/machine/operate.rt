@@ -7,7 +7,7 @@ ghost use Rattle.pkcheck.specs.View.{texts_given};
 ghost use Rattle.pkcheck.specs.Private.Slots.{known, seen, Grows, Sees, StandsIf};
 ghost use Rattle.pkops.specs.Inst.{instruction_of};
 ghost use Rattle.pkcheck.specs.Runs.{Plain, Text, int_or_bool, text};
-ghost use Rattle.pkcheck.specs.Import.{policy_of};
+ghost use Rattle.pkcheck.specs.Import.{asked_shown, policy_of};
 ghost use Rattle.pkcheck.specs.Private.Noted.{AreNumbered, IsNamedIf, named_asked};
 ghost use Rattle.pkcheck.specs.Knowledge.{AskedPair, OffList, permitted};
 ghost use Rattle.pkcheck.specs.Knowledge.{Known, suits, wrong_first, wrong_receiver, known_given};
@@ -28,11 +28,12 @@ use pkops::{Inst, Limits};
 use pkread::Reason;
 use std::alloc::Global;
 
-/// Why a step is refused, with the pair that is off the list.
+/// Why a step is refused, with the pair that is off the list. The pair lies apart, so that what a
+/// step answers is small: most steps are not refused.
 #[derive(Drop)]
 pub struct Denial {
     pub reason: Reason,
-    pub pair: Option<Asked>,
+    pub pair: Option<Box<Asked>>,
 }
 
 /// Whether an object of this class will do.
@@ -126,13 +127,25 @@ fn permit_pair(alloc: Global, policy: &Policy, module_name: &str, name: &str) ->
     if permits(policy, module_name, name) {
         return Ok(());
     }
-    match pair_of(alloc, module_name, name) {
+    match boxed_pair(alloc, module_name, name) {
         Ok(pair) => Err(Denial {
             reason: Reason::ImportOffList,
             pair: Some(pair),
         }),
         Err(reason) => Err(Denial { reason, pair: None }),
     }
+}
+
+/// A pair of these names, in a place of its own.
+fn boxed_pair(alloc: Global, module_name: &str, name: &str) -> Result<Box<Asked>, Reason>
+    ensures ok { IfOk result (λ b. asked_shown b.value ≡ AskedPair module_name.now name.now) }
+    ensures err { IfErr result (λ r. r ≡ Reason.OutOfMemory) }
+{
+    let pair = pair_of(alloc, module_name, name)?;
+    let Ok(pair) = Box::new(alloc, pair) else {
+        return Err(Reason::OutOfMemory);
+    };
+    Ok(pair)
 }
 
 /// What the receiver and the names say.
@@ -226,6 +239,7 @@ pub fn give(
 }
 
 /// Puts the text of an instruction into the table, and names it on top.
+#[inline(never)]
 fn make_text(
     alloc: Global,
     stack: &mut Stack,
@@ -259,6 +273,7 @@ fn make_text(
 }
 
 /// Takes the operands, and puts what is given in their place.
+#[inline(never)]
 fn replace(
     alloc: Global,
     stack: &mut Stack,
@@ -345,6 +360,7 @@ fn create(stack: &mut Stack, limits: &Limits, gives: Gives, inst: &Inst) -> Resu
 }
 
 /// Does the operation.
+#[inline(always)]
 pub fn operate(
     alloc: Global,
     stack: &mut Stack,

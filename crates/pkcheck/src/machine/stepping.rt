@@ -28,6 +28,7 @@ pub enum Moved {
 }
 
 /// Does what the instruction does.
+#[inline(always)]
 pub fn advance(
     alloc: Global,
     held: &mut Held,

@@ -38,7 +38,7 @@ pub returns-in-Err-clause-fails : goal.returns-in-Err-clause-fails
 returns-in-Err-clause-fails c fresh =
     let kept = c.in-Err.ensures.kept in
     denied (policy_of c.args.policy.now) (instruction_of c.args.inst.now) c.args.self.now _ _ c.in-Err.denial refl
-    (rw (← c.self.view_is) (λ j. record { knowledge = (kept j).knowledge; limits = c.self.inside.limits; old_strings = c.self.inside.old_strings; imports = (kept j).imports; off = option_map asked_shown c.in-Err.denial.pair; refused = Some c.in-Err.denial.reason; stopped = c.self.inside.stopped; texts = (kept j).texts }))
+    (rw (← c.self.view_is) (λ j. record { knowledge = (kept j).knowledge; limits = c.self.inside.limits; old_strings = c.self.inside.old_strings; imports = (kept j).imports; off = c.unboxed.ensures j; refused = Some c.in-Err.denial.reason; stopped = c.self.inside.stopped; texts = (kept j).texts }))
     (rw (← c.self.view_is) c.in-Err.ensures.err)
 
 pub returns-in-Err-clause-alarm : goal.returns-in-Err-clause-alarm
