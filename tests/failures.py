@@ -58,7 +58,7 @@ class Bench:
 
 def words_of(row):
     if row.command == "check":
-        return ["check", "--allow", answers.LIST, answers.FILE]
+        return ["check", "--allow", answers.LIST, *row.options, answers.FILE]
     return [row.command, answers.FILE, *[answers.OUT] * (row.command == "optimize")]
 
 

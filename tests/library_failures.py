@@ -19,26 +19,24 @@ import refusing
 
 SECONDS = 60
 
-# The tests whose failure shows what was answered, by the crate that they stand in.
-TESTS = {
-    "pkrows": [
-        "lists::pairs_of_a_list",
-        "lists::the_first_error",
-        "opcodes::each_opcode",
-        "sources::a_read_that_fails_and_an_early_end",
-        "spellings::the_whole_is_read_and_written_back",
-        "verdicts::under_a_list",
-        "verdicts::under_any_import",
-        "verdicts::under_small_limits",
-    ],
-    "pkjson": ["tests::refusals", "tests::values"],
-    "pkopt": ["tests::in_one_frame", "tests::refused_by_the_check", "tests::without_frames"],
-}
+# The program of the tests, and those whose failure shows what was answered.
+PROGRAM = program.ROOT / "crates" / "pkrows" / "out" / "pkrows_tests"
+TESTS = [
+    "exported::refusals",
+    "exported::values",
+    "lists::pairs_of_a_list",
+    "lists::the_first_error",
+    "opcodes::each_opcode",
+    "optimized::in_one_frame",
+    "optimized::refused_by_the_check",
+    "optimized::without_frames",
+    "sources::a_read_that_fails_and_an_early_end",
+    "spellings::the_whole_is_read_and_written_back",
+    "verdicts::under_a_list",
+    "verdicts::under_any_import",
+    "verdicts::under_small_limits",
+]
 WANT = re.compile(rb"\b(OutOfMemory|AllocError)\b")
-
-
-def program_of(crate):
-    return program.ROOT / "crates" / crate / "out" / f"{crate}_tests"
 
 
 def ending(ran):
@@ -51,31 +49,31 @@ def ending(ran):
 
 def tried(task):
     """Refuses each allocation of a test in turn. Gives how often it ended how, and the first that may not be."""
-    library, crate, test = task
+    library, test = task
     refuser = refusing.Refuser(library)
-    runner = program.Runner(program_of(crate), SECONDS)
+    runner = program.Runner(PROGRAM, SECONDS)
     counts = collections.Counter()
     for first in itertools.count(1):
         ran = runner.run([test], refuser.environment("memory", first))
         said = ending(ran)
         if not refuser.has_refused():
-            return crate, test, counts, None if counts and ran.status == 0 else f"nothing refused: {ran}"
+            return test, counts, None if counts and ran.status == 0 else f"nothing refused: {ran}"
         if not said:
-            return crate, test, counts, f"allocation {first} refused: {ran}"
+            return test, counts, f"allocation {first} refused: {ran}"
         counts[said] += 1
 
 
 def tries(library, jobs):
     """Tries the tests side by side, and prints a line for each as it comes, up to the first that ends as it may not."""
     passed = 0
-    tasks = [(library, crate, test) for crate, tests in TESTS.items() for test in tests]
+    tasks = [(library, test) for test in TESTS]
     with multiprocessing.Pool(jobs) as pool:
-        for crate, test, counts, wrong in pool.imap(tried, tasks):
+        for test, counts, wrong in pool.imap(tried, tasks):
             passed += counts.total()
             told = "; ".join(f"{count} {said}" for said, count in counts.most_common())
-            print(f"{crate} {test}: {counts.total()} cases: {told}", flush=True)
+            print(f"{test}: {counts.total()} cases: {told}", flush=True)
             if wrong:
-                print(f"FAILED: {crate} {test}, {wrong}")
+                print(f"FAILED: {test}, {wrong}")
                 return passed, 1
     return passed, 0
 
@@ -84,8 +82,7 @@ def main():
     words = argparse.ArgumentParser(description=__doc__.splitlines()[0])
     words.add_argument("--jobs", type=int, default=len(os.sched_getaffinity(0)), help="processes side by side")
     asked = words.parse_args()
-    for crate in TESTS:
-        program.require(program_of(crate))
+    program.require(PROGRAM)
     with tempfile.TemporaryDirectory(prefix="refuse-") as folder:
         library = refusing.built(folder)
         passed, failed = tries(library, asked.jobs) if library else (0, 1)

@@ -20,6 +20,7 @@ class Row:
     status: int | None = None
     said: str | None = None
     result: bytes | None = None
+    options: tuple[str, ...] = ()
 
 
 MARKED = """\
@@ -96,10 +97,12 @@ def checks():
     for line in (EXAMPLES / "cases.tsv").read_text().splitlines():
         if line.startswith("#"):
             continue
-        pickle, allow, status, said = line.split("\t")
+        pickle, allow, given, status, said = line.split("\t")
+        options = () if given == "-" else tuple(given.split())
         contents = LARGE.get(pickle) or (EXAMPLES / "pickles" / f"{pickle}.pickle").read_bytes()
         listed = (EXAMPLES / "lists" / f"{allow}.toml").read_text()
-        rows.append(Row(f"{pickle} under {allow}", "check", contents, listed, int(status), said + "\n"))
+        name = " ".join([f"{pickle} under {allow}", *options])
+        rows.append(Row(name, "check", contents, listed, int(status), said + "\n", options=options))
     return rows
 
 

@@ -71,17 +71,27 @@ class MoreBytes(ValueError):
         return (MoreBytes, (self.taken, self.length))
 
 
-def check(data: bytes, allow: AllowList, *, limits: Optional[Limits] = None) -> Verdict:
+def check(
+    data: bytes,
+    allow: AllowList,
+    *,
+    limits: Optional[Limits] = None,
+    old_strings: str = "unknown",
+) -> Verdict:
     """Checks the pickle at the front of `data` without running it. What is behind its STOP isn't looked at.
 
     A yes covers every run of the pickle machine, whatever the called objects answer. `data` is a `bytes` object and
     nothing else, since others can change between a check and what follows it. Without `limits` those of a list file hold,
     and under pairs the standard ones; with them the smaller of the two. Raises MemoryError where memory ran out.
+
+    `old_strings` is what the strings of Python 2 become: "ascii" texts, where a byte above 7f is refused; "bytes" bytes;
+    "unknown" any object, so that a yes holds whatever encoding the pickle is loaded with, and none of them can name an
+    import.
     """
     if type(data) is not bytes:
         raise TypeError("bytes are wanted: what can change could change behind the check")
-    limits = limits or allow._limits
-    return _verdict_of(allow._ask(data, limits._address), data, allow, limits)
+    settings = (limits or allow._limits)._address(old_strings)
+    return _verdict_of(allow._ask(data, settings), data, allow, settings)
 
 
 def loads(
@@ -89,9 +99,10 @@ def loads(
     allow: AllowList,
     *,
     limits: Optional[Limits] = None,
+    old_strings: str = "unknown",
     fix_imports: bool = False,
-    encoding: str = "ASCII",
-    errors: str = "strict",
+    encoding: Optional[str] = None,
+    errors: Optional[str] = None,
     buffers: Optional[Iterable[Any]] = None,
 ) -> Any:
     """`pickle.loads`, where the checker accepts the pickle.
@@ -102,13 +113,18 @@ def loads(
     `fix_imports` is on in `pickle.loads` and off here: it imports other pairs than the pickle's, such as
     `functools.reduce` for `__builtin__.reduce`. Where it is told to be on, the list has to permit what the pickle of
     protocol 0 to 2 writes, and has to mean what that becomes.
+
+    `old_strings` is what `check` takes. What was checked is what is loaded: "ascii" loads with the encoding ASCII and
+    strict errors, "bytes" with the encoding bytes. Under "unknown" the answer holds for each encoding, so `encoding` and
+    `errors` are the caller's, and else those of `pickle.loads`; with the others they are a ValueError.
     """
+    encoding, errors = _decoding(old_strings, encoding, errors)
     if type(data) is not bytes:
         data = bytes(memoryview(data))
-    limits = limits or allow._limits
-    told = allow._ask(data, limits._address)
+    settings = (limits or allow._limits)._address(old_strings)
+    told = allow._ask(data, settings)
     if told.status != _library.YES:
-        raise Refused(_verdict_of(told, data, allow, limits))
+        raise Refused(_verdict_of(told, data, allow, settings))
     if told.taken != len(data):
         raise MoreBytes(told.taken, len(data))
     return pickle.loads(
@@ -116,8 +132,19 @@ def loads(
     )
 
 
+def _decoding(
+    old_strings: str, encoding: Optional[str], errors: Optional[str]
+) -> Tuple[str, str]:
+    """The encoding of old strings and what it does with errors: what `old_strings` says, or else the caller."""
+    if old_strings == "unknown":
+        return (encoding or "ASCII", errors or "strict")
+    if encoding is not None or errors is not None:
+        raise ValueError("old_strings says how old strings are read: encoding and errors do not")
+    return ("bytes" if old_strings == "bytes" else "ASCII", "strict")
+
+
 def _verdict_of(
-    told: _library.VerdictStructure, data: bytes, allow: AllowList, limits: Limits
+    told: _library.VerdictStructure, data: bytes, allow: AllowList, settings: int
 ) -> Verdict:
     if told.status == _library.YES:
         return Verdict(True, told.taken, told.imports)
@@ -126,7 +153,7 @@ def _verdict_of(
     # the same call again, with room for the names
     size = told.module_length + told.name_length
     room = ctypes.create_string_buffer(size)
-    again = allow._ask(data, limits._address, ctypes.addressof(room), size)
+    again = allow._ask(data, settings, ctypes.addressof(room), size)
     if not again.has_pair:
         return _refusal(again, None)
     return _refusal(again, _pair_in(room.raw, again.module_length))

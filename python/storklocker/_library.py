@@ -47,7 +47,9 @@ LIST_FAULTS = {
     11: "Shape(Limit)",
 }
 
-YES, NO, NO_LIST = 0, 1, 2
+YES, NO, NO_LIST, USAGE = 0, 1, 2, 3
+
+OLD_STRINGS = {"unknown": 0, "ascii": 1, "bytes": 2}
 
 
 class Pair(ctypes.Structure):
@@ -69,6 +71,7 @@ class Settings(ctypes.Structure):
         ("stack", ctypes.c_uint64),
         ("memo", ctypes.c_uint64),
         ("passed", ctypes.c_uint64),
+        ("old_strings", ctypes.c_uint32),
     ]
 
 

@@ -56,7 +56,7 @@ class AllowList:
         made._call = _library.check_list
         made._count = len(made._front)
         made._limits = GREATEST
-        told = made._ask(b"N.", made._limits._address)
+        told = made._ask(b"N.", made._limits._address("unknown"))
         if told.status == _library.NO_LIST:
             fault = _library.LIST_FAULTS[told.reason]
             raise MemoryError() if fault == "OutOfMemory" else ListFault(fault)

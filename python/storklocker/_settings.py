@@ -4,7 +4,7 @@ from __future__ import annotations
 
 import ctypes
 
-from ._library import Settings
+from ._library import OLD_STRINGS, Settings
 
 
 class Limits:
@@ -18,7 +18,7 @@ class Limits:
     It doesn't change, and threads may share it.
     """
 
-    __slots__ = ("_settings", "_address")
+    __slots__ = ("_settings", "_addresses")
 
     def __init__(
         self,
@@ -30,24 +30,32 @@ class Limits:
         numbers = (counted, stack, memo, passed)
         if any(not 0 <= number < 1 << 64 for number in numbers):
             raise ValueError("a limit is a number from 0 to 2 ** 64 - 1")
-        self._settings = Settings(*numbers)
-        self._address = ctypes.addressof(self._settings)
+        # (what old strings become stands beside the limits, so each has settings of its own)
+        self._settings = {word: Settings(*numbers, code) for word, code in OLD_STRINGS.items()}
+        self._addresses = {word: ctypes.addressof(it) for word, it in self._settings.items()}
+
+    def _address(self, old_strings: str) -> int:
+        """Where the settings with these limits lie."""
+        address = self._addresses.get(old_strings)
+        if address is None:
+            raise ValueError(f"old_strings is one of {', '.join(map(repr, OLD_STRINGS))}")
+        return address
 
     @property
     def counted(self) -> int:
-        return self._settings.counted
+        return self._settings["unknown"].counted
 
     @property
     def stack(self) -> int:
-        return self._settings.stack
+        return self._settings["unknown"].stack
 
     @property
     def memo(self) -> int:
-        return self._settings.memo
+        return self._settings["unknown"].memo
 
     @property
     def passed(self) -> int:
-        return self._settings.passed
+        return self._settings["unknown"].passed
 
     def __repr__(self) -> str:
         return (

@@ -16,16 +16,27 @@ struct storklocker_pair {
     size_t name_length;
 };
 
-/* The limits of a check. Behind each stands the standard one, which is the greatest but for that of
-   `passed`, 1,099,511,627,776; a number above the greatest stands for it. */
+/* What the strings of Python 2 become in the reader whose runs are checked. The numbers never
+   change. */
+enum storklocker_old_strings {
+    STORKLOCKER_OLD_UNKNOWN = 0, /* any object: a yes holds for each reader */
+    STORKLOCKER_OLD_ASCII = 1,   /* texts, where a byte above 7f is refused */
+    STORKLOCKER_OLD_BYTES = 2    /* bytes */
+};
+
+/* The settings of a check. Behind each limit stands the standard one, which is the greatest but for
+   that of `passed`, 1,099,511,627,776; a number above the greatest stands for it. What C leaves at
+   zero, as an initializer of the four limits alone does, is STORKLOCKER_OLD_UNKNOWN. A program that
+   was compiled with a header without `old_strings` has to be compiled anew. */
 struct storklocker_settings {
     uint64_t counted; /* bytes of the payload of a counted argument; 16,777,216 */
     uint64_t stack;   /* entries of the stack, marks included; 1,000,000 */
     uint64_t memo;    /* entries of the memo; 1,000,000 */
     uint64_t passed;  /* bytes of a payload of bytes, which is passed over; 16,777,216 */
+    uint32_t old_strings; /* one of enum storklocker_old_strings; any other is a fault of usage */
 };
 
-#define STORKLOCKER_STANDARD {16777216, 1000000, 1000000, 16777216}
+#define STORKLOCKER_STANDARD {16777216, 1000000, 1000000, 16777216, STORKLOCKER_OLD_UNKNOWN}
 
 /* What the checker answers. What a status doesn't speak of is 0. */
 struct storklocker_verdict {
@@ -43,7 +54,8 @@ struct storklocker_verdict {
 enum storklocker_status {
     STORKLOCKER_YES = 0,
     STORKLOCKER_NO = 1,
-    STORKLOCKER_NO_LIST = 2 /* the list can't be read */
+    STORKLOCKER_NO_LIST = 2, /* the list can't be read */
+    STORKLOCKER_USAGE = 3    /* the settings' old_strings is none of its numbers: nothing was checked */
 };
 
 /* Why a pickle is refused. The numbers never change. */

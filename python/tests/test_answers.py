@@ -13,13 +13,13 @@ from common import BY_PAIRS, BY_TEXT, LIST_TEXT, PROGRAM, ROOT, SEEDS
 EXAMPLES = ROOT / "examples"
 # Too large to lie beside the others: examples/run-all makes it too.
 LARGE = {"large-payload": b"B\1\0\0\1" + bytes(16_777_217) + b"."}
-PIECES = (b"(", b".", b"0", b"h\x00", b"cos\nsystem\n", b"\x95\x03\0\0\0\0\0\0\0", b"U\x01a")
+PIECES = (b"(", b".", b"0", b"h\x00", b"cos\nsystem\n", b"\x95\x03\0\0\0\0\0\0\0", b"U\x01a", b"U\x01\xe9")
 
 
-def said_of(data, listed):
+def said_of(data, listed, old_strings):
     """What the module says, in the program's words."""
     try:
-        return str(storklocker.check(data, listed()))
+        return str(storklocker.check(data, listed(), old_strings=old_strings))
     except storklocker.ListFault as fault:
         return str(fault)
 
@@ -30,11 +30,16 @@ class Cases(unittest.TestCase):
         for line in (EXAMPLES / "cases.tsv").read_text().splitlines():
             if line.startswith("#"):
                 continue
-            name, listed, _status, wanted = line.split("\t")
+            name, listed, options, _status, wanted = line.split("\t")
+            options = options.split()
+            if "--all" in options:
+                continue  # the package checks one pickle at a time
+            old_strings = options[1] if "--old-strings" in options else "unknown"
             data = LARGE.get(name) or (EXAMPLES / "pickles" / f"{name}.pickle").read_bytes()
             file = EXAMPLES / "lists" / f"{listed}.toml"
-            with self.subTest(pickle=name, list=listed):
-                self.assertEqual(said_of(data, lambda: storklocker.AllowList.from_file(file)), wanted)
+            with self.subTest(pickle=name, list=listed, old_strings=old_strings):
+                said = said_of(data, lambda: storklocker.AllowList.from_file(file), old_strings)
+                self.assertEqual(said, wanted)
             count += 1
         self.assertGreater(count, 40)
 
@@ -77,15 +82,18 @@ class Agreement(unittest.TestCase):
         with tempfile.TemporaryDirectory() as folder:
             listed, file = pathlib.Path(folder, "list.toml"), pathlib.Path(folder, "pickle")
             listed.write_bytes(LIST_TEXT)
-            words = [PROGRAM, "check", "--allow", str(listed), str(file)]
-            for _ in range(1000):
+            words = [PROGRAM, "check", "--allow", str(listed), str(file), "--old-strings"]
+            for number in range(1000):
                 data = mutated(chance)
                 file.write_bytes(data)
-                ran = subprocess.run(words, capture_output=True, text=True)
-                verdict = storklocker.check(data, BY_PAIRS)
+                old_strings = ("unknown", "ascii", "bytes")[number % 3]
+                ran = subprocess.run([*words, old_strings], capture_output=True, text=True)
+                verdict = storklocker.check(data, BY_PAIRS, old_strings=old_strings)
                 self.assertEqual(f"{verdict}\n", ran.stdout, data)
                 self.assertEqual(ran.returncode, 0 if verdict else 1, data)
-                self.assertEqual(storklocker.check(data, BY_TEXT), verdict, data)
+                self.assertEqual(
+                    storklocker.check(data, BY_TEXT, old_strings=old_strings), verdict, data
+                )
                 answers[ran.stdout.split()[0].rstrip(":")] += 1
         self.assertGreater(min(answers.values()), 100)
 
@@ -153,6 +161,66 @@ class Loads(unittest.TestCase):
         with self.assertRaises(storklocker.ListFault) as told:
             storklocker.AllowList.from_text("version = 2\n[imports]\n[limits]\nheap = 1\n")
         self.assertEqual(told.exception.fault, "Shape(LimitKey)")
+
+
+OLD_STRINGS = [
+    # a pickle, and what is said of it where old strings are unknown, texts and bytes
+    ("55 01 61 55 01 62 93 2e", "no at 6: UnknownImport", "yes: 8 bytes, 1 imports", "no at 6: NotText"),
+    ("55 01 e9 2e", "yes: 4 bytes, 0 imports", "no at 0: NotAscii", "yes: 4 bytes, 0 imports"),
+    (
+        "53 27 5c 78 36 31 27 0a 55 01 62 93 2e",
+        "no at 11: UnknownImport", "yes: 13 bytes, 1 imports", "no at 11: NotText",
+    ),
+    ("55 00 4e 61 2e", "yes: 5 bytes, 0 imports", "no at 3: WrongClass", "no at 3: WrongClass"),
+]
+
+
+class OldStrings(unittest.TestCase):
+    def test_what_they_become(self):
+        listed = storklocker.AllowList([("a", "b")])
+        by_text = storklocker.AllowList.from_text("version = 1\n[imports]\na = ['b']\n")
+        for given, *wanted in OLD_STRINGS:
+            data = bytes.fromhex(given)
+            for old_strings, said in zip(("unknown", "ascii", "bytes"), wanted):
+                for allow in (listed, by_text):
+                    told = storklocker.check(data, allow, old_strings=old_strings)
+                    self.assertEqual(str(told), said, (given, old_strings))
+            self.assertEqual(str(storklocker.check(data, listed)), wanted[0])
+
+    def test_what_was_checked_is_loaded(self):
+        data = b"U\x03abcU\x02de\x86."
+        for old_strings, loaded in (
+            ("unknown", ("abc", "de")), ("ascii", ("abc", "de")), ("bytes", (b"abc", b"de"))
+        ):
+            self.assertEqual(storklocker.loads(data, BY_PAIRS, old_strings=old_strings), loaded)
+        self.assertEqual(storklocker.loads(b"U\x01\xe9.", BY_PAIRS, old_strings="bytes"), b"\xe9")
+        with self.assertRaises(storklocker.Refused) as raised:
+            storklocker.loads(b"U\x01\xe9.", BY_PAIRS, old_strings="ascii")
+        self.assertIs(raised.exception.reason, storklocker.Reason.NotAscii)
+
+    def test_an_import_named_by_old_strings(self):
+        data = b"U\x0bcollectionsU\x05deque\x93)R."
+        with self.assertRaises(storklocker.Refused) as raised:
+            storklocker.loads(data, BY_PAIRS)
+        self.assertIs(raised.exception.reason, storklocker.Reason.UnknownImport)
+        self.assertEqual(len(storklocker.loads(data, BY_PAIRS, old_strings="ascii")), 0)
+
+    def test_the_encoding_is_the_callers_where_nothing_is_said(self):
+        for encoding, loaded in (("latin-1", "\u00e9"), ("bytes", b"\xe9")):
+            self.assertEqual(storklocker.loads(b"U\x01\xe9.", BY_PAIRS, encoding=encoding), loaded)
+        self.assertEqual(storklocker.loads(b"U\x01\xe9.", BY_PAIRS, errors="replace"), "\ufffd")
+        with self.assertRaises(UnicodeDecodeError):
+            storklocker.loads(b"U\x01\xe9.", BY_PAIRS)
+        for old_strings in ("ascii", "bytes"):
+            for more in ({"encoding": "latin-1"}, {"encoding": "ASCII"}, {"errors": "replace"}):
+                with self.assertRaises(ValueError):
+                    storklocker.loads(b"U\x01a.", BY_PAIRS, old_strings=old_strings, **more)
+
+    def test_other_words_are_refused(self):
+        for word in ("latin-1", "ASCII", "", None, 1):
+            for call in (storklocker.check, storklocker.loads):
+                with self.subTest(word=word), self.assertRaises(ValueError):
+                    call(b"N.", BY_PAIRS, old_strings=word)
 
 
 class Pairs(unittest.TestCase):

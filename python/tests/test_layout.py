@@ -24,6 +24,7 @@ FAULTS = (
     "Syntax Shape(Version) Shape(TopKey) Shape(Imports) Shape(Module) Shape(Name) Version OutOfMemory "
     "Shape(Limits) Shape(LimitKey) Shape(Limit)"
 ).split()
+OLD_STRINGS = ("unknown", "ascii", "bytes")
 HEADER = (PACKAGE / "storklocker.h").read_text()
 
 
@@ -88,15 +89,51 @@ class Layout(unittest.TestCase):
         self.assertEqual((status, told), (1, [1, 16, 0, 1, 6, 0, 0, 4, 7]))
         self.assertEqual(room.raw, b"fourseventh".ljust(64, b"\0"))
 
+    def told(self, *settings):
+        """Status, verdict and room of a call with these settings, each field 7 before it."""
+        pair = _library.Pair(b"a", 1, b"b", 1)
+        for call, front in (
+            (_library.check_pairs, ctypes.addressof(pair)),
+            (_library.check_list, b"version = 1\n[imports]\na = ['b']\n"),
+        ):
+            verdict = _library.VerdictStructure(*9 * [7])
+            room = ctypes.create_string_buffer(b"room", 8)
+            given = _library.Settings(*settings)
+            count = len(front) if isinstance(front, bytes) else 1
+            data = b"U\x01aU\x01b\x93."
+            status = call(
+                front, count, ctypes.addressof(given), data, len(data), room, 8, ctypes.byref(verdict)
+            )
+            yield status, [getattr(verdict, field) for field, _ in verdict._fields_], room.raw
+
+    def test_what_is_left_at_zero_says_nothing_of_old_strings(self):
+        for settings in (4 * [1 << 63], [*4 * [1 << 63], 0]):
+            for status, told, room in self.told(*settings):
+                self.assertEqual((status, told), (1, [1, 15, 0, 0, 6, 0, 0, 0, 0]))
+                self.assertEqual(room, b"room".ljust(8, b"\0"))
+
+    def test_a_number_of_no_old_strings_is_a_fault_of_usage(self):
+        for number in (3, 4, 1 << 31, (1 << 32) - 1):
+            for status, told, room in self.told(*4 * [1 << 63], number):
+                self.assertEqual((status, told), (3, [3, *8 * [0]]))
+                self.assertEqual(room, b"room".ljust(8, b"\0"))
+
     def test_numbers_are_frozen(self):
         self.assertEqual({it.name: it.value for it in Reason}, dict(zip(REASONS, range(1, 99))))
         self.assertEqual(_library.LIST_FAULTS, dict(zip(range(1, 99), FAULTS)))
+        self.assertEqual(_library.OLD_STRINGS, dict(zip(OLD_STRINGS, range(9))))
+        statuses = (_library.YES, _library.NO, _library.NO_LIST, _library.USAGE)
+        self.assertEqual(statuses, (0, 1, 2, 3))
 
     def test_header_has_the_numbers(self):
         reasons = {constant_of(name): k for k, name in enumerate(REASONS, 1)}
         self.assertEqual(numbers_in("reason"), reasons)
         faults = {f"LIST_{constant_of(name)}": k for k, name in enumerate(FAULTS, 1)}
         self.assertEqual(numbers_in("fault"), faults)
+        old_strings = {f"OLD_{name.upper()}": k for k, name in enumerate(OLD_STRINGS)}
+        self.assertEqual(numbers_in("old_strings"), old_strings)
+        statuses = {"YES": 0, "NO": 1, "NO_LIST": 2, "USAGE": 3}
+        self.assertEqual(numbers_in("status"), statuses)
 
     def test_crate_has_the_numbers(self):
         code = (GUARD / "src" / "codes.rt").read_text()
@@ -105,6 +142,11 @@ class Layout(unittest.TestCase):
         faults = re.findall(r"AllowError::(\w+)(?:\(Where::(\w+)\))? => (\d+),", code)
         named = [(f"{name}({part})" if part else name, int(k)) for name, part, k in faults]
         self.assertEqual(named, list(zip(FAULTS, range(1, 99))))
+        settings = (GUARD / "src" / "settings.rt").read_text()
+        old_strings = re.findall(r"(\d+) => Some\(OldStrings::(\w+)\),", settings)
+        self.assertEqual(
+            [(name.lower(), int(k)) for k, name in old_strings], list(zip(OLD_STRINGS, range(9)))
+        )
 
     def test_readme_has_the_numbers(self):
         rows = re.findall(r"^\| (\d+) \| ([A-Z]\w+)(?:\(\w+\))? \|", (ROOT / "README.md").read_text(), re.M)

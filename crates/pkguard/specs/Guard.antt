@@ -1,19 +1,21 @@
 -- What a verdict for C says.
-use Rattle.std.specs.Prelude.{◌≡◌, ◌++◌, ◌⊎◌, ℕ, List, length, drop, leb, if◌then◌else◌, codes, Option, Some, Ok, Err}
+use Rattle.std.specs.Prelude.{◌≡◌, ◌++◌, ◌⊎◌, ℕ, List, length, drop, leb, if◌then◌else◌, codes, Option, Some, None, Ok, Err}
 use Rattle.std.specs.Str.{IsUtf8}
 use Rattle.toml.specs.Data.{Members, get_member}
 use Rattle.pkops.specs.Limits.{Bounds}
 use Rattle.pkread.specs.Rows.{Sight}
 use Rattle.pkread.specs.declared.refusal.Reason.{Reason}
-use Rattle.pkcheck.specs.declared.old_strings.OldStrings.TheVariants.{Unknown}
 use Rattle.pkcheck.specs.Knowledge.{Policy, Asked, AskedPair}
 use Rattle.pkcheck.specs.ListFile.{limits_in, list_of, lists_in}
 use Rattle.pkcheck.specs.Accepted.{Accepted}
 use Rattle.pkcheck.specs.Refused.{Refused}
 use Rattle.pkcheck.specs.declared.allow.error.AllowError.{AllowError}
 use Rattle.pkcheck.specs.declared.allow.error.AllowError.TheVariants.{Syntax, OutOfMemory}
+use Rattle.pkcheck.specs.declared.old_strings.OldStrings.{OldStrings}
+use Rattle.pkguard.specs.declared.settings.Settings.{Settings}
 use Rattle.pkguard.specs.declared.verdict.Verdict.{Verdict}
 use Rattle.pkguard.specs.Codes.{reason_code, reason_number, fault_code}
+use Rattle.pkguard.specs.Settings.{old_strings_of}
 
 -- bytes in memory, as a source
 abbrev pub memory : List ℕ → Sight
@@ -67,6 +69,20 @@ verdict_of_fault error = record {
   name_length = 0;
 }
 
+-- the verdict where the settings have a number that stands for nothing
+abbrev pub verdict_of_usage : Verdict
+verdict_of_usage = record {
+  status = 3;
+  reason = 0;
+  number = 0;
+  has_pair = 0;
+  at = 0;
+  taken = 0;
+  imports = 0;
+  module_length = 0;
+  name_length = 0;
+}
+
 -- bytes at the front of the room, if they fit, and else the room as it was
 abbrev pub placed : List ℕ → List ℕ → List ℕ
 placed bytes room =
@@ -77,23 +93,23 @@ abbrev pub names_placed : Option Asked → List ℕ → List ℕ
 names_placed (Some (AskedPair module_name name)) room = placed (module_name ++ name) room
 names_placed _ room = room
 
--- the pickle at the front of the bytes is accepted
-pub record IsYes (policy : Policy) (limits : Bounds) (pickle before after : List ℕ)
-    (verdict : Verdict) : Type 0 where
+-- the pickle at the front of the bytes is accepted, where this becomes of old strings
+pub record IsYes (old : OldStrings) (policy : Policy) (limits : Bounds)
+    (pickle before after : List ℕ) (verdict : Verdict) : Type 0 where
   pub rest : List ℕ
   pub imports : List Asked
-  pub accepted : Accepted Unknown policy limits (memory pickle) (memory rest) verdict.taken imports
+  pub accepted : Accepted old policy limits (memory pickle) (memory rest) verdict.taken imports
   pub told : verdict ≡ verdict_of_yes verdict.taken (length imports)
   pub room : after ≡ before
 
 -- the pickle at the front of the bytes is refused, at a place and for a reason; the names of the
 -- pair that is off the list are in the room
-pub record IsNo (policy : Policy) (limits : Bounds) (pickle before after : List ℕ)
-    (verdict : Verdict) : Type 0 where
+pub record IsNo (old : OldStrings) (policy : Policy) (limits : Bounds)
+    (pickle before after : List ℕ) (verdict : Verdict) : Type 0 where
   pub rest : List ℕ
   pub why : Reason
   pub pair : Option Asked
-  pub refused : Refused Unknown policy limits (memory pickle) (memory rest) verdict.at why pair
+  pub refused : Refused old policy limits (memory pickle) (memory rest) verdict.at why pair
   pub told : verdict ≡ verdict_of_no verdict.at why pair
   pub room : after ≡ names_placed pair before
 
@@ -109,6 +125,12 @@ pub record IsFault (list before after : List ℕ) (verdict : Verdict) : Type 0 w
   pub error : AllowError
   pub fault : IsNoList list error
   pub told : verdict ≡ verdict_of_fault error
+  pub room : after ≡ before
+
+-- the settings have a number of old strings that stands for nothing
+pub record IsUsage (settings : Settings) (before after : List ℕ) (verdict : Verdict) : Type 0 where
+  pub unknown : old_strings_of settings.old_strings ≡ None
+  pub told : verdict ≡ verdict_of_usage
   pub room : after ≡ before
 
 -- a list permits its pairs

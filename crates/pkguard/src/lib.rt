@@ -10,14 +10,14 @@ mod list;
 mod settings;
 mod verdict;
 
-ghost use Rattle.std.specs.Prelude.{◌≡◌, ◌≤◌, Some};
+ghost use Rattle.std.specs.Prelude.{◌≡◌, ◌≢◌, ◌≤◌, Some};
 ghost use Rattle.pkops.specs.Limits.{greatest};
 ghost use Rattle.pkcheck.specs.Import.{policy_of};
 ghost use Rattle.pkcheck.specs.Pairs.{have};
-ghost use Rattle.pkguard.specs.Guard.{IsFault, IsNo, IsYes, Under};
-ghost use Rattle.pkguard.specs.Settings.{limits_within};
+ghost use Rattle.pkguard.specs.Guard.{IsFault, IsNo, IsUsage, IsYes, Under};
+ghost use Rattle.pkguard.specs.Settings.{Sets, limits_within};
 
-use pkcheck::{Pair, Policy, check};
+use pkcheck::{OldStrings, Pair, Policy, check_as};
 use pkops::Limits;
 use pkread::Memory;
 pub use settings::Settings;
@@ -40,14 +40,21 @@ pub extern "C" fn storklocker_check_pairs(
     out: &mut Verdict,
 ) -> u32
     ensures status { result ≡ out.new.status }
-    ensures bound { out.new.status ≤ 1 }
-    ensures yes { out.new.status ≡ 0 → IsYes (Some (have pairs.now))
-        (limits_within greatest settings.now) pickle.now room.old room.new out.new }
-    ensures no { out.new.status ≡ 1 → IsNo (Some (have pairs.now))
-        (limits_within greatest settings.now) pickle.now room.old room.new out.new }
+    ensures bound { out.new.status ≤ 3 }
+    ensures list { out.new.status ≢ 2 }
+    ensures yes { out.new.status ≡ 0 → Sets settings.now (λ old. IsYes old (Some (have pairs.now))
+        (limits_within greatest settings.now) pickle.now room.old room.new out.new) }
+    ensures no { out.new.status ≡ 1 → Sets settings.now (λ old. IsNo old (Some (have pairs.now))
+        (limits_within greatest settings.now) pickle.now room.old room.new out.new) }
+    ensures usage { out.new.status ≡ 3 → IsUsage settings.now room.old room.new out.new }
 {
-    let limits = settings::limits_of(settings, &Limits::GREATEST);
-    *out = answered(alloc, &Policy::Pairs(pairs), &limits, pickle, room);
+    *out = match settings::old_strings_of(settings) {
+        None => verdict::of_usage(),
+        Some(old) => {
+            let limits = settings::limits_of(settings, &Limits::GREATEST);
+            answered(alloc, &Policy::Pairs(pairs), &limits, old, pickle, room)
+        }
+    };
     out.status
 }
 
@@ -63,21 +70,46 @@ pub extern "C" fn storklocker_check_list(
     out: &mut Verdict,
 ) -> u32
     ensures status { result ≡ out.new.status }
-    ensures bound { out.new.status ≤ 2 }
-    ensures yes { out.new.status ≡ 0 → Under list.now (λ policy limits. IsYes policy
-        (limits_within limits settings.now) pickle.now room.old room.new out.new) }
-    ensures no { out.new.status ≡ 1 → Under list.now (λ policy limits. IsNo policy
-        (limits_within limits settings.now) pickle.now room.old room.new out.new) }
+    ensures bound { out.new.status ≤ 3 }
+    ensures yes { out.new.status ≡ 0 → Sets settings.now (λ old.
+        Under list.now (λ policy limits. IsYes old policy
+        (limits_within limits settings.now) pickle.now room.old room.new out.new)) }
+    ensures no { out.new.status ≡ 1 → Sets settings.now (λ old.
+        Under list.now (λ policy limits. IsNo old policy
+        (limits_within limits settings.now) pickle.now room.old room.new out.new)) }
     ensures fault { out.new.status ≡ 2 → IsFault list.now room.old room.new out.new }
+    ensures usage { out.new.status ≡ 3 → IsUsage settings.now room.old room.new out.new }
 {
-    *out = match list::list_from(alloc, list) {
+    *out = match settings::old_strings_of(settings) {
+        None => verdict::of_usage(),
+        Some(old) => listed(alloc, list, settings, old, pickle, room),
+    };
+    out.status
+}
+
+/// What `check` answers under the text of a list file.
+fn listed(
+    alloc: Global,
+    list: &[u8],
+    settings: &Settings,
+    old: OldStrings,
+    pickle: &[u8],
+    room: &mut [u8],
+) -> Verdict
+    ensures bound { result.status ≤ 2 }
+    ensures yes { result.status ≡ 0 → Under list.now (λ policy limits. IsYes old policy
+        (limits_within limits settings.now) pickle.now room.old room.new result) }
+    ensures no { result.status ≡ 1 → Under list.now (λ policy limits. IsNo old policy
+        (limits_within limits settings.now) pickle.now room.old room.new result) }
+    ensures fault { result.status ≡ 2 → IsFault list.now room.old room.new result }
+{
+    match list::list_from(alloc, list) {
         Err(error) => verdict::of_fault(error),
         Ok(allow) => {
             let limits = settings::limits_of(settings, &allow.limits());
-            answered(alloc, &Policy::Listed(&allow), &limits, pickle, room)
+            answered(alloc, &Policy::Listed(&allow), &limits, old, pickle, room)
         }
-    };
-    out.status
+    }
 }
 
 /// What `check` answers.
@@ -85,17 +117,18 @@ fn answered(
     alloc: Global,
     policy: &Policy<'_>,
     limits: &Limits,
+    old: OldStrings,
     pickle: &[u8],
     room: &mut [u8],
 ) -> Verdict
     ensures bound { result.status ≤ 1 }
     ensures yes { result.status ≡ 0
-        → IsYes (policy_of policy.now) limits.now pickle.now room.old room.new result }
+        → IsYes old (policy_of policy.now) limits.now pickle.now room.old room.new result }
     ensures no { result.status ≡ 1
-        → IsNo (policy_of policy.now) limits.now pickle.now room.old room.new result }
+        → IsNo old (policy_of policy.now) limits.now pickle.now room.old room.new result }
 {
     let mut source = Memory::new(pickle);
-    match check(alloc, &mut source, policy, limits) {
+    match check_as(alloc, &mut source, policy, limits, old) {
         Ok(yes) => verdict::of_yes(&yes),
         Err(no) => verdict::of_no(&no, room),
     }

@@ -1,7 +1,8 @@
 //! Settings of a check.
 ghost use Rattle.std.specs.Prelude.{◌≡◌};
-ghost use Rattle.pkguard.specs.Settings.{limits_within};
+ghost use Rattle.pkguard.specs.Settings.{limits_within, old_strings_of};
 
+use pkcheck::OldStrings;
 use pkops::Limits;
 use std::cmp;
 
@@ -17,6 +18,20 @@ pub struct Settings {
     pub memo: u64,
     /// The most bytes that a payload of bytes may have, which is passed over.
     pub passed: u64,
+    /// What old strings become: 0 for anything, 1 for a text where they are ASCII, 2 for bytes.
+    pub old_strings: u32,
+}
+
+/// What old strings become by their number, which is frozen.
+pub fn old_strings_of(settings: &Settings) -> Option<OldStrings>
+    ensures { result ≡ old_strings_of settings.now.old_strings }
+{
+    match settings.old_strings {
+        0 => Some(OldStrings::Unknown),
+        1 => Some(OldStrings::Ascii),
+        2 => Some(OldStrings::Bytes),
+        _ => None,
+    }
 }
 
 /// The limits of a check with these settings, each at most that of the others.

@@ -2,7 +2,7 @@
 ghost use Rattle.std.specs.Prelude.{◌≡◌, ◌++◌, length, option_map};
 ghost use Rattle.pkcheck.specs.Import.{asked_shown};
 ghost use Rattle.pkguard.specs.Guard.{placed, verdict_of_fault, verdict_of_no, verdict_of_yes};
-ghost use Rattle.pkguard.specs.Guard.{names_placed};
+ghost use Rattle.pkguard.specs.Guard.{names_placed, verdict_of_usage};
 
 use crate::codes::{fault_code, reason_code, reason_number};
 use pkcheck::{AllowError, Asked, No, Yes};
@@ -11,7 +11,7 @@ use pkcheck::{AllowError, Asked, No, Yes};
 #[repr(C)]
 #[derive(Clone, Copy, Debug, Drop)]
 pub struct Verdict {
-    /// 0 at a yes, 1 at a no, 2 where the list can't be read.
+    /// 0 at a yes, 1 at a no, 2 where the list can't be read, 3 where the settings are at fault.
     pub status: u32,
     /// The number of the reason at status 1, of the list's fault at status 2.
     pub reason: u32,
@@ -38,6 +38,23 @@ pub fn of_fault(error: AllowError) -> Verdict
     Verdict {
         status: 2,
         reason: fault_code(error),
+        number: 0,
+        has_pair: 0,
+        at: 0,
+        taken: 0,
+        imports: 0,
+        module_length: 0,
+        name_length: 0,
+    }
+}
+
+/// The verdict where the settings have a number that stands for nothing.
+pub fn of_usage() -> Verdict
+    ensures { result ≡ verdict_of_usage }
+{
+    Verdict {
+        status: 3,
+        reason: 0,
         number: 0,
         has_pair: 0,
         at: 0,

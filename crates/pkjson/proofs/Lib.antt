@@ -9,8 +9,10 @@ pub mod Taking
 pub mod Stepping
 pub mod Entries
 pub mod Words
+pub mod Cells
 pub mod Running
 pub mod Settling
+pub mod Ranking
 pub mod Replaying
 pub mod Unfolded
 pub mod Answered

@@ -5,4 +5,4 @@ use Rattle.pkjson.specs.Seen.{shape_seen, kept_all}
 
 -- the stack, the memo and the objects
 abbrev pub seen : Held → Arena
-seen a = record { shape = shape_seen a.stack.items a.memo.entries; kept = kept_all a.objects.items }
+seen a = record { shape = shape_seen a.stack.items a.memo; kept = kept_all a.objects.items }

@@ -12,11 +12,13 @@ pub mod Acting
 pub mod Mirrors
 pub mod Standing
 pub mod Kinds
+pub mod Cells
 pub mod Seen
 pub mod Held
 pub mod Halts
 pub mod Capped
 pub mod Nodes
+pub mod Ranks
 pub mod Weighs
 pub mod Fits
 pub mod Settled

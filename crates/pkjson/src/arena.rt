@@ -16,13 +16,13 @@ ghost use Rattle.pkjson.specs.Held.{seen};
 use crate::action::{Action, Filled, Made, Takes};
 use crate::halt::Halt;
 use crate::kinds::{Kind, kind_of};
-use crate::moves::{Memo, apply};
+use crate::memo::Memo;
+use crate::moves::apply;
 use crate::objects::{Object, fill, make};
 use crate::slots::{Slot, place_of, receiver_of, top};
 use crate::texts::keys_are_texts;
 use pkops::Inst;
 use std::alloc::Global;
-use std::collections::BTreeMap;
 
 /// The stack and the memo, which name objects by their numbers, and the objects.
 #[derive(Drop)]
@@ -39,7 +39,7 @@ impl Arena {
     {
         Arena {
             stack: Vec::new(alloc),
-            memo: BTreeMap::new(alloc),
+            memo: Memo::new(alloc),
             objects: Vec::new(alloc),
         }
     }

@@ -48,7 +48,7 @@ fn build_items(
     requires fits { ItemsFit (heap nodes.now) levels items.now }
     ensures { IfOk result (λ v. UnfoldItems (heap nodes.now) items.now (items_view v.items)) }
 {
-    let mut values = Vec::new(alloc);
+    let mut values = Vec::with_capacity(alloc, items.len())?;
     for item in items {
         let value = build(alloc, nodes, *item, levels)?;
         values.push(value)?;

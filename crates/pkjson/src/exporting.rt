@@ -113,7 +113,7 @@ fn refusal_of(at: u64, reason: Reason) -> ExportError
 fn no_weights(alloc: Global, count: usize) -> Result<Vec<Option<Weight>>, AllocError>
     ensures { IfOk result (λ v. v.items ≡ replicate count None) }
 {
-    let mut weights = Vec::new(alloc);
+    let mut weights = Vec::with_capacity(alloc, count)?;
     for _place in 0..count {
         weights.push(None)?;
     }

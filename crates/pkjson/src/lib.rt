@@ -11,16 +11,16 @@ mod integer;
 mod judge;
 mod kinds;
 pub mod laws;
+mod memo;
 mod moves;
 mod node;
 mod objects;
+mod ranks;
 mod replay;
 mod settle;
 mod slots;
+mod standing;
 mod texts;
 
 pub use error::ExportError;
 pub use exporting::export;
-
-#[cfg(test)]
-mod tests;

@@ -8,11 +8,8 @@ ghost use Rattle.pkjson.specs.Seen.{entry_of, shown, shape_seen};
 
 use crate::action::Move;
 use crate::halt::Halt;
+use crate::memo::Memo;
 use crate::slots::{Slot, mark_place, top};
-use std::collections::BTreeMap;
-
-/// The numbers of the objects that were stored, by theirs in the memo.
-pub type Memo = BTreeMap<u64, usize>;
 
 /// Puts an entry on top.
 #[tactic(auto, using(crate::proofs::Entries::shown_append))]
@@ -29,10 +26,10 @@ fn push(stack: &mut Vec<Slot>, slot: Slot) -> Result<(), Halt>
 /// Takes the topmost entry.
 fn pop(stack: &mut Vec<Slot>, memo: &Memo) -> Result<(), Halt>
     ensures ok { OnOk result
-        (moved (move_of Move.Pops) 0 (shape_seen stack.old.items memo.now.entries)
-        ≡ Ok (shape_seen stack.new.items memo.now.entries)) }
+        (moved (move_of Move.Pops) 0 (shape_seen stack.old.items memo.now)
+        ≡ Ok (shape_seen stack.new.items memo.now)) }
     ensures err { IfErr result (IsWant
-        (moved (move_of Move.Pops) 0 (shape_seen stack.old.items memo.now.entries))) }
+        (moved (move_of Move.Pops) 0 (shape_seen stack.old.items memo.now))) }
 {
     let count = stack.len();
     if count == 0 {
@@ -45,10 +42,10 @@ fn pop(stack: &mut Vec<Slot>, memo: &Memo) -> Result<(), Halt>
 /// Takes what stands above the topmost mark, and the mark.
 fn pop_mark(stack: &mut Vec<Slot>, memo: &Memo) -> Result<(), Halt>
     ensures ok { OnOk result
-        (moved (move_of Move.PopsMark) 0 (shape_seen stack.old.items memo.now.entries)
-        ≡ Ok (shape_seen stack.new.items memo.now.entries)) }
+        (moved (move_of Move.PopsMark) 0 (shape_seen stack.old.items memo.now)
+        ≡ Ok (shape_seen stack.new.items memo.now)) }
     ensures err { IfErr result (IsWant
-        (moved (move_of Move.PopsMark) 0 (shape_seen stack.old.items memo.now.entries))) }
+        (moved (move_of Move.PopsMark) 0 (shape_seen stack.old.items memo.now))) }
 {
     let Some(place) = mark_place(stack) else {
         return Err(Halt::Lacks);
@@ -60,10 +57,10 @@ fn pop_mark(stack: &mut Vec<Slot>, memo: &Memo) -> Result<(), Halt>
 /// Pushes the top once more.
 fn duplicate(stack: &mut Vec<Slot>, memo: &Memo) -> Result<(), Halt>
     ensures ok { OnOk result
-        (moved (move_of Move.Duplicates) 0 (shape_seen stack.old.items memo.now.entries)
-        ≡ Ok (shape_seen stack.new.items memo.now.entries)) }
+        (moved (move_of Move.Duplicates) 0 (shape_seen stack.old.items memo.now)
+        ≡ Ok (shape_seen stack.new.items memo.now)) }
     ensures err { IfErr result (IsWant
-        (moved (move_of Move.Duplicates) 0 (shape_seen stack.old.items memo.now.entries))) }
+        (moved (move_of Move.Duplicates) 0 (shape_seen stack.old.items memo.now))) }
 {
     let Some(number) = top(stack) else {
         return Err(Halt::Lacks);
@@ -74,16 +71,16 @@ fn duplicate(stack: &mut Vec<Slot>, memo: &Memo) -> Result<(), Halt>
 /// Stores the top under a number.
 fn store(stack: &[Slot], memo: &mut Memo, number: u64) -> Result<(), Halt>
     ensures ok { OnOk result
-        (moved (move_of Move.Stores) number (shape_seen stack.now memo.old.entries)
-        ≡ Ok (shape_seen stack.now memo.new.entries)) }
+        (moved (move_of Move.Stores) number (shape_seen stack.now memo.old)
+        ≡ Ok (shape_seen stack.now memo.new)) }
     ensures err { IfErr result (IsWant
-        (moved (move_of Move.Stores) number (shape_seen stack.now memo.old.entries))) }
+        (moved (move_of Move.Stores) number (shape_seen stack.now memo.old))) }
 {
     let Some(object) = top(stack) else {
         return Err(Halt::Lacks);
     };
-    match memo.insert(number, object) {
-        Ok(_) => Ok(()),
+    match memo.store(number, object) {
+        Ok(()) => Ok(()),
         Err(_) => Err(Halt::OutOfMemory),
     }
 }
@@ -91,13 +88,13 @@ fn store(stack: &[Slot], memo: &mut Memo, number: u64) -> Result<(), Halt>
 /// Pushes what was stored under a number.
 fn fetch(stack: &mut Vec<Slot>, memo: &Memo, number: u64) -> Result<(), Halt>
     ensures ok { OnOk result
-        (moved (move_of Move.Fetches) number (shape_seen stack.old.items memo.now.entries)
-        ≡ Ok (shape_seen stack.new.items memo.now.entries)) }
+        (moved (move_of Move.Fetches) number (shape_seen stack.old.items memo.now)
+        ≡ Ok (shape_seen stack.new.items memo.now)) }
     ensures err { IfErr result (IsWant
-        (moved (move_of Move.Fetches) number (shape_seen stack.old.items memo.now.entries))) }
+        (moved (move_of Move.Fetches) number (shape_seen stack.old.items memo.now))) }
 {
-    match memo.get(&number) {
-        Some(object) => push(stack, Slot::Object(*object)),
+    match memo.get(number) {
+        Some(object) => push(stack, Slot::Object(object)),
         None => Err(Halt::Lacks),
     }
 }
@@ -105,10 +102,10 @@ fn fetch(stack: &mut Vec<Slot>, memo: &Memo, number: u64) -> Result<(), Halt>
 /// Does what the move does.
 pub fn apply(stack: &mut Vec<Slot>, memo: &mut Memo, what: Move, number: u32) -> Result<(), Halt>
     ensures ok { OnOk result
-        (moved (move_of what) number (shape_seen stack.old.items memo.old.entries)
-        ≡ Ok (shape_seen stack.new.items memo.new.entries)) }
+        (moved (move_of what) number (shape_seen stack.old.items memo.old)
+        ≡ Ok (shape_seen stack.new.items memo.new)) }
     ensures err { IfErr result (IsWant
-        (moved (move_of what) number (shape_seen stack.old.items memo.old.entries))) }
+        (moved (move_of what) number (shape_seen stack.old.items memo.old))) }
 {
     match what {
         Move::PushesMark => push(stack, Slot::Mark),
@@ -117,7 +114,7 @@ pub fn apply(stack: &mut Vec<Slot>, memo: &mut Memo, what: Move, number: u32) ->
         Move::Duplicates => duplicate(stack, memo),
         Move::Stores => store(stack, memo, number as u64),
         Move::StoresNext => {
-            let next = memo.len() as u64;
+            let next = memo.len();
             store(stack, memo, next)
         }
         Move::Fetches => fetch(stack, memo, number as u64),

@@ -92,7 +92,7 @@ pub fn top(slots: &[Slot]) -> Option<usize>
 pub fn numbers(alloc: Global, slots: &[Slot]) -> Result<Vec<usize>, AllocError>
     ensures { IfOk result (λ v. v.items ≡ numbers_of slots.now) }
 {
-    let mut found = Vec::new(alloc);
+    let mut found = Vec::with_capacity(alloc, slots.len())?;
     for slot in slots {
         if let Slot::Object(number) = slot {
             found.push(*number)?;

@@ -82,6 +82,7 @@ impl<'a> Inst<'a> {
     }
 
     /// How many bytes spell the instruction.
+    #[inline(always)]
     pub fn len(&self) -> u64
         ensures { result ≡ length (spelling (instruction_of self.now)) }
     {
@@ -90,6 +91,7 @@ impl<'a> Inst<'a> {
 
     /// The number of the memo entry that GET, BINGET, LONG_BINGET, PUT, BINPUT and LONG_BINPUT
     /// name; `None` for all others.
+    #[inline(always)]
     pub fn memo_number(&self) -> Option<u32>
         ensures { result ≡ memo_entry (instruction_of self.now) }
     {
@@ -105,6 +107,7 @@ impl<'a> Inst<'a> {
     }
 
     /// Whether the instruction is an INT that makes a bool: `00` and `01`.
+    #[inline(always)]
     pub fn names_bool(&self) -> bool
         ensures { result ≡ names_bool (instruction_of self.now) }
     {
@@ -144,6 +147,7 @@ impl<'a> Inst<'a> {
 }
 
 /// Whether the argument of an opcode is the number of a memo entry.
+#[inline(always)]
 fn names_memo_entry(op: Op) -> bool
     ensures { result ≡ names_memo_entry op }
 {
@@ -154,6 +158,7 @@ fn names_memo_entry(op: Op) -> bool
 }
 
 /// The bytes of an argument.
+#[inline(always)]
 fn argument_len(op: Op, arg: Arg<'_>) -> u64
     requires { Suits (layout_at op) (shown_arg arg) }
     ensures is { result ≡ length (laid (layout_at op) (shown_arg arg.entry)) }

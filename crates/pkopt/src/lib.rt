@@ -9,7 +9,5 @@ mod numbers;
 mod optimizing;
 mod renumbering;
 mod slim;
-#[cfg(test)]
-mod tests;
 
 pub use optimizing::{Form, optimize, optimized_form};

@@ -189,8 +189,18 @@ fn arguments_that_an_instruction_takes(rt: HostRuntime) {
         (Op::Ext1, Arg::U1(5), Some(false)),
         (Op::Proto, Arg::U1(5), Some(true)),
     ] {
-        let inst = Inst::new(op, arg);
-        assert_eq!(rt; inst.map(|inst| inst.admitted()), admitted, "{op:?}");
+        let found = match Inst::new(op, arg) {
+            Some(inst) => Some(inst.admitted()),
+            None => None,
+        };
+        assert_eq!(rt; found, admitted, "{op:?}");
+    }
+}
+
+fn instruction(bytes: &[u8]) -> Result<Inst<'_>, Fail> {
+    match scan(bytes, &Limits::STANDARD) {
+        Scan::Whole(inst, _) => Ok(inst),
+        _ => Err(Fail::from("an instruction")),
     }
 }
 
@@ -202,11 +212,9 @@ fn texts(rt: HostRuntime) -> Result<(), Fail> {
         (b"\x8c\x02\xc3\xa9".as_slice(), Some("\u{e9}")),
         (b"U\x01a".as_slice(), None),
     ] {
-        let Scan::Whole(inst, _) = scan(bytes, &Limits::STANDARD) else {
-            return Err(Fail::from("an instruction"));
-        };
+        let inst = instruction(bytes)?;
         let named = text_of(rt.alloc(), &inst)?;
-        assert_eq!(rt; named.as_ref().map(|text| text.as_str()), text, "{bytes:?}");
+        assert_eq!(rt; named.as_deref(), text, "{bytes:?}");
     }
     Ok(())
 }
@@ -223,15 +231,9 @@ fn bytes_of_old_strings(rt: HostRuntime) -> Result<(), Fail> {
         (b"T\x01\x00\x00\x00a".as_slice(), Some(b"a".as_slice())),
         (b"C\x01a".as_slice(), None),
     ] {
-        let Scan::Whole(inst, _) = scan(bytes, &Limits::STANDARD) else {
-            return Err(Fail::from("an instruction"));
-        };
+        let inst = instruction(bytes)?;
         let named = old_bytes_of(rt.alloc(), &inst)?;
-        assert_eq!(rt;
-            named.as_ref().map(|named| named.as_slice()),
-            wanted,
-            "{bytes:?}"
-        );
+        assert_eq!(rt; named.as_deref(), wanted, "{bytes:?}");
     }
     Ok(())
 }

@@ -1,7 +1,7 @@
 //! The verdict of `check`, in a form that a table can hold.
 
 use crate::giving::Pieces;
-use pkcheck::{Policy, check};
+use pkcheck::{No, OldStrings, Policy, Yes, check, check_as};
 use pkops::Limits;
 use pkread::{Reason, Source};
 use std::process::Abort;
@@ -22,7 +22,22 @@ pub fn judge<T: AllocGlobal, R: Source>(
     limits: &Limits,
     source: &mut R,
 ) -> Verdict {
-    match check(rt.alloc(), source, policy, limits) {
+    verdict_of(check(rt.alloc(), source, policy, limits))
+}
+
+/// The same, where this becomes of old strings.
+pub fn judge_as<T: AllocGlobal, R: Source>(
+    rt: &T,
+    policy: &Policy<'_>,
+    limits: &Limits,
+    old_strings: OldStrings,
+    source: &mut R,
+) -> Verdict {
+    verdict_of(check_as(rt.alloc(), source, policy, limits, old_strings))
+}
+
+fn verdict_of(answer: Result<Yes, No>) -> Verdict {
+    match answer {
         Ok(yes) => Verdict::Yes(yes.taken, yes.imports.len()),
         Err(no) => Verdict::No(no.at, no.reason),
     }

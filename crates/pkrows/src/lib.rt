@@ -8,6 +8,8 @@
 #[cfg(test)]
 mod bounds;
 #[cfg(test)]
+mod exported;
+#[cfg(test)]
 mod giving;
 #[cfg(test)]
 mod judging;
@@ -18,7 +20,11 @@ mod lists;
 #[cfg(test)]
 mod machines;
 #[cfg(test)]
+mod old_strings;
+#[cfg(test)]
 mod opcodes;
+#[cfg(test)]
+mod optimized;
 #[cfg(test)]
 mod readers;
 #[cfg(test)]

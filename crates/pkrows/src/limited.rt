@@ -52,54 +52,70 @@ fn limits_of_a_list(rt: HostRuntime) -> Result<(), Fail> {
             "{text}"
         );
     }
-    assert!(rt; held.with_passed(1_099_511_627_777).is_none());
-    assert_eq!(rt; Limits::STANDARD.passed(), 16_777_216);
-    assert_eq!(rt; all.passed(), 1_099_511_627_776);
-    assert_eq!(rt; all.holding_all().passed(), 1);
     Ok(())
 }
 
 #[test]
-fn the_first_error_of_limits(rt: HostRuntime) {
-    for (text, wanted) in [
-        ("version = 2", Where::Imports),
-        ("version = 2\nlimits = 1", Where::Imports),
-        ("version = 2\nimports = {}\nmore = 1", Where::TopKey),
-        ("version = 1\nimports = {}\nlimits = {}", Where::TopKey),
-        (
-            "version = 2\nimports = { m = 1 }\nlimits = 1",
-            Where::Module,
-        ),
-        ("version = 2\nimports = {}\nlimits = 1", Where::Limits),
-        (
-            "version = 2\nimports = {}\nlimits = { heap = 1 }",
-            Where::LimitKey,
-        ),
-        (
-            "version = 2\nimports = {}\nlimits = { stack = 1000001 }",
-            Where::Limit,
-        ),
-        (
-            "version = 2\nimports = {}\nlimits = { passed = 1099511627777 }",
-            Where::Limit,
-        ),
-        (
-            "version = 2\nimports = {}\nlimits = { memo = -1 }",
-            Where::Limit,
-        ),
-        (
-            "version = 2\nimports = {}\nlimits = { memo = 1.0 }",
-            Where::Limit,
-        ),
-        (
-            "version = 2\nimports = {}\nlimits = { stack = -1, heap = 1 }",
-            Where::LimitKey,
-        ),
-        (
-            "version = 2\nimports = {}\nlimits = { value = 1, stack = -1 }",
-            Where::Limit,
-        ),
+fn the_limit_on_payloads_passed_over(rt: HostRuntime) -> Result<(), Fail> {
+    let held = Limits::new(1, 2, 3, 4, 5).ok_or("no limit is above its standard one")?;
+    let most = held
+        .with_passed(1_099_511_627_776)
+        .ok_or("the greatest limit")?;
+    for (limits, passed) in [
+        (Limits::STANDARD, 16_777_216),
+        (held, 16_777_216),
+        (most, 1_099_511_627_776),
+        (most.holding_all(), 1),
     ] {
+        assert_eq!(rt; limits.passed(), passed);
+    }
+    assert!(rt; held.with_passed(1_099_511_627_777).is_none());
+    Ok(())
+}
+
+const FIRST_ERRORS: [(&str, Where); 13] = [
+    ("version = 2", Where::Imports),
+    ("version = 2\nlimits = 1", Where::Imports),
+    ("version = 2\nimports = {}\nmore = 1", Where::TopKey),
+    ("version = 1\nimports = {}\nlimits = {}", Where::TopKey),
+    (
+        "version = 2\nimports = { m = 1 }\nlimits = 1",
+        Where::Module,
+    ),
+    ("version = 2\nimports = {}\nlimits = 1", Where::Limits),
+    (
+        "version = 2\nimports = {}\nlimits = { heap = 1 }",
+        Where::LimitKey,
+    ),
+    (
+        "version = 2\nimports = {}\nlimits = { stack = 1000001 }",
+        Where::Limit,
+    ),
+    (
+        "version = 2\nimports = {}\nlimits = { passed = 1099511627777 }",
+        Where::Limit,
+    ),
+    (
+        "version = 2\nimports = {}\nlimits = { memo = -1 }",
+        Where::Limit,
+    ),
+    (
+        "version = 2\nimports = {}\nlimits = { memo = 1.0 }",
+        Where::Limit,
+    ),
+    (
+        "version = 2\nimports = {}\nlimits = { stack = -1, heap = 1 }",
+        Where::LimitKey,
+    ),
+    (
+        "version = 2\nimports = {}\nlimits = { value = 1, stack = -1 }",
+        Where::Limit,
+    ),
+];
+
+#[test]
+fn the_first_error_of_limits(rt: HostRuntime) {
+    for (text, wanted) in FIRST_ERRORS {
         let Err(error) = Allow::from_toml(rt.alloc(), text) else {
             assert!(rt; false, "no error: {text}");
             return;

@@ -1,7 +1,7 @@
 //! The machine, step by step.
 
 use pkcheck::{Machine, Moved, Policy};
-use pkops::{Arg, Inst, Limits, Op, Scan, scan};
+use pkops::{Arg, Inst, Limits, Op};
 use pkread::Reason;
 use std::test::Fail;
 
@@ -17,9 +17,7 @@ fn step(machine: &mut Machine, inst: &Inst<'_>) -> Result<(), Fail> {
 
 #[test]
 fn a_text_doubled_stands_once(rt: HostRuntime) -> Result<(), Fail> {
-    let Scan::Whole(text, _) = scan(b"\x8c\x01a", &Limits::STANDARD) else {
-        return Err(Fail::from("SHORT_BINUNICODE"));
-    };
+    let text = Inst::new(Op::ShortBinUnicode, Arg::Counted(b"a")).ok_or("SHORT_BINUNICODE")?;
     let double = Inst::new(Op::Dup, Arg::None).ok_or("DUP")?;
     let mut machine = Machine::new(rt.alloc(), &Limits::STANDARD);
     step(&mut machine, &text)?;

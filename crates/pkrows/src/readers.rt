@@ -8,6 +8,14 @@ use std::process::Abort;
 // An instruction's offset and opcode, `None` at the end, or a refusal.
 type Answer = Result<Option<(u64, Op)>, Refusal>;
 
+fn answer_of(next: Result<Next<'_>, Refusal>) -> Answer {
+    match next {
+        Ok(Next::Inst { at, inst }) => Ok(Some((at, inst.op()))),
+        Ok(Next::Ended) => Ok(None),
+        Err(refusal) => Err(refusal),
+    }
+}
+
 // Holds what a reader answers, and whether it has then ended, call by call.
 fn read_on<T: Abort + AllocGlobal, R: Source>(
     rt: &T,
@@ -17,11 +25,7 @@ fn read_on<T: Abort + AllocGlobal, R: Source>(
     let mut reader = Reader::new(rt.alloc(), source, &Limits::STANDARD);
     assert!(rt; !reader.ended());
     for row in wanted {
-        let answer = match reader.next() {
-            Ok(Next::Inst { at, inst }) => Ok(Some((at, inst.op()))),
-            Ok(Next::Ended) => Ok(None),
-            Err(refusal) => Err(refusal),
-        };
+        let answer = answer_of(reader.next());
         assert_eq!(rt; (answer, reader.ended()), *row);
     }
     reader.most_held()
@@ -71,12 +75,7 @@ fn read_heads<T: Abort + AllocGlobal, R: Source>(
         };
         assert_eq!(rt; answer, *row);
     }
-    let answer = match reader.next() {
-        Ok(Next::Inst { at, inst }) => Ok(Some((at, inst.op()))),
-        Ok(Next::Ended) => Ok(None),
-        Err(refusal) => Err(refusal),
-    };
-    assert_eq!(rt; answer, last);
+    assert_eq!(rt; answer_of(reader.next()), last);
     reader.most_held()
 }
 

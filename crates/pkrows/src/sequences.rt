@@ -41,18 +41,19 @@ fn pickle_of(alloc: Global, parts: &[&[u8]]) -> Result<Vec<u8>, AllocError> {
 #[test]
 fn no_sequence_wants_memory(rt: HostRuntime) -> Result<(), Fail> {
     let alloc = rt.alloc();
+    let spellings = spellings(alloc)?;
     let mut count = 0u32;
-    for (_, _, first) in spellings() {
+    for (_, _, first) in &spellings {
         assert!(rt;
             !wants_memory(alloc, &pickle_of(alloc, &[first])?),
             "{first:?}"
         );
         count = count.wrapping_add(1);
-        for (_, _, second) in spellings() {
+        for (_, _, second) in &spellings {
             let two = pickle_of(alloc, &[first, second])?;
             assert!(rt; !wants_memory(alloc, &two), "{two:?}");
             count = count.wrapping_add(1);
-            for (_, _, third) in spellings() {
+            for (_, _, third) in &spellings {
                 let three = pickle_of(alloc, &[first, second, third])?;
                 assert!(rt; !wants_memory(alloc, &three), "{three:?}");
                 count = count.wrapping_add(1);

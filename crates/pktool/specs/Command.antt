@@ -1,14 +1,38 @@
 -- The command line of the program, as `clap` defines a simple command.
-use Rattle.std.specs.Prelude.{◌≡◌, List, [], ◌∷◌, Option, Some, true, false}
+use Rattle.std.specs.Prelude.{◌≡◌, List, [], ◌∷◌, map, Option, Some, true, false}
 use Rattle.std.specs.Prelude.{codes, string_bytes}
 use Rattle.clap.specs.Words.{App, Row, Rule, Text, first_of, new_rule, subcommand_of}
 use Rattle.clap.specs.Simple.{new_shape}
+use Rattle.clap.specs.declared.builder.value_parser.ValueParser.{ValueParser}
+use Rattle.clap.specs.declared.builder.value_parser.ValueParser.TheVariants.{Names}
+use Rattle.pkcheck.specs.declared.old_strings.OldStrings.{OldStrings}
+use Rattle.pkcheck.specs.declared.old_strings.OldStrings.TheVariants.{Unknown, Ascii, Bytes}
 use Rattle.pktool.specs.declared.command.Job.{Job}
 use Rattle.pktool.specs.declared.command.Job.TheVariants.{Dis, Check, Imports, Optimize, Json}
 
 -- the required option `--allow LIST`
 abbrev pub allow_rule : Rule
 allow_rule = record (new_rule (codes "LIST")) { long = Some (codes "allow"); required = true }
+
+-- the word of a setting for old strings
+abbrev pub old_word : OldStrings → Text
+old_word Unknown = codes "unknown"
+old_word Ascii = codes "ascii"
+old_word Bytes = codes "bytes"
+
+-- the option `--old-strings OBJECT`, with its parser, which is `unknown` where it is not given
+abbrev pub old_rule : ValueParser → Rule
+old_rule parser = record (new_rule (codes "OBJECT")) {
+  long = Some (codes "old-strings");
+  defaults = old_word Unknown ∷ [];
+  parser = Some parser;
+}
+
+-- the parser takes the three words and no other
+abbrev pub TakesOldWords : ValueParser → Type 0
+TakesOldWords (Names words) =
+    map (λ word. word.now) words.now ≡ map old_word (Unknown ∷ Ascii ∷ Bytes ∷ [])
+TakesOldWords _ = ⊥
 
 -- the required FILE
 abbrev pub file_rule : Rule
@@ -26,26 +50,37 @@ app_with name rules = record { top = record (new_shape name) { rules = rules }; 
 abbrev pub file_app : Text → App
 file_app name = app_with name (file_rule ∷ [])
 
--- `check --allow LIST FILE`
-abbrev pub check_app : App
-check_app = app_with (codes "check") (allow_rule ∷ file_rule ∷ [])
+-- `check --allow LIST [--old-strings OBJECT] FILE`
+abbrev pub check_app : ValueParser → App
+check_app parser =
+    app_with (codes "check") (allow_rule ∷ old_rule parser ∷ file_rule ∷ [])
 
 -- `optimize FILE OUT`
 abbrev pub optimize_app : App
 optimize_app = app_with (codes "optimize") (file_rule ∷ out_rule ∷ [])
 
 -- one level of subcommands, of which one must be given
-abbrev pub program_app : App
-program_app = record {
+abbrev pub program_app : ValueParser → App
+program_app parser = record {
   top = record (new_shape (codes "pktool")) {
     is_leaf = false;
     subcommand_required = true;
     disable_help_subcommand = true;
   };
   subs =
-      (file_app (codes "dis")).top ∷ check_app.top ∷ (file_app (codes "imports")).top
-      ∷ optimize_app.top ∷ (file_app (codes "json")).top ∷ [];
+      (file_app (codes "dis")).top ∷ (check_app parser).top
+      ∷ (file_app (codes "imports")).top ∷ optimize_app.top ∷ (file_app (codes "json")).top ∷ [];
 }
+
+-- these are the option, the command and the program, and old strings are one of the three words
+abbrev pub IsOldRule : Rule → Type 0
+IsOldRule rule = (parser : ValueParser) × TakesOldWords parser × (rule ≡ old_rule parser)
+
+abbrev pub IsCheck : App → Type 0
+IsCheck app = (parser : ValueParser) × TakesOldWords parser × (app ≡ check_app parser)
+
+abbrev pub IsProgram : App → Type 0
+IsProgram app = (parser : ValueParser) × TakesOldWords parser × (app ≡ program_app parser)
 
 -- the argument has this value
 abbrev pub Has : List Row → Text → Text → Type 0
@@ -58,13 +93,14 @@ Gives rows (Imports file) = Has rows (codes "FILE") (string_bytes file)
 Gives rows (Json file) = Has rows (codes "FILE") (string_bytes file)
 Gives rows (Optimize file out) =
     Has rows (codes "FILE") (string_bytes file) × Has rows (codes "OUT") (string_bytes out)
-Gives rows (Check allow file) =
-    Has rows (codes "LIST") (string_bytes allow) × Has rows (codes "FILE") (string_bytes file)
+Gives rows (Check allow old file) =
+    Has rows (codes "LIST") (string_bytes allow) × Has rows (codes "OBJECT") (old_word old)
+    × Has rows (codes "FILE") (string_bytes file)
 
 -- the subcommand of a job
 abbrev pub name_of : Job → Text
 name_of (Dis file) = codes "dis"
-name_of (Check allow file) = codes "check"
+name_of (Check allow old file) = codes "check"
 name_of (Imports file) = codes "imports"
 name_of (Optimize file out) = codes "optimize"
 name_of (Json file) = codes "json"
@@ -75,4 +111,5 @@ IsJob met job = (rows : List Row) × (met ≡ Some (name_of job, rows)) × Gives
 
 -- the job is what `clap` makes of the words
 abbrev pub Asks : List Text → Job → Type 0
-Asks words job = IsJob (subcommand_of program_app words) job
+Asks words job =
+    (app : App) × IsProgram app × IsJob (subcommand_of app words) job

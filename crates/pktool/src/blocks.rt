@@ -63,6 +63,6 @@ impl<R: Read> Source for Blocks<R> {
             self.block.fill(to);
             return Ok(to.len());
         }
-        self.pull_some(to)
+        Ok(self.pull_some(to)?)
     }
 }

@@ -2,7 +2,6 @@
 ghost use Rattle.std.specs.Prelude.{◌≡◌, IfOk, Result};
 ghost use Rattle.std.specs.Io.KnownBytes.{Appends};
 ghost use Rattle.pkread.specs.Rows.{sight};
-ghost use Rattle.pkcheck.specs.declared.old_strings.OldStrings.TheVariants.{Unknown};
 ghost use Rattle.pkcheck.specs.Answered.{CountsFailures, IsRightAnswer};
 ghost use Rattle.pkcheck.specs.Import.{policy_of};
 ghost use Rattle.pkcheck.specs.declared.checking.Yes.{Yes};
@@ -10,7 +9,7 @@ ghost use Rattle.pkcheck.specs.declared.checking.No.{No};
 ghost use Rattle.pktool.specs.Verdict.{outcome_of, verdict_line};
 
 use crate::printing::write_verdict;
-use pkcheck::{Policy, check};
+use pkcheck::{OldStrings, Policy, check_as};
 use pkops::Limits;
 use pkread::Source;
 use std::alloc::Global;
@@ -28,7 +27,8 @@ pub enum Outcome {
     Unread,
 }
 
-/// Checks the pickle at the front of a source, and writes the line of the answer.
+/// Checks the pickle at the front of a source, where this becomes of old strings, and writes the
+/// line of the answer.
 ///
 /// # Errors
 ///
@@ -39,15 +39,16 @@ pub fn check_to<R: Source, W: Write>(
     policy: &Policy<'_>,
     limits: &Limits,
     out: &mut W,
+    old: OldStrings,
 ) -> Result<Outcome, io::Error>
     ensures { IfOk result (λ outcome. (answer : Result Yes No)
-        × IsRightAnswer Unknown (policy_of policy.now) limits.now
+        × IsRightAnswer old (policy_of policy.now) limits.now
         (sight R.left R.failures source.old) (sight R.left R.failures source.new) answer
         × CountsFailures (R.failures source.old) (R.failures source.new) answer
         × Appends (W.contents out.old) (W.contents out.new) (verdict_line answer)
         × (outcome ≡ outcome_of answer)) }
 {
-    let answer = check(alloc, source, policy, limits);
+    let answer = check_as(alloc, source, policy, limits, old);
     write_verdict(&answer, out)?;
     match answer {
         Ok(_) => Ok(Outcome::Done),

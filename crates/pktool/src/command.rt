@@ -1,13 +1,16 @@
 //! The words of the command line.
-ghost use Rattle.std.specs.Prelude.{◌≡◌, IfOk, IfSome, codes, false};
+ghost use Rattle.std.specs.Prelude.{◌≡◌, IfOk, IfSome, Some, codes, false};
 ghost use Rattle.std.specs.Prelude.{map, option_map, string_bytes};
-ghost use Rattle.clap.specs.Words.{app_of, first_of, found_of, rows_of, subcommand_rows_of};
+ghost use Rattle.clap.specs.Words.{app_of, first_of, found_of, rows_of, rule_of};
+ghost use Rattle.clap.specs.Words.{subcommand_rows_of};
 ghost use Rattle.clap.specs.declared.Command.TheViews.{out-Command as fields_of};
-ghost use Rattle.pktool.specs.Command.{Asks, Gives, IsJob, check_app, file_app};
-ghost use Rattle.pktool.specs.Command.{name_of, optimize_app, program_app};
+ghost use Rattle.pktool.specs.Command.{Asks, Gives, IsCheck, IsJob, IsOldRule, IsProgram};
+ghost use Rattle.pktool.specs.Command.{allow_rule, file_app, file_rule};
+ghost use Rattle.pktool.specs.Command.{name_of, old_word, optimize_app};
 
 use clap::error::ErrorKind;
 use clap::{Arg, ArgMatches, Command};
+use pkcheck::OldStrings;
 use std::alloc::{AllocError, Global};
 
 /// What the help of `dis` says of its lines.
@@ -35,6 +38,9 @@ const JSON: &str = "\
 The line is the data of a pickle of None, booleans, integers of 64 bits, texts, lists, tuples and \
 dicts with texts as keys, or says where and why it has none.";
 
+/// What old strings may become, the default first.
+static OLD_WORDS: [&str; 3] = ["unknown", "ascii", "bytes"];
+
 /// What a command line asks for, its values as given.
 #[derive(Debug, Drop)]
 pub enum Job {
@@ -43,10 +49,13 @@ pub enum Job {
         /// The path of the pickle.
         file: String,
     },
-    /// `check --allow LIST FILE`: whether the pickle in FILE imports what LIST permits alone.
+    /// `check --allow LIST [--old-strings OBJECT] FILE`: whether the pickle in FILE imports what
+    /// LIST permits alone.
     Check {
         /// The path of the list file.
         allow: String,
+        /// With `--old-strings`: what strings of Python 2 become.
+        old: OldStrings,
         /// The path of the pickle.
         file: String,
     },
@@ -107,7 +116,7 @@ pub fn command_of(alloc: Global, words: &[&str]) -> Result<Job, Usage>
 
 /// The command line of the program: one subcommand, which must be given.
 fn program<'a>(alloc: Global) -> Result<Command<'a>, AllocError>
-    ensures { IfOk result (λ command. app_of command ≡ program_app) }
+    ensures { IfOk result (λ command. IsProgram (app_of command)) }
 {
     Command::new(alloc, "pktool")
         .about("Says which names a pickle would import, before anything opens it")
@@ -130,27 +139,53 @@ fn file_command<'a>(
     ensures shape { IfOk result (λ command. app_of command ≡ file_app name.entry.now) }
     ensures local { IfOk result (λ command. (fields_of command).has_globals ≡ false) }
 {
-    let file = Arg::new(alloc, "FILE").help("The pickle").required(true);
     Command::new(alloc, name)
         .about(about)
         .after_help(lines)
-        .arg(file)
+        .arg(file_argument(alloc))
 }
 
-/// `check --allow LIST FILE`.
+/// `check --allow LIST [--old-strings OBJECT] FILE`.
 fn check_command<'a>(alloc: Global) -> Result<Command<'a>, AllocError>
-    ensures shape { IfOk result (λ command. app_of command ≡ check_app) }
+    ensures shape { IfOk result (λ command. IsCheck (app_of command)) }
     ensures local { IfOk result (λ command. (fields_of command).has_globals ≡ false) }
 {
-    let allow = Arg::new(alloc, "LIST")
-        .long("allow")
-        .help("The TOML file that lists the permitted imports")
-        .required(true);
-    let file = Arg::new(alloc, "FILE").help("The pickle").required(true);
     Command::new(alloc, "check")
         .about("Says whether a pickle imports listed names alone, and cannot go wrong")
-        .arg(allow)?
-        .arg(file)
+        .arg(allow_option(alloc))?
+        .arg(old_option(alloc))?
+        .arg(file_argument(alloc))
+}
+
+/// `--allow LIST`.
+fn allow_option<'a>(alloc: Global) -> Arg<'a>
+    ensures rule { rule_of result ≡ allow_rule }
+    ensures local { result.global ≡ false }
+{
+    Arg::new(alloc, "LIST")
+        .long("allow")
+        .help("The TOML file that lists the permitted imports")
+        .required(true)
+}
+
+/// `--old-strings OBJECT`.
+fn old_option<'a>(alloc: Global) -> Arg<'a>
+    ensures rule { IsOldRule (rule_of result) }
+    ensures local { result.global ≡ false }
+{
+    Arg::new(alloc, "OBJECT")
+        .long("old-strings")
+        .help("What a string of Python 2 becomes: anything, a text where it is ASCII, or bytes")
+        .value_parser(OLD_WORDS.as_slice())
+        .default_value("unknown")
+}
+
+/// `FILE`.
+fn file_argument<'a>(alloc: Global) -> Arg<'a>
+    ensures rule { rule_of result ≡ file_rule }
+    ensures local { result.global ≡ false }
+{
+    Arg::new(alloc, "FILE").help("The pickle").required(true)
 }
 
 /// `optimize FILE OUT`.
@@ -158,14 +193,13 @@ fn optimize_command<'a>(alloc: Global) -> Result<Command<'a>, AllocError>
     ensures shape { IfOk result (λ command. app_of command ≡ optimize_app) }
     ensures local { IfOk result (λ command. (fields_of command).has_globals ≡ false) }
 {
-    let file = Arg::new(alloc, "FILE").help("The pickle").required(true);
     let out = Arg::new(alloc, "OUT")
         .help("The file that becomes its optimized form")
         .required(true);
     Command::new(alloc, "optimize")
         .about("Writes a pickle anew in fewer bytes")
         .after_help(OPTIMIZED)
-        .arg(file)?
+        .arg(file_argument(alloc))?
         .arg(out)
 }
 
@@ -246,21 +280,55 @@ fn check_job(alloc: Global, values: &ArgMatches) -> Result<Option<Job>, AllocErr
     let Some(allow) = value_of(alloc, values, "LIST")? else {
         return Ok(None);
     };
+    let Some(old) = old_of(values) else {
+        return Ok(None);
+    };
     let Some(file) = value_of(alloc, values, "FILE")? else {
         return Ok(None);
     };
-    Ok(Some(Job::Check { allow, file }))
+    Ok(Some(Job::Check { allow, old, file }))
 }
 
-/// A copy of the value of a required argument.
+/// What old strings become.
+fn old_of(values: &ArgMatches) -> Option<OldStrings>
+    ensures { IfSome result (λ old.
+        first_of (codes "OBJECT") (rows_of (found_of values.now)) ≡ Some (old_word old)) }
+{
+    old_named(text_of(values, "OBJECT")?)
+}
+
+fn old_named(word: &str) -> Option<OldStrings>
+    ensures { IfSome result (λ old. word.now ≡ old_word old) }
+{
+    if word == "unknown" {
+        return Some(OldStrings::Unknown);
+    }
+    if word == "ascii" {
+        return Some(OldStrings::Ascii);
+    }
+    if word == "bytes" {
+        return Some(OldStrings::Bytes);
+    }
+    None
+}
+
+/// A copy of the value of an argument.
 fn value_of(alloc: Global, values: &ArgMatches, id: &str) -> Result<Option<String>, AllocError>
     ensures { IfOk result (λ found.
         option_map string_bytes found ≡ first_of id.now (rows_of (found_of values.now))) }
 {
-    match values.get_str(id) {
+    match text_of(values, id) {
         Some(text) => Ok(Some(String::from_str(alloc, text)?)),
         None => Ok(None),
     }
+}
+
+/// The value of an argument: given, or its default.
+fn text_of<'a>(values: &ArgMatches<'a>, id: &str) -> Option<&'a str>
+    ensures { option_map (λ text. text.now) result
+        ≡ first_of id.now (rows_of (found_of values.now)) }
+{
+    values.get_str(id)
 }
 
 /// The error of words that name no job.

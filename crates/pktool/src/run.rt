@@ -11,7 +11,7 @@ use crate::listing::dis_to;
 use crate::optimizing::write_sizes;
 use crate::printing::write_no;
 use crate::replacing::replace;
-use pkcheck::{No, Policy};
+use pkcheck::{No, OldStrings, Policy};
 use pkops::Limits;
 use pkopt::optimized_form;
 use pkread::{Reason, Refusal};
@@ -64,7 +64,14 @@ fn done<'a, R: Files, O: Write>(
     match job {
         Job::Dis { file } => dis_file(rt, alloc, file.as_str(), out),
         Job::Imports { file } => imports_file(rt, alloc, file.as_str(), out),
-        Job::Check { allow, file } => check_file(rt, alloc, allow.as_str(), file.as_str(), out),
+        Job::Check { allow, old, file } => check_file(
+            rt,
+            alloc,
+            allow.as_str(),
+            *old,
+            file.as_str(),
+            out,
+        ),
         Job::Json { file } => json_file(rt, alloc, file.as_str(), out),
         Job::Optimize { file, out: to } => {
             optimize_file(rt, alloc, file.as_str(), to.as_str(), out)
@@ -72,11 +79,12 @@ fn done<'a, R: Files, O: Write>(
     }
 }
 
-/// `check --allow LIST FILE`, under the limits of the list.
+/// `check --allow LIST [--old-strings OBJECT] FILE`, under the limits of the list.
 fn check_file<'a, R: Files, O: Write>(
     rt: &R,
     alloc: Global,
     allow: &'a str,
+    old: OldStrings,
     file: &'a str,
     out: &mut O,
 ) -> Result<Outcome, Fault<'a>> {
@@ -90,6 +98,7 @@ fn check_file<'a, R: Files, O: Write>(
         &Policy::Listed(&list),
         &list.limits(),
         out,
+        old,
     ) {
         Ok(outcome) => Ok(outcome),
         Err(error) => Err(unwritten(&error)),

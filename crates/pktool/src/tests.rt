@@ -1,4 +1,5 @@
 //! Whole commands, with their statuses and outputs.
+mod checking;
 mod exporting;
 mod listing;
 mod optimizing;
@@ -128,6 +129,27 @@ fn reads_words(rt: HostRuntime) {
         (["pktool", "check", "a"].as_slice(), 2),
         (["pktool", "check", "--allow", "a"].as_slice(), 2),
         (["pktool", "check", "--allow", "a", "b", "c"].as_slice(), 2),
+        (
+            ["pktool", "check", "--old-strings", "ascii", "a"].as_slice(),
+            2,
+        ),
+        (
+            [
+                "pktool",
+                "check",
+                "--old-strings",
+                "utf-8",
+                "--allow",
+                "a",
+                "b",
+            ]
+            .as_slice(),
+            2,
+        ),
+        (
+            ["pktool", "dis", "--old-strings", "ascii", "a"].as_slice(),
+            2,
+        ),
     ] {
         let mut written = Vec::new(rt.alloc());
         let mut told = Vec::new(rt.alloc());

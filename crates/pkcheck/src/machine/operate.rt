@@ -238,18 +238,19 @@ pub fn give(
     }
 }
 
-/// Puts the text of an instruction into the table, and names it on top.
+/// Puts the text of an instruction into the table, and names it on top. The instruction is handed
+/// on as a copy, so that no other step has to keep it in memory.
 #[inline(never)]
 fn make_text(
     alloc: Global,
     stack: &mut Stack,
     ledger: &mut Ledger,
     limits: &Limits,
-    inst: &Inst,
+    inst: Inst<'_>,
 ) -> Result<(), Reason>
     requires sees { Sees ledger.old.texts stack.old (seen ledger.old.texts stack.old) }
     ensures ok { OnOk result (seen ledger.new.texts stack.new
-        ≡ Item (Some (Text (text (instruction_of inst.now)))) ∷ seen ledger.old.texts stack.old) }
+        ≡ Item (Some (Text (text (instruction_of inst.entry)))) ∷ seen ledger.old.texts stack.old) }
     ensures sees { OnOk result (Sees ledger.new.texts stack.new (seen ledger.new.texts stack.new)) }
     ensures grows { OnOk result (Grows ledger.old.texts ledger.new.texts) }
     ensures count { OnOk result (length ledger.new.texts ≡ suc (length ledger.old.texts)) }
@@ -265,14 +266,15 @@ fn make_text(
     if let Err(reason) = stack.push(limits, Value::Text(number)) {
         return Err(reason);
     }
-    let Ok(()) = ledger.add_text(alloc, inst) else {
+    let Ok(()) = ledger.add_text(alloc, &inst) else {
         stack.truncate(place);
         return Err(Reason::OutOfMemory);
     };
     Ok(())
 }
 
-/// Takes the operands, and puts what is given in their place.
+/// Takes the operands, and puts what is given in their place. The instruction is handed on as a
+/// copy, as above.
 #[inline(never)]
 fn replace(
     alloc: Global,
@@ -282,7 +284,7 @@ fn replace(
     takes: Takes,
     names: Names,
     gives: Gives,
-    inst: &Inst,
+    inst: Inst<'_>,
     policy: &Policy,
 ) -> Result<bool, Denial>
     requires within { length stack.old ≤ limits.now.stack }
@@ -291,7 +293,7 @@ fn replace(
     requires sees { Sees ledger.old.texts stack.old (seen ledger.old.texts stack.old) }
     ensures ok { (m : List (ℕ × Known))
         → IfOk result (λ b. Passes (learn (policy_of policy.now) (Effect.Operates takes names gives)
-        (instruction_of inst.now) (record { entries = seen ledger.old.texts stack.old; memo = m }))
+        (instruction_of inst.entry) (record { entries = seen ledger.old.texts stack.old; memo = m }))
         (record { entries = seen ledger.new.texts stack.new; memo = m })
         ledger.old.asked ledger.new.asked b) }
     ensures sees { OnOk result (Sees ledger.new.texts stack.new (seen ledger.new.texts stack.new)) }
@@ -300,7 +302,7 @@ fn replace(
     ensures kept { OnErr result ((stack.new ≡ stack.old) × (ledger.new ≡ ledger.old)) }
     ensures err { (m : List (ℕ × Known))
         → IfErr result (λ d. IsDenied (and_then (learn (policy_of policy.now)
-        (Effect.Operates takes names gives) (instruction_of inst.now)
+        (Effect.Operates takes names gives) (instruction_of inst.entry)
         (record { entries = seen ledger.old.texts stack.old; memo = m })) (within limits.now)) d
         ⊎ (MayOperate names gives × IsForMemory d)) }
 {
@@ -309,11 +311,11 @@ fn replace(
         Err(reason) => return Err(Denial { reason, pair: None }),
     };
     let operands = stack.operands(place);
-    let named = match judge(alloc, names, gives, inst, policy, ledger, &operands) {
+    let named = match judge(alloc, names, gives, &inst, policy, ledger, &operands) {
         Ok(named) => named,
         Err(denial) => return Err(denial),
     };
-    let value = value_of(gives, inst);
+    let value = value_of(gives, &inst);
     let count = ledger.len();
     let is_import = match ledger.list(named) {
         Ok(is_import) => is_import,
@@ -393,7 +395,7 @@ pub fn operate(
         ⊎ (MayOperate names gives × IsForMemory d)) }
 {
     if let Gives::MakesText = gives {
-        return match make_text(alloc, stack, ledger, limits, inst) {
+        return match make_text(alloc, stack, ledger, limits, *inst) {
             Ok(()) => Ok(false),
             Err(reason) => Err(Denial { reason, pair: None }),
         };
@@ -405,6 +407,6 @@ pub fn operate(
         };
     }
     replace(
-        alloc, stack, ledger, limits, takes, names, gives, inst, policy,
+        alloc, stack, ledger, limits, takes, names, gives, *inst, policy,
     )
 }

@@ -3,7 +3,7 @@ use crate::checking::{Outcome, check_to};
 use crate::exporting::json_to;
 use crate::importing::imports_to;
 use crate::listing::dis_to;
-use pkcheck::Policy;
+use pkcheck::{OldStrings, Policy};
 use pkops::Limits;
 use pkread::Memory;
 use std::alloc::Global;
@@ -60,7 +60,14 @@ fn answer(
     let source = &mut Memory::new(pickle);
     let limits = &Limits::STANDARD;
     match call {
-        Call::Check => check_to(alloc, source, &Policy::AnyImport, limits, out),
+        Call::Check => check_to(
+            alloc,
+            source,
+            &Policy::AnyImport,
+            limits,
+            out,
+            OldStrings::Unknown,
+        ),
         Call::Dis => dis_to(alloc, source, limits, out),
         Call::Imports => imports_to(alloc, source, limits, out),
         Call::Json => json_to(alloc, source, limits, out),

@@ -1,8 +1,7 @@
 use Rattle.std.proofs.Common.{sym, ap, ◌∙◌}
-use Rattle.std.specs.Prelude.{option_copied}
 use Rattle.pkcheck.specs.Shape.{NoMemo, fetched}
 use Rattle.pkjson.specs.Seen.{shape_seen}
 use Rattle.pkjson.proofs.moves.fetch.Goals as goal
 
 pub returns-in-None-clause-err : goal.returns-in-None-clause-err
-returns-in-None-clause-err c = (NoMemo c.args.number, ap (λ o. fetched o c.args.number (shape_seen c.args.stack.now.items c.args.memo.now.entries)) (sym c.get.ensures.value ∙ ap option_copied c.in-None.is))
+returns-in-None-clause-err c = (NoMemo c.args.number, ap (λ o. fetched o c.args.number (shape_seen c.args.stack.now.items c.args.memo.now)) (sym c.get.ensures ∙ c.in-None.is))

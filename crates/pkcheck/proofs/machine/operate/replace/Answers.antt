@@ -10,7 +10,7 @@ use Rattle.pkcheck.proofs.machine.operate.replace.Goals as goal
 
 pub returns-in-Err-clause-err : goal.returns-in-Err-clause-err
 returns-in-Err-clause-err c m =
-    inl (within_denied _ c.args.limits.now (record { reason = c.in-Err.reason; pair = None }) (lack_denied (policy_of c.args.policy.now) c.args.takes c.args.names c.args.gives (instruction_of c.args.inst.now) (record { entries = seen c.args.ledger.now.texts c.args.stack.now; memo = m }) c.in-Err.reason
+    inl (within_denied _ c.args.limits.now (record { reason = c.in-Err.reason; pair = None }) (lack_denied (policy_of c.args.policy.now) c.args.takes c.args.names c.args.gives (instruction_of c.args.inst) (record { entries = seen c.args.ledger.now.texts c.args.stack.now; memo = m }) c.in-Err.reason
     (found_lacks c.args.ledger.now.texts c.args.takes c.args.stack.now c.requires.sees c.in-Err.reason c.in-Err.ensures.err)))
 
 pub returns-in-Err-judge-clause-err : goal.returns-in-Err-judge-clause-err
@@ -18,7 +18,7 @@ returns-in-Err-judge-clause-err c m =
     let d = rw c.operands-operands.ensures at c.in-Err-judge.ensures.err in
     let found = found_seen c.args.ledger.now.texts c.args.takes c.args.stack.now c.requires.sees _ c.in-Ok.ensures.ok in
     elim d [
-      | inl e ↦ inl (within_denied _ c.args.limits.now c.in-Err-judge.denial (judged_denied (policy_of c.args.policy.now) c.args.takes c.args.names c.args.gives (instruction_of c.args.inst.now) (record { entries = seen c.args.ledger.now.texts c.args.stack.now; memo = m }) _ c.in-Err-judge.denial found e))
+      | inl e ↦ inl (within_denied _ c.args.limits.now c.in-Err-judge.denial (judged_denied (policy_of c.args.policy.now) c.args.takes c.args.names c.args.gives (instruction_of c.args.inst) (record { entries = seen c.args.ledger.now.texts c.args.stack.now; memo = m }) _ c.in-Err-judge.denial found e))
       | inr e ↦ inr (inl e.0, e.1)
     ]
 
@@ -28,7 +28,7 @@ judge-requires c =
     record { numbered = rw c.operands-operands.ensures (are_numbered c.args.ledger.now.texts _ _ is.operands) }
 
 pub give-requires-clause-first : goal.give-requires-clause-first
-give-requires-clause-first c e = c.in-Ok.ensures.first (left_there c.args.names c.args.takes c.args.gives (instruction_of c.args.inst.now) c.requires.given (given_none c.args.ledger.now.texts c.value_of-value.result _ e (c.value_of-value.ensures c.args.ledger.now.texts)))
+give-requires-clause-first c e = c.in-Ok.ensures.first (left_there c.args.names c.args.takes c.args.gives (instruction_of c.args.inst) c.requires.given (given_none c.args.ledger.now.texts c.value_of-value.result _ e (c.value_of-value.ensures c.args.ledger.now.texts)))
 
 pub returns-in-Ok-give-clause-ok : goal.returns-in-Ok-give-clause-ok
 returns-in-Ok-give-clause-ok c m =
@@ -37,7 +37,7 @@ returns-in-Ok-give-clause-ok c m =
     let is = found_is c.args.ledger.now.texts c.args.takes c.args.stack.now c.requires.sees _ c.in-Ok.ensures.ok in
     let put = put_seen c.args.ledger.now.texts c.args.ledger.now.texts (same_table c.args.ledger.now.texts) c.value_of-value.result _ (c.value_of-value.ensures c.args.ledger.now.texts) _ is in
     rw c.in-Ok-list.ensures.ok.0
-    (does_pass (policy_of c.args.policy.now) c.args.takes c.args.names c.args.gives (instruction_of c.args.inst.now) (record { entries = seen c.args.ledger.now.texts c.args.stack.now; memo = m }) _ c.args.ledger.now.texts c.in-Ok-judge.named found fits
+    (does_pass (policy_of c.args.policy.now) c.args.takes c.args.names c.args.gives (instruction_of c.args.inst) (record { entries = seen c.args.ledger.now.texts c.args.stack.now; memo = m }) _ c.args.ledger.now.texts c.in-Ok-judge.named found fits
     (seen c.args.ledger.now.texts c.give.new.stack) c.args.ledger.now.asked _ c.in-Ok-list.is_import (ap (seen c.args.ledger.now.texts) c.in-Ok-give.ensures.ok ∙ put) refl c.in-Ok-list.ensures.ok.1)
 
 pub returns-in-Ok-give-clause-sees : goal.returns-in-Ok-give-clause-sees
@@ -49,5 +49,5 @@ pub returns-in-Err-give-clause-err : goal.returns-in-Err-give-clause-err
 returns-in-Err-give-clause-err c m =
     let fits = rw c.operands-operands.ensures at c.in-Ok-judge.ensures.ok in
     let found = found_seen c.args.ledger.now.texts c.args.takes c.args.stack.now c.requires.sees _ c.in-Ok.ensures.ok in
-    unroomed (policy_of c.args.policy.now) c.args.takes c.args.names c.args.gives (instruction_of c.args.inst.now) (record { entries = seen c.args.ledger.now.texts c.args.stack.now; memo = m }) _ c.args.ledger.now.texts c.in-Ok-judge.named found fits
+    unroomed (policy_of c.args.policy.now) c.args.takes c.args.names c.args.gives (instruction_of c.args.inst) (record { entries = seen c.args.ledger.now.texts c.args.stack.now; memo = m }) _ c.args.ledger.now.texts c.in-Ok-judge.named found fits
     c.args.ledger.now.texts c.value_of-value.result (c.value_of-value.ensures c.args.ledger.now.texts) c.args.limits.now c.in-Err-give.reason c.in-Err-give.ensures.err.1 (rw (length_seen, length_below c.in-Ok.place c.args.stack.now c.in-Ok.ensures.within) c.in-Err-give.ensures.err.2)

@@ -23,4 +23,4 @@ returns-in-Ok-clause-ok c =
     let f : FindsObject (found_above c.args.takes (shown c.args.self.now.stack.items [])) c.args.self.now.stack.items (Some (c.in-Some.place, c.in-Some.receiver)) =
     subst (λ l. FindsObject (found_above c.args.takes (shown l [])) l (Some (c.in-Some.place, c.in-Some.receiver))) c.deref.ensures.value (subst (λ o. FindsObject (found_above c.args.takes (shown c.deref.result.now [])) c.deref.result.now o) c.in-Some.is c.receiver_of.ensures) in
     ap (λ x. and_then x (λ t. Ok (filled_of t (seen c.args.self.now)))) f.1
-    ∙ filled c.args.self.now.memo.entries _ _ _ _ (sym (ap (λ l. shown l []) c.in-Ok.ensures.stack ∙ f.2)) (sym c.in-Ok.ensures.objects)
+    ∙ filled c.args.self.now.memo _ _ _ _ (sym (ap (λ l. shown l []) c.in-Ok.ensures.stack ∙ f.2)) (sym c.in-Ok.ensures.objects)

@@ -1,6 +1,6 @@
 //! Worked pickles and the JSON that they are, or why they are none.
 
-use crate::{ExportError, export};
+use pkjson::{ExportError, export};
 use pkops::{Limits, Op};
 use pkread::{Reason, Refusal};
 use std::alloc::Global;

@@ -1,8 +1,8 @@
 //! Worked pickles and their optimized forms.
 
-use crate::optimize;
 use pkcheck::{Policy, check};
 use pkops::Limits;
+use pkopt::optimize;
 use pkread::{Memory, Reason, Refusal};
 use std::process::Abort;
 use std::test::Fail;

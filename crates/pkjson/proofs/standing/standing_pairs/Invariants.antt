@@ -3,7 +3,7 @@ use Rattle.pkjson.specs.Arena.{kind_at}
 use Rattle.pkjson.specs.Contents.{paired, standing}
 use Rattle.pkjson.specs.Nodes.{named, Ascending}
 use Rattle.pkjson.specs.Seen.{kept_all}
-use Rattle.pkjson.proofs.settle.standing_pairs.Given as goal
+use Rattle.pkjson.proofs.standing.standing_pairs.Given as goal
 
 abbrev pub invariant-loop-index : goal.invariant-loop-index
 invariant-loop-index l = (l.index ≤ length l.given) × (standing [] (paired (kind_at (kept_all l.objects)) l.given) ≡ standing (named l.pairs.entries) (paired (kind_at (kept_all l.objects)) (drop l.index l.given))) × Ascending (named l.pairs.entries) × All (λ p. p.1 < length l.objects) l.pairs.entries

@@ -1,0 +1,11 @@
+use Rattle.std.proofs.Common.{◌∙◌, ap, Some, arith}
+use Rattle.pkjson.proofs.Cells.{at_row, at_rest}
+use Rattle.pkjson.proofs.memo.Memo.get.Goals as goal
+
+pub returns-then-number-len : goal.returns-then-number-len
+returns-then-number-len c =
+    rw (← c.self.view_is)
+    (ap Some c.index.ensures ∙ at_row c.self.inside.row.items c.self.inside.rest.entries c.args.number c.index.result.now (omega arith))
+
+pub returns : goal.returns
+returns c = rw (← c.self.view_is) (c.found.ensures ∙ at_rest c.self.inside.row.items c.self.inside.rest.entries c.args.number (omega arith))

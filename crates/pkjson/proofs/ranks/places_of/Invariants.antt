@@ -1,0 +1,7 @@
+use Rattle.std.proofs.Common.{◌≡◌, length}
+use Rattle.pkjson.specs.Ranks.{ArePlaces}
+use Rattle.pkjson.specs.Seen.{kept_all}
+use Rattle.pkjson.proofs.ranks.places_of.Given as goal
+
+abbrev pub invariant-loop-number : goal.invariant-loop-number
+invariant-loop-number l = (length l.places.items ≡ l.number) × ArePlaces l.texts (kept_all l.objects) l.places.items

@@ -1,0 +1,197 @@
+//! The ranks of long keys: each of them is compared a few times, however often it is set.
+
+ghost use Rattle.std.specs.Prelude.{◌≡◌, ◌<◌, length, All, IfOk, IfSome};
+ghost use Rattle.std.specs.Map.{values_of};
+ghost use Rattle.pkjson.specs.Arena.{kind_at};
+ghost use Rattle.pkjson.specs.Contents.{characters};
+ghost use Rattle.pkjson.specs.Ranks.{AreMembers, ArePlaces, AreRanks, StandsIn};
+ghost use Rattle.pkjson.specs.Seen.{kept_all};
+
+use crate::kinds::Kind;
+use crate::objects::Object;
+use crate::standing::{members, text_at};
+use std::alloc::{AllocError, Global};
+use std::cmp::Ordering;
+use std::collections::{BTreeMap, BTreeSet};
+
+/// A text of more bytes is long. Others are compared byte by byte, wherever they are set.
+const LONG: usize = 64;
+
+/// The texts of keys, each once, in the order of their bytes; and of each object the place of its
+/// text among them. Where no dict has a long key there are none.
+#[derive(Drop)]
+pub struct Ranks<'a> {
+    pub objects: &'a [Object],
+    pub texts: Vec<(&'a str, usize)>,
+    pub places: Vec<Option<usize>>,
+}
+
+/// The ranks of all keys of the dicts that have a long one.
+pub fn ranks_of<'a>(alloc: Global, objects: &'a [Object]) -> Result<Ranks<'a>, AllocError>
+    ensures ranks { IfOk result AreRanks }
+    ensures objects { IfOk result (λ r. r.objects.now ≡ objects.now) }
+{
+    let keys = long_keys(alloc, objects)?;
+    let texts = members(alloc, objects, &keys)?;
+    let places = places_of(alloc, objects, &texts)?;
+    Ok(Ranks {
+        objects,
+        texts,
+        places,
+    })
+}
+
+/// The keys of the dicts that have a long one, each once and with itself as its value.
+fn long_keys(alloc: Global, objects: &[Object]) -> Result<Vec<usize>, AllocError>
+    ensures { IfOk result (λ v. All (λ x. x < length objects.now) v.items) }
+{
+    let mut marked = BTreeSet::new(alloc);
+    for object in objects {
+        if has_long_key(objects, object) {
+            mark(&mut marked, &object.given)?;
+        }
+    }
+    pairs_of(alloc, &marked, objects.len())
+}
+
+/// Whether it is a dict that was given a long key.
+fn has_long_key(objects: &[Object], object: &Object) -> bool {
+    let Kind::Pairs = object.kind else {
+        return false;
+    };
+    let mut is_key = true;
+    for number in &object.given {
+        if is_key && text_at(objects, *number).len() > LONG {
+            return true;
+        }
+        is_key = !is_key;
+    }
+    false
+}
+
+/// Marks the first, third, fifth number and so on.
+fn mark(marked: &mut BTreeSet<usize>, given: &[usize]) -> Result<(), AllocError> {
+    let mut is_key = true;
+    for number in given {
+        if is_key {
+            marked.insert(*number)?;
+        }
+        is_key = !is_key;
+    }
+    Ok(())
+}
+
+/// The marked numbers below the count, each twice.
+#[tactic(auto, using(crate::proofs::Ranking::all_twice))]
+fn pairs_of(alloc: Global, marked: &BTreeSet<usize>, count: usize) -> Result<Vec<usize>, AllocError>
+    ensures { IfOk result (λ v. All (λ x. x < count) v.items) }
+{
+    let mut pairs = Vec::new(alloc);
+    if marked.is_empty() {
+        return Ok(pairs);
+    }
+    for number in 0..count {
+        if marked.contains(&number) {
+            pairs.extend_from_slice(&[number, number])?;
+        }
+    }
+    Ok(pairs)
+}
+
+/// Of each object the place of its text, where there are texts.
+fn places_of(
+    alloc: Global,
+    objects: &[Object],
+    texts: &[(&str, usize)],
+) -> Result<Vec<Option<usize>>, AllocError>
+    ensures { IfOk result (λ v. ArePlaces texts.now (kept_all objects.now) v.items) }
+{
+    if texts.is_empty() {
+        return Ok(Vec::new(alloc));
+    }
+    let mut places = Vec::with_capacity(alloc, objects.len())?;
+    for number in 0..objects.len() {
+        let place = place_of(texts, text_at(objects, number));
+        places.push(place)?;
+    }
+    Ok(places)
+}
+
+/// The place of a text among those that ascend, where it is one of them.
+#[tactic(auto, using(crate::proofs::Ranking::same_text))]
+fn place_of(texts: &[(&str, usize)], text: &str) -> Option<usize>
+    ensures { IfSome result (StandsIn texts.now text.now) }
+{
+    let mut low = 0;
+    let mut high = texts.len();
+    while low < high {
+        let middle = low + (high - low) / 2;
+        match texts[middle].0.cmp(text) {
+            Ordering::Less => low = middle + 1,
+            Ordering::Equal => return Some(middle),
+            Ordering::Greater => high = middle,
+        }
+    }
+    None
+}
+
+impl<'a> Ranks<'a> {
+    /// The members of a dict that was given these.
+    pub fn members(
+        &self,
+        alloc: Global,
+        given: &[usize],
+    ) -> Result<Vec<(&'a str, usize)>, AllocError>
+        requires ranks { AreRanks self.now }
+        requires given { All (λ x. x < length self.now.objects.now) given.now }
+        ensures { IfOk result (λ v. AreMembers
+            (kept_all self.now.objects.now) (length self.now.objects.now) given.now v.items) }
+    {
+        let Some(pairs) = self.pairs(alloc, given)? else {
+            return members(alloc, self.objects, given);
+        };
+        let mut members = Vec::with_capacity(alloc, pairs.len())?;
+        for member in pairs.values() {
+            members.push(*member)?;
+        }
+        Ok(members)
+    }
+
+    /// The members by the places of their keys; and nothing where a key has no place.
+    fn pairs(
+        &self,
+        alloc: Global,
+        given: &[usize],
+    ) -> Result<Option<BTreeMap<usize, (&'a str, usize)>>, AllocError>
+        requires ranks { AreRanks self.now }
+        requires given { All (λ x. x < length self.now.objects.now) given.now }
+        ensures { IfOk result (λ found. IfSome found (λ m. AreMembers
+            (kept_all self.now.objects.now) (length self.now.objects.now) given.now
+            (values_of m.entries))) }
+    {
+        let mut pairs = BTreeMap::new(alloc);
+        let mut index = 0;
+        while index + 1 < given.len() {
+            let Some(place) = self.place(given[index]) else {
+                return Ok(None);
+            };
+            let member = (self.texts[place].0, given[index + 1]);
+            pairs.insert(place, member)?;
+            index += 2;
+        }
+        Ok(Some(pairs))
+    }
+
+    /// The place of the text of an object.
+    fn place(&self, number: usize) -> Option<usize>
+        requires { AreRanks self.now }
+        ensures { IfSome result (StandsIn self.now.texts.items
+            (characters (kind_at (kept_all self.now.objects.now) number))) }
+    {
+        if number < self.places.len() {
+            self.places[number]
+        } else {
+            None
+        }
+    }
+}

@@ -1,0 +1,66 @@
+//! The members of a dict that stand, by the texts of their keys.
+
+ghost use Rattle.std.specs.Prelude.{◌≡◌, ◌<◌, [], length, All, IfOk};
+ghost use Rattle.pkjson.specs.Arena.{kind_at};
+ghost use Rattle.pkjson.specs.Contents.{characters, paired, standing};
+ghost use Rattle.pkjson.specs.Nodes.{named, Ascending};
+ghost use Rattle.pkjson.specs.Seen.{kept_all};
+
+use crate::kinds::Kind;
+use crate::objects::Object;
+use std::alloc::{AllocError, Global};
+use std::collections::BTreeMap;
+
+/// The characters of the text there.
+pub fn text_at<'a>(objects: &'a [Object], place: usize) -> &'a str
+    ensures { result.now ≡ characters (kind_at (kept_all objects.now) place) }
+{
+    if place >= objects.len() {
+        return "";
+    }
+    match &objects[place].kind {
+        Kind::Text(text) => text.as_str(),
+        _ => "",
+    }
+}
+
+/// The last value of each key, in the byte order of the keys.
+fn standing_pairs<'a>(
+    alloc: Global,
+    objects: &'a [Object],
+    given: &[usize],
+) -> Result<BTreeMap<&'a str, usize>, AllocError>
+    requires { All (λ x. x < length objects.now) given.now }
+    ensures ascending { IfOk result (λ m. Ascending (named m.entries)) }
+    ensures below { IfOk result (λ m. All (λ p. p.1 < length objects.now) m.entries) }
+    ensures pairs { IfOk result (λ m. named m.entries
+        ≡ standing [] (paired (kind_at (kept_all objects.now)) given.now)) }
+{
+    let mut pairs = BTreeMap::new(alloc);
+    let mut index = 0;
+    while index + 1 < given.len() {
+        pairs.insert(text_at(objects, given[index]), given[index + 1])?;
+        index += 2;
+    }
+    Ok(pairs)
+}
+
+/// The members of a dict.
+pub fn members<'a>(
+    alloc: Global,
+    objects: &'a [Object],
+    given: &[usize],
+) -> Result<Vec<(&'a str, usize)>, AllocError>
+    requires { All (λ x. x < length objects.now) given.now }
+    ensures ascending { IfOk result (λ v. Ascending (named v.items)) }
+    ensures below { IfOk result (λ v. All (λ p. p.1 < length objects.now) v.items) }
+    ensures pairs { IfOk result (λ v. named v.items
+        ≡ standing [] (paired (kind_at (kept_all objects.now)) given.now)) }
+{
+    let pairs = standing_pairs(alloc, objects, given)?;
+    let mut members = Vec::with_capacity(alloc, pairs.len())?;
+    for (key, value) in pairs.iter() {
+        members.push((*key, *value))?;
+    }
+    Ok(members)
+}

@@ -1,0 +1,13 @@
+use Rattle.std.proofs.Common.{◌∙◌, ap, ap₂}
+use Rattle.std.proofs.lemmas.Result.{IfOk-weaker}
+use Rattle.clap.specs.Words.{with_rule}
+use Rattle.clap.specs.Simple.{app_of_fields}
+use Rattle.pktool.proofs.command.check_command.Goals as goal
+
+pub returns-clause-shape : goal.returns-clause-shape
+returns-clause-shape c =
+    let named = ap app_of_fields c.about.ensures ∙ c.new.ensures.app in
+    let old = c.old_option.ensures.rule in
+    let one = c.in_ok-arg.ensures.shape c.allow_option.ensures.local ∙ ap₂ with_rule named c.allow_option.ensures.rule in
+    let two = c.in_ok-arg-2.ensures.shape c.old_option.ensures.local ∙ ap₂ with_rule one old.2 in
+    IfOk-weaker c.arg-3.result _ _ (λ r h. (old.0, old.1, h.shape c.file_argument.ensures.local ∙ ap₂ with_rule two c.file_argument.ensures.rule)) c.arg-3.ensures
