@@ -27,14 +27,19 @@ def memoized(_):
     yield b"."
 
 
-def key(number):
-    """A long text that is kept under a number; all of them are equal."""
-    return b"X" + struct.pack("<I", KEY) + b"a" * KEY + b"q" + bytes([number]) + b"0"
+def key(number, last=b"a"):
+    """A long text that is kept under a number; all with the same last byte are equal."""
+    return b"X" + struct.pack("<I", KEY) + b"a" * (KEY - 1) + last + b"q" + bytes([number]) + b"0"
 
 
 def keyed(sets, *numbers):
     """A dict of long keys, set so many times."""
     return runs(*((key(number), 1) for number in numbers), (b"}", 1), (sets, 200_000 // len(numbers)), (b".", 1))
+
+
+def dropped_dicts(last):
+    """Dicts of the same two long keys, each dropped at once."""
+    return runs((key(0), 1), (key(1, last), 1), (b"}h\0Nsh\1Ns0", 100_000), (b"N.", 1))
 
 
 def layered(_):
@@ -89,6 +94,8 @@ EXPORTED = {
     "a dict of one key": repeated(b"h\0Ns", head=b"X\x01\0\0\0aq\x000}", tail=b"."),
     "a dict of one long key": keyed(b"h\0Ns", 0),
     "a dict of two long keys that are equal": keyed(b"h\0Nsh\1Ns", 0, 1),
+    "dicts of two long keys that are equal": dropped_dicts(b"a"),
+    "dicts of two long keys that differ last": dropped_dicts(b"b"),
     "dicts of one key": branching,
     "a dict of many keys": wide,
     "layers of lists": layered,

@@ -57,16 +57,12 @@ pub fn pair_of(alloc: Global, module_name: &str, name: &str) -> Result<Asked, Re
     ensures ok { IfOk result (λ a. asked_shown a ≡ AskedPair module_name.now name.now) }
     ensures err { IfErr result (λ r. r ≡ Reason.OutOfMemory) }
 {
-    match String::from_str(alloc, module_name) {
-        Ok(first) => match String::from_str(alloc, name) {
-            Ok(second) => Ok(Asked::Pair {
-                module: first,
-                name: second,
-            }),
-            Err(_) => Err(Reason::OutOfMemory),
-        },
-        Err(_) => Err(Reason::OutOfMemory),
-    }
+    let first = String::from_str(alloc, module_name)?;
+    let second = String::from_str(alloc, name)?;
+    Ok(Asked::Pair {
+        module: first,
+        name: second,
+    })
 }
 
 /// The pair that two operands name.

@@ -1,5 +1,5 @@
 -- The entries and numbers that slots show.
-use Rattle.std.proofs.Common.{◌≡◌, ℕ, suc, zero, ◌+◌, ◌-◌, ◌<◌, List, [], ◌∷◌, ◌++◌, length, take, drop, get_or, refl, sym, ap, ◌∙◌, Ok, Err, drop-cons, arith, add-one, append-nil, length-drop, Result}
+use Rattle.std.proofs.Common.{◌≡◌, ℕ, suc, zero, ◌+◌, ◌-◌, ◌<◌, List, [], ◌∷◌, ◌++◌, length, take, drop, get_or, refl, sym, ap, ◌∙◌, Ok, Err, drop-cons, arith, length-drop, append_assoc, Result}
 use Rattle.std.proofs.Math.ListN.{set}
 use Rattle.std.proofs.Math.Seq.{take-suc, take-length}
 use Rattle.std.proofs.lemmas.List.{map-append}
@@ -9,6 +9,7 @@ use Rattle.pkjson.specs.declared.slots.Slot.{Slot}
 use Rattle.pkjson.specs.declared.slots.Slot.TheVariants as slot
 use Rattle.pkjson.specs.Arena.{update, more_given}
 use Rattle.pkjson.specs.Seen.{kept_of, kept_all, entry_of, shown, numbers_of, taken_at}
+use Rattle.pkjson.proofs.Holding.{take_more}
 
 pub shown_append : (xs ys : List Slot) (below : List (Entry ℕ)) → shown (xs ++ ys) below ≡ shown ys (shown xs below)
 shown_append [] ys below = refl
@@ -19,11 +20,11 @@ numbers_append [] ys = refl
 numbers_append (slot.Mark ∷ xs) ys = numbers_append xs ys
 numbers_append (slot.Object n ∷ xs) ys = ap (λ l. n ∷ l) (numbers_append xs ys)
 
-pub numbers_mark : (xs : List Slot) (n : ℕ) (d : Slot) → n < length xs → get_or xs n d ≡ slot.Mark → numbers_of (take (n + 1) xs) ≡ numbers_of (take n xs)
-numbers_mark xs n d h e = rw (add-one, take-suc xs n d, e, numbers_append (take n xs) (slot.Mark ∷ []), append-nil) refl
-
-pub numbers_object : (xs : List Slot) (n : ℕ) (d : Slot) (x : ℕ) → n < length xs → get_or xs n d ≡ slot.Object x → numbers_of (take (n + 1) xs) ≡ numbers_of (take n xs) ++ x ∷ []
-numbers_object xs n d x h e = rw (add-one, take-suc xs n d, e, numbers_append (take n xs) (slot.Object x ∷ [])) refl
+pub numbers_next : (before found : List ℕ) (xs : List Slot) (n : ℕ) (d : Slot) → n < length xs → found ≡ before ++ numbers_of (take n xs) → found ++ numbers_of (get_or xs n d ∷ []) ≡ before ++ numbers_of (take (n + 1) xs)
+numbers_next before found xs n d h e =
+    ap (λ l. l ++ numbers_of (get_or xs n d ∷ [])) e
+    ∙ append_assoc before (numbers_of (take n xs)) (numbers_of (get_or xs n d ∷ []))
+    ∙ ap (λ l. before ++ l) (sym (ap numbers_of (take_more xs n d h) ∙ numbers_append (take n xs) (get_or xs n d ∷ [])))
 
 pub kept_append : (xs : List Object) (o : Object) → kept_all (xs ++ o ∷ []) ≡ kept_all xs ++ kept_of o ∷ []
 kept_append xs o = map-append kept_of xs (o ∷ [])

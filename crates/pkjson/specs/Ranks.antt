@@ -1,7 +1,6 @@
 -- The texts of keys in their order, and the places of objects' texts among them.
 use Rattle.std.specs.Prelude.{◌≡◌, ℕ, ◌<◌, List, [], ◌∷◌, length, get_or, All, Option, Some, IfSome}
 use Rattle.std.specs.Borrow.{Bor}
-use Rattle.std.specs.Map.{values_of}
 use Rattle.pkjson.specs.declared.ranks.Ranks.{Ranks}
 use Rattle.pkjson.specs.Arena.{Kept, kind_at}
 use Rattle.pkjson.specs.Contents.{characters, paired, standing}

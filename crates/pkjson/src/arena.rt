@@ -92,7 +92,7 @@ impl Arena {
     }
 
     /// Gives what is taken to the object below it.
-    fn fill(&mut self, alloc: Global, takes: Takes) -> Result<(), Halt>
+    fn fill(&mut self, takes: Takes) -> Result<(), Halt>
         requires { EntriesBelow (length (seen self.old).kept) (seen self.old).shape.entries }
         ensures ok { OnOk result (and_then (found_above takes (seen self.old).shape.entries)
             (λ t. Ok (filled_of t (seen self.old))) ≡ Ok (seen self.new)) }
@@ -101,7 +101,7 @@ impl Arena {
         let Some((place, receiver)) = receiver_of(&self.stack, takes) else {
             return Err(Halt::Lacks);
         };
-        match fill(alloc, &mut self.stack, &mut self.objects, place, receiver) {
+        match fill(&mut self.stack, &mut self.objects, place, receiver) {
             Ok(()) => Ok(()),
             Err(_) => Err(Halt::OutOfMemory),
         }
@@ -123,7 +123,7 @@ impl Arena {
                 Ok(kind) => self.make(alloc, takes, kind),
                 Err(halt) => Err(halt),
             },
-            Action::Fills(takes, _) => self.fill(alloc, takes),
+            Action::Fills(takes, _) => self.fill(takes),
             Action::Moves(what) => {
                 apply(
                     &mut self.stack,

@@ -7,7 +7,7 @@ ghost use Rattle.pkjson.specs.Kinds.{kind_seen};
 ghost use Rattle.pkjson.specs.Seen.{kept_of, kept_all, shown, numbers_of};
 
 use crate::kinds::Kind;
-use crate::slots::{Slot, numbers};
+use crate::slots::{Slot, add_numbers, numbers};
 use std::alloc::{AllocError, Global};
 
 /// An object, with the numbers of those that it was given.
@@ -40,19 +40,17 @@ pub fn make(
     Ok(())
 }
 
-/// Gives it more.
-fn receive(object: &mut Object, more: &[usize]) -> Result<(), AllocError>
-    ensures { OnOk result (kept_of object.new ≡ more_given more.now (kept_of object.old)) }
+/// Gives it the objects among these entries.
+fn receive(object: &mut Object, slots: &[Slot]) -> Result<(), AllocError>
+    ensures { OnOk result
+        (kept_of object.new ≡ more_given (numbers_of slots.now) (kept_of object.old)) }
 {
-    for number in more {
-        object.given.push(*number)?;
-    }
+    add_numbers(&mut object.given, slots)?;
     Ok(())
 }
 
 /// Gives an object all that stands above it.
 pub fn fill(
-    alloc: Global,
     stack: &mut Vec<Slot>,
     objects: &mut Vec<Object>,
     place: usize,
@@ -65,8 +63,7 @@ pub fn fill(
         ≡ received (receiver ∷ numbers_of (drop (place + 1) stack.old.items))
         (kept_all objects.old.items)) }
 {
-    let more = numbers(alloc, &stack[place + 1..])?;
-    receive(&mut objects[receiver], &more)?;
+    receive(&mut objects[receiver], &stack[place + 1..])?;
     stack.truncate(place + 1);
     Ok(())
 }

@@ -1,7 +1,7 @@
 //! The entries that the stack keeps: the last of them is on top.
 
-ghost use Rattle.std.specs.Prelude.{◌≡◌, [], ◌∷◌, ◌<◌, ◌≤◌, length, take, drop, IfOk, MatchOption};
-ghost use Rattle.std.specs.Prelude.{Ok};
+ghost use Rattle.std.specs.Prelude.{◌≡◌, [], ◌∷◌, ◌++◌, ◌<◌, ◌≤◌, length, take, drop, IfOk};
+ghost use Rattle.std.specs.Prelude.{MatchOption, Ok, OnOk};
 ghost use Rattle.pkcheck.specs.Shape.{items, slice, top};
 ghost use Rattle.pkjson.specs.Acting.{found, found_above, IsLacking};
 ghost use Rattle.pkjson.specs.Seen.{numbers_of, shown, FindsPlace, FindsObject};
@@ -93,10 +93,28 @@ pub fn numbers(alloc: Global, slots: &[Slot]) -> Result<Vec<usize>, AllocError>
     ensures { IfOk result (λ v. v.items ≡ numbers_of slots.now) }
 {
     let mut found = Vec::with_capacity(alloc, slots.len())?;
-    for slot in slots {
-        if let Slot::Object(number) = slot {
-            found.push(*number)?;
-        }
-    }
+    add_numbers(&mut found, slots)?;
     Ok(found)
+}
+
+/// Adds the objects among these entries.
+pub fn add_numbers(found: &mut Vec<usize>, slots: &[Slot]) -> Result<(), AllocError>
+    ensures { OnOk result (found.new.items ≡ found.old.items ++ numbers_of slots.now) }
+{
+    found.reserve(slots.len())?;
+    for slot in slots {
+        add_number(found, *slot)?;
+    }
+    Ok(())
+}
+
+/// Adds the object, if the entry is one.
+#[inline]
+fn add_number(found: &mut Vec<usize>, slot: Slot) -> Result<(), AllocError>
+    ensures { OnOk result (found.new.items ≡ found.old.items ++ numbers_of (slot ∷ [])) }
+{
+    match slot {
+        Slot::Object(number) => Ok(found.push(number)?),
+        Slot::Mark => Ok(()),
+    }
 }

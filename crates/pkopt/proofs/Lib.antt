@@ -3,9 +3,13 @@ pub mod NewNumbers
 pub mod NewForms
 pub mod AlikeSteps
 pub mod Slimming
+pub mod Remembering
 pub mod Following
 pub mod Scanning
+pub mod Plain
+pub mod Sizes
 pub mod Standing
+pub mod Hearing
 pub mod Keeping
 pub mod Fating
 pub mod Written

@@ -1,5 +1,5 @@
 -- What the answers of `optimize` rest on.
-use Rattle.std.proofs.Common.{◌≡◌, ℕ, suc, ◌<◌, ◌≤◌, ◌^◌, Bool, true, false, List, [], ◌∷◌, ◌++◌, length, Option, None, ◌⊎◌, inl, inr, refl, sym, ap, subst, ◌∙◌, arith}
+use Rattle.std.proofs.Common.{◌≡◌, ℕ, suc, ◌<◌, ◌≤◌, ◌^◌, Bool, true, false, List, [], ◌∷◌, ◌++◌, length, Option, None, Result, Ok, ◌⊎◌, inl, inr, refl, sym, ap, subst, ◌∙◌, arith}
 use Rattle.std.proofs.lemmas.Bool.{cond_both}
 use Rattle.std.specs.Prelude.{◌≢◌, All, slice_index_or}
 use Rattle.pkops.specs.Limits.{Bounds, holding_all}
@@ -17,13 +17,19 @@ use Rattle.pkcheck.specs.Covers.{imports_of}
 use Rattle.pkcheck.specs.WholeRuns.{Ended, Reached, EndedBy, AllListed, EndsWell, run}
 use Rattle.pkopt.specs.declared.slim.Slim.{Slim}
 use Rattle.pkcheck.specs.Accepted.{Accepted}
+use Rattle.pkcheck.specs.Heard.{Heard, IsRightAndHeard}
+use Rattle.pkcheck.specs.declared.checking.Yes.{Yes}
+use Rattle.pkcheck.specs.declared.checking.No.{No}
 use Rattle.pkcheck.specs.Knowledge.{Asked}
 use Rattle.pkcheck.specs.Refused.{Refused}
 use Rattle.pkread.specs.Rows.{Sight}
 use Rattle.pkopt.specs.declared.fate.Plan.{Plan}
-use Rattle.pkopt.specs.Passes.{AreNumbers}
+use Rattle.pkopt.specs.declared.optimizing.Traced.{Traced}
+use Rattle.pkopt.specs.declared.trace.Trace.{Trace}
+use Rattle.pkopt.specs.Passes.{AreNumbers, Begins, Hears}
+use Rattle.pkopt.specs.Tracing.{IsTraced}
 use Rattle.pkopt.specs.Answer.{in_memory, Checks, pickle, Optimizes, PassesLimit, FailsCheck, IsRefused}
-use Rattle.pkopt.specs.Fates.{IsSlim, IsSlimOf, StopsSlim, IsPastAt, IsPlanFor}
+use Rattle.pkopt.specs.Fates.{Aims, IsSlim, StopsSlim, IsPastAt, IsPlanFor}
 use Rattle.pkopt.specs.FrameBytes.{framed_bytes}
 use Rattle.pkopt.specs.Fronts.{EndsInStop, Front}
 use Rattle.pkopt.specs.Limit.{IsPastLimit}
@@ -33,6 +39,7 @@ use Rattle.pkopt.specs.Slim.{slim}
 use Rattle.pkopt.specs.Writers.{Writes, after, sources, new_number, after_all}
 use Rattle.pkopt.proofs.AlikeSteps.{IsFree}
 use Rattle.pkopt.proofs.NewNumbers.{after_all_le, new_least, new_up_to}
+use Rattle.pkopt.proofs.Hearing.{heard_tracks}
 use Rattle.pkopt.proofs.OneFraming.{optimized_alike, optimized_framed, optimized_bytes, slim_bytes}
 use Rattle.pkopt.proofs.Rereading.{all_read, after_all-append}
 use Rattle.pkopt.proofs.Sequencing.{optimized_sequence}
@@ -121,22 +128,30 @@ checks_memory limits bytes left rest taken imports e h = record { rest = rest; t
 pub fails_memory : (limits : Bounds) (bytes left : List ℕ) (after : Sight) (refusal : Refusal) (pair : Option Asked) → left ≡ bytes → Refused Unknown None (holding_all limits) (in_memory left) after refusal.at refusal.reason pair → FailsCheck limits bytes refusal
 fails_memory limits bytes left after refusal pair e h = record { after = after; pair = pair; refused = subst (λ b. Refused Unknown None (holding_all limits) (in_memory b) after refusal.at refusal.reason pair) e h }
 
-pub plan_for : (p : List Instruction) (plan : Plan) (writes : ℕ) → (plan.sources.items ≡ sources [] p) × (writes ≡ length (after_all p [])) → AreNumbers plan.sources.items writes plan.limit plan.numbers.items → IsPlanFor p plan
-plan_for p plan writes e h = record {
-  reads = e.0;
-  writes = subst (λ (l : List (Option ℕ)). AreNumbers l (length (after_all p [])) plan.limit plan.numbers.items) e.0 (subst (λ w. AreNumbers plan.sources.items w plan.limit plan.numbers.items) e.1 h);
+-- the check was heard
+traced_memory : (limits : Bounds) (bytes rest : List ℕ) (accepted : Yes) (hs : List Heard) (x y : Trace) → IsRightAndHeard None (holding_all limits) (in_memory bytes) (in_memory rest) (Ok accepted) hs → Begins x → Hears x y hs → IsTraced limits bytes (record { taken = accepted.taken; trace = y })
+traced_memory limits bytes rest accepted hs x y h first heard = record {
+  checks = record { rest = rest; taken = accepted.taken; imports = accepted.imports; accepted = h.right };
+  tracks = heard_tracks x y h.right.instructions hs first h.each heard;
+  count = h.right.count;
+}
+
+pub is_traced : (limits : Bounds) (bytes left rest : List ℕ) (answer : Result Yes No) (accepted : Yes) (hs : List Heard) (x y : Trace) → left ≡ bytes → answer ≡ Ok accepted → IsRightAndHeard None (holding_all limits) (in_memory left) (in_memory rest) answer hs → Begins x → Hears x y hs → IsTraced limits bytes (record { taken = accepted.taken; trace = y })
+is_traced limits bytes left rest answer accepted hs x y e is h first heard =
+    subst (λ b. IsTraced limits b (record { taken = accepted.taken; trace = y })) e
+    (traced_memory limits left rest accepted hs x y (subst (λ a. IsRightAndHeard None (holding_all limits) (in_memory left) (in_memory rest) a hs) is h) first heard)
+
+-- what the second pass is given
+pub aims_at : (limits : Bounds) (bytes : List ℕ) (x : Traced) (plan : Plan) → (t : IsTraced limits bytes x) → IsPlanFor (pickle t.checks) plan → Aims limits.counted bytes x.trace.places.items x.taken plan (pickle t.checks)
+aims_at limits bytes x plan t planned = record { front = at_front limits bytes t.checks; places_so = t.tracks.places; taken_so = t.count; planned = planned }
+
+pub plan_for : (p : List Instruction) (plan : Plan) (found : List (Option ℕ)) (writes : ℕ) → plan.sources.items ≡ found → AreNumbers found writes plan.limit plan.numbers.items → found ≡ sources [] p → writes ≡ length (after_all p []) → IsPlanFor p plan
+plan_for p plan found writes same h e w = record {
+  reads = same ∙ e;
+  writes = subst (λ (l : List (Option ℕ)). AreNumbers l (length (after_all p [])) plan.limit plan.numbers.items) e (subst (λ w. AreNumbers found w plan.limit plan.numbers.items) w h);
 }
 
 -- the refusal where the slim form could not be written
-pub slim_refused : (limits : Bounds) (bytes : List ℕ) (c : Checks limits bytes) (plan : Plan) (refusal : Refusal) → plan.limit ≡ limits.memo → IsPlanFor (pickle c) plan → StopsSlim limits.counted bytes plan refusal → IsRefused limits bytes refusal
-slim_refused limits bytes c plan refusal same planned h = elim (h (pickle c) (at_front limits bytes c) planned) [
-  | inl past ↦ inr (inl (passes_limit limits bytes c plan.limit refusal same past))
-  | inr none ↦ inr (inr (record { checks = c; place = none.0; reason = none.1 }))
-]
-
--- the answer where it could be
-pub slim_optimizes : CountingIsExact → (limits : Bounds) (bytes : List ℕ) (c : Checks limits bytes) (plan : Plan) (out : Slim) (result : List ℕ) → plan.limit < 2 ^ 32 → length out.bytes.items < 2 ^ 64 → plan.limit ≡ limits.memo → ((p : List Instruction) → Front limits.counted bytes p → IsPlanFor p plan) → IsSlimOf limits.counted bytes plan out
-    → ((out.framed ≡ true) × (result ≡ framed_bytes out.bytes.items)) ⊎ ((out.framed ≡ false) × (result ≡ out.bytes.items)) → Optimizes limits bytes result
-slim_optimizes exact limits bytes c plan out result lt short same planned h how =
-    let front = at_front limits bytes c in
-    optimizes exact limits bytes c plan.limit out result lt short same (h (pickle c) front (planned (pickle c) front)) how
+pub slim_refused : (limits : Bounds) (bytes : List ℕ) (c : Checks limits bytes) (limit : ℕ) (refusal : Refusal) → limit ≡ limits.memo → StopsSlim (pickle c) limit refusal → IsRefused limits bytes refusal
+slim_refused limits bytes c limit refusal same (inl past) = inr (inl (passes_limit limits bytes c limit refusal same past))
+slim_refused limits bytes c limit refusal same (inr none) = inr (inr (record { checks = c; place = none.0; reason = none.1 }))

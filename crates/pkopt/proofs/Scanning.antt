@@ -1,15 +1,13 @@
 -- Scanning bytes that a pickle stands at the front of.
-use Rattle.std.proofs.Common.{◌≡◌, ℕ, ◌+◌, ◌-◌, ◌<◌, ◌≤◌, List, [], ◌∷◌, ◌++◌, length, take, drop, inl, inr, refl, sym, ap, ◌∙◌, arith, append_assoc, length-append, length-take, length-drop}
-use Rattle.std.specs.Prelude.{◌≢◌}
+use Rattle.std.proofs.Common.{◌≡◌, ℕ, ◌-◌, ◌≤◌, List, [], ◌∷◌, ◌++◌, length, take, drop, refl, sym, ap, ◌∙◌, arith, append_assoc, length-append, length-drop}
 use Rattle.std.proofs.lemmas.List.{take_all}
-use Rattle.pkops.specs.Answer.{Answer, Answers, Whole, IsWhole, shown_scan}
+use Rattle.pkops.specs.Answer.{Answer, Answers, Whole, shown_scan}
 use Rattle.pkops.specs.Spelling.{Instruction, spelling}
 use Rattle.pkops.specs.declared.found.Scan.{Scan}
 use Rattle.pkops.specs.declared.found.Scan.TheVariants as scan
 use Rattle.pkops.specs.declared.inst.Inst.{Inst}
-use Rattle.pkops.specs.declared.op.Op.TheVariants.{Stop}
 use Rattle.pkread.specs.Sequence.{spellings}
-use Rattle.pkopt.specs.Fronts.{EndsInStop, Front}
+use Rattle.pkopt.specs.Fronts.{Front}
 
 take_front : (xs ys : List ℕ) → take (length xs) (xs ++ ys) ≡ xs
 take_front [] ys = refl
@@ -46,29 +44,8 @@ scanned limit bytes (i ∷ is) answer only h = record { first = i; others = is; 
 pub whole_first : (i j : Instruction) (m n : ℕ) → Whole i m ≡ Whole j n → (i ≡ j) × (m ≡ n)
 whole_first i j m n e = (cc, cc)
 
--- an instruction takes bytes, and no more than there are
-pub whole_takes : (limit : ℕ) (bytes : List ℕ) (i : Instruction) (n : ℕ) → IsWhole limit bytes i n → (0 < n) × (n ≤ length bytes)
-whole_takes limit bytes i n h = (let e : length (take n bytes) ≡ length (spelling i) = ap length h.spells.spelled in let l = length-take n bytes in let f = h.fits in omega (arith, e, l, f), h.fits)
-
-goes_on : (limit : ℕ) (i : Instruction) (is : List Instruction) → i.op ≢ Stop → EndsInStop limit (i ∷ is) → EndsInStop limit is
-goes_on limit i is go (a, inl s) = absurd (go s.0)
-goes_on limit i is go (a, inr s) = s.1
-
-stops_there : (limit : ℕ) (i : Instruction) (is : List Instruction) → i.op ≡ Stop → EndsInStop limit (i ∷ is) → is ≡ []
-stops_there limit i is e (a, inl s) = s.1
-stops_there limit i is e (a, inr s) = absurd (s.0 e)
-
--- STOP is the last
-pub stops : (limit : ℕ) (bytes : List ℕ) (i : Instruction) (is : List Instruction) → i.op ≡ Stop → Front limit bytes (i ∷ is) → is ≡ []
-stops limit bytes i is e h = stops_there limit i is e h.ends
-
--- the bytes behind it
-pub behind : (limit : ℕ) (bytes : List ℕ) (i : Instruction) (is : List Instruction) (n : ℕ) → n ≡ length (spelling i) → i.op ≢ Stop → Front limit bytes (i ∷ is) → Front limit (drop n bytes) is
-behind limit bytes i is n e go h = record {
-  ends = goes_on limit i is go h.ends;
-  rest = h.rest;
-  spelled = ap (λ n. drop n bytes) e ∙ ap (drop (length (spelling i))) (split_front limit bytes i is h) ∙ drop_front (spelling i) (spellings is ++ h.rest);
-}
+pub scanned_first : (limit : ℕ) (bytes : List ℕ) (j : Instruction) (n : ℕ) (i : Instruction) (is : List Instruction) → ((other : Answer) → Answers limit bytes other → other ≡ Whole j n) → Front limit bytes (i ∷ is) → (j ≡ i) × (n ≡ length (spelling i))
+scanned_first limit bytes j n i is only h = whole_first j i n (length (spelling i)) (sym (only (Whole i (length (spelling i))) (front_whole limit bytes i is h)))
 
 not_whole : (s : Scan) (i : Instruction) (n : ℕ) → shown_scan s ≡ Whole i n → ((j : Inst) (m : ℕ) → s ≡ scan.Whole j m → ⊥) → ⊥
 not_whole (scan.Whole j m) i n e h = h j m refl
@@ -82,13 +59,3 @@ never_other limit bytes p s only h none = let f = scanned limit bytes p (shown_s
 -- what is left of a slice
 pub left_of_slice : (bytes : List ℕ) (n : ℕ) → n ≤ length bytes → take (length bytes - n) (drop n bytes) ≡ drop n bytes
 left_of_slice bytes n le = take_all (length bytes - n) (drop n bytes) (let l = length-drop n bytes in omega (arith, l))
-
-pub behind_split : (limit : ℕ) (bytes : List ℕ) (i : Instruction) (is : List Instruction) (n : ℕ) → n ≡ length (spelling i) → Front limit bytes (i ∷ is) → bytes ≡ spelling i ++ drop n bytes
-behind_split limit bytes i is n e h =
-    let split = split_front limit bytes i is h in
-    let dropped : drop n bytes ≡ spellings is ++ h.rest = ap (λ n. drop n bytes) e ∙ ap (drop (length (spelling i))) split ∙ drop_front (spelling i) (spellings is ++ h.rest) in
-    split ∙ ap (λ (l : List ℕ). spelling i ++ l) (sym dropped)
-
--- a count of what takes bytes, with the bytes left
-pub few_more : (rest : List ℕ) (n w w' most : ℕ) → (0 < n) → n ≤ length rest → w + length rest ≤ most → w' ≤ w + 1 → w' + length (drop n rest) ≤ most
-few_more rest n w w' most some le few more = let l = length-drop n rest in omega (arith, l, some, le, few, more)

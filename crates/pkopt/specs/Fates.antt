@@ -17,6 +17,7 @@ use Rattle.pkopt.specs.Fronts.{Front}
 use Rattle.pkopt.specs.Limit.{IsPastLimit}
 use Rattle.pkopt.specs.OneFrame.{has_frame}
 use Rattle.pkopt.specs.Passes.{AreNumbers, memo_use}
+use Rattle.pkopt.specs.Places.{places_from}
 use Rattle.pkopt.specs.Slim.{is_frame, renumbered, slim}
 use Rattle.pkopt.specs.Writers.{sources, new_number, after_all}
 
@@ -76,14 +77,16 @@ abbrev pub reads_after : MemoUse → ℕ → ℕ
 reads_after Fetches reads = reads + 1
 reads_after _ reads = reads
 
--- one more instruction was written
-pub record Adds (plan : Plan) (o : Op) (spelled : List ℕ) (old new : Slim) : Type 0 where
-  pub goes_on : fate_in plan o old.writes old.reads ≢ IsPast
-  pub writes_now : new.writes ≡ writes_after (memo_use o) old.writes
-  pub reads_now : new.reads ≡ reads_after (memo_use o) old.reads
-  pub framed_now : new.framed ≡ old.framed || is_frame o
-  pub bytes_now :
-      Emits (fate_in plan o old.writes old.reads) o spelled old.bytes.items new.bytes.items
+-- these bytes were written, and one more instruction
+pub record Adds (plan : Plan) (plain : List ℕ) (o : Op) (spelled : List ℕ) (old new : Slim) : Type 0
+  where
+    pub goes_on : fate_in plan o old.writes old.reads ≢ IsPast
+    pub writes_now : new.writes ≡ writes_after (memo_use o) old.writes
+    pub reads_now : new.reads ≡ reads_after (memo_use o) old.reads
+    pub framed_now : new.framed ≡ old.framed || is_frame o
+    pub bytes_now :
+        Emits (fate_in plan o old.writes old.reads) o spelled
+        (old.bytes.items ++ plain) new.bytes.items
 
 -- it was not: there was no memory, or its number would be the limit
 abbrev pub IsHalted : Plan → Op → Slim → Reason → Type 0
@@ -107,10 +110,14 @@ pub record IsSlim (p : List Instruction) (limit : ℕ) (out : Slim) : Type 0 whe
   pub framed_so : out.framed ≡ has_frame p
   pub fits : new_number (sources [] p) (length (after_all p [])) ≤ limit
 
--- where the plan is right, the slim form of the pickle at the front of the bytes was written
-abbrev pub IsSlimOf : ℕ → List ℕ → Plan → Slim → Type 0
-IsSlimOf limit bytes plan out =
-    (p : List Instruction) → Front limit bytes p → IsPlanFor p plan → IsSlim p plan.limit out
+-- what the second pass over a pickle is given: the bytes that it stands at the front of, the places
+-- of what isn't plain in it, the number of its bytes, and a plan
+pub record Aims (limit : ℕ) (bytes places : List ℕ) (taken : ℕ) (plan : Plan)
+    (p : List Instruction) : Type 0 where
+  pub front : Front limit bytes p
+  pub places_so : places ≡ places_from 0 p
+  pub taken_so : taken ≡ length (spellings p)
+  pub planned : IsPlanFor p plan
 
 -- at this place stands a write that is read, and its number would be the limit
 pub record IsPastAt (p : List Instruction) (limit : ℕ) (refusal : Refusal) : Type 0 where
@@ -119,8 +126,7 @@ pub record IsPastAt (p : List Instruction) (limit : ℕ) (refusal : Refusal) : T
   pub place : refusal.at ≡ length (spellings before)
   pub why : refusal.reason ≡ reason.TooLarge
 
--- where the plan is right, the slim form could not be written for this reason
-abbrev pub StopsSlim : ℕ → List ℕ → Plan → Refusal → Type 0
-StopsSlim limit bytes plan refusal =
-    (p : List Instruction) → Front limit bytes p → IsPlanFor p plan →
-    IsPastAt p plan.limit refusal ⊎ ((refusal.at ≡ 0) × (refusal.reason ≡ reason.OutOfMemory))
+-- the slim form could not be written for this reason
+abbrev pub StopsSlim : List Instruction → ℕ → Refusal → Type 0
+StopsSlim p limit refusal =
+    IsPastAt p limit refusal ⊎ ((refusal.at ≡ 0) × (refusal.reason ≡ reason.OutOfMemory))

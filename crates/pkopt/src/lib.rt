@@ -9,5 +9,6 @@ mod numbers;
 mod optimizing;
 mod renumbering;
 mod slim;
+mod trace;
 
 pub use optimizing::{Form, optimize, optimized_form};

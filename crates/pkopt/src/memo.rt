@@ -1,12 +1,11 @@
-//! Which memo write each read of the memo reads.
+//! How instructions use the memo, and which write is the last of each number.
 
-ghost use Rattle.std.specs.Prelude.{◌≡◌, ◌<◌, ◌≤◌, ◌+◌, ◌++◌, ◌∷◌, ◌^◌, [], IfOk, OnOk};
-ghost use Rattle.pkops.specs.Inst.{instruction_of};
-ghost use Rattle.pkops.specs.Operands.{memo_number};
+ghost use Rattle.std.specs.Prelude.{◌≡◌, ◌+◌, [], OnOk, length};
 ghost use Rattle.pkcheck.specs.Shape.{recalled, stored};
-ghost use Rattle.pkopt.specs.Passes.{AreSources, Notes, memo_use};
+ghost use Rattle.pkopt.specs.Memories.{Notes, remembered};
+ghost use Rattle.pkopt.specs.Passes.{memo_use};
 
-use pkops::{Inst, Limits, Op, Scan, scan};
+use pkops::Op;
 use std::alloc::{AllocError, Global};
 use std::collections::BTreeMap;
 
@@ -39,99 +38,97 @@ pub(crate) fn memo_use(op: Op) -> MemoUse
     }
 }
 
-/// The number of the memo entry that an instruction names, where it names one.
-fn number_of(inst: &Inst<'_>) -> usize
-    ensures { result ≡ memo_number (instruction_of inst.now) }
-{
-    inst.memo_number().unwrap_or(0) as usize
-}
-
-/// What is known of the memo along a pickle.
+/// The last write of each number. Writes are named by their order, 0, 1, 2, .. Most pickles number
+/// them in order, from 0 or from 1 on, and these are found at once.
 #[derive(Drop)]
-pub(crate) struct Trace {
-    /// The last write of each number. Writes are named by their order, 0, 1, 2, ..
-    memo: BTreeMap<usize, usize>,
-    /// How many writes there were.
-    pub writes: usize,
-    /// The write that each read reads.
-    pub sources: Vec<Option<usize>>,
+pub(crate) struct Memo {
+    /// The number that was written first.
+    first: usize,
+    /// The last write of it, and of those behind it as long as they came in order.
+    row: Vec<usize>,
+    /// Those of the other numbers.
+    rest: BTreeMap<usize, usize>,
 }
 
-impl Trace {
-    /// Before the first instruction.
-    fn new(alloc: Global) -> Trace
-        ensures memo { result.memo.entries ≡ [] }
-        ensures writes { result.writes ≡ 0 }
-        ensures sources { result.sources.items ≡ [] }
+impl Memo {
+    /// Before the first write. It takes no memory.
+    pub(crate) fn new(alloc: Global) -> Memo
+        ensures row { result.row.items ≡ [] }
+        ensures rest { result.rest.entries ≡ [] }
     {
-        Trace {
-            memo: BTreeMap::new(alloc),
-            writes: 0,
-            sources: Vec::new(alloc),
+        Memo {
+            first: 0,
+            row: Vec::new(alloc),
+            rest: BTreeMap::new(alloc),
         }
     }
 
-    /// Notes a write under this number.
-    fn write(&mut self, number: usize) -> Result<(), AllocError>
-        requires { self.old.writes < 2 ^ 63 }
-        ensures few { self.new.writes ≤ self.old.writes + 1 }
-        ensures writes { OnOk result (self.new.writes ≡ self.old.writes + 1) }
-        ensures memo { OnOk result (self.new.memo.entries
-            ≡ stored number self.old.writes self.old.memo.entries) }
-        ensures sources { self.new.sources.items ≡ self.old.sources.items }
+    /// How many numbers were written.
+    #[inline]
+    pub(crate) fn len(&self) -> usize
+        ensures { result ≡ length self.now.row.items + length self.now.rest.entries }
     {
-        self.memo.insert(number, self.writes)?;
-        self.writes += 1;
-        Ok(())
+        self.row.len() + self.rest.len()
     }
 
-    /// Notes a read of this number.
-    fn read(&mut self, number: usize) -> Result<(), AllocError>
-        ensures writes { self.new.writes ≡ self.old.writes }
-        ensures memo { self.new.memo.entries ≡ self.old.memo.entries }
-        ensures sources { OnOk result (self.new.sources.items
-            ≡ self.old.sources.items ++ recalled number self.old.memo.entries ∷ []) }
+    /// The last write of a number, if there is one.
+    #[inline]
+    pub(crate) fn get(&self, number: usize) -> Option<usize>
+        ensures { result ≡ remembered self.now.first self.now.row.items
+            self.now.rest.entries number }
     {
-        let source = match self.memo.get(&number) {
-            Some(write) => Some(*write),
-            None => None,
-        };
-        self.sources.push(source)?;
-        Ok(())
-    }
-
-    /// Notes what one more instruction does to the memo.
-    fn follow(&mut self, inst: &Inst<'_>) -> Result<(), AllocError>
-        requires { self.old.writes < 2 ^ 63 }
-        ensures few { self.new.writes ≤ self.old.writes + 1 }
-        ensures step { OnOk result (Notes (instruction_of inst.now) self.old self.new) }
-    {
-        match memo_use(inst.op()) {
-            MemoUse::Stores => self.write(number_of(inst)),
-            MemoUse::StoresNext => {
-                let next = self.memo.len();
-                self.write(next)
-            }
-            MemoUse::Fetches => self.read(number_of(inst)),
-            MemoUse::Neither => Ok(()),
+        if number < self.first {
+            return found(&self.rest, number);
         }
+        let place = number - self.first;
+        if place < self.row.len() {
+            return Some(self.row[place]);
+        }
+        found(&self.rest, number)
+    }
+
+    /// Notes the last write of a number.
+    #[inline]
+    pub(crate) fn note(&mut self, number: usize, write: usize) -> Result<(), AllocError>
+        ensures { OnOk result (Notes number write self.old self.new) }
+    {
+        if self.row.is_empty() && self.rest.is_empty() {
+            self.first = number;
+            self.row.push(write)?;
+            return Ok(());
+        }
+        if number < self.first {
+            return put(&mut self.rest, number, write);
+        }
+        let place = number - self.first;
+        if place < self.row.len() {
+            self.row[place] = write;
+            return Ok(());
+        }
+        if place == self.row.len() && self.rest.is_empty() {
+            self.row.push(write)?;
+            return Ok(());
+        }
+        put(&mut self.rest, number, write)
     }
 }
 
-/// Which write each read of the memo reads, in the pickle at the front of the bytes.
-pub(crate) fn trace_memo(alloc: Global, bytes: &[u8], limits: &Limits) -> Result<Trace, AllocError>
-    ensures { IfOk result (λ t. AreSources limits.now.counted bytes.now t.sources.items t.writes) }
+/// What stands under a number there.
+#[inline(never)]
+fn found(rest: &BTreeMap<usize, usize>, number: usize) -> Option<usize>
+    ensures { result ≡ recalled number rest.now.entries }
 {
-    let mut trace = Trace::new(alloc);
-    let mut rest = bytes;
-    'instructions: loop {
-        let Scan::Whole(inst, length) = scan(rest, limits) else {
-            return Ok(trace);
-        };
-        trace.follow(&inst)?;
-        if let Op::Stop = inst.op() {
-            return Ok(trace);
-        }
-        rest = &rest[length..];
+    match rest.get(&number) {
+        Some(write) => Some(*write),
+        None => None,
     }
+}
+
+/// Puts a write under a number there.
+#[inline(never)]
+fn put(rest: &mut BTreeMap<usize, usize>, number: usize, write: usize) -> Result<(), AllocError>
+    ensures { OnOk result (rest.new.entries ≡ stored number write rest.old.entries) }
+{
+    rest.insert(number, write)?;
+    Ok(())
 }

@@ -1,18 +1,19 @@
 //! The optimized form of a pickle.
 
-ghost use Rattle.std.specs.Prelude.{◌≡◌, ◌<◌, ◌^◌, IfErr, IfOk, OnOk, List, length};
+ghost use Rattle.std.specs.Prelude.{◌≡◌, ◌<◌, ◌^◌, IfErr, IfOk, OnOk, List, [], length};
 ghost use Rattle.pkops.specs.Spelling.{Instruction};
 ghost use Rattle.pkread.specs.declared.refusal.Reason.TheVariants as reason;
 ghost use Rattle.pkopt.specs.Answer.{IsRefused, Optimizes, Checks, FailsCheck, TakesAsChecked};
 ghost use Rattle.pkopt.specs.Fates.{IsPlanFor};
-ghost use Rattle.pkopt.specs.Fronts.{Front};
+ghost use Rattle.pkopt.specs.Tracing.{IsTraced};
+ghost use Rattle.pkopt.specs.Writers.{after_all, sources as sources_of};
 
 use crate::fate::Plan;
 use crate::frame::in_frame;
-use crate::memo::trace_memo;
 use crate::numbers::new_numbers;
 use crate::slim::slim_of;
-use pkcheck::{Policy, check};
+use crate::trace::Trace;
+use pkcheck::{Policy, check, check_heard};
 use pkops::Limits;
 use pkread::laws::framed;
 use pkread::{Memory, Reason, Refusal};
@@ -29,28 +30,31 @@ fn lacks_memory() -> Refusal
     }
 }
 
-/// What is known of the memo instructions of the pickle at the front of the bytes.
-fn plan_of(alloc: Global, bytes: &[u8], limits: &Limits) -> Result<Plan, AllocError>
-    ensures plan { IfOk result (λ plan. (p : List Instruction) →
-        Front limits.now.counted bytes.now p → IsPlanFor p plan) }
+/// What becomes of the memo instructions of a pickle.
+fn plan_of(
+    alloc: Global,
+    sources: Vec<Option<usize>>,
+    writes: usize,
+    limits: &Limits,
+) -> Result<Plan, AllocError>
+    ensures plan { IfOk result (λ plan. (p : List Instruction) → sources.items ≡ sources_of [] p →
+        writes ≡ length (after_all p []) → IsPlanFor p plan) }
     ensures limit { IfOk result (λ plan. plan.limit ≡ limits.now.memo) }
     ensures small { IfOk result (λ plan. plan.limit < 2 ^ 32) }
 {
-    let trace = trace_memo(alloc, bytes, limits)?;
     let limit = limits.memo() as u32;
-    let numbers = new_numbers(alloc, &trace.sources, trace.writes, limit)?;
+    let numbers = new_numbers(alloc, &sources, writes, limit)?;
     Ok(Plan {
-        sources: trace.sources,
+        sources,
         numbers,
         limit,
     })
 }
 
-/// Checks the pickle at the front of the bytes, under any import, and tells how many bytes it
-/// takes. Its payloads are all held, and have one limit.
-fn checked(alloc: Global, bytes: &[u8], limits: &Limits) -> Result<u64, Refusal>
+/// Checks the pickle at the front of the bytes, under any import. Its payloads are all held, and
+/// have one limit.
+fn checked(alloc: Global, bytes: &[u8], limits: &Limits) -> Result<(), Refusal>
     ensures ok { OnOk result (Checks limits.now bytes.now) }
-    ensures taken { IfOk result (TakesAsChecked limits.now bytes.now) }
     ensures err { IfErr result (λ refusal. FailsCheck limits.now bytes.now refusal) }
 {
     let mut source = Memory::new(bytes);
@@ -60,7 +64,41 @@ fn checked(alloc: Global, bytes: &[u8], limits: &Limits) -> Result<u64, Refusal>
         &Policy::AnyImport,
         &limits.holding_all(),
     ) {
-        Ok(yes) => Ok(yes.taken),
+        Ok(_) => Ok(()),
+        Err(no) => Err(Refusal {
+            at: no.at,
+            reason: no.reason,
+        }),
+    }
+}
+
+/// A pickle that passes the check, and what is known of its memo and its frames.
+#[derive(Drop)]
+struct Traced {
+    /// How many bytes it takes.
+    taken: u64,
+    trace: Trace,
+}
+
+/// The same check, which hears of each instruction. Where memory is lacking for what it hears,
+/// it checks again with nothing heard.
+fn heard_check(alloc: Global, bytes: &[u8], limits: &Limits) -> Result<Traced, Refusal>
+    ensures ok { IfOk result (IsTraced limits.now bytes.now) }
+    ensures taken { IfOk result (λ x. TakesAsChecked limits.now bytes.now x.taken) }
+    ensures err { IfErr result (λ refusal. IsRefused limits.now bytes.now refusal) }
+{
+    let mut source = Memory::new(bytes);
+    let mut trace = Trace::new(alloc);
+    let heard = check_heard(alloc, &mut source, &Policy::AnyImport, limits, &mut trace);
+    let Ok(answer) = heard else {
+        checked(alloc, bytes, limits)?;
+        return Err(lacks_memory());
+    };
+    match answer {
+        Ok(yes) => Ok(Traced {
+            taken: yes.taken,
+            trace,
+        }),
         Err(no) => Err(Refusal {
             at: no.at,
             reason: no.reason,
@@ -87,12 +125,18 @@ pub fn optimized_form(alloc: Global, bytes: &[u8], limits: &Limits) -> Result<Fo
     ensures taken { IfOk result (λ form. TakesAsChecked limits.now bytes.now form.taken) }
     ensures err { IfErr result (λ refusal. IsRefused limits.now bytes.now refusal) }
 {
-    let taken = checked(alloc, bytes, limits)?;
+    let Traced { taken, trace } = heard_check(alloc, bytes, limits)?;
     framed();
-    let Ok(plan) = plan_of(alloc, bytes, limits) else {
+    let Trace {
+        sources,
+        places,
+        writes,
+        ..
+    } = trace;
+    let Ok(plan) = plan_of(alloc, sources, writes, limits) else {
         return Err(lacks_memory());
     };
-    let slim = match slim_of(alloc, bytes, limits, &plan) {
+    let slim = match slim_of(alloc, bytes, &places, taken as usize, limits, &plan) {
         Ok(slim) => slim,
         Err(refusal) => return Err(refusal),
     };

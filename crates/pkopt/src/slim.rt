@@ -1,15 +1,22 @@
 //! Writes the slim form of a pickle.
 
-ghost use Rattle.std.specs.Prelude.{◌≡◌, ◌<◌, ◌≤◌, ◌+◌, ◌^◌, IfErr, IfOk, OnOk, [], false};
-ghost use Rattle.pkopt.specs.Fates.{Adds, Emits, IsHalted, IsSlimOf, StopsSlim};
+ghost use Rattle.std.specs.Prelude.{◌≡◌, ◌<◌, ◌≤◌, ◌+◌, ◌∷◌, ◌^◌, IfErr, IfOk, List, OnOk, []};
+ghost use Rattle.std.specs.Prelude.{◌-◌, IfSome, Some, drop, false, length, slice_index_or};
+ghost use Rattle.std.specs.Prelude.{take};
+ghost use Rattle.pkops.specs.Table.{code_of};
+ghost use Rattle.pkops.specs.Spelling.{Instruction, spelling};
+ghost use Rattle.pkopt.specs.Fates.{Adds, Aims, Emits, IsHalted, IsSlim, StopsSlim};
+ghost use Rattle.pkopt.specs.Fronts.{Front};
 ghost use Rattle.pkopt.specs.Fates.{reads_after, refusal_at, writes_after};
 ghost use Rattle.pkopt.specs.Passes.{memo_use};
+ghost use Rattle.pkopt.specs.Places.{size_of};
 ghost use Rattle.pkopt.specs.Slim.{is_frame};
 
 use crate::fate::{Fate, Plan, fate_of};
 use crate::memo::{MemoUse, memo_use};
 use crate::renumbering::push_renumbered;
-use pkops::{Limits, Op, Scan, scan};
+use pkops::laws::one_code;
+use pkops::{Limits, Op, Scan, op_of_byte, scan};
 use pkread::{Reason, Refusal};
 use std::alloc::{AllocError, Global};
 
@@ -85,19 +92,23 @@ impl Slim {
         }
     }
 
-    /// Adds what is left of one more instruction, which these bytes spell.
-    fn add(&mut self, plan: &Plan, op: Op, spelled: &[u8]) -> Result<(), Reason>
+    /// Adds these bytes as they are, and then what is left of one more instruction, which the
+    /// others spell.
+    fn add(&mut self, plan: &Plan, plain: &[u8], op: Op, spelled: &[u8]) -> Result<(), Reason>
         requires writes { self.old.writes < 2 ^ 63 }
         requires reads { self.old.reads < 2 ^ 63 }
         ensures few_writes { self.new.writes ≤ self.old.writes + 1 }
         ensures few_reads { self.new.reads ≤ self.old.reads + 1 }
-        ensures ok { OnOk result (Adds plan.now op spelled.now self.old self.new) }
+        ensures ok { OnOk result (Adds plan.now plain.now op spelled.now self.old self.new) }
         ensures err { IfErr result (λ reason. IsHalted plan.now op self.old reason) }
     {
         let fate = fate_of(plan, op, self.writes, self.reads);
         if let Fate::IsPast = fate {
             return Err(Reason::TooLarge);
         }
+        let Ok(()) = self.bytes.extend_from_slice(plain) else {
+            return Err(Reason::OutOfMemory);
+        };
         let Ok(()) = emit(&mut self.bytes, fate, op, spelled) else {
             return Err(Reason::OutOfMemory);
         };
@@ -118,29 +129,103 @@ fn refused(at: u64, reason: Reason) -> Refusal
     }
 }
 
-/// The slim form of the pickle at the front of the bytes.
+/// The bytes from a place on.
+fn behind(from: usize, bytes: &[u8]) -> &[u8]
+    requires { from ≤ length bytes.now }
+    ensures { result.now ≡ drop from bytes.now }
+{
+    &bytes[from..]
+}
+
+/// Those from one place to another.
+fn part(from: usize, to: usize, bytes: &[u8]) -> &[u8]
+    requires low { from ≤ to }
+    requires high { to ≤ length bytes.now }
+    ensures { result.now ≡ take (to - from) (drop from bytes.now) }
+{
+    &bytes[from..to]
+}
+
+/// How many bytes spell an instruction of this opcode, where that is one number and the
+/// instruction isn't plain.
+fn size_of(op: Op) -> Option<usize>
+    ensures { result ≡ size_of op }
+{
+    match op {
+        Op::Memoize => Some(1),
+        Op::BinPut => Some(2),
+        Op::BinGet => Some(2),
+        Op::LongBinPut => Some(5),
+        Op::LongBinGet => Some(5),
+        Op::Frame => Some(9),
+        _ => None,
+    }
+}
+
+/// The opcode whose code comes first, and how many bytes spell its instructions, where that is
+/// one number.
+fn sized_at(bytes: &[u8]) -> Option<(Op, usize)>
+    ensures { IfSome result (λ x. (code_of x.0 ≡ slice_index_or bytes.now 0 0)
+        × (size_of x.0 ≡ Some x.1)) }
+{
+    let [code, ..] = bytes else {
+        return None;
+    };
+    let op = op_of_byte(*code)?;
+    let size = size_of(op)?;
+    Some((op, size))
+}
+
+/// The opcode of the instruction at the front of the bytes, and how many bytes spell it.
+fn instruction_at(bytes: &[u8], limits: &Limits) -> (Op, usize)
+    ensures { (i : Instruction) (is : List Instruction) →
+        Front limits.now.counted bytes.now (i ∷ is) →
+        (result.0 ≡ i.op) × (result.1 ≡ length (spelling i)) }
+{
+    one_code();
+    if let Some(sized) = sized_at(bytes) {
+        return sized;
+    }
+    match scan(bytes, limits) {
+        Scan::Whole(inst, length) => (inst.op(), length),
+        _ => (Op::Stop, 0),
+    }
+}
+
+/// The slim form of the pickle at the front of the bytes, whose instructions that aren't plain
+/// begin at these places.
 pub(crate) fn slim_of(
     alloc: Global,
     bytes: &[u8],
+    places: &[u64],
+    taken: usize,
     limits: &Limits,
     plan: &Plan,
 ) -> Result<Slim, Refusal>
-    ensures ok { IfOk result (λ slim. IsSlimOf limits.now.counted bytes.now plan.now slim) }
-    ensures err { IfErr result (λ refusal.
-        StopsSlim limits.now.counted bytes.now plan.now refusal) }
+    requires { (p : List Instruction) ×
+        Aims limits.now.counted bytes.now places.now taken plan.now p }
+    ensures ok { IfOk result (λ slim. (p : List Instruction) →
+        Aims limits.now.counted bytes.now places.now taken plan.now p →
+        IsSlim p plan.now.limit slim) }
+    ensures err { IfErr result (λ refusal. (p : List Instruction) →
+        Aims limits.now.counted bytes.now places.now taken plan.now p →
+        StopsSlim p plan.now.limit refusal) }
 {
     let mut slim = Slim::new(alloc);
-    let mut rest = bytes;
-    'instructions: loop {
-        let Scan::Whole(inst, length) = scan(rest, limits) else {
-            return Ok(slim);
-        };
-        if let Err(reason) = slim.add(plan, inst.op(), &rest[..length]) {
-            return Err(refused((bytes.len() - rest.len()) as u64, reason));
+    let mut from = 0;
+    for place in places {
+        let at = *place as usize;
+        let (op, length) = instruction_at(behind(at, bytes), limits);
+        let end = at + length;
+        let plain = part(from, at, bytes);
+        let spelled = part(at, end, bytes);
+        if let Err(reason) = slim.add(plan, plain, op, spelled) {
+            return Err(refused(*place, reason));
         }
-        if let Op::Stop = inst.op() {
-            return Ok(slim);
-        }
-        rest = &rest[length..];
+        from = end;
     }
+    let Ok(()) = slim.bytes.extend_from_slice(part(from, taken, bytes)) else {
+        return Err(refused(0, Reason::OutOfMemory));
+    };
+    Ok(slim)
 }

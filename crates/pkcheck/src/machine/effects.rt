@@ -1,5 +1,5 @@
 //! What each opcode does to the stack and the memo.
-ghost use Rattle.std.specs.Prelude.{◌≡◌, [], IfOk, IsTrue, OnErr, unwrap_or};
+ghost use Rattle.std.specs.Prelude.{◌≡◌, [], IfOk, IfSome, IsTrue, OnErr, unwrap_or};
 ghost use Rattle.pkcheck.specs.Effects.{effect_of, pushes, makes, may_make, answers, imports};
 ghost use Rattle.std.specs.Char.{is_ascii};
 ghost use Rattle.std.specs.List.{list_all};
@@ -252,20 +252,39 @@ pub fn effect_by(
     ensures memory { OnErr result
         (MayWantMemory (effect_as old_strings (instruction_of inst.now))) }
 {
+    match old_effect(alloc, old_strings, inst)? {
+        Some(effect) => Ok(effect),
+        None => Ok(effect_of(inst.op())),
+    }
+}
+
+/// What an old string does of which something is said, and none of any other instruction.
+#[inline]
+fn old_effect(
+    alloc: Global,
+    old_strings: OldStrings,
+    inst: &Inst<'_>,
+) -> Result<Option<Effect>, AllocError>
+    ensures value { IfOk result (λ effect. unwrap_or effect (effect_of (instruction_of inst.now).op)
+        ≡ effect_as old_strings (instruction_of inst.now)) }
+    ensures well { IfOk result (λ effect. IfSome effect IsWell) }
+    ensures memory { OnErr result
+        (MayWantMemory (effect_as old_strings (instruction_of inst.now))) }
+{
     match old_strings {
-        OldStrings::Unknown => Ok(effect_of(inst.op())),
+        OldStrings::Unknown => Ok(None),
         OldStrings::Ascii => {
             if is_old_string(inst.op()) {
-                ascii_string(alloc, inst)
+                Ok(Some(ascii_string(alloc, inst)?))
             } else {
-                Ok(effect_of(inst.op()))
+                Ok(None)
             }
         }
         OldStrings::Bytes => {
             if is_old_string(inst.op()) {
-                Ok(pushes(Class::Bytes))
+                Ok(Some(pushes(Class::Bytes)))
             } else {
-                Ok(effect_of(inst.op()))
+                Ok(None)
             }
         }
     }

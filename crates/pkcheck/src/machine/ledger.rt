@@ -184,8 +184,6 @@ fn write(written: &mut Texts, name: &str) -> Result<u32, Reason>
     let Ok(number) = u32::try_from(written.len()) else {
         return Err(Reason::OutOfMemory);
     };
-    let Ok(()) = written.put(name) else {
-        return Err(Reason::OutOfMemory);
-    };
+    written.put(name)?;
     Ok(number)
 }

@@ -142,10 +142,7 @@ fn boxed_pair(alloc: Global, module_name: &str, name: &str) -> Result<Box<Asked>
     ensures err { IfErr result (λ r. r ≡ Reason.OutOfMemory) }
 {
     let pair = pair_of(alloc, module_name, name)?;
-    let Ok(pair) = Box::new(alloc, pair) else {
-        return Err(Reason::OutOfMemory);
-    };
-    Ok(pair)
+    Ok(Box::new(alloc, pair)?)
 }
 
 /// What the receiver and the names say.
@@ -293,7 +290,8 @@ fn replace(
     requires sees { Sees ledger.old.texts stack.old (seen ledger.old.texts stack.old) }
     ensures ok { (m : List (ℕ × Known))
         → IfOk result (λ b. Passes (learn (policy_of policy.now) (Effect.Operates takes names gives)
-        (instruction_of inst.entry) (record { entries = seen ledger.old.texts stack.old; memo = m }))
+        (instruction_of inst.entry)
+        (record { entries = seen ledger.old.texts stack.old; memo = m }))
         (record { entries = seen ledger.new.texts stack.new; memo = m })
         ledger.old.asked ledger.new.asked b) }
     ensures sees { OnOk result (Sees ledger.new.texts stack.new (seen ledger.new.texts stack.new)) }

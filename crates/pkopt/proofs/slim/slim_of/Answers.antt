@@ -1,37 +1,94 @@
-use Rattle.std.proofs.Common.{sym, subst, ◌∙◌, ◌≡◌, ◌⊎◌, ◌+◌, ◌-◌, ◌≤◌, length, take, refl}
-use Rattle.pkops.specs.Inst.{instruction_of}
-use Rattle.pkread.specs.declared.refusal.Reason.TheVariants as reason
-use Rattle.pkopt.specs.Fates.{Adds, IsHalted, IsPastAt}
-use Rattle.pkopt.proofs.Scanning.{never_other, whole_takes, left_of_slice, few_more}
-use Rattle.pkopt.proofs.Written.{Slimmed, slimmed_halted, slimmed_last, slimmed_next}
+use Rattle.std.proofs.Common.{◌≡◌, ◌+◌, ◌-◌, arith, ap, drop, get_or, refl, subst, sym, take, ◌∙◌, List, ℕ, ◌++◌}
+use Rattle.pkopt.specs.Fates.{Adds, StopsSlim}
+use Rattle.pkopt.proofs.Written.{found_at, from_at, slimmed_at, slimmed_end, slimmed_halted, slimmed_last, slimmed_next, within_at, from_taken}
 use Rattle.pkopt.proofs.slim.slim_of.Goals as goal
 
-pub returns-in_default : goal.returns-in_default
-returns-in_default c = record {
-  ok = λ p h planned. absurd (never_other _ _ _ c.scan.result c.scan.ensures.only (c.instructions.invariant.slimmed p h planned).stands.front c.in_default.not-Whole);
-  err = tt;
-}
+pub behind-requires : goal.behind-requires
+behind-requires c =
+    let p = c.requires.0 in
+    let aims = c.requires.1 in
+    let lt = c.loop-place-test.true in
+    let h = slimmed_at _ _ _ _ _ p aims c.loop-place.place-index c.loop-place.from c.loop-place.slim lt (c.loop-place.invariant.slimmed p aims) in
+    let inside = within_at _ _ _ _ _ p aims _ _ _ _ h in
+    omega (arith, inside)
+
+pub overflow_add-end : goal.overflow_add-end
+overflow_add-end c =
+    let p = c.requires.0 in
+    let aims = c.requires.1 in
+    let lt = c.loop-place-test.true in
+    let h = slimmed_at _ _ _ _ _ p aims c.loop-place.place-index c.loop-place.from c.loop-place.slim lt (c.loop-place.invariant.slimmed p aims) in
+    let inside = within_at _ _ _ _ _ p aims _ _ _ _ h in
+    let found = found_at _ _ _ _ _ p aims _ _ _ _ h c.behind.result.now c.instruction_at-op.result.0 c.instruction_at-op.result.1 c.behind.ensures c.instruction_at-op.ensures in
+    let size = found.1 in
+    omega (arith, inside, size)
+
+pub part-plain-requires-clause-low : goal.part-plain-requires-clause-low
+part-plain-requires-clause-low c =
+    let p = c.requires.0 in
+    let aims = c.requires.1 in
+    let lt = c.loop-place-test.true in
+    let h = slimmed_at _ _ _ _ _ p aims c.loop-place.place-index c.loop-place.from c.loop-place.slim lt (c.loop-place.invariant.slimmed p aims) in
+    from_at _ _ _ _ _ p aims _ _ _ _ h
+
+pub part-plain-requires-clause-high : goal.part-plain-requires-clause-high
+part-plain-requires-clause-high c =
+    let p = c.requires.0 in
+    let aims = c.requires.1 in
+    let lt = c.loop-place-test.true in
+    let h = slimmed_at _ _ _ _ _ p aims c.loop-place.place-index c.loop-place.from c.loop-place.slim lt (c.loop-place.invariant.slimmed p aims) in
+    let inside = within_at _ _ _ _ _ p aims _ _ _ _ h in
+    omega (arith, inside)
+
+pub part-spelled-requires-clause-high : goal.part-spelled-requires-clause-high
+part-spelled-requires-clause-high c =
+    let p = c.requires.0 in
+    let aims = c.requires.1 in
+    let lt = c.loop-place-test.true in
+    let h = slimmed_at _ _ _ _ _ p aims c.loop-place.place-index c.loop-place.from c.loop-place.slim lt (c.loop-place.invariant.slimmed p aims) in
+    let inside = within_at _ _ _ _ _ p aims _ _ _ _ h in
+    let found = found_at _ _ _ _ _ p aims _ _ _ _ h c.behind.result.now c.instruction_at-op.result.0 c.instruction_at-op.result.1 c.behind.ensures c.instruction_at-op.ensures in
+    let size = found.1 in
+    omega (arith, inside, size)
 
 pub returns-in-Err-clause-err : goal.returns-in-Err-clause-err
-returns-in-Err-clause-err c = λ p h planned.
-    subst (λ r. IsPastAt p c.args.plan.now.limit r ⊎ ((r.at ≡ 0) × (r.reason ≡ reason.OutOfMemory))) (sym c.refused.ensures)
-    (slimmed_halted _ _ _ p c.args.plan.now c.instructions.slim planned (c.instructions.invariant.slimmed p h planned) (instruction_of c.in-Whole.inst) c.in-Whole.length c.in-Whole.ensures.only (length c.args.bytes.now - length c.instructions.rest.now) c.in-Err.reason refl
-    (subst (λ o. IsHalted c.args.plan.now o c.instructions.slim c.in-Err.reason) c.op.ensures.op c.in-Err.ensures.err))
+returns-in-Err-clause-err c = λ p aims.
+    let lt = c.loop-place-test.true in
+    let h = slimmed_at _ _ _ _ _ p aims c.loop-place.place-index c.loop-place.from c.loop-place.slim lt (c.loop-place.invariant.slimmed p aims) in
+    let found = found_at _ _ _ _ _ p aims _ _ _ _ h c.behind.result.now c.instruction_at-op.result.0 c.instruction_at-op.result.1 c.behind.ensures c.instruction_at-op.ensures in
+    subst (StopsSlim p c.args.plan.now.limit) (sym c.refused.ensures) (slimmed_halted _ _ _ _ _ p aims _ _ _ _ h c.instruction_at-op.result.0 c.in-Err.reason found.0 c.in-Err.ensures.err)
 
-pub returns-in-Stop-clause-ok : goal.returns-in-Stop-clause-ok
-returns-in-Stop-clause-ok c = λ p h planned.
-    slimmed_last _ _ _ p c.args.plan.now c.instructions.slim planned (c.instructions.invariant.slimmed p h planned) (instruction_of c.in-Whole.inst) c.in-Whole.length c.in-Whole.ensures.only c.add.new.self (take c.in-Whole.length c.instructions.rest.now) c.in-Whole.ensures.answer.spells.spelled
-    (subst (λ o. Adds c.args.plan.now o (take c.in-Whole.length c.instructions.rest.now) c.instructions.slim c.add.new.self) c.op.ensures.op c.in_default-add.ensures.ok) (sym c.op-in-instructions.ensures.op ∙ c.in-Stop.is)
-
-pub instructions-preserved : goal.instructions-preserved
-instructions-preserved c =
-    let w = whole_takes _ _ _ _ c.in-Whole.ensures.answer in
-    let e = left_of_slice c.instructions.rest.now c.in-Whole.length w.1 in
-    let i = c.instructions.invariant in
+pub loop-place-preserved : goal.loop-place-preserved
+loop-place-preserved c =
+    let writes = c.loop-place.invariant.few_writes in
+    let reads = c.loop-place.invariant.few_reads in
+    let more_writes = c.add.ensures.few_writes in
+    let more_reads = c.add.ensures.few_reads in
+    let at = (get_or c.args.places.now c.loop-place.place-index 0) in
+    let n = c.instruction_at-op.result.1 in
+    let e : at + n - at ≡ n = omega arith in
     record {
-      few_writes = subst (λ r. c.add.new.self.writes + length r ≤ length c.args.bytes.now) (sym e) (few_more c.instructions.rest.now c.in-Whole.length c.instructions.slim.writes c.add.new.self.writes (length c.args.bytes.now) w.0 w.1 i.few_writes c.add.ensures.few_writes);
-      few_reads = subst (λ r. c.add.new.self.reads + length r ≤ length c.args.bytes.now) (sym e) (few_more c.instructions.rest.now c.in-Whole.length c.instructions.slim.reads c.add.new.self.reads (length c.args.bytes.now) w.0 w.1 i.few_reads c.add.ensures.few_reads);
-      slimmed = λ p h planned. subst (λ r. Slimmed c.args.limits.now.counted c.args.bytes.now r p c.args.plan.now c.add.new.self) (sym e)
-          (slimmed_next _ _ _ p c.args.plan.now c.instructions.slim planned (i.slimmed p h planned) (instruction_of c.in-Whole.inst) c.in-Whole.length c.in-Whole.ensures.only c.add.new.self (take c.in-Whole.length c.instructions.rest.now) c.in-Whole.ensures.answer.spells.spelled
-          (subst (λ o. Adds c.args.plan.now o (take c.in-Whole.length c.instructions.rest.now) c.instructions.slim c.add.new.self) c.op.ensures.op c.in_default-add.ensures.ok) (λ q. c.in_default-op.not-Stop (c.op-in-instructions.ensures.op ∙ q)));
+      few_writes = omega (arith, writes, more_writes);
+      few_reads = omega (arith, reads, more_reads);
+      slimmed = λ p aims.
+          let lt = c.loop-place-test.true in
+          let h = slimmed_at _ _ _ _ _ p aims c.loop-place.place-index c.loop-place.from c.loop-place.slim lt (c.loop-place.invariant.slimmed p aims) in
+          let found = found_at _ _ _ _ _ p aims _ _ _ _ h c.behind.result.now c.instruction_at-op.result.0 c.instruction_at-op.result.1 c.behind.ensures c.instruction_at-op.ensures in
+          slimmed_next _ _ _ _ _ p aims _ _ _ _ h c.instruction_at-op.result.0 n c.add.new.self found.0 found.1
+          (subst (λ (l : List ℕ). Adds c.args.plan.now (take (at - c.loop-place.from) (drop c.loop-place.from c.args.bytes.now)) c.instruction_at-op.result.0 l c.loop-place.slim c.add.new.self) (c.part-spelled.ensures ∙ ap (λ n. take n (drop at c.args.bytes.now)) e)
+          (subst (λ (l : List ℕ). Adds c.args.plan.now l c.instruction_at-op.result.0 c.part-spelled.result.now c.loop-place.slim c.add.new.self) c.part-plain.ensures c.in_default.ensures.ok));
     }
+
+pub part-requires-clause-low : goal.part-requires-clause-low
+part-requires-clause-low c =
+    let p = c.requires.0 in
+    let aims = c.requires.1 in
+    let le = c.loop-place-test.false in
+    let h = slimmed_end _ _ _ _ _ p aims c.loop-place.place-index c.loop-place.from c.loop-place.slim le (c.loop-place.invariant.slimmed p aims) in
+    from_taken _ _ _ _ _ p aims _ _ h
+
+pub returns-clause-ok : goal.returns-clause-ok
+returns-clause-ok c = λ p aims.
+    let le = c.loop-place-test.false in
+    let h = slimmed_end _ _ _ _ _ p aims c.loop-place.place-index c.loop-place.from c.loop-place.slim le (c.loop-place.invariant.slimmed p aims) in
+    slimmed_last _ _ _ _ _ p aims _ _ h _ refl (c.in-Ok.ensures.items ∙ ap (λ (l : List ℕ). c.loop-place.slim.bytes.items ++ l) c.part.ensures)

@@ -1,6 +1,0 @@
-use Rattle.std.proofs.Common.{◌≡◌, take}
-use Rattle.pkjson.specs.Seen.{numbers_of}
-use Rattle.pkjson.proofs.slots.numbers.Given as goal
-
-abbrev pub invariant-loop-slot : goal.invariant-loop-slot
-invariant-loop-slot l = l.found.items ≡ numbers_of (take l.slot-index l.slots)

@@ -1,0 +1,63 @@
+-- What is known along a pickle, heard instruction by instruction.
+use Rattle.std.proofs.Common.{◌≡◌, ℕ, ◌+◌, true, false, cond, List, [], ◌∷◌, ◌++◌, length, Option, Result, Ok, Err, refl, sym, ap, subst, ◌∙◌, append-nil, length-append}
+use Rattle.std.specs.Prelude.{OnOk}
+use Rattle.pkops.specs.Operands.{memo_number}
+use Rattle.pkops.specs.Spelling.{Instruction, spelling}
+use Rattle.pkread.specs.Sequence.{spellings}
+use Rattle.pkcheck.specs.Effects.{effect_of}
+use Rattle.pkcheck.specs.Heard.{Heard, heard, AreHeardBehind}
+use Rattle.pkopt.specs.declared.trace.Trace.{Trace}
+use Rattle.pkopt.specs.Passes.{Begins, Follows, Hears, Steps, Tracks}
+use Rattle.pkopt.specs.Places.{is_plain, places_from, places_told, told}
+use Rattle.pkopt.specs.Writers.{Writes, read_by, sources, after_all}
+use Rattle.pkopt.proofs.Remembering.{none_remembered}
+use Rattle.pkopt.proofs.Plain.{plain_is}
+use Rattle.pkopt.proofs.Standing.{spellings-append}
+
+-- one plain instruction is heard
+pub plain_heard : (x : Trace) (at marks : ℕ) (i : Instruction) → is_plain i.op ≡ true → Hears x x (heard at i marks ∷ [])
+plain_heard x at marks i e = λ ws h.
+    let plain = plain_is i e in
+    record {
+      follows = subst (λ (w : Writes). Follows w x) (sym (plain.no_write ws)) h;
+      sources_now = sym (append-nil x.sources.items) ∙ ap (λ (l : List (Option ℕ)). x.sources.items ++ l) (sym (append-nil (read_by (effect_of i.op) (memo_number i) ws) ∙ plain.no_read ws));
+      places_now = sym (append-nil x.places.items) ∙ ap (λ b. x.places.items ++ cond b [] (at ∷ [])) (sym e);
+    }
+
+-- another one is heard
+pub other_heard : {A E : Type 0} (r : Result A E) (x y z : Trace) (at marks : ℕ) (i : Instruction) → is_plain i.op ≡ false → y.memo ≡ x.memo → y.writes ≡ x.writes → y.sources.items ≡ x.sources.items → y.places.items ≡ x.places.items ++ at ∷ [] → OnOk r (Steps i y z) → z.places.items ≡ y.places.items → OnOk r (Hears x z (heard at i marks ∷ []))
+other_heard (Ok a) x y z at marks i e memo writes found grown step same = λ ws h.
+    let s = step ws (record { holds = rw memo h.holds; count = writes ∙ h.count }) in
+    record {
+      follows = s.0;
+      sources_now = s.1 ∙ ap (λ (l : List (Option ℕ)). l ++ read_by (effect_of i.op) (memo_number i) ws) found ∙ ap (λ (l : List (Option ℕ)). x.sources.items ++ l) (sym (append-nil (read_by (effect_of i.op) (memo_number i) ws)));
+      places_now = same ∙ grown ∙ ap (λ b. x.places.items ++ cond b [] (at ∷ [])) (sym e);
+    }
+other_heard (Err a) x y z at marks i e memo writes found grown step same = tt
+
+-- all of a pickle was heard
+heard_told : (before is : List Instruction) (hs : List Heard) → AreHeardBehind before is hs → told hs ≡ is
+heard_told before [] [] h = refl
+heard_told before (i ∷ is) (x ∷ hs) h = ap (λ (j : Instruction). j ∷ told hs) h.0.same ∙ ap (λ (l : List Instruction). i ∷ l) (heard_told (before ++ i ∷ []) is hs h.1)
+heard_told before [] (x ∷ hs) h = absurd h
+heard_told before (i ∷ is) [] h = absurd h
+
+heard_places : (before is : List Instruction) (hs : List Heard) → AreHeardBehind before is hs → places_told hs ≡ places_from (length (spellings before)) is
+heard_places before [] [] h = refl
+heard_places before (i ∷ is) (x ∷ hs) h =
+    let more : length (spellings (before ++ i ∷ [])) ≡ length (spellings before) + length (spelling i) = ap length (spellings-append before (i ∷ [])) ∙ length-append (spellings before) (spelling i ++ []) ∙ ap (λ (l : List ℕ). length (spellings before) + length l) (append-nil (spelling i)) in
+    ap (λ (j : Instruction). cond (is_plain j.op) (places_told hs) (x.at ∷ places_told hs)) h.0.same
+    ∙ ap (λ at. cond (is_plain i.op) (places_told hs) (at ∷ places_told hs)) h.0.place
+    ∙ ap (λ (l : List ℕ). cond (is_plain i.op) l (length (spellings before) ∷ l)) (heard_places (before ++ i ∷ []) is hs h.1 ∙ ap (λ at. places_from at is) more)
+heard_places before [] (x ∷ hs) h = absurd h
+heard_places before (i ∷ is) [] h = absurd h
+
+pub heard_tracks : (x y : Trace) (p : List Instruction) (hs : List Heard) → Begins x → AreHeardBehind [] p hs → Hears x y hs → Tracks p y
+heard_tracks x y p hs first each h =
+    let s = h [] (record { holds = none_remembered x.memo.first x.memo.row.items x.memo.rest.entries first.row first.rest; count = first.writes }) in
+    let all = heard_told [] p hs each in
+    record {
+      reads = s.sources_now ∙ ap (λ (l : List (Option ℕ)). l ++ sources [] (told hs)) first.sources ∙ ap (sources []) all;
+      writes = s.follows.count ∙ ap (λ q. length (after_all q [])) all;
+      places = s.places_now ∙ ap (λ (l : List ℕ). l ++ places_told hs) first.places ∙ heard_places [] p hs each;
+    }

@@ -1,0 +1,83 @@
+-- What is heard of a pickle, instruction by instruction, adds up.
+use Rattle.std.proofs.Common.{◌≡◌, ℕ, Bool, true, false, cond, List, [], ◌∷◌, ◌++◌, Option}
+use Rattle.std.proofs.Common.{refl, sym, ap, subst, ◌∙◌, append_assoc, append-nil}
+use Rattle.pkops.specs.Operands.{memo_number}
+use Rattle.pkops.specs.Spelling.{Instruction}
+use Rattle.pkcheck.specs.Effects.{effect_of}
+use Rattle.pkcheck.specs.Heard.{Heard}
+use Rattle.pkopt.specs.declared.trace.Trace.{Trace}
+use Rattle.pkopt.specs.Passes.{Follows, Hears}
+use Rattle.pkopt.specs.Places.{is_plain, places_told, told}
+use Rattle.pkopt.specs.Writers.{Writes, after, read_by, sources, after_all}
+
+pub after_all-more :
+    (is : List Instruction) (i : Instruction) (ws : Writes)
+    → after_all (is ++ i ∷ []) ws ≡ after i (after_all is ws)
+after_all-more [] i ws = refl
+after_all-more (x ∷ is) i ws = after_all-more is i (after x ws)
+
+-- what an instruction reads behind these writes
+abbrev pub read_at : Instruction → Writes → List (Option ℕ)
+read_at i ws = read_by (effect_of i.op) (memo_number i) ws
+
+pub sources-more :
+    (is : List Instruction) (i : Instruction) (ws : Writes)
+    → sources ws (is ++ i ∷ []) ≡ sources ws is ++ read_at i (after_all is ws)
+sources-more [] i ws = append-nil (read_at i ws)
+sources-more (x ∷ is) i ws =
+    ap (λ (l : List (Option ℕ)). read_at x ws ++ l) (sources-more is i (after x ws))
+    ∙ sym (append_assoc (read_at x ws) (sources (after x ws) is)
+    (read_at i (after_all is (after x ws))))
+
+told-more : (hs : List Heard) (h : Heard) → told (hs ++ h ∷ []) ≡ told hs ++ h.instruction ∷ []
+told-more [] h = refl
+told-more (x ∷ hs) h = ap (λ (l : List Instruction). x.instruction ∷ l) (told-more hs h)
+
+cond_append :
+    (b : Bool) (at : ℕ) (xs ys : List ℕ)
+    → cond b (xs ++ ys) (at ∷ (xs ++ ys)) ≡ cond b xs (at ∷ xs) ++ ys
+cond_append true at xs ys = refl
+cond_append false at xs ys = refl
+
+places_told-more :
+    (hs ks : List Heard) → places_told (hs ++ ks) ≡ places_told hs ++ places_told ks
+places_told-more [] ks = refl
+places_told-more (h ∷ hs) ks =
+    ap (λ (l : List ℕ). cond (is_plain h.instruction.op) l (h.at ∷ l)) (places_told-more hs ks)
+    ∙ cond_append (is_plain h.instruction.op) h.at (places_told hs) (places_told ks)
+
+pub hears_none : (x : Trace) → Hears x x []
+hears_none x = λ ws h. record {
+  follows = h;
+  sources_now = sym (append-nil x.sources.items);
+  places_now = sym (append-nil x.places.items);
+}
+
+pub hears_more :
+    (x y z : Trace) (hs : List Heard) (h : Heard)
+    → Hears x y hs → Hears y z (h ∷ []) → Hears x z (hs ++ h ∷ [])
+hears_more x y z hs h f g = λ ws s.
+    let a = f ws s in
+    let behind = after_all (told hs) ws in
+    let b = g behind a.follows in
+    let all = told-more hs h in
+    let one = h ∷ [] in
+    let read = read_at h.instruction behind in
+    record {
+      follows =
+          subst (λ (x : Writes). Follows x z)
+          (sym (ap (λ (l : List Instruction). after_all l ws) all
+          ∙ after_all-more (told hs) h.instruction ws)) b.follows;
+      sources_now =
+          b.sources_now
+          ∙ ap (λ (l : List (Option ℕ)). y.sources.items ++ l) (append-nil read)
+          ∙ ap (λ (l : List (Option ℕ)). l ++ read) a.sources_now
+          ∙ append_assoc x.sources.items (sources ws (told hs)) read
+          ∙ ap (λ (l : List (Option ℕ)). x.sources.items ++ l)
+          (sym (ap (sources ws) all ∙ sources-more (told hs) h.instruction ws));
+      places_now =
+          b.places_now
+          ∙ ap (λ (l : List ℕ). l ++ places_told one) a.places_now
+          ∙ append_assoc x.places.items (places_told hs) (places_told one)
+          ∙ ap (λ (l : List ℕ). x.places.items ++ l) (sym (places_told-more hs one));
+    }

@@ -1,0 +1,133 @@
+//! Follows the memo and the frames of a pickle while it is checked.
+
+ghost use Rattle.std.specs.Prelude.{◌≡◌, ◌+◌, ◌++◌, ◌∷◌, [], OnOk};
+ghost use Rattle.pkops.specs.Inst.{instruction_of};
+ghost use Rattle.pkops.specs.Operands.{memo_number};
+ghost use Rattle.pkopt.specs.Memories.{Notes, remembered};
+ghost use Rattle.pkopt.specs.Places.{is_plain};
+ghost use Rattle.pkopt.specs.Passes.{Begins, Steps};
+
+use crate::memo::{Memo, MemoUse, memo_use};
+use pkcheck::Listener;
+use pkops::{Inst, Op};
+use std::alloc::{AllocError, Global};
+
+/// An instruction of this opcode stays as it is, wherever it stands: it doesn't use the memo and is
+/// no FRAME.
+#[inline]
+fn is_plain(op: Op) -> bool
+    ensures { result ≡ is_plain op }
+{
+    match op {
+        Op::Put => false,
+        Op::BinPut => false,
+        Op::LongBinPut => false,
+        Op::Memoize => false,
+        Op::Get => false,
+        Op::BinGet => false,
+        Op::LongBinGet => false,
+        Op::Frame => false,
+        _ => true,
+    }
+}
+
+/// The number of the memo entry that an instruction names, where it names one.
+fn number_of(inst: &Inst<'_>) -> usize
+    ensures { result ≡ memo_number (instruction_of inst.now) }
+{
+    inst.memo_number().unwrap_or(0) as usize
+}
+
+/// What is known of the memo and the frames along a pickle.
+#[derive(Drop)]
+pub(crate) struct Trace {
+    /// The last write of each number.
+    memo: Memo,
+    /// How many writes there were.
+    pub writes: usize,
+    /// The write that each read reads.
+    pub sources: Vec<Option<usize>>,
+    /// Where each instruction begins that isn't plain.
+    pub places: Vec<u64>,
+}
+
+impl Trace {
+    /// Before the first instruction.
+    pub(crate) fn new(alloc: Global) -> Trace
+        ensures { Begins result }
+    {
+        Trace {
+            memo: Memo::new(alloc),
+            writes: 0,
+            sources: Vec::new(alloc),
+            places: Vec::new(alloc),
+        }
+    }
+
+    /// Notes a write under this number.
+    fn write(&mut self, number: usize) -> Result<(), AllocError>
+        ensures writes { OnOk result (self.new.writes ≡ self.old.writes + 1) }
+        ensures memo { OnOk result (Notes number self.old.writes self.old.memo self.new.memo) }
+        ensures sources { self.new.sources.items ≡ self.old.sources.items }
+        ensures places { self.new.places.items ≡ self.old.places.items }
+    {
+        let Some(writes) = self.writes.checked_add(1) else {
+            return Err(AllocError);
+        };
+        self.memo.note(number, self.writes)?;
+        self.writes = writes;
+        Ok(())
+    }
+
+    /// Notes a read of this number.
+    fn read(&mut self, number: usize) -> Result<(), AllocError>
+        ensures writes { self.new.writes ≡ self.old.writes }
+        ensures memo { self.new.memo ≡ self.old.memo }
+        ensures sources { OnOk result (self.new.sources.items ≡ self.old.sources.items
+            ++ remembered self.old.memo.first self.old.memo.row.items
+            self.old.memo.rest.entries number ∷ []) }
+        ensures places { self.new.places.items ≡ self.old.places.items }
+    {
+        let source = self.memo.get(number);
+        self.sources.push(source)?;
+        Ok(())
+    }
+
+    /// Notes what one more instruction does to the memo.
+    fn follow(&mut self, inst: &Inst<'_>) -> Result<(), AllocError>
+        ensures step { OnOk result (Steps (instruction_of inst.now) self.old self.new) }
+        ensures places { self.new.places.items ≡ self.old.places.items }
+    {
+        match memo_use(inst.op()) {
+            MemoUse::Stores => self.write(number_of(inst)),
+            MemoUse::StoresNext => {
+                let next = self.memo.len();
+                self.write(next)
+            }
+            MemoUse::Fetches => self.read(number_of(inst)),
+            MemoUse::Neither => Ok(()),
+        }
+    }
+}
+
+impl Listener for Trace {
+    type Error = AllocError;
+
+    ghost use Rattle.pkopt.specs.Passes.{Hears};
+    ghost use Rattle.pkopt.specs.Private.Hearing.{hears_none, hears_more};
+
+    ghost hears = { Hears };
+
+    #[inline]
+    fn hear(&mut self, at: u64, inst: &Inst<'_>, _marks: usize) -> Result<(), AllocError> {
+        if is_plain(inst.op()) {
+            return Ok(());
+        }
+        self.places.push(at)?;
+        self.follow(inst)
+    }
+
+    ghost hears_none = { hears_none };
+
+    ghost hears_more = { hears_more };
+}
