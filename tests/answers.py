@@ -18,7 +18,7 @@ class Answer:
     def brief(self):
         """The line that says how it ended, without its numbers."""
         lines = (self.err or self.out).splitlines()
-        said = re.sub(r"\bat \d+", "at P", lines[-1]) if lines else "nothing"
+        said = re.sub(r"\b(at|pickle) \d+", r"\1 N", lines[-1]) if lines else "nothing"
         return f"{said[:60]} (status {self.status})"
 
 
@@ -33,7 +33,8 @@ def is_refusal(row, own, answer, reason):
     if answer.status != 1 or answer.err or answer.result != BEFORE:
         return False
     *before, last = answer.out.splitlines(keepends=True) or [""]
-    place = re.fullmatch(rf"no at (\d+): {reason}\n", last)
+    pickle = r"in pickle \d+ " if "--all" in row.options else ""
+    place = re.fullmatch(rf"no {pickle}at (\d+): {reason}\n", last)
     if not place or int(place[1]) > len(row.pickle):
         return False
     if row.command != "dis":

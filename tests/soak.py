@@ -2,7 +2,7 @@
 """Runs the program on mutated pickles: 100,000 of them, made from a seed.
 
 A pickle goes through two of the five commands, so that each pair of commands takes its turn; with --all through each.
-It fails at a signal, at a status above 1, at want of memory where there is plenty, at a processor time or a peak
+Half the checks have options, in turn: what old strings become, and a row of the pickle and itself. It fails at a signal, at a status above 1, at want of memory where there is plenty, at a processor time or a peak
 memory above the bound, and where commands that rest on the same check don't answer the same. A pickle that fails is
 named by its number and kept in the folder --keep. The last line says how many runs passed.
 """
@@ -26,6 +26,8 @@ PEAK = 256 * 10**6
 CHUNK = 250
 COMMANDS = ("check", "dis", "imports", "optimize", "json")
 PAIRS = [*itertools.combinations(COMMANDS, 2)]
+ROW = ("--all",)
+OPTIONS = [(), (), (), ("--old-strings", "ascii"), ("--old-strings", "bytes"), ROW]
 LIST = """\
 version = 1
 [imports]
@@ -47,11 +49,16 @@ def faults(ran):
         yield f"{ran.peak / 1e6:.0f} MB"
 
 
-def verdict(command, ran):
+def verdict(command, options, ran):
     """What the check under any import said of the pickle, or None where the command's answer doesn't tell."""
+    if command == "check" and "--old-strings" in options:
+        return None
     if ran.status == 0:
         return "yes"
     last = ran.out[ran.out.rfind(b"\n", 0, -1) + 1 :].decode()
+    if command == "check" and options == ROW:
+        of_first = re.fullmatch(r"no in pickle 0 (at .*)\n", last)
+        last = f"no {of_first[1]}" if of_first else "yes"
     if command == "check" and "Import" in last:
         return None
     is_of_export = command == "json" and re.match(r"no: Too|no at \d+: (NotPlain|Key|Number)", last)
@@ -69,9 +76,9 @@ class Bench:
         os.chdir(self.folder.name)
         pathlib.Path("list.toml").write_text(LIST)
 
-    def run(self, command):
+    def run(self, command, options):
         if command == "check":
-            return self.runner.run(["check", "--allow", "list.toml", "pickle"])
+            return self.runner.run(["check", "--allow", "list.toml", *options, "pickle"])
         return self.runner.run([command, "pickle", *["out"] * (command == "optimize")])
 
 
@@ -80,16 +87,17 @@ def soaked(task):
     seed, numbers, is_all = task
     ended, slowest, peak, failed = collections.Counter(), 0.0, 0, []
     for number in numbers:
-        pickle = mutations.mutated(seed, number)
+        options = OPTIONS[number // len(PAIRS) % len(OPTIONS)]
+        pickle = mutations.mutated(seed, number) * (2 if options == ROW else 1)
         with open("pickle", "wb") as file:
             file.write(pickle)
         said = set()
         for command in COMMANDS if is_all else PAIRS[number % len(PAIRS)]:
-            ran = BENCH.run(command)
+            ran = BENCH.run(command, options)
             ended[command, ran.status] += 1
             slowest, peak = max(slowest, ran.seconds), max(peak, ran.peak)
             wrong = [*faults(ran)]
-            said |= {verdict(command, ran)} - {None} if not wrong else set()
+            said |= {verdict(command, options, ran)} - {None} if not wrong else set()
             if len(said) > 1:
                 wrong.append(f"the check said {' and '.join(sorted(said))}")
             if wrong:

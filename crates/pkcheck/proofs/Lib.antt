@@ -9,6 +9,7 @@ pub mod Cells
 pub mod Joining
 pub mod Resolving
 pub mod Noting
+pub mod Copying
 pub mod Topmost
 pub mod Numbered
 pub mod Places

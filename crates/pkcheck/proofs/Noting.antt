@@ -13,7 +13,7 @@ module _ (ts us : List (List ℕ)) (g : Grows ts us) where
   pub longer : length ts ≤ length us
   longer = rw g.is (omega (arith, length-append ts g.more))
 
-  text_grown : (n : ℕ) → n < length ts → get_or us n [] ≡ get_or ts n []
+  pub text_grown : (n : ℕ) → n < length ts → get_or us n [] ≡ get_or ts n []
   text_grown n h = rw g.is (get_or-append ts g.more [] n h)
 
 -- ---- a table that grew

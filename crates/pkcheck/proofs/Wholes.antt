@@ -8,4 +8,5 @@ pub mod Given
 pub mod Payloads
 pub mod Checked
 pub mod Hearing
+pub mod RowOfPickles
 mod AnswerExamples

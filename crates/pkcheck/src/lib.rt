@@ -11,6 +11,7 @@ mod machine;
 mod old_strings;
 mod pairs;
 mod policy;
+mod row_of_pickles;
 
 pub use allow::{Allow, AllowError, Where};
 pub use checking::{No, Yes, check, check_as};
@@ -21,3 +22,4 @@ pub use machine::{Machine, Moved};
 pub use old_strings::OldStrings;
 pub use pairs::Pair;
 pub use policy::Policy;
+pub use row_of_pickles::{NoAll, YesAll, check_all};

@@ -12,8 +12,8 @@ mod stepping;
 pub(crate) mod texts;
 pub(crate) mod value;
 
-ghost use Rattle.std.specs.Prelude.{◌≡◌, option_map, is_some, IfOk, IfErr, IsTrue, OnOk, true};
-ghost use Rattle.std.specs.Prelude.{false};
+ghost use Rattle.std.specs.Prelude.{◌≡◌, ◌++◌, option_map, is_some, IfOk, IfErr, IsTrue};
+ghost use Rattle.std.specs.Prelude.{false, true, OnOk};
 ghost use Rattle.std.specs.List.{slice_get};
 ghost use Rattle.pkcheck.specs.declared.old_strings.OldStrings.TheVariants as OldStrings;
 ghost use Rattle.pkops.specs.Inst.{instruction_of};
@@ -34,12 +34,13 @@ use crate::import::{Asked, Import};
 use crate::imports::Imports;
 use crate::machine::effects::class_passed;
 use crate::machine::held::Held;
+use crate::machine::ledger::Ledger;
 use crate::machine::stepping::advance;
 use crate::old_strings::OldStrings;
 use crate::policy::Policy;
 use pkops::{Inst, Limits, Op};
 use pkread::Reason;
-use std::alloc::Global;
+use std::alloc::{AllocError, Global};
 use std::marker::Model;
 pub use stepping::Moved;
 
@@ -239,6 +240,24 @@ impl Machine {
             ) => Some((module_name.as_str(), name.as_str())),
             _ => None,
         }
+    }
+
+    /// Lists the imports behind others, and goes back to the first instruction, of a further
+    /// pickle. It keeps the memory.
+    pub(crate) fn restart(&mut self, imports: &mut Ledger) -> Result<(), AllocError>
+        ensures fresh { OnOk result (self.new
+            ≡ fresh self.old.old_strings self.old.limits) }
+        ensures imports { OnOk result (imports.new.asked
+            ≡ imports.old.asked ++ self.old.imports) }
+    {
+        let Ok(()) = self.held.list_in(self.alloc, imports) else {
+            return Err(AllocError);
+        };
+        self.held.clear();
+        self.refused = None;
+        self.off = None;
+        self.stopped = false;
+        Ok(())
     }
 
     /// The imports, without the rest of the machine.

@@ -13,17 +13,17 @@ use Rattle.pkjson.specs.declared.arena.Arena.{Arena as Held}
 use Rattle.pkjson.specs.declared.error.ExportError.{ExportError}
 use Rattle.pkjson.specs.declared.error.ExportError.TheVariants.{TooDeep, TooMany, OutOfMemory}
 use Rattle.pkjson.specs.declared.node.Node.{Node}
-use Rattle.pkjson.specs.Acting.{ActsAs}
-use Rattle.pkjson.specs.Arena.{Kept, holds}
+use Rattle.pkjson.specs.Private.Acting.{ActsAs}
+use Rattle.pkjson.specs.Private.Arena.{Kept, holds}
 use Rattle.pkjson.specs.Contents.{contents}
 use Rattle.pkjson.specs.Export.{AcceptedAs, Results, IsValueOf, IsRefused}
-use Rattle.pkjson.specs.Held.{seen}
-use Rattle.pkjson.specs.Nodes.{heap}
+use Rattle.pkjson.specs.Private.Held.{seen}
+use Rattle.pkjson.specs.Private.Nodes.{heap}
 use Rattle.pkjson.specs.Plain.{is_plain}
-use Rattle.pkjson.specs.Replayed.{Replays}
-use Rattle.pkjson.specs.Result.{IsValue, IsTooLarge}
-use Rattle.pkjson.specs.Settled.{AreSettled}
-use Rattle.pkjson.specs.Standing.{StandsAt}
+use Rattle.pkjson.specs.Private.Replayed.{Replays}
+use Rattle.pkjson.specs.Private.Result.{IsValue, IsTooLarge}
+use Rattle.pkjson.specs.Private.Settled.{AreSettled}
+use Rattle.pkjson.specs.Private.Standing.{StandsAt}
 use Rattle.pkjson.proofs.Mirroring.{mirrors_contents}
 use Rattle.pkjson.proofs.Running.{stops_here}
 use Rattle.pkjson.proofs.Settling.{settled_heap, all_given_below}

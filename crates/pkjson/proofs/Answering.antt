@@ -5,8 +5,8 @@ use Rattle.std.proofs.lemmas.List.{length-replicate, get_or-replicate}
 use Rattle.serde_json.specs.Data.{Data, depth}
 use Rattle.pkjson.specs.declared.judge.Weight.{Weight}
 use Rattle.pkjson.specs.Unfolds.{Heap, Unfolds, count}
-use Rattle.pkjson.specs.Weighs.{Weighs, IsDeeper, IsTrusted}
-use Rattle.pkjson.specs.Fits.{Fits}
+use Rattle.pkjson.specs.Private.Weighs.{Weighs, IsDeeper, IsTrusted}
+use Rattle.pkjson.specs.Private.Fits.{Fits}
 use Rattle.pkjson.proofs.Unfolding.{unique}
 
 none_some : {A : Type 0} (w : Weight) → None ≡ Some w → A

@@ -11,8 +11,8 @@ use Rattle.serde_json.specs.declared.value.Value.TheVariants as value
 use Rattle.pkjson.specs.declared.node.Node.{Node}
 use Rattle.pkjson.specs.Unfolds.{Sequence, Pairs, Heap, Unfolds, UnfoldItems, UnfoldMembers}
 use Rattle.std.specs.Borrow.{Bor}
-use Rattle.pkjson.specs.Nodes.{named, AllAbove, Ascending, AreOrdered, IsOrdered}
-use Rattle.pkjson.specs.Fits.{Fits, ItemsFit, MembersFit}
+use Rattle.pkjson.specs.Private.Nodes.{named, AllAbove, Ascending, AreOrdered, IsOrdered}
+use Rattle.pkjson.specs.Private.Fits.{Fits, ItemsFit, MembersFit}
 use Rattle.pkjson.proofs.Unfolding.{as_sequence, as_pairs}
 use Rattle.pkjson.proofs.Weighing.{snoc, snoc_member, unfold_snoc, member_snoc, at_seam, member_seam}
 use Rattle.pkjson.proofs.Holding.{seam, named_seam, take_more, named_more}

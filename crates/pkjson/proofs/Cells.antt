@@ -7,7 +7,7 @@ use Rattle.std.specs.Map.{lookup}
 use Rattle.std.specs.BTreeMap.{insert_entry, is_at}
 use Rattle.std.proofs.Math.ListN.{set}
 use Rattle.pkcheck.specs.Shape.{recalled, stored}
-use Rattle.pkjson.specs.Cells.{numbered}
+use Rattle.pkjson.specs.Private.Cells.{numbered}
 
 equal_cmp : (n k : ℕ) → n ≡ k → nat_cmp n k ≡ Equal
 equal_cmp n k e = sym (nat_cmp_is n k Equal e)

@@ -7,8 +7,8 @@ use Rattle.pkcheck.specs.Shape.{Breach, Entry, Shape, NoMark, NoItem, Taken, and
 use Rattle.pkjson.specs.declared.objects.Object.{Object}
 use Rattle.pkjson.specs.declared.slots.Slot.{Slot}
 use Rattle.pkjson.specs.declared.slots.Slot.TheVariants as slot
-use Rattle.pkjson.specs.Arena.{update, more_given}
-use Rattle.pkjson.specs.Seen.{kept_of, kept_all, entry_of, shown, numbers_of, taken_at}
+use Rattle.pkjson.specs.Private.Arena.{update, more_given}
+use Rattle.pkjson.specs.Private.Seen.{kept_of, kept_all, entry_of, shown, numbers_of, taken_at}
 use Rattle.pkjson.proofs.Holding.{take_more}
 
 pub shown_append : (xs ys : List Slot) (below : List (Entry ℕ)) → shown (xs ++ ys) below ≡ shown ys (shown xs below)

@@ -10,7 +10,7 @@ use Rattle.pkcheck.specs.WholeRuns.{Ended, EndedBy}
 use Rattle.pkjson.specs.Contents.{contents}
 use Rattle.pkjson.specs.Plain.{OtherKey, LargeNumber, OtherOpcode, plain_run, first_fault}
 use Rattle.pkjson.specs.Unfolds.{Unfolds}
-use Rattle.pkjson.specs.Weighs.{IsDeeper}
+use Rattle.pkjson.specs.Private.Weighs.{IsDeeper}
 use Rattle.pkjson.proofs.Weighing.{self_deeper}
 
 abbrev events_of : Ended → List Event

@@ -13,14 +13,14 @@ use Rattle.pkcheck.specs.Shape.{Entry, top}
 use Rattle.pkjson.specs.declared.action.Action.{Action}
 use Rattle.pkjson.specs.declared.action.Action.TheVariants.{Stops}
 use Rattle.pkjson.specs.declared.arena.Arena.{Arena as Held}
-use Rattle.pkjson.specs.Acting.{acted, fault_acted, ActsAs, KindsAgree, IsLacking}
+use Rattle.pkjson.specs.Private.Acting.{acted, fault_acted, ActsAs, KindsAgree, IsLacking}
 use Rattle.pkjson.specs.Contents.{kind_of}
 use Rattle.pkjson.specs.Export.{AcceptedAs, IsAccepted, FaultsAt}
-use Rattle.pkjson.specs.Held.{seen}
-use Rattle.pkjson.specs.Mirrors.{EntriesBelow}
+use Rattle.pkjson.specs.Private.Held.{seen}
+use Rattle.pkjson.specs.Private.Mirrors.{EntriesBelow}
 use Rattle.pkjson.specs.Plain.{Fault, OtherOpcode, is_plain}
-use Rattle.pkjson.specs.Replayed.{Replays}
-use Rattle.pkjson.specs.Standing.{IsFront, Stands, StandsAt}
+use Rattle.pkjson.specs.Private.Replayed.{Replays}
+use Rattle.pkjson.specs.Private.Standing.{IsFront, Stands, StandsAt}
 use Rattle.pkjson.proofs.Answered.{replays}
 use Rattle.pkjson.proofs.Replaying.{rest_is}
 use Rattle.pkjson.proofs.Running.{stands_at, other_opcode, faulty, lacks_nothing, stands_behind, stops_here}

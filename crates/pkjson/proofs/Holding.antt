@@ -10,8 +10,8 @@ use Rattle.std.proofs.Math.ListN.{set, length-set}
 use Rattle.pkjson.specs.declared.node.Node.{Node}
 use Rattle.pkjson.specs.declared.judge.Weight.{Weight}
 use Rattle.pkjson.specs.Unfolds.{Heap}
-use Rattle.pkjson.specs.Nodes.{heap, content, IsBelow, IsClosed, named}
-use Rattle.pkjson.specs.Weighs.{Weighs, IsTrusted}
+use Rattle.pkjson.specs.Private.Nodes.{heap, content, IsBelow, IsClosed, named}
+use Rattle.pkjson.specs.Private.Weighs.{Weighs, IsTrusted}
 
 pub held : (ns : List Node) (x : ℕ) (n m : Node) → x < length ns → n ≡ get_or ns x n → n ≡ m → heap ns x ≡ Some (content m)
 held ns x n m h e f = ap (option_map content) (slice_get_read ns (length ns) x n refl h e ∙ ap Some f)

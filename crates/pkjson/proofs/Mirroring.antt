@@ -5,8 +5,8 @@ use Rattle.pkops.specs.Spelling.{Instruction}
 use Rattle.pkcheck.specs.Runs.{Event, Import, Did}
 use Rattle.pkjson.specs.Contents.{Kind, same, kind_of, kinds, maker, given_to, all_given, held_by, contents, paired, standing, characters, OfItems, OfPairs, OfValue}
 use Rattle.pkjson.specs.Unfolds.{Pairs}
-use Rattle.pkjson.specs.Arena.{Kept, kind_at, given_at, holds, more_given, update}
-use Rattle.pkjson.specs.Mirrors.{Mirrors}
+use Rattle.pkjson.specs.Private.Arena.{Kept, kind_at, given_at, holds, more_given, update}
+use Rattle.pkjson.specs.Private.Mirrors.{Mirrors}
 
 abbrev first : {A : Type 0} → Option A → Option A → Option A
 first (Some x) o = Some x

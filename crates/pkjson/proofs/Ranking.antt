@@ -12,10 +12,10 @@ use Rattle.std.proofs.lemmas.Cmp.{nat_cmp_total, nat_list_cmp_total}
 use Rattle.std.proofs.lemmas.List.Elements.{All-append, All-cons, All-get_or, All-head, All-nil, All-tail}
 use Rattle.std.proofs.lemmas.Map.Text.{is_eq-slice_cmp}
 use Rattle.std.proofs.lemmas.Slice.Eq.{bytes_eq-Decides}
-use Rattle.pkjson.specs.Arena.{Kept, kind_at}
+use Rattle.pkjson.specs.Private.Arena.{Kept, kind_at}
 use Rattle.pkjson.specs.Contents.{characters, paired, standing}
-use Rattle.pkjson.specs.Nodes.{named, AllAbove, Ascending}
-use Rattle.pkjson.specs.Ranks.{text_in, StandsIn, ArePlaces, AreMembers}
+use Rattle.pkjson.specs.Private.Nodes.{named, AllAbove, Ascending}
+use Rattle.pkjson.specs.Private.Ranks.{text_in, StandsIn, ArePlaces, AreMembers}
 use Rattle.pkjson.proofs.Holding.{Member}
 use Rattle.pkjson.proofs.Settling.{two_more, none_left}
 

@@ -23,11 +23,11 @@ use Rattle.pkcheck.specs.WholeRuns.{EndsWell, run}
 use Rattle.pkcheck.specs.Listing.{permitted_by}
 use Rattle.pkcheck.specs.Accepted.{Accepted}
 use Rattle.pkjson.specs.Plain.{goes_on}
-use Rattle.pkjson.specs.Arena.{no_object}
-use Rattle.pkjson.specs.Mirrors.{MirrorsState}
+use Rattle.pkjson.specs.Private.Arena.{no_object}
+use Rattle.pkjson.specs.Private.Mirrors.{MirrorsState}
 use Rattle.pkjson.specs.Export.{AcceptedAs, IsAccepted, IsRefused, in_memory}
-use Rattle.pkjson.specs.Result.{TellsRefusal}
-use Rattle.pkjson.specs.Standing.{HasStop, Stands}
+use Rattle.pkjson.specs.Private.Result.{TellsRefusal}
+use Rattle.pkjson.specs.Private.Standing.{HasStop, Stands}
 use Rattle.pkjson.proofs.Running.{run_is}
 
 has_stop : (front : List Instruction) (last : Instruction) → last.op ≡ op.Stop → HasStop (front ++ last ∷ [])

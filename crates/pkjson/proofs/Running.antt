@@ -22,10 +22,10 @@ use Rattle.pkjson.specs.declared.action.Made.TheVariants as made
 use Rattle.pkjson.specs.declared.action.Filled.TheVariants as filled
 use Rattle.pkjson.specs.Contents.{gives_of, kind_of}
 use Rattle.pkjson.specs.Plain.{Fault, OtherKey, LargeNumber, OtherOpcode, is_plain, goes_on, plain_run, first_fault, fault_of, fault_here, fault_after, keys_by, are_texts, number_fits, is_text, every_other, rest_of, taken}
-use Rattle.pkjson.specs.Arena.{Kept, Arena, kind_at, is_text_kind, are_text_kinds}
-use Rattle.pkjson.specs.Acting.{acted, keys_acted, number_acted, fault_acted, ActsAs, KindsAgree}
-use Rattle.pkjson.specs.Mirrors.{MirrorsState}
-use Rattle.pkjson.specs.Standing.{HasStop, Stands, StandsAt}
+use Rattle.pkjson.specs.Private.Arena.{Kept, Arena, kind_at, is_text_kind, are_text_kinds}
+use Rattle.pkjson.specs.Private.Acting.{acted, keys_acted, number_acted, fault_acted, ActsAs, KindsAgree}
+use Rattle.pkjson.specs.Private.Mirrors.{MirrorsState}
+use Rattle.pkjson.specs.Private.Standing.{HasStop, Stands, StandsAt}
 use Rattle.pkjson.proofs.Taking.{found_of, above_of, above_rest, err_ok, ok_same}
 use Rattle.pkjson.proofs.Stepping.{IsNotStuck, mirrors_step, stops_at}
 

@@ -12,12 +12,12 @@ use Rattle.std.proofs.lemmas.Cmp.{nat_list_cmp_total}
 use Rattle.std.proofs.lemmas.List.Elements.{All-nil, All-cons, All-head, All-tail}
 use Rattle.pkjson.specs.declared.node.Node.{Node}
 use Rattle.pkjson.specs.Contents.{Kind, paired, characters, held_by}
-use Rattle.pkjson.specs.Arena.{Kept, kind_at, given_in, holds}
-use Rattle.pkjson.specs.Mirrors.{AreBelow, GivenBelow}
-use Rattle.pkjson.specs.Nodes.{named, content, heap, IsBelow, IsClosed, AllAbove, Ascending, IsOrdered, AreOrdered}
-use Rattle.pkjson.specs.Settled.{AreGivenBelow, Settles, AreSettled}
+use Rattle.pkjson.specs.Private.Arena.{Kept, kind_at, given_in, holds}
+use Rattle.pkjson.specs.Private.Mirrors.{AreBelow, GivenBelow}
+use Rattle.pkjson.specs.Private.Nodes.{named, content, heap, IsBelow, IsClosed, AllAbove, Ascending, IsOrdered, AreOrdered}
+use Rattle.pkjson.specs.Private.Settled.{AreGivenBelow, Settles, AreSettled}
 use Rattle.pkjson.specs.declared.objects.Object.{Object}
-use Rattle.pkjson.specs.Seen.{kept_of, kept_all}
+use Rattle.pkjson.specs.Private.Seen.{kept_of, kept_all}
 use Rattle.pkjson.proofs.Entries.{kept_append}
 use Rattle.pkjson.proofs.Holding.{Member, take_more}
 

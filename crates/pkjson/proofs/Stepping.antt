@@ -21,9 +21,9 @@ use Rattle.pkjson.specs.declared.action.Filled.{Filled}
 use Rattle.pkjson.specs.declared.action.Filled.TheVariants as filled
 use Rattle.pkjson.specs.Contents.{Kind, OfItems, OfPairs, OfValue, kind_of}
 use Rattle.pkjson.specs.Plain.{goes_on, is_text}
-use Rattle.pkjson.specs.Arena.{Kept, Arena, kind_at, update, more_given, is_text_kind}
-use Rattle.pkjson.specs.Acting.{found, found_above, made_of, filled_of, kind_made, move_of, acted, MakesSame, FillsSame, ActsAs, KindsAgree}
-use Rattle.pkjson.specs.Mirrors.{Mirrors, AreBelow, EntriesBelow, CellsBelow, IsHeld, GivenBelow, MirrorsState}
+use Rattle.pkjson.specs.Private.Arena.{Kept, Arena, kind_at, update, more_given, is_text_kind}
+use Rattle.pkjson.specs.Private.Acting.{found, found_above, made_of, filled_of, kind_made, move_of, acted, MakesSame, FillsSame, ActsAs, KindsAgree}
+use Rattle.pkjson.specs.Private.Mirrors.{Mirrors, AreBelow, EntriesBelow, CellsBelow, IsHeld, GivenBelow, MirrorsState}
 use Rattle.pkjson.proofs.Mirroring.{mirrors_made, mirrors_received}
 use Rattle.pkjson.proofs.Taking.{found_of, above_of, found_below, above_below, above_first, moved_below, TakenBelow}
 

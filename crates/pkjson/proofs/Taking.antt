@@ -10,9 +10,9 @@ use Rattle.pkjson.specs.declared.action.Move.{Move}
 use Rattle.pkjson.specs.declared.action.Move.TheVariants as move
 use Rattle.pkjson.specs.declared.action.Takes.{Takes}
 use Rattle.pkjson.specs.declared.action.Takes.TheVariants.{Objects, Slice}
-use Rattle.pkjson.specs.Acting.{found, found_above, move_of, TakesSame, TakesAbove}
+use Rattle.pkjson.specs.Private.Acting.{found, found_above, move_of, TakesSame, TakesAbove}
 use Rattle.pkjson.specs.Plain.{rest_of}
-use Rattle.pkjson.specs.Mirrors.{AreBelow, EntriesBelow, CellsBelow, IsHeld}
+use Rattle.pkjson.specs.Private.Mirrors.{AreBelow, EntriesBelow, CellsBelow, IsHeld}
 
 pub err_ok : {A C : Type 0} (b : Breach) (v : A) → Err b ≡ Ok v → C
 err_ok b v e = cc

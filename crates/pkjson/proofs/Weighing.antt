@@ -4,7 +4,7 @@ use Rattle.std.specs.Prelude.{max, min, slice_get}
 use Rattle.serde_json.specs.Data.{Data, array, object, depth, Items, no_items, item, items_depth, Members, no_members, member, members_depth}
 use Rattle.pkjson.specs.declared.judge.Weight.{Weight}
 use Rattle.pkjson.specs.Unfolds.{Scalar, Sequence, Pairs, Heap, Unfolds, UnfoldItems, UnfoldMembers, count, items_count, members_count}
-use Rattle.pkjson.specs.Weighs.{Weighs, IsDeeper, ItemsWeigh, AreDeeper, MembersWeigh, MembersDeeper, IsTrusted}
+use Rattle.pkjson.specs.Private.Weighs.{Weighs, IsDeeper, ItemsWeigh, AreDeeper, MembersWeigh, MembersDeeper, IsTrusted}
 use Rattle.pkjson.proofs.Unfolding.{as_sequence, as_pairs, unique}
 
 unfoldable pub snoc : Items → Data → Items

@@ -2,7 +2,7 @@
 use Rattle.std.proofs.Common.{◌≡◌, ◌≢◌, ℕ, zero, suc, ◌+◌, ◌-◌, ◌*◌, ◌^◌, ◌<◌, ◌≤◌, inl, inr, Bool, true, false, cond, List, [], ◌∷◌, length, drop, get_or, refl, sym, ap, ◌∙◌, subst, arith, drop-cons}
 use Rattle.std.specs.Prelude.{ltb, nat_eq, nat_le}
 use Rattle.std.proofs.lemmas.Bool.{ne_eqb, le-ltb}
-use Rattle.pkjson.specs.Capped.{IsCapped}
+use Rattle.pkjson.specs.Private.Capped.{IsCapped}
 use Rattle.pkjson.specs.Integers.{decimal_after, natural, has_sign}
 
 cond_least : (b : Bool) (n m : ℕ) → n ≤ m → n ≤ cond b n m

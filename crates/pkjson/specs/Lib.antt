@@ -6,21 +6,5 @@ pub mod Contents
 pub mod Plain
 pub mod Export
 pub mod Laws
--- the parts, as private functions cite them
-pub mod Arena
-pub mod Acting
-pub mod Mirrors
-pub mod Standing
-pub mod Kinds
-pub mod Cells
-pub mod Seen
-pub mod Held
-pub mod Halts
-pub mod Capped
-pub mod Nodes
-pub mod Ranks
-pub mod Weighs
-pub mod Fits
-pub mod Settled
-pub mod Replayed
-pub mod Result
+-- what nobody has to believe
+pub mod Private

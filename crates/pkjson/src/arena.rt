@@ -4,14 +4,15 @@ ghost use Rattle.std.specs.Prelude.{◌≡◌, [], length, drop, true, IfOk, IfE
 ghost use Rattle.std.specs.Prelude.{Ok, None};
 ghost use Rattle.pkops.specs.Inst.{instruction_of};
 ghost use Rattle.pkcheck.specs.Shape.{and_then, top};
-ghost use Rattle.pkjson.specs.Arena.{no_object, are_text_kinds};
-ghost use Rattle.pkjson.specs.Acting.{found, found_above, made_of, filled_of, acted, keys_acted};
-ghost use Rattle.pkjson.specs.Acting.{fault_acted, IsLacking};
-ghost use Rattle.pkjson.specs.Halts.{IsWant, IsHalted};
+ghost use Rattle.pkjson.specs.Private.Arena.{no_object, are_text_kinds};
+ghost use Rattle.pkjson.specs.Private.Acting.{found, found_above, made_of, filled_of, acted};
+ghost use Rattle.pkjson.specs.Private.Acting.{keys_acted};
+ghost use Rattle.pkjson.specs.Private.Acting.{fault_acted, IsLacking};
+ghost use Rattle.pkjson.specs.Private.Halts.{IsWant, IsHalted};
 ghost use Rattle.pkjson.specs.Plain.{every_other, taken};
-ghost use Rattle.pkjson.specs.Kinds.{kind_seen};
-ghost use Rattle.pkjson.specs.Mirrors.{EntriesBelow};
-ghost use Rattle.pkjson.specs.Held.{seen};
+ghost use Rattle.pkjson.specs.Private.Kinds.{kind_seen};
+ghost use Rattle.pkjson.specs.Private.Mirrors.{EntriesBelow};
+ghost use Rattle.pkjson.specs.Private.Held.{seen};
 
 use crate::action::{Action, Filled, Made, Takes};
 use crate::halt::Halt;

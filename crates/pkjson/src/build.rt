@@ -3,8 +3,8 @@
 ghost use Rattle.std.specs.Prelude.{◌<◌, length, All, IfOk};
 ghost use Rattle.serde_json.specs.View.{view, items_view, members_view};
 ghost use Rattle.pkjson.specs.Unfolds.{Unfolds, UnfoldItems, UnfoldMembers};
-ghost use Rattle.pkjson.specs.Nodes.{heap, named, IsClosed, Ascending, AreOrdered};
-ghost use Rattle.pkjson.specs.Fits.{Fits, ItemsFit, MembersFit};
+ghost use Rattle.pkjson.specs.Private.Nodes.{heap, named, IsClosed, Ascending, AreOrdered};
+ghost use Rattle.pkjson.specs.Private.Fits.{Fits, ItemsFit, MembersFit};
 
 use crate::node::Node;
 use serde_json::{Map, Value};

@@ -4,11 +4,11 @@ ghost use Rattle.std.specs.Prelude.{◌≡◌, ◌<◌, ◌≤◌, length, repli
 ghost use Rattle.serde_json.specs.View.{view};
 ghost use Rattle.pkread.specs.Rows.{sight};
 ghost use Rattle.pkjson.specs.Export.{IsValueOf, IsRefused, IsAccepted};
-ghost use Rattle.pkjson.specs.Arena.{holds};
-ghost use Rattle.pkjson.specs.Held.{seen};
-ghost use Rattle.pkjson.specs.Settled.{AreGivenBelow};
-ghost use Rattle.pkjson.specs.Nodes.{heap, IsClosed, AreOrdered};
-ghost use Rattle.pkjson.specs.Result.{IsValue, IsTooLarge, TellsRefusal};
+ghost use Rattle.pkjson.specs.Private.Arena.{holds};
+ghost use Rattle.pkjson.specs.Private.Held.{seen};
+ghost use Rattle.pkjson.specs.Private.Settled.{AreGivenBelow};
+ghost use Rattle.pkjson.specs.Private.Nodes.{heap, IsClosed, AreOrdered};
+ghost use Rattle.pkjson.specs.Private.Result.{IsValue, IsTooLarge, TellsRefusal};
 
 use crate::arena::Arena;
 use crate::build::build;

@@ -3,7 +3,7 @@
 ghost use Rattle.std.specs.Prelude.{◌≡◌, ◌<◌, ◌≤◌, ◌^◌, ◌-◌, cond, ltb, nat_eq, pos, negsuc, neg_ℤ};
 ghost use Rattle.std.specs.Prelude.{Some, None};
 ghost use Rattle.pkops.specs.Spelling.{shown_arg};
-ghost use Rattle.pkjson.specs.Capped.{IsCapped};
+ghost use Rattle.pkjson.specs.Private.Capped.{IsCapped};
 ghost use Rattle.pkjson.specs.Integers.{decimal_after, line_integer, has_sign, natural};
 ghost use Rattle.pkjson.specs.Integers.{twos_complement, integer_named, word_of};
 

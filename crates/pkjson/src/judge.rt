@@ -2,9 +2,10 @@
 
 ghost use Rattle.std.specs.Prelude.{◌≡◌, ◌<◌, ◌≤◌, ◌+◌, ◌^◌, min, max, length, All, MatchOption};
 ghost use Rattle.std.specs.Prelude.{IfSome};
-ghost use Rattle.pkjson.specs.Nodes.{heap, named, IsClosed};
-ghost use Rattle.pkjson.specs.Weighs.{Weighs, IsDeeper, ItemsWeigh, AreDeeper, MembersWeigh};
-ghost use Rattle.pkjson.specs.Weighs.{MembersDeeper, IsTrusted, IsBounded, HaveRoom};
+ghost use Rattle.pkjson.specs.Private.Nodes.{heap, named, IsClosed};
+ghost use Rattle.pkjson.specs.Private.Weighs.{Weighs, IsDeeper, ItemsWeigh, AreDeeper};
+ghost use Rattle.pkjson.specs.Private.Weighs.{MembersWeigh};
+ghost use Rattle.pkjson.specs.Private.Weighs.{MembersDeeper, IsTrusted, IsBounded, HaveRoom};
 
 use crate::node::Node;
 

@@ -4,9 +4,9 @@ ghost use Rattle.std.specs.Prelude.{◌≡◌, IfOk, IfErr, true, false};
 ghost use Rattle.pkops.specs.Inst.{instruction_of};
 ghost use Rattle.pkops.specs.Spelling.{shown_arg};
 ghost use Rattle.pkjson.specs.Contents.{says_true};
-ghost use Rattle.pkjson.specs.Acting.{kind_made, number_made};
-ghost use Rattle.pkjson.specs.Halts.{IsNoKind};
-ghost use Rattle.pkjson.specs.Kinds.{kind_seen};
+ghost use Rattle.pkjson.specs.Private.Acting.{kind_made, number_made};
+ghost use Rattle.pkjson.specs.Private.Halts.{IsNoKind};
+ghost use Rattle.pkjson.specs.Private.Kinds.{kind_seen};
 
 use crate::action::Made;
 use crate::halt::Halt;

@@ -19,7 +19,7 @@ pub struct Memo {
 
 impl Model for Memo {
     ghost use Rattle.std.specs.Prelude.{ℕ, List, ◌++◌};
-    ghost use Rattle.pkjson.specs.Cells.{numbered};
+    ghost use Rattle.pkjson.specs.Private.Cells.{numbered};
 
     ghost Value = { List (ℕ × ℕ) };
 

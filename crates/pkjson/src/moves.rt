@@ -2,9 +2,9 @@
 
 ghost use Rattle.std.specs.Prelude.{◌≡◌, [], ◌∷◌, IfErr, OnOk, Ok};
 ghost use Rattle.pkcheck.specs.Shape.{moved};
-ghost use Rattle.pkjson.specs.Acting.{move_of};
-ghost use Rattle.pkjson.specs.Halts.{IsWant};
-ghost use Rattle.pkjson.specs.Seen.{entry_of, shown, shape_seen};
+ghost use Rattle.pkjson.specs.Private.Acting.{move_of};
+ghost use Rattle.pkjson.specs.Private.Halts.{IsWant};
+ghost use Rattle.pkjson.specs.Private.Seen.{entry_of, shown, shape_seen};
 
 use crate::action::Move;
 use crate::halt::Halt;

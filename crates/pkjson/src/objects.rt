@@ -2,9 +2,9 @@
 
 ghost use Rattle.std.specs.Prelude.{◌≡◌, ◌≤◌, ◌<◌, ◌+◌, [], ◌∷◌, ◌++◌, length, take, drop, OnOk};
 ghost use Rattle.pkcheck.specs.Shape.{Item};
-ghost use Rattle.pkjson.specs.Arena.{received, more_given};
-ghost use Rattle.pkjson.specs.Kinds.{kind_seen};
-ghost use Rattle.pkjson.specs.Seen.{kept_of, kept_all, shown, numbers_of};
+ghost use Rattle.pkjson.specs.Private.Arena.{received, more_given};
+ghost use Rattle.pkjson.specs.Private.Kinds.{kind_seen};
+ghost use Rattle.pkjson.specs.Private.Seen.{kept_of, kept_all, shown, numbers_of};
 
 use crate::kinds::Kind;
 use crate::slots::{Slot, add_numbers, numbers};

@@ -2,10 +2,10 @@
 
 ghost use Rattle.std.specs.Prelude.{◌≡◌, ◌<◌, length, All, IfOk, IfSome};
 ghost use Rattle.std.specs.Map.{values_of};
-ghost use Rattle.pkjson.specs.Arena.{kind_at};
+ghost use Rattle.pkjson.specs.Private.Arena.{kind_at};
 ghost use Rattle.pkjson.specs.Contents.{characters};
-ghost use Rattle.pkjson.specs.Ranks.{AreMembers, ArePlaces, AreRanks, StandsIn};
-ghost use Rattle.pkjson.specs.Seen.{kept_all};
+ghost use Rattle.pkjson.specs.Private.Ranks.{AreMembers, ArePlaces, AreRanks, StandsIn};
+ghost use Rattle.pkjson.specs.Private.Seen.{kept_all};
 
 use crate::kinds::Kind;
 use crate::objects::Object;

@@ -2,8 +2,8 @@
 
 ghost use Rattle.std.specs.Prelude.{IfOk, IfErr};
 ghost use Rattle.pkjson.specs.Export.{IsAccepted, IsRefused};
-ghost use Rattle.pkjson.specs.Standing.{IsFront};
-ghost use Rattle.pkjson.specs.Replayed.{Replays};
+ghost use Rattle.pkjson.specs.Private.Standing.{IsFront};
+ghost use Rattle.pkjson.specs.Private.Replayed.{Replays};
 
 use crate::action::{Action, action_of};
 use crate::arena::Arena;

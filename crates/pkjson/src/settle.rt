@@ -1,9 +1,9 @@
 //! Each object as it stands at the end.
 
 ghost use Rattle.std.specs.Prelude.{◌≡◌, ◌<◌, length, All, IfOk};
-ghost use Rattle.pkjson.specs.Ranks.{AreRanks};
-ghost use Rattle.pkjson.specs.Seen.{kept_all, kept_of};
-ghost use Rattle.pkjson.specs.Settled.{AreGivenBelow, Settles, AreSettled};
+ghost use Rattle.pkjson.specs.Private.Ranks.{AreRanks};
+ghost use Rattle.pkjson.specs.Private.Seen.{kept_all, kept_of};
+ghost use Rattle.pkjson.specs.Private.Settled.{AreGivenBelow, Settles, AreSettled};
 
 use crate::kinds::Kind;
 use crate::node::Node;

@@ -3,8 +3,8 @@
 ghost use Rattle.std.specs.Prelude.{◌≡◌, [], ◌∷◌, ◌++◌, ◌<◌, ◌≤◌, length, take, drop, IfOk};
 ghost use Rattle.std.specs.Prelude.{MatchOption, Ok, OnOk};
 ghost use Rattle.pkcheck.specs.Shape.{items, slice, top};
-ghost use Rattle.pkjson.specs.Acting.{found, found_above, IsLacking};
-ghost use Rattle.pkjson.specs.Seen.{numbers_of, shown, FindsPlace, FindsObject};
+ghost use Rattle.pkjson.specs.Private.Acting.{found, found_above, IsLacking};
+ghost use Rattle.pkjson.specs.Private.Seen.{numbers_of, shown, FindsPlace, FindsObject};
 
 use crate::action::Takes;
 use std::alloc::{AllocError, Global};

@@ -1,10 +1,10 @@
 //! The members of a dict that stand, by the texts of their keys.
 
 ghost use Rattle.std.specs.Prelude.{◌≡◌, ◌<◌, [], length, All, IfOk};
-ghost use Rattle.pkjson.specs.Arena.{kind_at};
+ghost use Rattle.pkjson.specs.Private.Arena.{kind_at};
 ghost use Rattle.pkjson.specs.Contents.{characters, paired, standing};
-ghost use Rattle.pkjson.specs.Nodes.{named, Ascending};
-ghost use Rattle.pkjson.specs.Seen.{kept_all};
+ghost use Rattle.pkjson.specs.Private.Nodes.{named, Ascending};
+ghost use Rattle.pkjson.specs.Private.Seen.{kept_all};
 
 use crate::kinds::Kind;
 use crate::objects::Object;

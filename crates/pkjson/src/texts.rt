@@ -1,9 +1,9 @@
 //! Which objects are texts.
 
 ghost use Rattle.std.specs.Prelude.{◌≡◌, true};
-ghost use Rattle.pkjson.specs.Arena.{kind_at, is_text_kind, are_text_kinds};
+ghost use Rattle.pkjson.specs.Private.Arena.{kind_at, is_text_kind, are_text_kinds};
 ghost use Rattle.pkjson.specs.Plain.{every_other};
-ghost use Rattle.pkjson.specs.Seen.{kept_all, numbers_of};
+ghost use Rattle.pkjson.specs.Private.Seen.{kept_all, numbers_of};
 
 use crate::kinds::Kind;
 use crate::objects::Object;

@@ -19,7 +19,7 @@ use Rattle.pkcheck.specs.declared.machine.effects.Effect.{Effect}
 use Rattle.pkcheck.specs.declared.machine.effects.Effect.TheVariants.{Moves}
 use Rattle.pkcheck.specs.declared.machine.effects.Move.TheVariants.{Stores, StoresNext, Fetches}
 use Rattle.pkcheck.specs.Effects.{effect_of}
-use Rattle.pkopt.specs.Fronts.{EndsInStop}
+use Rattle.pkopt.specs.Private.Fronts.{EndsInStop}
 use Rattle.pkopt.specs.Slim.{form_of, argument_for, is_frame, read_left, left_of, slim_from, slim}
 use Rattle.pkopt.specs.Writers.{Writes, last_write, wrote, after, sources, is_read, new_number, after_all}
 use Rattle.pkopt.proofs.Fating.{last_write_lt}

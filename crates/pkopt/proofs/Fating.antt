@@ -16,8 +16,8 @@ use Rattle.pkopt.specs.declared.fate.Fate.{Fate}
 use Rattle.pkopt.specs.declared.fate.Fate.TheVariants.{Goes, Stays, Gets, IsPast}
 use Rattle.pkopt.specs.declared.memo.MemoUse.{MemoUse}
 use Rattle.pkopt.specs.declared.memo.MemoUse.TheVariants.{Stores, StoresNext, Fetches, Neither}
-use Rattle.pkopt.specs.Fates.{stored_fate, next_fate, fetched_fate, kept_fate, passed_fate, fate_by, Emits, writes_after, reads_after}
-use Rattle.pkopt.specs.Passes.{AreNumbers, memo_use}
+use Rattle.pkopt.specs.Private.Fates.{stored_fate, next_fate, fetched_fate, kept_fate, passed_fate, fate_by, Emits, writes_after, reads_after}
+use Rattle.pkopt.specs.Private.Passes.{AreNumbers, memo_use}
 use Rattle.pkopt.specs.Slim.{renumbered, is_frame, read_left, left_of}
 use Rattle.pkopt.specs.Writers.{Writes, last_write, wrote, after, read_by, sources, is_this, is_read, new_number, after_all}
 use Rattle.pkopt.proofs.Following.{effect_stores, effect_next, effect_fetches}

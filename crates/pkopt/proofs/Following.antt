@@ -11,8 +11,8 @@ use Rattle.pkcheck.specs.Effects.{effect_of}
 use Rattle.pkopt.specs.declared.memo.MemoUse.TheVariants.{Stores, StoresNext, Fetches}
 use Rattle.pkopt.specs.declared.memo.Memo.{Memo}
 use Rattle.pkopt.specs.declared.trace.Trace.{Trace}
-use Rattle.pkopt.specs.Memories.{Holds, Notes, remembered}
-use Rattle.pkopt.specs.Passes.{Follows, Steps, memo_use}
+use Rattle.pkopt.specs.Private.Memories.{Holds, Notes, remembered}
+use Rattle.pkopt.specs.Private.Passes.{Follows, Steps, memo_use}
 use Rattle.pkopt.specs.Writers.{Writes, last_write, wrote, after, read_by}
 
 pub effect_stores : (o : Op) → memo_use o ≡ Stores → effect_of o ≡ Moves move.Stores

@@ -7,8 +7,8 @@ use Rattle.pkread.specs.Sequence.{spellings}
 use Rattle.pkcheck.specs.Effects.{effect_of}
 use Rattle.pkcheck.specs.Heard.{Heard, heard, AreHeardBehind}
 use Rattle.pkopt.specs.declared.trace.Trace.{Trace}
-use Rattle.pkopt.specs.Passes.{Begins, Follows, Hears, Steps, Tracks}
-use Rattle.pkopt.specs.Places.{is_plain, places_from, places_told, told}
+use Rattle.pkopt.specs.Private.Passes.{Begins, Follows, Hears, Steps, Tracks}
+use Rattle.pkopt.specs.Private.Places.{is_plain, places_from, places_told, told}
 use Rattle.pkopt.specs.Writers.{Writes, read_by, sources, after_all}
 use Rattle.pkopt.proofs.Remembering.{none_remembered}
 use Rattle.pkopt.proofs.Plain.{plain_is}

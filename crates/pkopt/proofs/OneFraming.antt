@@ -20,8 +20,8 @@ use Rattle.pkcheck.specs.declared.machine.effects.Move.TheVariants.{Stores, Stor
 use Rattle.pkcheck.specs.Effects.{effect_of}
 use Rattle.pkcheck.specs.Runs.{State, Outcome, start}
 use Rattle.pkcheck.specs.WholeRuns.{run}
-use Rattle.pkopt.specs.Fronts.{EndsInStop}
-use Rattle.pkopt.specs.FrameBytes.{head_length, framed_bytes}
+use Rattle.pkopt.specs.Private.Fronts.{EndsInStop}
+use Rattle.pkopt.specs.Private.FrameBytes.{head_length, framed_bytes}
 use Rattle.pkopt.specs.OneFrame.{is_proto, has_frame, frame_around, in_frame, optimized}
 use Rattle.pkopt.specs.RunsAlike.{RunsAlike, SameEnd}
 use Rattle.pkopt.specs.Slim.{is_frame, form_of, renumbered, read_left, left_of, slim_from, slim}

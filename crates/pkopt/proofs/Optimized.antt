@@ -26,12 +26,12 @@ use Rattle.pkread.specs.Rows.{Sight}
 use Rattle.pkopt.specs.declared.fate.Plan.{Plan}
 use Rattle.pkopt.specs.declared.optimizing.Traced.{Traced}
 use Rattle.pkopt.specs.declared.trace.Trace.{Trace}
-use Rattle.pkopt.specs.Passes.{AreNumbers, Begins, Hears}
-use Rattle.pkopt.specs.Tracing.{IsTraced}
+use Rattle.pkopt.specs.Private.Passes.{AreNumbers, Begins, Hears}
+use Rattle.pkopt.specs.Private.Tracing.{IsTraced}
 use Rattle.pkopt.specs.Answer.{in_memory, Checks, pickle, Optimizes, PassesLimit, FailsCheck, IsRefused}
-use Rattle.pkopt.specs.Fates.{Aims, IsSlim, StopsSlim, IsPastAt, IsPlanFor}
-use Rattle.pkopt.specs.FrameBytes.{framed_bytes}
-use Rattle.pkopt.specs.Fronts.{EndsInStop, Front}
+use Rattle.pkopt.specs.Private.Fates.{Aims, IsSlim, StopsSlim, IsPastAt, IsPlanFor}
+use Rattle.pkopt.specs.Private.FrameBytes.{framed_bytes}
+use Rattle.pkopt.specs.Private.Fronts.{EndsInStop, Front}
 use Rattle.pkopt.specs.Limit.{IsPastLimit}
 use Rattle.pkopt.specs.OneFrame.{has_frame, optimized}
 use Rattle.pkopt.specs.RunsAlike.{RunsAlike, SameEnd}

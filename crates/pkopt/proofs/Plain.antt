@@ -5,7 +5,7 @@ use Rattle.pkops.specs.declared.op.Op.TheVariants as op
 use Rattle.pkops.specs.Operands.{memo_number}
 use Rattle.pkops.specs.Spelling.{Instruction}
 use Rattle.pkcheck.specs.Effects.{effect_of}
-use Rattle.pkopt.specs.Places.{is_plain}
+use Rattle.pkopt.specs.Private.Places.{is_plain}
 use Rattle.pkopt.specs.Slim.{is_frame, left_of}
 use Rattle.pkopt.specs.Writers.{Writes, wrote, after, read_by}
 

@@ -7,7 +7,7 @@ use Rattle.pkops.specs.declared.found.Scan.{Scan}
 use Rattle.pkops.specs.declared.found.Scan.TheVariants as scan
 use Rattle.pkops.specs.declared.inst.Inst.{Inst}
 use Rattle.pkread.specs.Sequence.{spellings}
-use Rattle.pkopt.specs.Fronts.{Front}
+use Rattle.pkopt.specs.Private.Fronts.{Front}
 
 take_front : (xs ys : List ℕ) → take (length xs) (xs ++ ys) ≡ xs
 take_front [] ys = refl

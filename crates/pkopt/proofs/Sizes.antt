@@ -5,8 +5,8 @@ use Rattle.pkops.specs.declared.op.Op.{Op}
 use Rattle.pkops.specs.declared.op.Op.TheVariants as op
 use Rattle.pkops.specs.Spelling.{Argument, Nothing, Number, Instruction, Suits, bytes_of, instruction, layout_at, spelling}
 use Rattle.pkops.specs.Table.{code_of}
-use Rattle.pkopt.specs.Fronts.{Front}
-use Rattle.pkopt.specs.Places.{size_of}
+use Rattle.pkopt.specs.Private.Fronts.{Front}
+use Rattle.pkopt.specs.Private.Places.{size_of}
 
 no_bytes : (arg : Argument) → Suits layout.Nothing arg → length (bytes_of arg layout.Nothing) ≡ 0
 no_bytes Nothing s = refl

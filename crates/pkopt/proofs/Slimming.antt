@@ -19,7 +19,7 @@ use Rattle.pkcheck.specs.WholeRuns.{first_outcome, outcomes_after, go_on, run}
 use Rattle.pkopt.specs.Writers.{Writes, last_write, different, wrote, after, read_by, sources, is_this, is_read, new_number, after_all, more_if_none}
 use Rattle.pkopt.specs.Slim.{renumbered, is_frame, read_left, left_of, slim_from, slim}
 use Rattle.pkopt.specs.RunsAlike.{SameEnd, RunsAlike}
-use Rattle.pkopt.specs.Traces.{Rising}
+use Rattle.pkopt.specs.Private.Traces.{Rising}
 use Rattle.pkopt.proofs.AlikeSteps.{IsFree, with_memo, IsBlind, perform_same, step_on}
 use Rattle.pkopt.proofs.NewNumbers.{after_all_le, new_step, new_least}
 use Rattle.pkopt.proofs.Recalling.{recalled_same, recalled_other, rising_insert, length_insert, length_new}

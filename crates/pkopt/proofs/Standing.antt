@@ -3,9 +3,9 @@ use Rattle.std.proofs.Common.{◌≡◌, ℕ, zero, suc, ◌+◌, ◌<◌, Bool,
 use Rattle.std.proofs.Math.Seq.{take-append_seam, drop-append_seam}
 use Rattle.pkops.specs.Spelling.{Instruction, spelling}
 use Rattle.pkread.specs.Sequence.{spellings}
-use Rattle.pkopt.specs.Fronts.{EndsInStop}
+use Rattle.pkopt.specs.Private.Fronts.{EndsInStop}
 use Rattle.pkopt.specs.OneFrame.{has_frame}
-use Rattle.pkopt.specs.Places.{is_plain, places_from}
+use Rattle.pkopt.specs.Private.Places.{is_plain, places_from}
 use Rattle.pkopt.specs.Slim.{slim_from}
 use Rattle.pkopt.specs.Writers.{Writes, after, sources, after_all}
 use Rattle.pkopt.proofs.Plain.{plain_is}

@@ -11,11 +11,11 @@ use Rattle.pkopt.specs.declared.fate.Fate.{Fate}
 use Rattle.pkopt.specs.declared.fate.Fate.TheVariants.{IsPast}
 use Rattle.pkopt.specs.declared.fate.Plan.{Plan}
 use Rattle.pkopt.specs.declared.slim.Slim.{Slim}
-use Rattle.pkopt.specs.Fates.{fate_by, fate_in, reads_after, writes_after, Adds, Aims, Emits, IsHalted, IsSlim, StopsSlim, refusal_at}
-use Rattle.pkopt.specs.Fronts.{EndsInStop, Front}
+use Rattle.pkopt.specs.Private.Fates.{fate_by, fate_in, reads_after, writes_after, Adds, Aims, Emits, IsHalted, IsSlim, StopsSlim, refusal_at}
+use Rattle.pkopt.specs.Private.Fronts.{EndsInStop, Front}
 use Rattle.pkopt.specs.OneFrame.{has_frame}
-use Rattle.pkopt.specs.Passes.{memo_use}
-use Rattle.pkopt.specs.Places.{places_from}
+use Rattle.pkopt.specs.Private.Passes.{memo_use}
+use Rattle.pkopt.specs.Private.Places.{places_from}
 use Rattle.pkopt.specs.Slim.{is_frame, left_of, slim_from}
 use Rattle.pkopt.specs.Writers.{Writes, after, sources, new_number, after_all}
 use Rattle.pkopt.specs.Private.Hearing.{after_all-more}

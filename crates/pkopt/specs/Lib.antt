@@ -3,13 +3,5 @@ pub mod Slim
 pub mod OneFrame
 pub mod RunsAlike
 pub mod Limit
-pub mod Traces
 pub mod Answer
-pub mod Fronts
-pub mod Memories
-pub mod Places
-pub mod Passes
-pub mod Fates
-pub mod FrameBytes
-pub mod Tracing
 pub mod Private

@@ -1,8 +1,8 @@
 //! What becomes of each instruction in the slim form.
 
 ghost use Rattle.std.specs.Prelude.{◌≡◌, None, slice_index_or};
-ghost use Rattle.pkopt.specs.Fates.{fate_in, fetched_fate, kept_fate};
-ghost use Rattle.pkopt.specs.Fates.{next_fate, passed_fate, stored_fate};
+ghost use Rattle.pkopt.specs.Private.Fates.{fate_in, fetched_fate, kept_fate};
+ghost use Rattle.pkopt.specs.Private.Fates.{next_fate, passed_fate, stored_fate};
 
 use crate::memo::{MemoUse, memo_use};
 use pkops::Op;

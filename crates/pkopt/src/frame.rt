@@ -3,7 +3,7 @@
 ghost use Rattle.std.specs.Prelude.{◌≡◌, ◌≤◌, IfOk, length};
 ghost use Rattle.pkops.specs.Table.{code_of};
 ghost use Rattle.pkops.specs.declared.op.Op.TheVariants.{Frame};
-ghost use Rattle.pkopt.specs.FrameBytes.{framed_bytes, head_length};
+ghost use Rattle.pkopt.specs.Private.FrameBytes.{framed_bytes, head_length};
 
 use pkops::{Op, row};
 use std::alloc::{AllocError, Global};

@@ -2,8 +2,8 @@
 
 ghost use Rattle.std.specs.Prelude.{◌≡◌, ◌+◌, [], OnOk, length};
 ghost use Rattle.pkcheck.specs.Shape.{recalled, stored};
-ghost use Rattle.pkopt.specs.Memories.{Notes, remembered};
-ghost use Rattle.pkopt.specs.Passes.{memo_use};
+ghost use Rattle.pkopt.specs.Private.Memories.{Notes, remembered};
+ghost use Rattle.pkopt.specs.Private.Passes.{memo_use};
 
 use pkops::Op;
 use std::alloc::{AllocError, Global};

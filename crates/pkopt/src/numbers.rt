@@ -1,7 +1,7 @@
 //! The new numbers of the memo writes that stay.
 
 ghost use Rattle.std.specs.Prelude.{◌≡◌, ◌≤◌, IfOk, List, None, Option, Some, cond, min, suc, ℕ};
-ghost use Rattle.pkopt.specs.Passes.{AreKept, AreNumbers};
+ghost use Rattle.pkopt.specs.Private.Passes.{AreKept, AreNumbers};
 
 use std::alloc::{AllocError, Global};
 

@@ -4,8 +4,8 @@ ghost use Rattle.std.specs.Prelude.{◌≡◌, ◌<◌, ◌^◌, IfErr, IfOk, On
 ghost use Rattle.pkops.specs.Spelling.{Instruction};
 ghost use Rattle.pkread.specs.declared.refusal.Reason.TheVariants as reason;
 ghost use Rattle.pkopt.specs.Answer.{IsRefused, Optimizes, Checks, FailsCheck, TakesAsChecked};
-ghost use Rattle.pkopt.specs.Fates.{IsPlanFor};
-ghost use Rattle.pkopt.specs.Tracing.{IsTraced};
+ghost use Rattle.pkopt.specs.Private.Fates.{IsPlanFor};
+ghost use Rattle.pkopt.specs.Private.Tracing.{IsTraced};
 ghost use Rattle.pkopt.specs.Writers.{after_all, sources as sources_of};
 
 use crate::fate::Plan;

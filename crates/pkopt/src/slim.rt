@@ -5,11 +5,11 @@ ghost use Rattle.std.specs.Prelude.{◌-◌, IfSome, Some, drop, false, length, 
 ghost use Rattle.std.specs.Prelude.{take};
 ghost use Rattle.pkops.specs.Table.{code_of};
 ghost use Rattle.pkops.specs.Spelling.{Instruction, spelling};
-ghost use Rattle.pkopt.specs.Fates.{Adds, Aims, Emits, IsHalted, IsSlim, StopsSlim};
-ghost use Rattle.pkopt.specs.Fronts.{Front};
-ghost use Rattle.pkopt.specs.Fates.{reads_after, refusal_at, writes_after};
-ghost use Rattle.pkopt.specs.Passes.{memo_use};
-ghost use Rattle.pkopt.specs.Places.{size_of};
+ghost use Rattle.pkopt.specs.Private.Fates.{Adds, Aims, Emits, IsHalted, IsSlim, StopsSlim};
+ghost use Rattle.pkopt.specs.Private.Fronts.{Front};
+ghost use Rattle.pkopt.specs.Private.Fates.{reads_after, refusal_at, writes_after};
+ghost use Rattle.pkopt.specs.Private.Passes.{memo_use};
+ghost use Rattle.pkopt.specs.Private.Places.{size_of};
 ghost use Rattle.pkopt.specs.Slim.{is_frame};
 
 use crate::fate::{Fate, Plan, fate_of};

@@ -3,9 +3,9 @@
 ghost use Rattle.std.specs.Prelude.{◌≡◌, ◌+◌, ◌++◌, ◌∷◌, [], OnOk};
 ghost use Rattle.pkops.specs.Inst.{instruction_of};
 ghost use Rattle.pkops.specs.Operands.{memo_number};
-ghost use Rattle.pkopt.specs.Memories.{Notes, remembered};
-ghost use Rattle.pkopt.specs.Places.{is_plain};
-ghost use Rattle.pkopt.specs.Passes.{Begins, Steps};
+ghost use Rattle.pkopt.specs.Private.Memories.{Notes, remembered};
+ghost use Rattle.pkopt.specs.Private.Places.{is_plain};
+ghost use Rattle.pkopt.specs.Private.Passes.{Begins, Steps};
 
 use crate::memo::{Memo, MemoUse, memo_use};
 use pkcheck::Listener;
@@ -113,7 +113,7 @@ impl Trace {
 impl Listener for Trace {
     type Error = AllocError;
 
-    ghost use Rattle.pkopt.specs.Passes.{Hears};
+    ghost use Rattle.pkopt.specs.Private.Passes.{Hears};
     ghost use Rattle.pkopt.specs.Private.Hearing.{hears_none, hears_more};
 
     ghost hears = { Hears };

@@ -1,5 +1,5 @@
 -- One call of `next`.
-use Rattle.std.proofs.Common.{◌≡◌, ℕ, ◌+◌, ◌≤◌, List, length, Result, sym, ap, ◌∙◌, subst, arith}
+use Rattle.std.proofs.Common.{◌≡◌, ℕ, ◌+◌, ◌≤◌, List, [], length, Result, refl, sym, ap, ◌∙◌, subst, arith}
 use Rattle.std.specs.Prelude.{max, None}
 use Rattle.std.specs.Result.{MatchResult}
 use Rattle.std.proofs.lemmas.List.{take_all}
@@ -11,7 +11,7 @@ use Rattle.pkread.specs.Admission.{IsAllowed, objection}
 use Rattle.pkread.specs.Core.{Phase, Open, phase_after}
 use Rattle.pkread.specs.Private.Gathering.{Gathers, HoldsTaken}
 use Rattle.pkread.specs.Reading.{State, Gives, GivesNext, Raises, RefusesAt, StepsFrom, ShowsNext, ShowsFrom}
-use Rattle.pkread.specs.Rows.{Row, Sight, all_bytes}
+use Rattle.pkread.specs.Rows.{Row, Sight, all_bytes, unread}
 use Rattle.pkread.specs.Sequence.{CountsAt}
 use Rattle.pkread.specs.declared.reader.Next.{Next}
 use Rattle.pkread.specs.declared.refusal.Reason.{Reason}
@@ -71,3 +71,7 @@ pub counts_at : (limit : ℕ) (old new : Sight) (b : List ℕ) (t : ℕ) (r : Re
 counts_at limit old new b t Source w = w.0.count
 counts_at limit old new b t OutOfMemory w = w.count
 counts_at limit old new b t _ w = w.0.count
+
+-- where nothing was taken ahead, the source is seen as it is
+pub seen_so : (ahead : List ℕ) (s : Sight) → ahead ≡ [] → s ≡ unread ahead s
+seen_so ahead s e = rw e refl

@@ -11,6 +11,7 @@ pub mod Judging
 pub mod Passing
 pub mod Given
 pub mod HeadSteps
+pub mod Again
 pub mod Walking
 pub mod Run
 pub mod Walked

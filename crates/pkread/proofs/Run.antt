@@ -15,7 +15,7 @@ use Rattle.pkread.specs.Core.{Phase, Open, Ended, Refused, phase_after}
 use Rattle.pkread.specs.Heads.{IsPassed, Passes, RefusesHead, StepsHeadFrom}
 use Rattle.pkread.specs.Reading.{State, begun, Gives, RefusesAt, StepsFrom}
 pub use Rattle.pkread.specs.Run.{Reads, SoFar}
-use Rattle.pkread.specs.Run.{EndIsRead, EndOfHeads, HeadIsRead, NextIsRead, PassedIsRead, ReadingBegins, ReadsMore, RefusalIsRead, RefusalOfHeads}
+use Rattle.pkread.specs.Run.{EndIsRead, EndOfHeads, HeadIsRead, NextIsRead, PassedIsRead, ReadingBegins, ReadingGoesOn, ReadsMore, RefusalIsRead, RefusalOfHeads}
 use Rattle.pkread.specs.Rows.{Sight, Takes}
 use Rattle.pkread.specs.Sequence.{IsSequence, NoStop, spellings}
 use Rattle.pkread.specs.declared.reader.Head.{Head}
@@ -77,8 +77,8 @@ pub stopped : (p : List Instruction) (f : Phase) → f ≡ Ended → SoFar p f �
 stopped p f e h = rw e at h
 
 -- one instruction more was taken
-reads_one : (start : Sight) (limit : Op → ℕ) (p : List Instruction) (s t : State) (i : Instruction) → Reads start limit p s → s.phase ≡ Open → IsAllowedBy limit i → Takes s.source t.source (spelling i) → t.taken ≡ s.taken + length (spelling i) → t.phase ≡ phase_after i.op → Reads start limit (p ++ i ∷ []) t
-reads_one start limit p s t i h o allowed bytes taken phase = record {
+reads_one : (start : Sight) (from : ℕ) (limit : Op → ℕ) (p : List Instruction) (s t : State) (i : Instruction) → Reads start from limit p s → s.phase ≡ Open → IsAllowedBy limit i → Takes s.source t.source (spelling i) → t.taken ≡ s.taken + length (spelling i) → t.phase ≡ phase_after i.op → Reads start from limit (p ++ i ∷ []) t
+reads_one start from limit p s t i h o allowed bytes taken phase = record {
   each = All-push (IsAllowedBy limit) p i h.each allowed;
   so_far = rw phase (so_far_more p i (so_far_open p s.phase o h.so_far));
   bytes = rw (spellings-more p i) (Takes-more h.bytes bytes);
@@ -86,7 +86,7 @@ reads_one start limit p s t i h o allowed bytes taken phase = record {
 }
 
 -- a new reader has given nothing
-pub reads_none : (start : Sight) (limit : Op → ℕ) (limits : Bounds) → Reads start limit [] (begun start limits)
+pub reads_none : (start : Sight) (limit : Op → ℕ) (limits : Bounds) → Reads start 0 limit [] (begun start limits)
 reads_none start limit limits = record {
   each = All-nil (IsAllowedBy limit);
   so_far = All-nil (λ j. j.op ≢ op.Stop);
@@ -95,28 +95,37 @@ reads_none start limit limits = record {
 }
 
 -- a reader that has ended has given a sequence
-pub reads_sequence : (start : Sight) (limit : Op → ℕ) (p : List Instruction) (s : State) → Reads start limit p s → s.phase ≡ Ended → IsSequence limit p
-reads_sequence start limit p s h e = record { each = h.each; stops = stopped p s.phase e h.so_far }
+pub reads_sequence : (start : Sight) (from : ℕ) (limit : Op → ℕ) (p : List Instruction) (s : State) → Reads start from limit p s → s.phase ≡ Ended → IsSequence limit p
+reads_sequence start from limit p s h e = record { each = h.each; stops = stopped p s.phase e h.so_far }
 
 -- the laws of a loop over `next`
 
 pub reading_begins : ReadingBegins
 reading_begins start limit limits = reads_none start limit limits
 
-more_of : (start : Sight) (limit : Op → ℕ) (p : List Instruction) (s t : State) (i : Instruction) → Reads start limit p s → s.phase ≡ Open → Reads start limit (p ++ i ∷ []) t → ReadsMore start limit p i t
-more_of start limit p s t i h o k = record { no_stop = so_far_open p s.phase o h.so_far; reads = k }
+-- an open reader has given nothing from there on
+pub reading_goes_on : ReadingGoesOn
+reading_goes_on s limit o = record {
+  each = All-nil (IsAllowedBy limit);
+  so_far = rw o (All-nil (λ j. j.op ≢ op.Stop));
+  bytes = takes_none s.source.left s.source.failures;
+  count = omega arith;
+}
+
+more_of : (start : Sight) (from : ℕ) (limit : Op → ℕ) (p : List Instruction) (s t : State) (i : Instruction) → Reads start from limit p s → s.phase ≡ Open → Reads start from limit (p ++ i ∷ []) t → ReadsMore start from limit p i t
+more_of start from limit p s t i h o k = record { no_stop = so_far_open p s.phase o h.so_far; reads = k }
 
 pub next_is_read : NextIsRead
-next_is_read start limit p s t r at i holds h k e =
+next_is_read start from limit p s t r at i holds h k e =
     let o = given s.phase s t r at i k.1 e in
     let g = o.1 in
     let allowed : IsAllowedBy limit (instruction_of i) = subst (λ (l : ℕ). IsAllowed l (instruction_of i)) (holds (instruction_of i).op) g.allowed in
-    (more_of start limit p s t (instruction_of i) h o.0 (reads_one start limit p s t (instruction_of i) h o.0 allowed g.bytes g.taken g.phase), g)
+    (more_of start from limit p s t (instruction_of i) h o.0 (reads_one start from limit p s t (instruction_of i) h o.0 allowed g.bytes g.taken g.phase), g)
 
 pub end_is_read : EndIsRead
-end_is_read start limit p s t r h k e =
+end_is_read start from limit p s t r h k e =
     let o = ended s.phase s t r k.1 e in
-    (reads_sequence start limit p s h o.0, o.1)
+    (reads_sequence start from limit p s h o.0, o.1)
 
 ended_no_err : (x : Refusal) → let a : Result Next Refusal = Ok next.Ended in Err x ≡ a → ⊥
 ended_no_err x e = cc
@@ -127,7 +136,7 @@ refuses_here p Ended s t r x so k e = absurd (ended_no_err x (sym e ∙ k.0))
 refuses_here p (Refused y) s t r x so k e = absurd so
 
 pub refusal_is_read : RefusalIsRead
-refusal_is_read start limit p s t r x h k e = refuses_here p s.phase s t r x h.so_far k.1 e
+refusal_is_read start from limit p s t r x h k e = refuses_here p s.phase s t r x h.so_far k.1 e
 
 -- the laws of a loop over `next_head`
 
@@ -147,12 +156,12 @@ by_passed : (limits : Bounds) (limit : Op → ℕ) (o : Op) (passed : Bool) → 
 by_passed limits limit o passed same e = ap (λ x. if x then limits.passed else limits.counted) (sym e) ∙ same
 
 pub head_is_read : HeadIsRead
-head_is_read start limit p s t r at i passes h k e =
+head_is_read start from limit p s t r at i passes h k e =
     let o = head_given s.phase s t r at i k.1 e in
     let g = o.1 in
     let j = instruction_of i in
     let allowed : IsAllowedBy limit j = subst (λ (l : ℕ). IsAllowed l j) (by_passed s.limits limit j.op false (passes j.op) o.2) g.allowed in
-    (more_of start limit p s t j h o.0 (reads_one start limit p s t j h o.0 allowed g.bytes g.taken g.phase), g)
+    (more_of start from limit p s t j h o.0 (reads_one start from limit p s t j h o.0 allowed g.bytes g.taken g.phase), g)
 
 passed_not_ended : (o : Op) (at count : ℕ) → let a : Result Head Refusal = Ok (head.Passed at o count) in a ≡ Ok head.Ended → ⊥
 passed_not_ended o at count e = cc
@@ -171,14 +180,14 @@ passed_goes_on op.Stop e = absurd cc
 passed_goes_on _ e = refl
 
 pub passed_is_read : PassedIsRead
-passed_is_read start limit p s t r at o count passes h k e =
+passed_is_read start from limit p s t r at o count passes h k e =
     let w = passed_given s.phase s t r at count o k.1 e in
     let g = w.1 in
     let b = g.passes in
     let i = instruction o (Counted b.payload) in
     let same = by_passed s.limits limit o true (passes o) b.one.passed in
     let one : IsPassed (limit o) o count b.payload = subst (λ (l : ℕ). IsPassed l o count b.payload) same b.one in
-    (b.payload, one, more_of start limit p s t i h w.0 (reads_one start limit p s t i h w.0 one.allowed b.bytes b.taken (g.phase ∙ sym (passed_goes_on o b.one.passed))), b.bytes, b.taken, g)
+    (b.payload, one, more_of start from limit p s t i h w.0 (reads_one start from limit p s t i h w.0 one.allowed b.bytes b.taken (g.phase ∙ sym (passed_goes_on o b.one.passed))), b.bytes, b.taken, g)
 
 head_ended_not_err : (x : Refusal) → let a : Result Head Refusal = Ok head.Ended in a ≡ Err x → ⊥
 head_ended_not_err x e = cc
@@ -189,9 +198,9 @@ head_ended Ended s t r h e = (refl, h.1)
 head_ended (Refused x) s t r h e = absurd (head_ended_not_err x (sym e ∙ h.0))
 
 pub end_of_heads : EndOfHeads
-end_of_heads start limit p s t r h k e =
+end_of_heads start from limit p s t r h k e =
     let o = head_ended s.phase s t r k.1 e in
-    (reads_sequence start limit p s h o.0, o.1)
+    (reads_sequence start from limit p s h o.0, o.1)
 
 head_refuses_here : (p : List Instruction) (f : Phase) (s t : State) (r : Result Head Refusal) (x : Refusal) → SoFar p f → StepsHeadFrom f s r t → r ≡ Err x → NoStop p × RefusesHead s x t
 head_refuses_here p Open s t r x so k e = (so, rw e at k)
@@ -199,4 +208,4 @@ head_refuses_here p Ended s t r x so k e = absurd (head_ended_not_err x (sym k.0
 head_refuses_here p (Refused y) s t r x so k e = absurd so
 
 pub refusal_of_heads : RefusalOfHeads
-refusal_of_heads start limit p s t r x h k e = head_refuses_here p s.phase s t r x h.so_far k.1 e
+refusal_of_heads start from limit p s t r x h k e = head_refuses_here p s.phase s t r x h.so_far k.1 e

@@ -149,3 +149,9 @@ byte_reads n held items mid new to before after e le some put same took still fi
   held = put ∙ ap (λ (l : List ℕ). l ++ get_or to 0 0 ∷ []) same;
   taken = record { bytes = rw (all_of_one n to e le some) at took; count = still };
 }
+
+-- the first byte that a buffer holds
+pub first_held : (n x : ℕ) (items : List ℕ) → (n ≡ 0 → ⊥) → n ≤ length items → x ≡ get_or items 0 x → (rest : List ℕ) × (take n items ≡ x ∷ rest)
+first_held zero x items some within is = absurd (some refl)
+first_held (suc n) x [] some within is = absurd (omega (arith, within))
+first_held (suc n) x (y ∷ items) some within is = (take n items, ap (λ z. z ∷ take n items) (sym is))

@@ -1,9 +1,10 @@
 -- What contracts see of a reader, its source aside.
-use Rattle.std.specs.Prelude.{ℕ}
+use Rattle.std.specs.Prelude.{◌≡◌, ⊤, ℕ, ◌<◌, Bool, true, false, List, [], ◌∷◌}
 use Rattle.pkops.specs.Limits.{Bounds}
 use Rattle.pkops.specs.declared.op.Op.{Op}
 use Rattle.pkops.specs.declared.op.Op.TheVariants.{Stop}
 use Rattle.pkread.specs.Held.{Held}
+use Rattle.pkread.specs.Rows.{all_bytes}
 use Rattle.pkread.specs.declared.state.Phase as declared
 use Rattle.pkread.specs.declared.refusal.Refusal.{Refusal}
 
@@ -21,9 +22,28 @@ shown_phase declared.TheVariants.Open = Open
 shown_phase declared.TheVariants.Ended = Ended
 shown_phase (declared.TheVariants.Refused refusal) = Refused refusal
 
--- the buffer, the number of bytes taken, the limits, and how the reader goes on
+-- the bytes that were taken ahead of the next instruction: those held, where it is begun
+abbrev pub ahead_of : Bool → List ℕ → List ℕ
+ahead_of true bytes = bytes
+ahead_of false bytes = []
+
+-- at most one byte is taken ahead, and it is still to be counted among those taken
+abbrev pub Begins : List ℕ → ℕ → Type 0
+Begins [] taken = ⊤
+Begins (byte ∷ []) taken = taken < all_bytes
+Begins (byte ∷ more ∷ bytes) taken = ⊥
+
+-- bytes are taken ahead only where the reader goes on with the next instruction
+abbrev pub NoneIfClosed : Phase → List ℕ → Type 0
+NoneIfClosed Open ahead = ⊤
+NoneIfClosed Ended ahead = ahead ≡ []
+NoneIfClosed (Refused refusal) ahead = ahead ≡ []
+
+-- the buffer, the bytes taken ahead of the next instruction, the number of bytes taken but for
+-- these, the limits, and how the reader goes on
 pub record CoreView : Type 0 where
   pub held : Held
+  pub ahead : List ℕ
   pub taken : ℕ
   pub limits : Bounds
   pub phase : Phase

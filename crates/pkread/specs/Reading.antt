@@ -1,12 +1,12 @@
 -- What contracts see of a reader, and what a call of `next` does.
-use Rattle.std.specs.Prelude.{◌≡◌, ◌≢◌, ℕ, ◌+◌, ◌≤◌, Bool, true, false, List, length, max, Option, Result, Ok, Err, MatchResult}
+use Rattle.std.specs.Prelude.{◌≡◌, ◌≢◌, ℕ, ◌+◌, ◌≤◌, Bool, true, false, List, length, max, Option, Result, Ok, Err, MatchResult, []}
 use base.Fml.{GName}
 use Rattle.pkops.specs.Inst.{instruction_of}
 use Rattle.pkops.specs.Limits.{Bounds}
 use Rattle.pkops.specs.Spelling.{Instruction, spelling}
 use Rattle.pkread.specs.Admission.{IsAllowed}
 use Rattle.pkread.specs.Core.{Phase, Open, Ended, Refused, CoreView, phase_after}
-use Rattle.pkread.specs.Rows.{Sight, Takes, Refuses, sight, all_bytes}
+use Rattle.pkread.specs.Rows.{Sight, Takes, Refuses, sight, unread, all_bytes}
 use Rattle.pkread.specs.Sequence.{CountsAt}
 use Rattle.pkread.specs.declared.reader.Next.{Next}
 use Rattle.pkread.specs.declared.reader.Next.TheVariants as next
@@ -24,7 +24,8 @@ abbrev pub source_name : {R B : Type 0} → Reader R B → GName
 source_name r = r.source.ghost_name
 
 -- the sight of the source, the number of bytes taken, the limits, the most bytes ever held, and how
--- the reader goes on
+-- the reader goes on. A byte that was taken ahead counts with the instruction that it begins: until
+-- that is taken, the source is seen as before it, and it is not among the bytes taken
 pub record State : Type 0 where
   pub source : Sight
   pub taken : ℕ
@@ -35,7 +36,7 @@ pub record State : Type 0 where
 -- the state of a reader, by the ghost members of its source's type
 abbrev pub state : {R : Type 0} → (R → Option (List ℕ)) → (R → ℕ) → Reader R CoreView → State
 state left failures r = record {
-  source = sight left failures (source_of r);
+  source = unread r.core.ahead (sight left failures (source_of r));
   taken = r.core.taken;
   limits = r.core.limits;
   most = r.core.held.most;
@@ -69,6 +70,10 @@ KeepsSource old new = source_name new ≡ source_name old
 -- nothing is asked of the source once the reader has ended or refused
 abbrev pub LeavesSource : {R : Type 0} → Reader R CoreView → Reader R CoreView → Type 0
 LeavesSource old new = old.core.phase ≢ Open → source_of new ≡ source_of old
+
+-- no byte of a further instruction was taken
+abbrev pub TakesNoneAhead : {R : Type 0} → Reader R CoreView → Type 0
+TakesNoneAhead r = r.core.ahead ≡ []
 
 -- the instruction given is the one that the bytes taken spell, at the place where they begin
 pub record Gives (old : State) (at : ℕ) (i : Instruction) (new : State) : Type 0 where

@@ -1,6 +1,6 @@
 -- What holds of the bytes where a reader refuses them: a row for each reason.
-use Rattle.std.specs.Prelude.{◌≡◌, ◌≢◌, ℕ, ◌+◌, ◌-◌, ◌^◌, ◌%◌, ◌<◌, ◌⊎◌, List, length, take, Option, Some}
-use Rattle.std.specs.Io.KnownBytes.{Consumes, IsAtEnd}
+use Rattle.std.specs.Prelude.{◌≡◌, ◌≢◌, ℕ, ◌+◌, ◌-◌, ◌^◌, ◌%◌, ◌<◌, ◌⊎◌, List, [], ◌∷◌, ◌++◌, length, take, Option, Some}
+use Rattle.std.specs.Io.KnownBytes.{Consumes, IsAtEnd, prepend_known}
 use Rattle.pkops.specs.Answer.{IsWhole}
 use Rattle.pkops.specs.Scanning.{Begun, HasFault}
 use Rattle.pkops.specs.Spelling.{Instruction}
@@ -18,10 +18,22 @@ pub record Sight : Type 0 where
 abbrev pub sight : {R : Type 0} → (R → Option (List ℕ)) → (R → ℕ) → R → Sight
 sight left failures r = record { left = left r; failures = failures r }
 
+-- a source as it was seen before these bytes were taken from it
+abbrev pub unread : List ℕ → Sight → Sight
+unread [] s = s
+unread (b ∷ bs) s = record s { left = prepend_known (b ∷ bs) s.left }
+
 -- a run of bytes was taken, and no read failed
 pub record Takes (old new : Sight) (run : List ℕ) : Type 0 where
   pub bytes : Consumes old.left new.left run
   pub count : new.failures ≡ old.failures
+
+-- what is so of taking: nothing was taken where nothing changed, and what was taken in two steps
+-- was taken
+pub record TakingLaws : Type 0 where
+  pub none : (source : Sight) → Takes source source []
+  pub more : (old between new : Sight) (first second : List ℕ) →
+      Takes old between first → Takes between new second → Takes old new (first ++ second)
 
 -- a run of bytes was taken, and then one read failed, of which nothing more is said
 pub record Fails (old new : Sight) (run : List ℕ) : Type 0 where

@@ -24,19 +24,25 @@ SoFar instructions Open = NoStop instructions
 SoFar instructions Ended = StopIsLast instructions
 SoFar instructions (Refused refusal) = ⊥
 
--- from the start of the source on, a reader in this state has given these instructions, within the
--- limits of their opcodes
-pub record Reads (start : Sight) (limit : Op → ℕ) (instructions : List Instruction)
+-- a reader in this state has given these instructions, within the limits of their opcodes, from
+-- where the source was seen so and `from` bytes were taken
+pub record Reads (start : Sight) (from : ℕ) (limit : Op → ℕ) (instructions : List Instruction)
     (state : State) : Type 0 where
   pub each : All (IsAllowedBy limit) instructions
   pub so_far : SoFar instructions state.phase
   pub bytes : Takes start state.source (spellings instructions)
-  pub count : state.taken ≡ length (spellings instructions)
+  pub count : state.taken ≡ from + length (spellings instructions)
 
 -- a new reader has given nothing
 abbrev pub ReadingBegins : Type 0
 ReadingBegins =
-    (start : Sight) (limit : Op → ℕ) (limits : Bounds) → Reads start limit [] (begun start limits)
+    (start : Sight) (limit : Op → ℕ) (limits : Bounds) →
+    Reads start 0 limit [] (begun start limits)
+
+-- a reader that is open has given nothing from there on
+abbrev pub ReadingGoesOn : Type 0
+ReadingGoesOn =
+    (s : State) (limit : Op → ℕ) → s.phase ≡ Open → Reads s.source s.taken limit [] s
 
 -- the limits that `next` goes by: one for all opcodes
 abbrev pub HoldsTo : State → (Op → ℕ) → Type 0
@@ -47,39 +53,39 @@ abbrev pub PassesTo : State → (Op → ℕ) → Type 0
 PassesTo state limit = (op : Op) → payload_limit state.limits op ≡ limit op
 
 -- an instruction more was given
-pub record ReadsMore (start : Sight) (limit : Op → ℕ) (before : List Instruction)
+pub record ReadsMore (start : Sight) (from : ℕ) (limit : Op → ℕ) (before : List Instruction)
     (i : Instruction) (after : State) : Type 0 where
   pub no_stop : NoStop before
-  pub reads : Reads start limit (before ++ i ∷ []) after
+  pub reads : Reads start from limit (before ++ i ∷ []) after
 
 -- where `next` gives an instruction, it was given behind the others
 abbrev pub NextIsRead : Type 0
 NextIsRead =
-    (start : Sight) (limit : Op → ℕ) (p : List Instruction) (old new : State)
+    (start : Sight) (from : ℕ) (limit : Op → ℕ) (p : List Instruction) (old new : State)
     (result : Result Next Refusal) (at : ℕ) (inst : Inst) →
-    HoldsTo old limit → Reads start limit p old → Steps old result new →
+    HoldsTo old limit → Reads start from limit p old → Steps old result new →
     result ≡ Ok (next.Inst at inst) →
-    ReadsMore start limit p (instruction_of inst) new × Gives old at (instruction_of inst) new
+    ReadsMore start from limit p (instruction_of inst) new × Gives old at (instruction_of inst) new
 
 -- the same of `next_head`
 abbrev pub HeadIsRead : Type 0
 HeadIsRead =
-    (start : Sight) (limit : Op → ℕ) (p : List Instruction) (old new : State)
+    (start : Sight) (from : ℕ) (limit : Op → ℕ) (p : List Instruction) (old new : State)
     (result : Result Head Refusal) (at : ℕ) (inst : Inst) →
-    PassesTo old limit → Reads start limit p old → StepsHead old result new →
+    PassesTo old limit → Reads start from limit p old → StepsHead old result new →
     result ≡ Ok (head.Inst at inst) →
-    ReadsMore start limit p (instruction_of inst) new × Gives old at (instruction_of inst) new
+    ReadsMore start from limit p (instruction_of inst) new × Gives old at (instruction_of inst) new
 
 -- where it passes over a payload, some instruction with a payload of that length was given, which
 -- the bytes taken spell
 abbrev pub PassedIsRead : Type 0
 PassedIsRead =
-    (start : Sight) (limit : Op → ℕ) (p : List Instruction) (old new : State)
+    (start : Sight) (from : ℕ) (limit : Op → ℕ) (p : List Instruction) (old new : State)
     (result : Result Head Refusal) (at : ℕ) (op : Op) (count : ℕ) →
-    PassesTo old limit → Reads start limit p old → StepsHead old result new →
+    PassesTo old limit → Reads start from limit p old → StepsHead old result new →
     result ≡ Ok (head.Passed at op count) →
     (payload : List ℕ) × IsPassed (limit op) op count payload
-    × ReadsMore start limit p (instruction op (Counted payload)) new
+    × ReadsMore start from limit p (instruction op (Counted payload)) new
     × Takes old.source new.source (spelling (instruction op (Counted payload)))
     × (new.taken ≡ old.taken + length (spelling (instruction op (Counted payload))))
     × Passes old at op count new
@@ -87,31 +93,31 @@ PassedIsRead =
 -- where a call says that the reader has ended, the instructions are a sequence, and nothing changed
 abbrev pub EndIsRead : Type 0
 EndIsRead =
-    (start : Sight) (limit : Op → ℕ) (p : List Instruction) (old new : State)
+    (start : Sight) (from : ℕ) (limit : Op → ℕ) (p : List Instruction) (old new : State)
     (result : Result Next Refusal) →
-    Reads start limit p old → Steps old result new → result ≡ Ok next.Ended →
+    Reads start from limit p old → Steps old result new → result ≡ Ok next.Ended →
     IsSequence limit p × (new ≡ old)
 
 -- the same of `next_head`
 abbrev pub EndOfHeads : Type 0
 EndOfHeads =
-    (start : Sight) (limit : Op → ℕ) (p : List Instruction) (old new : State)
+    (start : Sight) (from : ℕ) (limit : Op → ℕ) (p : List Instruction) (old new : State)
     (result : Result Head Refusal) →
-    Reads start limit p old → StepsHead old result new → result ≡ Ok head.Ended →
+    Reads start from limit p old → StepsHead old result new → result ≡ Ok head.Ended →
     IsSequence limit p × (new ≡ old)
 
 -- where a call refuses, it refuses here for the first time, and STOP was not given
 abbrev pub RefusalIsRead : Type 0
 RefusalIsRead =
-    (start : Sight) (limit : Op → ℕ) (p : List Instruction) (old new : State)
+    (start : Sight) (from : ℕ) (limit : Op → ℕ) (p : List Instruction) (old new : State)
     (result : Result Next Refusal) (refusal : Refusal) →
-    Reads start limit p old → Steps old result new → result ≡ Err refusal →
+    Reads start from limit p old → Steps old result new → result ≡ Err refusal →
     NoStop p × RefusesAt old refusal new
 
 -- the same of `next_head`
 abbrev pub RefusalOfHeads : Type 0
 RefusalOfHeads =
-    (start : Sight) (limit : Op → ℕ) (p : List Instruction) (old new : State)
+    (start : Sight) (from : ℕ) (limit : Op → ℕ) (p : List Instruction) (old new : State)
     (result : Result Head Refusal) (refusal : Refusal) →
-    Reads start limit p old → StepsHead old result new → result ≡ Err refusal →
+    Reads start from limit p old → StepsHead old result new → result ≡ Err refusal →
     NoStop p × RefusesHead old refusal new

@@ -1,7 +1,7 @@
 //! The bytes of the instruction begun, and the most that were ever held.
 
 ghost use Rattle.std.specs.Prelude.{◌≡◌, ◌+◌, ◌++◌, ◌∷◌, ◌<◌, ◌≤◌, ◌%◌, ◌^◌, [], ℕ, List};
-ghost use Rattle.std.specs.Prelude.{IfOk, IfErr, length, max, take};
+ghost use Rattle.std.specs.Prelude.{IfOk, IfErr, IfNone, IfSome, length, max, take};
 ghost use Rattle.pkread.specs.Held.{Held, none_held};
 ghost use Rattle.pkread.specs.Rows.{sight};
 ghost use Rattle.pkread.specs.Private.Taking.{AreBytes, PulledInto, Reads, ReadsByte, ReadsNone};
@@ -56,6 +56,19 @@ impl Buffer {
         ensures { result.now ≡ self.now.bytes }
     {
         &self.store[..self.held]
+    }
+
+    /// The first of the bytes held, if there is one.
+    #[inline]
+    pub(crate) fn first(&self) -> Option<u8>
+        ensures none { IfNone result (self.now.bytes ≡ []) }
+        ensures some { IfSome result (λ byte.
+            (rest : List ℕ) × (self.now.bytes ≡ byte ∷ rest)) }
+    {
+        if self.held == 0 {
+            return None;
+        }
+        Some(self.store[0])
     }
 
     /// Forgets the bytes, and keeps their memory.

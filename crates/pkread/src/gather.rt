@@ -6,8 +6,9 @@ ghost use Rattle.pkops.specs.Scanning.{longest};
 ghost use Rattle.pkops.specs.Table.{code_of};
 ghost use Rattle.pkread.specs.Private.Judging.{IsPlain};
 ghost use Rattle.pkread.specs.Private.Gathering.{Gathers, Grows, HoldsTaken, IsFound, Stops};
-ghost use Rattle.pkread.specs.Rows.{Refuses, sight};
-ghost use Rattle.pkread.specs.Private.Taking.{Took};
+ghost use Rattle.pkread.specs.Core.{Begins};
+ghost use Rattle.pkread.specs.Rows.{Refuses, sight, unread};
+ghost use Rattle.pkread.specs.Private.Taking.{LacksSome, Took};
 
 use crate::admission::{
     byte_is_plain, counted_is_plain, objection_in, signed_is_plain, two_is_plain,
@@ -67,6 +68,25 @@ fn behind_code<R: Source>(
     }
 }
 
+/// Takes the first byte of an instruction, which the buffer holds where it was taken ahead.
+#[inline]
+fn take_code<R: Source>(source: &mut R, buffer: &mut Buffer, taken: &mut u64) -> Result<u8, Reason>
+    requires { Begins buffer.old.bytes taken.old }
+    ensures most { buffer.new.most ≡ buffer.old.most }
+    ensures ok { IfOk result (λ byte. Took (byte ∷ [])
+        [] (unread buffer.old.bytes (sight R.left R.failures source.old)) taken.old
+        buffer.new.bytes (sight R.left R.failures source.new) taken.new) }
+    ensures err { IfErr result (LacksSome 1
+        [] (unread buffer.old.bytes (sight R.left R.failures source.old)) taken.old
+        buffer.new.bytes (sight R.left R.failures source.new) taken.new) }
+{
+    let Some(byte) = buffer.first() else {
+        return take_byte(source, buffer, taken);
+    };
+    *taken += 1;
+    Ok(byte)
+}
+
 /// Takes a code, and gives its opcode.
 #[inline]
 pub(crate) fn take_op<R: Source>(
@@ -74,19 +94,19 @@ pub(crate) fn take_op<R: Source>(
     buffer: &mut Buffer,
     taken: &mut u64,
 ) -> Result<Op, Reason>
-    requires { buffer.old.bytes ≡ [] }
+    requires { Begins buffer.old.bytes taken.old }
     ensures most { buffer.new.most ≡ buffer.old.most }
     ensures code { IfOk result (λ op. buffer.new.bytes ≡ code_of op ∷ []) }
     ensures ok { IfOk result (λ op. Took (code_of op ∷ [])
-        buffer.old.bytes (sight R.left R.failures source.old) taken.old
+        [] (unread buffer.old.bytes (sight R.left R.failures source.old)) taken.old
         buffer.new.bytes (sight R.left R.failures source.new) taken.new) }
     ensures few { length buffer.new.bytes ≤ 1 }
     ensures err { IfErr result (λ reason. (limit : ℕ) → Stops limit
-        buffer.old.bytes (sight R.left R.failures source.old) taken.old
+        [] (unread buffer.old.bytes (sight R.left R.failures source.old)) taken.old
         buffer.new.bytes (sight R.left R.failures source.new) taken.new reason) }
 {
     growth();
-    let code = take_byte(source, buffer, taken)?;
+    let code = take_code(source, buffer, taken)?;
     let Some(op) = op_of_byte(code) else {
         return Err(Reason::UnknownOpcode(code));
     };
@@ -132,22 +152,22 @@ fn gather_held<R: Source>(
     taken: &mut u64,
     limit: u64,
 ) -> Result<Found, Reason>
-    requires { buffer.old.bytes ≡ [] }
+    requires { Begins buffer.old.bytes taken.old }
     ensures most { buffer.new.most ≡ buffer.old.most }
     ensures whole { IfOk result (λ f. IsFound limit buffer.new.bytes f.op f.split) }
     ensures ok { IfOk result (λ _. (bytes : List ℕ) × Took bytes
-        buffer.old.bytes (sight R.left R.failures source.old) taken.old
+        [] (unread buffer.old.bytes (sight R.left R.failures source.old)) taken.old
         buffer.new.bytes (sight R.left R.failures source.new) taken.new) }
     ensures err { IfErr result (Stops limit
-        buffer.old.bytes (sight R.left R.failures source.old) taken.old
+        [] (unread buffer.old.bytes (sight R.left R.failures source.old)) taken.old
         buffer.new.bytes (sight R.left R.failures source.new) taken.new) }
 {
     let op = take_op(source, buffer, taken)?;
     gather_behind(source, buffer, taken, limit, op)
 }
 
-/// Takes bytes until they spell an instruction: its code alone, then what its layout needs. Gives
-/// what the buffer then holds.
+/// Takes bytes until they spell an instruction: its code alone, where the buffer does not hold it
+/// yet, then what its layout needs.
 #[inline]
 pub(crate) fn gather<R: Source>(
     source: &mut R,
@@ -155,13 +175,15 @@ pub(crate) fn gather<R: Source>(
     taken: &mut u64,
     limit: u64,
 ) -> Result<Found, Reason>
-    requires { buffer.old.bytes ≡ [] }
+    requires { Begins buffer.old.bytes taken.old }
     ensures whole { IfOk result (λ f. IsFound limit buffer.new.bytes f.op f.split) }
     ensures ok { IfOk result (λ _. Gathers limit
-        (sight R.left R.failures source.old) (sight R.left R.failures source.new)
+        (unread buffer.old.bytes (sight R.left R.failures source.old))
+        (sight R.left R.failures source.new)
         buffer.new.bytes taken.old taken.new) }
     ensures err { IfErr result (λ reason. (bytes : List ℕ) × Refuses limit
-        (sight R.left R.failures source.old) (sight R.left R.failures source.new)
+        (unread buffer.old.bytes (sight R.left R.failures source.old))
+        (sight R.left R.failures source.new)
         bytes taken.old taken.new reason × HoldsTaken reason bytes buffer.new.bytes) }
     ensures most { buffer.new.most ≡ max buffer.old.most (length buffer.new.bytes) }
     ensures bound { length buffer.new.bytes ≤ longest limit }

@@ -11,7 +11,8 @@ ghost use Rattle.pkread.specs.Private.Gathering.{Gathers, IsFound, Stops};
 ghost use Rattle.pkread.specs.Heads.{HoldsFew, PassesBy};
 ghost use Rattle.pkread.specs.Private.Passing.{GrowsPassing, IfHeld, IfPassed, PassedAll};
 ghost use Rattle.pkread.specs.Private.Passing.{PassedSome, StopsPassing, most_now};
-ghost use Rattle.pkread.specs.Rows.{Refuses, sight};
+ghost use Rattle.pkread.specs.Core.{Begins};
+ghost use Rattle.pkread.specs.Rows.{Refuses, sight, unread};
 ghost use Rattle.pkread.specs.Private.Taking.{Took};
 
 use crate::arms::take_count;
@@ -106,11 +107,12 @@ fn gather_parts<R: Source>(
     taken: &mut u64,
     limits: Limits,
 ) -> Result<Gathered, Reason>
-    requires { buffer.old.bytes ≡ [] }
+    requires { Begins buffer.old.bytes taken.old }
     ensures least { buffer.old.most ≤ buffer.new.most }
     ensures bound { most_now buffer.new ≤ max buffer.old.most (longest limits.counted) }
     ensures passed { IfOk result (λ g. IfPassed g (λ op count. PassesBy limits.passed op count
-        (sight R.left R.failures source.old) (sight R.left R.failures source.new)
+        (unread buffer.old.bytes (sight R.left R.failures source.old))
+        (sight R.left R.failures source.new)
         taken.old taken.new)) }
     ensures few { IfOk result (λ g. IfPassed g (λ _ _.
         most_now buffer.new ≤ max buffer.old.most 131_075)) }
@@ -119,12 +121,14 @@ fn gather_parts<R: Source>(
         × (is_passed f.op ≡ false)
         × (buffer.new.most ≡ buffer.old.most)
         × Gathers limits.counted
-        (sight R.left R.failures source.old) (sight R.left R.failures source.new)
+        (unread buffer.old.bytes (sight R.left R.failures source.old))
+        (sight R.left R.failures source.new)
         buffer.new.bytes taken.old taken.new
         × HoldsFew buffer.old.most buffer.new.bytes (most_now buffer.new))) }
     ensures err { IfErr result (λ reason. (bytes : List ℕ)
         × Refuses (payload_limit_at limits bytes)
-        (sight R.left R.failures source.old) (sight R.left R.failures source.new)
+        (unread buffer.old.bytes (sight R.left R.failures source.old))
+        (sight R.left R.failures source.new)
         bytes taken.old taken.new reason
         × HoldsFew buffer.old.most bytes (most_now buffer.new)) }
 {
@@ -148,11 +152,12 @@ pub(crate) fn gather_head<R: Source>(
     taken: &mut u64,
     limits: Limits,
 ) -> Result<Gathered, Reason>
-    requires { buffer.old.bytes ≡ [] }
+    requires { Begins buffer.old.bytes taken.old }
     ensures least { buffer.old.most ≤ buffer.new.most }
     ensures bound { buffer.new.most ≤ max buffer.old.most (longest limits.counted) }
     ensures passed { IfOk result (λ g. IfPassed g (λ op count. PassesBy limits.passed op count
-        (sight R.left R.failures source.old) (sight R.left R.failures source.new)
+        (unread buffer.old.bytes (sight R.left R.failures source.old))
+        (sight R.left R.failures source.new)
         taken.old taken.new)) }
     ensures few { IfOk result (λ g. IfPassed g (λ _ _.
         buffer.new.most ≤ max buffer.old.most 131_075)) }
@@ -161,12 +166,14 @@ pub(crate) fn gather_head<R: Source>(
         × (is_passed f.op ≡ false)
         × (buffer.new.most ≡ max buffer.old.most (length buffer.new.bytes))
         × Gathers limits.counted
-        (sight R.left R.failures source.old) (sight R.left R.failures source.new)
+        (unread buffer.old.bytes (sight R.left R.failures source.old))
+        (sight R.left R.failures source.new)
         buffer.new.bytes taken.old taken.new
         × HoldsFew buffer.old.most buffer.new.bytes buffer.new.most)) }
     ensures err { IfErr result (λ reason. (bytes : List ℕ)
         × Refuses (payload_limit_at limits bytes)
-        (sight R.left R.failures source.old) (sight R.left R.failures source.new)
+        (unread buffer.old.bytes (sight R.left R.failures source.old))
+        (sight R.left R.failures source.new)
         bytes taken.old taken.new reason
         × HoldsFew buffer.old.most bytes buffer.new.most) }
 {

@@ -1,10 +1,14 @@
 //! Laws of the definitions. Nothing is computed: each function is proved to keep what it says.
 
+ghost use Rattle.pkread.specs.Again.{NoByteIsRefused};
 ghost use Rattle.pkread.specs.Framing.{CountingIsExact};
 ghost use Rattle.pkread.specs.Pieces.{FramesBreak, FramesGoOn, FramesHold};
 ghost use Rattle.pkread.specs.Run.{EndIsRead, EndOfHeads, HeadIsRead, NextIsRead, PassedIsRead};
+ghost use Rattle.pkread.specs.Run.{ReadingBegins, ReadingGoesOn, RefusalIsRead, RefusalOfHeads};
+ghost use Rattle.pkread.specs.Rows.{TakingLaws};
 ghost use Rattle.pkread.specs.Walked.{EndIsWalked, ItemIsWalked, RefusalIsWalked, WalkBegins};
-ghost use Rattle.pkread.specs.Run.{ReadingBegins, RefusalIsRead, RefusalOfHeads};
+
+use pkops::laws::{growth, one_answer};
 
 /// Along any instructions laid end to end, the rule of `Frames::take` refuses first exactly at
 /// the first instruction that the frame rules forbid.
@@ -32,6 +36,18 @@ pub fn heads()
     ensures ended { EndOfHeads }
     ensures refused { RefusalOfHeads }
 {}
+
+/// A loop over either knows the same from where `Reader::again` has answered true, what its refusal
+/// is, and that the bytes of several pickles were taken one after the other.
+#[inline]
+pub fn rows()
+    ensures begins { ReadingGoesOn }
+    ensures refused { NoByteIsRefused }
+    ensures taking { TakingLaws }
+{
+    growth();
+    one_answer();
+}
 
 /// The same of a loop over `genops`.
 #[inline]

@@ -1,6 +1,6 @@
 //! The instructions of a source, one at a time.
 
-ghost use Rattle.std.specs.Prelude.{◌≡◌, ◌≤◌, []};
+ghost use Rattle.std.specs.Prelude.{◌≡◌, ◌≤◌, [], true};
 ghost use Rattle.std.specs.Borrow.{sem};
 ghost use Rattle.pkread.specs.Reading.{source_name, source_of};
 ghost use Rattle.pkops.specs.Scanning.{longest};
@@ -78,8 +78,9 @@ impl<'r, R: Source> Reader<'r, R> {
     ghost use Rattle.std.specs.Io.BufRead.{Rests};
     ghost use Rattle.pkread.specs.contracts.reader.Reader.{the_row};
     ghost use Rattle.pkread.specs.contracts.state.Core.{the_row as core_row};
+    ghost use Rattle.pkread.specs.Again.{StepsAgain, TakesOneAhead};
     ghost use Rattle.pkread.specs.Heads.{ShowsAHead, StepsHead};
-    ghost use Rattle.pkread.specs.Reading.{KeepsSource, LeavesSource, Shows, Steps};
+    ghost use Rattle.pkread.specs.Reading.{KeepsSource, LeavesSource, Shows, Steps, TakesNoneAhead};
     ghost use Rattle.pkread.specs.Reading.{begun, has_ended, state};
 
     /// A reader of the source, which has taken nothing yet.
@@ -127,7 +128,7 @@ impl<'r, R: Source> Reader<'r, R> {
         ensures* after { sem 𝓛 (Rests (the_row (record { mir = named 1; lft = [] }) R.row core_row)
             self.entry (λ new. KeepsSource self.old new
             × Steps (state R.left R.failures self.old) result (state R.left R.failures new)
-            × LeavesSource self.old new)) }
+            × LeavesSource self.old new × TakesNoneAhead new)) }
     {
         match self.core.phase() {
             Phase::Ended => return Ok(Next::Ended),
@@ -154,7 +155,7 @@ impl<'r, R: Source> Reader<'r, R> {
         ensures* after { sem 𝓛 (Rests (the_row (record { mir = named 1; lft = [] }) R.row core_row)
             self.entry (λ new. KeepsSource self.old new
             × StepsHead (state R.left R.failures self.old) result (state R.left R.failures new)
-            × LeavesSource self.old new)) }
+            × LeavesSource self.old new × TakesNoneAhead new)) }
     {
         match self.core.phase() {
             Phase::Ended => return Ok(Head::Ended),
@@ -169,5 +170,22 @@ impl<'r, R: Source> Reader<'r, R> {
                 inst: self.core.instruction(found),
             }),
         }
+    }
+
+    /// Asks for one byte behind STOP: whether a further pickle begins there. Where it does, that
+    /// byte is the first of its first instruction, with which it counts: `next` and `next_head`
+    /// read on to the next STOP, and offsets go on. Where the source is at its end, the reader
+    /// stays as it is.
+    ///
+    /// It refuses by `Source`, by `OutOfMemory`, or by `TooLarge` in place of asking once 2^64 - 1
+    /// bytes were taken. After that `next` and `next_head` answer the same refusal for ever.
+    pub fn again(&mut self) -> Result<bool, Refusal>
+        requires { has_ended (state R.left R.failures self.old) ≡ true }
+        ensures source { KeepsSource self.old self.new }
+        ensures steps { StepsAgain (state R.left R.failures self.old) result
+            (state R.left R.failures self.new) }
+        ensures byte { TakesOneAhead R.left R.failures self.old result self.new }
+    {
+        self.core.again(self.source)
     }
 }

@@ -1,17 +1,21 @@
 //! What a reader keeps beside its source: the bytes of an instruction, and how it goes on.
 
-ghost use Rattle.std.specs.Prelude.{◌≡◌, ◌≤◌, [], ℕ, List, IfOk, IfErr, false, length, max};
+ghost use Rattle.std.specs.Io.KnownBytes.{IsAtEnd};
+ghost use Rattle.std.specs.Prelude.{◌≡◌, ◌≢◌, ◌∷◌, ◌<◌, ◌≤◌, [], ℕ, List, IfOk, IfErr};
+ghost use Rattle.std.specs.Prelude.{false, length, max, true};
 ghost use Rattle.pkops.specs.Inst.{instruction_of};
 ghost use Rattle.pkops.specs.Lying.{Lies};
 ghost use Rattle.pkops.specs.Payloads.{is_passed, payload_limit_at};
 ghost use Rattle.pkops.specs.Scanning.{longest};
 ghost use Rattle.pkops.specs.Spelling.{Argument, instruction};
-ghost use Rattle.pkread.specs.Core.{phase_after, shown_phase};
+ghost use Rattle.pkread.specs.Core as phase;
+ghost use Rattle.pkread.specs.Core.{NoneIfClosed, ahead_of, phase_after, shown_phase};
 ghost use Rattle.pkread.specs.Heads.{HoldsFew, PassesBy};
 ghost use Rattle.pkread.specs.Private.Gathering.{Gathers, IsFound};
 ghost use Rattle.pkread.specs.Private.Passing.{IfHeld, IfPassed};
+ghost use Rattle.pkread.specs.Again.{WhyNoByte};
 ghost use Rattle.pkread.specs.Reading.{Raises};
-ghost use Rattle.pkread.specs.Rows.{Refuses, all_bytes, sight};
+ghost use Rattle.pkread.specs.Rows.{Refuses, Takes, all_bytes, sight, unread};
 
 use crate::buffer::Buffer;
 use crate::gather::{Found, gather};
@@ -41,33 +45,39 @@ pub struct Core {
     taken: u64,
     limits: Limits,
     phase: Phase,
+    /// Whether the buffer holds what was taken ahead of the next instruction.
+    begun: bool,
 }
 
 impl Model for Core {
     ghost use Rattle.std.specs.Prelude.{◌≤◌};
-    ghost use Rattle.pkread.specs.Core.{CoreView, shown_phase};
+    ghost use Rattle.pkread.specs.Core.{Begins, CoreView, NoneIfClosed, ahead_of, shown_phase};
     ghost use Rattle.pkops.specs.Scanning.{longest};
 
     ghost Value = { CoreView };
 
     ghost view = { λ c. record {
       held = c.buffer;
+      ahead = ahead_of c.begun c.buffer.bytes;
       taken = c.taken;
       limits = c.limits;
       phase = shown_phase c.phase;
     } };
 
-    ghost invariant = { λ c. c.buffer.most ≤ longest c.limits.counted };
+    ghost invariant = { λ c. (c.buffer.most ≤ longest c.limits.counted)
+        × Begins (ahead_of c.begun c.buffer.bytes) c.taken
+        × NoneIfClosed (shown_phase c.phase) (ahead_of c.begun c.buffer.bytes) };
 }
 
 impl Core {
-    ghost use Rattle.pkread.specs.Core.{CoreView, phase_after, shown_phase};
+    ghost use Rattle.pkread.specs.Core.{CoreView, NoneIfClosed, phase_after, shown_phase};
     ghost use Rattle.pkread.specs.Held.{none_held};
     ghost use Rattle.pkread.specs.Core as phase;
 
     pub(crate) fn new(alloc: Global, limits: &Limits) -> Core
         ensures { result ≡ record {
           held = none_held;
+          ahead = [];
           taken = 0;
           limits = limits.now;
           phase = phase.Open;
@@ -78,6 +88,7 @@ impl Core {
             taken: 0,
             limits: *limits,
             phase: Phase::Open,
+            begun: false,
         }
     }
 
@@ -88,7 +99,8 @@ impl Core {
     }
 
     pub(crate) fn phase(&self) -> Phase
-        ensures { shown_phase result ≡ self.now.phase }
+        ensures shown { shown_phase result ≡ self.now.phase }
+        ensures closed { NoneIfClosed self.now.phase self.now.ahead }
     {
         self.phase
     }
@@ -103,7 +115,8 @@ impl Core {
     /// Goes on behind an instruction of the opcode.
     #[inline]
     fn give(&mut self, op: Op)
-        requires { self.old.phase ≡ phase.Open }
+        requires open { self.old.phase ≡ phase.Open }
+        requires none { self.old.ahead ≡ [] }
         ensures { self.new ≡ record self.old { phase = phase_after op } }
     {
         match op {
@@ -114,6 +127,7 @@ impl Core {
 
     /// Refuses, now and for ever.
     fn refuse(&mut self, at: u64, reason: Reason) -> Refusal
+        requires { self.old.ahead ≡ [] }
         ensures refusal { result ≡ record { at = at; reason = reason } }
         ensures after { self.new ≡ record self.old { phase = phase.Refused result } }
     {
@@ -138,11 +152,13 @@ impl Core {
     pub(crate) fn collect<R: Source>(&mut self, source: &mut R) -> Result<Found, Refusal>
         requires { self.old.phase ≡ phase.Open }
         ensures limits { self.new.limits ≡ self.old.limits }
+        ensures ahead { self.new.ahead ≡ [] }
         ensures whole { IfOk result (λ f.
             IsFound self.old.limits.counted self.new.held.bytes f.op f.split
             × (self.new.phase ≡ phase_after f.op)) }
         ensures ok { IfOk result (λ _. Gathers self.old.limits.counted
-            (sight R.left R.failures source.old) (sight R.left R.failures source.new)
+            (unread self.old.ahead (sight R.left R.failures source.old))
+            (sight R.left R.failures source.new)
             self.new.held.bytes self.old.taken self.new.taken) }
         ensures most { IfOk result (λ _.
             self.new.held.most ≡ max self.old.held.most (length self.new.held.bytes)) }
@@ -150,13 +166,15 @@ impl Core {
         ensures place { IfErr result (λ r.
             (r.at ≡ self.old.taken) × (self.new.phase ≡ phase.Refused r)) }
         ensures err { IfErr result (λ r. (bytes : List ℕ) × Refuses self.old.limits.counted
-            (sight R.left R.failures source.old) (sight R.left R.failures source.new)
+            (unread self.old.ahead (sight R.left R.failures source.old))
+            (sight R.left R.failures source.new)
             bytes self.old.taken self.new.taken r.reason
             × Raises self.old.held.most bytes r.reason self.new.held.most) }
     {
         let at = self.taken;
         let limit = self.limits.counted();
-        self.buffer.clear();
+        keep(&mut self.buffer, self.begun);
+        self.begun = false;
         let gathered = gather(source, &mut self.buffer, &mut self.taken, limit);
         let _taken = self.taken;
         match gathered {
@@ -172,9 +190,11 @@ impl Core {
     pub(crate) fn collect_head<R: Source>(&mut self, source: &mut R) -> Result<Gathered, Refusal>
         requires { self.old.phase ≡ phase.Open }
         ensures limits { self.new.limits ≡ self.old.limits }
+        ensures ahead { self.new.ahead ≡ [] }
         ensures least { self.old.held.most ≤ self.new.held.most }
         ensures passed { IfOk result (λ g. IfPassed g (λ op count. PassesBy self.old.limits.passed
-            op count (sight R.left R.failures source.old) (sight R.left R.failures source.new)
+            op count (unread self.old.ahead (sight R.left R.failures source.old))
+            (sight R.left R.failures source.new)
             self.old.taken self.new.taken)) }
         ensures open { IfOk result (λ g. IfPassed g (λ _ _. self.new.phase ≡ phase.Open)) }
         ensures few { IfOk result (λ g. IfPassed g (λ _ _.
@@ -184,7 +204,8 @@ impl Core {
             × (is_passed f.op ≡ false)
             × (self.new.held.most ≡ max self.old.held.most (length self.new.held.bytes))
             × Gathers self.old.limits.counted
-            (sight R.left R.failures source.old) (sight R.left R.failures source.new)
+            (unread self.old.ahead (sight R.left R.failures source.old))
+            (sight R.left R.failures source.new)
             self.new.held.bytes self.old.taken self.new.taken
             × HoldsFew self.old.held.most self.new.held.bytes self.new.held.most)) }
         ensures next { IfOk result (λ g. IfHeld g (λ f. self.new.phase ≡ phase_after f.op)) }
@@ -193,13 +214,15 @@ impl Core {
             (r.at ≡ self.old.taken) × (self.new.phase ≡ phase.Refused r)) }
         ensures err { IfErr result (λ r. (bytes : List ℕ) × Refuses
             (payload_limit_at self.old.limits bytes)
-            (sight R.left R.failures source.old) (sight R.left R.failures source.new)
+            (unread self.old.ahead (sight R.left R.failures source.old))
+            (sight R.left R.failures source.new)
             bytes self.old.taken self.new.taken r.reason
             × HoldsFew self.old.held.most bytes self.new.held.most) }
     {
         let at = self.taken;
         let limits = self.limits;
-        self.buffer.clear();
+        keep(&mut self.buffer, self.begun);
+        self.begun = false;
         let gathered = gather_head(source, &mut self.buffer, &mut self.taken, limits);
         let _taken = self.taken;
         match gathered {
@@ -210,5 +233,93 @@ impl Core {
             }
             Err(reason) => Err(self.refuse(at, reason)),
         }
+    }
+
+    /// Asks for the first byte of a further instruction. Gives whether there is one.
+    pub(crate) fn again<R: Source>(&mut self, source: &mut R) -> Result<bool, Refusal>
+        requires { self.old.phase ≡ phase.Ended }
+        ensures none { self.old.ahead ≡ [] }
+        ensures kept { (self.new.held.most ≡ self.old.held.most)
+            × (self.new.taken ≡ self.old.taken) × (self.new.limits ≡ self.old.limits) }
+        ensures room { IfOk result (λ _. self.old.taken < all_bytes) }
+        ensures byte { IfOk result (λ more. more ≡ true → (byte : ℕ)
+            × (self.new.ahead ≡ byte ∷ [])
+            × Takes (sight R.left R.failures source.old) (sight R.left R.failures source.new)
+            (byte ∷ []) × (self.new.phase ≡ phase.Open)) }
+        ensures end { IfOk result (λ more. more ≡ false → (self.new.ahead ≡ [])
+            × Takes (sight R.left R.failures source.old) (sight R.left R.failures source.new) []
+            × IsAtEnd (R.left source.new) × (self.new.phase ≡ phase.Ended)) }
+        ensures place { IfErr result (λ r. (r.at ≡ self.old.taken)
+            × (self.new.ahead ≡ []) × (self.new.phase ≡ phase.Refused r)) }
+        ensures err { IfErr result (λ r. WhyNoByte
+            (sight R.left R.failures source.old) (sight R.left R.failures source.new)
+            self.old.taken r.reason) }
+    {
+        self.buffer.clear();
+        match ask(source, &mut self.buffer, self.taken) {
+            Ok(more) => {
+                self.begun = more;
+                self.phase = phase_of(more);
+                Ok(more)
+            }
+            Err(reason) => {
+                self.begun = false;
+                Err(self.refuse(self.taken, reason))
+            }
+        }
+    }
+}
+
+/// Leaves in a buffer what was taken ahead of the next instruction, where that is begun.
+#[inline]
+fn keep(buffer: &mut Buffer, begun: bool)
+    ensures bytes { buffer.new.bytes ≡ ahead_of begun buffer.old.bytes }
+    ensures most { buffer.new.most ≡ buffer.old.most }
+{
+    if !begun {
+        buffer.clear();
+    }
+}
+
+/// How a reader goes on behind STOP: with the next instruction, if there is a byte of one.
+fn phase_of(more: bool) -> Phase
+    ensures open { more ≡ true → shown_phase result ≡ phase.Open }
+    ensures ended { more ≡ false → shown_phase result ≡ phase.Ended }
+{
+    if more { Phase::Open } else { Phase::Ended }
+}
+
+/// Asks for one byte, which stands in the buffer then. Gives whether it came.
+fn ask<R: Source>(source: &mut R, buffer: &mut Buffer, taken: u64) -> Result<bool, Reason>
+    requires { buffer.old.bytes ≡ [] }
+    ensures most { buffer.new.most ≡ buffer.old.most }
+    ensures room { IfOk result (λ _. taken < all_bytes) }
+    ensures byte { IfOk result (λ more. more ≡ true → (byte : ℕ)
+        × (buffer.new.bytes ≡ byte ∷ [])
+        × Takes (sight R.left R.failures source.old) (sight R.left R.failures source.new)
+        (byte ∷ [])) }
+    ensures end { IfOk result (λ more. more ≡ false
+        → Takes (sight R.left R.failures source.old) (sight R.left R.failures source.new) []
+        × IsAtEnd (R.left source.new)) }
+    ensures err { IfErr result (WhyNoByte
+        (sight R.left R.failures source.old) (sight R.left R.failures source.new) taken) }
+{
+    if taken == u64::MAX {
+        return Err(Reason::TooLarge);
+    }
+    match buffer.read_byte(source) {
+        Ok(_) => Ok(true),
+        Err(reason) => none_or(reason),
+    }
+}
+
+/// That no byte came, where the source had come to its end.
+fn none_or(reason: Reason) -> Result<bool, Reason>
+    ensures end { IfOk result (λ more. (more ≡ false) × (reason ≡ Reason.Truncated)) }
+    ensures err { IfErr result (λ r. (r ≡ reason) × (reason ≢ Reason.Truncated)) }
+{
+    match reason {
+        Reason::Truncated => Ok(false),
+        _ => Err(reason),
     }
 }

@@ -1,8 +1,10 @@
 -- Texts that grow at their end.
-use Rattle.std.proofs.Common.{◌≡◌, ℕ, ◌+◌, List, [], ◌∷◌, ◌++◌, ◌∙◌, Some, take, refl, sym, ap, add-one, append-nil, append_assoc, zero, suc}
+use Rattle.std.proofs.Common.{◌≡◌, ℕ, ◌+◌, List, [], ◌∷◌, ◌++◌, ◌∙◌, Option, Some, Result, Ok, Err, OnOk, take, refl, sym, ap, subst, add-one, append-nil, append_assoc, zero, suc}
+use Rattle.std.specs.Io.KnownBytes.{Appends}
 use Rattle.std.specs.List.{flat_map, slice_get}
 use Rattle.hex.specs.Hex.{encode_with}
 use Rattle.pktool.specs.Listing.{indent}
+use Rattle.pktool.specs.Private.Lists.{appends_then}
 
 pub encode_with-append : (t xs ys : List ℕ) → encode_with t (xs ++ ys) ≡ encode_with t xs ++ encode_with t ys
 unfolding encode_with
@@ -26,3 +28,10 @@ flat_map_next {A = A} f xs n x e = rw add-one (go xs n e)
     go [] n e = cc
     go (y ∷ ys) zero e = let same : x ≡ y = cc in rw (same, append-nil (f y)) refl
     go (y ∷ ys) (suc n) e = ap (λ l. f y ++ l) (go ys n e) ∙ sym (append_assoc (f y) (flat_map f (take n ys)) (f x))
+
+-- a number between two texts, and then the last of the line
+pub numbered_line : {A E : Type 0} (r : Result A E) (a b c : Option (List ℕ)) (front digits middle last : List ℕ) → Appends a b (front ++ (digits ++ middle)) → OnOk r (Appends b c last) → OnOk r (Appends a c (front ++ (digits ++ (middle ++ last))))
+numbered_line (Err e) a b c front digits middle last p q = tt
+numbered_line (Ok x) a b c front digits middle last p q =
+    let e = append_assoc front (digits ++ middle) last ∙ ap (λ (l : List ℕ). front ++ l) (append_assoc digits middle last) in
+    subst (λ (l : List ℕ). Appends a c l) e (appends_then a b c (front ++ (digits ++ middle)) last p q)

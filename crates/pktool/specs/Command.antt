@@ -1,8 +1,9 @@
 -- The command line of the program, as `clap` defines a simple command.
-use Rattle.std.specs.Prelude.{◌≡◌, List, [], ◌∷◌, map, Option, Some, true, false}
+use Rattle.std.specs.Prelude.{◌≡◌, Bool, List, [], ◌∷◌, map, Option, Some, true, false}
 use Rattle.std.specs.Prelude.{codes, string_bytes}
 use Rattle.clap.specs.Words.{App, Row, Rule, Text, first_of, new_rule, subcommand_of}
 use Rattle.clap.specs.Simple.{new_shape}
+use Rattle.clap.specs.declared.builder.action.ArgAction.TheVariants.{SetTrue}
 use Rattle.clap.specs.declared.builder.value_parser.ValueParser.{ValueParser}
 use Rattle.clap.specs.declared.builder.value_parser.ValueParser.TheVariants.{Names}
 use Rattle.pkcheck.specs.declared.old_strings.OldStrings.{OldStrings}
@@ -34,6 +35,10 @@ TakesOldWords (Names words) =
     map (λ word. word.now) words.now ≡ map old_word (Unknown ∷ Ascii ∷ Bytes ∷ [])
 TakesOldWords _ = ⊥
 
+-- the flag `--all`
+abbrev pub all_rule : Rule
+all_rule = record (new_rule (codes "all")) { long = Some (codes "all"); action = Some SetTrue }
+
 -- the required FILE
 abbrev pub file_rule : Rule
 file_rule = record (new_rule (codes "FILE")) { required = true }
@@ -50,10 +55,10 @@ app_with name rules = record { top = record (new_shape name) { rules = rules }; 
 abbrev pub file_app : Text → App
 file_app name = app_with name (file_rule ∷ [])
 
--- `check --allow LIST [--old-strings OBJECT] FILE`
+-- `check --allow LIST [--old-strings OBJECT] [--all] FILE`
 abbrev pub check_app : ValueParser → App
 check_app parser =
-    app_with (codes "check") (allow_rule ∷ old_rule parser ∷ file_rule ∷ [])
+    app_with (codes "check") (allow_rule ∷ old_rule parser ∷ all_rule ∷ file_rule ∷ [])
 
 -- `optimize FILE OUT`
 abbrev pub optimize_app : App
@@ -68,8 +73,8 @@ program_app parser = record {
     disable_help_subcommand = true;
   };
   subs =
-      (file_app (codes "dis")).top ∷ (check_app parser).top
-      ∷ (file_app (codes "imports")).top ∷ optimize_app.top ∷ (file_app (codes "json")).top ∷ [];
+      (file_app (codes "dis")).top ∷ (check_app parser).top ∷ (file_app (codes "imports")).top
+      ∷ optimize_app.top ∷ (file_app (codes "json")).top ∷ [];
 }
 
 -- these are the option, the command and the program, and old strings are one of the three words
@@ -86,6 +91,11 @@ IsProgram app = (parser : ValueParser) × TakesOldWords parser × (app ≡ progr
 abbrev pub Has : List Row → Text → Text → Type 0
 Has rows id value = first_of id rows ≡ Some value
 
+-- the value of a flag
+abbrev pub flag_text : Bool → Text
+flag_text true = codes "true"
+flag_text false = codes "false"
+
 -- the values of a job are those of its arguments
 abbrev pub Gives : List Row → Job → Type 0
 Gives rows (Dis file) = Has rows (codes "FILE") (string_bytes file)
@@ -93,14 +103,14 @@ Gives rows (Imports file) = Has rows (codes "FILE") (string_bytes file)
 Gives rows (Json file) = Has rows (codes "FILE") (string_bytes file)
 Gives rows (Optimize file out) =
     Has rows (codes "FILE") (string_bytes file) × Has rows (codes "OUT") (string_bytes out)
-Gives rows (Check allow old file) =
+Gives rows (Check allow old all file) =
     Has rows (codes "LIST") (string_bytes allow) × Has rows (codes "OBJECT") (old_word old)
-    × Has rows (codes "FILE") (string_bytes file)
+    × Has rows (codes "all") (flag_text all) × Has rows (codes "FILE") (string_bytes file)
 
 -- the subcommand of a job
 abbrev pub name_of : Job → Text
 name_of (Dis file) = codes "dis"
-name_of (Check allow old file) = codes "check"
+name_of (Check allow old all file) = codes "check"
 name_of (Imports file) = codes "imports"
 name_of (Optimize file out) = codes "optimize"
 name_of (Json file) = codes "json"

@@ -7,6 +7,8 @@ use Rattle.pkcheck.specs.declared.import.Asked.{Asked}
 use Rattle.pkcheck.specs.declared.import.Asked.TheVariants.{Pair}
 use Rattle.pkcheck.specs.declared.checking.Yes.{Yes}
 use Rattle.pkcheck.specs.declared.checking.No.{No}
+use Rattle.pkcheck.specs.declared.row_of_pickles.YesAll.{YesAll}
+use Rattle.pkcheck.specs.declared.row_of_pickles.NoAll.{NoAll}
 use Rattle.pktool.specs.declared.checking.Outcome.{Outcome}
 use Rattle.pktool.specs.declared.checking.Outcome.TheVariants.{Done, Refused}
 use Rattle.pktool.specs.Quoted.{quoted}
@@ -61,11 +63,14 @@ yes_line taken imports =
     codes "yes: "
     ++ (decimal taken ++ (codes " bytes, " ++ (decimal imports ++ codes " imports\n")))
 
+-- `P: REASON`
+abbrev pub place_text : ℕ → Reason → Option Asked → List ℕ
+place_text at why pair =
+    decimal at ++ (codes ": " ++ (reason_text why ++ (pair_text pair ++ codes "\n")))
+
 -- `no at P: REASON`
 abbrev pub no_line : ℕ → Reason → Option Asked → List ℕ
-no_line at why pair =
-    codes "no at "
-    ++ (decimal at ++ (codes ": " ++ (reason_text why ++ (pair_text pair ++ codes "\n"))))
+no_line at why pair = codes "no at " ++ place_text at why pair
 
 -- the line of an answer
 abbrev pub verdict_line : Result Yes No → List ℕ
@@ -76,3 +81,29 @@ verdict_line (Err refused) = no_line refused.at refused.reason refused.pair
 abbrev pub outcome_of : Result Yes No → Outcome
 outcome_of (Ok accepted) = Done
 outcome_of (Err refused) = Refused
+
+-- `yes: N bytes, P pickles, M imports`
+abbrev pub yes_all_line : ℕ → ℕ → ℕ → List ℕ
+yes_all_line taken pickles imports =
+    codes "yes: "
+    ++ (decimal taken
+    ++ (codes " bytes, "
+    ++ (decimal pickles
+    ++ (codes " pickles, " ++ (decimal imports ++ codes " imports\n")))))
+
+-- `no in pickle K at P: REASON`
+abbrev pub no_in_line : ℕ → ℕ → Reason → Option Asked → List ℕ
+no_in_line pickle at why pair =
+    codes "no in pickle " ++ (decimal pickle ++ (codes " at " ++ place_text at why pair))
+
+-- the line of an answer about a row of pickles
+abbrev pub row_line : Result YesAll NoAll → List ℕ
+row_line (Ok accepted) =
+    yes_all_line accepted.taken accepted.pickles (length accepted.imports)
+row_line (Err refused) =
+    no_in_line refused.pickle refused.no.at refused.no.reason refused.no.pair
+
+-- a check of a row that is done said yes
+abbrev pub outcome_of_row : Result YesAll NoAll → Outcome
+outcome_of_row (Ok accepted) = Done
+outcome_of_row (Err refused) = Refused

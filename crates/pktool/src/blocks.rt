@@ -63,6 +63,7 @@ impl<R: Read> Source for Blocks<R> {
             self.block.fill(to);
             return Ok(to.len());
         }
+        // Taken apart and made anew: else LLVM joins both answers to one, and tests it again.
         Ok(self.pull_some(to)?)
     }
 }

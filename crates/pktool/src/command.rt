@@ -5,11 +5,11 @@ ghost use Rattle.clap.specs.Words.{app_of, first_of, found_of, rows_of, rule_of}
 ghost use Rattle.clap.specs.Words.{subcommand_rows_of};
 ghost use Rattle.clap.specs.declared.Command.TheViews.{out-Command as fields_of};
 ghost use Rattle.pktool.specs.Command.{Asks, Gives, IsCheck, IsJob, IsOldRule, IsProgram};
-ghost use Rattle.pktool.specs.Command.{allow_rule, file_app, file_rule};
+ghost use Rattle.pktool.specs.Command.{all_rule, allow_rule, file_app, file_rule, flag_text};
 ghost use Rattle.pktool.specs.Command.{name_of, old_word, optimize_app};
 
 use clap::error::ErrorKind;
-use clap::{Arg, ArgMatches, Command};
+use clap::{Arg, ArgAction, ArgMatches, Command};
 use pkcheck::OldStrings;
 use std::alloc::{AllocError, Global};
 
@@ -49,13 +49,15 @@ pub enum Job {
         /// The path of the pickle.
         file: String,
     },
-    /// `check --allow LIST [--old-strings OBJECT] FILE`: whether the pickle in FILE imports what
-    /// LIST permits alone.
+    /// `check --allow LIST [--old-strings OBJECT] [--all] FILE`: whether the pickle in FILE imports
+    /// what LIST permits alone.
     Check {
         /// The path of the list file.
         allow: String,
         /// With `--old-strings`: what strings of Python 2 become.
         old: OldStrings,
+        /// With `--all`: FILE holds pickles one after the other, and each is checked.
+        all: bool,
         /// The path of the pickle.
         file: String,
     },
@@ -145,7 +147,7 @@ fn file_command<'a>(
         .arg(file_argument(alloc))
 }
 
-/// `check --allow LIST [--old-strings OBJECT] FILE`.
+/// `check --allow LIST [--old-strings OBJECT] [--all] FILE`.
 fn check_command<'a>(alloc: Global) -> Result<Command<'a>, AllocError>
     ensures shape { IfOk result (λ command. IsCheck (app_of command)) }
     ensures local { IfOk result (λ command. (fields_of command).has_globals ≡ false) }
@@ -154,6 +156,7 @@ fn check_command<'a>(alloc: Global) -> Result<Command<'a>, AllocError>
         .about("Says whether a pickle imports listed names alone, and cannot go wrong")
         .arg(allow_option(alloc))?
         .arg(old_option(alloc))?
+        .arg(all_flag(alloc))?
         .arg(file_argument(alloc))
 }
 
@@ -178,6 +181,17 @@ fn old_option<'a>(alloc: Global) -> Arg<'a>
         .help("What a string of Python 2 becomes: anything, a text where it is ASCII, or bytes")
         .value_parser(OLD_WORDS.as_slice())
         .default_value("unknown")
+}
+
+/// `--all`.
+fn all_flag<'a>(alloc: Global) -> Arg<'a>
+    ensures rule { rule_of result ≡ all_rule }
+    ensures local { result.global ≡ false }
+{
+    Arg::new(alloc, "all")
+        .long("all")
+        .help("Checks each of the pickles that stand one after the other in FILE")
+        .action(ArgAction::SetTrue)
 }
 
 /// `FILE`.
@@ -283,10 +297,18 @@ fn check_job(alloc: Global, values: &ArgMatches) -> Result<Option<Job>, AllocErr
     let Some(old) = old_of(values) else {
         return Ok(None);
     };
+    let Some(all) = flag_of(values, "all") else {
+        return Ok(None);
+    };
     let Some(file) = value_of(alloc, values, "FILE")? else {
         return Ok(None);
     };
-    Ok(Some(Job::Check { allow, old, file }))
+    Ok(Some(Job::Check {
+        allow,
+        old,
+        all,
+        file,
+    }))
 }
 
 /// What old strings become.
@@ -308,6 +330,26 @@ fn old_named(word: &str) -> Option<OldStrings>
     }
     if word == "bytes" {
         return Some(OldStrings::Bytes);
+    }
+    None
+}
+
+/// The value of a flag.
+fn flag_of(values: &ArgMatches, id: &str) -> Option<bool>
+    ensures { IfSome result (λ flag.
+        first_of id.now (rows_of (found_of values.now)) ≡ Some (flag_text flag)) }
+{
+    flag_named(text_of(values, id)?)
+}
+
+fn flag_named(text: &str) -> Option<bool>
+    ensures { IfSome result (λ flag. text.now ≡ flag_text flag) }
+{
+    if text == "true" {
+        return Some(true);
+    }
+    if text == "false" {
+        return Some(false);
     }
     None
 }

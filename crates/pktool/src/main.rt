@@ -7,6 +7,7 @@
 mod block;
 mod blocks;
 mod checking;
+mod checking_row;
 mod command;
 mod exporting;
 mod fault;

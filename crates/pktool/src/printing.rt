@@ -10,4 +10,4 @@ mod verdict;
 pub use export::write_export_error;
 pub use imports::write_imports;
 pub use listing::{write_last, write_line};
-pub use verdict::{write_no, write_verdict};
+pub use verdict::{write_no, write_row, write_verdict};

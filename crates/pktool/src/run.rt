@@ -2,6 +2,7 @@
 ghost use Rattle.std.specs.Prelude.{◌≤◌};
 
 use crate::checking::{Outcome, check_to};
+use crate::checking_row::check_all_to;
 use crate::command::{Job, Usage, command_of};
 use crate::exporting::json_to;
 use crate::fault::{Fault, unwritten, write_fault};
@@ -64,14 +65,12 @@ fn done<'a, R: Files, O: Write>(
     match job {
         Job::Dis { file } => dis_file(rt, alloc, file.as_str(), out),
         Job::Imports { file } => imports_file(rt, alloc, file.as_str(), out),
-        Job::Check { allow, old, file } => check_file(
-            rt,
-            alloc,
-            allow.as_str(),
-            *old,
-            file.as_str(),
-            out,
-        ),
+        Job::Check {
+            allow,
+            old,
+            all,
+            file,
+        } => check_file(rt, alloc, allow.as_str(), *old, *all, file.as_str(), out),
         Job::Json { file } => json_file(rt, alloc, file.as_str(), out),
         Job::Optimize { file, out: to } => {
             optimize_file(rt, alloc, file.as_str(), to.as_str(), out)
@@ -79,12 +78,13 @@ fn done<'a, R: Files, O: Write>(
     }
 }
 
-/// `check --allow LIST [--old-strings OBJECT] FILE`, under the limits of the list.
+/// `check --allow LIST [--old-strings OBJECT] [--all] FILE`, under the limits of the list.
 fn check_file<'a, R: Files, O: Write>(
     rt: &R,
     alloc: Global,
     allow: &'a str,
     old: OldStrings,
+    all: bool,
     file: &'a str,
     out: &mut O,
 ) -> Result<Outcome, Fault<'a>> {
@@ -92,14 +92,13 @@ fn check_file<'a, R: Files, O: Write>(
     let Ok(mut source) = open_source(rt, alloc, file) else {
         return Err(Fault::Unread(file));
     };
-    match check_to(
-        alloc,
-        &mut source,
-        &Policy::Listed(&list),
-        &list.limits(),
-        out,
-        old,
-    ) {
+    let (policy, limits) = (Policy::Listed(&list), list.limits());
+    let written = if all {
+        check_all_to(alloc, &mut source, &policy, &limits, out, old)
+    } else {
+        check_to(alloc, &mut source, &policy, &limits, out, old)
+    };
+    match written {
         Ok(outcome) => Ok(outcome),
         Err(error) => Err(unwritten(&error)),
     }

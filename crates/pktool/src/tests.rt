@@ -129,6 +129,8 @@ fn reads_words(rt: HostRuntime) {
         (["pktool", "check", "a"].as_slice(), 2),
         (["pktool", "check", "--allow", "a"].as_slice(), 2),
         (["pktool", "check", "--allow", "a", "b", "c"].as_slice(), 2),
+        (["pktool", "check", "--all", "a"].as_slice(), 2),
+        (["pktool", "dis", "--all", "a"].as_slice(), 2),
         (
             ["pktool", "check", "--old-strings", "ascii", "a"].as_slice(),
             2,

@@ -1,14 +1,15 @@
 -- What is known once instructions were read and judged, and the answers that follow.
 use Rattle.pkcheck.specs.declared.old_strings.OldStrings.{OldStrings}
-use Rattle.std.proofs.Common.{◌≡◌, ℕ, ◌<◌, List, [], ◌∷◌, ◌++◌, map, Option, Some, None, Ok, Err, inl, inr, refl, sym, ap, subst, ◌∙◌, arith}
+use Rattle.std.proofs.Common.{◌≡◌, ℕ, ◌+◌, ◌<◌, List, [], ◌∷◌, ◌++◌, map, Option, Some, None, Ok, Err, inl, inr, refl, sym, ap, subst, ◌∙◌, arith}
 use Rattle.pkops.specs.Limits.{Bounds}
 use Rattle.pkops.specs.Payloads.{payload_limit, payload_limit_at}
 use Rattle.pkops.specs.Spelling.{Instruction, spelling}
 use Rattle.pkread.specs.Admission.{IsAllowedBy}
+use Rattle.pkread.specs.Core.{Open}
 use Rattle.pkread.specs.Framing.{counted, counted_all}
 use Rattle.pkread.specs.Pieces.{piece_of}
 use Rattle.pkread.specs.Reading.{State, begun, has_ended, is_ended}
-use Rattle.pkread.specs.Run.{Reads, ReadingBegins}
+use Rattle.pkread.specs.Run.{Reads, ReadingBegins, ReadingGoesOn}
 use Rattle.pkread.specs.Sequence.{CountsAt, IsSequence, NoStop}
 use Rattle.pkread.specs.Rows.{Sight, Takes, Refuses as ReaderRefuses}
 use Rattle.pkread.specs.declared.refusal.Reason.{Reason}
@@ -20,7 +21,7 @@ use Rattle.pkcheck.specs.Private.Judging.{IsPassed, BreaksFrame, IsRefusedByMach
 use Rattle.pkcheck.specs.Knowledge.{Policy, Asked, Refusal, reason_of, advance, nothing_known, Lacks, WrongClass, NotText, UnknownImport, OffList, LeftOver, NotAscii, TooLarge}
 use Rattle.pkcheck.specs.Shape.{NoMark, NoItem, NoMemo, Odd, Extension}
 use Rattle.pkcheck.specs.Listing.{imports_among, ImportsAreListed}
-use Rattle.pkcheck.specs.Refused.{Refused, Why, reading, judging, growing, HasFirstFault}
+use Rattle.pkcheck.specs.Refused.{RefusedFrom, Why, reading, judging, growing, HasFirstFault}
 use Rattle.pkcheck.specs.RunFaults.{HasFault, RunsBehind}
 use Rattle.pkcheck.specs.Faults.{Arrivals, HasFaultHere, everyone, rank}
 use Rattle.pkcheck.specs.Heard.{refused_instruction}
@@ -41,9 +42,10 @@ use Rattle.pkcheck.proofs.Covering.Standing.{Stands, has_fault, first, pair_of}
 use Rattle.pkcheck.proofs.Stepping.Extensions.{no_extension}
 use Rattle.pkcheck.proofs.Wholes.Walk.{along, verdict_more}
 
--- these instructions were read, from a source that was seen so, and judged, and these are their imports
-pub record Checked (setting : OldStrings) (policy : Policy) (limits : Bounds) (old : Sight) (p : List Instruction) (asked : List (Option Asked)) (s : State) (still_open : ℕ) (m : View) : Type 0 where
-  pub reads : Reads old (payload_limit limits) p s
+-- these instructions were read, from where the source was seen so and `from` bytes were taken, and judged, and these are their imports
+pub record Checked (setting : OldStrings) (policy : Policy) (limits : Bounds) (old : Sight) (from : ℕ) (p : List Instruction) (asked : List (Option Asked)) (s : State) (still_open : ℕ) (m : View) : Type 0 where
+  pub laws : FrameLaws
+  pub reads : Reads old from (payload_limit limits) p s
   pub read_limits : s.limits ≡ limits
   pub frames : counted_all 0 (map piece_of p) ≡ Some still_open
   pub accepts : verdict setting policy limits p nothing_known ≡ Yes m.knowledge asked
@@ -53,6 +55,10 @@ pub record Checked (setting : OldStrings) (policy : Policy) (limits : Bounds) (o
   pub refused : m.refused ≡ None
   pub off : m.off ≡ None
   pub stopped : m.stopped ≡ has_ended s
+
+-- at the start of the source
+pub from_start : (taken count : ℕ) → count ≡ taken → taken ≡ 0 + count
+from_start taken count e = omega (arith, e)
 
 among_more : (asked : List (Option Asked)) (a : Option Asked) → imports_among (asked ++ a ∷ []) ≡ asks_more a (imports_among asked)
 among_more [] None = refl
@@ -97,9 +103,10 @@ counts_at policy i still_open m n why (inl (e, becomes, is)) a b same = subst (�
 counts_at policy i still_open m n why (inr (o, inl (f, e, is, becomes))) a b same = subst (λ x. CountsAt x a b) (sym is) (counts_same f a b same)
 counts_at policy i still_open m n why (inr (o, inr (wants, is, becomes))) a b same = subst (λ x. CountsAt x a b) (sym is) same
 
-module _ (laws : FrameLaws) (setting : OldStrings) (policy : Policy) (limits : Bounds) (old : Sight) where
-  pub checked_none : ReadingBegins → Checked setting policy limits old [] [] (begun old limits) 0 (fresh setting limits)
-  checked_none begins = record {
+module _ (setting : OldStrings) (policy : Policy) (limits : Bounds) (old : Sight) where
+  pub checked_none : FrameLaws → ReadingBegins → Checked setting policy limits old 0 [] [] (begun old limits) 0 (fresh setting limits)
+  checked_none laws begins = record {
+    laws = laws;
     reads = begins old (payload_limit limits) limits;
     read_limits = refl;
     frames = refl;
@@ -112,15 +119,32 @@ module _ (laws : FrameLaws) (setting : OldStrings) (policy : Policy) (limits : B
     stopped = refl;
   }
 
-  module _ (p : List Instruction) (asked : List (Option Asked)) (s : State) (still_open : ℕ) (m : View) (h : Checked setting policy limits old p asked s still_open m) where
+  -- the same of a reader that is open again
+  pub checked_again : FrameLaws → ReadingGoesOn → (s : State) → s.phase ≡ Open → s.limits ≡ limits → Checked setting policy limits s.source s.taken [] [] s 0 (fresh setting limits)
+  checked_again laws law s open' same = record {
+    laws = laws;
+    reads = law s (payload_limit limits) open';
+    read_limits = same;
+    same_setting = refl;
+    frames = refl;
+    accepts = refl;
+    imports = refl;
+    same_limits = refl;
+    refused = refl;
+    off = refl;
+    stopped = rw open' refl;
+  }
+
+  module _ (from : ℕ) (p : List Instruction) (asked : List (Option Asked)) (s : State) (still_open : ℕ) (m : View) (h : Checked setting policy limits old from p asked s still_open m) where
     -- one instruction more passed
-    pub checked_took : (t : State) (is_open : ℕ) (n : View) (at : ℕ) (i : Instruction) → Took old limits p s at i t → (g : IsPassed policy i still_open m is_open n) → Checked setting policy limits old (p ++ i ∷ []) (asked ++ g.1.1.0.import ∷ []) t is_open n
+    pub checked_took : (t : State) (is_open : ℕ) (n : View) (at : ℕ) (i : Instruction) → Took old from limits p s at i t → (g : IsPassed policy i still_open m is_open n) → Checked setting policy limits old from (p ++ i ∷ []) (asked ++ g.1.1.0.import ∷ []) t is_open n
     checked_took t is_open n at i took (frames, (v, (q, passes, becomes, moved))) =
         let passes' : advance setting policy limits i m.knowledge ≡ Ok q = subst (λ o. advance o policy limits i m.knowledge ≡ Ok q) h.same_setting (subst (λ l. advance m.old_strings policy l i m.knowledge ≡ Ok q) h.same_limits passes) in
         record {
+          laws = h.laws;
           reads = took.more.reads;
           read_limits = took.same_limits ∙ h.read_limits;
-          frames = (laws.more p i still_open is_open h.frames frames).0;
+          frames = (h.laws.more p i still_open is_open h.frames frames).0;
           accepts = verdict_more setting policy limits p i nothing_known m.knowledge q asked h.accepts passes' ∙ ap (λ x. Yes x.knowledge (asked ++ q.import ∷ [])) (sym becomes);
           imports = ap (λ x. x.imports) becomes ∙ ap (asks_more q.import) h.imports ∙ sym (among_more asked q.import);
           same_limits = ap (λ x. x.limits) becomes ∙ h.same_limits;
@@ -131,22 +155,22 @@ module _ (laws : FrameLaws) (setting : OldStrings) (policy : Policy) (limits : B
         }
 
     -- where STOP was read and judged: these instructions are accepted
-    pub accepted : (new : Sight) (taken : ℕ) (imports : List Asked) → IsSequence (payload_limit limits) p → new ≡ s.source → taken ≡ s.taken → imports ≡ m.imports → (a : Accepted setting policy limits old new taken imports) × (a.instructions ≡ p)
+    pub accepted : (new : Sight) (taken : ℕ) (imports : List Asked) → IsSequence (payload_limit limits) p → new ≡ s.source → s.taken ≡ from + taken → imports ≡ m.imports → (a : Accepted setting policy limits old new taken imports) × (a.instructions ≡ p)
     accepted new taken imports sequence same count lists =
         let last = sequence_last (payload_limit limits) p sequence in (
           record {
             instructions = p;
             sequence = sequence;
             bytes = rw same h.reads.bytes;
-            count = count ∙ h.reads.count;
-            framed = laws.all p still_open h.frames;
+            count = (let reads = h.reads.count in omega (arith, count, reads));
+            framed = h.laws.all p still_open h.frames;
             sound = sound_by setting policy limits p m.knowledge asked h.accepts;
             asked = asked;
             each = length-asked setting policy limits p nothing_known m.knowledge asked h.accepts;
             listed = lists ∙ h.imports;
             imported = λ os. subst (λ l. ImportsAreListed l (run_as setting p os start)) (sym (lists ∙ h.imports)) (listed setting policy limits p m.knowledge asked last h.accepts os);
             at_each = each_asks setting policy limits p m.knowledge asked last h.accepts;
-            faultless = faultless setting policy limits p m.knowledge asked last h.accepts laws.more still_open h.frames;
+            faultless = faultless setting policy limits p m.knowledge asked last h.accepts h.laws.more still_open h.frames;
             unknown = unknown_is_open setting policy limits p m.knowledge asked last h.accepts;
           },
           refl,
@@ -159,7 +183,7 @@ module _ (laws : FrameLaws) (setting : OldStrings) (policy : Policy) (limits : B
     -- a refusal that is about these instructions: those before the place, and the refused one where it was read
     abbrev pub RefusedAfter : ℕ → Reason → Option Asked → Sight → List Instruction → Type 0
     RefusedAfter at reason pair new q =
-        (r : Refused setting policy limits old new at reason pair) × (r.instructions ++ refused_instruction r.why ≡ q)
+        (r : RefusedFrom from setting policy limits old new at reason pair) × (r.instructions ++ refused_instruction r.why ≡ q)
 
     -- where none is STOP, and then something is refused
     refused_here : (at : ℕ) (why : Reason) (pair : Option Asked) (new : Sight) → NoStop p → at ≡ s.taken → (w : Why setting policy limits p s.source new at why pair) → RefusedAfter at why pair new (p ++ refused_instruction w)
@@ -171,8 +195,8 @@ module _ (laws : FrameLaws) (setting : OldStrings) (policy : Policy) (limits : B
         here = s.source;
         bytes = h.reads.bytes;
         place = place ∙ h.reads.count;
-        framed = laws.all p still_open h.frames;
-        faultless = faultless setting policy limits p m.knowledge asked (nowhere_last p (stops_nowhere p none)) h.accepts laws.more still_open h.frames;
+        framed = h.laws.all p still_open h.frames;
+        faultless = faultless setting policy limits p m.knowledge asked (nowhere_last p (stops_nowhere p none)) h.accepts h.laws.more still_open h.frames;
         why = why;
       },
       refl,
@@ -182,7 +206,7 @@ module _ (laws : FrameLaws) (setting : OldStrings) (policy : Policy) (limits : B
     RefusesHere b t x at new = ReaderRefuses (payload_limit_at limits b) s.source new b at t.taken x.reason
 
     -- where the reader refuses
-    pub refused_turned : (t : State) (x : ReadRefusal) (new : Sight) → Turned old limits p s x t → new ≡ t.source → RefusedAfter x.at x.reason None new (p ++ [])
+    pub refused_turned : (t : State) (x : ReadRefusal) (new : Sight) → Turned old from limits p s x t → new ≡ t.source → RefusedAfter x.at x.reason None new (p ++ [])
     refused_turned t x new o same =
         refused_here x.at x.reason None new o.no_stop o.place (reading (record {
           bytes = o.bytes;
@@ -191,7 +215,7 @@ module _ (laws : FrameLaws) (setting : OldStrings) (policy : Policy) (limits : B
           none = refl;
         }))
 
-    module _ (t : State) (at : ℕ) (i : Instruction) (new : Sight) (took : Took old limits p s at i t) (same : new ≡ t.source) where
+    module _ (t : State) (at : ℕ) (i : Instruction) (new : Sight) (took : Took old from limits p s at i t) (same : new ≡ t.source) where
       allowed : IsAllowedBy (payload_limit limits) i
       allowed = took.allowed
 
@@ -209,7 +233,7 @@ module _ (laws : FrameLaws) (setting : OldStrings) (policy : Policy) (limits : B
           instruction = i;
           allowed = allowed;
           bytes = takes;
-          fault = laws.refused p i still_open h.frames e;
+          fault = h.laws.refused p i still_open h.frames e;
           first = λ earlier lt g. none_earlier policy limits p i (everyone (RunsBehind setting p)) earlier lt g;
           asks = ap (λ x. x.off) becomes ∙ h.off;
         }),
@@ -263,7 +287,7 @@ module _ (laws : FrameLaws) (setting : OldStrings) (policy : Policy) (limits : B
           allowed = allowed;
           bytes = takes;
           fault = behind (reason_of f) (has_fault policy limits i m.knowledge (RunsBehind setting p) known long.0 long.1 f e (no_extension setting policy limits i m.knowledge f (wants_no_registry setting i allowed.admitted) e));
-          first = λ earlier lt g. first policy limits i m.knowledge (RunsBehind setting p) known f e earlier lt (machine_fault policy limits p i (laws.more p i still_open is_open h.frames o).1 (everyone (RunsBehind setting p)) earlier g);
+          first = λ earlier lt g. first policy limits i m.knowledge (RunsBehind setting p) known f e earlier lt (machine_fault policy limits p i (h.laws.more p i still_open is_open h.frames o).1 (everyone (RunsBehind setting p)) earlier g);
           asks = pair_of policy limits i m.knowledge (RunsBehind setting p) known f e;
         }
 
@@ -285,5 +309,5 @@ module _ (laws : FrameLaws) (setting : OldStrings) (policy : Policy) (limits : B
             subst (λ x. RefusedAfter at why x new (p ++ i ∷ [])) (sym is) (subst (RefusedAfter at why n.off new) (ap (λ q. p ++ q) w.1) (refused_here at why n.off new took.more.no_stop took.place w.0))
 
     -- no read failed where the frames or the machine refuse
-    pub count_took : (t : State) (at : ℕ) (i : Instruction) (new : Sight) (why : Reason) (pair : Option Asked) → Refused setting policy limits old new at why pair → Took old limits p s at i t → new ≡ t.source → (n : View) → IsRefused policy i still_open m n why → CountsAt why old.failures new.failures
+    pub count_took : (t : State) (at : ℕ) (i : Instruction) (new : Sight) (why : Reason) (pair : Option Asked) → RefusedFrom from setting policy limits old new at why pair → Took old from limits p s at i t → new ≡ t.source → (n : View) → IsRefused policy i still_open m n why → CountsAt why old.failures new.failures
     count_took t at i new why pair a took same n g = counts_at policy i still_open m n why g old.failures new.failures (ap (λ x. x.failures) same ∙ took.bytes.count ∙ h.reads.bytes.count)

@@ -12,7 +12,7 @@ use Rattle.pkread.specs.Admission.{IsAllowedBy}
 use Rattle.pkread.specs.Core.{Open, phase_after}
 use Rattle.pkread.specs.Heads.{IsPassed, StepsHead}
 use Rattle.pkread.specs.Reading.{Gives, State, Steps}
-use Rattle.pkread.specs.Rows.{Refuses, Sight, Takes}
+use Rattle.pkread.specs.Rows.{Refuses, Sight, Takes, unread}
 use Rattle.pkread.specs.Run.{HeadIsRead, HoldsTo, NextIsRead, PassedIsRead, PassesTo, Reads, ReadsMore, RefusalIsRead, RefusalOfHeads}
 use Rattle.pkread.specs.Sequence.{NoStop}
 use Rattle.pkread.specs.declared.reader.Head.{Head}
@@ -34,10 +34,10 @@ one_limit_at : (limits : Bounds) → limits.passed ≡ limits.counted → (b : L
 one_limit_at limits e [] = refl
 one_limit_at limits e (code ∷ b) = one_limit limits e (is_passed_code code)
 
-module _ (start : Sight) (limits : Bounds) (p : List Instruction) (s : State) where
+module _ (start : Sight) (from : ℕ) (limits : Bounds) (p : List Instruction) (s : State) where
   -- the bytes of this instruction were taken at the place
   pub record Took (at : ℕ) (i : Instruction) (t : State) : Type 0 where
-    pub more : ReadsMore start (payload_limit limits) p i t
+    pub more : ReadsMore start from (payload_limit limits) p i t
     pub same_limits : t.limits ≡ s.limits
     pub place : at ≡ s.taken
     pub allowed : IsAllowedBy (payload_limit limits) i
@@ -58,7 +58,7 @@ module _ (start : Sight) (limits : Bounds) (p : List Instruction) (s : State) wh
     pub bytes : List ℕ
     pub why : Refuses (payload_limit_at limits bytes) s.source t.source bytes s.taken t.taken r.reason
 
-  gave : (at : ℕ) (i : Instruction) (t : State) → t.limits ≡ s.limits → ReadsMore start (payload_limit limits) p i t × Gives s at i t → Took at i t
+  gave : (at : ℕ) (i : Instruction) (t : State) → t.limits ≡ s.limits → ReadsMore start from (payload_limit limits) p i t × Gives s at i t → Took at i t
   gave at i t same w = record {
     more = w.0;
     same_limits = same;
@@ -69,18 +69,18 @@ module _ (start : Sight) (limits : Bounds) (p : List Instruction) (s : State) wh
     phase = w.1.phase;
   }
 
-  module _ (reads : Reads start (payload_limit limits) p s) (same : s.limits ≡ limits) (t : State) where
+  module _ (reads : Reads start from (payload_limit limits) p s) (same : s.limits ≡ limits) (t : State) where
     -- by `next`, which holds each payload, where there is one limit for all
     module _ (one : limits.passed ≡ limits.counted) where
       holds : HoldsTo s (payload_limit limits)
       holds o = ap (λ l. l.counted) same ∙ sym (one_limit limits one (is_passed o))
 
       pub took_next : NextIsRead → (r : Result Next Refusal) (at : ℕ) (i : Inst) → Steps s r t → r ≡ Ok (next.Inst at i) → Took at (instruction_of i) t
-      took_next law r at i k e = gave at (instruction_of i) t k.0 (law start (payload_limit limits) p s t r at i holds reads k e)
+      took_next law r at i k e = gave at (instruction_of i) t k.0 (law start from (payload_limit limits) p s t r at i holds reads k e)
 
       pub refused_next : RefusalIsRead → (r : Result Next Refusal) (x : Refusal) → Steps s r t → r ≡ Err x → Turned x t
       refused_next law r x k e =
-          let w = law start (payload_limit limits) p s t r x reads k e in
+          let w = law start from (payload_limit limits) p s t r x reads k e in
           let b = w.1.why.0 in
           record { no_stop = w.0; place = w.1.place; bytes = b; why = subst (λ l. Refuses l s.source t.source b s.taken t.taken x.reason) (ap (λ l. l.counted) same ∙ sym (one_limit_at limits one b)) w.1.why.1 }
 
@@ -89,7 +89,7 @@ module _ (start : Sight) (limits : Bounds) (p : List Instruction) (s : State) wh
     passes o = ap (λ l. payload_limit l o) same
 
     pub took_head : HeadIsRead → (r : Result Head Refusal) (at : ℕ) (i : Inst) → StepsHead s r t → r ≡ Ok (head.Inst at i) → Took at (instruction_of i) t
-    took_head law r at i k e = gave at (instruction_of i) t k.0 (law start (payload_limit limits) p s t r at i passes reads k e)
+    took_head law r at i k e = gave at (instruction_of i) t k.0 (law start from (payload_limit limits) p s t r at i passes reads k e)
 
     open_after : (o : Op) → IsTrue (is_passed o) → Open ≡ phase_after o
     open_after op.Stop h = cc
@@ -97,7 +97,7 @@ module _ (start : Sight) (limits : Bounds) (p : List Instruction) (s : State) wh
 
     pub took_passed : PassedIsRead → (r : Result Head Refusal) (at : ℕ) (o : Op) (count : ℕ) → StepsHead s r t → r ≡ Ok (head.Passed at o count) → Passed at o count t
     took_passed law r at o count k e =
-        let (payload, one, more, bytes, taken, g) = law start (payload_limit limits) p s t r at o count passes reads k e in
+        let (payload, one, more, bytes, taken, g) = law start from (payload_limit limits) p s t r at o count passes reads k e in
         record {
           payload = payload;
           one = one;
@@ -114,6 +114,10 @@ module _ (start : Sight) (limits : Bounds) (p : List Instruction) (s : State) wh
 
     pub refused_head : RefusalOfHeads → (r : Result Head Refusal) (x : Refusal) → StepsHead s r t → r ≡ Err x → Turned x t
     refused_head law r x k e =
-        let w = law start (payload_limit limits) p s t r x reads k e in
+        let w = law start from (payload_limit limits) p s t r x reads k e in
         let b = w.1.why.0 in
         record { no_stop = w.0; place = w.1.place; bytes = b; why = subst (λ l. Refuses (payload_limit_at l b) s.source t.source b s.taken t.taken x.reason) same w.1.why.1 }
+
+-- where nothing was taken ahead, the source is seen as it is
+pub seen_so : (ahead : List ℕ) (now here : Sight) → ahead ≡ [] → now ≡ here → now ≡ unread ahead here
+seen_so ahead now here e h = h ∙ rw e refl

@@ -22,7 +22,7 @@ piece_passed i o n h l =
     let role : role_of i.op (number_of i.arg) ≡ role_of o 0 = rw l.op_is (no_frame o (number_of i.arg) 0 h) in
     λ j. record { length = l.long j; role = role j }
 
-module _ (start : Sight) (limits : Bounds) (p : List Instruction) (s : State) (at : ℕ) (o : Op) (count : ℕ) (t : State) (w : Passed start limits p s at o count t) (taken : ℕ) (e : taken ≡ t.taken) where
+module _ (start : Sight) (from : ℕ) (limits : Bounds) (p : List Instruction) (s : State) (at : ℕ) (o : Op) (count : ℕ) (t : State) (w : Passed start from limits p s at o count t) (taken : ℕ) (e : taken ≡ t.taken) where
   -- its length is how many bytes were taken since the place where it begins
   pub long_passed : HasLength (instruction o (Counted w.payload)) o (taken - at)
   long_passed = record { op_is = refl; long = omega (arith, e, w.took.place, w.took.taken) }

@@ -1,5 +1,5 @@
 -- What a ledger holds: the texts that a pickle made, and the imports that it asked for.
-use Rattle.std.specs.Prelude.{ℕ, ◌<◌, List, [], ◌∷◌, Option, Some, None, get_or, ⊤}
+use Rattle.std.specs.Prelude.{ℕ, ◌<◌, List, [], ◌∷◌, Option, Some, None, get_or, length, ◌≡◌, ⊤}
 use Rattle.pkcheck.specs.declared.import.Named.{Named}
 use Rattle.pkcheck.specs.declared.import.Named.TheVariants as named
 use Rattle.pkcheck.specs.declared.machine.ledger.Entry.{Entry}
@@ -45,6 +45,12 @@ IsEntry made written (entry.Written m n) = (m < written) × (n < written)
 abbrev pub AreEntries : ℕ → ℕ → List Entry → Type 0
 AreEntries made written [] = ⊤
 AreEntries made written (e ∷ es) = IsEntry made written e × AreEntries made written es
+
+-- each number that stands here under that of a text is that of the same text, written out
+abbrev pub AreCopies : List (Option ℕ) → List (List ℕ) → List (List ℕ) → Type 0
+AreCopies copies texts written =
+    (number copy : ℕ) → get_or copies number None ≡ Some copy →
+    (copy < length written) × (get_or written copy [] ≡ get_or texts number [])
 
 -- none of these objects is a text past the last of so many
 abbrev pub AreNumbered : ℕ → List Value → Type 0

@@ -1,7 +1,7 @@
 //! What is known along a pickle: the stack, the memo, the texts that both name by number, and the
 //! imports.
-ghost use Rattle.std.specs.Prelude.{◌≡◌, ◌⊎◌, ◌≤◌, [], length, option_map, IfOk, IfErr, OnOk};
-ghost use Rattle.std.specs.Prelude.{OnErr};
+ghost use Rattle.std.specs.Prelude.{◌≡◌, ◌⊎◌, ◌≤◌, ◌++◌, [], length, option_map, IfOk, IfErr};
+ghost use Rattle.std.specs.Prelude.{OnErr, OnOk};
 ghost use Rattle.std.specs.List.{slice_get};
 ghost use Rattle.pkcheck.specs.Private.Denials.{IsDenied, IsForMemory, IsFaultOf, IsStopFault};
 ghost use Rattle.pkcheck.specs.Private.Denials.{MayOperate, Passes, WantsRoom, WellGiven};
@@ -24,7 +24,7 @@ use crate::machine::value::Value;
 use crate::policy::Policy;
 use pkops::{Inst, Limits};
 use pkread::Reason;
-use std::alloc::Global;
+use std::alloc::{AllocError, Global};
 use std::marker::Model;
 
 /// What is known of the stack and the memo, and the imports so far.
@@ -63,6 +63,15 @@ impl Held {
         }
     }
 
+    /// Forgets all, and keeps the memory.
+    pub fn clear(&mut self)
+        ensures { self.new ≡ record { knowledge = nothing_known; texts = 0; imports = [] } }
+    {
+        self.stack.clear();
+        self.memo.clear();
+        self.ledger.clear();
+    }
+
     /// The number of open marks.
     pub fn marks(&self) -> usize
         ensures { result ≡ marks_of self.now.knowledge.entries }
@@ -82,6 +91,13 @@ impl Held {
         ensures { option_map import_shown result ≡ slice_get self.now.imports number }
     {
         self.ledger.get(number)
+    }
+
+    /// Lists the imports behind others.
+    pub fn list_in(&self, alloc: Global, imports: &mut Ledger) -> Result<(), AllocError>
+        ensures { OnOk result (imports.new.asked ≡ imports.old.asked ++ self.now.imports) }
+    {
+        imports.append(alloc, &self.ledger)
     }
 
     /// The imports, without the rest.

@@ -1,11 +1,11 @@
 //! The texts that a pickle made, and the imports that it asked for, which name them by number.
 ghost use Rattle.std.specs.List.{slice_get};
-ghost use Rattle.std.specs.Prelude.{◌≡◌, ℕ, List, ◌∷◌, ◌++◌, [], length, take, get_or, is_some};
-ghost use Rattle.std.specs.Prelude.{map, option_map, IfOk, IfErr, IsSome, OnErr, OnOk};
+ghost use Rattle.std.specs.Prelude.{◌≡◌, ◌<◌, ℕ, List, ◌∷◌, ◌++◌, [], length, take, get_or};
+ghost use Rattle.std.specs.Prelude.{is_some, map, option_map, IfOk, IfErr, IsSome, OnErr, OnOk};
 ghost use Rattle.pkcheck.specs.Import.{asks_more, import_shown};
 ghost use Rattle.pkcheck.specs.Knowledge.{AskedPair};
-ghost use Rattle.pkcheck.specs.Private.Noted.{IsEntry, IsNamed, IsNamedIf, entry_asked};
-ghost use Rattle.pkcheck.specs.Private.Noted.{named_asked};
+ghost use Rattle.pkcheck.specs.Private.Noted.{AreCopies, AreEntries, IsEntry, IsNamed, IsNamedIf};
+ghost use Rattle.pkcheck.specs.Private.Noted.{entry_asked, named_asked};
 ghost use Rattle.pkcheck.specs.Private.Slots.{Grows};
 ghost use Rattle.pkcheck.specs.Runs.{text};
 ghost use Rattle.pkops.specs.Inst.{instruction_of};
@@ -62,6 +62,15 @@ impl Ledger {
             written: Texts::new(alloc),
             entries: Vec::new(alloc),
         }
+    }
+
+    /// Forgets all, and keeps the memory.
+    pub fn clear(&mut self)
+        ensures { self.new ≡ record { texts = []; asked = [] } }
+    {
+        self.texts.clear();
+        self.written.clear();
+        self.entries.clear();
     }
 
     /// How many texts there are.
@@ -131,6 +140,29 @@ impl Ledger {
         Ok(true)
     }
 
+    /// Lists the imports of another ledger behind the others. Of its texts it copies those that
+    /// they name, each of them once.
+    pub fn append(&mut self, alloc: Global, other: &Ledger) -> Result<(), AllocError>
+        ensures { OnOk result (self.new ≡ record {
+          texts = self.old.texts;
+          asked = self.old.asked ++ other.now.asked;
+        }) }
+    {
+        let Ok(mut entries) = copy_entries(
+            alloc,
+            &mut self.written,
+            &other.texts,
+            &other.written,
+            &other.entries,
+        ) else {
+            return Err(AllocError);
+        };
+        let Ok(()) = self.entries.append(&mut entries) else {
+            return Err(AllocError);
+        };
+        Ok(())
+    }
+
     /// Takes all imports but the first so many off the list.
     pub fn keep(&mut self, count: usize)
         ensures { self.new ≡ record { texts = self.old.texts; asked = take count self.old.asked } }
@@ -186,4 +218,88 @@ fn write(written: &mut Texts, name: &str) -> Result<u32, Reason>
     };
     written.put(name)?;
     Ok(number)
+}
+
+/// Entries that say the same as these, by names that are written out.
+fn copy_entries(
+    alloc: Global,
+    written: &mut Texts,
+    texts: &Texts,
+    names: &Texts,
+    entries: &[Entry],
+) -> Result<Vec<Entry>, AllocError>
+    requires { AreEntries (length texts.now) (length names.now) entries.now }
+    ensures grows { Grows written.old written.new }
+    ensures ok { IfOk result (λ es. AreEntries 0 (length written.new) es.items
+        × (map (entry_asked [] written.new) es.items
+        ≡ map (entry_asked texts.now names.now) entries.now)) }
+{
+    let mut copies = Vec::new(alloc);
+    let Ok(()) = copies.resize(texts.len(), None) else {
+        return Err(AllocError);
+    };
+    let mut copied = Vec::new(alloc);
+    'entries: for entry in entries {
+        let Ok(copy) = copy_entry(written, &mut copies, texts, names, *entry) else {
+            return Err(AllocError);
+        };
+        let Ok(()) = copied.push(copy) else {
+            return Err(AllocError);
+        };
+    }
+    Ok(copied)
+}
+
+/// The entry that says the same, by names that are written out.
+fn copy_entry(
+    written: &mut Texts,
+    copies: &mut Vec<Option<u32>>,
+    texts: &Texts,
+    names: &Texts,
+    entry: Entry,
+) -> Result<Entry, Reason>
+    requires copies { AreCopies copies.old.items texts.now written.old }
+    requires entry { IsEntry (length copies.old.items) (length names.now) entry }
+    ensures copies { AreCopies copies.new.items texts.now written.new }
+    ensures count { length copies.new.items ≡ length copies.old.items }
+    ensures grows { Grows written.old written.new }
+    ensures ok { IfOk result (λ e. IsEntry 0 (length written.new) e
+        × (entry_asked [] written.new e ≡ entry_asked texts.now names.now entry)) }
+{
+    match entry {
+        Entry::Unknown => Ok(Entry::Unknown),
+        Entry::Made(first, second) => {
+            let first = copy_text(written, copies, texts, first)?;
+            let second = copy_text(written, copies, texts, second)?;
+            Ok(Entry::Written(first, second))
+        }
+        Entry::Written(first, second) => {
+            let first = write(written, names.get(first as usize))?;
+            let second = write(written, names.get(second as usize))?;
+            Ok(Entry::Written(first, second))
+        }
+    }
+}
+
+/// The number under which a text is written out. It is written out once.
+fn copy_text(
+    written: &mut Texts,
+    copies: &mut Vec<Option<u32>>,
+    texts: &Texts,
+    number: u32,
+) -> Result<u32, Reason>
+    requires copies { AreCopies copies.old.items texts.now written.old }
+    requires number { number < length copies.old.items }
+    ensures copies { AreCopies copies.new.items texts.now written.new }
+    ensures count { length copies.new.items ≡ length copies.old.items }
+    ensures grows { Grows written.old written.new }
+    ensures ok { IfOk result (λ n. (n < length written.new)
+        × (get_or written.new n [] ≡ get_or texts.now number [])) }
+{
+    if let Some(copy) = copies[number as usize] {
+        return Ok(copy);
+    }
+    let copy = write(written, texts.get(number as usize))?;
+    copies[number as usize] = Some(copy);
+    Ok(copy)
 }

@@ -47,6 +47,15 @@ impl Memo {
         }
     }
 
+    /// Forgets all, and keeps the memory of what came in order.
+    pub fn clear(&mut self)
+        ensures { self.new ≡ [] }
+    {
+        self.zero = None;
+        self.row.clear();
+        self.rest.clear();
+    }
+
     /// How many objects are stored.
     #[inline]
     pub fn len(&self) -> u64

@@ -4,9 +4,9 @@ ghost use Rattle.std.specs.Prelude.{option_map, IfOk, IfErr, OnOk, OnErr, IsSome
 ghost use Rattle.std.specs.Prelude.{Some, true, Ok, Err, if◌then◌else◌};
 ghost use Rattle.pkcheck.specs.Private.Places.{above, below};
 ghost use Rattle.pkcheck.specs.View.{texts_given};
-ghost use Rattle.pkcheck.specs.Private.Slots.{known, seen, Grows, Sees, StandsIf};
+ghost use Rattle.pkcheck.specs.Private.Slots.{known, seen, Grows, Sees};
 ghost use Rattle.pkops.specs.Inst.{instruction_of};
-ghost use Rattle.pkcheck.specs.Runs.{Plain, Text, int_or_bool, text};
+ghost use Rattle.pkcheck.specs.Runs.{Plain, Text, text};
 ghost use Rattle.pkcheck.specs.Import.{asked_shown, policy_of};
 ghost use Rattle.pkcheck.specs.Private.Noted.{AreNumbered, IsNamedIf, named_asked};
 ghost use Rattle.pkcheck.specs.Knowledge.{AskedPair, OffList, permitted};
@@ -21,7 +21,7 @@ use crate::import::{Asked, Named, asked_by, pair_of};
 use crate::machine::effects::{Class, Effect, Gives, Names, Takes, Wanted};
 use crate::machine::ledger::Ledger;
 use crate::machine::stack::{Operands, Stack};
-use crate::machine::value::Value;
+use crate::machine::value::{Value, value_of};
 use crate::pairs;
 use crate::policy::Policy;
 use pkops::{Inst, Limits};
@@ -177,33 +177,6 @@ pub fn judge<'a>(
             Ok(()) => Ok(Some(named)),
             Err(denial) => Err(denial),
         },
-    }
-}
-
-/// The class of INT's object.
-pub fn int_or_bool(inst: &Inst) -> Class
-    ensures { result ≡ int_or_bool (instruction_of inst.now) }
-{
-    if inst.names_bool() {
-        Class::Bool
-    } else {
-        Class::Int
-    }
-}
-
-/// What is known of what is given.
-#[inline]
-pub fn value_of(gives: Gives, inst: &Inst) -> Option<Value>
-    requires { IsNoText gives }
-    ensures { (ts : List (List ℕ))
-        → StandsIf ts result (known_given gives (instruction_of inst.now)) }
-{
-    match gives {
-        Gives::Makes(class) => Some(Value::Made(class)),
-        Gives::MakesIntOrBool => Some(Value::Made(int_or_bool(inst))),
-        Gives::MayMake(class) => Some(Value::Made(class)),
-        Gives::Answers => Some(Value::Unknown),
-        _ => None,
     }
 }
 

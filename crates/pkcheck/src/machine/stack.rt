@@ -51,6 +51,14 @@ impl Stack {
         }
     }
 
+    /// Takes all away, and keeps the memory.
+    pub fn clear(&mut self)
+        ensures { self.new ≡ [] }
+    {
+        self.slots.clear();
+        self.places.clear();
+    }
+
     /// How many entries there are.
     #[tactic(auto, using(crate::proofs::Limited::length_shown))]
     pub fn len(&self) -> usize

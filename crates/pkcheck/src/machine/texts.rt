@@ -45,6 +45,14 @@ impl Texts {
         }
     }
 
+    /// Takes all away, and keeps the memory.
+    pub fn clear(&mut self)
+        ensures { self.new ≡ [] }
+    {
+        self.bytes.clear();
+        self.ends.clear();
+    }
+
     /// How many texts there are.
     #[inline]
     pub fn len(&self) -> usize

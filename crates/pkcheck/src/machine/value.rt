@@ -1,5 +1,13 @@
 //! What is known of an object.
-use crate::machine::effects::Class;
+ghost use Rattle.std.specs.Prelude.{◌≡◌, ℕ, List};
+ghost use Rattle.pkcheck.specs.Knowledge.{known_given};
+ghost use Rattle.pkcheck.specs.Private.Denials.{IsNoText};
+ghost use Rattle.pkcheck.specs.Private.Slots.{StandsIf};
+ghost use Rattle.pkcheck.specs.Runs.{int_or_bool};
+ghost use Rattle.pkops.specs.Inst.{instruction_of};
+
+use crate::machine::effects::{Class, Gives};
+use pkops::Inst;
 
 /// What is known of an object.
 #[derive(Clone, Copy)]
@@ -10,4 +18,31 @@ pub enum Value {
     Made(Class),
     /// It is the text of this number in the table.
     Text(u32),
+}
+
+/// The class of INT's object.
+pub fn int_or_bool(inst: &Inst) -> Class
+    ensures { result ≡ int_or_bool (instruction_of inst.now) }
+{
+    if inst.names_bool() {
+        Class::Bool
+    } else {
+        Class::Int
+    }
+}
+
+/// What is known of what is given.
+#[inline]
+pub fn value_of(gives: Gives, inst: &Inst) -> Option<Value>
+    requires { IsNoText gives }
+    ensures { (ts : List (List ℕ))
+        → StandsIf ts result (known_given gives (instruction_of inst.now)) }
+{
+    match gives {
+        Gives::Makes(class) => Some(Value::Made(class)),
+        Gives::MakesIntOrBool => Some(Value::Made(int_or_bool(inst))),
+        Gives::MayMake(class) => Some(Value::Made(class)),
+        Gives::Answers => Some(Value::Unknown),
+        _ => None,
+    }
 }

@@ -6,8 +6,8 @@ use Rattle.pkops.specs.Spelling.{Instruction}
 use Rattle.pkcheck.specs.Effects.{effect_of}
 use Rattle.pkcheck.specs.Heard.{Heard}
 use Rattle.pkopt.specs.declared.trace.Trace.{Trace}
-use Rattle.pkopt.specs.Passes.{Follows, Hears}
-use Rattle.pkopt.specs.Places.{is_plain, places_told, told}
+use Rattle.pkopt.specs.Private.Passes.{Follows, Hears}
+use Rattle.pkopt.specs.Private.Places.{is_plain, places_told, told}
 use Rattle.pkopt.specs.Writers.{Writes, after, read_by, sources, after_all}
 
 pub after_all-more :

@@ -1,11 +1,12 @@
-//! The line of a verdict.
+//! The line of a verdict on a pickle, or on a row of them.
 ghost use Rattle.std.specs.Prelude.{OnOk, length};
 ghost use Rattle.std.specs.Io.KnownBytes.{Appends};
-ghost use Rattle.pktool.specs.Verdict.{no_line, pair_text, verdict_line, yes_line};
+ghost use Rattle.pktool.specs.Verdict.{no_in_line, no_line, pair_text, place_text, row_line};
+ghost use Rattle.pktool.specs.Verdict.{verdict_line, yes_all_line, yes_line};
 
 use crate::printing::quoted::write_quoted;
 use crate::printing::reason::write_reason;
-use pkcheck::{Asked, No, Yes};
+use pkcheck::{Asked, No, NoAll, Yes, YesAll};
 use std::io;
 use std::io::Write;
 
@@ -33,8 +34,51 @@ pub fn write_no<W: Write>(no: &No, out: &mut W) -> io::Result<()>
     ensures { OnOk result (Appends (W.contents out.old) (W.contents out.new)
         (no_line no.now.at no.now.reason no.now.pair)) }
 {
+    out.write_all(b"no at ")?;
+    write_place(no, out)
+}
+
+/// Writes the line of an answer about a row of pickles.
+pub fn write_row<W: Write>(answer: &Result<YesAll, NoAll>, out: &mut W) -> io::Result<()>
+    ensures { OnOk result (Appends (W.contents out.old) (W.contents out.new)
+        (row_line answer.now)) }
+{
+    match answer {
+        Ok(yes) => write_yes_all(yes, out),
+        Err(no) => write_no_in(no, out),
+    }
+}
+
+fn write_yes_all<W: Write>(yes: &YesAll, out: &mut W) -> io::Result<()>
+    ensures { OnOk result (Appends (W.contents out.old) (W.contents out.new)
+        (yes_all_line yes.now.taken yes.now.pickles (length yes.now.imports))) }
+{
+    let taken = yes.taken;
+    let pickles = yes.pickles;
+    let imports = yes.imports.len();
+    writeln!(
+        out,
+        "yes: {taken} bytes, {pickles} pickles, {imports} imports"
+    )
+}
+
+fn write_no_in<W: Write>(refused: &NoAll, out: &mut W) -> io::Result<()>
+    ensures { OnOk result (Appends (W.contents out.old) (W.contents out.new)
+        (no_in_line refused.now.pickle refused.now.no.at refused.now.no.reason
+        refused.now.no.pair)) }
+{
+    let pickle = refused.pickle;
+    write!(out, "no in pickle {pickle} at ")?;
+    write_place(&refused.no, out)
+}
+
+/// Writes where and why a pickle is refused, behind what says that it is.
+fn write_place<W: Write>(no: &No, out: &mut W) -> io::Result<()>
+    ensures { OnOk result (Appends (W.contents out.old) (W.contents out.new)
+        (place_text no.now.at no.now.reason no.now.pair)) }
+{
     let at = no.at;
-    write!(out, "no at {at}: ")?;
+    write!(out, "{at}: ")?;
     write_reason(no.reason, out)?;
     write_pair(&no.pair, out)?;
     out.write_all(b"\n")

@@ -1,7 +1,13 @@
 //! Checks with options, to the byte.
-use crate::tests::expect;
-use std::fs;
+use crate::checking::Outcome;
+use crate::checking_row::check_all_to;
+use crate::tests::{NOTHING, expect};
+use pkcheck::{OldStrings, Policy};
+use pkops::Limits;
+use pkread::Input;
+use std::io::{ErrorKind, Read};
 use std::test::Fail;
+use std::{fs, io};
 
 const ONE_PAIR: &str = "version = 1\n[imports]\na = [\"b\"]\n";
 
@@ -43,6 +49,24 @@ static OLD_STRINGS: [(&[u8], [&str; 3]); 4] = [
     ),
 ];
 
+/// What stands in a file, and the status and the line of the check of each pickle in it.
+static ROWS: [(&[u8], u8, &str); 6] = [
+    (b"N.N.", 0, "yes: 4 bytes, 2 pickles, 0 imports\n"),
+    (b"N..", 1, "no in pickle 1 at 2: MissingItem\n"),
+    (b"N\x94.h\0.", 1, "no in pickle 1 at 3: MissingMemo(0)\n"),
+    (b"", 1, "no in pickle 0 at 0: Truncated\n"),
+    (
+        b"ca\nb\n.ca\nb\n.",
+        0,
+        "yes: 12 bytes, 2 pickles, 2 imports\n",
+    ),
+    (
+        b"N.ca\nc\n.",
+        1,
+        "no in pickle 1 at 2: ImportOffList(\"a\",\"c\")\n",
+    ),
+];
+
 #[test]
 fn says_what_old_strings_become(rt: HostRuntime) -> Result<(), Fail> {
     fs::write(&rt, "list.toml", ONE_PAIR)?;
@@ -62,5 +86,76 @@ fn says_what_old_strings_become(rt: HostRuntime) -> Result<(), Fail> {
             expect(&rt, words.as_slice(), status, line, "");
         }
     }
+    Ok(())
+}
+
+#[test]
+fn checks_rows_of_pickles(rt: HostRuntime) -> Result<(), Fail> {
+    fs::write(&rt, "list.toml", ONE_PAIR)?;
+    let words = ["pktool", "check", "--allow", "list.toml", "--all", "row"];
+    for (row, status, line) in ROWS.as_slice() {
+        fs::write(&rt, "row", *row)?;
+        expect(&rt, words.as_slice(), *status, line, "");
+    }
+    Ok(())
+}
+
+#[test]
+fn checks_what_has_both_options(rt: HostRuntime) -> Result<(), Fail> {
+    fs::write(&rt, "list.toml", NOTHING)?;
+    fs::write(&rt, "row", b"N.U\x01\xe9.".as_slice())?;
+    for (word, status, line) in [
+        ("unknown", 0, "yes: 6 bytes, 2 pickles, 0 imports\n"),
+        ("ascii", 1, "no in pickle 1 at 2: NotAscii\n"),
+    ] {
+        let words = [
+            "pktool",
+            "check",
+            "--all",
+            "--old-strings",
+            word,
+            "--allow",
+            "list.toml",
+            "row",
+        ];
+        expect(&rt, words.as_slice(), status, line, "");
+    }
+    Ok(())
+}
+
+/// Gives some bytes one by one. Then every read of it fails.
+#[derive(Drop)]
+struct Breaking {
+    bytes: &'static [u8],
+}
+
+impl Read for Breaking {
+    fn read(&mut self, to: &mut [u8]) -> io::Result<usize> {
+        let Some((first, rest)) = self.bytes.split_first() else {
+            return Err(io::Error::from(ErrorKind::BrokenPipe));
+        };
+        let Some(byte) = to.first_mut() else {
+            return Ok(0);
+        };
+        *byte = *first;
+        self.bytes = rest;
+        Ok(1)
+    }
+}
+
+#[test]
+fn names_the_pickle_that_could_not_be_read(rt: HostRuntime) -> Result<(), Fail> {
+    let mut source = Input::new(Breaking { bytes: b"N." });
+    let mut out = Vec::new(rt.alloc());
+    let ended = check_all_to(
+        rt.alloc(),
+        &mut source,
+        &Policy::AnyImport,
+        &Limits::STANDARD,
+        &mut out,
+        OldStrings::Unknown,
+    )?;
+    assert_eq!(rt; ended, Outcome::Refused);
+    assert_eq!(rt; out.as_slice(), b"no in pickle 1 at 2: Source\n".as_slice());
     Ok(())
 }

@@ -1,5 +1,6 @@
 //! Writers that fail at each write in turn: the call fails, and gives no other answer.
 use crate::checking::{Outcome, check_to};
+use crate::checking_row::check_all_to;
 use crate::exporting::json_to;
 use crate::importing::imports_to;
 use crate::listing::dis_to;
@@ -34,15 +35,18 @@ impl Write for Tiring {
 #[derive(Clone, Copy, Debug)]
 enum Call {
     Check,
+    CheckAll,
     Dis,
     Imports,
     Json,
 }
 
 /// A call that writes, a pickle, and how the call ends.
-static ENDS: [(Call, &[u8], Outcome); 8] = [
+static ENDS: [(Call, &[u8], Outcome); 10] = [
     (Call::Check, b"cm\nf\n.", Outcome::Done),
     (Call::Check, b"\xff", Outcome::Refused),
+    (Call::CheckAll, b"cm\nf\n.N.", Outcome::Done),
+    (Call::CheckAll, b"N.\xff", Outcome::Refused),
     (Call::Dis, b"(\x8c\x01\"K\x01d.", Outcome::Done),
     (Call::Dis, b"(.", Outcome::Refused),
     (Call::Imports, b"cm\nf\n)R\x8c\x01b\x93.", Outcome::Done),
@@ -58,16 +62,11 @@ fn answer(
     out: &mut Tiring,
 ) -> Result<Outcome, io::Error> {
     let source = &mut Memory::new(pickle);
-    let limits = &Limits::STANDARD;
+    let (policy, limits) = (&Policy::AnyImport, &Limits::STANDARD);
+    let old = OldStrings::Unknown;
     match call {
-        Call::Check => check_to(
-            alloc,
-            source,
-            &Policy::AnyImport,
-            limits,
-            out,
-            OldStrings::Unknown,
-        ),
+        Call::Check => check_to(alloc, source, policy, limits, out, old),
+        Call::CheckAll => check_all_to(alloc, source, policy, limits, out, old),
         Call::Dis => dis_to(alloc, source, limits, out),
         Call::Imports => imports_to(alloc, source, limits, out),
         Call::Json => json_to(alloc, source, limits, out),

@@ -1,7 +1,7 @@
 use Rattle.std.proofs.Common.{◌+◌, ◌*◌, take}
 use Rattle.serde_json.specs.View.{items_view, members_view}
 use Rattle.pkjson.specs.Unfolds.{UnfoldItems, UnfoldMembers}
-use Rattle.pkjson.specs.Nodes.{heap, named}
+use Rattle.pkjson.specs.Private.Nodes.{heap, named}
 use Rattle.pkjson.proofs.build.+building.Given as goal
 
 abbrev pub decreases-build : goal.decreases-build

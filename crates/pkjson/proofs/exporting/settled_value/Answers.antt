@@ -1,5 +1,5 @@
 use Rattle.std.proofs.Common.{sym, subst, ◌<◌}
-use Rattle.pkjson.specs.Seen.{kept_all}
+use Rattle.pkjson.specs.Private.Seen.{kept_all}
 use Rattle.pkjson.proofs.Answered.{value_held, refusal_held}
 use Rattle.pkjson.proofs.Settling.{closed_there, settled_there, settled_closed, settled_ordered, settled_length}
 use Rattle.pkjson.proofs.exporting.settled_value.Goals as goal

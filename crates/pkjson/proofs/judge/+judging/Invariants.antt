@@ -1,6 +1,6 @@
 use Rattle.std.proofs.Common.{◌≡◌, ◌≤◌, ◌+◌, ◌*◌, length, take}
-use Rattle.pkjson.specs.Nodes.{heap, named}
-use Rattle.pkjson.specs.Weighs.{ItemsWeigh, MembersWeigh, IsTrusted}
+use Rattle.pkjson.specs.Private.Nodes.{heap, named}
+use Rattle.pkjson.specs.Private.Weighs.{ItemsWeigh, MembersWeigh, IsTrusted}
 use Rattle.pkjson.proofs.judge.+judging.Given as goal
 
 abbrev pub decreases-judge : goal.decreases-judge

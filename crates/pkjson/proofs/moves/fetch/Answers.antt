@@ -1,6 +1,6 @@
 use Rattle.std.proofs.Common.{sym, ap, ◌∙◌}
 use Rattle.pkcheck.specs.Shape.{NoMemo, fetched}
-use Rattle.pkjson.specs.Seen.{shape_seen}
+use Rattle.pkjson.specs.Private.Seen.{shape_seen}
 use Rattle.pkjson.proofs.moves.fetch.Goals as goal
 
 pub returns-in-None-clause-err : goal.returns-in-None-clause-err

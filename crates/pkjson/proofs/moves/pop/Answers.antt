@@ -1,6 +1,6 @@
 use Rattle.std.proofs.Common.{◌≡◌, arith, length}
 use Rattle.pkjson.proofs.Entries.{popped_last}
-use Rattle.pkjson.specs.Seen.{shape_seen}
+use Rattle.pkjson.specs.Private.Seen.{shape_seen}
 use Rattle.pkjson.proofs.moves.pop.Goals as goal
 
 pub returns-clause-ok : goal.returns-clause-ok

@@ -1,7 +1,7 @@
 use Rattle.std.proofs.Common.{◌∙◌, ap, drop, ◌+◌}
 use Rattle.pkjson.proofs.Entries.{kept_set, all_after}
-use Rattle.pkjson.specs.Seen.{numbers_of, kept_of}
-use Rattle.pkjson.specs.Arena.{more_given}
+use Rattle.pkjson.specs.Private.Seen.{numbers_of, kept_of}
+use Rattle.pkjson.specs.Private.Arena.{more_given}
 use Rattle.pkjson.proofs.objects.fill.Goals as goal
 
 pub returns-clause-objects : goal.returns-clause-objects

@@ -1,8 +1,8 @@
 use Rattle.std.proofs.Common.{◌∙◌, ◌∷◌, [], ap, arith, sym, subst, IfSome, length-append}
-use Rattle.pkjson.specs.Arena.{kind_at}
+use Rattle.pkjson.specs.Private.Arena.{kind_at}
 use Rattle.pkjson.specs.Contents.{characters}
-use Rattle.pkjson.specs.Ranks.{StandsIn}
-use Rattle.pkjson.specs.Seen.{kept_all}
+use Rattle.pkjson.specs.Private.Ranks.{StandsIn}
+use Rattle.pkjson.specs.Private.Seen.{kept_all}
 use Rattle.pkjson.proofs.Ranking.{places_more}
 use Rattle.pkjson.proofs.Settling.{kept_length}
 use Rattle.pkjson.proofs.ranks.places_of.Goals as goal

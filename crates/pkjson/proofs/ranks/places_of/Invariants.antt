@@ -1,6 +1,6 @@
 use Rattle.std.proofs.Common.{◌≡◌, length}
-use Rattle.pkjson.specs.Ranks.{ArePlaces}
-use Rattle.pkjson.specs.Seen.{kept_all}
+use Rattle.pkjson.specs.Private.Ranks.{ArePlaces}
+use Rattle.pkjson.specs.Private.Seen.{kept_all}
 use Rattle.pkjson.proofs.ranks.places_of.Given as goal
 
 abbrev pub invariant-loop-number : goal.invariant-loop-number

@@ -1,12 +1,12 @@
 use Rattle.std.proofs.Common.{◌≡◌, arith, sym, ap, subst, ◌∙◌, ◌+◌, ◌-◌, length, drop, length-drop}
 use Rattle.pkops.specs.Inst.{instruction_of}
 use Rattle.pkcheck.specs.Effects.{effect_of}
-use Rattle.pkjson.specs.Acting.{ActsAs}
-use Rattle.pkjson.specs.Arena.{no_object}
-use Rattle.pkjson.specs.Halts.{IsHalted}
-use Rattle.pkjson.specs.Held.{seen}
+use Rattle.pkjson.specs.Private.Acting.{ActsAs}
+use Rattle.pkjson.specs.Private.Arena.{no_object}
+use Rattle.pkjson.specs.Private.Halts.{IsHalted}
+use Rattle.pkjson.specs.Private.Held.{seen}
 use Rattle.pkjson.specs.Plain.{OtherKey, LargeNumber, is_plain}
-use Rattle.pkjson.specs.Standing.{IsFront, Stands}
+use Rattle.pkjson.specs.Private.Standing.{IsFront, Stands}
 use Rattle.pkjson.proofs.Entries.{all_after}
 use Rattle.pkjson.proofs.Following.{entries_there, no_front, within, some, other, faults, never_lacks, never_empty, ends, on}
 use Rattle.pkjson.proofs.Replaying.{stands_first}

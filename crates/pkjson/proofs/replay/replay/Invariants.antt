@@ -1,8 +1,8 @@
 use Rattle.std.proofs.Common.{◌≤◌, ◌-◌, List, length}
 use Rattle.pkops.specs.Spelling.{Instruction}
 use Rattle.pkjson.specs.Export.{AcceptedAs}
-use Rattle.pkjson.specs.Held.{seen}
-use Rattle.pkjson.specs.Standing.{Stands}
+use Rattle.pkjson.specs.Private.Held.{seen}
+use Rattle.pkjson.specs.Private.Standing.{Stands}
 use Rattle.pkjson.proofs.replay.replay.Given as goal
 
 abbrev pub invariant-instructions : goal.invariant-instructions

@@ -1,6 +1,6 @@
 use Rattle.std.proofs.Common.{sym, subst, take, ◌+◌, ◌++◌, ◌∷◌, [], ◌<◌, All, length}
-use Rattle.pkjson.specs.Seen.{kept_of, kept_all}
-use Rattle.pkjson.specs.Settled.{AreSettled, Settles}
+use Rattle.pkjson.specs.Private.Seen.{kept_of, kept_all}
+use Rattle.pkjson.specs.Private.Settled.{AreSettled, Settles}
 use Rattle.pkjson.proofs.Settling.{given_there, kept_more, settled_more}
 use Rattle.pkjson.proofs.settle.settle.Goals as goal
 

@@ -1,6 +1,6 @@
 use Rattle.std.proofs.Common.{take}
-use Rattle.pkjson.specs.Seen.{kept_all}
-use Rattle.pkjson.specs.Settled.{AreSettled}
+use Rattle.pkjson.specs.Private.Seen.{kept_all}
+use Rattle.pkjson.specs.Private.Settled.{AreSettled}
 use Rattle.pkjson.proofs.settle.settle.Given as goal
 
 abbrev pub invariant-loop-object : goal.invariant-loop-object

@@ -1,5 +1,5 @@
 use Rattle.std.proofs.Common.{◌≡◌, ◌++◌, take}
-use Rattle.pkjson.specs.Seen.{numbers_of}
+use Rattle.pkjson.specs.Private.Seen.{numbers_of}
 use Rattle.pkjson.proofs.slots.add_numbers.Given as goal
 
 abbrev pub invariant-loop-slot : goal.invariant-loop-slot

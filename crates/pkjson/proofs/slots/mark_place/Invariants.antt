@@ -1,5 +1,5 @@
 use Rattle.std.proofs.Common.{◌≡◌, ◌≤◌, [], length, take, drop}
-use Rattle.pkjson.specs.Seen.{shown, numbers_of}
+use Rattle.pkjson.specs.Private.Seen.{shown, numbers_of}
 use Rattle.pkcheck.specs.Shape.{slice}
 use Rattle.pkjson.proofs.slots.mark_place.Given as goal
 

@@ -3,10 +3,10 @@ use Rattle.std.proofs.lemmas.List.Elements.{All-get_or}
 use Rattle.std.specs.Ordering.{nat_cmp}
 use Rattle.std.specs.Cmp.Lexicographic.{slice_cmp}
 use Rattle.std.specs.BTreeMap.{insert_entry}
-use Rattle.pkjson.specs.Arena.{kind_at}
+use Rattle.pkjson.specs.Private.Arena.{kind_at}
 use Rattle.pkjson.specs.Contents.{paired, standing}
-use Rattle.pkjson.specs.Nodes.{named}
-use Rattle.pkjson.specs.Seen.{kept_all}
+use Rattle.pkjson.specs.Private.Nodes.{named}
+use Rattle.pkjson.specs.Private.Seen.{kept_all}
 use Rattle.pkjson.proofs.Settling.{insert_named, insert_below, two_more, none_left, ascending_found}
 use Rattle.pkjson.proofs.standing.standing_pairs.Goals as goal
 

@@ -1,8 +1,8 @@
 use Rattle.std.proofs.Common.{◌≡◌, ◌≤◌, ◌<◌, ◌-◌, All, [], length, drop}
-use Rattle.pkjson.specs.Arena.{kind_at}
+use Rattle.pkjson.specs.Private.Arena.{kind_at}
 use Rattle.pkjson.specs.Contents.{paired, standing}
-use Rattle.pkjson.specs.Nodes.{named, Ascending}
-use Rattle.pkjson.specs.Seen.{kept_all}
+use Rattle.pkjson.specs.Private.Nodes.{named, Ascending}
+use Rattle.pkjson.specs.Private.Seen.{kept_all}
 use Rattle.pkjson.proofs.standing.standing_pairs.Given as goal
 
 abbrev pub invariant-loop-index : goal.invariant-loop-index

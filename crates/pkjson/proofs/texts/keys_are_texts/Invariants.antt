@@ -1,7 +1,7 @@
 use Rattle.std.proofs.Common.{◌≡◌, true, drop}
-use Rattle.pkjson.specs.Arena.{are_text_kinds}
+use Rattle.pkjson.specs.Private.Arena.{are_text_kinds}
 use Rattle.pkjson.specs.Plain.{every_other}
-use Rattle.pkjson.specs.Seen.{kept_all, numbers_of}
+use Rattle.pkjson.specs.Private.Seen.{kept_all, numbers_of}
 use Rattle.pkjson.proofs.texts.keys_are_texts.Given as goal
 
 abbrev pub invariant-loop-slot : goal.invariant-loop-slot

@@ -1,5 +1,5 @@
 use Rattle.std.proofs.Common.{◌≡◌, ◌≤◌, ℕ, List, Option, length}
-use Rattle.pkopt.specs.Passes.{AreKept}
+use Rattle.pkopt.specs.Private.Passes.{AreKept}
 use Rattle.pkopt.proofs.Keeping.{NumbersTo}
 use Rattle.pkopt.proofs.numbers.numbered.Given as goal
 

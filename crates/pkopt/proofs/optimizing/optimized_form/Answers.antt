@@ -1,6 +1,6 @@
 use Rattle.std.proofs.Common.{inl, inr, refl, sym, subst, arith, ℕ, List, ◌≡◌, ◌<◌, ◌≤◌, ◌^◌, length}
 use Rattle.pkopt.specs.Answer.{pickle}
-use Rattle.pkopt.specs.Fates.{Aims}
+use Rattle.pkopt.specs.Private.Fates.{Aims}
 use Rattle.pkopt.proofs.Optimized.{aims_at, optimizes, slim_refused}
 use Rattle.pkopt.proofs.optimizing.optimized_form.Goals as goal
 

@@ -1,5 +1,5 @@
 use Rattle.std.proofs.Common.{◌≡◌, ◌+◌, ◌-◌, arith, ap, drop, get_or, refl, subst, sym, take, ◌∙◌, List, ℕ, ◌++◌}
-use Rattle.pkopt.specs.Fates.{Adds, StopsSlim}
+use Rattle.pkopt.specs.Private.Fates.{Adds, StopsSlim}
 use Rattle.pkopt.proofs.Written.{found_at, from_at, slimmed_at, slimmed_end, slimmed_halted, slimmed_last, slimmed_next, within_at, from_taken}
 use Rattle.pkopt.proofs.slim.slim_of.Goals as goal
 

@@ -1,6 +1,6 @@
 use Rattle.std.proofs.Common.{List, ◌≤◌, drop}
 use Rattle.pkops.specs.Spelling.{Instruction}
-use Rattle.pkopt.specs.Fates.{Aims}
+use Rattle.pkopt.specs.Private.Fates.{Aims}
 use Rattle.pkopt.proofs.Written.{Slimmed}
 use Rattle.pkopt.proofs.slim.slim_of.Given as goal
 

@@ -10,4 +10,5 @@ returns-clause-shape c =
     let old = c.old_option.ensures.rule in
     let one = c.in_ok-arg.ensures.shape c.allow_option.ensures.local ∙ ap₂ with_rule named c.allow_option.ensures.rule in
     let two = c.in_ok-arg-2.ensures.shape c.old_option.ensures.local ∙ ap₂ with_rule one old.2 in
-    IfOk-weaker c.arg-3.result _ _ (λ r h. (old.0, old.1, h.shape c.file_argument.ensures.local ∙ ap₂ with_rule two c.file_argument.ensures.rule)) c.arg-3.ensures
+    let three = c.in_ok-arg-3.ensures.shape c.all_flag.ensures.local ∙ ap₂ with_rule two c.all_flag.ensures.rule in
+    IfOk-weaker c.arg-4.result _ _ (λ r h. (old.0, old.1, h.shape c.file_argument.ensures.local ∙ ap₂ with_rule three c.file_argument.ensures.rule)) c.arg-4.ensures

@@ -1,9 +1,9 @@
 use Rattle.std.proofs.Common.{◌≡◌, ℕ, List, [], ◌<◌, sym, ap, subst, ◌∙◌, length, Some, Ok, Result, refl}
 use Rattle.pkcheck.specs.Shape.{Breach, Entry, and_then}
-use Rattle.pkjson.specs.Acting.{found_above, filled_of}
-use Rattle.pkjson.specs.Arena.{Arena, Kept}
-use Rattle.pkjson.specs.Held.{seen}
-use Rattle.pkjson.specs.Seen.{shown, kept_all, FindsObject}
+use Rattle.pkjson.specs.Private.Acting.{found_above, filled_of}
+use Rattle.pkjson.specs.Private.Arena.{Arena, Kept}
+use Rattle.pkjson.specs.Private.Held.{seen}
+use Rattle.pkjson.specs.Private.Seen.{shown, kept_all, FindsObject}
 use Rattle.pkjson.proofs.Settling.{kept_length}
 use Rattle.pkjson.proofs.Taking.{above_below}
 use Rattle.pkjson.proofs.arena.Arena.fill.Goals as goal

@@ -1,5 +1,5 @@
 use Rattle.std.proofs.Common.{◌≡◌, ◌+◌, ◌++◌, length, arith}
-use Rattle.pkjson.specs.Cells.{numbered}
+use Rattle.pkjson.specs.Private.Cells.{numbered}
 use Rattle.pkjson.proofs.Cells.{length_cells}
 use Rattle.pkjson.proofs.memo.Memo.len.Goals as goal
 

@@ -1,5 +1,5 @@
 use Rattle.std.proofs.Common.{◌+◌, refl, length, get_or}
-use Rattle.pkjson.specs.Seen.{kept_all}
+use Rattle.pkjson.specs.Private.Seen.{kept_all}
 use Rattle.pkjson.proofs.Ranking.{pairing_goes_on, pairing_ends, text_there}
 use Rattle.pkjson.proofs.ranks.Ranks.pairs.Goals as goal
 

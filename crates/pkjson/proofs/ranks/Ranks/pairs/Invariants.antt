@@ -1,5 +1,5 @@
 use Rattle.std.proofs.Common.{◌-◌, length}
-use Rattle.pkjson.specs.Seen.{kept_all}
+use Rattle.pkjson.specs.Private.Seen.{kept_all}
 use Rattle.pkjson.proofs.Ranking.{Pairing}
 use Rattle.pkjson.proofs.ranks.Ranks.pairs.Given as goal
 

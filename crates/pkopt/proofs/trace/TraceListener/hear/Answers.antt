@@ -1,6 +1,6 @@
 use Rattle.std.proofs.Common.{sym, ap, refl, ◌∙◌}
 use Rattle.pkops.specs.Inst.{instruction_of}
-use Rattle.pkopt.specs.Places.{is_plain}
+use Rattle.pkopt.specs.Private.Places.{is_plain}
 use Rattle.pkopt.proofs.Hearing.{other_heard}
 use Rattle.pkopt.proofs.trace.TraceListener.hear.Goals as goal
 

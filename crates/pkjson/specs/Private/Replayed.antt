@@ -3,11 +3,11 @@ use Rattle.std.specs.Prelude.{◌≡◌, ◌<◌, ℕ, List, length}
 use Rattle.pkops.specs.Limits.{Bounds}
 use Rattle.pkcheck.specs.Runs.{Event}
 use Rattle.pkjson.specs.declared.arena.Arena.{Arena}
-use Rattle.pkjson.specs.Arena.{holds}
+use Rattle.pkjson.specs.Private.Arena.{holds}
 use Rattle.pkjson.specs.Contents.{contents}
 use Rattle.pkjson.specs.Export.{Results}
-use Rattle.pkjson.specs.Held.{seen}
-use Rattle.pkjson.specs.Settled.{AreGivenBelow}
+use Rattle.pkjson.specs.Private.Held.{seen}
+use Rattle.pkjson.specs.Private.Settled.{AreGivenBelow}
 
 -- the arena holds what the objects hold after the events of the run, and the result is one of them
 pub record Replays (limits : Bounds) (bytes : List ℕ) (a : Arena) (x : ℕ) : Type 0 where

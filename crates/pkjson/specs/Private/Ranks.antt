@@ -2,10 +2,10 @@
 use Rattle.std.specs.Prelude.{◌≡◌, ℕ, ◌<◌, List, [], ◌∷◌, length, get_or, All, Option, Some, IfSome}
 use Rattle.std.specs.Borrow.{Bor}
 use Rattle.pkjson.specs.declared.ranks.Ranks.{Ranks}
-use Rattle.pkjson.specs.Arena.{Kept, kind_at}
+use Rattle.pkjson.specs.Private.Arena.{Kept, kind_at}
 use Rattle.pkjson.specs.Contents.{characters, paired, standing}
-use Rattle.pkjson.specs.Nodes.{named, Ascending}
-use Rattle.pkjson.specs.Seen.{kept_all}
+use Rattle.pkjson.specs.Private.Nodes.{named, Ascending}
+use Rattle.pkjson.specs.Private.Seen.{kept_all}
 
 -- the text at a place among them
 abbrev pub text_in : List (Bor (List ℕ) × ℕ) → ℕ → List ℕ

@@ -4,7 +4,7 @@ use Rattle.pkops.specs.Limits.{Bounds}
 use Rattle.pkread.specs.Sequence.{spellings}
 use Rattle.pkopt.specs.declared.optimizing.Traced.{Traced}
 use Rattle.pkopt.specs.Answer.{Checks, pickle}
-use Rattle.pkopt.specs.Passes.{Tracks}
+use Rattle.pkopt.specs.Private.Passes.{Tracks}
 
 -- the pickle at the front of the bytes passes the check, and this is known of it
 pub record IsTraced (limits : Bounds) (bytes : List ℕ) (x : Traced) : Type 0 where

@@ -13,11 +13,11 @@ use Rattle.pkopt.specs.declared.fate.Plan.{Plan}
 use Rattle.pkopt.specs.declared.memo.MemoUse.{MemoUse}
 use Rattle.pkopt.specs.declared.memo.MemoUse.TheVariants.{Stores, StoresNext, Fetches, Neither}
 use Rattle.pkopt.specs.declared.slim.Slim.{Slim}
-use Rattle.pkopt.specs.Fronts.{Front}
+use Rattle.pkopt.specs.Private.Fronts.{Front}
 use Rattle.pkopt.specs.Limit.{IsPastLimit}
 use Rattle.pkopt.specs.OneFrame.{has_frame}
-use Rattle.pkopt.specs.Passes.{AreNumbers, memo_use}
-use Rattle.pkopt.specs.Places.{places_from}
+use Rattle.pkopt.specs.Private.Passes.{AreNumbers, memo_use}
+use Rattle.pkopt.specs.Private.Places.{places_from}
 use Rattle.pkopt.specs.Slim.{is_frame, renumbered, slim}
 use Rattle.pkopt.specs.Writers.{sources, new_number, after_all}
 

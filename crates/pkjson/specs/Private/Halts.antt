@@ -6,8 +6,8 @@ use Rattle.pkjson.specs.declared.halt.Halt.TheVariants.{OtherKey, LargeNumber, L
 use Rattle.pkops.specs.Spelling.{Instruction}
 use Rattle.pkjson.specs.declared.action.Action.{Action}
 use Rattle.pkjson.specs.Plain as fault
-use Rattle.pkjson.specs.Arena.{Arena}
-use Rattle.pkjson.specs.Acting.{acted, fault_acted, IsLacking}
+use Rattle.pkjson.specs.Private.Arena.{Arena}
+use Rattle.pkjson.specs.Private.Acting.{acted, fault_acted, IsLacking}
 
 -- the number that the instruction names is too large, or there was no memory
 abbrev pub IsNoKind : Bool → Halt → Type 0

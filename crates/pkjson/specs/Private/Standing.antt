@@ -9,8 +9,8 @@ use Rattle.pkread.specs.Sequence.{spellings}
 use Rattle.pkcheck.specs.Runs.{State, start}
 use Rattle.pkcheck.specs.WholeRuns.{EndsWell}
 use Rattle.pkjson.specs.Plain.{plain_run, first_fault}
-use Rattle.pkjson.specs.Arena.{Arena}
-use Rattle.pkjson.specs.Mirrors.{MirrorsState}
+use Rattle.pkjson.specs.Private.Arena.{Arena}
+use Rattle.pkjson.specs.Private.Mirrors.{MirrorsState}
 
 -- some instruction is STOP
 abbrev pub HasStop : List Instruction → Type 0

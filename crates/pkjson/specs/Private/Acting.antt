@@ -29,7 +29,7 @@ use Rattle.pkjson.specs.declared.action.Takes.TheVariants.{Objects, Slice}
 use Rattle.pkjson.specs.Integers.{integer_named, fits_word}
 use Rattle.pkjson.specs.Contents.{Kind, OfItems, OfPairs, OfValue, int_value, text_named}
 use Rattle.pkjson.specs.Plain.{Fault, OtherKey, LargeNumber, every_other, taken}
-use Rattle.pkjson.specs.Arena.{Arena, received, are_text_kinds}
+use Rattle.pkjson.specs.Private.Arena.{Arena, received, are_text_kinds}
 
 -- what is taken, whatever the rule for a slice is
 abbrev pub found : Takes → List (Entry ℕ) → Result (Taken ℕ) Breach

@@ -9,8 +9,8 @@ use Rattle.pkcheck.specs.Heard.{Heard}
 use Rattle.pkopt.specs.declared.memo.MemoUse.{MemoUse}
 use Rattle.pkopt.specs.declared.trace.Trace.{Trace}
 use Rattle.pkopt.specs.declared.memo.MemoUse.TheVariants.{Stores, StoresNext, Fetches, Neither}
-use Rattle.pkopt.specs.Memories.{Holds}
-use Rattle.pkopt.specs.Places.{places_from, places_told, told}
+use Rattle.pkopt.specs.Private.Memories.{Holds}
+use Rattle.pkopt.specs.Private.Places.{places_from, places_told, told}
 use Rattle.pkopt.specs.Writers.{Writes, after, read_by, sources, is_read, new_number, after_all}
 
 -- how an opcode uses the memo

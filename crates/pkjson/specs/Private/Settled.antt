@@ -2,8 +2,8 @@
 use Rattle.std.specs.Prelude.{◌≡◌, ◌<◌, ℕ, List, [], ◌∷◌, All, length}
 use Rattle.pkjson.specs.declared.node.Node.{Node}
 use Rattle.pkjson.specs.Contents.{held_by}
-use Rattle.pkjson.specs.Arena.{Kept, kind_at}
-use Rattle.pkjson.specs.Nodes.{content, IsBelow, IsOrdered}
+use Rattle.pkjson.specs.Private.Arena.{Kept, kind_at}
+use Rattle.pkjson.specs.Private.Nodes.{content, IsBelow, IsOrdered}
 
 -- each object was given only objects with numbers below n
 abbrev pub AreGivenBelow : ℕ → List Kept → Type 0

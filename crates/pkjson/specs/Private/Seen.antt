@@ -4,9 +4,9 @@ use Rattle.pkcheck.specs.Shape.{Breach, Entry, Mark, Item, Shape, Taken}
 use Rattle.pkjson.specs.declared.objects.Object.{Object}
 use Rattle.pkjson.specs.declared.slots.Slot.{Slot}
 use Rattle.pkjson.specs.declared.slots.Slot.TheVariants as slot
-use Rattle.pkjson.specs.Kinds.{kind_seen}
-use Rattle.pkjson.specs.Arena.{Kept}
-use Rattle.pkjson.specs.Acting.{IsLacking}
+use Rattle.pkjson.specs.Private.Kinds.{kind_seen}
+use Rattle.pkjson.specs.Private.Arena.{Kept}
+use Rattle.pkjson.specs.Private.Acting.{IsLacking}
 
 -- an object
 abbrev pub kept_of : Object → Kept

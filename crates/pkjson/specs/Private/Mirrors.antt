@@ -4,7 +4,7 @@ use Rattle.pkcheck.specs.Shape.{Entry, Mark, Item, Shape}
 use Rattle.pkcheck.specs.Runs.{Event, State, class_at}
 use Rattle.pkjson.specs.Contents.{kinds, all_given}
 use Rattle.pkjson.specs.Plain.{is_text}
-use Rattle.pkjson.specs.Arena.{Kept, Arena, kind_at, given_at, is_text_kind}
+use Rattle.pkjson.specs.Private.Arena.{Kept, Arena, kind_at, given_at, is_text_kind}
 
 -- each is of the kind, and was given what the events say
 pub record Mirrors (ks : List Kept) (es : List Event) : Type 0 where

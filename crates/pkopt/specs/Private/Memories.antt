@@ -2,7 +2,7 @@
 use Rattle.std.specs.Prelude.{◌≡◌, ℕ, ◌+◌, ◌-◌, ◌<◌, ◌≤◌, cond, ltb, List, ◌∷◌, length, Option, Some, None, slice_index_or}
 use Rattle.pkcheck.specs.Shape.{recalled}
 use Rattle.pkopt.specs.declared.memo.Memo.{Memo}
-use Rattle.pkopt.specs.Traces.{Rising}
+use Rattle.pkopt.specs.Private.Traces.{Rising}
 use Rattle.pkopt.specs.Writers.{Writes, last_write, different}
 
 -- the write of a number: in the row of those from the first on, or among the rest

@@ -1,0 +1,19 @@
+-- Nobody has to believe these: what the functions that export tell one another. Only private
+-- functions cite them, and the contract of `export` follows from them.
+pub mod Arena
+pub mod Acting
+pub mod Mirrors
+pub mod Standing
+pub mod Kinds
+pub mod Cells
+pub mod Seen
+pub mod Held
+pub mod Halts
+pub mod Capped
+pub mod Nodes
+pub mod Ranks
+pub mod Weighs
+pub mod Fits
+pub mod Settled
+pub mod Replayed
+pub mod Result

@@ -1,0 +1,14 @@
+use Rattle.pkread.proofs.Again.{no_byte_is_refused}
+use Rattle.pkread.proofs.Gathering.{Takes-more}
+use Rattle.pkread.proofs.Run.{reading_goes_on}
+use Rattle.pkread.proofs.Taking.{takes_none}
+use Rattle.pkread.proofs.laws.rows.Goals as goal
+
+pub returns-clause-begins : goal.returns-clause-begins
+returns-clause-begins c = reading_goes_on
+
+pub returns-clause-refused : goal.returns-clause-refused
+returns-clause-refused c = no_byte_is_refused c.growth.ensures.begun c.one_answer.ensures
+
+pub returns-clause-taking : goal.returns-clause-taking
+returns-clause-taking c = record { none = takes_none; more = λ old between new first second p q. Takes-more p q }

@@ -1,0 +1,55 @@
+-- What a call of `again` does behind STOP.
+use Rattle.std.specs.Prelude.{◌≡◌, ℕ, ◌<◌, Bool, true, false, List, [], ◌∷◌, Option, Result, Ok, MatchResult}
+use Rattle.std.specs.Io.KnownBytes.{IsAtEnd}
+use Rattle.pkread.specs.Core.{CoreView, Open, Refused}
+use Rattle.pkread.specs.Reading.{State, source_of}
+use Rattle.pkread.specs.Rows.{Sight, Takes, Fails, Refuses, sight, all_bytes}
+use Rattle.pkread.specs.Sequence.{CountsAt}
+use Rattle.pkread.specs.declared.reader.Reader.{Reader}
+use Rattle.pkread.specs.declared.refusal.Reason.{Reason}
+use Rattle.pkread.specs.declared.refusal.Reason.TheVariants.{Source, TooLarge, OutOfMemory}
+use Rattle.pkread.specs.declared.refusal.Refusal.{Refusal}
+
+-- why no byte came, where the source had not come to its end
+abbrev pub WhyNoByte : Sight → Sight → ℕ → Reason → Type 0
+WhyNoByte old new taken Source = Fails old new []
+WhyNoByte old new taken TooLarge = Takes old new [] × (taken ≡ all_bytes)
+WhyNoByte old new taken OutOfMemory = Takes old new []
+WhyNoByte old new taken _ = ⊥
+
+-- the reader refuses at the place that it has come to, and for ever
+pub record RefusesAgain (old : State) (r : Refusal) (new : State) : Type 0 where
+  pub place : r.at ≡ old.taken
+  pub why : WhyNoByte old.source new.source old.taken r.reason
+  pub after : new ≡ record old { source = new.source; phase = Refused r }
+
+-- the source is at its end, or it is not, and the reader is open to the next instruction
+abbrev pub AnswersAgain : State → State → Bool → Type 0
+AnswersAgain old new false =
+    IsAtEnd new.source.left × (new ≡ record old { source = new.source })
+AnswersAgain old new true = new ≡ record old { source = new.source; phase = Open }
+
+-- one call of `again`, of a reader that has ended. Where it answers, nothing is counted as taken
+abbrev pub StepsAgain : State → Result Bool Refusal → State → Type 0
+StepsAgain old result new =
+    MatchResult result
+    (λ more. (old.taken < all_bytes)
+    × Takes old.source new.source []
+    × AnswersAgain old new more)
+    (λ r. RefusesAgain old r new)
+
+-- where it answers true, one byte was taken ahead, of the instruction that it begins, and else none
+abbrev pub TakesOneAhead : {R : Type 0} → (R → Option (List ℕ)) → (R → ℕ)
+    → Reader R CoreView → Result Bool Refusal → Reader R CoreView → Type 0
+TakesOneAhead left failures old (Ok true) new =
+    (byte : ℕ) × (new.core.ahead ≡ byte ∷ [])
+    × Takes (sight left failures (source_of old)) (sight left failures (source_of new))
+    (byte ∷ [])
+TakesOneAhead left failures old _ new = new.core.ahead ≡ []
+
+-- where it refuses, it refuses the next instruction, of which it took no byte, under any limit
+abbrev pub NoByteIsRefused : Type 0
+NoByteIsRefused =
+    (limit : ℕ) (old new : State) (r : Refusal) → RefusesAgain old r new →
+    Refuses limit old.source new.source [] old.taken old.taken r.reason
+    × CountsAt r.reason old.source.failures new.source.failures

@@ -1,0 +1,23 @@
+"""Writes a log of events to standard output, a pickle each. With the word `tampered` the second runs a command."""
+
+import datetime
+import os
+import pickle
+import sys
+
+
+class Command:
+    def __reduce__(self):
+        return (os.system, ("echo gone",))
+
+
+def events():
+    at = datetime.datetime(2026, 1, 2, 3, 4, 5)
+    yield {"at": at, "event": "started", "by": "worker 1"}
+    yield Command() if sys.argv[1:] == ["tampered"] else {"at": at, "event": "waited", "for": 2.5}
+    yield {"at": at, "event": "ended", "status": 0}
+
+
+if __name__ == "__main__":
+    for event in events():
+        pickle.dump(event, sys.stdout.buffer, protocol=4)
