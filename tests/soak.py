@@ -1,14 +1,13 @@
 #!/usr/bin/env python3
 """Runs the program on mutated pickles: 100,000 of them, made from a seed.
 
-A pickle goes through two of the five commands, so that each pair of commands takes its turn; with --all through each.
-Half the checks have options, in turn: what old strings become, and a row of the pickle and itself. It fails at a signal, at a status above 1, at want of memory where there is plenty, at a processor time or a peak
-memory above the bound, and where commands that rest on the same check don't answer the same. A pickle that fails is
-named by its number and kept in the folder --keep. The last line says how many runs passed.
+Each goes through the five commands. Half the checks have options, in turn: what old strings become, and a row of the
+pickle and itself. It fails at a signal, at a status above 1, at want of memory where there is plenty, at a processor
+time or a peak memory above the bound, and where commands that rest on the same check don't answer the same. A pickle
+that fails is named by its number and kept in the folder --keep. The last line says how many runs passed.
 """
 import argparse
 import collections
-import itertools
 import multiprocessing
 import os
 import pathlib
@@ -25,7 +24,6 @@ WALL = 20
 PEAK = 256 * 10**6
 CHUNK = 250
 COMMANDS = ("check", "dis", "imports", "optimize", "json")
-PAIRS = [*itertools.combinations(COMMANDS, 2)]
 ROW = ("--all",)
 OPTIONS = [(), (), (), ("--old-strings", "ascii"), ("--old-strings", "bytes"), ROW]
 LIST = """\
@@ -84,15 +82,15 @@ class Bench:
 
 def soaked(task):
     """Runs a chunk of pickles. Gives the statuses of each command, the greatest time and peak, and what failed."""
-    seed, numbers, is_all = task
+    seed, numbers = task
     ended, slowest, peak, failed = collections.Counter(), 0.0, 0, []
     for number in numbers:
-        options = OPTIONS[number // len(PAIRS) % len(OPTIONS)]
+        options = OPTIONS[number % len(OPTIONS)]
         pickle = mutations.mutated(seed, number) * (2 if options == ROW else 1)
         with open("pickle", "wb") as file:
             file.write(pickle)
         said = set()
-        for command in COMMANDS if is_all else PAIRS[number % len(PAIRS)]:
+        for command in COMMANDS:
             ran = BENCH.run(command, options)
             ended[command, ran.status] += 1
             slowest, peak = max(slowest, ran.seconds), max(peak, ran.peak)
@@ -114,7 +112,7 @@ def soak(asked):
     """Soaks all pickles side by side. Gives the statuses, and how many runs failed."""
     ended, slowest, peak, wrong = collections.Counter(), 0.0, 0, 0
     chunks = [range(at, min(at + CHUNK, asked.pickles)) for at in range(0, asked.pickles, CHUNK)]
-    tasks = [(asked.seed, chunk, asked.all) for chunk in chunks]
+    tasks = [(asked.seed, chunk) for chunk in chunks]
     with multiprocessing.Pool(asked.jobs, begin) as pool:
         for counts, took, held, failed in pool.imap_unordered(soaked, tasks):
             ended.update(counts)
@@ -131,7 +129,6 @@ def main():
     words = argparse.ArgumentParser(description=__doc__.splitlines()[0])
     words.add_argument("--pickles", type=int, default=100_000, help="how many pickles (100,000)")
     words.add_argument("--seed", type=int, default=1, help="what they are made from (1)")
-    words.add_argument("--all", action="store_true", help="each pickle through each command")
     words.add_argument("--jobs", type=int, default=len(os.sched_getaffinity(0)), help="processes side by side")
     words.add_argument("--keep", default=tempfile.gettempdir(), help="the folder for pickles that fail")
     asked = words.parse_args()

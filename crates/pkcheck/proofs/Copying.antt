@@ -1,8 +1,8 @@
 -- A ledger's imports, copied behind those of another.
-use Rattle.std.proofs.Common.{◌≡◌, ◌⊎◌, ℕ, zero, suc, ◌+◌, ◌<◌, ◌≤◌, List, [], ◌∷◌, ◌++◌, length, map, take, get_or, Option, None, Some, inl, inr, refl, sym, ap, ◌∙◌, arith, add-one, append_assoc, length-append}
-use Rattle.std.proofs.Math.ListN.{set, replicate}
+use Rattle.std.proofs.Common.{◌≡◌, ◌⊎◌, ℕ, zero, suc, ◌+◌, ◌<◌, List, [], ◌∷◌, ◌++◌, length, map, take, get_or, Option, None, Some, inl, inr, refl, sym, ap, ◌∙◌, arith, add-one, append_assoc, length-append}
+use Rattle.std.proofs.Math.ListN.{set}
 use Rattle.std.proofs.Math.Seq.{get_or-append_seam, take-suc}
-use Rattle.std.proofs.lemmas.List.{map-append, take_all}
+use Rattle.std.proofs.lemmas.List.{map-append}
 use Rattle.pkcheck.specs.Private.Noted.{AreCopies, AreEntries, IsEntry, entry_asked}
 use Rattle.pkcheck.specs.Private.Slots.{Grows}
 use Rattle.pkcheck.specs.declared.machine.ledger.Entry.{Entry}
@@ -52,23 +52,6 @@ copies_more copies ts ws k h number copy e = cases (at_set copies k number (leng
     cases (inl (same, is)) = rw (same, is) (names_last ws (get_or ts k []))
     cases (inr old) = names_grown ws vs (record { more = get_or ts k [] ∷ []; is = refl }) copy (get_or ts number []) (h number copy old)
 
--- none yet
-abbrev nones : ℕ → ℕ → List (Option ℕ)
-nones n m = take n [] ++ replicate m None
-
-at_nones : (n m i : ℕ) → get_or (nones n m) i None ≡ None
-at_nones zero zero i = refl
-at_nones zero (suc m) zero = refl
-at_nones zero (suc m) (suc i) = at_nones zero m i
-at_nones (suc n) zero i = refl
-at_nones (suc n) (suc m) zero = refl
-at_nones (suc n) (suc m) (suc i) = at_nones (suc n) m i
-
-pub none_copied : (copies fresh : List (Option ℕ)) (n m : ℕ) (ts ws : List (List ℕ)) → fresh ≡ [] → copies ≡ take n fresh ++ replicate m None → AreCopies copies ts ws
-none_copied copies fresh n m ts ws none is number copy e =
-    let at : get_or copies number None ≡ None = rw (is, none) (at_nones n m number) in
-    absurd (let f = sym at ∙ e in cc)
-
 pub entry_at : (made written k : ℕ) (es : List Entry) (d : Entry) → AreEntries made written es → k < length es → IsEntry made written (get_or es k d)
 entry_at made written k [] d h lt = absurd (omega (arith, lt))
 entry_at made written zero (e ∷ es) d h lt = h.0
@@ -99,10 +82,6 @@ module _ (ts ws : List (List ℕ)) (es : List Entry) (before : List (List ℕ)) 
         named = are_more 0 (length new) copied e (are_grown [] [] now new none grows copied h.named) ok.0;
         same = map_more (entry_asked [] new) copied e ∙ (λ i. (here ∙ h.same) i ++ ok.1 i ∷ []) ∙ sym (map_more (entry_asked ts ws) (take count es) (get_or es count d)) ∙ ap (map (entry_asked ts ws)) (sym last ∙ ap (λ n. take n es) (sym (add-one count)));
       }
-
-  -- all of them
-  pub copied_all : (now : List (List ℕ)) (copies : List (Option ℕ)) (copied : List Entry) (count : ℕ) → CopiedSoFar ts ws es before now copies copied count → length es ≤ count → map (entry_asked [] now) copied ≡ map (entry_asked ts ws) es
-  copied_all now copies copied count h all = h.same ∙ ap (map (entry_asked ts ws)) (take_all count es all)
 
 -- what names no text of a table
 module _ (ts ws vs : List (List ℕ)) (old more : List Entry) (g : Grows ws vs) (h : AreEntries (length ts) (length ws) old) (k : AreEntries 0 (length vs) more) where

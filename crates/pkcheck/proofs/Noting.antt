@@ -1,11 +1,13 @@
 -- A ledger, and what an import names.
-use Rattle.std.proofs.Common.{◌≡◌, ℕ, zero, suc, ◌<◌, ◌≤◌, List, [], ◌∷◌, ◌++◌, length, map, take, get_or, refl, ap, arith, length-append}
+use Rattle.std.proofs.Common.{◌≡◌, ℕ, zero, suc, ◌<◌, ◌≤◌, List, [], ◌∷◌, ◌++◌, Option, None, Some, length, map, take, get_or, refl, ap, arith, length-append}
 use Rattle.std.proofs.Math.ListN.{get_or-append}
+use Rattle.std.proofs.Math.Seq.{take-append_seam, take-length}
 use Rattle.pkcheck.specs.declared.machine.ledger.Entry.{Entry}
 use Rattle.pkcheck.specs.declared.machine.ledger.Entry.TheVariants as entry
 use Rattle.pkcheck.specs.declared.machine.value.Value.{Value}
 use Rattle.pkcheck.specs.Covers.{Pointwise}
-use Rattle.pkcheck.specs.Knowledge.{AskedPair, Known}
+use Rattle.pkcheck.specs.Import.{asks_more}
+use Rattle.pkcheck.specs.Knowledge.{Asked, AskedPair, Known}
 use Rattle.pkcheck.specs.Private.Noted.{AreEntries, AreNumbered, IsEntry, entry_asked}
 use Rattle.pkcheck.specs.Private.Slots.{Grows, Stands}
 
@@ -38,6 +40,11 @@ module _ (ts us ws vs : List (List ℕ)) (g : Grows ts us) (h : Grows ws vs) whe
   are_grown (e ∷ es) k = (is_grown e k.0, are_grown es k.1)
 
 -- ---- one more import, and fewer
+
+-- what was listed stands before what is asked for
+pub listed_before : (a : Option Asked) (listed : List Asked) → take (length listed) (asks_more a listed) ≡ listed
+listed_before None listed = take-length listed
+listed_before (Some a) listed = take-append_seam listed (a ∷ [])
 
 pub are_more : (made written : ℕ) (es : List Entry) (e : Entry) → AreEntries made written es → IsEntry made written e → AreEntries made written (es ++ e ∷ [])
 are_more made written [] e h k = (k, tt)

@@ -8,7 +8,7 @@ use Rattle.pkcheck.specs.declared.machine.value.Value.TheVariants as value
 use Rattle.pkcheck.specs.declared.machine.effects.Move.{Move}
 use Rattle.pkcheck.specs.declared.machine.effects.Takes.{Takes}
 use Rattle.pkread.specs.declared.refusal.Reason.{Reason}
-use Rattle.pkcheck.specs.Shape.{Breach, NoItem, Entry, Mark, Item, Shape, Taken, operands, put, moved, marks_of, top}
+use Rattle.pkcheck.specs.Shape.{Breach, Entry, Mark, Item, Shape, Taken, operands, put, moved, marks_of, top}
 use Rattle.pkcheck.specs.Covers.{Pointwise, AlikeEntry, AlikeCell, Alike}
 use Rattle.pkcheck.specs.Private.Denials.{IsLack, IsFaultOf}
 use Rattle.pkops.specs.Limits.{Bounds}
@@ -154,11 +154,6 @@ module _ (ts : List (List ℕ)) where
   top_seen (Item w ∷ es) v e = top_of v w es e
   top_seen (Mark ∷ es) v e = cc
   top_seen [] v e = cc
-
-  pub top_lacks : (es : List (Entry Value)) (r : Reason) → IsLack (top es) r → IsLack (top (seen ts es)) r
-  top_lacks (Item w ∷ es) r (b, e, g) = cc
-  top_lacks (Mark ∷ es) r (b, e, g) = let f : NoItem ≡ b = cc in (b, ap Err f, g)
-  top_lacks [] r (b, e, g) = let f : NoItem ≡ b = cc in (b, ap Err f, g)
 
 -- ---- one more text
 

@@ -83,9 +83,7 @@ pub fn check_heard<R: Source, L: Listener>(
                 }));
             }
             Ok(Next::Inst { at, inst }) => {
-                if let Err(error) = listener.hear(at, &inst, machine.marks()) {
-                    return Err(error);
-                }
+                listener.hear(at, &inst, machine.marks())?;
                 if let Err(reason) = judge(&mut frames, &mut machine, &inst, policy) {
                     return Ok(Err(No {
                         at,

@@ -250,9 +250,7 @@ impl Machine {
         ensures imports { OnOk result (imports.new.asked
             ≡ imports.old.asked ++ self.old.imports) }
     {
-        let Ok(()) = self.held.list_in(self.alloc, imports) else {
-            return Err(AllocError);
-        };
+        self.held.list_in(self.alloc, imports)?;
         self.held.clear();
         self.refused = None;
         self.off = None;

@@ -100,7 +100,7 @@ fn pass_argument<R: Source>(
 }
 
 /// Takes an instruction, and leaves the most that was held but for a payload that is passed.
-#[inline]
+#[inline(always)]
 fn gather_parts<R: Source>(
     source: &mut R,
     buffer: &mut Buffer,
@@ -145,7 +145,7 @@ fn gather_parts<R: Source>(
 }
 
 /// Takes bytes until they spell an instruction, as `gather` does, but holds no byte payload.
-#[inline]
+#[inline(always)]
 pub(crate) fn gather_head<R: Source>(
     source: &mut R,
     buffer: &mut Buffer,

@@ -150,6 +150,7 @@ impl<'r, R: Source> Reader<'r, R> {
     ///
     /// One call raises `most_held` to 131,075 at most, or to 9 and the count of an instruction
     /// whose payload is held.
+    #[inline(always)]
     pub fn next_head(&mut self) -> Result<Head<'_>, Refusal>
         ensures shows { ShowsAHead (state R.left R.failures self.old) result }
         ensures* after { sem 𝓛 (Rests (the_row (record { mir = named 1; lft = [] }) R.row core_row)

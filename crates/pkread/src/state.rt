@@ -187,6 +187,7 @@ impl Core {
     }
 
     /// Takes the bytes of the next instruction, and holds no byte payload.
+    #[inline(always)]
     pub(crate) fn collect_head<R: Source>(&mut self, source: &mut R) -> Result<Gathered, Refusal>
         requires { self.old.phase ≡ phase.Open }
         ensures limits { self.new.limits ≡ self.old.limits }
@@ -271,7 +272,7 @@ impl Core {
 }
 
 /// Leaves in a buffer what was taken ahead of the next instruction, where that is begun.
-#[inline]
+#[inline(always)]
 fn keep(buffer: &mut Buffer, begun: bool)
     ensures bytes { buffer.new.bytes ≡ ahead_of begun buffer.old.bytes }
     ensures most { buffer.new.most ≡ buffer.old.most }

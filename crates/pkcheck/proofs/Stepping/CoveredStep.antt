@@ -2,7 +2,6 @@
 use Rattle.pkcheck.specs.declared.old_strings.OldStrings.{OldStrings}
 use Rattle.std.proofs.Common.{◌≡◌, ◌⊎◌, inl, inr, true, ◌++◌, ◌∷◌, [], List, Option, Some, None, Ok, Err, sym, subst, ap, ◌∙◌, length, arith, length-append}
 use Rattle.std.proofs.lemmas.List.{append_cancel_left}
-use Rattle.std.specs.Prelude.{option_map}
 use Rattle.pkops.specs.Admitted.{is_admitted}
 use Rattle.pkops.specs.Limits.{Bounds}
 use Rattle.pkops.specs.Spelling.{Instruction}
@@ -17,7 +16,7 @@ use Rattle.pkcheck.specs.Knowledge.{Policy, Asked, AskedUnknown, Progress, Refus
 use Rattle.pkcheck.specs.Covers.{IsObject}
 use Rattle.pkcheck.proofs.Covering.CoversBy.{FollowsIfOk, any_answer, objects_grow}
 use Rattle.pkcheck.specs.Faults.{IsFirstFault}
-use Rattle.pkcheck.specs.Import.{asked_shown, asks_more}
+use Rattle.pkcheck.specs.Import.{asks_more}
 use Rattle.pkcheck.specs.Private.Denials.{IsDenied, IsForMemory, MayWantMemory, pair_denied}
 use Rattle.pkcheck.specs.View.{View}
 use Rattle.pkcheck.specs.Stepping.{CoveredBy, AppendsPermitted, Fails, GoesOn, IsNoFalseAlarm, IsPermitted, IsStep, MayLackMemory, MeansInEachRun, PassesNoFault, RefusesForGood, UnknownIsNeeded}

@@ -189,9 +189,7 @@ impl Held {
         ensures err { IfErr result (λ r. IsStopFault (stop_learned self.old.knowledge.memo
             (top self.old.knowledge.entries)) r) }
     {
-        if let Err(reason) = self.stack.top() {
-            return Err(reason);
-        }
+        self.stack.top()?;
         if self.stack.len() > 1 {
             return Err(Reason::LeftOver);
         }

@@ -130,13 +130,8 @@ impl Ledger {
         let Some(name) = named else {
             return Ok(false);
         };
-        let entry = match enter(&mut self.written, name) {
-            Ok(entry) => entry,
-            Err(reason) => return Err(reason),
-        };
-        let Ok(()) = self.entries.push(entry) else {
-            return Err(Reason::OutOfMemory);
-        };
+        let entry = enter(&mut self.written, name)?;
+        self.entries.push(entry)?;
         Ok(true)
     }
 
@@ -148,18 +143,14 @@ impl Ledger {
           asked = self.old.asked ++ other.now.asked;
         }) }
     {
-        let Ok(mut entries) = copy_entries(
+        let mut entries = copy_entries(
             alloc,
             &mut self.written,
             &other.texts,
             &other.written,
             &other.entries,
-        ) else {
-            return Err(AllocError);
-        };
-        let Ok(()) = self.entries.append(&mut entries) else {
-            return Err(AllocError);
-        };
+        )?;
+        self.entries.append(&mut entries)?;
         Ok(())
     }
 
@@ -235,17 +226,13 @@ fn copy_entries(
         ≡ map (entry_asked texts.now names.now) entries.now)) }
 {
     let mut copies = Vec::new(alloc);
-    let Ok(()) = copies.resize(texts.len(), None) else {
-        return Err(AllocError);
-    };
+    copies.resize(texts.len(), None)?;
     let mut copied = Vec::new(alloc);
     'entries: for entry in entries {
         let Ok(copy) = copy_entry(written, &mut copies, texts, names, *entry) else {
             return Err(AllocError);
         };
-        let Ok(()) = copied.push(copy) else {
-            return Err(AllocError);
-        };
+        copied.push(copy)?;
     }
     Ok(copied)
 }

@@ -65,7 +65,7 @@ impl Memo {
     }
 
     /// What is known of the object under a number.
-    #[inline]
+    #[inline(always)]
     pub fn get(&self, number: u64) -> Option<Value>
         ensures { result ≡ recalled number self.now }
     {

@@ -36,6 +36,17 @@ pub struct Denial {
     pub pair: Option<Box<Asked>>,
 }
 
+impl From<Reason> for Denial {
+    ghost use Rattle.std.specs.Prelude.{◌≡◌, None};
+
+    ghost from_gives = { λ reason denial. denial ≡ record { reason = reason; pair = None } };
+
+    #[inline]
+    fn from(reason: Reason) -> Denial {
+        Denial { reason, pair: None }
+    }
+}
+
 /// Whether an object of this class will do.
 pub fn class_suits(wanted: Wanted, class: Class) -> bool
     ensures { result ≡ suits wanted (Plain class) }
@@ -127,13 +138,11 @@ fn permit_pair(alloc: Global, policy: &Policy, module_name: &str, name: &str) ->
     if permits(policy, module_name, name) {
         return Ok(());
     }
-    match boxed_pair(alloc, module_name, name) {
-        Ok(pair) => Err(Denial {
-            reason: Reason::ImportOffList,
-            pair: Some(pair),
-        }),
-        Err(reason) => Err(Denial { reason, pair: None }),
-    }
+    let pair = boxed_pair(alloc, module_name, name)?;
+    Err(Denial {
+        reason: Reason::ImportOffList,
+        pair: Some(pair),
+    })
 }
 
 /// A pair of these names, in a place of its own.
@@ -170,14 +179,11 @@ pub fn judge<'a>(
             pair: None,
         });
     }
-    match asked_by(names, inst, operands) {
-        Err(reason) => Err(Denial { reason, pair: None }),
-        Ok(None) => Ok(None),
-        Ok(Some(named)) => match permit(alloc, policy, ledger, named) {
-            Ok(()) => Ok(Some(named)),
-            Err(denial) => Err(denial),
-        },
+    let named = asked_by(names, inst, operands)?;
+    if let Some(name) = named {
+        permit(alloc, policy, ledger, name)?;
     }
+    Ok(named)
 }
 
 /// Puts what is given in the place of the operands, or leaves the first of them.
@@ -233,9 +239,7 @@ fn make_text(
     let Ok(number) = u32::try_from(ledger.texts()) else {
         return Err(Reason::OutOfMemory);
     };
-    if let Err(reason) = stack.push(limits, Value::Text(number)) {
-        return Err(reason);
-    }
+    stack.push(limits, Value::Text(number))?;
     let Ok(()) = ledger.add_text(alloc, &inst) else {
         stack.truncate(place);
         return Err(Reason::OutOfMemory);
@@ -277,26 +281,17 @@ fn replace(
         (record { entries = seen ledger.old.texts stack.old; memo = m })) (within limits.now)) d
         ⊎ (MayOperate names gives × IsForMemory d)) }
 {
-    let place = match stack.find(takes) {
-        Ok(place) => place,
-        Err(reason) => return Err(Denial { reason, pair: None }),
-    };
+    let place = stack.find(takes)?;
     let operands = stack.operands(place);
-    let named = match judge(alloc, names, gives, &inst, policy, ledger, &operands) {
-        Ok(named) => named,
-        Err(denial) => return Err(denial),
-    };
+    let named = judge(alloc, names, gives, &inst, policy, ledger, &operands)?;
     let value = value_of(gives, &inst);
     let count = ledger.len();
-    let is_import = match ledger.list(named) {
-        Ok(is_import) => is_import,
-        Err(reason) => return Err(Denial { reason, pair: None }),
-    };
+    let is_import = ledger.list(named)?;
     match give(stack, limits, place, value) {
         Ok(()) => Ok(is_import),
         Err(reason) => {
             ledger.keep(count);
-            Err(Denial { reason, pair: None })
+            Err(Denial::from(reason))
         }
     }
 }
@@ -366,16 +361,12 @@ pub fn operate(
         ⊎ (MayOperate names gives × IsForMemory d)) }
 {
     if let Gives::MakesText = gives {
-        return match make_text(alloc, stack, ledger, limits, *inst) {
-            Ok(()) => Ok(false),
-            Err(reason) => Err(Denial { reason, pair: None }),
-        };
+        make_text(alloc, stack, ledger, limits, *inst)?;
+        return Ok(false);
     }
     if is_of_nothing(takes, names) {
-        return match create(stack, limits, gives, inst) {
-            Ok(()) => Ok(false),
-            Err(reason) => Err(Denial { reason, pair: None }),
-        };
+        create(stack, limits, gives, inst)?;
+        return Ok(false);
     }
     replace(
         alloc, stack, ledger, limits, takes, names, gives, *inst, policy,

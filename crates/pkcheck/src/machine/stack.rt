@@ -140,6 +140,7 @@ impl Stack {
     }
 
     /// Puts an object on top, where the limit leaves room.
+    #[inline(always)]
     #[tactic(auto, using(crate::proofs::Limited::length_shown, crate::proofs::Shown::shown_append))]
     pub fn push(&mut self, limits: &Limits, value: Value) -> Result<(), Reason>
         ensures ok { OnOk result (self.new ≡ Item value ∷ self.old) }

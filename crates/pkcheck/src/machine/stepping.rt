@@ -60,25 +60,20 @@ pub fn advance(
     };
     match effect {
         Effect::Operates(takes, names, gives) => {
-            match held.operate(alloc, limits, takes, names, gives, inst, policy) {
-                Ok(is_import) => {
-                    if is_import {
-                        Ok(Moved::Import)
-                    } else {
-                        Ok(Moved::On)
-                    }
-                }
-                Err(denial) => Err(denial),
+            if held.operate(alloc, limits, takes, names, gives, inst, policy)? {
+                Ok(Moved::Import)
+            } else {
+                Ok(Moved::On)
             }
         }
-        Effect::Moves(what) => match held.apply(limits, what, inst.memo_number().unwrap_or(0)) {
-            Ok(()) => Ok(Moved::On),
-            Err(reason) => Err(Denial { reason, pair: None }),
-        },
-        Effect::Stops => match held.finish() {
-            Ok(()) => Ok(Moved::Stopped),
-            Err(reason) => Err(Denial { reason, pair: None }),
-        },
+        Effect::Moves(what) => {
+            held.apply(limits, what, inst.memo_number().unwrap_or(0))?;
+            Ok(Moved::On)
+        }
+        Effect::Stops => {
+            held.finish()?;
+            Ok(Moved::Stopped)
+        }
         Effect::Raises => Err(Denial {
             reason: Reason::NotAscii,
             pair: None,

@@ -4,7 +4,8 @@ ghost use Rattle.pkops.specs.Contents.{rule_of};
 ghost use Rattle.pkops.specs.Inst.{instruction_of};
 ghost use Rattle.pkops.specs.declared.contents.Rule.TheVariants as rule;
 ghost use Rattle.std.specs.Prelude.{◌≡◌, [], ◌∷◌, ◌++◌, ◌<◌, ◌≤◌, ◌-◌, length, take, drop, get_or};
-ghost use Rattle.std.specs.Prelude.{true, IfOk, OnErr, OnOk, encode_utf8_all, string_bytes, unwrap_or};
+ghost use Rattle.std.specs.Prelude.{true, IfOk, OnErr, OnOk, unwrap_or};
+ghost use Rattle.std.specs.Prelude.{encode_utf8_all, string_bytes};
 ghost use Rattle.pkops.specs.OldBytes.{old_bytes};
 ghost use Rattle.std.specs.Str.{IsUtf8};
 
@@ -84,9 +85,7 @@ impl Texts {
         ensures err { OnErr result (self.new ≡ self.old) }
     {
         let before = self.bytes.len();
-        let Ok(()) = self.bytes.extend_from_slice(text) else {
-            return Err(AllocError);
-        };
+        self.bytes.extend_from_slice(text)?;
         let Ok(()) = self.ends.push(self.bytes.len()) else {
             self.bytes.truncate(before);
             return Err(AllocError);

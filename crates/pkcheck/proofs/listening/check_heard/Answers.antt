@@ -41,7 +41,7 @@ returns-in-Err-judge-clause-answer g c =
     let here = heard_here _ _ _ r.0 r.1 _ _ _ r.2 _ c.in-Ok-Inst.at (instruction_of c.in-Ok-Inst.inst) took _ c.marks.ensures.covered in
     let w = refused_took _ _ _ _ _ r.0 r.1 _ _ _ r.2 _ c.in-Ok-Inst.at (instruction_of c.in-Ok-Inst.inst) _ took (seen_so _ _ _ k.3 (search rules)) (longest c.args.policy.now) _ _ _ c.in-Err-judge.ensures.err c.into_off_list.ensures in
     let each = subst (λ p. AreHeardBehind [] p (r.3 ++ x ∷ [])) (sym w.1) (heard_more [] r.0 r.3 (instruction_of c.in-Ok-Inst.inst) x r.4 here) in
-    (r.3 ++ x ∷ [], record { right = w.0; each = each }, g.met.L.Listener.hears_more _ _ _ r.3 x r.5 c.in_default.ensures)
+    (r.3 ++ x ∷ [], record { right = w.0; each = each }, g.met.L.Listener.hears_more _ _ _ r.3 x r.5 c.in_ok-hear-in-Ok-Inst.ensures)
 
 pub instructions-preserved : goal.instructions-preserved
 instructions-preserved g c =
@@ -50,9 +50,9 @@ instructions-preserved g c =
     let took = took_next _ _ _ r.0 _ r.2.reads r.2.read_limits _ refl c.nexts.ensures.given c.next.result c.in-Ok-Inst.at c.in-Ok-Inst.inst k.1 (cc (c.in-Ok-Inst.is, c.in-Ok-Inst.field-0-is)) in
     let x = heard c.in-Ok-Inst.at (instruction_of c.in-Ok-Inst.inst) c.marks.result in
     let here = heard_here _ _ _ r.0 r.1 _ _ _ r.2 _ c.in-Ok-Inst.at (instruction_of c.in-Ok-Inst.inst) took _ c.marks.ensures.covered in
-    let checked = checked_took _ _ _ _ _ r.0 r.1 _ _ _ r.2 _ _ _ c.in-Ok-Inst.at (instruction_of c.in-Ok-Inst.inst) took c.in_default-judge.ensures.ok in
+    let checked = checked_took _ _ _ _ _ r.0 r.1 _ _ _ r.2 _ _ _ c.in-Ok-Inst.at (instruction_of c.in-Ok-Inst.inst) took c.in_default.ensures.ok in
     let each = heard_more [] r.0 r.3 (instruction_of c.in-Ok-Inst.inst) x r.4 here in
     record {
       same = k.0 ∙ c.instructions.invariant.same;
-      checked = (_, _, checked, r.3 ++ x ∷ [], each, g.met.L.Listener.hears_more _ _ _ r.3 x r.5 c.in_default.ensures);
+      checked = (_, _, checked, r.3 ++ x ∷ [], each, g.met.L.Listener.hears_more _ _ _ r.3 x r.5 c.in_ok-hear-in-Ok-Inst.ensures);
     }

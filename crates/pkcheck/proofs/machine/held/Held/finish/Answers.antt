@@ -1,15 +1,11 @@
 use Rattle.std.proofs.Common.{arith}
 use Rattle.pkcheck.specs.Private.Slots.{remembered, seen}
-use Rattle.pkcheck.proofs.Stepping.Going.{stop_lacks, stop_left}
-use Rattle.pkcheck.proofs.Resolving.{length_seen, top_lacks, top_seen}
+use Rattle.pkcheck.proofs.Stepping.Going.{stop_left}
+use Rattle.pkcheck.proofs.Resolving.{length_seen, top_seen}
 use Rattle.pkcheck.proofs.machine.held.Held.finish.Goals as goal
-
-pub returns-in-Err-clause-err : goal.returns-in-Err-clause-err
-returns-in-Err-clause-err c =
-    rw (← c.self.view_is) (stop_lacks (seen c.self.inside.ledger.texts c.self.inside.stack) (remembered c.self.inside.ledger.texts c.self.inside.memo) c.in-Err.reason (top_lacks c.self.inside.ledger.texts c.self.inside.stack c.in-Err.reason c.in-Err.ensures.err))
 
 pub returns-then-len-gt1-clause-err : goal.returns-then-len-gt1-clause-err
 returns-then-len-gt1-clause-err c =
-    let e = top_seen c.self.inside.ledger.texts c.self.inside.stack _ c.in_default.ensures.ok in
+    let e = top_seen c.self.inside.ledger.texts c.self.inside.stack _ c.in_ok-top.ensures.ok in
     let n = length_seen c.self.inside.ledger.texts c.self.inside.stack in
     rw (← c.self.view_is) (stop_left (seen c.self.inside.ledger.texts c.self.inside.stack) (remembered c.self.inside.ledger.texts c.self.inside.memo) _ e (omega (arith, n, c.len.ensures)))
