@@ -27,4 +27,5 @@ pub mod Decided
 pub mod Good
 pub mod TextNamed
 pub mod OldBytesNamed
+pub mod BehindCode
 pub mod Rows

@@ -1,5 +1,5 @@
 -- The tests of ASCII and of names, and that names are text.
-use Rattle.std.proofs.Common.{◌≡◌, ℕ, zero, suc, true, nat_lt, List, [], ◌∷◌, length, refl, ap, subst, arith}
+use Rattle.std.proofs.Common.{◌≡◌, ℕ, zero, suc, true, nat_lt, List, [], ◌∷◌, length, refl, sym, ap, subst, ◌∙◌, arith}
 use Rattle.std.specs.List.{list_all}
 use Rattle.std.specs.Char.{is_ascii}
 use Rattle.std.specs.Str.{IsAscii, IsUtf8}
@@ -7,10 +7,9 @@ use Rattle.std.proofs.lemmas.Bool.{and_parts, and_from, ltb-true, lt-ltb}
 use Rattle.std.proofs.lemmas.Str.{IsUtf8-from_ascii}
 use Rattle.pkops.specs.declared.op.Op.{Op}
 use Rattle.pkops.specs.declared.op.Op.TheVariants as op
-use Rattle.pkops.specs.declared.inst.Inst.{Inst}
+use Rattle.pkops.specs.declared.arg.Arg.{Arg}
 use Rattle.pkops.specs.declared.arg.Arg.TheVariants as arg
-use Rattle.pkops.specs.Inst.{instruction_of}
-use Rattle.pkops.specs.Spelling.{Argument, Pair, instruction, shown_arg}
+use Rattle.pkops.specs.Spelling.{Argument, Instruction, Pair, instruction, shown_arg}
 use Rattle.pkops.specs.Contents.{IsName, IsGood}
 use Rattle.pkops.specs.Deciding.{is_name}
 
@@ -37,7 +36,7 @@ pair_names op.Global first second h = h.contents
 pair_names op.Inst first second h = h.contents
 pair_names _ first second h = absurd h.suits
 
-pub are_text : (inst : Inst) (first second : _) → inst.arg ≡ arg.Pair first second → IsGood (instruction_of inst) → IsUtf8 first.now × IsUtf8 second.now
-are_text inst first second e h =
-    let n = pair_names inst.op first.now second.now (subst (λ (a : Argument). IsGood (instruction inst.op a)) (ap shown_arg e) h) in
+pub are_text : (i : Instruction) (found : Arg) (first second : _) → shown_arg found ≡ i.arg → found ≡ arg.Pair first second → IsGood i → IsUtf8 first.now × IsUtf8 second.now
+are_text i found first second shown e h =
+    let n = pair_names i.op first.now second.now (subst (λ (a : Argument). IsGood (instruction i.op a)) (sym shown ∙ ap shown_arg e) h) in
     (IsUtf8-from_ascii first.now n.0.ascii, IsUtf8-from_ascii second.now n.1.ascii)

@@ -1,5 +1,6 @@
 pub mod Table
 pub mod Spelling
+pub mod Behind
 pub mod Inst
 pub mod Contents
 pub mod Forms

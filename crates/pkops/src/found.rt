@@ -4,7 +4,7 @@ use crate::fault::Fault;
 use crate::inst::Inst;
 
 /// What stands at the front of some bytes.
-#[derive(Clone, Copy, Debug, PartialEq, Eq)]
+#[derive(Clone, Copy, Debug)]
 pub enum Scan<'a> {
     /// An instruction, and how many bytes spell it.
     Whole(Inst<'a>, usize),

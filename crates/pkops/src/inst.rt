@@ -1,23 +1,30 @@
 //! One instruction.
 
-ghost use Rattle.std.specs.Prelude.{◌≡◌, MatchBool, SomeIff, ◌+◌, ◌^◌, ◌<◌, ◌≤◌, length};
+ghost use Rattle.std.specs.Prelude.{◌≡◌, ℕ, MatchBool, SomeIff, ◌+◌, ◌^◌, ◌<◌, ◌≤◌, length};
 ghost use Rattle.pkops.specs.Spelling.{IsLine, Suits, instruction, laid, layout_at, shown_arg};
+ghost use Rattle.pkops.specs.Spelling.{Argument, spelling};
+ghost use Rattle.pkops.specs.Behind.{argument_in, spelled_by, split_by};
+ghost use Rattle.pkops.specs.Lying.{Lies, split_of};
 ghost use Rattle.pkops.specs.Scanning.{count_len};
 ghost use Rattle.pkops.specs.Contents.{IsGood};
 ghost use Rattle.pkops.specs.Operands.{names_memo_entry};
 
 use crate::arg::Arg;
 use crate::contents::{Rule, keeps, numeral};
+use crate::form::Form;
 use crate::layout::{Layout, is_count};
+use crate::lending::argument_of;
 use crate::op::Op;
 use crate::table::kind;
 
 /// An instruction: an opcode with an argument of its kind, whose contents keep the kind's rules.
-#[derive(Clone, Copy, Debug, PartialEq, Eq)]
+#[derive(Clone, Copy, Debug)]
 pub struct Inst<'a> {
     op: Op,
-    arg: Arg<'a>,
-    ghost good: { ∥ IsGood (instruction op (shown_arg arg)) ∥₁ },
+    form: Form<'a>,
+    ghost good: { ∥ IsGood (instruction op (argument_in op form)) ∥₁ },
+    ghost spelled: { spelled_by op form ≡ spelling (instruction op (argument_in op form)) },
+    ghost split: { split_by form ≡ split_of (argument_in op form) },
 }
 
 impl<'a> Inst<'a> {
@@ -36,7 +43,10 @@ impl<'a> Inst<'a> {
             (IsGood (instruction op (shown_arg arg.entry))) (instruction op (shown_arg arg.entry)) }
     {
         if suits(kind(op).layout(), arg) && keeps(Rule::of(op), arg) {
-            Some(Inst { op, arg })
+            Some(Inst {
+                op,
+                form: Form::Made(arg),
+            })
         } else {
             None
         }
@@ -50,7 +60,10 @@ impl<'a> Inst<'a> {
             (IsGood (instruction op (shown_arg arg.entry))) (instruction op (shown_arg arg.entry)) }
     {
         if keeps(Rule::of(op), arg) {
-            Some(Inst { op, arg })
+            Some(Inst {
+                op,
+                form: Form::Made(arg),
+            })
         } else {
             None
         }
@@ -62,7 +75,25 @@ impl<'a> Inst<'a> {
         requires { IsGood (instruction op (shown_arg arg)) }
         ensures { instruction_of result ≡ instruction op (shown_arg arg.entry) }
     {
-        Inst { op, arg }
+        Inst {
+            op,
+            form: Form::Made(arg),
+        }
+    }
+
+    /// The instruction that these bytes spell, which is known to be good; the first of two lines
+    /// has so many.
+    #[inline]
+    pub fn spelled(op: Op, split: usize, bytes: &'a [u8]) -> Inst<'a>
+        requires { (limit : ℕ) × (arg : Argument)
+            × Lies limit op arg split bytes.now × IsGood (instruction op arg) }
+        ensures { (limit : ℕ) (arg : Argument) →
+            Lies limit op arg split bytes.entry.now → instruction_of result ≡ instruction op arg }
+    {
+        Inst {
+            op,
+            form: Form::Spelled(split, bytes),
+        }
     }
 
     /// The opcode.
@@ -74,11 +105,15 @@ impl<'a> Inst<'a> {
     }
 
     /// The argument.
+    #[inline(always)]
     pub fn arg(&self) -> Arg<'a>
         ensures arg { shown_arg result ≡ (instruction_of self.now).arg }
         ensures good { IsGood (instruction_of self.now) }
     {
-        self.arg
+        match self.form {
+            Form::Made(arg) => arg,
+            Form::Spelled(split, bytes) => argument_of(self.op, split, bytes),
+        }
     }
 
     /// How many bytes spell the instruction.
@@ -86,7 +121,10 @@ impl<'a> Inst<'a> {
     pub fn len(&self) -> u64
         ensures { result ≡ length (spelling (instruction_of self.now)) }
     {
-        1 + argument_len(self.op, self.arg)
+        match self.form {
+            Form::Made(arg) => 1 + argument_len(self.op, arg),
+            Form::Spelled(_, bytes) => bytes.len() as u64,
+        }
     }
 
     /// The number of the memo entry that GET, BINGET, LONG_BINGET, PUT, BINPUT and LONG_BINPUT
@@ -98,7 +136,7 @@ impl<'a> Inst<'a> {
         if !names_memo_entry(self.op) {
             return None;
         }
-        match self.arg {
+        match self.arg() {
             Arg::U1(number) => Some(u32::from(number)),
             Arg::U4(number) => Some(number),
             Arg::Line(digits) => numeral::memo_number(digits),
@@ -111,7 +149,7 @@ impl<'a> Inst<'a> {
     pub fn names_bool(&self) -> bool
         ensures { result ≡ names_bool (instruction_of self.now) }
     {
-        match (self.op, self.arg) {
+        match (self.op, self.arg()) {
             (Op::Int, Arg::Line(line)) => numeral::is_bool_line(line),
             _ => false,
         }
@@ -122,7 +160,7 @@ impl<'a> Inst<'a> {
         ensures { option_map (λ pair. (pair.0.now, pair.1.now)) result
             ≡ pair_named (instruction_of self.now) }
     {
-        let Arg::Pair(module, name) = self.arg else {
+        let Arg::Pair(module, name) = self.arg() else {
             return None;
         };
         let Ok(module) = str::from_utf8(module) else {
@@ -138,7 +176,7 @@ impl<'a> Inst<'a> {
     pub fn admitted(&self) -> bool
         ensures { result ≡ is_admitted (instruction_of self.now) }
     {
-        match (self.op, self.arg) {
+        match (self.op, self.arg()) {
             (Op::Ext1 | Op::Ext2 | Op::Ext4, _) => false,
             (Op::Proto, Arg::U1(protocol)) => protocol <= 5,
             _ => true,
@@ -158,7 +196,6 @@ fn names_memo_entry(op: Op) -> bool
 }
 
 /// The bytes of an argument.
-#[inline(always)]
 fn argument_len(op: Op, arg: Arg<'_>) -> u64
     requires { Suits (layout_at op) (shown_arg arg) }
     ensures is { result ≡ length (laid (layout_at op) (shown_arg arg.entry)) }

@@ -13,7 +13,6 @@ use byteorder::{ByteOrder, LittleEndian};
 
 /// The argument of all the bytes, whose code is that of the opcode; the first of two lines has so
 /// many bytes.
-#[inline(always)]
 pub fn argument_of<'a>(op: Op, split: usize, bytes: &'a [u8]) -> Arg<'a>
     requires { (limit : ℕ) × (arg : Argument) × Lies limit op arg split bytes.now }
     ensures { (limit : ℕ) (arg : Argument) →

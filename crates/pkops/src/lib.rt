@@ -5,6 +5,7 @@ mod arg;
 mod codes;
 mod contents;
 mod fault;
+mod form;
 mod found;
 mod inst;
 pub mod laws;

@@ -14,7 +14,7 @@ use pkops::{Inst, Limits, Op};
 use std::alloc::Global;
 
 /// What a reader gives.
-#[derive(Clone, Copy, Debug, PartialEq, Eq)]
+#[derive(Clone, Copy, Debug)]
 pub enum Next<'a> {
     /// An instruction, and the offset of its first byte, counted from the first byte taken. Its
     /// argument is lent from the reader's buffer.
@@ -24,7 +24,7 @@ pub enum Next<'a> {
 }
 
 /// What a reader gives that holds no byte payload.
-#[derive(Clone, Copy, Debug, PartialEq, Eq)]
+#[derive(Clone, Copy, Debug)]
 pub enum Head<'a> {
     /// An instruction, as `Next` has it. Its opcode is not a passed one.
     Inst { at: u64, inst: Inst<'a> },

@@ -22,7 +22,7 @@ use crate::gather::{Found, gather};
 use crate::heads::{Gathered, gather_head};
 use crate::refusal::{Reason, Refusal};
 use crate::source::Source;
-use pkops::{Inst, Limits, Op, argument_of};
+use pkops::{Inst, Limits, Op};
 use std::alloc::Global;
 use std::marker::Model;
 
@@ -136,7 +136,8 @@ impl Core {
         refusal
     }
 
-    /// The instruction that was gathered, without a second look at its contents.
+    /// The instruction that was gathered, without a second look at its contents: its argument lies
+    /// in the buffer, and none is made of it.
     #[inline(always)]
     pub(crate) fn instruction(&self, found: Found) -> Inst<'_>
         requires { IsFound self.now.limits.counted self.now.held.bytes found.op found.split }
@@ -144,8 +145,7 @@ impl Core {
             Lies self.now.limits.counted found.op arg found.split self.now.held.bytes →
             instruction_of result ≡ instruction found.op arg }
     {
-        let arg = argument_of(found.op, found.split, self.buffer.bytes());
-        Inst::known(found.op, arg)
+        Inst::spelled(found.op, found.split, self.buffer.bytes())
     }
 
     /// Takes the bytes of the next instruction.
