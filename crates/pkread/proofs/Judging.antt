@@ -20,8 +20,9 @@ use Rattle.pkread.proofs.LinesBehind.{stops_more}
 use Rattle.pkread.proofs.Objections.{objection_is_amiss}
 use Rattle.pkread.proofs.OneRow.{OneAnswer, one_row}
 use Rattle.pkread.specs.Admission.{objection}
-use Rattle.pkread.specs.Private.Gathering.{Gathers, HoldsTaken, IsFound, RowBehind, Stops}
+use Rattle.pkread.specs.Private.Gathering.{Finds, Gathers, Grows, HoldsTaken, IsFound, RowBehind, Stops}
 use Rattle.pkread.specs.Rows.{FrontsBegin, IsAmiss, Refuses, Row, Sight, Takes}
+use Rattle.pkread.specs.Private.Judging.{IsPlain}
 use Rattle.pkread.specs.Private.Taking.{LacksSome, Took}
 use Rattle.pkread.specs.declared.gather.Found.{Found}
 use Rattle.pkread.specs.declared.refusal.Reason.{Reason}
@@ -73,6 +74,33 @@ stops_amiss laws limit t u o arg split c old new m n r k l w = record {
   fronts = laws.whole limit o arg split new l;
   row = amiss_behind limit m n c new u r k.taken w;
 }
+
+-- any argument of a plain opcode is good and admitted
+pub plain_finds : (limit t u : ℕ) (o : Op) (split : ℕ) (old new : List ℕ) (m n : Sight) → IsPlain o → Grows limit o split old m t new n u → Finds limit o split old m t new n u
+plain_finds limit t u o split old new m n p g =
+    let good : IsGood (instruction o g.arg) = record { suits = g.lies.laid.suits; contents = rw p.contents tt } in
+    record { bytes = g.bytes; took = g.took; found = record { arg = g.arg; lies = g.lies; good = good; admitted = p.admitted g.arg } }
+
+module _ (t u : ℕ) (o : Op) (split : ℕ) (old new b : List ℕ) (m n : Sight) (same : b ≡ new) where
+  -- what was taken is judged
+  pub all_find : (limit : ℕ) (r : Result ℕ Reason) → Grows limit o split old m t new n u → IfOk r (λ s. (s ≡ split) × ((l : ℕ) (arg : Argument) → Lies l o arg split b → IsGood (instruction o arg) × (objection (instruction o arg) ≡ None))) → IfOk r (λ s. Finds limit o s old m t new n u)
+  all_find limit (Err x) g h = tt
+  all_find limit (Ok s) g h =
+      let j = h.1 limit g.arg (rw same g.lies) in
+      rw h.0 (record { bytes = g.bytes; took = g.took; found = record { arg = g.arg; lies = g.lies; good = j.0; admitted = j.1 } })
+
+  pub all_amiss : BegunLaws → (limit : ℕ) (r : Result ℕ Reason) → Grows limit o split old m t new n u → IfErr r (λ x. (l : ℕ) (arg : Argument) → Lies l o arg split b → IsAmiss l b x) → IfErr r (Stops limit old m t new n u)
+  all_amiss laws limit (Ok s) g h = tt
+  all_amiss laws limit (Err x) g h = stops_amiss laws limit t u o g.arg split g.bytes old new m n x g.took g.lies (rw same at (h limit g.arg (rw same g.lies)))
+
+  -- whatever the limit is
+  pub every_find : (r : Result ℕ Reason) → ((l : ℕ) → Grows l o split old m t new n u) → IfOk r (λ s. (s ≡ split) × ((l : ℕ) (arg : Argument) → Lies l o arg split b → IsGood (instruction o arg) × (objection (instruction o arg) ≡ None))) → IfOk r (λ s. (l : ℕ) → Finds l o s old m t new n u)
+  every_find (Err x) g h = tt
+  every_find (Ok s) g h = λ l. all_find l (Ok s) (g l) h
+
+  pub every_amiss : BegunLaws → (r : Result ℕ Reason) → ((l : ℕ) → Grows l o split old m t new n u) → IfErr r (λ x. (l : ℕ) (arg : Argument) → Lies l o arg split b → IsAmiss l b x) → IfErr r (λ x. (l : ℕ) → Stops l old m t new n u x)
+  every_amiss laws (Ok s) g h = tt
+  every_amiss laws (Err x) g h = λ l. all_amiss laws l (Err x) (g l) h
 
 none_of : (c : List ℕ) → length c < 1 → c ≡ []
 none_of [] l = refl

@@ -1,8 +1,10 @@
--- Opcodes whose arguments need no look.
-use Rattle.std.proofs.Common.{◌≡◌, Bool, refl}
+-- Opcodes whose arguments need no look, and those whose payload is not passed.
+use Rattle.std.proofs.Common.{◌≡◌, Bool, false, refl}
+use Rattle.pkops.specs.Payloads.{is_passed}
 use Rattle.pkops.specs.Spelling.{layout_at}
 use Rattle.pkops.specs.declared.layout.Layout.TheVariants as layout
 use Rattle.pkops.specs.declared.layout.Width.{Width}
+use Rattle.pkops.specs.declared.layout.Width.TheVariants as width
 use Rattle.pkops.specs.declared.op.Op.{Op}
 use Rattle.pkops.specs.declared.op.Op.TheVariants as op
 use Rattle.pkread.specs.Private.Judging.{IsPlain}
@@ -166,3 +168,11 @@ plain_counted op.ShortBinUnicode size signed e h0 h1 h2 = absurd (h0 refl)
 plain_counted op.BinUnicode size signed e h0 h1 h2 = absurd (h1 refl)
 plain_counted op.BinUnicode8 size signed e h0 h1 h2 = absurd (h2 refl)
 plain_counted _ size signed e h0 h1 h2 = record { contents = refl; admitted = λ arg. refl }
+
+-- an opcode whose payload is passed has a counted argument
+pub not_passed : (o : Op) → ((size : Width) (signed : Bool) → layout_at o ≡ layout.Counted size signed → ⊥) → false ≡ is_passed o
+not_passed op.BinBytes h = absurd (h width.Four false refl)
+not_passed op.ShortBinBytes h = absurd (h width.One false refl)
+not_passed op.BinBytes8 h = absurd (h width.Eight false refl)
+not_passed op.ByteArray8 h = absurd (h width.Eight false refl)
+not_passed _ h = refl

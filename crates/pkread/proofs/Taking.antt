@@ -1,8 +1,8 @@
 -- Reads, and what several of them take.
-use Rattle.std.proofs.Common.{◌≡◌, ◌≢◌, ℕ, zero, suc, ◌+◌, ◌-◌, ◌%◌, ◌^◌, ◌<◌, ◌≤◌, List, [], ◌∷◌, ◌++◌, length, take, drop, get_or, Option, None, Some, refl, sym, ap, ◌∙◌, arith, length-append, append_assoc, append-nil}
+use Rattle.std.proofs.Common.{◌≡◌, ◌≢◌, ℕ, zero, suc, ◌+◌, ◌-◌, ◌%◌, ◌^◌, ◌<◌, ◌≤◌, List, [], ◌∷◌, ◌++◌, length, take, drop, get_or, Option, None, Some, refl, sym, ap, subst, ◌∙◌, arith, length-append, append_assoc, append-nil}
 use Rattle.std.specs.Io.KnownBytes.{Consumes}
 use Rattle.std.specs.List.{AllByRecursion}
-use Rattle.std.proofs.lemmas.List.{length-take, length-drop, get_or-drop}
+use Rattle.std.proofs.lemmas.List.{drop-take, drop_at, get_or-drop, length-drop, length-take, take-take, take_at}
 use Rattle.std.proofs.Math.Seq.{take-add}
 use Rattle.pkread.proofs.Gathering.{Consumes-more, Takes-more, Takes-none}
 use Rattle.pkread.specs.Rows.{Sight, Takes, all_bytes}
@@ -149,6 +149,29 @@ byte_reads n held items mid new to before after e le some put same took still fi
   held = put ∙ ap (λ (l : List ℕ). l ++ get_or to 0 0 ∷ []) same;
   taken = record { bytes = rw (all_of_one n to e le some) at took; count = still };
 }
+
+-- a field was put behind the bytes held
+module _ (n held size : ℕ) (items mid new to : List ℕ) (len : length to ≡ size) (room : held + size ≤ length mid) (le : n ≤ length to) (put : take (held + size) new ≡ take held mid ++ to) where
+  head : length (take held mid) ≡ held
+  head = omega (arith, room, length-take held mid)
+
+  kept : take held new ≡ take held mid
+  kept = sym (take-take held (held + size) new (omega arith)) ∙ (ap (take held) put ∙ take_at (take held mid) to held head)
+
+  behind : take n (drop held new) ≡ take n to
+  behind = sym (take-take n size (drop held new) (omega (arith, len, le))) ∙ ap (take n) (sym (drop-take held size new) ∙ (ap (drop held) put ∙ drop_at (take held mid) to held head))
+
+  -- of which so many bytes were read
+  pub field_reads : (before after : Sight) → 0 < n → take held mid ≡ take held items → Consumes before.left after.left (take n to) → after.failures ≡ before.failures → AreBytes new → Reads size n (take held items) before (take (held + n) new) after
+  field_reads before after some same took still fits = record {
+    bytes = take n to;
+    fit = subst AreBytes behind (AreBytes-take n (drop held new) (AreBytes-drop held new fits));
+    held = take-add held n new ∙ (ap (λ (l : List ℕ). l ++ take n (drop held new)) (kept ∙ same) ∙ ap (λ (l : List ℕ). take held items ++ l) behind);
+    taken = record { bytes = took; count = still };
+    some = some;
+    within = omega (arith, len, le);
+    count = omega (arith, le, length-take n to);
+  }
 
 -- the first byte that a buffer holds
 pub first_held : (n x : ℕ) (items : List ℕ) → (n ≡ 0 → ⊥) → n ≤ length items → x ≡ get_or items 0 x → (rest : List ℕ) × (take n items ≡ x ∷ rest)

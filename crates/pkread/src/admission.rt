@@ -1,6 +1,6 @@
 //! Why what was scanned is refused.
 
-ghost use Rattle.std.specs.Prelude.{◌≡◌, ℕ, None, IfNone, IfSome, true};
+ghost use Rattle.std.specs.Prelude.{◌≡◌, ℕ, None, IfErr, IfNone, IfOk, IfSome, true};
 ghost use Rattle.pkops.specs.Contents.{IsGood};
 ghost use Rattle.pkops.specs.Lying.{Lies};
 ghost use Rattle.pkops.specs.Spelling.{Argument, instruction, layout_at};
@@ -10,7 +10,6 @@ ghost use Rattle.pkops.specs.Inst.{instruction_of};
 ghost use Rattle.pkread.specs.Admission.{objection};
 ghost use Rattle.pkread.specs.Private.Judging.{IsPlain, reason_of};
 
-use crate::arms::Behind;
 use crate::refusal::Reason;
 use pkops::{Arg, Fault, Inst, Op, Width, argument_of};
 
@@ -38,24 +37,42 @@ pub(crate) fn objection_to(inst: Inst<'_>) -> Option<Reason>
     }
 }
 
-/// Why an instruction of known layout is refused, if it is. Its contents are looked at here alone.
-#[inline]
-pub(crate) fn objection_in(op: Op, behind: Behind, bytes: &[u8]) -> Option<Reason>
-    requires plain { behind.plain ≡ true → IsPlain op }
-    requires lies { (limit : ℕ) × (arg : Argument) × Lies limit op arg behind.split bytes.now }
-    ensures none { IfNone result ((limit : ℕ) (arg : Argument) →
-        Lies limit op arg behind.split bytes.now →
-        IsGood (instruction op arg) × (objection (instruction op arg) ≡ None)) }
-    ensures some { IfSome result (λ reason. (limit : ℕ) (arg : Argument) →
-        Lies limit op arg behind.split bytes.now → IsAmiss limit bytes.now reason) }
+/// Judges an instruction of known layout, and gives the split where it is good and admitted. Its
+/// contents are looked at only where they aren't plain.
+#[inline(always)]
+pub(crate) fn judged(op: Op, plain: bool, split: usize, bytes: &[u8]) -> Result<usize, Reason>
+    requires plain { plain ≡ true → IsPlain op }
+    requires lies { (limit : ℕ) × (arg : Argument) × Lies limit op arg split bytes.now }
+    ensures ok { IfOk result (λ same. (same ≡ split) × ((limit : ℕ) (arg : Argument) →
+        Lies limit op arg split bytes.now →
+        IsGood (instruction op arg) × (objection (instruction op arg) ≡ None))) }
+    ensures err { IfErr result (λ reason. (limit : ℕ) (arg : Argument) →
+        Lies limit op arg split bytes.now → IsAmiss limit bytes.now reason) }
 {
-    if behind.plain {
-        return None;
+    if plain {
+        return Ok(split);
     }
-    look(op, behind.split, bytes)
+    looked(op, split, bytes)
 }
 
-/// The same, whatever the opcode is.
+/// The same where a look is needed. It stands apart so that room for the answer of a look is made
+/// there alone.
+#[inline(always)]
+fn looked(op: Op, split: usize, bytes: &[u8]) -> Result<usize, Reason>
+    requires { (limit : ℕ) × (arg : Argument) × Lies limit op arg split bytes.now }
+    ensures ok { IfOk result (λ same. (same ≡ split) × ((limit : ℕ) (arg : Argument) →
+        Lies limit op arg split bytes.now →
+        IsGood (instruction op arg) × (objection (instruction op arg) ≡ None))) }
+    ensures err { IfErr result (λ reason. (limit : ℕ) (arg : Argument) →
+        Lies limit op arg split bytes.now → IsAmiss limit bytes.now reason) }
+{
+    match look(op, split, bytes) {
+        Some(reason) => Err(reason),
+        None => Ok(split),
+    }
+}
+
+/// Why it is refused, if it is, whatever the opcode is.
 #[inline(never)]
 fn look(op: Op, split: usize, bytes: &[u8]) -> Option<Reason>
     requires { (limit : ℕ) × (arg : Argument) × Lies limit op arg split bytes.now }

@@ -2,14 +2,16 @@
 
 ghost use Rattle.std.specs.Prelude.{◌≡◌, ◌∷◌, ◌<◌, ◌≤◌, [], ℕ, IfOk, IfErr, length, true};
 ghost use Rattle.pkops.specs.Lying.{IsFixed, field_len};
-ghost use Rattle.pkops.specs.Spelling.{layout_at};
+ghost use Rattle.pkops.specs.Spelling.{layout_at, size_of};
 ghost use Rattle.pkops.specs.Table.{code_of};
 ghost use Rattle.pkops.specs.declared.layout.Layout.TheVariants as layout;
 ghost use Rattle.pkread.specs.Private.Judging.{IsPlain};
-ghost use Rattle.pkread.specs.Private.Gathering.{Counts, Grows, Stops};
+ghost use Rattle.pkread.specs.Private.Gathering.{Counts, Finds, Stops};
+ghost use Rattle.pkread.specs.Private.Taking.{LacksSome, TookAll};
 ghost use Rattle.pkread.specs.Rows.{sight};
 
-use crate::blocks::{take, take_few};
+use crate::admission::{counted_is_plain, judged};
+use crate::blocks::{take, take_field};
 use crate::buffer::Buffer;
 use crate::lines::line;
 use crate::refusal::Reason;
@@ -17,33 +19,24 @@ use crate::source::Source;
 use pkops::laws::growth;
 use pkops::{Op, Width, count_behind, is_count};
 
-/// What was taken behind a code: the number of bytes of the first of two lines, and whether the
-/// argument needs no look, since any of its layout is good and admitted.
-#[derive(Clone, Copy, Debug)]
-pub(crate) struct Behind {
-    pub(crate) split: usize,
-    pub(crate) plain: bool,
-}
-
-/// Takes an argument of so many bytes, whatever they are.
-#[inline]
-pub(crate) fn fixed<R: Source>(
+/// Takes an argument of N bytes, and looks at them where they aren't plain. As of each arm, the
+/// answer is the number of bytes of the first of two lines.
+#[inline(always)]
+pub(crate) fn fixed<R: Source, const N: usize>(
     source: &mut R,
     buffer: &mut Buffer,
     taken: &mut u64,
     op: Op,
-    width: usize,
     plain: bool,
-) -> Result<Behind, Reason>
+) -> Result<usize, Reason>
     requires code { buffer.old.bytes ≡ code_of op ∷ [] }
     requires fixed { IsFixed (layout_at op) }
-    requires width { width ≡ field_len (layout_at op) }
-    requires some { 0 < width }
-    requires few { width ≤ 8 }
+    requires width { N ≡ field_len (layout_at op) }
+    requires some { 0 < N }
+    requires few { N ≤ 8 }
     requires plain { plain ≡ true → IsPlain op }
     ensures most { buffer.new.most ≡ buffer.old.most }
-    ensures plain { IfOk result (λ r. r.plain ≡ true → IsPlain op) }
-    ensures ok { IfOk result (λ r. (limit : ℕ) → Grows limit op r.split
+    ensures ok { IfOk result (λ split. (limit : ℕ) → Finds limit op split
         buffer.old.bytes (sight R.left R.failures source.old) taken.old
         buffer.new.bytes (sight R.left R.failures source.new) taken.new) }
     ensures err { IfErr result (λ reason. (limit : ℕ) → Stops limit
@@ -51,12 +44,61 @@ pub(crate) fn fixed<R: Source>(
         buffer.new.bytes (sight R.left R.failures source.new) taken.new reason) }
 {
     growth();
-    take_few(source, buffer, taken, width)?;
-    Ok(Behind { split: 0, plain })
+    take_field::<R, N>(source, buffer, taken)?;
+    judged(op, plain, 0, buffer.bytes())
+}
+
+/// The same, apart, for the layouts that few instructions have.
+#[inline(never)]
+pub(crate) fn fixed_apart<R: Source, const N: usize>(
+    source: &mut R,
+    buffer: &mut Buffer,
+    taken: &mut u64,
+    op: Op,
+    plain: bool,
+) -> Result<usize, Reason>
+    requires code { buffer.old.bytes ≡ code_of op ∷ [] }
+    requires fixed { IsFixed (layout_at op) }
+    requires width { N ≡ field_len (layout_at op) }
+    requires some { 0 < N }
+    requires few { N ≤ 8 }
+    requires plain { plain ≡ true → IsPlain op }
+    ensures most { buffer.new.most ≡ buffer.old.most }
+    ensures ok { IfOk result (λ split. (limit : ℕ) → Finds limit op split
+        buffer.old.bytes (sight R.left R.failures source.old) taken.old
+        buffer.new.bytes (sight R.left R.failures source.new) taken.new) }
+    ensures err { IfErr result (λ reason. (limit : ℕ) → Stops limit
+        buffer.old.bytes (sight R.left R.failures source.old) taken.old
+        buffer.new.bytes (sight R.left R.failures source.new) taken.new reason) }
+{
+    fixed::<R, N>(source, buffer, taken, op, plain)
+}
+
+/// Takes the bytes of a count.
+#[inline(always)]
+fn take_width<R: Source>(
+    source: &mut R,
+    buffer: &mut Buffer,
+    taken: &mut u64,
+    width: Width,
+) -> Result<(), Reason>
+    ensures most { buffer.new.most ≡ buffer.old.most }
+    ensures ok { IfOk result (λ _. TookAll (size_of width)
+        buffer.old.bytes (sight R.left R.failures source.old) taken.old
+        buffer.new.bytes (sight R.left R.failures source.new) taken.new) }
+    ensures err { IfErr result (LacksSome (size_of width)
+        buffer.old.bytes (sight R.left R.failures source.old) taken.old
+        buffer.new.bytes (sight R.left R.failures source.new) taken.new) }
+{
+    match width {
+        Width::One => take_field::<R, 1>(source, buffer, taken),
+        Width::Four => take_field::<R, 4>(source, buffer, taken),
+        Width::Eight => take_field::<R, 8>(source, buffer, taken),
+    }
 }
 
 /// Takes a count, and gives it where it keeps the limit.
-#[inline]
+#[inline(always)]
 pub(crate) fn take_count<R: Source>(
     source: &mut R,
     buffer: &mut Buffer,
@@ -78,7 +120,7 @@ pub(crate) fn take_count<R: Source>(
         buffer.new.bytes (sight R.left R.failures source.new) taken.new) }
 {
     growth();
-    take_few(source, buffer, taken, width.size())?;
+    take_width(source, buffer, taken, width)?;
     let count = count_behind(width, buffer.bytes());
     if !is_count(width, signed, count) {
         return Err(Reason::BadArgument);
@@ -90,7 +132,6 @@ pub(crate) fn take_count<R: Source>(
 }
 
 /// Takes a counted argument.
-#[inline]
 pub(crate) fn counted<R: Source>(
     source: &mut R,
     buffer: &mut Buffer,
@@ -99,14 +140,11 @@ pub(crate) fn counted<R: Source>(
     op: Op,
     width: Width,
     signed: bool,
-    plain: bool,
-) -> Result<Behind, Reason>
+) -> Result<usize, Reason>
     requires code { buffer.old.bytes ≡ code_of op ∷ [] }
     requires lay { layout_at op ≡ layout.Counted width signed }
-    requires plain { plain ≡ true → IsPlain op }
     ensures most { buffer.new.most ≡ buffer.old.most }
-    ensures plain { IfOk result (λ r. r.plain ≡ true → IsPlain op) }
-    ensures ok { IfOk result (λ r. Grows limit op r.split
+    ensures ok { IfOk result (λ split. Finds limit op split
         buffer.old.bytes (sight R.left R.failures source.old) taken.old
         buffer.new.bytes (sight R.left R.failures source.new) taken.new) }
     ensures err { IfErr result (Stops limit
@@ -116,7 +154,7 @@ pub(crate) fn counted<R: Source>(
     growth();
     let count = take_count(source, buffer, taken, limit, op, width, signed)?;
     take(source, buffer, taken, count)?;
-    Ok(Behind { split: 0, plain })
+    judged(op, counted_is_plain(op, width, signed), 0, buffer.bytes())
 }
 
 /// Takes a line.
@@ -126,12 +164,11 @@ pub(crate) fn one_line<R: Source>(
     taken: &mut u64,
     op: Op,
     most: usize,
-) -> Result<Behind, Reason>
+) -> Result<usize, Reason>
     requires code { buffer.old.bytes ≡ code_of op ∷ [] }
     requires lay { layout_at op ≡ layout.Line most }
     ensures most { buffer.new.most ≡ buffer.old.most }
-    ensures plain { IfOk result (λ r. r.plain ≡ true → IsPlain op) }
-    ensures ok { IfOk result (λ r. (limit : ℕ) → Grows limit op r.split
+    ensures ok { IfOk result (λ split. (limit : ℕ) → Finds limit op split
         buffer.old.bytes (sight R.left R.failures source.old) taken.old
         buffer.new.bytes (sight R.left R.failures source.new) taken.new) }
     ensures err { IfErr result (λ reason. (limit : ℕ) → Stops limit
@@ -140,25 +177,22 @@ pub(crate) fn one_line<R: Source>(
 {
     growth();
     line(source, buffer, taken, most)?;
-    Ok(Behind {
-        split: 0,
-        plain: false,
-    })
+    judged(op, false, 0, buffer.bytes())
 }
 
 /// Takes two lines, and gives the number of bytes of the first.
+#[inline(never)]
 pub(crate) fn two_lines<R: Source>(
     source: &mut R,
     buffer: &mut Buffer,
     taken: &mut u64,
     op: Op,
     most: usize,
-) -> Result<Behind, Reason>
+) -> Result<usize, Reason>
     requires code { buffer.old.bytes ≡ code_of op ∷ [] }
     requires lay { layout_at op ≡ layout.Pair most }
     ensures most { buffer.new.most ≡ buffer.old.most }
-    ensures plain { IfOk result (λ r. r.plain ≡ true → IsPlain op) }
-    ensures ok { IfOk result (λ r. (limit : ℕ) → Grows limit op r.split
+    ensures ok { IfOk result (λ split. (limit : ℕ) → Finds limit op split
         buffer.old.bytes (sight R.left R.failures source.old) taken.old
         buffer.new.bytes (sight R.left R.failures source.new) taken.new) }
     ensures err { IfErr result (λ reason. (limit : ℕ) → Stops limit
@@ -169,8 +203,5 @@ pub(crate) fn two_lines<R: Source>(
     line(source, buffer, taken, most)?;
     let split = buffer.bytes().len() - 2;
     line(source, buffer, taken, most)?;
-    Ok(Behind {
-        split,
-        plain: false,
-    })
+    judged(op, false, split, buffer.bytes())
 }

@@ -61,35 +61,6 @@ pub(crate) fn take<R: Source>(
     }
 }
 
-/// The same for some bytes, which most often come in one read.
-#[inline(always)]
-fn take_some<R: Source>(
-    source: &mut R,
-    buffer: &mut Buffer,
-    taken: &mut u64,
-    count: usize,
-) -> Result<(), Reason>
-    requires some { 0 < count }
-    requires few { count ≤ 8 }
-    ensures most { buffer.new.most ≡ buffer.old.most }
-    ensures ok { IfOk result (λ _. TookAll count
-        buffer.old.bytes (sight R.left R.failures source.old) taken.old
-        buffer.new.bytes (sight R.left R.failures source.new) taken.new) }
-    ensures err { IfErr result (LacksSome count
-        buffer.old.bytes (sight R.left R.failures source.old) taken.old
-        buffer.new.bytes (sight R.left R.failures source.new) taken.new) }
-{
-    if u64::MAX - *taken < count as u64 {
-        return take(source, buffer, taken, count);
-    }
-    let n = buffer.read(source, count)?;
-    *taken += n as u64;
-    if n == count {
-        return Ok(());
-    }
-    take(source, buffer, taken, count - n)
-}
-
 /// Takes one byte more.
 #[inline]
 pub(crate) fn take_byte<R: Source>(
@@ -113,16 +84,43 @@ pub(crate) fn take_byte<R: Source>(
     Ok(byte)
 }
 
-/// The same for a few bytes, which most often come in one read.
+/// Takes a field of N bytes more, which most often come in one read.
 #[inline(always)]
-pub(crate) fn take_few<R: Source>(
+pub(crate) fn take_field<R: Source, const N: usize>(
+    source: &mut R,
+    buffer: &mut Buffer,
+    taken: &mut u64,
+) -> Result<(), Reason>
+    requires some { 0 < N }
+    requires few { N ≤ 8 }
+    ensures most { buffer.new.most ≡ buffer.old.most }
+    ensures ok { IfOk result (λ _. TookAll N
+        buffer.old.bytes (sight R.left R.failures source.old) taken.old
+        buffer.new.bytes (sight R.left R.failures source.new) taken.new) }
+    ensures err { IfErr result (LacksSome N
+        buffer.old.bytes (sight R.left R.failures source.old) taken.old
+        buffer.new.bytes (sight R.left R.failures source.new) taken.new) }
+{
+    if u64::MAX - *taken < N as u64 {
+        return take_rest(source, buffer, taken, N);
+    }
+    let n = buffer.read_field::<R, N>(source)?;
+    *taken += n as u64;
+    if n == N {
+        return Ok(());
+    }
+    take_rest(source, buffer, taken, N - n)
+}
+
+/// Takes just so many bytes more, as `take` does. It stands apart so that room for an answer is
+/// made where one is awaited.
+#[inline(always)]
+fn take_rest<R: Source>(
     source: &mut R,
     buffer: &mut Buffer,
     taken: &mut u64,
     count: usize,
 ) -> Result<(), Reason>
-    requires some { 0 < count }
-    requires few { count ≤ 8 }
     ensures most { buffer.new.most ≡ buffer.old.most }
     ensures ok { IfOk result (λ _. TookAll count
         buffer.old.bytes (sight R.left R.failures source.old) taken.old
@@ -131,9 +129,6 @@ pub(crate) fn take_few<R: Source>(
         buffer.old.bytes (sight R.left R.failures source.old) taken.old
         buffer.new.bytes (sight R.left R.failures source.new) taken.new) }
 {
-    if count == 1 {
-        take_byte(source, buffer, taken)?;
-        return Ok(());
-    }
-    take_some(source, buffer, taken, count)
+    take(source, buffer, taken, count)?;
+    Ok(())
 }

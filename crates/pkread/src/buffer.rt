@@ -80,13 +80,26 @@ impl Buffer {
         self.held = 0;
     }
 
-    /// Counts the bytes held among the most.
+    /// Counts the bytes held among the most. It seldom has to write.
     #[inline]
     pub(crate) fn raise(&mut self)
         ensures bytes { self.new.bytes ≡ self.old.bytes }
         ensures most { self.new.most ≡ max self.old.most (length self.old.bytes) }
     {
-        self.most = self.most.max(self.held);
+        if self.held <= self.most {
+            return;
+        }
+        self.most = self.held;
+    }
+
+    /// The same, apart: where an instruction is refused, so that the way of one that is given has
+    /// no test of which it is.
+    #[inline(never)]
+    pub(crate) fn raise_apart(&mut self)
+        ensures bytes { self.new.bytes ≡ self.old.bytes }
+        ensures most { self.new.most ≡ max self.old.most (length self.old.bytes) }
+    {
+        self.raise();
     }
 
     /// Counts the bytes held among the most, and forgets all but the first of them.
@@ -123,6 +136,35 @@ impl Buffer {
         Ok(one[0])
     }
 
+    /// One read of at most N bytes, which stand behind the others then. It goes through an array of
+    /// so many, as that of a byte does.
+    #[inline(always)]
+    pub(crate) fn read_field<R: Source, const N: usize>(
+        &mut self,
+        source: &mut R,
+    ) -> Result<usize, Reason>
+        requires some { 0 < N }
+        requires few { N ≤ 8 }
+        ensures most { self.new.most ≡ self.old.most }
+        ensures ok { IfOk result (λ n. Reads N n
+            self.old.bytes (sight R.left R.failures source.old)
+            self.new.bytes (sight R.left R.failures source.new)) }
+        ensures same { IfErr result (λ _. self.new.bytes ≡ self.old.bytes) }
+        ensures err { IfErr result (ReadsNone
+            (sight R.left R.failures source.old) (sight R.left R.failures source.new)) }
+    {
+        let held = self.held;
+        make_room(&mut self.store, held, N)?;
+        let mut field = [0; N];
+        let count = source.pull(&mut field)?;
+        if count == 0 {
+            return Err(Reason::Truncated);
+        }
+        put_field(&mut self.store, held, &field);
+        self.held = held + count;
+        Ok(count)
+    }
+
     /// One read of at most so many bytes, which stand behind the others then.
     #[inline]
     pub(crate) fn read<R: Source>(&mut self, source: &mut R, wanted: usize) -> Result<usize, Reason>
@@ -156,6 +198,17 @@ fn put(store: &mut Vec<u8>, at: usize, byte: u8)
     ensures fits { byte < 256 }
 {
     store[at] = byte;
+}
+
+/// Puts bytes at a place of a store.
+#[inline(always)]
+fn put_field<const N: usize>(store: &mut Vec<u8>, at: usize, field: &[u8; N])
+    requires { at + N ≤ length store.old.items }
+    ensures front { take (at + N) store.new.items ≡ take at store.old.items ++ field.now }
+    ensures length { at + N ≤ length store.new.items }
+    ensures fits { AreBytes store.new.items }
+{
+    store[at..at + N].copy_from_slice(field);
 }
 
 /// Makes a store long enough.

@@ -3,17 +3,15 @@
 ghost use Rattle.std.specs.Prelude.{◌≡◌, ◌∷◌, ◌≤◌, [], ℕ, List, IfOk, IfErr, true};
 ghost use Rattle.std.specs.Prelude.{length, max};
 ghost use Rattle.pkops.specs.Scanning.{longest};
+ghost use Rattle.pkops.specs.Spelling.{layout_at};
 ghost use Rattle.pkops.specs.Table.{code_of};
-ghost use Rattle.pkread.specs.Private.Judging.{IsPlain};
-ghost use Rattle.pkread.specs.Private.Gathering.{Gathers, Grows, HoldsTaken, IsFound, Stops};
+ghost use Rattle.pkread.specs.Private.Gathering.{Finds, Gathers, HoldsTaken, IsFound, Stops};
 ghost use Rattle.pkread.specs.Core.{Begins};
 ghost use Rattle.pkread.specs.Rows.{Refuses, sight, unread};
 ghost use Rattle.pkread.specs.Private.Taking.{LacksSome, Took};
 
-use crate::admission::{
-    byte_is_plain, counted_is_plain, objection_in, signed_is_plain, two_is_plain,
-};
-use crate::arms::{Behind, counted, fixed, one_line, two_lines};
+use crate::admission::{byte_is_plain, signed_is_plain, two_is_plain};
+use crate::arms::{counted, fixed, fixed_apart, one_line, two_lines};
 use crate::blocks::take_byte;
 use crate::buffer::Buffer;
 use crate::refusal::Reason;
@@ -28,7 +26,9 @@ pub(crate) struct Found {
     pub(crate) split: usize,
 }
 
-/// Takes the argument behind a code, and gives the number of bytes of the first of two lines.
+/// Takes the argument behind a code, judges the instruction, and gives the number of bytes of the
+/// first of two lines. Each layout has an arm that judges what it takes, so that nothing is left
+/// of it where any argument is good.
 #[inline(always)]
 fn behind_code<R: Source>(
     source: &mut R,
@@ -36,11 +36,12 @@ fn behind_code<R: Source>(
     taken: &mut u64,
     limit: u64,
     op: Op,
-) -> Result<Behind, Reason>
-    requires { buffer.old.bytes ≡ code_of op ∷ [] }
+    layout: Layout,
+) -> Result<usize, Reason>
+    requires code { buffer.old.bytes ≡ code_of op ∷ [] }
+    requires lay { layout ≡ layout_at op }
     ensures most { buffer.new.most ≡ buffer.old.most }
-    ensures plain { IfOk result (λ r. r.plain ≡ true → IsPlain op) }
-    ensures ok { IfOk result (λ r. Grows limit op r.split
+    ensures ok { IfOk result (λ split. Finds limit op split
         buffer.old.bytes (sight R.left R.failures source.old) taken.old
         buffer.new.bytes (sight R.left R.failures source.new) taken.new) }
     ensures err { IfErr result (Stops limit
@@ -48,23 +49,18 @@ fn behind_code<R: Source>(
         buffer.new.bytes (sight R.left R.failures source.new) taken.new) }
 {
     growth();
-    match layout_of_op(op) {
-        Layout::Nothing => Ok(Behind {
-            split: 0,
-            plain: true,
-        }),
-        Layout::U1 => fixed(source, buffer, taken, op, 1, byte_is_plain(op)),
-        Layout::U2 => fixed(source, buffer, taken, op, 2, two_is_plain(op)),
-        Layout::I4 => fixed(source, buffer, taken, op, 4, signed_is_plain(op)),
-        Layout::U4 => fixed(source, buffer, taken, op, 4, true),
-        Layout::U8 => fixed(source, buffer, taken, op, 8, true),
-        Layout::F8 => fixed(source, buffer, taken, op, 8, true),
-        Layout::Line(most) => one_line(source, buffer, taken, op, most),
-        Layout::Pair(most) => two_lines(source, buffer, taken, op, most),
-        Layout::Counted(width, signed) => {
-            let plain = counted_is_plain(op, width, signed);
-            counted(source, buffer, taken, limit, op, width, signed, plain)
-        }
+    match layout {
+        Layout::Nothing => Ok(0),
+        Layout::U1 => fixed::<R, 1>(source, buffer, taken, op, byte_is_plain(op)),
+        Layout::U2 => fixed_apart::<R, 2>(source, buffer, taken, op, two_is_plain(op)),
+        Layout::I4 => fixed_apart::<R, 4>(source, buffer, taken, op, signed_is_plain(op)),
+        Layout::U4 => fixed_apart::<R, 4>(source, buffer, taken, op, true),
+        Layout::U8 => fixed_apart::<R, 8>(source, buffer, taken, op, true),
+        Layout::F8 => fixed_apart::<R, 8>(source, buffer, taken, op, true),
+        // What is called is taken apart and made anew: else the arms' answers are one in memory.
+        Layout::Line(most) => Ok(one_line(source, buffer, taken, op, most)?),
+        Layout::Pair(most) => Ok(two_lines(source, buffer, taken, op, most)?),
+        Layout::Counted(width, signed) => counted(source, buffer, taken, limit, op, width, signed),
     }
 }
 
@@ -113,7 +109,7 @@ pub(crate) fn take_op<R: Source>(
     Ok(op)
 }
 
-/// Takes what stands behind a code, and judges the instruction.
+/// Takes what stands behind a code, and gives the opcode with it.
 #[inline(always)]
 pub(crate) fn gather_behind<R: Source>(
     source: &mut R,
@@ -121,8 +117,10 @@ pub(crate) fn gather_behind<R: Source>(
     taken: &mut u64,
     limit: u64,
     op: Op,
+    layout: Layout,
 ) -> Result<Found, Reason>
-    requires { buffer.old.bytes ≡ code_of op ∷ [] }
+    requires code { buffer.old.bytes ≡ code_of op ∷ [] }
+    requires lay { layout ≡ layout_at op }
     ensures most { buffer.new.most ≡ buffer.old.most }
     ensures op { IfOk result (λ f. f.op ≡ op) }
     ensures whole { IfOk result (λ f. IsFound limit buffer.new.bytes f.op f.split) }
@@ -133,15 +131,8 @@ pub(crate) fn gather_behind<R: Source>(
         buffer.old.bytes (sight R.left R.failures source.old) taken.old
         buffer.new.bytes (sight R.left R.failures source.new) taken.new) }
 {
-    growth();
-    let behind = behind_code(source, buffer, taken, limit, op)?;
-    match objection_in(op, behind, buffer.bytes()) {
-        Some(reason) => Err(reason),
-        None => Ok(Found {
-            op,
-            split: behind.split,
-        }),
-    }
+    let split = behind_code(source, buffer, taken, limit, op, layout)?;
+    Ok(Found { op, split })
 }
 
 /// Takes an instruction, and leaves the most that was held.
@@ -163,7 +154,7 @@ fn gather_held<R: Source>(
         buffer.new.bytes (sight R.left R.failures source.new) taken.new) }
 {
     let op = take_op(source, buffer, taken)?;
-    gather_behind(source, buffer, taken, limit, op)
+    gather_behind(source, buffer, taken, limit, op, layout_of_op(op))
 }
 
 /// Takes bytes until they spell an instruction: its code alone, where the buffer does not hold it

@@ -22,7 +22,7 @@ use crate::gather::{Found, gather_behind, take_op};
 use crate::refusal::Reason;
 use crate::source::Source;
 use pkops::laws::{growth, one_answer, one_code};
-use pkops::{Limits, Op, Width};
+use pkops::{Layout, Limits, Op, Width, layout_of_op};
 
 /// What was gathered: all of an instruction, or the length of a payload that is gone.
 #[derive(Clone, Copy, Debug)]
@@ -69,6 +69,19 @@ fn count_width(op: Op) -> Width
         Op::ShortBinBytes => Width::One,
         Op::BinBytes => Width::Four,
         _ => Width::Eight,
+    }
+}
+
+/// Whether the opcode, of this layout, is a passed one. The opcode is asked for only where the
+/// argument is counted: most layouts are told apart once, and know it.
+#[inline(always)]
+fn is_passed(op: Op, layout: Layout) -> bool
+    requires { layout ≡ layout_at op }
+    ensures { result ≡ is_passed op }
+{
+    match layout {
+        Layout::Counted(_, _) => op.passed(),
+        _ => false,
     }
 }
 
@@ -136,11 +149,12 @@ fn gather_parts<R: Source>(
     one_answer();
     one_code();
     let op = take_op(source, buffer, taken)?;
-    if op.passed() {
+    let layout = layout_of_op(op);
+    if is_passed(op, layout) {
         let count = pass_argument(source, buffer, taken, limits.passed(), op)?;
         return Ok(Gathered::Passed { op, count });
     }
-    let found = gather_behind(source, buffer, taken, limits.counted(), op)?;
+    let found = gather_behind(source, buffer, taken, limits.counted(), op, layout)?;
     Ok(Gathered::Held(found))
 }
 
@@ -177,7 +191,14 @@ pub(crate) fn gather_head<R: Source>(
         bytes taken.old taken.new reason
         × HoldsFew buffer.old.most bytes buffer.new.most) }
 {
-    let gathered = gather_parts(source, buffer, taken, limits);
-    buffer.raise();
-    gathered
+    match gather_parts(source, buffer, taken, limits) {
+        Ok(gathered) => {
+            buffer.raise();
+            Ok(gathered)
+        }
+        Err(reason) => {
+            buffer.raise_apart();
+            Err(reason)
+        }
+    }
 }

@@ -126,6 +126,7 @@ impl Core {
     }
 
     /// Refuses, now and for ever.
+    #[inline(always)]
     fn refuse(&mut self, at: u64, reason: Reason) -> Refusal
         requires { self.old.ahead ≡ [] }
         ensures refusal { result ≡ record { at = at; reason = reason } }

@@ -92,6 +92,14 @@ pub record IsFound (limit : ℕ) (bytes : List ℕ) (op : Op) (split : ℕ) : Ty
   pub good : IsGood (instruction op arg)
   pub admitted : objection (instruction op arg) ≡ None
 
+-- bytes were taken behind the old ones, and now they are the opcode with a good argument, and
+-- admitted
+pub record Finds (limit : ℕ) (op : Op) (split : ℕ) (old : List ℕ) (before : Sight) (t : ℕ)
+    (new : List ℕ) (after : Sight) (u : ℕ) : Type 0 where
+  pub bytes : List ℕ
+  pub took : Took bytes old before t new after u
+  pub found : IsFound limit new op split
+
 -- the buffer holds the bytes taken, but for those that memory did not suffice for
 pub record HoldsTaken (reason : Reason) (taken held : List ℕ) : Type 0 where
   pub exact : reason ≢ OutOfMemory → held ≡ taken

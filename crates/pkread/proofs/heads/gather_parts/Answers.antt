@@ -20,8 +20,8 @@ returns-in_err-count-clause-err g c =
     let most = c.in_err-count.ensures.most in
     let few = c.in_err-count.ensures.few in
     let before = c.take_op.ensures.most in
-    let passed : is_passed c.in_ok-op.op ≡ true = sym c.passed.ensures ∙ c.if-passed.true in
-    rw (p.1, p.2) (refused_passing c.one_answer.ensures c.args.limits _ _ _ c.args.buffer.now.most _ c.in_ok-op.op _ _ _ _ _ _ refl passed c.in_ok-op.ensures.ok (rw c.passed-then-passed.ensures.is at c.in_err-count.ensures.err) (omega (arith, most, few, before)))
+    let passed : is_passed c.in_ok-op.op ≡ true = sym c.is_passed.ensures ∙ c.if-is_passed.true in
+    rw (p.1, p.2) (refused_passing c.one_answer.ensures c.args.limits _ _ _ c.args.buffer.now.most _ c.in_ok-op.op _ _ _ _ _ _ refl passed c.in_ok-op.ensures.ok (rw c.passed.ensures.is at c.in_err-count.ensures.err) (omega (arith, most, few, before)))
 
 pub returns-in_err-found-clause-bound : goal.returns-in_err-found-clause-bound
 returns-in_err-found-clause-bound g c =
@@ -36,7 +36,7 @@ returns-in_err-found-clause-err g c =
     let p = err_from_is_err_and c.from_residual-in_err-found.result c.from_residual-in_err-found.ensures.1 in
     let most = c.gather_behind.ensures.most in
     let before = c.take_op.ensures.most in
-    let held : is_passed c.in_ok-op.op ≡ false = (let e = c.passed.ensures in let f = c.if-passed.false in grind (arith)) in
+    let held : is_passed c.in_ok-op.op ≡ false = (let e = c.is_passed.ensures in let f = c.if-is_passed.false in grind (arith)) in
     let now : most_now c.gather_behind.new.buffer ≡ max c.args.buffer.now.most (length c.gather_behind.new.buffer.bytes) = ap (λ m. max m (length c.gather_behind.new.buffer.bytes)) (most ∙ before) in
     rw (p.1, p.2) (refused_held c.growth.ensures.begun c.one_code.ensures c.one_answer.ensures c.args.limits _ _ _ c.args.buffer.now.most _ c.in_ok-op.op _ _ _ _ _ _ _ refl held c.in_ok-op.ensures.ok (rw c.counted.ensures.is at c.in_err-found.ensures.err) now)
 
@@ -44,7 +44,7 @@ pub returns-clause-held : goal.returns-clause-held
 returns-clause-held g c =
     let most = c.gather_behind.ensures.most in
     let before = c.take_op.ensures.most in
-    let held : is_passed c.in_ok-op.op ≡ false = (let e = c.passed.ensures in let f = c.if-passed.false in grind (arith)) in
+    let held : is_passed c.in_ok-op.op ≡ false = (let e = c.is_passed.ensures in let f = c.if-is_passed.false in grind (arith)) in
     let now : most_now c.gather_behind.new.buffer ≡ max c.args.buffer.now.most (length c.gather_behind.new.buffer.bytes) = ap (λ m. max m (length c.gather_behind.new.buffer.bytes)) (most ∙ before) in
     let whole = rw c.counted.ensures.is at c.in_ok-found.ensures.whole in
     let w = found_held c.growth.ensures.begun c.one_code.ensures c.args.limits.counted _ _ _ c.args.buffer.now.most _ c.in_ok-op.op c.in_ok-found.found.op c.in_ok-found.found.split _ _ _ _ _ _ refl held c.in_ok-op.ensures.ok c.in_ok-found.ensures.ok whole c.in_ok-found.ensures.op now in
