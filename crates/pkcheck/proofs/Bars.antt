@@ -1,8 +1,6 @@
 -- Where the marks are.
-use Rattle.std.proofs.Common.{◌≡◌, ℕ, zero, suc, ◌+◌, ◌-◌, ◌<◌, ◌≤◌, ◌⊎◌, inl, inr, List, [], ◌∷◌, ◌++◌, length, take, drop, get_or, Ok, Err, refl, sym, ap, ◌∙◌, arith, append-nil, length-drop, add-one}
+use Rattle.std.proofs.Common.{◌≡◌, ℕ, zero, suc, ◌+◌, ◌-◌, ◌<◌, ◌≤◌, ◌⊎◌, inl, inr, List, [], ◌∷◌, ◌++◌, length, take, drop, get_or, Ok, Err, refl, sym, ap, ◌∙◌, arith, append-nil, length-drop}
 use Rattle.std.proofs.lemmas.List.{take-append-drop}
-use Rattle.std.proofs.Math.Seq.{take-suc-set}
-use Rattle.std.proofs.Math.ListN.{set}
 use Rattle.std.specs.Prelude.{slice_get, Some, None}
 use Rattle.pkcheck.specs.declared.machine.value.Value.{Value}
 use Rattle.pkcheck.specs.declared.machine.stack.slots.Slot.{Slot}
@@ -21,9 +19,6 @@ bars_pushed xs v = bars_append xs (Object v ∷ []) 0 ∙ append-nil (bars 0 xs)
 
 pub bars_marked : (xs : List Slot) → bars 0 (xs ++ Mark ∷ []) ≡ bars 0 xs ++ length xs ∷ []
 bars_marked xs = let e : 0 + length xs ≡ length xs = omega arith in bars_append xs (Mark ∷ []) 0 ∙ rw e refl
-
-pub bars_settled : (xs : List Slot) (n : ℕ) (v : Value) → n < length xs → bars 0 (take (n + 1) (set xs n (Object v))) ≡ bars 0 (take n xs)
-bars_settled xs n v h = rw (add-one, take-suc-set xs n (Object v)) (bars_pushed (take n xs) v)
 
 marks_over : (xs : List Slot) (k : ℕ) (es : List (Entry Value)) → marks_of (shown xs es) ≡ length (bars k xs) + marks_of es
 marks_over [] k es = omega arith

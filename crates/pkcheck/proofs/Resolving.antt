@@ -10,7 +10,7 @@ use Rattle.pkcheck.specs.declared.machine.effects.Takes.{Takes}
 use Rattle.pkread.specs.declared.refusal.Reason.{Reason}
 use Rattle.pkcheck.specs.Shape.{Breach, Entry, Mark, Item, Shape, Taken, operands, put, moved, marks_of, top}
 use Rattle.pkcheck.specs.Covers.{Pointwise, AlikeEntry, AlikeCell, Alike}
-use Rattle.pkcheck.specs.Private.Denials.{IsLack, IsFaultOf}
+use Rattle.pkcheck.specs.Private.Denials.{IsLack, IsFaultOf, with_item}
 use Rattle.pkops.specs.Limits.{Bounds}
 use Rattle.pkcheck.specs.Runs.{Text}
 use Rattle.pkcheck.specs.Knowledge.{Known, Knowledge}
@@ -249,3 +249,7 @@ operate_resolves (Err e) l m es fs cs r s g k = rw (k.0, k.1) r
 pub remembered_on : {A E : Type 0} (x : Result A E) (ts us : List (List ℕ)) (cs : List (ℕ × Value)) (P : A → List (ℕ × Known) → Type 0) → Pointwise (AlikeCell (Stands ts)) cs (remembered ts cs) → OnOk x (Grows ts us) → IfOk x (λ a. P a (remembered ts cs)) → IfOk x (λ a. P a (remembered us cs))
 remembered_on (Ok a) ts us cs P r g h = subst (λ m. P a m) (recalls_same ts us g cs r) h
 remembered_on (Err e) ts us cs P r g h = h
+
+pub item_learned : {A E : Type 0} (x : Result A E) (ts us : List (List ℕ)) (cs : List (ℕ × Value)) (es fs : List (Entry Value)) (v : Known) → Pointwise (AlikeCell (Stands ts)) cs (remembered ts cs) → OnOk x (Grows ts us) → OnOk x (seen us fs ≡ Item v ∷ seen ts es) → OnOk x (resolved us (record { entries = fs; memo = cs }) ≡ with_item v (resolved ts (record { entries = es; memo = cs })))
+item_learned (Ok a) ts us cs es fs v r g h = λ i. record { entries = h i; memo = sym (recalls_same ts us g cs r) i }
+item_learned (Err e) ts us cs es fs v r g h = h

@@ -1,18 +1,13 @@
 -- An entry in the place of others.
 use Rattle.std.specs.List.{slice_get}
 use Rattle.std.proofs.Common.{◌≡◌, ℕ, zero, suc, Some, ◌+◌, ◌%◌, ◌<◌, not, eqb, List, [], ◌∷◌, ◌++◌, length, take, get_or, refl, sym, ap, ◌∙◌, arith, add-one, append-nil, length-append}
-use Rattle.std.proofs.Math.ListN.{set}
-use Rattle.std.proofs.Math.Seq.{take-suc-set, take-suc}
+use Rattle.std.proofs.Math.Seq.{take-suc}
 use Rattle.std.proofs.lemmas.Bool.Decides.{nat_tests}
 use Rattle.pkcheck.specs.declared.machine.value.Value.{Value}
 use Rattle.pkcheck.specs.declared.machine.stack.slots.Slot.{Slot}
 use Rattle.pkcheck.specs.declared.machine.stack.slots.Slot.TheVariants as slot
 use Rattle.pkcheck.specs.Shape.{is_even}
-use Rattle.pkcheck.specs.Private.Slots.{entry_of, shown, values_of}
-use Rattle.pkcheck.proofs.Shown.{shown_append}
-
-pub shown_settled : (xs : List Slot) (n : ℕ) (s : Slot) → n < length xs → shown (take (n + 1) (set xs n s)) [] ≡ entry_of s ∷ shown (take n xs) []
-shown_settled xs n s h = rw (add-one, take-suc-set xs n s) (shown_append (take n xs) (s ∷ []) [])
+use Rattle.pkcheck.specs.Private.Slots.{values_of}
 
 pub values_append : (xs ys : List Slot) → values_of (xs ++ ys) ≡ values_of xs ++ values_of ys
 values_append [] ys = refl

@@ -11,4 +11,5 @@ pub mod Settings
 pub mod Stops
 pub mod CoveredStep
 pub mod Passing
+pub mod Pushing
 pub mod Longest

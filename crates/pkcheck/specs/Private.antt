@@ -5,5 +5,7 @@ pub mod Slots
 pub mod Noted
 pub mod Joined
 pub mod Denials
+pub mod Spelled
+pub mod Actions
 pub mod Judging
 pub mod ListIndex

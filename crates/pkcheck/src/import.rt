@@ -3,13 +3,13 @@ ghost use Rattle.std.specs.Prelude.{◌≡◌, ℕ, List, map, option_map, IfOk,
 ghost use Rattle.pkcheck.specs.Private.Slots.{IsNumbered, known};
 ghost use Rattle.pkcheck.specs.Private.Noted.{AreNumbered, IsNamed, IsNamedIf, named_asked};
 ghost use Rattle.pkcheck.specs.Knowledge.{AskedPair, asked_of, operands_asked, NotText};
-ghost use Rattle.pkops.specs.Inst.{instruction_of};
+ghost use Rattle.pkops.specs.Operands.{pair_named};
+ghost use Rattle.pkops.specs.Spelling.{Instruction};
 ghost use Rattle.pkcheck.specs.Import.{asked_shown};
 
 use crate::machine::effects::Names;
 use crate::machine::stack::Operands;
 use crate::machine::value::Value;
-use pkops::Inst;
 use pkread::Reason;
 use std::alloc::Global;
 
@@ -90,25 +90,25 @@ pub fn operands_named<'a>(module_name: Value, name: Value) -> Result<Named<'a>, 
     }
 }
 
-/// What the operation asks for.
+/// What the operation asks for, where its argument names these.
 pub fn asked_by<'a>(
     names: Names,
-    inst: &Inst<'a>,
+    spelled: Option<(&'a str, &'a str)>,
     operands: &Operands<'_>,
 ) -> Result<Option<Named<'a>>, Reason>
-    ensures ok { (ts : List (List ℕ)) → IfOk result (λ a. asked_of None names
-        (instruction_of inst.now) (map (known ts) operands.now)
-        ≡ Ok (option_map (named_asked ts) a)) }
+    ensures ok { (i : Instruction)
+        → option_map (λ pair. (pair.0.now, pair.1.now)) spelled.entry ≡ pair_named i
+        → (ts : List (List ℕ)) → IfOk result (λ a. asked_of None names i
+        (map (known ts) operands.now) ≡ Ok (option_map (named_asked ts) a)) }
     ensures within { (count : ℕ) → AreNumbered count operands.now
         → IfOk result (IsNamedIf count) }
-    ensures err { (ts : List (List ℕ)) → IfErr result (λ r. (asked_of None names
-        (instruction_of inst.now) (map (known ts) operands.now) ≡ Err NotText)
-        × (r ≡ Reason.NotText)) }
+    ensures err { (i : Instruction) (ts : List (List ℕ)) → IfErr result (λ r. (asked_of None names
+        i (map (known ts) operands.now) ≡ Err NotText) × (r ≡ Reason.NotText)) }
 {
     match names {
         Names::NoName => Ok(None),
         Names::OfArgument => {
-            let Some((module_name, name)) = inst.pair() else {
+            let Some((module_name, name)) = spelled else {
                 return Ok(None);
             };
             Ok(Some(Named::Written(module_name, name)))

@@ -57,7 +57,7 @@ impl<R: Read> Source for Blocks<R> {
 
     ghost failures = { failed_reads };
 
-    #[inline]
+    #[inline(always)]
     fn pull(&mut self, to: &mut [u8]) -> Result<usize, ReadFailed> {
         if to.len() <= self.block.len() {
             self.block.fill(to);

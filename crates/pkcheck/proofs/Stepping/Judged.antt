@@ -158,29 +158,15 @@ module _ (p : Policy) (takes : Takes) (names : Names) (gives : Gives) (i : Instr
       ]
 
 -- what is left is there
-pub left_there : (names : Names) (takes : Takes) (gives : Gives) (i : Instruction) → WellGiven gives names takes → known_given gives i ≡ None → HasFirst takes
-left_there names takes (Makes s) i w e = cc
-left_there names takes MakesIntOrBool i w e = cc
-left_there names takes MakesText i w e = cc
-left_there names takes (MayMake s) i w e = cc
-left_there names takes Answers i w e = cc
-left_there names takes (Leaves wanted) i w e = w
+pub left_there : (takes : Takes) (gives : Gives) (i : Instruction) → WellGiven gives takes → known_given gives i ≡ None → HasFirst takes
+left_there takes (Makes s) i w e = cc
+left_there takes MakesIntOrBool i w e = cc
+left_there takes MakesText i w e = cc
+left_there takes (MayMake s) i w e = cc
+left_there takes Answers i w e = cc
+left_there takes (Leaves wanted) i w e = w
 
 -- ---- an operation that takes nothing and names nothing
-
-pub given_nothing : (gives : Gives) (names : Names) (takes : Takes) → gives ≡ MakesText → WellGiven gives names takes → (names ≡ NoName) × (takes ≡ Objects 0)
-given_nothing gives names takes e w = rw e at w
-
-given_of_nothing : (gives : Gives) (i : Instruction) → WellGiven gives NoName (Objects 0) → (v : Known) × (known_given gives i ≡ Some v)
-given_of_nothing (Makes s) i w = (_, refl)
-given_of_nothing MakesIntOrBool i w = (_, refl)
-given_of_nothing MakesText i w = (_, refl)
-given_of_nothing (MayMake s) i w = (_, refl)
-given_of_nothing Answers i w = (_, refl)
-given_of_nothing (Leaves wanted) i w = absurd (omega (arith, w))
-
-pub none_given : (ts : List (List ℕ)) (gives : Gives) (i : Instruction) → WellGiven gives NoName (Objects 0) → ¬ (StandsIf ts None (known_given gives i))
-none_given ts gives i w h = let (v, j) = given_of_nothing gives i w in rw j at h
 
 no_receiver : (gives : Gives) → wrong_receiver gives [] ≡ false
 no_receiver (Leaves wanted) = refl
@@ -197,12 +183,8 @@ module _ (p : Policy) (takes : Takes) (names : Names) (gives : Gives) (i : Instr
   nothing_asked : judged p names gives i [] ≡ Ok None
   nothing_asked = rw (f, no_receiver gives) refl
 
-  pub creates : (new : List (Entry Known)) (listed : List Asked) → new ≡ put (known_given gives i) [] ++ k.entries → Passes (learn p (Operates takes names gives) i k) (record { entries = new; memo = k.memo }) listed listed false
-  creates new listed g = (None, rw g (learn_passes p takes names gives i k _ nothing_taken None nothing_asked), refl, refl)
-
-  pub create_denied : (l : Bounds) (r : Reason) → WellGiven gives names takes → WantsRoom l.stack (length k.entries) r → IsDenied (and_then (learn p (Operates takes names gives) i k) (within l)) (record { reason = r; pair = None }) ⊎ (MayOperate names gives × IsForMemory (record { reason = r; pair = None }))
-  create_denied l r w s =
-      let (v, j) = given_of_nothing gives i (rw (f, e) at w) in
+  pub create_denied : (l : Bounds) (r : Reason) (v : Known) → known_given gives i ≡ Some v → WantsRoom l.stack (length k.entries) r → IsDenied (and_then (learn p (Operates takes names gives) i k) (within l)) (record { reason = r; pair = None }) ⊎ (MayOperate names gives × IsForMemory (record { reason = r; pair = None }))
+  create_denied l r v j s =
       elim s [
         | inl u ↦ inl (rw u.0 (room_denied p takes names gives i k l _ None v nothing_taken nothing_asked j u.1))
         | inr m ↦ inr (inr (may_give gives i v j), (m, refl))

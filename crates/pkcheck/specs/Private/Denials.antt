@@ -3,7 +3,7 @@ use Rattle.std.specs.Prelude.{ℕ, ◌≡◌, ◌<◌, ◌≤◌, ◌⊎◌, Boo
 use Rattle.pkcheck.specs.declared.machine.effects.Takes.{Takes}
 use Rattle.pkcheck.specs.declared.machine.effects.Takes.TheVariants.{Objects, Slice, SliceAndReceiver}
 use Rattle.pkcheck.specs.declared.machine.effects.Gives.{Gives}
-use Rattle.pkcheck.specs.declared.machine.effects.Gives.TheVariants.{MakesText, Leaves}
+use Rattle.pkcheck.specs.declared.machine.effects.Gives.TheVariants.{MakesIntOrBool, MakesText, Leaves}
 use Rattle.pkcheck.specs.declared.machine.effects.Names.{Names}
 use Rattle.pkcheck.specs.declared.machine.effects.Names.TheVariants.{NoName}
 use Rattle.pkcheck.specs.declared.machine.effects.Move.{Move}
@@ -114,23 +114,16 @@ HasFirst (Objects k) = 0 < k
 HasFirst (Slice rule) = ⊥
 HasFirst (SliceAndReceiver rule) = ⊤
 
--- what is left is there, and a text is made of nothing and names nothing
-abbrev pub WellGiven : Gives → Names → Takes → Type 0
-WellGiven (Leaves w) names takes = HasFirst takes
-WellGiven MakesText names takes = (names ≡ NoName) × (takes ≡ Objects 0)
-WellGiven gives names takes = ⊤
+-- what is left is there
+abbrev pub WellGiven : Gives → Takes → Type 0
+WellGiven (Leaves w) takes = HasFirst takes
+WellGiven gives takes = ⊤
 
--- what is given is no new text
-abbrev pub IsNoText : Gives → Type 0
-IsNoText MakesText = ⊥
-IsNoText gives = ⊤
-
--- an operation that leaves its receiver takes one, and one that makes a text takes nothing
-abbrev pub IsWell : Effect → Type 0
-IsWell (Operates takes names gives) = WellGiven gives names takes
-IsWell (Moves m) = ⊤
-IsWell Stops = ⊤
-IsWell Raises = ⊤
+-- what is given is the same whatever the argument of the instruction
+abbrev pub IsPlain : Gives → Type 0
+IsPlain MakesText = ⊥
+IsPlain MakesIntOrBool = ⊥
+IsPlain gives = ⊤
 
 -- it goes on: this is known after it, and these imports are listed
 abbrev pub GoesTo : Effect → Result Progress Refusal → Knowledge → List Asked → List Asked
@@ -156,6 +149,10 @@ MayWantMemory Raises = ⊤
 abbrev pub IsWithin : Bounds → Knowledge → Type 0
 IsWithin limits known = (length known.entries ≤ limits.stack) × (length known.memo ≤ limits.memo)
 
+-- with an object on top of which this is known
+abbrev pub with_item : Known → Knowledge → Knowledge
+with_item v known = record known { entries = Item v ∷ known.entries }
+
 -- with a new object of this class on top
 abbrev pub with_made : Class → Knowledge → Knowledge
-with_made class known = record known { entries = Item (Some (Plain class)) ∷ known.entries }
+with_made class known = with_item (Some (Plain class)) known

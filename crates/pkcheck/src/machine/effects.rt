@@ -1,17 +1,12 @@
 //! What each opcode does to the stack and the memo.
-ghost use Rattle.std.specs.Prelude.{◌≡◌, [], IfOk, IfSome, IsTrue, OnErr, unwrap_or};
+ghost use Rattle.std.specs.Prelude.{◌≡◌, IsTrue};
 ghost use Rattle.pkcheck.specs.Effects.{effect_of, pushes, makes, may_make, answers, imports};
-ghost use Rattle.std.specs.Char.{is_ascii};
-ghost use Rattle.std.specs.List.{list_all};
-ghost use Rattle.pkcheck.specs.Effects.{ascii_string, effect_as, fills, is_old_string};
-ghost use Rattle.pkops.specs.Inst.{instruction_of};
-ghost use Rattle.pkcheck.specs.Private.Denials.{IsWell, MayWantMemory};
-ghost use Rattle.pkops.specs.OldBytes.{old_bytes};
+ghost use Rattle.pkcheck.specs.Effects.{fills, is_old_string};
+ghost use Rattle.pkcheck.specs.Private.Actions.{IsWell, MaySpell, effect_by, is_reading};
+ghost use Rattle.pkops.specs.Spelling.{layout_at};
 ghost use Rattle.pkops.specs.Payloads.{is_passed};
 
-use crate::old_strings::OldStrings;
-use pkops::{Inst, Op, old_bytes_of};
-use std::alloc::{AllocError, Global};
+use pkops::Op;
 
 /// The classes of objects that opcodes make, texts aside.
 #[derive(Clone, Copy)]
@@ -96,87 +91,111 @@ pub enum Effect {
     Raises,
 }
 
-/// Takes nothing and pushes a new object of this class.
-fn pushes(class: Class) -> Effect
-    ensures { result ≡ pushes class }
-{
-    Effect::Operates(Takes::Objects(0), Names::NoName, Gives::Makes(class))
+/// What the machine does at an opcode. What most instructions do is told apart from the rest, so
+/// that it is found at once.
+#[derive(Clone, Copy)]
+pub enum Action {
+    /// Pushes a new object of this class.
+    Makes(Class),
+    /// The same, of the class that the line says.
+    MakesIntOrBool,
+    /// Pushes the text that the argument spells.
+    MakesText,
+    /// Pushes what becomes of an old string.
+    ReadsOldString,
+    /// What such an instruction does.
+    Does(Effect),
 }
 
 /// Takes these and pushes a new object of this class.
-fn makes(takes: Takes, class: Class) -> Effect
-    ensures { result ≡ makes takes class }
+#[inline(always)]
+fn makes(takes: Takes, class: Class) -> Action
+    ensures { result ≡ Action.Does (makes takes class) }
 {
-    Effect::Operates(takes, Names::NoName, Gives::Makes(class))
+    Action::Does(Effect::Operates(takes, Names::NoName, Gives::Makes(class)))
 }
 
 /// The same, but it may raise.
-fn may_make(takes: Takes, class: Class) -> Effect
-    ensures { result ≡ may_make takes class }
+#[inline(always)]
+fn may_make(takes: Takes, class: Class) -> Action
+    ensures { result ≡ Action.Does (may_make takes class) }
 {
-    Effect::Operates(takes, Names::NoName, Gives::MayMake(class))
+    Action::Does(Effect::Operates(takes, Names::NoName, Gives::MayMake(class)))
 }
 
 /// Takes these and pushes whatever an operation answers, or raises.
-fn answers(takes: Takes) -> Effect
-    ensures { result ≡ answers takes }
+#[inline(always)]
+fn answers(takes: Takes) -> Action
+    ensures { result ≡ Action.Does (answers takes) }
 {
-    Effect::Operates(takes, Names::NoName, Gives::Answers)
+    Action::Does(Effect::Operates(takes, Names::NoName, Gives::Answers))
 }
 
 /// Takes these, imports a pair and pushes whatever stands under it, or raises.
-fn imports(takes: Takes, names: Names) -> Effect
-    ensures { result ≡ imports takes names }
+#[inline(always)]
+fn imports(takes: Takes, names: Names) -> Action
+    ensures { result ≡ Action.Does (imports takes names) }
 {
-    Effect::Operates(takes, names, Gives::Answers)
+    Action::Does(Effect::Operates(takes, names, Gives::Answers))
 }
 
 /// Takes these but for the first, which it leaves with more in it, or raises.
-fn fills(takes: Takes, wanted: Wanted) -> Effect
-    ensures { result ≡ fills takes wanted }
+#[inline(always)]
+fn fills(takes: Takes, wanted: Wanted) -> Action
+    ensures { result ≡ Action.Does (fills takes wanted) }
 {
-    Effect::Operates(takes, Names::NoName, Gives::Leaves(wanted))
+    Action::Does(Effect::Operates(takes, Names::NoName, Gives::Leaves(wanted)))
+}
+
+/// Looks at no object.
+#[inline(always)]
+fn moves(what: Move) -> Action
+    ensures { result ≡ Action.Does (Effect.Moves what) }
+{
+    Action::Does(Effect::Moves(what))
 }
 
 /// What the opcode does: the table of the opcodes' effects, a row an opcode.
 #[inline(always)]
-pub fn effect_of(op: Op) -> Effect
-    ensures value { result ≡ effect_of op }
+pub fn action_of(op: Op) -> Action
+    ensures effect { effect_of op ≡ effect_by result }
+    ensures old { is_old_string op ≡ is_reading result }
     ensures well { IsWell result }
+    ensures spelled { MaySpell result (layout_at op) }
 {
     match op {
         // numbers
-        Op::Int => Effect::Operates(Takes::Objects(0), Names::NoName, Gives::MakesIntOrBool),
-        Op::BinInt => pushes(Class::Int),
-        Op::BinInt1 => pushes(Class::Int),
-        Op::BinInt2 => pushes(Class::Int),
-        Op::Long => pushes(Class::Int),
-        Op::Long1 => pushes(Class::Int),
-        Op::Long4 => pushes(Class::Int),
-        Op::Float => pushes(Class::Float),
-        Op::BinFloat => pushes(Class::Float),
-        // strings of Python 2, where nothing is said of their reading
-        Op::String => answers(Takes::Objects(0)),
-        Op::BinString => answers(Takes::Objects(0)),
-        Op::ShortBinString => answers(Takes::Objects(0)),
+        Op::Int => Action::MakesIntOrBool,
+        Op::BinInt => Action::Makes(Class::Int),
+        Op::BinInt1 => Action::Makes(Class::Int),
+        Op::BinInt2 => Action::Makes(Class::Int),
+        Op::Long => Action::Makes(Class::Int),
+        Op::Long1 => Action::Makes(Class::Int),
+        Op::Long4 => Action::Makes(Class::Int),
+        Op::Float => Action::Makes(Class::Float),
+        Op::BinFloat => Action::Makes(Class::Float),
+        // strings of Python 2, of which a setting says what they become
+        Op::String => Action::ReadsOldString,
+        Op::BinString => Action::ReadsOldString,
+        Op::ShortBinString => Action::ReadsOldString,
         // bytes and buffers
-        Op::BinBytes => pushes(Class::Bytes),
-        Op::ShortBinBytes => pushes(Class::Bytes),
-        Op::BinBytes8 => pushes(Class::Bytes),
-        Op::ByteArray8 => pushes(Class::ByteArray),
+        Op::BinBytes => Action::Makes(Class::Bytes),
+        Op::ShortBinBytes => Action::Makes(Class::Bytes),
+        Op::BinBytes8 => Action::Makes(Class::Bytes),
+        Op::ByteArray8 => Action::Makes(Class::ByteArray),
         Op::NextBuffer => answers(Takes::Objects(0)),
         Op::ReadonlyBuffer => answers(Takes::Objects(1)),
         // None, True and False
-        Op::None => pushes(Class::None),
-        Op::NewTrue => pushes(Class::Bool),
-        Op::NewFalse => pushes(Class::Bool),
+        Op::None => Action::Makes(Class::None),
+        Op::NewTrue => Action::Makes(Class::Bool),
+        Op::NewFalse => Action::Makes(Class::Bool),
         // texts
-        Op::Unicode => Effect::Operates(Takes::Objects(0), Names::NoName, Gives::MakesText),
-        Op::ShortBinUnicode => Effect::Operates(Takes::Objects(0), Names::NoName, Gives::MakesText),
-        Op::BinUnicode => Effect::Operates(Takes::Objects(0), Names::NoName, Gives::MakesText),
-        Op::BinUnicode8 => Effect::Operates(Takes::Objects(0), Names::NoName, Gives::MakesText),
+        Op::Unicode => Action::MakesText,
+        Op::ShortBinUnicode => Action::MakesText,
+        Op::BinUnicode => Action::MakesText,
+        Op::BinUnicode8 => Action::MakesText,
         // lists
-        Op::EmptyList => pushes(Class::List),
+        Op::EmptyList => Action::Makes(Class::List),
         Op::Append => fills(Takes::Objects(2), Wanted::WantsList),
         Op::Appends => fills(
             Takes::SliceAndReceiver(SliceRule::AnySlice),
@@ -184,13 +203,13 @@ pub fn effect_of(op: Op) -> Effect
         ),
         Op::List => makes(Takes::Slice(SliceRule::AnySlice), Class::List),
         // tuples
-        Op::EmptyTuple => pushes(Class::Tuple),
+        Op::EmptyTuple => Action::Makes(Class::Tuple),
         Op::Tuple => makes(Takes::Slice(SliceRule::AnySlice), Class::Tuple),
         Op::Tuple1 => makes(Takes::Objects(1), Class::Tuple),
         Op::Tuple2 => makes(Takes::Objects(2), Class::Tuple),
         Op::Tuple3 => makes(Takes::Objects(3), Class::Tuple),
         // dicts
-        Op::EmptyDict => pushes(Class::Dict),
+        Op::EmptyDict => Action::Makes(Class::Dict),
         Op::Dict => may_make(Takes::Slice(SliceRule::EvenSlice), Class::Dict),
         Op::SetItem => fills(Takes::Objects(3), Wanted::WantsDict),
         Op::SetItems => fills(
@@ -198,29 +217,29 @@ pub fn effect_of(op: Op) -> Effect
             Wanted::WantsDict,
         ),
         // sets
-        Op::EmptySet => pushes(Class::Set),
+        Op::EmptySet => Action::Makes(Class::Set),
         Op::AddItems => fills(
             Takes::SliceAndReceiver(SliceRule::AnySlice),
             Wanted::WantsSet,
         ),
         Op::FrozenSet => may_make(Takes::Slice(SliceRule::AnySlice), Class::FrozenSet),
         // the stack alone
-        Op::Pop => Effect::Moves(Move::Pops),
-        Op::Dup => Effect::Moves(Move::Duplicates),
-        Op::Mark => Effect::Moves(Move::PushesMark),
-        Op::PopMark => Effect::Moves(Move::PopsMark),
+        Op::Pop => moves(Move::Pops),
+        Op::Dup => moves(Move::Duplicates),
+        Op::Mark => moves(Move::PushesMark),
+        Op::PopMark => moves(Move::PopsMark),
         // the memo
-        Op::Get => Effect::Moves(Move::Fetches),
-        Op::BinGet => Effect::Moves(Move::Fetches),
-        Op::LongBinGet => Effect::Moves(Move::Fetches),
-        Op::Put => Effect::Moves(Move::Stores),
-        Op::BinPut => Effect::Moves(Move::Stores),
-        Op::LongBinPut => Effect::Moves(Move::Stores),
-        Op::Memoize => Effect::Moves(Move::StoresNext),
+        Op::Get => moves(Move::Fetches),
+        Op::BinGet => moves(Move::Fetches),
+        Op::LongBinGet => moves(Move::Fetches),
+        Op::Put => moves(Move::Stores),
+        Op::BinPut => moves(Move::Stores),
+        Op::LongBinPut => moves(Move::Stores),
+        Op::Memoize => moves(Move::StoresNext),
         // names of classes and functions
-        Op::Ext1 => Effect::Moves(Move::Extends),
-        Op::Ext2 => Effect::Moves(Move::Extends),
-        Op::Ext4 => Effect::Moves(Move::Extends),
+        Op::Ext1 => moves(Move::Extends),
+        Op::Ext2 => moves(Move::Extends),
+        Op::Ext4 => moves(Move::Extends),
         Op::Global => imports(Takes::Objects(0), Names::OfArgument),
         Op::StackGlobal => imports(Takes::Objects(2), Names::OfOperands),
         // building objects
@@ -233,106 +252,10 @@ pub fn effect_of(op: Op) -> Effect
         Op::PersId => answers(Takes::Objects(0)),
         Op::BinPersid => answers(Takes::Objects(1)),
         // the stream itself
-        Op::Proto => Effect::Moves(Move::Passes),
-        Op::Frame => Effect::Moves(Move::Passes),
-        Op::Stop => Effect::Stops,
+        Op::Proto => moves(Move::Passes),
+        Op::Frame => moves(Move::Passes),
+        Op::Stop => Action::Does(Effect::Stops),
     }
-}
-
-/// What an instruction does, by what old strings become. It errs only where memory is lacking.
-#[inline(always)]
-pub fn effect_by(
-    alloc: Global,
-    old_strings: OldStrings,
-    inst: &Inst<'_>,
-) -> Result<Effect, AllocError>
-    ensures value { IfOk result (λ effect. effect
-        ≡ effect_as old_strings (instruction_of inst.now)) }
-    ensures well { IfOk result IsWell }
-    ensures memory { OnErr result
-        (MayWantMemory (effect_as old_strings (instruction_of inst.now))) }
-{
-    match old_effect(alloc, old_strings, inst)? {
-        Some(effect) => Ok(effect),
-        None => Ok(effect_of(inst.op())),
-    }
-}
-
-/// What an old string does of which something is said, and none of any other instruction.
-#[inline]
-fn old_effect(
-    alloc: Global,
-    old_strings: OldStrings,
-    inst: &Inst<'_>,
-) -> Result<Option<Effect>, AllocError>
-    ensures value { IfOk result (λ effect. unwrap_or effect (effect_of (instruction_of inst.now).op)
-        ≡ effect_as old_strings (instruction_of inst.now)) }
-    ensures well { IfOk result (λ effect. IfSome effect IsWell) }
-    ensures memory { OnErr result
-        (MayWantMemory (effect_as old_strings (instruction_of inst.now))) }
-{
-    match old_strings {
-        OldStrings::Unknown => Ok(None),
-        OldStrings::Ascii => {
-            if is_old_string(inst.op()) {
-                Ok(Some(ascii_string(alloc, inst)?))
-            } else {
-                Ok(None)
-            }
-        }
-        OldStrings::Bytes => {
-            if is_old_string(inst.op()) {
-                Ok(Some(pushes(Class::Bytes)))
-            } else {
-                Ok(None)
-            }
-        }
-    }
-}
-
-/// Whether the opcode is one of an old string.
-#[inline(always)]
-fn is_old_string(op: Op) -> bool
-    ensures { result ≡ is_old_string op }
-{
-    match op {
-        Op::String => true,
-        Op::BinString => true,
-        Op::ShortBinString => true,
-        _ => false,
-    }
-}
-
-/// What an old string does that is read as ASCII.
-#[inline(never)]
-fn ascii_string(alloc: Global, inst: &Inst<'_>) -> Result<Effect, AllocError>
-    ensures value { IfOk result (λ effect. effect
-        ≡ ascii_string (unwrap_or (old_bytes (instruction_of inst.now)) [])) }
-    ensures well { IfOk result IsWell }
-{
-    match old_bytes_of(alloc, inst)? {
-        Some(bytes) => Ok(ascii_effect(&bytes)),
-        None => Ok(ascii_effect(&[])),
-    }
-}
-
-/// The same, of its bytes.
-fn ascii_effect(bytes: &[u8]) -> Effect
-    ensures value { result ≡ ascii_string bytes.now }
-    ensures well { IsWell result }
-{
-    if is_ascii(bytes) {
-        Effect::Operates(Takes::Objects(0), Names::NoName, Gives::MakesText)
-    } else {
-        Effect::Raises
-    }
-}
-
-/// Whether each byte is ASCII.
-fn is_ascii(bytes: &[u8]) -> bool
-    ensures { result ≡ list_all is_ascii bytes.now }
-{
-    bytes.iter().all(|byte| byte.is_ascii())
 }
 
 /// The class of object that an opcode makes whose payload may be passed over.

@@ -1,16 +1,18 @@
 //! What is known along a pickle: the stack, the memo, the texts that both name by number, and the
 //! imports.
 ghost use Rattle.std.specs.Prelude.{◌≡◌, ◌⊎◌, ◌≤◌, ◌++◌, [], length, option_map, IfOk, IfErr};
-ghost use Rattle.std.specs.Prelude.{OnErr, OnOk};
+ghost use Rattle.std.specs.Prelude.{None, OnErr, OnOk, Some, suc};
 ghost use Rattle.std.specs.List.{slice_get};
 ghost use Rattle.pkcheck.specs.Private.Denials.{IsDenied, IsForMemory, IsFaultOf, IsStopFault};
 ghost use Rattle.pkcheck.specs.Private.Denials.{MayOperate, Passes, WantsRoom, WellGiven};
-ghost use Rattle.pkcheck.specs.Private.Denials.{with_made};
+ghost use Rattle.pkcheck.specs.Private.Denials.{IsPlain, with_item, with_made};
+ghost use Rattle.pkcheck.specs.Private.Spelled.{IsSpelled};
+ghost use Rattle.pkcheck.specs.Runs.{Text, text};
 ghost use Rattle.pkcheck.specs.Import.{import_shown, policy_of};
 ghost use Rattle.pkcheck.specs.Knowledge.{learn, stop_learned, within, nothing_known};
 ghost use Rattle.pkcheck.specs.Shape.{and_then, marks_of, moved, top};
-ghost use Rattle.pkcheck.specs.View.{texts_given};
 ghost use Rattle.pkops.specs.Inst.{instruction_of};
+ghost use Rattle.pkops.specs.Operands.{memo_number};
 
 use crate::import::Import;
 use crate::imports::Imports;
@@ -18,6 +20,7 @@ use crate::machine::effects::{Class, Effect, Gives, Move, Names, Takes};
 use crate::machine::ledger::Ledger;
 use crate::machine::memo::Memo;
 use crate::machine::moves::apply;
+use crate::machine::new_text::make_text;
 use crate::machine::operate::{Denial, operate};
 use crate::machine::stack::Stack;
 use crate::machine::value::Value;
@@ -109,6 +112,7 @@ impl Held {
     }
 
     /// Pushes a new object of this class.
+    #[inline(always)]
     pub fn make(&mut self, limits: &Limits, class: Class) -> Result<(), Reason>
         ensures ok { OnOk result (self.new.knowledge ≡ with_made class self.old.knowledge) }
         ensures room { OnOk result (length self.new.knowledge.entries ≤ limits.now.stack) }
@@ -121,20 +125,57 @@ impl Held {
         self.stack.push(limits, Value::Made(class))
     }
 
+    /// Pushes an object of which nothing is known.
+    #[inline]
+    pub fn answer(&mut self, limits: &Limits) -> Result<(), Reason>
+        ensures ok { OnOk result (self.new.knowledge ≡ with_item None self.old.knowledge) }
+        ensures room { OnOk result (length self.new.knowledge.entries ≤ limits.now.stack) }
+        ensures texts { self.new.texts ≡ self.old.texts }
+        ensures imports { self.new.imports ≡ self.old.imports }
+        ensures kept { OnErr result (self.new ≡ self.old) }
+        ensures err { IfErr result (WantsRoom limits.now.stack
+            (length self.old.knowledge.entries)) }
+    {
+        self.stack.push(limits, Value::Unknown)
+    }
+
+    /// Pushes the text that an instruction spells.
+    #[inline(always)]
+    pub fn make_text(
+        &mut self,
+        alloc: Global,
+        limits: &Limits,
+        inst: &Inst<'_>,
+    ) -> Result<(), Reason>
+        requires spells { IsSpelled (instruction_of inst.now).arg }
+        ensures ok { OnOk result (self.new.knowledge
+            ≡ with_item (Some (Text (text (instruction_of inst.now)))) self.old.knowledge) }
+        ensures room { OnOk result (length self.new.knowledge.entries ≤ limits.now.stack) }
+        ensures texts { OnOk result (self.new.texts ≡ suc self.old.texts) }
+        ensures imports { OnOk result (self.new.imports ≡ self.old.imports) }
+        ensures kept { OnErr result (self.new ≡ self.old) }
+        ensures err { IfErr result (WantsRoom limits.now.stack
+            (length self.old.knowledge.entries)) }
+    {
+        make_text(alloc, &mut self.stack, &mut self.ledger, limits, inst)
+    }
+
     /// Does what the move does.
     #[inline(always)]
-    pub fn apply(&mut self, limits: &Limits, what: Move, number: u32) -> Result<(), Reason>
+    pub fn apply(&mut self, limits: &Limits, what: Move, inst: &Inst<'_>) -> Result<(), Reason>
         requires stack { length self.old.knowledge.entries ≤ limits.now.stack }
         requires memo { length self.old.knowledge.memo ≤ limits.now.memo }
-        ensures ok { OnOk result (moved what number self.old.knowledge ≡ Ok self.new.knowledge) }
+        ensures ok { OnOk result (moved what (memo_number (instruction_of inst.now))
+            self.old.knowledge ≡ Ok self.new.knowledge) }
         ensures room { OnOk result ((length self.new.knowledge.entries ≤ limits.now.stack)
             × (length self.new.knowledge.memo ≤ limits.now.memo)) }
         ensures texts { self.new.texts ≡ self.old.texts }
         ensures imports { self.new.imports ≡ self.old.imports }
         ensures err { IfErr result (λ r. (self.new ≡ self.old)
-            × IsFaultOf what limits.now (moved what number self.old.knowledge) r) }
+            × IsFaultOf what limits.now (moved what (memo_number (instruction_of inst.now))
+            self.old.knowledge) r) }
     {
-        apply(&mut self.stack, &mut self.memo, limits, what, number)
+        apply(&mut self.stack, &mut self.memo, limits, what, inst)
     }
 
     /// Does the operation.
@@ -150,14 +191,15 @@ impl Held {
         policy: &Policy,
     ) -> Result<bool, Denial>
         requires within { length self.old.knowledge.entries ≤ limits.now.stack }
-        requires given { WellGiven gives names takes }
+        requires given { WellGiven gives takes }
+        requires plain { IsPlain gives }
         ensures ok { IfOk result (λ b. Passes (learn (policy_of policy.now)
             (Effect.Operates takes names gives)
             (instruction_of inst.now) self.old.knowledge) self.new.knowledge
             self.old.imports self.new.imports b) }
         ensures room { OnOk result ((length self.new.knowledge.entries ≤ limits.now.stack)
             × (length self.new.knowledge.memo ≡ length self.old.knowledge.memo)) }
-        ensures texts { OnOk result (self.new.texts ≡ texts_given gives self.old.texts) }
+        ensures texts { self.new.texts ≡ self.old.texts }
         ensures kept { OnErr result (self.new ≡ self.old) }
         ensures err { IfErr result (λ d. IsDenied (and_then (learn (policy_of policy.now)
             (Effect.Operates takes names gives) (instruction_of inst.now) self.old.knowledge)

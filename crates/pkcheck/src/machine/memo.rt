@@ -4,6 +4,7 @@ ghost use Rattle.pkcheck.specs.Shape.{recalled, stored};
 ghost use Rattle.pkcheck.specs.Private.Slots.{zeroth};
 ghost use Rattle.std.specs.Prelude.{◌≡◌, ◌⊎◌, ◌<◌, ◌≤◌, ◌+◌, [], length, IfErr, OnOk, None, false};
 
+use crate::machine::pile::Pile;
 use crate::machine::value::Value;
 use pkops::Limits;
 use pkread::Reason;
@@ -18,7 +19,7 @@ pub struct Memo {
     /// That of number 0.
     zero: Option<Value>,
     /// Those from number 1 on, as long as they came in order.
-    row: Vec<Value>,
+    row: Pile<Value>,
     /// The others.
     rest: BTreeMap<u64, Value>,
 }
@@ -30,7 +31,7 @@ impl Model for Memo {
 
     ghost Value = { List (ℕ × Object) };
 
-    ghost view = { λ m. zeroth m.zero ++ (numbered 1 m.row.items ++ m.rest.entries) };
+    ghost view = { λ m. zeroth m.zero ++ (numbered 1 m.row ++ m.rest.entries) };
 
     ghost invariant = { λ m. ArePositive m.rest.entries };
 }
@@ -42,7 +43,7 @@ impl Memo {
     {
         Memo {
             zero: None,
-            row: Vec::new(alloc),
+            row: Pile::new(alloc, Value::Unknown),
             rest: BTreeMap::new(alloc),
         }
     }
@@ -73,14 +74,37 @@ impl Memo {
             return self.zero;
         }
         if number <= self.row.len() as u64 {
-            return Some(self.row[(number - 1) as usize]);
+            return Some(self.row.entries()[(number - 1) as usize]);
         }
         found(&self.rest, number)
     }
 
-    /// Stores what is known under a number, where the limit leaves room.
+    /// Stores what is known under a number, where the limit leaves room. Most numbers are the next
+    /// in order.
     #[inline(always)]
     pub fn store(&mut self, limits: &Limits, number: u64, value: Value) -> Result<(), Reason>
+        requires { length self.old ≤ limits.now.memo }
+        ensures ok { OnOk result (self.new ≡ stored number value self.old) }
+        ensures room { OnOk result (length self.new ≤ limits.now.memo) }
+        ensures err { IfErr result (λ r. (self.new ≡ self.old)
+            × WantsMemo limits.now.memo (stored number value self.old) r) }
+    {
+        let last = self.row.len() as u64;
+        if number == last + 1 && self.rest.is_empty() {
+            if count(self.zero) + last >= limits.memo() {
+                return Err(Reason::TooLarge);
+            }
+            return match self.row.push(value) {
+                Ok(()) => Ok(()),
+                Err(_) => Err(Reason::OutOfMemory),
+            };
+        }
+        self.store_elsewhere(limits, number, value)
+    }
+
+    /// The same, of a number that isn't the next in order.
+    #[inline(never)]
+    fn store_elsewhere(&mut self, limits: &Limits, number: u64, value: Value) -> Result<(), Reason>
         requires { length self.old ≤ limits.now.memo }
         ensures ok { OnOk result (self.new ≡ stored number value self.old) }
         ensures room { OnOk result (length self.new ≤ limits.now.memo) }
@@ -95,19 +119,9 @@ impl Memo {
             self.zero = Some(value);
             return Ok(());
         }
-        let last = self.row.len() as u64;
-        if number <= last {
-            self.row[(number - 1) as usize] = value;
+        if number <= self.row.len() as u64 {
+            self.row.set((number - 1) as usize, value);
             return Ok(());
-        }
-        if number == last + 1 && self.rest.is_empty() {
-            if !has_room {
-                return Err(Reason::TooLarge);
-            }
-            return match self.row.push(value) {
-                Ok(()) => Ok(()),
-                Err(_) => Err(Reason::OutOfMemory),
-            };
         }
         put(&mut self.rest, has_room, number, value)
     }

@@ -1,17 +1,19 @@
 //! The moves, which look at no object.
 ghost use Rattle.pkcheck.specs.Private.Denials.{IsFault, IsFaultOf};
 ghost use Rattle.pkcheck.specs.Shape.{moved};
+ghost use Rattle.pkops.specs.Inst.{instruction_of};
+ghost use Rattle.pkops.specs.Operands.{memo_number};
 ghost use Rattle.std.specs.Prelude.{◌≡◌, ◌≤◌, ℕ, List, length, IfErr, OnOk};
 
 use crate::machine::effects::Move;
 use crate::machine::memo::Memo;
 use crate::machine::stack::Stack;
 use crate::machine::value::Value;
-use pkops::Limits;
+use pkops::{Inst, Limits};
 use pkread::Reason;
 
 /// Pushes the top once more.
-#[inline]
+#[inline(never)]
 pub fn duplicate(stack: &mut Stack, limits: &Limits) -> Result<(), Reason>
     ensures ok { (m : List (ℕ × Value))
         → OnOk result (moved Move.Duplicates 0 (record { entries = stack.old; memo = m })
@@ -26,7 +28,6 @@ pub fn duplicate(stack: &mut Stack, limits: &Limits) -> Result<(), Reason>
 }
 
 /// Stores the top under a number.
-#[inline(always)]
 pub fn remember(stack: &Stack, memo: &mut Memo, limits: &Limits, number: u64) -> Result<(), Reason>
     requires { length memo.old ≤ limits.now.memo }
     ensures ok { OnOk result (moved Move.Stores number
@@ -58,6 +59,14 @@ pub fn recall(stack: &mut Stack, memo: &Memo, limits: &Limits, number: u32) -> R
     }
 }
 
+/// The number of the memo entry that the instruction names.
+#[inline(always)]
+fn number_of(inst: &Inst<'_>) -> u32
+    ensures { result ≡ memo_number (instruction_of inst.now) }
+{
+    inst.memo_number().unwrap_or(0)
+}
+
 /// Does what the move does.
 #[inline(always)]
 pub fn apply(
@@ -65,16 +74,17 @@ pub fn apply(
     memo: &mut Memo,
     limits: &Limits,
     what: Move,
-    number: u32,
+    inst: &Inst<'_>,
 ) -> Result<(), Reason>
     requires stack { length stack.old ≤ limits.now.stack }
     requires memo { length memo.old ≤ limits.now.memo }
-    ensures ok { OnOk result (moved what number (record { entries = stack.old; memo = memo.old })
+    ensures ok { OnOk result (moved what (memo_number (instruction_of inst.now))
+        (record { entries = stack.old; memo = memo.old })
         ≡ Ok (record { entries = stack.new; memo = memo.new })) }
     ensures room { OnOk result ((length stack.new ≤ limits.now.stack)
         × (length memo.new ≤ limits.now.memo)) }
     ensures err { IfErr result (λ r. (stack.new ≡ stack.old) × (memo.new ≡ memo.old)
-        × IsFaultOf what limits.now (moved what number
+        × IsFaultOf what limits.now (moved what (memo_number (instruction_of inst.now))
         (record { entries = stack.old; memo = memo.old })) r) }
 {
     match what {
@@ -82,12 +92,12 @@ pub fn apply(
         Move::Pops => stack.pop(),
         Move::PopsMark => stack.pop_mark(),
         Move::Duplicates => duplicate(stack, limits),
-        Move::Stores => remember(stack, memo, limits, number as u64),
+        Move::Stores => remember(stack, memo, limits, number_of(inst) as u64),
         Move::StoresNext => {
             let next = memo.len();
             remember(stack, memo, limits, next)
         }
-        Move::Fetches => recall(stack, memo, limits, number),
+        Move::Fetches => recall(stack, memo, limits, number_of(inst)),
         Move::Passes => Ok(()),
         Move::Extends => Err(Reason::ExtensionCode),
     }

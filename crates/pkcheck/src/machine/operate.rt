@@ -1,21 +1,24 @@
 //! The operations, which take objects and give one.
-ghost use Rattle.std.specs.Prelude.{◌≡◌, ◌⊎◌, ◌≤◌, ◌+◌, ℕ, List, [], ◌∷◌, ◌++◌, length, suc, map};
-ghost use Rattle.std.specs.Prelude.{option_map, IfOk, IfErr, OnOk, OnErr, IsSome, is_some, None};
-ghost use Rattle.std.specs.Prelude.{Some, true, Ok, Err, if◌then◌else◌};
+ghost use Rattle.std.specs.Prelude.{◌≡◌, ◌⊎◌, ◌≤◌, ◌+◌, ℕ, List, [], ◌∷◌, ◌++◌, length, map};
+ghost use Rattle.std.specs.Prelude.{option_map, IfOk, IfErr, OnOk, OnErr, IfSome, IsSome, is_some};
+ghost use Rattle.std.specs.Prelude.{None, Some, true, false, Ok, Err, if◌then◌else◌};
 ghost use Rattle.pkcheck.specs.Private.Places.{above, below};
-ghost use Rattle.pkcheck.specs.View.{texts_given};
 ghost use Rattle.pkcheck.specs.Private.Slots.{known, seen, Grows, Sees};
 ghost use Rattle.pkops.specs.Inst.{instruction_of};
-ghost use Rattle.pkcheck.specs.Runs.{Plain, Text, text};
+ghost use Rattle.pkcheck.specs.Runs.{Plain};
 ghost use Rattle.pkcheck.specs.Import.{asked_shown, policy_of};
 ghost use Rattle.pkcheck.specs.Private.Noted.{AreNumbered, IsNamedIf, named_asked};
 ghost use Rattle.pkcheck.specs.Knowledge.{AskedPair, OffList, permitted};
-ghost use Rattle.pkcheck.specs.Knowledge.{Known, suits, wrong_first, wrong_receiver, known_given};
+ghost use Rattle.pkcheck.specs.Knowledge.{Asked as Listed, Policy as Pairs};
+ghost use Rattle.pkcheck.specs.Knowledge.{Known, suits, wrong_first, wrong_receiver};
 ghost use Rattle.pkcheck.specs.Knowledge.{learn, within};
-ghost use Rattle.pkcheck.specs.Shape.{Item, and_then, front, put};
+ghost use Rattle.pkcheck.specs.Shape.{and_then, front, put};
 ghost use Rattle.pkcheck.specs.Private.Denials.{judged, ruled, IsDenied, IsForMemory, MayName};
 ghost use Rattle.pkcheck.specs.Private.Denials.{MayGive, MayOperate, Passes, WantsRoom, WellGiven};
-ghost use Rattle.pkcheck.specs.Private.Denials.{IsNoText};
+ghost use Rattle.pkcheck.specs.Private.Denials.{IsPlain};
+ghost use Rattle.pkops.specs.Contents.{IsGood};
+ghost use Rattle.pkops.specs.Operands.{pair_named};
+ghost use Rattle.pkops.specs.Spelling.{Instruction, Pair, instruction};
 
 use crate::import::{Asked, Named, asked_by, pair_of};
 use crate::machine::effects::{Class, Effect, Gives, Names, Takes, Wanted};
@@ -24,7 +27,7 @@ use crate::machine::stack::{Operands, Stack};
 use crate::machine::value::{Value, value_of};
 use crate::pairs;
 use crate::policy::Policy;
-use pkops::{Inst, Limits};
+use pkops::{Arg, Inst, Limits, Op};
 use pkread::Reason;
 use std::alloc::Global;
 
@@ -159,19 +162,22 @@ pub fn judge<'a>(
     alloc: Global,
     names: Names,
     gives: Gives,
-    inst: &Inst<'a>,
+    spelled: Option<(&'a str, &'a str)>,
     policy: &Policy,
     ledger: &Ledger,
     operands: &Operands<'_>,
 ) -> Result<Option<Named<'a>>, Denial>
     requires numbered { AreNumbered (length ledger.now.texts) operands.now }
-    ensures ok { IfOk result (λ a. judged (policy_of policy.now) names gives
-        (instruction_of inst.now) (map (known ledger.now.texts) operands.now)
+    ensures ok { (i : Instruction)
+        → option_map (λ pair. (pair.0.now, pair.1.now)) spelled.entry ≡ pair_named i
+        → IfOk result (λ a. judged (policy_of policy.now) names gives
+        i (map (known ledger.now.texts) operands.now)
         ≡ Ok (option_map (named_asked ledger.now.texts) a)) }
     ensures within { IfOk result (IsNamedIf (length ledger.now.texts)) }
-    ensures err { IfErr result (λ d. IsDenied (judged (policy_of policy.now) names gives
-        (instruction_of inst.now) (map (known ledger.now.texts) operands.now)) d
-        ⊎ (MayName names × IsForMemory d)) }
+    ensures err { (i : Instruction)
+        → option_map (λ pair. (pair.0.now, pair.1.now)) spelled.entry ≡ pair_named i
+        → IfErr result (λ d. IsDenied (judged (policy_of policy.now) names gives
+        i (map (known ledger.now.texts) operands.now)) d ⊎ (MayName names × IsForMemory d)) }
 {
     if receiver_fault(gives, operands) {
         return Err(Denial {
@@ -179,7 +185,7 @@ pub fn judge<'a>(
             pair: None,
         });
     }
-    let named = asked_by(names, inst, operands)?;
+    let named = asked_by(names, spelled, operands)?;
     if let Some(name) = named {
         permit(alloc, policy, ledger, name)?;
     }
@@ -214,43 +220,56 @@ pub fn give(
     }
 }
 
-/// Puts the text of an instruction into the table, and names it on top. The instruction is handed
-/// on as a copy, so that no other step has to keep it in memory.
+/// Takes the operands, and puts what is given in their place, where nothing is named.
 #[inline(never)]
-fn make_text(
-    alloc: Global,
-    stack: &mut Stack,
-    ledger: &mut Ledger,
-    limits: &Limits,
-    inst: Inst<'_>,
-) -> Result<(), Reason>
-    requires sees { Sees ledger.old.texts stack.old (seen ledger.old.texts stack.old) }
-    ensures ok { OnOk result (seen ledger.new.texts stack.new
-        ≡ Item (Some (Text (text (instruction_of inst.entry)))) ∷ seen ledger.old.texts stack.old) }
-    ensures sees { OnOk result (Sees ledger.new.texts stack.new (seen ledger.new.texts stack.new)) }
-    ensures grows { OnOk result (Grows ledger.old.texts ledger.new.texts) }
-    ensures count { OnOk result (length ledger.new.texts ≡ suc (length ledger.old.texts)) }
-    ensures asked { OnOk result (ledger.new.asked ≡ ledger.old.asked) }
+fn replace(stack: &mut Stack, limits: &Limits, takes: Takes, gives: Gives) -> Result<(), Reason>
+    requires within { length stack.old ≤ limits.now.stack }
+    requires given { WellGiven gives takes }
+    requires plain { IsPlain gives }
+    ensures ok { (ts : List (List ℕ)) → Sees ts stack.old (seen ts stack.old)
+        → (p : Pairs) (i : Instruction) (m : List (ℕ × Known)) (listed : List Listed)
+        → OnOk result (Passes (learn p (Effect.Operates takes Names.NoName gives) i
+        (record { entries = seen ts stack.old; memo = m }))
+        (record { entries = seen ts stack.new; memo = m }) listed listed false) }
+    ensures sees { (ts : List (List ℕ)) → Sees ts stack.old (seen ts stack.old)
+        → OnOk result (Sees ts stack.new (seen ts stack.new)) }
     ensures room { OnOk result (length stack.new ≤ limits.now.stack) }
-    ensures err { IfErr result (λ r. (stack.new ≡ stack.old) × (ledger.new ≡ ledger.old)
-        × WantsRoom limits.now.stack (length stack.old) r) }
+    ensures kept { OnErr result (stack.new ≡ stack.old) }
+    ensures err { (ts : List (List ℕ)) → Sees ts stack.old (seen ts stack.old)
+        → (p : Pairs) (i : Instruction) (m : List (ℕ × Known))
+        → IfErr result (λ r. IsDenied (and_then (learn p (Effect.Operates takes Names.NoName gives)
+        i (record { entries = seen ts stack.old; memo = m })) (within limits.now))
+        (record { reason = r; pair = None })
+        ⊎ (MayOperate Names.NoName gives × IsForMemory (record { reason = r; pair = None }))) }
 {
-    let place = stack.len();
-    let Ok(number) = u32::try_from(ledger.texts()) else {
-        return Err(Reason::OutOfMemory);
-    };
-    stack.push(limits, Value::Text(number))?;
-    let Ok(()) = ledger.add_text(alloc, &inst) else {
-        stack.truncate(place);
-        return Err(Reason::OutOfMemory);
-    };
-    Ok(())
+    let place = stack.find(takes)?;
+    let operands = stack.operands(place);
+    if receiver_fault(gives, &operands) {
+        return Err(Reason::WrongClass);
+    }
+    match give(stack, limits, place, value_of(gives)) {
+        Ok(()) => Ok(()),
+        Err(reason) => Err(reason),
+    }
 }
 
-/// Takes the operands, and puts what is given in their place. The instruction is handed on as a
-/// copy, as above.
+/// The names of two lines.
+fn names_of<'a>(op: Op, lines: Option<(&'a [u8], &'a [u8])>) -> Option<(&'a str, &'a str)>
+    requires { IfSome lines (λ pair. IsGood (instruction op (Pair pair.0.now pair.1.now))) }
+    ensures { (i : Instruction)
+        → option_map (λ pair. (pair.0.now, pair.1.now)) lines.entry ≡ pair_named i
+        → option_map (λ pair. (pair.0.now, pair.1.now)) result ≡ pair_named i }
+{
+    match lines {
+        Some((first, second)) => Inst::known(op, Arg::Pair(first, second)).pair(),
+        None => None,
+    }
+}
+
+/// The same where a pair is named. It is handed the lines in place of the instruction,
+/// which would have to lie in memory then, in every step.
 #[inline(never)]
-fn replace(
+fn replace_named(
     alloc: Global,
     stack: &mut Stack,
     ledger: &mut Ledger,
@@ -258,33 +277,39 @@ fn replace(
     takes: Takes,
     names: Names,
     gives: Gives,
-    inst: Inst<'_>,
+    op: Op,
+    lines: Option<(&[u8], &[u8])>,
     policy: &Policy,
 ) -> Result<bool, Denial>
     requires within { length stack.old ≤ limits.now.stack }
-    requires given { WellGiven gives names takes }
-    requires no_text { IsNoText gives }
+    requires given { WellGiven gives takes }
+    requires plain { IsPlain gives }
+    requires good { IfSome lines (λ pair. IsGood (instruction op (Pair pair.0.now pair.1.now))) }
     requires sees { Sees ledger.old.texts stack.old (seen ledger.old.texts stack.old) }
-    ensures ok { (m : List (ℕ × Known))
+    ensures ok { (i : Instruction)
+        → option_map (λ pair. (pair.0.now, pair.1.now)) lines.entry ≡ pair_named i
+        → (m : List (ℕ × Known))
         → IfOk result (λ b. Passes (learn (policy_of policy.now) (Effect.Operates takes names gives)
-        (instruction_of inst.entry)
-        (record { entries = seen ledger.old.texts stack.old; memo = m }))
+        i (record { entries = seen ledger.old.texts stack.old; memo = m }))
         (record { entries = seen ledger.new.texts stack.new; memo = m })
         ledger.old.asked ledger.new.asked b) }
     ensures sees { OnOk result (Sees ledger.new.texts stack.new (seen ledger.new.texts stack.new)) }
     ensures texts { ledger.new.texts ≡ ledger.old.texts }
     ensures room { OnOk result (length stack.new ≤ limits.now.stack) }
     ensures kept { OnErr result ((stack.new ≡ stack.old) × (ledger.new ≡ ledger.old)) }
-    ensures err { (m : List (ℕ × Known))
+    ensures err { (i : Instruction)
+        → option_map (λ pair. (pair.0.now, pair.1.now)) lines.entry ≡ pair_named i
+        → (m : List (ℕ × Known))
         → IfErr result (λ d. IsDenied (and_then (learn (policy_of policy.now)
-        (Effect.Operates takes names gives) (instruction_of inst.entry)
+        (Effect.Operates takes names gives) i
         (record { entries = seen ledger.old.texts stack.old; memo = m })) (within limits.now)) d
         ⊎ (MayOperate names gives × IsForMemory d)) }
 {
     let place = stack.find(takes)?;
     let operands = stack.operands(place);
-    let named = judge(alloc, names, gives, &inst, policy, ledger, &operands)?;
-    let value = value_of(gives, &inst);
+    let spelled = names_of(op, lines);
+    let named = judge(alloc, names, gives, spelled, policy, ledger, &operands)?;
+    let value = value_of(gives);
     let count = ledger.len();
     let is_import = ledger.list(named)?;
     match give(stack, limits, place, value) {
@@ -296,34 +321,28 @@ fn replace(
     }
 }
 
-/// Whether nothing is taken and nothing is named.
-#[inline]
-fn is_of_nothing(takes: Takes, names: Names) -> bool
-    ensures { result ≡ true → (takes ≡ Takes.Objects 0) × (names ≡ Names.NoName) }
+/// Whether nothing is named.
+#[inline(always)]
+fn is_nameless(names: Names) -> bool
+    ensures { result ≡ true → names ≡ Names.NoName }
 {
-    match (takes, names) {
-        (Takes::Objects(0), Names::NoName) => true,
+    match names {
+        Names::NoName => true,
         _ => false,
     }
 }
 
-/// Puts what is given on top, where nothing is taken.
-#[inline]
-fn create(stack: &mut Stack, limits: &Limits, gives: Gives, inst: &Inst) -> Result<(), Reason>
-    requires given { WellGiven gives Names.NoName (Takes.Objects 0) }
-    requires no_text { IsNoText gives }
-    requires within { length stack.old ≤ limits.now.stack }
-    ensures ok { (ts : List (List ℕ)) → OnOk result (seen ts stack.new
-        ≡ put (known_given gives (instruction_of inst.now)) [] ++ seen ts stack.old) }
-    ensures sees { (ts : List (List ℕ)) → Sees ts stack.old (seen ts stack.old)
-        → OnOk result (Sees ts stack.new (seen ts stack.new)) }
-    ensures room { OnOk result (length stack.new ≤ limits.now.stack) }
-    ensures err { IfErr result (λ r. (stack.new ≡ stack.old)
-        × WantsRoom limits.now.stack (length stack.old) r) }
+/// The two lines of an argument, where it has two.
+#[inline(always)]
+fn lines_of<'a>(inst: &Inst<'a>) -> Option<(&'a [u8], &'a [u8])>
+    ensures named { option_map (λ pair. (pair.0.now, pair.1.now)) result
+        ≡ pair_named (instruction_of inst.now) }
+    ensures good { IfSome result (λ pair.
+        IsGood (instruction (instruction_of inst.now).op (Pair pair.0.now pair.1.now))) }
 {
-    match value_of(gives, inst) {
-        Some(value) => stack.push(limits, value),
-        None => Ok(()),
+    match inst.arg() {
+        Arg::Pair(first, second) => Some((first, second)),
+        _ => None,
     }
 }
 
@@ -341,7 +360,8 @@ pub fn operate(
     policy: &Policy,
 ) -> Result<bool, Denial>
     requires within { length stack.old ≤ limits.now.stack }
-    requires given { WellGiven gives names takes }
+    requires given { WellGiven gives takes }
+    requires plain { IsPlain gives }
     requires sees { Sees ledger.old.texts stack.old (seen ledger.old.texts stack.old) }
     ensures ok { (m : List (ℕ × Known))
         → IfOk result (λ b. Passes (learn (policy_of policy.now) (Effect.Operates takes names gives)
@@ -350,8 +370,7 @@ pub fn operate(
         ledger.old.asked ledger.new.asked b) }
     ensures sees { OnOk result (Sees ledger.new.texts stack.new (seen ledger.new.texts stack.new)) }
     ensures grows { OnOk result (Grows ledger.old.texts ledger.new.texts) }
-    ensures count { OnOk result (
-        length ledger.new.texts ≡ texts_given gives (length ledger.old.texts)) }
+    ensures texts { ledger.new.texts ≡ ledger.old.texts }
     ensures room { OnOk result (length stack.new ≤ limits.now.stack) }
     ensures kept { OnErr result ((stack.new ≡ stack.old) × (ledger.new ≡ ledger.old)) }
     ensures err { (m : List (ℕ × Known))
@@ -360,15 +379,21 @@ pub fn operate(
         (record { entries = seen ledger.old.texts stack.old; memo = m })) (within limits.now)) d
         ⊎ (MayOperate names gives × IsForMemory d)) }
 {
-    if let Gives::MakesText = gives {
-        make_text(alloc, stack, ledger, limits, *inst)?;
+    if is_nameless(names) {
+        replace(stack, limits, takes, gives)?;
         return Ok(false);
     }
-    if is_of_nothing(takes, names) {
-        create(stack, limits, gives, inst)?;
-        return Ok(false);
-    }
-    replace(
-        alloc, stack, ledger, limits, takes, names, gives, *inst, policy,
+    let lines = lines_of(inst);
+    replace_named(
+        alloc,
+        stack,
+        ledger,
+        limits,
+        takes,
+        names,
+        gives,
+        inst.op(),
+        lines,
+        policy,
     )
 }

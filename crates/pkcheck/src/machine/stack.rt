@@ -10,11 +10,12 @@ mod operands;
 mod slots;
 
 use crate::machine::effects::Takes;
+use crate::machine::pile::Pile;
 use crate::machine::value::Value;
 pub use operands::Operands;
 use pkops::Limits;
 use pkread::Reason;
-use slots::{Slot, mark_place, marks_below, place_of, settle, top};
+use slots::{Slot, mark_place, marks_below, place_of, top};
 use std::alloc::Global;
 use std::marker::Model;
 
@@ -22,9 +23,9 @@ use std::marker::Model;
 #[derive(Drop)]
 pub struct Stack {
     /// The entries, the last of them on top.
-    slots: Vec<Slot>,
+    slots: Pile<Slot>,
     /// The places of the marks among them.
-    places: Vec<usize>,
+    places: Pile<usize>,
 }
 
 impl Model for Stack {
@@ -35,9 +36,9 @@ impl Model for Stack {
 
     ghost Value = { List (Entry Object) };
 
-    ghost view = { λ s. shown s.slots.items [] };
+    ghost view = { λ s. shown s.slots [] };
 
-    ghost invariant = { λ s. s.places.items ≡ bars 0 s.slots.items };
+    ghost invariant = { λ s. s.places ≡ bars 0 s.slots };
 }
 
 impl Stack {
@@ -46,8 +47,8 @@ impl Stack {
         ensures { result ≡ [] }
     {
         Stack {
-            slots: Vec::new(alloc),
-            places: Vec::new(alloc),
+            slots: Pile::new(alloc, Slot::Mark),
+            places: Pile::new(alloc, 0),
         }
     }
 
@@ -79,7 +80,7 @@ impl Stack {
         ensures ok { IfOk result (λ v. top self.now ≡ Ok (v, drop 1 self.now)) }
         ensures err { IfErr result (λ r. IsLack (top self.now) r) }
     {
-        match top(&self.slots) {
+        match top(self.slots.entries()) {
             Some(value) => Ok(value),
             None => Err(Reason::MissingItem),
         }
@@ -94,7 +95,7 @@ impl Stack {
             ≡ front (above n self.now) ++ below n self.now) }
         ensures err { IfErr result (λ r. IsLack (operands takes self.now) r) }
     {
-        place_of(&self.slots, &self.places, takes)
+        place_of(self.slots.entries(), self.places.entries(), takes)
     }
 
     /// The objects from a place on.
@@ -103,7 +104,7 @@ impl Stack {
         requires { place ≤ length self.now }
         ensures { result ≡ above place self.now }
     {
-        Operands::from(&self.slots, place)
+        Operands::from(self.slots.entries(), place)
     }
 
     /// Whether there is room for one more.
@@ -162,7 +163,7 @@ impl Stack {
     pub fn truncate(&mut self, count: usize)
         ensures { self.new ≡ below count self.old }
     {
-        let left = marks_below(&self.places, count);
+        let left = marks_below(self.places.entries(), count);
         self.places.truncate(left);
         self.slots.truncate(count);
     }
@@ -191,7 +192,7 @@ impl Stack {
         ensures err { IfErr result (λ r. (self.new ≡ self.old) × (slice self.old [] ≡ Err NoMark)
             × (r ≡ Reason.MissingMark)) }
     {
-        match mark_place(&self.slots, &self.places) {
+        match mark_place(self.slots.entries(), self.places.entries()) {
             Some(place) => {
                 self.truncate(place);
                 Ok(())
@@ -209,12 +210,14 @@ impl Stack {
         ensures err { IfErr result (λ r. (self.new ≡ self.old)
             × WantsRoom limits.now.stack place r) }
     {
-        if place >= self.slots.len() {
-            return self.push(limits, value);
+        if place as u64 >= limits.stack() {
+            return Err(Reason::TooLarge);
         }
-        let left = marks_below(&self.places, place);
+        let Ok(()) = self.slots.put(place, Slot::Object(value)) else {
+            return Err(Reason::OutOfMemory);
+        };
+        let left = marks_below(self.places.entries(), place);
         self.places.truncate(left);
-        settle(&mut self.slots, place, value);
         Ok(())
     }
 }

@@ -9,6 +9,7 @@ ghost use Rattle.std.specs.Prelude.{encode_utf8_all, string_bytes};
 ghost use Rattle.pkops.specs.OldBytes.{old_bytes};
 ghost use Rattle.std.specs.Str.{IsUtf8};
 
+use crate::machine::pile::Pile;
 use pkops::{Arg, Inst, Op, old_bytes_of, text_of};
 use std::alloc::{AllocError, Global};
 use std::marker::Model;
@@ -20,7 +21,7 @@ pub struct Texts {
     /// Their bytes in UTF-8.
     bytes: Vec<u8>,
     /// Where each of them ends.
-    ends: Vec<usize>,
+    ends: Pile<usize>,
 }
 
 impl Model for Texts {
@@ -29,10 +30,10 @@ impl Model for Texts {
 
     ghost Value = { List (List ℕ) };
 
-    ghost view = { λ t. cut 0 t.ends.items t.bytes.items };
+    ghost view = { λ t. cut 0 t.ends t.bytes.items };
 
     ghost invariant = { λ t. AreJoined
-        (cut 0 t.ends.items t.bytes.items) t.ends.items t.bytes.items };
+        (cut 0 t.ends t.bytes.items) t.ends t.bytes.items };
 }
 
 impl Texts {
@@ -42,7 +43,7 @@ impl Texts {
     {
         Texts {
             bytes: Vec::new(alloc),
-            ends: Vec::new(alloc),
+            ends: Pile::new(alloc, 0),
         }
     }
 
@@ -69,8 +70,9 @@ impl Texts {
         if number >= self.ends.len() {
             return "";
         }
-        let start = start_of(&self.ends, number);
-        let end = self.ends[number];
+        let ends = self.ends.entries();
+        let start = start_of(ends, number);
+        let end = end_of(ends, number);
         let Ok(text) = str::from_utf8(piece(&self.bytes, start, end)) else {
             unreachable!()
         };
@@ -158,6 +160,14 @@ fn start_of(ends: &[usize], number: usize) -> usize
     ensures next { 0 < number → result ≡ get_or ends.now (number - 1) result }
 {
     if number == 0 { 0 } else { ends[number - 1] }
+}
+
+/// Where a text ends.
+fn end_of(ends: &[usize], number: usize) -> usize
+    requires { number < length ends.now }
+    ensures { result ≡ get_or ends.now number result }
+{
+    ends[number]
 }
 
 /// The bytes from one place up to another.

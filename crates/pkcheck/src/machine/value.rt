@@ -1,10 +1,11 @@
 //! What is known of an object.
 ghost use Rattle.std.specs.Prelude.{◌≡◌, ℕ, List};
 ghost use Rattle.pkcheck.specs.Knowledge.{known_given};
-ghost use Rattle.pkcheck.specs.Private.Denials.{IsNoText};
+ghost use Rattle.pkcheck.specs.Private.Denials.{IsPlain};
 ghost use Rattle.pkcheck.specs.Private.Slots.{StandsIf};
 ghost use Rattle.pkcheck.specs.Runs.{int_or_bool};
 ghost use Rattle.pkops.specs.Inst.{instruction_of};
+ghost use Rattle.pkops.specs.Spelling.{Instruction};
 
 use crate::machine::effects::{Class, Gives};
 use pkops::Inst;
@@ -21,6 +22,7 @@ pub enum Value {
 }
 
 /// The class of INT's object.
+#[inline(always)]
 pub fn int_or_bool(inst: &Inst) -> Class
     ensures { result ≡ int_or_bool (instruction_of inst.now) }
 {
@@ -33,14 +35,12 @@ pub fn int_or_bool(inst: &Inst) -> Class
 
 /// What is known of what is given.
 #[inline]
-pub fn value_of(gives: Gives, inst: &Inst) -> Option<Value>
-    requires { IsNoText gives }
-    ensures { (ts : List (List ℕ))
-        → StandsIf ts result (known_given gives (instruction_of inst.now)) }
+pub fn value_of(gives: Gives) -> Option<Value>
+    requires { IsPlain gives }
+    ensures { (ts : List (List ℕ)) (i : Instruction) → StandsIf ts result (known_given gives i) }
 {
     match gives {
         Gives::Makes(class) => Some(Value::Made(class)),
-        Gives::MakesIntOrBool => Some(Value::Made(int_or_bool(inst))),
         Gives::MayMake(class) => Some(Value::Made(class)),
         Gives::Answers => Some(Value::Unknown),
         _ => None,

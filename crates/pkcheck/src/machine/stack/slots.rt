@@ -1,7 +1,7 @@
 //! The entries that the stack keeps: the last of them is on top.
 ghost use Rattle.pkcheck.specs.Private.Denials.{IsLack};
 ghost use Rattle.pkcheck.specs.Knowledge.{Lacks, reason_of};
-ghost use Rattle.pkcheck.specs.Shape.{Breach, Item, NoMark, NoItem, operands, slice, items, breaks};
+ghost use Rattle.pkcheck.specs.Shape.{Breach, NoMark, NoItem, operands, slice, items, breaks};
 ghost use Rattle.pkcheck.specs.Shape.{marks_of, top};
 ghost use Rattle.pkcheck.specs.Private.Slots.{bars, shown, values_of, FirstObject, StartsWell};
 ghost use Rattle.pkcheck.specs.Private.Slots.{taken_from};
@@ -94,18 +94,6 @@ pub fn marks_below(places: &[usize], count: usize) -> usize
         left -= 1;
     }
     0
-}
-
-/// Puts an object in the place of all from there on.
-#[tactic(auto, using(crate::proofs::Settled::shown_settled, crate::proofs::Bars::bars_settled))]
-pub fn settle(slots: &mut Vec<Slot>, place: usize, value: Value)
-    requires { place < length slots.old.items }
-    ensures value { shown slots.new.items [] ≡ Item value ∷ shown (take place slots.old.items) [] }
-    ensures marks { bars 0 slots.new.items ≡ bars 0 (take place slots.old.items) }
-    ensures len { length slots.new.items ≡ place + 1 }
-{
-    slots[place] = Slot::Object(value);
-    slots.truncate(place + 1);
 }
 
 /// Whether a slice of so many objects breaks the rule.

@@ -1,62 +1,50 @@
-use Rattle.std.proofs.Common.{◌∙◌, ap, inl, inr, option_map, refl, None}
+use Rattle.std.proofs.Common.{◌∙◌, [], None, ap, inl, refl, sym}
 use Rattle.std.proofs.lemmas.Result.{err_from_is_err_and}
+use Rattle.pkops.specs.declared.op.Op.TheVariants as op
+use Rattle.pkops.specs.Spelling.{Nothing, instruction}
+use Rattle.pkread.specs.declared.refusal.Reason.TheVariants as reason
+use Rattle.pkcheck.specs.declared.machine.effects.Names.TheVariants.{NoName}
+use Rattle.pkcheck.specs.Knowledge.{WrongClass}
 use Rattle.pkcheck.specs.Private.Slots.{seen}
-use Rattle.pkcheck.specs.Import.{policy_of}
-use Rattle.pkops.specs.Inst.{instruction_of}
-use Rattle.pkcheck.specs.Private.Noted.{named_asked}
-use Rattle.pkcheck.proofs.Noting.{are_numbered, listed_before}
 use Rattle.pkcheck.proofs.Places.{length_below}
 use Rattle.pkcheck.proofs.Resolving.{found_seen, found_is, found_lacks, put_seen, put_sees, length_seen, same_table}
-use Rattle.pkcheck.proofs.Stepping.Judged.{lack_denied, judged_denied, within_denied, does_pass, unroomed, left_there, given_none}
+use Rattle.pkcheck.proofs.Stepping.Judged.{lack_denied, judged_denied, judged_ok, judged_wrong, within_denied, does_pass, unroomed, left_there, given_none}
 use Rattle.pkcheck.proofs.machine.operate.replace.Goals as goal
 
 pub returns-in_err-place-clause-err : goal.returns-in_err-place-clause-err
 returns-in_err-place-clause-err c =
-    let p = err_from_is_err_and c.from_residual.result c.from_residual.ensures.1 in
-    rw (p.1, p.2) (λ m. inl (within_denied _ c.args.limits.now (record { reason = c.in_err-place.field-0.0; pair = None }) (lack_denied (policy_of c.args.policy.now) c.args.takes c.args.names c.args.gives (instruction_of c.args.inst) (record { entries = seen c.args.ledger.now.texts c.args.stack.now; memo = m }) c.in_err-place.field-0.0
-    (found_lacks c.args.ledger.now.texts c.args.takes c.args.stack.now c.requires.sees c.in_err-place.field-0.0 c.in_err-place.ensures.err))))
+    let q = err_from_is_err_and c.from_residual.result c.from_residual.ensures.1 in
+    rw (q.1, q.2) (λ ts sees p i m. inl (within_denied _ c.args.limits.now (record { reason = c.in_err-place.field-0.0; pair = None }) (lack_denied p c.args.takes NoName c.args.gives i (record { entries = seen ts c.args.stack.now; memo = m }) c.in_err-place.field-0.0 (found_lacks ts c.args.takes c.args.stack.now sees c.in_err-place.field-0.0 c.in_err-place.ensures.err))))
 
-pub returns-in_err-named-clause-err : goal.returns-in_err-named-clause-err
-returns-in_err-named-clause-err c =
-    let p = err_from_is_err_and c.from_residual-in_err-named.result c.from_residual-in_err-named.ensures.1 in
-    let d = rw c.operands-operands.ensures at c.in_err-named.ensures.err in
-    let found = found_seen c.args.ledger.now.texts c.args.takes c.args.stack.now c.requires.sees _ c.in_ok-place.ensures.ok in
-    rw (p.1, p.2) (λ m. elim d [
-      | inl e ↦ inl (within_denied _ c.args.limits.now c.in_err-named.field-0.0 (judged_denied (policy_of c.args.policy.now) c.args.takes c.args.names c.args.gives (instruction_of c.args.inst) (record { entries = seen c.args.ledger.now.texts c.args.stack.now; memo = m }) _ c.in_err-named.field-0.0 found e))
-      | inr e ↦ inr (inl e.0, e.1)
-    ])
-
-pub judge-requires : goal.judge-requires
-judge-requires c =
-    let is = found_is c.args.ledger.now.texts c.args.takes c.args.stack.now c.requires.sees _ c.in_ok-place.ensures.ok in
-    record { numbered = rw c.operands-operands.ensures (are_numbered c.args.ledger.now.texts _ _ is.operands) }
+pub returns-then-receiver_fault-clause-err : goal.returns-then-receiver_fault-clause-err
+returns-then-receiver_fault-clause-err c ts sees p i m =
+    let found = found_seen ts c.args.takes c.args.stack.now sees _ c.in_ok-place.ensures.ok in
+    let wrong = rw c.operands-operands.ensures at (sym (c.if-receiver_fault.ensures ts)) in
+    inl (within_denied _ c.args.limits.now (record { reason = reason.WrongClass; pair = None }) (judged_denied p c.args.takes NoName c.args.gives i (record { entries = seen ts c.args.stack.now; memo = m }) _ (record { reason = reason.WrongClass; pair = None }) found (WrongClass, judged_wrong p NoName c.args.gives i _ wrong, refl, refl)))
 
 pub give-requires-clause-first : goal.give-requires-clause-first
-give-requires-clause-first c e = c.in_ok-place.ensures.first (left_there c.args.names c.args.takes c.args.gives (instruction_of c.args.inst) c.requires.given (given_none c.args.ledger.now.texts c.value_of-value.result _ e (c.value_of-value.ensures c.args.ledger.now.texts)))
+give-requires-clause-first c e =
+    let i = instruction op.None Nothing in
+    c.in_ok-place.ensures.first (left_there c.args.takes c.args.gives i c.requires.given (given_none [] c.value_of.result _ e (c.value_of.ensures [] i)))
 
 pub returns-in-Ok-clause-ok : goal.returns-in-Ok-clause-ok
-returns-in-Ok-clause-ok c m =
-    let fits = rw c.operands-operands.ensures at c.in_ok-named.ensures.ok in
-    let found = found_seen c.args.ledger.now.texts c.args.takes c.args.stack.now c.requires.sees _ c.in_ok-place.ensures.ok in
-    let is = found_is c.args.ledger.now.texts c.args.takes c.args.stack.now c.requires.sees _ c.in_ok-place.ensures.ok in
-    let put = put_seen c.args.ledger.now.texts c.args.ledger.now.texts (same_table c.args.ledger.now.texts) c.value_of-value.result _ (c.value_of-value.ensures c.args.ledger.now.texts) _ is in
-    rw c.in_ok-is_import.ensures.ok.0
-    (does_pass (policy_of c.args.policy.now) c.args.takes c.args.names c.args.gives (instruction_of c.args.inst) (record { entries = seen c.args.ledger.now.texts c.args.stack.now; memo = m }) _ c.args.ledger.now.texts c.in_ok-named.named found fits
-    (seen c.args.ledger.now.texts c.give.new.stack) c.args.ledger.now.asked _ c.in_ok-is_import.is_import (ap (seen c.args.ledger.now.texts) c.in-Ok.ensures.ok ∙ put) refl c.in_ok-is_import.ensures.ok.1)
+returns-in-Ok-clause-ok c ts sees p i m listed =
+    let found = found_seen ts c.args.takes c.args.stack.now sees _ c.in_ok-place.ensures.ok in
+    let is = found_is ts c.args.takes c.args.stack.now sees _ c.in_ok-place.ensures.ok in
+    let right = rw c.operands-operands.ensures at (sym (c.if-receiver_fault.ensures ts)) in
+    let put = put_seen ts ts (same_table ts) c.value_of.result _ (c.value_of.ensures ts i) _ is in
+    does_pass p c.args.takes NoName c.args.gives i (record { entries = seen ts c.args.stack.now; memo = m }) _ ts None found (judged_ok p NoName c.args.gives i _ right None refl)
+    (seen ts c.give.new.stack) listed listed _ (ap (seen ts) c.in-Ok.ensures.ok ∙ put) refl refl
 
 pub returns-in-Ok-clause-sees : goal.returns-in-Ok-clause-sees
-returns-in-Ok-clause-sees c =
-    let is = found_is c.args.ledger.now.texts c.args.takes c.args.stack.now c.requires.sees _ c.in_ok-place.ensures.ok in
-    rw (c.in_ok-is_import.ensures.ok.0, c.in-Ok.ensures.ok) (put_sees c.args.ledger.now.texts c.args.ledger.now.texts (same_table c.args.ledger.now.texts) c.value_of-value.result _ (c.value_of-value.ensures c.args.ledger.now.texts) _ is)
-
-pub returns-in-Err-clause-kept : goal.returns-in-Err-clause-kept
-returns-in-Err-clause-kept c =
-    let before = listed_before (option_map (named_asked c.args.ledger.now.texts) c.in_ok-named.named) c.args.ledger.now.asked in
-    (c.in-Err.ensures.err.0, rw (c.keep.ensures, c.in_ok-is_import.ensures.ok.0, c.len-count.ensures) (λ i. record { texts = c.args.ledger.now.texts; asked = before i }))
+returns-in-Ok-clause-sees c ts sees =
+    let i = instruction op.None Nothing in
+    let is = found_is ts c.args.takes c.args.stack.now sees _ c.in_ok-place.ensures.ok in
+    rw c.in-Ok.ensures.ok (put_sees ts ts (same_table ts) c.value_of.result _ (c.value_of.ensures ts i) _ is)
 
 pub returns-in-Err-clause-err : goal.returns-in-Err-clause-err
-returns-in-Err-clause-err c =
-    let fits = rw c.operands-operands.ensures at c.in_ok-named.ensures.ok in
-    let found = found_seen c.args.ledger.now.texts c.args.takes c.args.stack.now c.requires.sees _ c.in_ok-place.ensures.ok in
-    rw c.from.ensures (λ m. unroomed (policy_of c.args.policy.now) c.args.takes c.args.names c.args.gives (instruction_of c.args.inst) (record { entries = seen c.args.ledger.now.texts c.args.stack.now; memo = m }) _ c.args.ledger.now.texts c.in_ok-named.named found fits
-    c.args.ledger.now.texts c.value_of-value.result (c.value_of-value.ensures c.args.ledger.now.texts) c.args.limits.now c.in-Err.reason c.in-Err.ensures.err.1 (rw (length_seen, length_below c.in_ok-place.place c.args.stack.now c.in_ok-place.ensures.within) c.in-Err.ensures.err.2))
+returns-in-Err-clause-err c ts sees p i m =
+    let found = found_seen ts c.args.takes c.args.stack.now sees _ c.in_ok-place.ensures.ok in
+    let right = rw c.operands-operands.ensures at (sym (c.if-receiver_fault.ensures ts)) in
+    unroomed p c.args.takes NoName c.args.gives i (record { entries = seen ts c.args.stack.now; memo = m }) _ ts None found (judged_ok p NoName c.args.gives i _ right None refl)
+    ts c.value_of.result (c.value_of.ensures ts i) c.args.limits.now c.in-Err.reason c.in-Err.ensures.err.1 (rw (length_seen, length_below c.in_ok-place.place c.args.stack.now c.in_ok-place.ensures.within) c.in-Err.ensures.err.2)

@@ -1,19 +1,35 @@
-use Rattle.std.proofs.Common.{◌∙◌, inl, refl, sym, None}
+use Rattle.std.proofs.Common.{◌≡◌, ◌∙◌, Some, refl, sym, ap₂}
 use Rattle.std.proofs.lemmas.Result.{err_from_is_err_and}
-use Rattle.pkcheck.specs.declared.machine.effects.Effect.TheVariants.{Raises}
-use Rattle.pkcheck.specs.Knowledge.{NotAscii}
-use Rattle.pkread.specs.declared.refusal.Reason.TheVariants as reason
-use Rattle.pkcheck.specs.Import.{policy_of}
 use Rattle.pkops.specs.Inst.{instruction_of}
-use Rattle.pkcheck.proofs.Stepping.Going.{denied_by, move_denied}
+use Rattle.pkops.specs.Spelling.{instruction}
+use Rattle.pkcheck.specs.declared.machine.effects.Gives.TheVariants.{Makes, MakesIntOrBool, MakesText}
+use Rattle.pkcheck.specs.Import.{policy_of}
+use Rattle.pkcheck.specs.Runs.{Plain, Text, int_or_bool, text}
+use Rattle.pkcheck.proofs.Stepping.Pushing.{not_pushed, of_action}
 use Rattle.pkcheck.proofs.machine.stepping.advance.Goals as goal
 
-pub returns-in_err-apply-in-Moves-clause-err : goal.returns-in_err-apply-in-Moves-clause-err
-returns-in_err-apply-in-Moves-clause-err c =
-    let p = err_from_is_err_and c.from_residual-in_err-apply-in-Moves.result c.from_residual-in_err-apply-in-Moves.ensures.1 in
-    rw (p.1, p.2) (denied_by c.args.old_strings (policy_of c.args.policy.now) c.args.limits.now (instruction_of c.args.inst.now) c.args.held.now.knowledge _ (record { reason = c.in_err-apply-in-Moves.field-0.0; pair = None }) (sym c.in-Ok.ensures.value ∙ c.in-Moves.is)
-    (move_denied c.args.old_strings (policy_of c.args.policy.now) c.args.limits.now (instruction_of c.args.inst.now) c.args.held.now.knowledge c.in-Moves.what c.in_err-apply-in-Moves.field-0.0 (rw (c.unwrap_or.ensures, c.memo_number.ensures) at c.in_err-apply-in-Moves.ensures.err.1)))
+pub returns-in_err-make-in-Makes-clause-err : goal.returns-in_err-make-in-Makes-clause-err
+returns-in_err-make-in-Makes-clause-err c =
+    let q = err_from_is_err_and c.from_residual.result c.from_residual.ensures.1 in
+    rw (q.1, q.2) (not_pushed c.args.old_strings (policy_of c.args.policy.now) c.args.limits.now (instruction_of c.args.inst.now) c.args.held.now.knowledge (Makes c.in-Makes.class) (Some (Plain c.in-Makes.class)) (of_action c.args.old_strings (instruction_of c.args.inst.now) _ _ _ c.op.ensures.op c.action_of.ensures.effect c.action_of.ensures.old c.in-Makes.is refl) refl c.in_err-make-in-Makes.field-0.0 c.in_err-make-in-Makes.ensures.err)
 
-pub returns-in-Raises-clause-err : goal.returns-in-Raises-clause-err
-returns-in-Raises-clause-err c =
-    denied_by c.args.old_strings (policy_of c.args.policy.now) c.args.limits.now (instruction_of c.args.inst.now) c.args.held.now.knowledge Raises (record { reason = reason.NotAscii; pair = None }) (sym c.in-Ok.ensures.value ∙ c.in-Raises.is) (inl (NotAscii, refl, refl, refl))
+pub returns-in_err-make-in-MakesIntOrBool-clause-err : goal.returns-in_err-make-in-MakesIntOrBool-clause-err
+returns-in_err-make-in-MakesIntOrBool-clause-err c =
+    let q = err_from_is_err_and c.from_residual-in_err-make-in-MakesIntOrBool.result c.from_residual-in_err-make-in-MakesIntOrBool.ensures.1 in
+    rw (q.1, q.2) (not_pushed c.args.old_strings (policy_of c.args.policy.now) c.args.limits.now (instruction_of c.args.inst.now) c.args.held.now.knowledge MakesIntOrBool (Some (Plain (int_or_bool (instruction_of c.args.inst.now)))) (of_action c.args.old_strings (instruction_of c.args.inst.now) _ _ _ c.op.ensures.op c.action_of.ensures.effect c.action_of.ensures.old c.in-MakesIntOrBool.is refl) refl c.in_err-make-in-MakesIntOrBool.field-0.0 c.in_err-make-in-MakesIntOrBool.ensures.err)
+
+pub returns-in_err-make_text-in-MakesText-clause-err : goal.returns-in_err-make_text-in-MakesText-clause-err
+returns-in_err-make_text-in-MakesText-clause-err c =
+    let q = err_from_is_err_and c.from_residual-in_err-make_text-in-MakesText.result c.from_residual-in_err-make_text-in-MakesText.ensures.1 in
+    rw (q.1, q.2) (not_pushed c.args.old_strings (policy_of c.args.policy.now) c.args.limits.now (instruction_of c.args.inst.now) c.args.held.now.knowledge MakesText (Some (Text (text (instruction_of c.args.inst.now)))) (of_action c.args.old_strings (instruction_of c.args.inst.now) _ _ _ c.op.ensures.op c.action_of.ensures.effect c.action_of.ensures.old c.in-MakesText.is refl) refl c.in_err-make_text-in-MakesText.field-0.0 c.in_err-make_text-in-MakesText.ensures.err)
+
+pub returns-in_err-read_old_string-in-ReadsOldString-clause-err : goal.returns-in_err-read_old_string-in-ReadsOldString-clause-err
+returns-in_err-read_old_string-in-ReadsOldString-clause-err c =
+    let q = err_from_is_err_and c.from_residual-in_err-read_old_string-in-ReadsOldString.result c.from_residual-in_err-read_old_string-in-ReadsOldString.ensures.1 in
+    let same : instruction_of c.known-old.result ≡ instruction_of c.args.inst.now = c.known-old.ensures ∙ ap₂ instruction c.op-in-ReadsOldString.ensures.op c.arg.ensures.arg in
+    rw (q.1, q.2, sym same) (c.in_err-read_old_string-in-ReadsOldString.ensures.err (policy_of c.args.policy.now))
+
+pub returns-in_ok-read_old_string-in-ReadsOldString-clause-ok : goal.returns-in_ok-read_old_string-in-ReadsOldString-clause-ok
+returns-in_ok-read_old_string-in-ReadsOldString-clause-ok c =
+    let same : instruction_of c.known-old.result ≡ instruction_of c.args.inst.now = c.known-old.ensures ∙ ap₂ instruction c.op-in-ReadsOldString.ensures.op c.arg.ensures.arg in
+    rw (sym same) (c.in_ok-read_old_string-in-ReadsOldString.ensures.ok (policy_of c.args.policy.now))

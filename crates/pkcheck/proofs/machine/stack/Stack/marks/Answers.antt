@@ -3,4 +3,4 @@ use Rattle.pkcheck.proofs.Bars.{marks_shown}
 use Rattle.pkcheck.proofs.machine.stack.Stack.marks.Goals as goal
 
 pub returns : goal.returns
-returns c = rw (← c.self.view_is) (c.len.ensures ∙ c.self.inside.places.ok.0 ∙ ap length c.self.invariant ∙ marks_shown c.self.inside.slots.items)
+returns c = rw (← c.self.view_is) (c.len.ensures.value ∙ ap length c.self.invariant ∙ marks_shown c.self.inside.slots)

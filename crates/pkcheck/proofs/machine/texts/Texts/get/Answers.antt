@@ -4,30 +4,30 @@ use Rattle.pkcheck.proofs.machine.texts.Texts.get.Goals as goal
 
 pub returns-then-number-len : goal.returns-then-number-len
 returns-then-number-len c =
-    let many = how_many _ c.self.inside.ends.items c.self.inside.bytes.items c.self.invariant in
+    let many = how_many _ c.self.inside.ends c.self.inside.bytes.items c.self.invariant in
     let same = ap length c.self.view_is in
-    none_past c.args.self.now c.args.number (omega (arith, many, same, c.len.ensures, c.self.inside.ends.ok.0))
+    none_past c.args.self.now c.args.number (omega (arith, many, same, c.len.ensures.value))
 
 pub piece-requires-clause-ordered : goal.piece-requires-clause-ordered
 piece-requires-clause-ordered c =
-    let many = how_many _ c.self.inside.ends.items c.self.inside.bytes.items c.self.invariant in
-    let found = lies_by _ c.self.inside.ends.items c.self.inside.bytes.items c.self.invariant c.args.number c.start_of-start.result c.index-end.result.now (omega (arith, many, c.len.ensures, c.self.inside.ends.ok.0)) c.start_of-start.ensures.first (rw c.deref.ensures.value at c.start_of-start.ensures.next) c.index-end.ensures in
+    let many = how_many _ c.self.inside.ends c.self.inside.bytes.items c.self.invariant in
+    let found = lies_by _ c.self.inside.ends c.self.inside.bytes.items c.self.invariant c.args.number c.start_of-start.result c.end_of-end.result (omega (arith, many, c.len.ensures.value)) c.start_of-start.ensures.first (rw c.entries-ends.ensures at c.start_of-start.ensures.next) (rw c.entries-ends.ensures at c.end_of-end.ensures) in
     found.ordered
 
 pub piece-requires-clause-within : goal.piece-requires-clause-within
 piece-requires-clause-within c =
-    let many = how_many _ c.self.inside.ends.items c.self.inside.bytes.items c.self.invariant in
-    let found = lies_by _ c.self.inside.ends.items c.self.inside.bytes.items c.self.invariant c.args.number c.start_of-start.result c.index-end.result.now (omega (arith, many, c.len.ensures, c.self.inside.ends.ok.0)) c.start_of-start.ensures.first (rw c.deref.ensures.value at c.start_of-start.ensures.next) c.index-end.ensures in
-    rw c.deref-2.ensures.value found.within
+    let many = how_many _ c.self.inside.ends c.self.inside.bytes.items c.self.invariant in
+    let found = lies_by _ c.self.inside.ends c.self.inside.bytes.items c.self.invariant c.args.number c.start_of-start.result c.end_of-end.result (omega (arith, many, c.len.ensures.value)) c.start_of-start.ensures.first (rw c.entries-ends.ensures at c.start_of-start.ensures.next) (rw c.entries-ends.ensures at c.end_of-end.ensures) in
+    rw c.deref.ensures.value found.within
 
 pub unreachable-requires : goal.unreachable-requires
 unreachable-requires c =
-    let many = how_many _ c.self.inside.ends.items c.self.inside.bytes.items c.self.invariant in
-    let found = lies_by _ c.self.inside.ends.items c.self.inside.bytes.items c.self.invariant c.args.number c.start_of-start.result c.index-end.result.now (omega (arith, many, c.len.ensures, c.self.inside.ends.ok.0)) c.start_of-start.ensures.first (rw c.deref.ensures.value at c.start_of-start.ensures.next) c.index-end.ensures in
-    c.in_default.ensures.cases.0 (rw (c.piece.ensures, c.deref-2.ensures.value, found.text) found.utf8)
+    let many = how_many _ c.self.inside.ends c.self.inside.bytes.items c.self.invariant in
+    let found = lies_by _ c.self.inside.ends c.self.inside.bytes.items c.self.invariant c.args.number c.start_of-start.result c.end_of-end.result (omega (arith, many, c.len.ensures.value)) c.start_of-start.ensures.first (rw c.entries-ends.ensures at c.start_of-start.ensures.next) (rw c.entries-ends.ensures at c.end_of-end.ensures) in
+    c.in_default.ensures.cases.0 (rw (c.piece.ensures, c.deref.ensures.value, found.text) found.utf8)
 
 pub returns : goal.returns
 returns c =
-    let many = how_many _ c.self.inside.ends.items c.self.inside.bytes.items c.self.invariant in
-    let found = lies_by _ c.self.inside.ends.items c.self.inside.bytes.items c.self.invariant c.args.number c.start_of-start.result c.index-end.result.now (omega (arith, many, c.len.ensures, c.self.inside.ends.ok.0)) c.start_of-start.ensures.first (rw c.deref.ensures.value at c.start_of-start.ensures.next) c.index-end.ensures in
-    c.in-Ok.ensures.cases.0 ∙ c.piece.ensures ∙ rw c.deref-2.ensures.value found.text ∙ ap (λ ts. get_or ts c.args.number []) c.self.view_is
+    let many = how_many _ c.self.inside.ends c.self.inside.bytes.items c.self.invariant in
+    let found = lies_by _ c.self.inside.ends c.self.inside.bytes.items c.self.invariant c.args.number c.start_of-start.result c.end_of-end.result (omega (arith, many, c.len.ensures.value)) c.start_of-start.ensures.first (rw c.entries-ends.ensures at c.start_of-start.ensures.next) (rw c.entries-ends.ensures at c.end_of-end.ensures) in
+    c.in-Ok.ensures.cases.0 ∙ c.piece.ensures ∙ rw c.deref.ensures.value found.text ∙ ap (λ ts. get_or ts c.args.number []) c.self.view_is

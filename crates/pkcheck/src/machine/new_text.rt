@@ -1,0 +1,132 @@
+//! A new text, of an instruction that spells one.
+ghost use Rattle.std.specs.Prelude.{◌≡◌, ◌≤◌, ◌∷◌, length, suc, Some, IfErr, OnOk};
+ghost use Rattle.pkops.specs.Contents.{IsGood};
+ghost use Rattle.pkops.specs.Inst.{instruction_of};
+ghost use Rattle.pkops.specs.Spelling.{Counted, Line, instruction};
+ghost use Rattle.pkcheck.specs.Private.Denials.{WantsRoom};
+ghost use Rattle.pkcheck.specs.Private.Slots.{seen, Grows, Sees};
+ghost use Rattle.pkcheck.specs.Private.Spelled.{IsSpelled};
+ghost use Rattle.pkcheck.specs.Runs.{Text, text};
+ghost use Rattle.pkcheck.specs.Shape.{Item};
+
+use crate::machine::ledger::Ledger;
+use crate::machine::stack::Stack;
+use crate::machine::value::Value;
+use pkops::{Arg, Inst, Limits, Op};
+use pkread::Reason;
+use std::alloc::Global;
+
+/// Puts the text of an instruction into the table, and names it on top.
+#[inline(always)]
+fn name_text(
+    alloc: Global,
+    stack: &mut Stack,
+    ledger: &mut Ledger,
+    limits: &Limits,
+    inst: &Inst<'_>,
+) -> Result<(), Reason>
+    requires sees { Sees ledger.old.texts stack.old (seen ledger.old.texts stack.old) }
+    ensures ok { OnOk result (seen ledger.new.texts stack.new
+        ≡ Item (Some (Text (text (instruction_of inst.now)))) ∷ seen ledger.old.texts stack.old) }
+    ensures sees { OnOk result (Sees ledger.new.texts stack.new (seen ledger.new.texts stack.new)) }
+    ensures grows { OnOk result (Grows ledger.old.texts ledger.new.texts) }
+    ensures count { OnOk result (length ledger.new.texts ≡ suc (length ledger.old.texts)) }
+    ensures asked { OnOk result (ledger.new.asked ≡ ledger.old.asked) }
+    ensures room { OnOk result (length stack.new ≤ limits.now.stack) }
+    ensures err { IfErr result (λ r. (stack.new ≡ stack.old) × (ledger.new ≡ ledger.old)
+        × WantsRoom limits.now.stack (length stack.old) r) }
+{
+    let place = stack.len();
+    let Ok(number) = u32::try_from(ledger.texts()) else {
+        return Err(Reason::OutOfMemory);
+    };
+    stack.push(limits, Value::Text(number))?;
+    let Ok(()) = ledger.add_text(alloc, inst) else {
+        stack.truncate(place);
+        return Err(Reason::OutOfMemory);
+    };
+    Ok(())
+}
+
+/// The same of an instruction of this opcode with this payload. It is not handed the instruction,
+/// which would have to lie in memory then, in every step.
+#[inline(never)]
+fn name_payload(
+    alloc: Global,
+    stack: &mut Stack,
+    ledger: &mut Ledger,
+    limits: &Limits,
+    op: Op,
+    payload: &[u8],
+) -> Result<(), Reason>
+    requires good { IsGood (instruction op (Counted payload.now)) }
+    requires sees { Sees ledger.old.texts stack.old (seen ledger.old.texts stack.old) }
+    ensures ok { OnOk result (seen ledger.new.texts stack.new
+        ≡ Item (Some (Text (text (instruction op (Counted payload.now)))))
+        ∷ seen ledger.old.texts stack.old) }
+    ensures sees { OnOk result (Sees ledger.new.texts stack.new (seen ledger.new.texts stack.new)) }
+    ensures grows { OnOk result (Grows ledger.old.texts ledger.new.texts) }
+    ensures count { OnOk result (length ledger.new.texts ≡ suc (length ledger.old.texts)) }
+    ensures asked { OnOk result (ledger.new.asked ≡ ledger.old.asked) }
+    ensures room { OnOk result (length stack.new ≤ limits.now.stack) }
+    ensures err { IfErr result (λ r. (stack.new ≡ stack.old) × (ledger.new ≡ ledger.old)
+        × WantsRoom limits.now.stack (length stack.old) r) }
+{
+    let inst = Inst::known(op, Arg::Counted(payload));
+    name_text(alloc, stack, ledger, limits, &inst)
+}
+
+/// The same of one with this line.
+#[inline(never)]
+fn name_line(
+    alloc: Global,
+    stack: &mut Stack,
+    ledger: &mut Ledger,
+    limits: &Limits,
+    op: Op,
+    line: &[u8],
+) -> Result<(), Reason>
+    requires good { IsGood (instruction op (Line line.now)) }
+    requires sees { Sees ledger.old.texts stack.old (seen ledger.old.texts stack.old) }
+    ensures ok { OnOk result (seen ledger.new.texts stack.new
+        ≡ Item (Some (Text (text (instruction op (Line line.now)))))
+        ∷ seen ledger.old.texts stack.old) }
+    ensures sees { OnOk result (Sees ledger.new.texts stack.new (seen ledger.new.texts stack.new)) }
+    ensures grows { OnOk result (Grows ledger.old.texts ledger.new.texts) }
+    ensures count { OnOk result (length ledger.new.texts ≡ suc (length ledger.old.texts)) }
+    ensures asked { OnOk result (ledger.new.asked ≡ ledger.old.asked) }
+    ensures room { OnOk result (length stack.new ≤ limits.now.stack) }
+    ensures err { IfErr result (λ r. (stack.new ≡ stack.old) × (ledger.new ≡ ledger.old)
+        × WantsRoom limits.now.stack (length stack.old) r) }
+{
+    let inst = Inst::known(op, Arg::Line(line));
+    name_text(alloc, stack, ledger, limits, &inst)
+}
+
+/// Puts the text of an instruction that spells one into the table, and names it on top.
+#[inline(always)]
+pub fn make_text(
+    alloc: Global,
+    stack: &mut Stack,
+    ledger: &mut Ledger,
+    limits: &Limits,
+    inst: &Inst<'_>,
+) -> Result<(), Reason>
+    requires spells { IsSpelled (instruction_of inst.now).arg }
+    requires sees { Sees ledger.old.texts stack.old (seen ledger.old.texts stack.old) }
+    ensures ok { OnOk result (seen ledger.new.texts stack.new
+        ≡ Item (Some (Text (text (instruction_of inst.now)))) ∷ seen ledger.old.texts stack.old) }
+    ensures sees { OnOk result (Sees ledger.new.texts stack.new (seen ledger.new.texts stack.new)) }
+    ensures grows { OnOk result (Grows ledger.old.texts ledger.new.texts) }
+    ensures count { OnOk result (length ledger.new.texts ≡ suc (length ledger.old.texts)) }
+    ensures asked { OnOk result (ledger.new.asked ≡ ledger.old.asked) }
+    ensures room { OnOk result (length stack.new ≤ limits.now.stack) }
+    ensures err { IfErr result (λ r. (stack.new ≡ stack.old) × (ledger.new ≡ ledger.old)
+        × WantsRoom limits.now.stack (length stack.old) r) }
+{
+    match inst.arg() {
+        Arg::Counted(payload) => name_payload(alloc, stack, ledger, limits, inst.op(), payload),
+        Arg::Line(line) => name_line(alloc, stack, ledger, limits, inst.op(), line),
+        _ => unreachable!(),
+    }
+}
