@@ -1,5 +1,5 @@
 -- From the end of a plain run to the answer.
-use Rattle.std.proofs.Common.{◌≡◌, ℕ, true, List, length, refl, sym, ap, ◌∙◌, subst, Result, Ok, Err}
+use Rattle.std.proofs.Common.{◌≡◌, ℕ, true, List, length, refl, sym, ap, ◌∙◌, subst, Result, Ok, Err, Vec, Global}
 use Rattle.serde_json.specs.Data.{Data}
 use Rattle.std.specs.Prelude.{IfOk, IfErr}
 use Rattle.serde_json.specs.View.{view}
@@ -16,12 +16,12 @@ use Rattle.pkjson.specs.declared.node.Node.{Node}
 use Rattle.pkjson.specs.Private.Acting.{ActsAs}
 use Rattle.pkjson.specs.Private.Arena.{Kept, holds}
 use Rattle.pkjson.specs.Contents.{contents}
-use Rattle.pkjson.specs.Export.{AcceptedAs, Results, IsValueOf, IsRefused}
+use Rattle.pkjson.specs.Export.{AcceptedAs, Results, IsValueOf, IsTextOf, IsRefused}
 use Rattle.pkjson.specs.Private.Held.{seen}
 use Rattle.pkjson.specs.Private.Nodes.{heap}
 use Rattle.pkjson.specs.Plain.{is_plain}
 use Rattle.pkjson.specs.Private.Replayed.{Replays}
-use Rattle.pkjson.specs.Private.Result.{IsValue, IsTooLarge}
+use Rattle.pkjson.specs.Private.Result.{IsValue, IsText, IsTooLarge}
 use Rattle.pkjson.specs.Private.Settled.{AreSettled}
 use Rattle.pkjson.specs.Private.Standing.{StandsAt}
 use Rattle.pkjson.proofs.Mirroring.{mirrors_contents}
@@ -63,24 +63,42 @@ module _ (ks : List Kept) (ns : List Node) (s : AreSettled ks ks ns) (deepest mo
   is_too_large OutOfMemory h = tt
   is_too_large e h = absurd h
 
-value_in : (ks : List Kept) (ns : List Node) → AreSettled ks ks ns → (deepest most x : ℕ) (r : Result Value ExportError) → IfOk r (λ w. IsValue (heap ns) deepest most x (view w)) → IfOk r (λ w. IsValue (holds ks) deepest most x (view w))
-value_in ks ns s deepest most x (Ok w) h = is_value ks ns s deepest most x (view w) h
-value_in ks ns s deepest most x (Err e) h = h
+  pub is_text : (text : List ℕ) → IsText (heap ns) deepest most x text → IsText (holds ks) deepest most x text
+  is_text text h = (h.0, is_value h.0 h.1, h.2)
 
-refusal_in : (ks : List Kept) (ns : List Node) → AreSettled ks ks ns → (deepest most x : ℕ) (r : Result Value ExportError) → IfErr r (IsTooLarge (heap ns) deepest most x) → IfErr r (IsTooLarge (holds ks) deepest most x)
-refusal_in ks ns s deepest most x (Ok w) h = h
-refusal_in ks ns s deepest most x (Err e) h = is_too_large ks ns s deepest most x e h
+  refusal_in : {A : Type 0} (r : Result A ExportError) → IfErr r (IsTooLarge (heap ns) deepest most x) → IfErr r (IsTooLarge (holds ks) deepest most x)
+  refusal_in (Ok w) h = h
+  refusal_in (Err e) h = is_too_large e h
 
-pub value_held : (ks : List Kept) (ns : List Node) → AreSettled ks ks ns → (d m deepest most x : ℕ) → d ≡ deepest → m ≡ most → (r : Result Value ExportError) → IfOk r (λ w. IsValue (heap ns) d m x (view w)) → IfOk r (λ w. IsValue (holds ks) deepest most x (view w))
-value_held ks ns s d m deepest most x e f r h = subst (λ k. IfOk r (λ w. IsValue (holds ks) deepest k x (view w))) f (subst (λ k. IfOk r (λ w. IsValue (holds ks) k m x (view w))) e (value_in ks ns s d m x r h))
+  value_in : (r : Result Value ExportError) → IfOk r (λ w. IsValue (heap ns) deepest most x (view w)) → IfOk r (λ w. IsValue (holds ks) deepest most x (view w))
+  value_in (Ok w) h = is_value (view w) h
+  value_in (Err e) h = h
 
-pub refusal_held : (ks : List Kept) (ns : List Node) → AreSettled ks ks ns → (d m deepest most x : ℕ) → d ≡ deepest → m ≡ most → (r : Result Value ExportError) → IfErr r (IsTooLarge (heap ns) d m x) → IfErr r (IsTooLarge (holds ks) deepest most x)
-refusal_held ks ns s d m deepest most x e f r h = subst (λ k. IfErr r (IsTooLarge (holds ks) deepest k x)) f (subst (λ k. IfErr r (IsTooLarge (holds ks) k m x)) e (refusal_in ks ns s d m x r h))
+  text_in : (r : Result (Vec ℕ Global) ExportError) → IfOk r (λ t. IsText (heap ns) deepest most x t.items) → IfOk r (λ t. IsText (holds ks) deepest most x t.items)
+  text_in (Ok t) h = is_text t.items h
+  text_in (Err e) h = h
 
-pub value_answered : (limits : Bounds) (bytes : List ℕ) (a : Held) (x : ℕ) → Replays limits bytes a x → (r : Result Value ExportError) → IfOk r (λ w. IsValue (holds (seen a).kept) limits.depth limits.values x (view w)) → IfOk r (λ w. IsValueOf limits bytes (view w))
-value_answered limits bytes a x p (Ok w) h = is_value_of limits bytes a x p (view w) h
-value_answered limits bytes a x p (Err e) h = h
+-- the limits are those of the caller
+module _ (ks : List Kept) (ns : List Node) (s : AreSettled ks ks ns) (d m deepest most x : ℕ) (e : d ≡ deepest) (f : m ≡ most) where
+  pub value_held : (r : Result Value ExportError) → IfOk r (λ w. IsValue (heap ns) d m x (view w)) → IfOk r (λ w. IsValue (holds ks) deepest most x (view w))
+  value_held r h = subst (λ k. IfOk r (λ w. IsValue (holds ks) deepest k x (view w))) f (subst (λ k. IfOk r (λ w. IsValue (holds ks) k m x (view w))) e (value_in ks ns s d m x r h))
 
-pub refusal_answered : (limits : Bounds) (bytes : List ℕ) (a : Held) (x : ℕ) → Replays limits bytes a x → (r : Result Value ExportError) → IfErr r (IsTooLarge (holds (seen a).kept) limits.depth limits.values x) → IfErr r (IsRefused limits bytes)
-refusal_answered limits bytes a x p (Ok w) h = h
-refusal_answered limits bytes a x p (Err e) h = is_refused limits bytes a x p e h
+  pub text_held : (r : Result (Vec ℕ Global) ExportError) → IfOk r (λ t. IsText (heap ns) d m x t.items) → IfOk r (λ t. IsText (holds ks) deepest most x t.items)
+  text_held r h = subst (λ k. IfOk r (λ t. IsText (holds ks) deepest k x t.items)) f (subst (λ k. IfOk r (λ t. IsText (holds ks) k m x t.items)) e (text_in ks ns s d m x r h))
+
+  pub refusal_held : {A : Type 0} (r : Result A ExportError) → IfErr r (IsTooLarge (heap ns) d m x) → IfErr r (IsTooLarge (holds ks) deepest most x)
+  refusal_held r h = subst (λ k. IfErr r (IsTooLarge (holds ks) deepest k x)) f (subst (λ k. IfErr r (IsTooLarge (holds ks) k m x)) e (refusal_in ks ns s d m x r h))
+
+-- it is that of the bytes
+module _ (limits : Bounds) (bytes : List ℕ) (a : Held) (x : ℕ) (p : Replays limits bytes a x) where
+  pub value_answered : (r : Result Value ExportError) → IfOk r (λ w. IsValue (holds (seen a).kept) limits.depth limits.values x (view w)) → IfOk r (λ w. IsValueOf limits bytes (view w))
+  value_answered (Ok w) h = is_value_of limits bytes a x p (view w) h
+  value_answered (Err e) h = h
+
+  pub text_answered : (r : Result (Vec ℕ Global) ExportError) → IfOk r (λ t. IsText (holds (seen a).kept) limits.depth limits.values x t.items) → IfOk r (λ t. IsTextOf limits bytes t.items)
+  text_answered (Ok t) h = (h.0, is_value_of limits bytes a x p h.0 h.1, h.2)
+  text_answered (Err e) h = h
+
+  pub refusal_answered : {A : Type 0} (r : Result A ExportError) → IfErr r (IsTooLarge (holds (seen a).kept) limits.depth limits.values x) → IfErr r (IsRefused limits bytes)
+  refusal_answered (Ok w) h = h
+  refusal_answered (Err e) h = is_refused limits bytes a x p e h

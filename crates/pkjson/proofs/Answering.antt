@@ -7,6 +7,8 @@ use Rattle.pkjson.specs.declared.judge.Weight.{Weight}
 use Rattle.pkjson.specs.Unfolds.{Heap, Unfolds, count}
 use Rattle.pkjson.specs.Private.Weighs.{Weighs, IsDeeper, IsTrusted}
 use Rattle.pkjson.specs.Private.Fits.{Fits}
+use Rattle.pkjson.specs.Private.Result.{HasValue, IsValue, IsText}
+use Rattle.pkjson.specs.Private.Writes.{IsCompact}
 use Rattle.pkjson.proofs.Unfolding.{unique}
 
 none_some : {A : Type 0} (w : Weight) → None ≡ Some w → A
@@ -27,10 +29,18 @@ module _ (h : Heap) (x : ℕ) where
   unfolding Weighs
   too_many cap deepest most w e i d c = (i.0, i.1, omega (arith, i.2), omega (arith, i.3, e))
 
-  pub weighs_fits : (cap fuel : ℕ) (w : Weight) → Weighs h cap x w → w.depth ≤ fuel → Fits h fuel x
-  unfolding Weighs Fits
-  weighs_fits cap fuel w i d = (i.0, i.1, omega (arith, i.2))
-
-  pub is_value : (cap deepest most : ℕ) (w : Weight) (v : Data) → cap ≡ most + 1 → Weighs h cap x w → w.depth ≤ deepest → w.count ≤ most → Unfolds h x v → Unfolds h x v × (depth v ≤ deepest) × (count v ≤ most)
+  pub has_value : (cap deepest most : ℕ) (w : Weight) → cap ≡ most + 1 → Weighs h cap x w → w.depth ≤ deepest → w.count ≤ most → HasValue h deepest most x
   unfolding Weighs
-  is_value cap deepest most w v e i d c u = let q = unique h x i.0 v i.1 u in rw q (subst (λ z. Unfolds h x z) q u, omega (arith, i.2), omega (arith, i.3, e))
+  has_value cap deepest most w e i d c = (i.0, (i.1, omega (arith, i.2, d), omega (arith, i.3, e, c)))
+
+  module _ (deepest most : ℕ) (i : HasValue h deepest most x) where
+    pub value_fits : Fits h deepest x
+    unfolding Fits
+    value_fits = (i.0, i.1.0, i.1.1)
+
+    pub value_is : (v : Data) → Unfolds h x v → IsValue h deepest most x v
+    value_is v u = subst (λ w. IsValue h deepest most x w) (unique h x v i.0 u i.1.0) i.1
+
+    pub text_is : (text : List ℕ) → IsCompact h x text → IsText h deepest most x text
+    unfolding IsCompact
+    text_is text c = (c.0, value_is c.0 c.1, c.2)

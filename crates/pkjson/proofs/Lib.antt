@@ -2,7 +2,9 @@ pub mod Unfolding
 pub mod Deriving
 pub mod Weighing
 pub mod Holding
+pub mod Bare
 pub mod Building
+pub mod Printing
 pub mod Answering
 pub mod Mirroring
 pub mod Taking

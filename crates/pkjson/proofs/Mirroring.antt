@@ -5,7 +5,7 @@ use Rattle.pkops.specs.Spelling.{Instruction}
 use Rattle.pkcheck.specs.Runs.{Event, Import, Did}
 use Rattle.pkjson.specs.Contents.{Kind, same, kind_of, kinds, maker, given_to, all_given, held_by, contents, paired, standing, characters, OfItems, OfPairs, OfValue}
 use Rattle.pkjson.specs.Unfolds.{Pairs}
-use Rattle.pkjson.specs.Private.Arena.{Kept, kind_at, given_at, holds, more_given, update}
+use Rattle.pkjson.specs.Private.Arena.{Kept, kept_by, kept_in, kind_at, given_at, holds, more_given, update}
 use Rattle.pkjson.specs.Private.Mirrors.{Mirrors}
 
 abbrev first : {A : Type 0} → Option A → Option A → Option A
@@ -40,16 +40,16 @@ kind_snoc [] k (suc n) = refl
 kind_snoc (j ∷ ks) k zero = refl
 kind_snoc (j ∷ ks) k (suc n) = kind_snoc ks k n
 
-given_snoc : (ks : List Kept) (k : Kept) (n : ℕ) → given_at (ks ++ k ∷ []) n ≡ given_at ks n ++ cond (same (length ks) n) k.given []
-given_snoc [] k zero = refl
-given_snoc [] k (suc n) = refl
-given_snoc (j ∷ ks) k zero = sym (append-nil j.given)
-given_snoc (j ∷ ks) k (suc n) = given_snoc ks k n
+given_snoc : (ks : List Kept) (kind : Kind) (xs gs : List ℕ) (n : ℕ) → given_at ks n ≡ kept_in (kind_at ks n) gs → given_at (ks ++ record { kind = kind; given = kept_by kind xs } ∷ []) n ≡ kept_in (kind_at (ks ++ record { kind = kind; given = kept_by kind xs } ∷ []) n) (gs ++ cond (same (length ks) n) xs [])
+given_snoc [] kind xs gs zero h = ap (λ l. kept_by kind (l ++ xs)) h
+given_snoc [] kind xs gs (suc n) h = h ∙ sym (append-nil gs)
+given_snoc (j ∷ ks) kind xs gs zero h = h ∙ ap (kept_by j.kind) (sym (append-nil gs))
+given_snoc (j ∷ ks) kind xs gs (suc n) h = given_snoc ks kind xs gs n h
 
-pub mirrors_made : (ks : List Kept) (es : List Event) (i : Instruction) (xs : List ℕ) (m : ℕ) → m ≡ length ks → Mirrors ks es → Mirrors (ks ++ record { kind = kind_of i; given = xs } ∷ []) (es ++ Did i xs (Some m) ∷ [])
+pub mirrors_made : (ks : List Kept) (es : List Event) (i : Instruction) (xs : List ℕ) (m : ℕ) → m ≡ length ks → Mirrors ks es → Mirrors (ks ++ record { kind = kind_of i; given = kept_by (kind_of i) xs } ∷ []) (es ++ Did i xs (Some m) ∷ [])
 mirrors_made ks es i xs m e h = rw e (record {
   kinds = λ n. kind_snoc ks _ n ∙ ap (λ o. first o (cond (same (length ks) n) (Some (kind_of i)) None)) (h.kinds n) ∙ ap (first (kinds es n)) (sym (map_cond kind_of (same (length ks) n) i)) ∙ sym (map_first kind_of (maker n es) _) ∙ ap (option_map kind_of) (sym (maker_append n es _));
-  given = λ n. given_snoc ks _ n ∙ ap (λ l. l ++ cond (same (length ks) n) xs []) (h.given n) ∙ ap (λ l. all_given n es ++ l) (sym (append-nil _)) ∙ sym (given_append n es _);
+  given = λ n. given_snoc ks (kind_of i) xs (all_given n es) n (h.given n) ∙ ap (kept_in _) (ap (λ l. all_given n es ++ l) (sym (append-nil _)) ∙ sym (given_append n es _));
 })
 
 kind_update : (ks : List Kept) (r : ℕ) (xs : List ℕ) (n : ℕ) → kind_at (update ks r (more_given xs)) n ≡ kind_at ks n
@@ -59,12 +59,17 @@ kind_update (k ∷ ks) zero xs (suc n) = refl
 kind_update (k ∷ ks) (suc r) xs zero = refl
 kind_update (k ∷ ks) (suc r) xs (suc n) = kind_update ks r xs n
 
-given_update : (ks : List Kept) (r : ℕ) (xs : List ℕ) (n : ℕ) → r < length ks → given_at (update ks r (more_given xs)) n ≡ given_at ks n ++ cond (same r n) xs []
-given_update [] r xs n h = absurd (omega arith)
-given_update (k ∷ ks) zero xs zero h = refl
-given_update (k ∷ ks) zero xs (suc n) h = sym (append-nil _)
-given_update (k ∷ ks) (suc r) xs zero h = sym (append-nil _)
-given_update (k ∷ ks) (suc r) xs (suc n) h = given_update ks r xs n (omega arith)
+kept_more : (kind : Kind) (gs xs : List ℕ) → kept_by kind (kept_by kind gs ++ xs) ≡ kept_by kind (gs ++ xs)
+kept_more OfItems gs xs = refl
+kept_more OfPairs gs xs = refl
+kept_more (OfValue v) gs xs = refl
+
+given_update : (ks : List Kept) (r : ℕ) (xs gs : List ℕ) (n : ℕ) → r < length ks → given_at ks n ≡ kept_in (kind_at ks n) gs → given_at (update ks r (more_given xs)) n ≡ kept_in (kind_at (update ks r (more_given xs)) n) (gs ++ cond (same r n) xs [])
+given_update [] r xs gs n l h = absurd (omega arith)
+given_update (k ∷ ks) zero xs gs zero l h = ap (λ ys. kept_by k.kind (ys ++ xs)) h ∙ kept_more k.kind gs xs
+given_update (k ∷ ks) zero xs gs (suc n) l h = h ∙ ap (kept_in (kind_at ks n)) (sym (append-nil gs))
+given_update (k ∷ ks) (suc r) xs gs zero l h = h ∙ ap (kept_by k.kind) (sym (append-nil gs))
+given_update (k ∷ ks) (suc r) xs gs (suc n) l h = given_update ks r xs gs n (omega arith) h
 
 first_none : {A : Type 0} (o : Option A) → first o None ≡ o
 first_none None = refl
@@ -73,13 +78,13 @@ first_none (Some x) = refl
 pub mirrors_received : (ks : List Kept) (es : List Event) (i : Instruction) (r : ℕ) (xs : List ℕ) → r < length ks → Mirrors ks es → Mirrors (update ks r (more_given xs)) (es ++ Did i (r ∷ xs) None ∷ [])
 mirrors_received ks es i r xs l h = record {
   kinds = λ n. kind_update ks r xs n ∙ h.kinds n ∙ ap (option_map kind_of) (sym (first_none (maker n es)) ∙ sym (maker_append n es _));
-  given = λ n. given_update ks r xs n l ∙ ap (λ l. l ++ cond (same r n) xs []) (h.given n) ∙ ap (λ l. all_given n es ++ l) (sym (append-nil _)) ∙ sym (given_append n es _);
+  given = λ n. given_update ks r xs (all_given n es) n l (h.given n) ∙ ap (kept_in _) (ap (λ l. all_given n es ++ l) (sym (append-nil _)) ∙ sym (given_append n es _));
 }
 
 pub mirrors_nothing : (ks : List Kept) (es : List Event) (i : Instruction) → Mirrors ks es → Mirrors ks (es ++ Did i [] None ∷ [])
 mirrors_nothing ks es i h = record {
   kinds = λ n. h.kinds n ∙ ap (option_map kind_of) (sym (first_none (maker n es)) ∙ sym (maker_append n es _));
-  given = λ n. h.given n ∙ sym (append-nil _) ∙ sym (given_append n es _);
+  given = λ n. h.given n ∙ ap (kept_in (kind_at ks n)) (sym (append-nil _) ∙ sym (given_append n es _));
 }
 
 paired_same : (f g : ℕ → Option Kind) (xs : List ℕ) → ((n : ℕ) → f n ≡ g n) → paired f xs ≡ paired g xs
@@ -93,6 +98,12 @@ held_same f g xs (Some OfItems) h = refl
 held_same f g xs (Some OfPairs) h = ap (λ ps. Some (Pairs (standing [] ps))) (paired_same f g xs h)
 held_same f g xs (Some (OfValue v)) h = refl
 
+held_kept : (f : ℕ → Option Kind) (xs : List ℕ) (o : Option Kind) → option_map (held_by f (kept_in o xs)) o ≡ option_map (held_by f xs) o
+held_kept f xs None = refl
+held_kept f xs (Some OfItems) = refl
+held_kept f xs (Some OfPairs) = refl
+held_kept f xs (Some (OfValue v)) = refl
+
 -- what the arena holds is what the objects hold
 pub mirrors_contents : (ks : List Kept) (es : List Event) → Mirrors ks es → (n : ℕ) → holds ks n ≡ contents es n
-mirrors_contents ks es h n = held_same _ _ _ _ h.kinds ∙ ap (λ xs. option_map (held_by (kinds es) xs) (kind_at ks n)) (h.given n) ∙ ap (option_map (held_by (kinds es) (all_given n es))) (h.kinds n)
+mirrors_contents ks es h n = held_same _ _ _ _ h.kinds ∙ ap (λ xs. option_map (held_by (kinds es) xs) (kind_at ks n)) (h.given n) ∙ held_kept (kinds es) (all_given n es) (kind_at ks n) ∙ ap (option_map (held_by (kinds es) (all_given n es))) (h.kinds n)

@@ -127,9 +127,9 @@ pub all_given_below : (n : ℕ) (ks : List Kept) → GivenBelow n ks → AreGive
 all_given_below n [] h = All-nil (λ k. All (λ x. x < n) k.given)
 all_given_below n (k ∷ ks) h = All-cons (λ j. All (λ x. x < n) j.given) k ks (all_below n k.given h.0) (all_given_below n ks h.1)
 
-pub given_there : (n : ℕ) (os : List Object) (i : ℕ) (o : Object) → AreGivenBelow n (kept_all os) → i < length os → o ≡ get_or os i o → All (λ x. x < n) o.given.items
+pub given_there : (n : ℕ) (os : List Object) (i : ℕ) (o : Object) → AreGivenBelow n (kept_all os) → i < length os → o ≡ get_or os i o → All (λ x. x < n) (kept_of o).given
 given_there n [] i o h l e = absurd (omega arith)
-given_there n (p ∷ os) zero o h l e = subst (λ z. All (λ x. x < n) z.given.items) (sym e) (All-head (λ k. All (λ x. x < n) k.given) (kept_of p) (kept_all os) h)
+given_there n (p ∷ os) zero o h l e = subst (λ z. All (λ x. x < n) (kept_of z).given) (sym e) (All-head (λ k. All (λ x. x < n) k.given) (kept_of p) (kept_all os) h)
 given_there n (p ∷ os) (suc i) o h l e = given_there n os i o (All-tail (λ k. All (λ x. x < n) k.given) (kept_of p) (kept_all os) h) (omega (arith, l)) e
 
 pub kept_more : (os : List Object) (i : ℕ) (o : Object) → i < length os → o ≡ get_or os i o → kept_all (take (i + 1) os) ≡ kept_all (take i os) ++ kept_of o ∷ []

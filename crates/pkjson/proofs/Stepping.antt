@@ -21,7 +21,7 @@ use Rattle.pkjson.specs.declared.action.Filled.{Filled}
 use Rattle.pkjson.specs.declared.action.Filled.TheVariants as filled
 use Rattle.pkjson.specs.Contents.{Kind, OfItems, OfPairs, OfValue, kind_of}
 use Rattle.pkjson.specs.Plain.{goes_on, is_text}
-use Rattle.pkjson.specs.Private.Arena.{Kept, Arena, kind_at, update, more_given, is_text_kind}
+use Rattle.pkjson.specs.Private.Arena.{Kept, Arena, kept_by, kind_at, update, more_given, is_text_kind}
 use Rattle.pkjson.specs.Private.Acting.{found, found_above, made_of, filled_of, kind_made, move_of, acted, MakesSame, FillsSame, ActsAs, KindsAgree}
 use Rattle.pkjson.specs.Private.Mirrors.{Mirrors, AreBelow, EntriesBelow, CellsBelow, IsHeld, GivenBelow, MirrorsState}
 use Rattle.pkjson.proofs.Mirroring.{mirrors_made, mirrors_received}
@@ -53,9 +53,14 @@ are_append : (n : ℕ) (xs ys : List ℕ) → AreBelow n xs → AreBelow n ys �
 are_append n [] ys h g = g
 are_append n (x ∷ xs) ys h g = (h.0, are_append n xs ys h.1 g)
 
+are_kept : (n : ℕ) (kind : Kind) (xs : List ℕ) → AreBelow n xs → AreBelow n (kept_by kind xs)
+are_kept n OfItems xs h = h
+are_kept n OfPairs xs h = h
+are_kept n (OfValue v) xs h = tt
+
 given_update : (n : ℕ) (ks : List Kept) (r : ℕ) (xs : List ℕ) → GivenBelow n ks → AreBelow n xs → GivenBelow n (update ks r (more_given xs))
 given_update n [] r xs h g = tt
-given_update n (k ∷ ks) zero xs h g = (are_append n k.given xs h.0 g, h.1)
+given_update n (k ∷ ks) zero xs h g = (are_kept n k.kind (k.given ++ xs) (are_append n k.given xs h.0 g), h.1)
 given_update n (k ∷ ks) (suc r) xs h g = (h.0, given_update n ks r xs h.1 g)
 
 length_update : {A : Type 0} (xs : List A) (n : ℕ) (f : A → A) → length (update xs n f) ≡ length xs
@@ -96,14 +101,14 @@ after_filling i v s = record {
 
 making : (i : Instruction) (a : Arena) (s : State) (v : Taken ℕ) (k : Kind) (c : ObjectClass) → kind_of i ≡ k → is_text_kind (Some k) ≡ is_text (Some c) → MirrorsState a s → TakenBelow (length a.kept) v → MirrorsState (made_of k v a) (after_making i v c s)
 making i a s v k c q e h b =
-    let n : length (a.kept ++ record { kind = k; given = v.operands } ∷ []) ≡ length a.kept + 1 = length-append a.kept _ in
+    let n : length (a.kept ++ record { kind = k; given = kept_by k v.operands } ∷ []) ≡ length a.kept + 1 = length-append a.kept _ in
     record {
       shape = ap (λ z. record { entries = Item z ∷ v.below; memo = a.shape.memo }) h.numbers ∙ ap (λ z. record { entries = Item (length s.objects) ∷ v.below; memo = z.memo }) h.shape;
       held = rw n (record { entries = (omega arith, entries_more (length a.kept) v.below b.1); memo = cells_more (length a.kept) a.shape.memo h.held.memo });
-      closed = rw n (given_snoc (length a.kept + 1) a.kept _ (given_more (length a.kept) a.kept h.closed) (are_more (length a.kept) v.operands b.0));
+      closed = rw n (given_snoc (length a.kept + 1) a.kept _ (given_more (length a.kept) a.kept h.closed) (are_kept (length a.kept + 1) k v.operands (are_more (length a.kept) v.operands b.0)));
       numbers = omega (arith, n, length-append s.objects (record { class_of = c; made = true } ∷ []), h.numbers);
       texts = texts_snoc a.kept s.objects _ _ h.numbers h.texts e;
-      objects = subst (λ z. Mirrors (a.kept ++ record { kind = z; given = v.operands } ∷ []) (s.events ++ Did i v.operands (Some (length s.objects)) ∷ [])) q (mirrors_made a.kept s.events i v.operands (length s.objects) (sym h.numbers) h.objects);
+      objects = subst (λ z. Mirrors (a.kept ++ record { kind = z; given = kept_by z v.operands } ∷ []) (s.events ++ Did i v.operands (Some (length s.objects)) ∷ [])) q (mirrors_made a.kept s.events i v.operands (length s.objects) (sym h.numbers) h.objects);
     }
 
 filling : (i : Instruction) (a : Arena) (s : State) (r : ℕ) (xs : List ℕ) (es : List (Entry ℕ)) → MirrorsState a s → TakenBelow (length a.kept) (record { operands = r ∷ xs; below = es }) → MirrorsState (filled_of (record { operands = r ∷ xs; below = es }) a) (after_filling i (record { operands = r ∷ xs; below = es }) s)

@@ -1,6 +1,7 @@
 -- What an export answers.
 use Rattle.std.specs.Prelude.{◌≡◌, ◌≢◌, ℕ, ◌<◌, ◌≤◌, List, Option, Some, None}
 use Rattle.serde_json.specs.Data.{Data, depth}
+use Rattle.serde_json.specs.Written.{compact_text}
 use Rattle.pkops.specs.Limits.{Bounds, holding_all}
 use Rattle.pkops.specs.Spelling.{Instruction}
 use Rattle.pkread.specs.Rows.{Sight}
@@ -59,6 +60,10 @@ pub record IsValueOf (limits : Bounds) (bytes : List ℕ) (v : Data) : Type 0 wh
   pub unfolds : Unfolds (contents events) object v
   pub shallow : depth v ≤ limits.depth
   pub few : count v ≤ limits.values
+
+-- the text is that of such a value, with no space
+abbrev pub IsTextOf : Bounds → List ℕ → List ℕ → Type 0
+IsTextOf limits bytes text = (v : Data) × IsValueOf limits bytes v × (text ≡ compact_text v)
 
 -- the result has no value within the depth: it reaches itself, or its value is deeper
 pub record IsTooDeep (limits : Bounds) (bytes : List ℕ) : Type 0 where

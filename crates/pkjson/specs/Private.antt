@@ -14,6 +14,7 @@ pub mod Nodes
 pub mod Ranks
 pub mod Weighs
 pub mod Fits
+pub mod Writes
 pub mod Settled
 pub mod Replayed
 pub mod Result

@@ -27,15 +27,15 @@ use std::alloc::Global;
 
 /// The stack and the memo, which name objects by their numbers, and the objects.
 #[derive(Drop)]
-pub struct Arena {
+pub struct Arena<'a> {
     pub stack: Vec<Slot>,
     pub memo: Memo,
-    pub objects: Vec<Object>,
+    pub objects: Vec<Object<'a>>,
 }
 
-impl Arena {
+impl<'a> Arena<'a> {
     /// Nothing is there.
-    pub fn new(alloc: Global) -> Arena
+    pub fn new(alloc: Global) -> Arena<'a>
         ensures { seen result ≡ no_object }
     {
         Arena {
@@ -78,9 +78,9 @@ impl Arena {
     }
 
     /// Makes an object of what is taken.
-    fn make(&mut self, alloc: Global, takes: Takes, kind: Kind) -> Result<(), Halt>
+    fn make(&mut self, alloc: Global, takes: Takes, kind: Kind<'a>) -> Result<(), Halt>
         ensures ok { OnOk result (and_then (found takes (seen self.old).shape.entries)
-            (λ t. Ok (made_of (kind_seen kind) t (seen self.old))) ≡ Ok (seen self.new)) }
+            (λ t. Ok (made_of (kind_seen kind.entry) t (seen self.old))) ≡ Ok (seen self.new)) }
         ensures err { IfErr result (IsWant (found takes (seen self.old).shape.entries)) }
     {
         let Some(place) = place_of(&self.stack, takes) else {
@@ -109,7 +109,7 @@ impl Arena {
     }
 
     /// Does what a plain instruction does that isn't STOP.
-    pub fn act(&mut self, alloc: Global, action: Action, inst: &Inst<'_>) -> Result<(), Halt>
+    pub fn act(&mut self, alloc: Global, action: Action, inst: &Inst<'a>) -> Result<(), Halt>
         requires { EntriesBelow (length (seen self.old).kept) (seen self.old).shape.entries }
         ensures ok { OnOk result
             ((fault_acted action (instruction_of inst.now) (seen self.old) ≡ None)

@@ -1,14 +1,16 @@
 //! The value of a plain pickle.
 
-ghost use Rattle.std.specs.Prelude.{◌≡◌, ◌<◌, ◌≤◌, length, replicate, IfOk, IfErr, IfSome, None};
+ghost use Rattle.std.specs.Prelude.{◌≡◌, ◌<◌, ◌≤◌, length, replicate, IfOk, IfErr, OnOk};
+ghost use Rattle.std.specs.Prelude.{None};
 ghost use Rattle.serde_json.specs.View.{view};
 ghost use Rattle.pkread.specs.Rows.{sight};
-ghost use Rattle.pkjson.specs.Export.{IsValueOf, IsRefused, IsAccepted};
+ghost use Rattle.pkjson.specs.Export.{IsValueOf, IsTextOf, IsRefused, IsAccepted};
 ghost use Rattle.pkjson.specs.Private.Arena.{holds};
 ghost use Rattle.pkjson.specs.Private.Held.{seen};
 ghost use Rattle.pkjson.specs.Private.Settled.{AreGivenBelow};
 ghost use Rattle.pkjson.specs.Private.Nodes.{heap, IsClosed, AreOrdered};
-ghost use Rattle.pkjson.specs.Private.Result.{IsValue, IsTooLarge, TellsRefusal};
+ghost use Rattle.pkjson.specs.Private.Result.{HasValue, IsValue, IsText, IsTooLarge};
+ghost use Rattle.pkjson.specs.Private.Result.{TellsRefusal};
 
 use crate::arena::Arena;
 use crate::build::build;
@@ -17,6 +19,7 @@ use crate::judge::{Weight, judge};
 use crate::node::Node;
 use crate::replay::replay;
 use crate::settle::settle;
+use crate::writing::text_of;
 use pkcheck::{Policy, check};
 use pkops::Limits;
 use pkread::{Memory, Reason, Refusal};
@@ -46,10 +49,25 @@ pub fn export(alloc: Global, bytes: &[u8], limits: &Limits) -> Result<Value, Exp
     settled_value(alloc, &arena, place, limits)
 }
 
+/// The JSON text, with no space, of the value that `export` gives. It is UTF-8, and is written
+/// without that value, which takes several times the memory.
+///
+/// # Errors
+///
+/// Those of `export`.
+pub fn export_text(alloc: Global, bytes: &[u8], limits: &Limits) -> Result<Vec<u8>, ExportError>
+    ensures text { IfOk result (λ text. IsTextOf limits.now bytes.now text.items) }
+    ensures error { IfErr result (IsRefused limits.now bytes.now) }
+{
+    accept(alloc, bytes, limits)?;
+    let (arena, place) = replay(alloc, bytes, limits)?;
+    settled_text(alloc, &arena, place, limits)
+}
+
 /// The value of an object as it stands, within the limits.
 fn settled_value(
     alloc: Global,
-    arena: &Arena,
+    arena: &Arena<'_>,
     place: usize,
     limits: &Limits,
 ) -> Result<Value, ExportError>
@@ -64,6 +82,26 @@ fn settled_value(
         return Err(ExportError::OutOfMemory);
     };
     value_of(alloc, &nodes, place, deepest(limits), most(limits))
+}
+
+/// The text of the value of an object as it stands, within the limits.
+fn settled_text(
+    alloc: Global,
+    arena: &Arena<'_>,
+    place: usize,
+    limits: &Limits,
+) -> Result<Vec<u8>, ExportError>
+    requires within { place < length (seen arena.now).kept }
+    requires closed { AreGivenBelow (length (seen arena.now).kept) (seen arena.now).kept }
+    ensures ok { IfOk result (λ text. IsText
+        (holds (seen arena.now).kept) limits.now.depth limits.now.values place text.items) }
+    ensures err { IfErr result (IsTooLarge
+        (holds (seen arena.now).kept) limits.now.depth limits.now.values place) }
+{
+    let Ok(nodes) = settle(alloc, &arena.objects) else {
+        return Err(ExportError::OutOfMemory);
+    };
+    written(alloc, &nodes, place, deepest(limits), most(limits))
 }
 
 /// How deep the value may be.
@@ -120,6 +158,33 @@ fn no_weights(alloc: Global, count: usize) -> Result<Vec<Option<Weight>>, AllocE
     Ok(weights)
 }
 
+/// Whether an object has a value within the limits.
+fn judged(
+    alloc: Global,
+    nodes: &[Node<'_>],
+    place: usize,
+    deepest: u32,
+    most: u32,
+) -> Result<(), ExportError>
+    requires closed { IsClosed nodes.now }
+    requires place { place < length nodes.now }
+    requires deepest { deepest ≤ 1_000_000 }
+    requires most { most ≤ 1_000_000 }
+    ensures ok { OnOk result (HasValue (heap nodes.now) deepest most place) }
+    ensures err { IfErr result (IsTooLarge (heap nodes.now) deepest most place) }
+{
+    let Ok(mut done) = no_weights(alloc, nodes.len()) else {
+        return Err(ExportError::OutOfMemory);
+    };
+    let Some(weight) = judge(nodes, &mut done, place, deepest, most + 1) else {
+        return Err(ExportError::TooDeep);
+    };
+    if weight.count > most {
+        return Err(ExportError::TooMany);
+    }
+    Ok(())
+}
+
 /// The value of an object, within the limits.
 fn value_of(
     alloc: Global,
@@ -136,17 +201,31 @@ fn value_of(
     ensures ok { IfOk result (λ w. IsValue (heap nodes.now) deepest most place (view w)) }
     ensures err { IfErr result (IsTooLarge (heap nodes.now) deepest most place) }
 {
-    let Ok(mut done) = no_weights(alloc, nodes.len()) else {
-        return Err(ExportError::OutOfMemory);
-    };
-    let Some(weight) = judge(nodes, &mut done, place, deepest, most + 1) else {
-        return Err(ExportError::TooDeep);
-    };
-    if weight.count > most {
-        return Err(ExportError::TooMany);
-    }
+    judged(alloc, nodes, place, deepest, most)?;
     match build(alloc, nodes, place, deepest) {
         Ok(value) => Ok(value),
+        Err(_) => Err(ExportError::OutOfMemory),
+    }
+}
+
+/// The text of the value of an object, within the limits.
+fn written(
+    alloc: Global,
+    nodes: &[Node<'_>],
+    place: usize,
+    deepest: u32,
+    most: u32,
+) -> Result<Vec<u8>, ExportError>
+    requires closed { IsClosed nodes.now }
+    requires place { place < length nodes.now }
+    requires deepest { deepest ≤ 1_000_000 }
+    requires most { most ≤ 1_000_000 }
+    ensures ok { IfOk result (λ text. IsText (heap nodes.now) deepest most place text.items) }
+    ensures err { IfErr result (IsTooLarge (heap nodes.now) deepest most place) }
+{
+    judged(alloc, nodes, place, deepest, most)?;
+    match text_of(alloc, nodes, place, deepest) {
+        Ok(text) => Ok(text),
         Err(_) => Err(ExportError::OutOfMemory),
     }
 }

@@ -1,9 +1,9 @@
 //! What an object is.
 
-ghost use Rattle.std.specs.Prelude.{◌≡◌, IfOk, IfErr, true, false};
+ghost use Rattle.std.specs.Prelude.{◌≡◌, IfOk, IfErr, IfSome, true, false};
 ghost use Rattle.pkops.specs.Inst.{instruction_of};
 ghost use Rattle.pkops.specs.Spelling.{shown_arg};
-ghost use Rattle.pkjson.specs.Contents.{says_true};
+ghost use Rattle.pkjson.specs.Contents.{says_true, text_named};
 ghost use Rattle.pkjson.specs.Private.Acting.{kind_made, number_made};
 ghost use Rattle.pkjson.specs.Private.Halts.{IsNoKind};
 ghost use Rattle.pkjson.specs.Private.Kinds.{kind_seen};
@@ -11,12 +11,12 @@ ghost use Rattle.pkjson.specs.Private.Kinds.{kind_seen};
 use crate::action::Made;
 use crate::halt::Halt;
 use crate::integer::integer;
-use pkops::{Arg, Inst, text_of};
+use pkops::{Arg, Inst, Rule, text_of};
 use std::alloc::Global;
 
 /// What an object is, and the value of a scalar.
 #[derive(Drop)]
-pub enum Kind {
+pub enum Kind<'a> {
     /// A list or a tuple.
     Items,
     /// A dict.
@@ -24,11 +24,14 @@ pub enum Kind {
     Null,
     Bool(bool),
     Int(i64),
-    Text(String),
+    /// A text that the pickle has as it is.
+    Lent(&'a str),
+    /// A text that the pickle spells with escapes.
+    Decoded(String),
 }
 
 /// What an instruction makes.
-pub fn kind_of(alloc: Global, made: Made, inst: &Inst<'_>) -> Result<Kind, Halt>
+pub fn kind_of<'a>(alloc: Global, made: Made, inst: &Inst<'a>) -> Result<Kind<'a>, Halt>
     ensures fits { IfOk result (λ _. number_made made (instruction_of inst.now) ≡ true) }
     ensures kind { IfOk result (λ kind. kind_seen kind ≡ kind_made made (instruction_of inst.now)) }
     ensures err { IfErr result (IsNoKind (number_made made (instruction_of inst.now))) }
@@ -52,20 +55,36 @@ pub fn kind_of(alloc: Global, made: Made, inst: &Inst<'_>) -> Result<Kind, Halt>
 }
 
 /// A text.
-fn text(alloc: Global, inst: &Inst<'_>) -> Result<Kind, Halt>
+fn text<'a>(alloc: Global, inst: &Inst<'a>) -> Result<Kind<'a>, Halt>
     ensures kind { IfOk result (λ kind. kind_seen kind
         ≡ kind_made Made.Text (instruction_of inst.now)) }
     ensures err { IfErr result (λ halt. halt ≡ Halt.OutOfMemory) }
 {
+    if let Some(text) = lent(inst) {
+        return Ok(Kind::Lent(text));
+    }
     match text_of(alloc, inst) {
-        Ok(Some(text)) => Ok(Kind::Text(text)),
-        Ok(None) => Ok(Kind::Text(String::new(alloc))),
+        Ok(Some(text)) => Ok(Kind::Decoded(text)),
+        Ok(None) => Ok(Kind::Decoded(String::new(alloc))),
         Err(_) => Err(Halt::OutOfMemory),
     }
 }
 
+/// The payload, where it is the text itself.
+fn lent<'a>(inst: &Inst<'a>) -> Option<&'a str>
+    ensures { IfSome result (λ text. text.now ≡ text_named (instruction_of inst.now)) }
+{
+    match (Rule::of(inst.op()), inst.arg()) {
+        (Rule::Utf8, Arg::Counted(payload)) => match str::from_utf8(payload) {
+            Ok(text) => Some(text),
+            Err(_) => None,
+        },
+        _ => None,
+    }
+}
+
 /// An integer.
-fn number(inst: &Inst<'_>) -> Result<Kind, Halt>
+fn number<'a>(inst: &Inst<'a>) -> Result<Kind<'a>, Halt>
     ensures fits { IfOk result (λ _. number_made Made.Int (instruction_of inst.now) ≡ true) }
     ensures kind { IfOk result (λ kind. kind_seen kind
         ≡ kind_made Made.Int (instruction_of inst.now)) }

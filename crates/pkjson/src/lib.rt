@@ -21,6 +21,7 @@ mod settle;
 mod slots;
 mod standing;
 mod texts;
+mod writing;
 
 pub use error::ExportError;
-pub use exporting::export;
+pub use exporting::{export, export_text};

@@ -1,8 +1,9 @@
 //! The objects of a run, each with what it was given.
 
-ghost use Rattle.std.specs.Prelude.{◌≡◌, ◌≤◌, ◌<◌, ◌+◌, [], ◌∷◌, ◌++◌, length, take, drop, OnOk};
+ghost use Rattle.std.specs.Prelude.{◌≡◌, ◌≤◌, ◌<◌, ◌+◌, [], ◌∷◌, ◌++◌, length, take, drop, IfOk};
+ghost use Rattle.std.specs.Prelude.{OnOk};
 ghost use Rattle.pkcheck.specs.Shape.{Item};
-ghost use Rattle.pkjson.specs.Private.Arena.{received, more_given};
+ghost use Rattle.pkjson.specs.Private.Arena.{kept_by, received, more_given};
 ghost use Rattle.pkjson.specs.Private.Kinds.{kind_seen};
 ghost use Rattle.pkjson.specs.Private.Seen.{kept_of, kept_all, shown, numbers_of};
 
@@ -10,49 +11,83 @@ use crate::kinds::Kind;
 use crate::slots::{Slot, add_numbers, numbers};
 use std::alloc::{AllocError, Global};
 
-/// An object, with the numbers of those that it was given.
+/// An object: a list, a tuple or a dict with the numbers of those that it was given, or a scalar
+/// with its value.
 #[derive(Drop)]
-pub struct Object {
-    pub kind: Kind,
-    pub given: Vec<usize>,
+pub enum Object<'a> {
+    /// A list or a tuple.
+    Items(Vec<usize>),
+    /// A dict: keys and values in turn.
+    Pairs(Vec<usize>),
+    Null,
+    Bool(bool),
+    Int(i64),
+    /// A text that the pickle has as it is.
+    Lent(&'a str),
+    /// A text that the pickle spells with escapes.
+    Decoded(String),
+}
+
+/// An object of a kind that is given the objects among these entries.
+fn object_of<'a>(alloc: Global, kind: Kind<'a>, slots: &[Slot]) -> Result<Object<'a>, AllocError>
+    ensures { IfOk result (λ object. kept_of object ≡ record {
+      kind = kind_seen kind.entry;
+      given = kept_by (kind_seen kind.entry) (numbers_of slots.now);
+    }) }
+{
+    match kind {
+        Kind::Items => Ok(Object::Items(numbers(alloc, slots)?)),
+        Kind::Pairs => Ok(Object::Pairs(numbers(alloc, slots)?)),
+        Kind::Null => Ok(Object::Null),
+        Kind::Bool(truth) => Ok(Object::Bool(truth)),
+        Kind::Int(number) => Ok(Object::Int(number)),
+        Kind::Lent(text) => Ok(Object::Lent(text)),
+        Kind::Decoded(text) => Ok(Object::Decoded(text)),
+    }
 }
 
 /// Makes an object in the place of all entries from there on, which it is given.
 #[tactic(auto, using(crate::proofs::Entries::shown_append, crate::proofs::Entries::kept_append))]
-pub fn make(
+pub fn make<'a>(
     alloc: Global,
     stack: &mut Vec<Slot>,
-    objects: &mut Vec<Object>,
+    objects: &mut Vec<Object<'a>>,
     place: usize,
-    kind: Kind,
+    kind: Kind<'a>,
 ) -> Result<(), AllocError>
     requires { place ≤ length stack.old.items }
     ensures stack { OnOk result (shown stack.new.items []
         ≡ Item (length objects.old.items) ∷ shown (take place stack.old.items) []) }
     ensures objects { OnOk result (kept_all objects.new.items ≡ kept_all objects.old.items
-        ++ record { kind = kind_seen kind; given = numbers_of (drop place stack.old.items) } ∷ []) }
+        ++ record {
+          kind = kind_seen kind.entry;
+          given = kept_by (kind_seen kind.entry) (numbers_of (drop place stack.old.items));
+        } ∷ []) }
 {
     let number = objects.len();
-    let given = numbers(alloc, &stack[place..])?;
-    objects.push(Object { kind, given })?;
+    let object = object_of(alloc, kind, &stack[place..])?;
+    objects.push(object)?;
     stack.truncate(place);
     stack.push(Slot::Object(number))?;
     Ok(())
 }
 
 /// Gives it the objects among these entries.
-fn receive(object: &mut Object, slots: &[Slot]) -> Result<(), AllocError>
+fn receive(object: &mut Object<'_>, slots: &[Slot]) -> Result<(), AllocError>
     ensures { OnOk result
         (kept_of object.new ≡ more_given (numbers_of slots.now) (kept_of object.old)) }
 {
-    add_numbers(&mut object.given, slots)?;
-    Ok(())
+    match object {
+        Object::Items(given) => add_numbers(given, slots),
+        Object::Pairs(given) => add_numbers(given, slots),
+        _ => Ok(()),
+    }
 }
 
 /// Gives an object all that stands above it.
 pub fn fill(
     stack: &mut Vec<Slot>,
-    objects: &mut Vec<Object>,
+    objects: &mut Vec<Object<'_>>,
     place: usize,
     receiver: usize,
 ) -> Result<(), AllocError>

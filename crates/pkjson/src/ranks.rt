@@ -7,7 +7,6 @@ ghost use Rattle.pkjson.specs.Contents.{characters};
 ghost use Rattle.pkjson.specs.Private.Ranks.{AreMembers, ArePlaces, AreRanks, StandsIn};
 ghost use Rattle.pkjson.specs.Private.Seen.{kept_all};
 
-use crate::kinds::Kind;
 use crate::objects::Object;
 use crate::standing::{members, text_at};
 use std::alloc::{AllocError, Global};
@@ -20,14 +19,17 @@ const LONG: usize = 64;
 /// The texts of keys, each once, in the order of their bytes; and of each object the place of its
 /// text among them. Where no dict has a long key there are none.
 #[derive(Drop)]
-pub struct Ranks<'a> {
-    pub objects: &'a [Object],
+pub struct Ranks<'a, 'b> {
+    pub objects: &'a [Object<'b>],
     pub texts: Vec<(&'a str, usize)>,
     pub places: Vec<Option<usize>>,
 }
 
 /// The ranks of all keys of the dicts that have a long one.
-pub fn ranks_of<'a>(alloc: Global, objects: &'a [Object]) -> Result<Ranks<'a>, AllocError>
+pub fn ranks_of<'a, 'b>(
+    alloc: Global,
+    objects: &'a [Object<'b>],
+) -> Result<Ranks<'a, 'b>, AllocError>
     ensures ranks { IfOk result AreRanks }
     ensures objects { IfOk result (λ r. r.objects.now ≡ objects.now) }
 {
@@ -42,25 +44,34 @@ pub fn ranks_of<'a>(alloc: Global, objects: &'a [Object]) -> Result<Ranks<'a>, A
 }
 
 /// The keys of the dicts that have a long one, each once and with itself as its value.
-fn long_keys(alloc: Global, objects: &[Object]) -> Result<Vec<usize>, AllocError>
+fn long_keys(alloc: Global, objects: &[Object<'_>]) -> Result<Vec<usize>, AllocError>
     ensures { IfOk result (λ v. All (λ x. x < length objects.now) v.items) }
 {
     let mut marked = BTreeSet::new(alloc);
     for object in objects {
-        if has_long_key(objects, object) {
-            mark(&mut marked, &object.given)?;
+        if let Object::Pairs(given) = object {
+            mark_long(&mut marked, objects, given)?;
         }
     }
     pairs_of(alloc, &marked, objects.len())
 }
 
-/// Whether it is a dict that was given a long key.
-fn has_long_key(objects: &[Object], object: &Object) -> bool {
-    let Kind::Pairs = object.kind else {
-        return false;
-    };
+/// Marks the keys of a dict that was given these, where one of them is long.
+fn mark_long(
+    marked: &mut BTreeSet<usize>,
+    objects: &[Object<'_>],
+    given: &[usize],
+) -> Result<(), AllocError> {
+    if has_long_key(objects, given) {
+        mark(marked, given)?;
+    }
+    Ok(())
+}
+
+/// Whether a dict that was given these has a long key.
+fn has_long_key(objects: &[Object<'_>], given: &[usize]) -> bool {
     let mut is_key = true;
-    for number in &object.given {
+    for number in given {
         if is_key && text_at(objects, *number).len() > LONG {
             return true;
         }
@@ -101,7 +112,7 @@ fn pairs_of(alloc: Global, marked: &BTreeSet<usize>, count: usize) -> Result<Vec
 /// Of each object the place of its text, where there are texts.
 fn places_of(
     alloc: Global,
-    objects: &[Object],
+    objects: &[Object<'_>],
     texts: &[(&str, usize)],
 ) -> Result<Vec<Option<usize>>, AllocError>
     ensures { IfOk result (λ v. ArePlaces texts.now (kept_all objects.now) v.items) }
@@ -135,7 +146,7 @@ fn place_of(texts: &[(&str, usize)], text: &str) -> Option<usize>
     None
 }
 
-impl<'a> Ranks<'a> {
+impl<'a, 'b> Ranks<'a, 'b> {
     /// The members of a dict that was given these.
     pub fn members(
         &self,

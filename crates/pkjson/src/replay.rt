@@ -1,6 +1,6 @@
 //! Follows a pickle that `check` accepts, as far as it is plain.
 
-ghost use Rattle.std.specs.Prelude.{IfOk, IfErr};
+ghost use Rattle.std.specs.Prelude.{ℕ, IfOk, IfErr, IfSome, Some};
 ghost use Rattle.pkjson.specs.Export.{IsAccepted, IsRefused};
 ghost use Rattle.pkjson.specs.Private.Standing.{IsFront};
 ghost use Rattle.pkjson.specs.Private.Replayed.{Replays};
@@ -9,13 +9,36 @@ use crate::action::{Action, action_of};
 use crate::arena::Arena;
 use crate::error::ExportError;
 use crate::halt::Halt;
-use pkops::{Inst, Limits, Scan, scan};
+use pkops::laws::one_code;
+use pkops::{Arg, Inst, Layout, Limits, Scan, layout_of_op, op_of_byte, scan};
 use std::alloc::Global;
+
+/// The instruction at the front of the bytes, where its opcode has no argument. Most have none,
+/// and need no scan.
+#[inline]
+fn bare_at_front<'a>(bytes: &[u8]) -> Option<Inst<'a>>
+    ensures { IfSome result (λ inst. (limit : ℕ) → IsFront limit bytes.now (Some (inst, 1))) }
+{
+    one_code();
+    let [code, ..] = bytes else {
+        return None;
+    };
+    let Some(op) = op_of_byte(*code) else {
+        return None;
+    };
+    match layout_of_op(op) {
+        Layout::Nothing => Some(Inst::known(op, Arg::None)),
+        _ => None,
+    }
+}
 
 /// The instruction at the front of the bytes, and how many bytes spell it.
 fn whole_at_front<'a>(bytes: &'a [u8], limits: &Limits) -> Option<(Inst<'a>, usize)>
     ensures { IsFront limits.now.counted bytes.now result }
 {
+    if let Some(inst) = bare_at_front(bytes) {
+        return Some((inst, 1));
+    }
     match scan(bytes, limits) {
         Scan::Whole(inst, length) => Some((inst, length)),
         Scan::More => None,
@@ -25,7 +48,11 @@ fn whole_at_front<'a>(bytes: &'a [u8], limits: &Limits) -> Option<(Inst<'a>, usi
 
 /// The objects at the STOP of a pickle, and the number of its result; or what of it is first no
 /// part of plain data.
-pub fn replay(alloc: Global, bytes: &[u8], limits: &Limits) -> Result<(Arena, usize), ExportError>
+pub fn replay<'a>(
+    alloc: Global,
+    bytes: &'a [u8],
+    limits: &Limits,
+) -> Result<(Arena<'a>, usize), ExportError>
     requires { IsAccepted limits.now bytes.now }
     ensures ok { IfOk result (λ r. Replays limits.now bytes.now r.0 r.1) }
     ensures err { IfErr result (IsRefused limits.now bytes.now) }

@@ -6,20 +6,20 @@ ghost use Rattle.pkjson.specs.Contents.{characters, paired, standing};
 ghost use Rattle.pkjson.specs.Private.Nodes.{named, Ascending};
 ghost use Rattle.pkjson.specs.Private.Seen.{kept_all};
 
-use crate::kinds::Kind;
 use crate::objects::Object;
 use std::alloc::{AllocError, Global};
 use std::collections::BTreeMap;
 
 /// The characters of the text there.
-pub fn text_at<'a>(objects: &'a [Object], place: usize) -> &'a str
+pub fn text_at<'a>(objects: &'a [Object<'_>], place: usize) -> &'a str
     ensures { result.now ≡ characters (kind_at (kept_all objects.now) place) }
 {
     if place >= objects.len() {
         return "";
     }
-    match &objects[place].kind {
-        Kind::Text(text) => text.as_str(),
+    match &objects[place] {
+        Object::Lent(text) => text,
+        Object::Decoded(text) => text.as_str(),
         _ => "",
     }
 }
@@ -27,7 +27,7 @@ pub fn text_at<'a>(objects: &'a [Object], place: usize) -> &'a str
 /// The last value of each key, in the byte order of the keys.
 fn standing_pairs<'a>(
     alloc: Global,
-    objects: &'a [Object],
+    objects: &'a [Object<'_>],
     given: &[usize],
 ) -> Result<BTreeMap<&'a str, usize>, AllocError>
     requires { All (λ x. x < length objects.now) given.now }
@@ -48,7 +48,7 @@ fn standing_pairs<'a>(
 /// The members of a dict.
 pub fn members<'a>(
     alloc: Global,
-    objects: &'a [Object],
+    objects: &'a [Object<'_>],
     given: &[usize],
 ) -> Result<Vec<(&'a str, usize)>, AllocError>
     requires { All (λ x. x < length objects.now) given.now }

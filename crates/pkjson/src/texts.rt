@@ -5,22 +5,25 @@ ghost use Rattle.pkjson.specs.Private.Arena.{kind_at, is_text_kind, are_text_kin
 ghost use Rattle.pkjson.specs.Plain.{every_other};
 ghost use Rattle.pkjson.specs.Private.Seen.{kept_all, numbers_of};
 
-use crate::kinds::Kind;
 use crate::objects::Object;
 use crate::slots::Slot;
 
 /// Whether the object of a number is a text.
-fn is_text(objects: &[Object], number: usize) -> bool
+fn is_text(objects: &[Object<'_>], number: usize) -> bool
     ensures { result ≡ is_text_kind (kind_at (kept_all objects.now) number) }
 {
     if number >= objects.len() {
         return false;
     }
-    matches!(objects[number].kind, Kind::Text(_))
+    match &objects[number] {
+        Object::Lent(_) => true,
+        Object::Decoded(_) => true,
+        _ => false,
+    }
 }
 
 /// Whether the first, third, fifth object among these entries and so on are texts.
-pub fn keys_are_texts(objects: &[Object], slots: &[Slot]) -> bool
+pub fn keys_are_texts(objects: &[Object<'_>], slots: &[Slot]) -> bool
     ensures { result
         ≡ are_text_kinds (kept_all objects.now) (every_other true (numbers_of slots.now)) }
 {

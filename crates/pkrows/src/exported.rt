@@ -1,6 +1,6 @@
 //! Worked pickles and the JSON that they are, or why they are none.
 
-use pkjson::{ExportError, export};
+use pkjson::{ExportError, export, export_text};
 use pkops::{Limits, Op};
 use pkread::{Reason, Refusal};
 use std::alloc::Global;
@@ -64,6 +64,8 @@ fn values(rt: HostRuntime) -> Result<(), Fail> {
         let value = export(rt.alloc(), bytes, &Limits::STANDARD)?;
         let text = value.to_string(rt.alloc())?;
         assert_eq!(rt; text.as_str(), wanted);
+        let written = export_text(rt.alloc(), bytes, &Limits::STANDARD)?;
+        assert_eq!(rt; written.as_slice(), wanted.as_bytes());
     }
     Ok(())
 }

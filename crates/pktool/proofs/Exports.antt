@@ -3,10 +3,10 @@ use Rattle.std.proofs.Common.{ℕ, List, [], ◌∷◌, ◌++◌, Option, Some, 
 use Rattle.std.specs.Io.KnownBytes.{Appends, Consumes}
 use Rattle.pkops.specs.Limits.{Bounds}
 use Rattle.pkread.specs.Rows.{Sight, Takes}
-use Rattle.pkjson.specs.Export.{IsRefused}
+use Rattle.pkjson.specs.Export.{IsRefused, IsTextOf}
 use Rattle.pkjson.specs.declared.error.ExportError.{ExportError}
 use Rattle.pkjson.specs.declared.error.ExportError.TheVariants.{Check, NotPlain, Key, Number, TooDeep, TooMany, OutOfMemory}
-use Rattle.pktool.specs.Json.{EndsWith, IsErrorFor, IsTextFor, TakesAll}
+use Rattle.pktool.specs.Json.{EndsWith, IsErrorFor, TakesAll}
 use Rattle.pktool.specs.Private.Lists.{appends_then}
 use Rattle.pktool.specs.declared.checking.Outcome.TheVariants.{Done}
 
@@ -36,7 +36,7 @@ error_for limits old new bytes TooMany t h = (bytes, t, h)
 error_for limits old new bytes OutOfMemory t h = t.0.count
 
 -- the text and then a line end
-pub ends_done : (limits : Bounds) (old new : Sight) (a b c : Option (List ℕ)) (bytes text : List ℕ) → TakesAll old new bytes → IsTextFor limits bytes text → Appends a b text → Appends b c (10 ∷ []) → EndsWith limits old new a c Done
+pub ends_done : (limits : Bounds) (old new : Sight) (a b c : Option (List ℕ)) (bytes text : List ℕ) → TakesAll old new bytes → IsTextOf limits bytes text → Appends a b text → Appends b c (10 ∷ []) → EndsWith limits old new a c Done
 ends_done limits old new a b c bytes text t h p q = (bytes, t, h.0, h.1, rw (← h.2) (appends_then a b c text _ p q))
 
 -- a line whose name is written between two texts

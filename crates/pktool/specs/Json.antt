@@ -46,10 +46,6 @@ error_line TooDeep = codes "no: TooDeep\n"
 error_line TooMany = codes "no: TooMany\n"
 error_line OutOfMemory = codes "no: OutOfMemory\n"
 
--- the text is that of the value of the pickle at the front of the bytes
-abbrev pub IsTextFor : Bounds → List ℕ → List ℕ → Type 0
-IsTextFor limits bytes text = (v : Data) × IsValueOf limits bytes v × (text ≡ compact_text v)
-
 -- the error is that of the bytes of a source. Without memory there may not be all of them
 abbrev pub IsErrorFor : Bounds → Sight → Sight → ExportError → Type 0
 IsErrorFor limits old new OutOfMemory = new.failures ≡ old.failures

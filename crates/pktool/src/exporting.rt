@@ -1,13 +1,12 @@
 //! The data of a plain pickle as a line of JSON.
-ghost use Rattle.std.specs.Prelude.{IfErr, IfOk, string_bytes};
+ghost use Rattle.std.specs.Prelude.{IfOk};
 ghost use Rattle.pkread.specs.Rows.{sight};
-ghost use Rattle.pkjson.specs.Export.{IsRefused};
-ghost use Rattle.pktool.specs.Json.{EndsWith, IsTextFor};
+ghost use Rattle.pktool.specs.Json.{EndsWith};
 
 use crate::checking::Outcome;
 use crate::gathering::take_all;
 use crate::printing::write_export_error;
-use pkjson::{ExportError, export};
+use pkjson::{ExportError, export_text};
 use pkops::Limits;
 use pkread::Source;
 use std::alloc::Global;
@@ -38,9 +37,9 @@ pub fn json_to<R: Source, W: Write>(
         write_export_error(ExportError::OutOfMemory, out)?;
         return Ok(Outcome::Refused);
     };
-    match exported(alloc, bytes.as_slice(), limits) {
+    match export_text(alloc, bytes.as_slice(), limits) {
         Ok(text) => {
-            out.write_all(text.as_bytes())?;
+            out.write_all(text.as_slice())?;
             out.write_all(b"\n")?;
             Ok(Outcome::Done)
         }
@@ -48,21 +47,5 @@ pub fn json_to<R: Source, W: Write>(
             write_export_error(error, out)?;
             Ok(Outcome::Refused)
         }
-    }
-}
-
-/// The JSON text of the plain pickle at the front of the bytes.
-#[tactic(auto, using(crate::proofs::NoFloats::no_float))]
-fn exported(alloc: Global, bytes: &[u8], limits: &Limits) -> Result<String, ExportError>
-    ensures ok { IfOk result (λ text. IsTextFor limits.now bytes.now (string_bytes text)) }
-    ensures err { IfErr result (IsRefused limits.now bytes.now) }
-{
-    let value = match export(alloc, bytes, limits) {
-        Ok(value) => value,
-        Err(error) => return Err(error),
-    };
-    match value.to_string(alloc) {
-        Ok(text) => Ok(text),
-        Err(_) => Err(ExportError::OutOfMemory),
     }
 }

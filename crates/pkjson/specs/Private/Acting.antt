@@ -29,7 +29,7 @@ use Rattle.pkjson.specs.declared.action.Takes.TheVariants.{Objects, Slice}
 use Rattle.pkjson.specs.Integers.{integer_named, fits_word}
 use Rattle.pkjson.specs.Contents.{Kind, OfItems, OfPairs, OfValue, int_value, text_named}
 use Rattle.pkjson.specs.Plain.{Fault, OtherKey, LargeNumber, every_other, taken}
-use Rattle.pkjson.specs.Private.Arena.{Arena, received, are_text_kinds}
+use Rattle.pkjson.specs.Private.Arena.{Arena, kept_by, received, are_text_kinds}
 
 -- what is taken, whatever the rule for a slice is
 abbrev pub found : Takes → List (Entry ℕ) → Result (Taken ℕ) Breach
@@ -44,7 +44,7 @@ found_above t es = and_then (found t es) (λ t. items 1 t.below t.operands)
 abbrev pub made_of : Kind → Taken ℕ → Arena → Arena
 made_of kind t a = record {
   shape = record { entries = Item (length a.kept) ∷ t.below; memo = a.shape.memo };
-  kept = a.kept ++ record { kind = kind; given = t.operands } ∷ [];
+  kept = a.kept ++ record { kind = kind; given = kept_by kind t.operands } ∷ [];
 }
 
 -- the first of what was taken stays, and receives the others

@@ -3,9 +3,15 @@ use Rattle.std.specs.Prelude.{ℕ, zero, suc, Bool, true, false, cond, List, [],
 use Rattle.serde_json.specs.Data.{string}
 use Rattle.pkcheck.specs.Shape.{Shape}
 use Rattle.pkjson.specs.Unfolds.{Heap}
-use Rattle.pkjson.specs.Contents.{Kind, OfValue, held_by}
+use Rattle.pkjson.specs.Contents.{Kind, OfItems, OfPairs, OfValue, held_by}
 
--- an object: its kind, and what it was given so far
+-- what an object of a kind keeps of what it is given: a scalar keeps nothing
+abbrev pub kept_by : Kind → List ℕ → List ℕ
+kept_by OfItems xs = xs
+kept_by OfPairs xs = xs
+kept_by (OfValue v) xs = []
+
+-- an object: its kind, and what it keeps of what it was given so far
 pub record Kept : Type 0 where
   pub kind : Kind
   pub given : List ℕ
@@ -23,6 +29,11 @@ no_object = record { shape = record { entries = []; memo = [] }; kept = [] }
 abbrev pub kind_at : List Kept → ℕ → Option Kind
 kind_at ks n = option_map (λ k. k.kind) (slice_get ks n)
 
+-- what an object keeps, where there is one
+abbrev pub kept_in : Option Kind → List ℕ → List ℕ
+kept_in (Some kind) xs = kept_by kind xs
+kept_in None xs = xs
+
 -- what one was given
 abbrev pub given_in : Option Kept → List ℕ
 given_in (Some k) = k.given
@@ -38,7 +49,7 @@ holds ks n = option_map (held_by (kind_at ks) (given_at ks n)) (kind_at ks n)
 
 -- one is given more
 abbrev pub more_given : List ℕ → Kept → Kept
-more_given xs k = record { kind = k.kind; given = k.given ++ xs }
+more_given xs k = record { kind = k.kind; given = kept_by k.kind (k.given ++ xs) }
 
 -- the list, with f of what stands at a place
 abbrev pub update : {A : Type 0} → List A → ℕ → (A → A) → List A

@@ -3,7 +3,7 @@ use Rattle.std.specs.Prelude.{string_bytes}
 use Rattle.serde_json.specs.Data.{null, boolean, number, string}
 use Rattle.serde_json.specs.Find.{of_integer}
 use Rattle.pkjson.specs.declared.kinds.Kind.{Kind as Made}
-use Rattle.pkjson.specs.declared.kinds.Kind.TheVariants.{Items, Pairs, Null, Bool as Truth, Int, Text}
+use Rattle.pkjson.specs.declared.kinds.Kind.TheVariants.{Items, Pairs, Null, Bool as Truth, Int, Lent, Decoded}
 use Rattle.pkjson.specs.Contents.{Kind, OfItems, OfPairs, OfValue}
 
 -- the kind of an object
@@ -13,4 +13,5 @@ kind_seen Pairs = OfPairs
 kind_seen Null = OfValue null
 kind_seen (Truth b) = OfValue (boolean b)
 kind_seen (Int i) = OfValue (number (of_integer i))
-kind_seen (Text t) = OfValue (string (string_bytes t))
+kind_seen (Lent t) = OfValue (string t.now)
+kind_seen (Decoded t) = OfValue (string (string_bytes t))

@@ -4,12 +4,12 @@ use Rattle.pkcheck.specs.Shape.{Entry, Mark, Item, Shape}
 use Rattle.pkcheck.specs.Runs.{Event, State, class_at}
 use Rattle.pkjson.specs.Contents.{kinds, all_given}
 use Rattle.pkjson.specs.Plain.{is_text}
-use Rattle.pkjson.specs.Private.Arena.{Kept, Arena, kind_at, given_at, is_text_kind}
+use Rattle.pkjson.specs.Private.Arena.{Kept, Arena, kind_at, given_at, kept_in, is_text_kind}
 
--- each is of the kind, and was given what the events say
+-- each is of the kind, and keeps what it was given, as the events say
 pub record Mirrors (ks : List Kept) (es : List Event) : Type 0 where
   pub kinds : (n : ℕ) → kind_at ks n ≡ kinds es n
-  pub given : (n : ℕ) → given_at ks n ≡ all_given n es
+  pub given : (n : ℕ) → given_at ks n ≡ kept_in (kind_at ks n) (all_given n es)
 
 -- numbers below n
 abbrev pub AreBelow : ℕ → List ℕ → Type 0

@@ -1,6 +1,7 @@
 -- What an object's value is within the limits, or why there is none.
-use Rattle.std.specs.Prelude.{◌≡◌, ◌≢◌, ◌⊎◌, ℕ, ◌<◌, ◌≤◌}
+use Rattle.std.specs.Prelude.{◌≡◌, ◌≢◌, ◌⊎◌, ℕ, ◌<◌, ◌≤◌, List}
 use Rattle.serde_json.specs.Data.{Data, depth}
+use Rattle.serde_json.specs.Written.{compact_text}
 use Rattle.pkjson.specs.declared.error.ExportError.{ExportError}
 use Rattle.pkjson.specs.declared.error.ExportError.TheVariants.{Check, TooDeep, TooMany, OutOfMemory}
 use Rattle.pkread.specs.declared.refusal.Reason.{Reason}
@@ -10,6 +11,14 @@ use Rattle.pkjson.specs.Unfolds.{Heap, Unfolds, count}
 -- its value, within the limits
 abbrev pub IsValue : Heap → ℕ → ℕ → ℕ → Data → Type 0
 IsValue h deepest most x v = Unfolds h x v × (depth v ≤ deepest) × (count v ≤ most)
+
+-- it has one
+abbrev pub HasValue : Heap → ℕ → ℕ → ℕ → Type 0
+HasValue h deepest most x = (v : Data) × IsValue h deepest most x v
+
+-- the text is that of its value
+abbrev pub IsText : Heap → ℕ → ℕ → ℕ → List ℕ → Type 0
+IsText h deepest most x text = (v : Data) × IsValue h deepest most x v × (text ≡ compact_text v)
 
 -- why it has none
 abbrev pub IsTooLarge : Heap → ℕ → ℕ → ℕ → ExportError → Type 0

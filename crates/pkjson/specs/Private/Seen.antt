@@ -1,16 +1,25 @@
 -- What the fields of the arena say.
-use Rattle.std.specs.Prelude.{◌≡◌, ◌≤◌, ◌<◌, ◌+◌, ℕ, List, [], ◌∷◌, length, map, take, drop, Option, Some, None, Result, Ok}
+use Rattle.std.specs.Prelude.{◌≡◌, ◌≤◌, ◌<◌, ◌+◌, ℕ, List, [], ◌∷◌, length, map, take, drop, Option, Some, None, Result, Ok, string_bytes}
 use Rattle.pkcheck.specs.Shape.{Breach, Entry, Mark, Item, Shape, Taken}
+use Rattle.serde_json.specs.Data.{null, boolean, number, string}
+use Rattle.serde_json.specs.Find.{of_integer}
 use Rattle.pkjson.specs.declared.objects.Object.{Object}
+use Rattle.pkjson.specs.declared.objects.Object.TheVariants.{Items, Pairs, Null, Bool as Truth, Int, Lent, Decoded}
 use Rattle.pkjson.specs.declared.slots.Slot.{Slot}
 use Rattle.pkjson.specs.declared.slots.Slot.TheVariants as slot
-use Rattle.pkjson.specs.Private.Kinds.{kind_seen}
+use Rattle.pkjson.specs.Contents.{OfItems, OfPairs, OfValue}
 use Rattle.pkjson.specs.Private.Arena.{Kept}
 use Rattle.pkjson.specs.Private.Acting.{IsLacking}
 
 -- an object
 abbrev pub kept_of : Object → Kept
-kept_of o = record { kind = kind_seen o.kind; given = o.given.items }
+kept_of (Items v) = record { kind = OfItems; given = v.items }
+kept_of (Pairs v) = record { kind = OfPairs; given = v.items }
+kept_of Null = record { kind = OfValue null; given = [] }
+kept_of (Truth b) = record { kind = OfValue (boolean b); given = [] }
+kept_of (Int i) = record { kind = OfValue (number (of_integer i)); given = [] }
+kept_of (Lent t) = record { kind = OfValue (string t.now); given = [] }
+kept_of (Decoded t) = record { kind = OfValue (string (string_bytes t)); given = [] }
 
 -- all of them
 abbrev pub kept_all : List Object → List Kept

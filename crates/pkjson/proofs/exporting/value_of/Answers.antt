@@ -1,18 +1,8 @@
-use Rattle.std.proofs.Common.{refl, ◌∙◌}
-use Rattle.pkjson.proofs.Answering.{blank_trusted, all_deeper, too_many, weighs_fits, is_value}
+use Rattle.pkjson.proofs.Answering.{value_fits, value_is}
 use Rattle.pkjson.proofs.exporting.value_of.Goals as goal
 
-pub judge-requires-clause-trusted : goal.judge-requires-clause-trusted
-judge-requires-clause-trusted c = blank_trusted _ _ _ _ (c.deref_mut.ensures.value ∙ c.in-Ok.ensures)
-
-pub returns-in_default-judge-clause-err : goal.returns-in_default-judge-clause-err
-returns-in_default-judge-clause-err c = all_deeper _ _ _ c.in_default-judge.ensures.weight
-
-pub returns-then-weight-most-clause-err : goal.returns-then-weight-most-clause-err
-returns-then-weight-most-clause-err c = too_many _ _ _ _ _ _ refl c.in-Some.ensures.weight c.in-Some.ensures.bounds.depth c.if-weight-most.true
-
 pub build-requires-clause-fits : goal.build-requires-clause-fits
-build-requires-clause-fits c = weighs_fits _ _ _ _ _ c.in-Some.ensures.weight c.in-Some.ensures.bounds.depth
+build-requires-clause-fits c = value_fits _ _ _ _ c.in_ok-judged.ensures.ok
 
-pub returns-in-Ok-build-clause-ok : goal.returns-in-Ok-build-clause-ok
-returns-in-Ok-build-clause-ok c = is_value _ _ _ _ _ _ _ refl c.in-Some.ensures.weight c.in-Some.ensures.bounds.depth c.if-weight-most.false c.in-Ok-build.ensures
+pub returns-in-Ok-clause-ok : goal.returns-in-Ok-clause-ok
+returns-in-Ok-clause-ok c = value_is _ _ _ _ c.in_ok-judged.ensures.ok _ c.in-Ok.ensures

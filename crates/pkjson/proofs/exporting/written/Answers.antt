@@ -1,0 +1,8 @@
+use Rattle.pkjson.proofs.Answering.{value_fits, text_is}
+use Rattle.pkjson.proofs.exporting.written.Goals as goal
+
+pub text_of-requires-clause-fits : goal.text_of-requires-clause-fits
+text_of-requires-clause-fits c = value_fits _ _ _ _ c.in_ok-judged.ensures.ok
+
+pub returns-in-Ok-clause-ok : goal.returns-in-Ok-clause-ok
+returns-in-Ok-clause-ok c = text_is _ _ _ _ c.in_ok-judged.ensures.ok _ c.in-Ok.ensures
