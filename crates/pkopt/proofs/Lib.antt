@@ -5,9 +5,7 @@ pub mod AlikeSteps
 pub mod Slimming
 pub mod Remembering
 pub mod Following
-pub mod Scanning
 pub mod Plain
-pub mod Sizes
 pub mod Standing
 pub mod Hearing
 pub mod Keeping
@@ -15,6 +13,7 @@ pub mod Fating
 pub mod Written
 pub mod Rereading
 pub mod OneFraming
+pub mod Framed
 pub mod Optimized
 pub mod Allowing
 pub mod Sequencing

@@ -1,6 +1,7 @@
 -- What the answers of `optimize` rest on.
-use Rattle.std.proofs.Common.{◌≡◌, ℕ, suc, ◌<◌, ◌≤◌, ◌^◌, Bool, true, false, List, [], ◌∷◌, ◌++◌, length, Option, None, Result, Ok, ◌⊎◌, inl, inr, refl, sym, ap, subst, ◌∙◌, arith}
+use Rattle.std.proofs.Common.{◌≡◌, ℕ, suc, ◌<◌, ◌≤◌, ◌^◌, Bool, true, false, List, [], ◌∷◌, ◌++◌, length, Option, None, Result, Ok, ◌⊎◌, inl, inr, refl, sym, ap, subst, ◌∙◌, arith, drop, length-drop, replicate}
 use Rattle.std.proofs.lemmas.Bool.{cond_both}
+use Rattle.std.proofs.lemmas.List.{drop_at, length-replicate}
 use Rattle.std.specs.Prelude.{◌≢◌, All, slice_index_or}
 use Rattle.pkops.specs.Limits.{Bounds, holding_all}
 use Rattle.pkops.specs.Payloads.{is_passed, payload_limit}
@@ -15,7 +16,6 @@ use Rattle.pkcheck.specs.Listing.{permitted_by}
 use Rattle.pkcheck.specs.Runs.{WentOn, Raised, Stopped, Stuck, start}
 use Rattle.pkcheck.specs.Covers.{imports_of}
 use Rattle.pkcheck.specs.WholeRuns.{Ended, Reached, EndedBy, AllListed, EndsWell, run}
-use Rattle.pkopt.specs.declared.slim.Slim.{Slim}
 use Rattle.pkcheck.specs.Accepted.{Accepted}
 use Rattle.pkcheck.specs.Heard.{Heard, IsRightAndHeard}
 use Rattle.pkcheck.specs.declared.checking.Yes.{Yes}
@@ -31,7 +31,7 @@ use Rattle.pkopt.specs.Private.Tracing.{IsTraced}
 use Rattle.pkopt.specs.Answer.{in_memory, Checks, pickle, Optimizes, PassesLimit, FailsCheck, IsRefused}
 use Rattle.pkopt.specs.Private.Fates.{Aims, IsSlim, StopsSlim, IsPastAt, IsPlanFor}
 use Rattle.pkopt.specs.Private.FrameBytes.{framed_bytes}
-use Rattle.pkopt.specs.Private.Fronts.{EndsInStop, Front}
+use Rattle.pkopt.specs.Private.Fronts.{EndsInStop}
 use Rattle.pkopt.specs.Limit.{IsPastLimit}
 use Rattle.pkopt.specs.OneFrame.{has_frame, optimized}
 use Rattle.pkopt.specs.RunsAlike.{RunsAlike, SameEnd}
@@ -76,9 +76,9 @@ held_sequence limits p h = record {
   stops = h.stops;
 }
 
--- the pickle stands at the front
-pub at_front : (limits : Bounds) (bytes : List ℕ) (c : Checks limits bytes) → Front limits.counted bytes (pickle c)
-at_front limits bytes c = record { ends = sequence_ends limits.counted (pickle c) (held_sequence limits (pickle c) c.accepted.sequence); rest = c.rest; spelled = c.accepted.bytes.bytes }
+-- the pickle ends in its only STOP
+ends_of : (limits : Bounds) (bytes : List ℕ) (c : Checks limits bytes) → EndsInStop limits.counted (pickle c)
+ends_of limits bytes c = sequence_ends limits.counted (pickle c) (held_sequence limits (pickle c) c.accepted.sequence)
 
 -- the new numbers are small
 small_numbers : (p : List Instruction) (limit : ℕ) → limit < 2 ^ 32 → new_number (sources [] p) (length (after_all p [])) ≤ limit → (w : ℕ) → w < length (after_all p []) → new_number (sources [] p) w < 2 ^ 32
@@ -95,24 +95,25 @@ none_past p limit le before (i, rest, parts, more, read, number) =
     omega (arith, less, le, number)
 
 spelled_by : (b : Bool) (limits : Bounds) (bytes : List ℕ) (c : Checks limits bytes) → has_frame (pickle c) ≡ b → (out slim_out : List ℕ) → slim_out ≡ spellings (slim (pickle c)) → ((b ≡ true) × (out ≡ framed_bytes slim_out)) ⊎ ((b ≡ false) × (out ≡ slim_out)) → out ≡ spellings (optimized (pickle c))
-spelled_by b limits bytes c f out slim_out e (inl h) = h.1 ∙ ap framed_bytes e ∙ optimized_bytes limits.counted (pickle c) (at_front limits bytes c).ends (f ∙ h.0)
+spelled_by b limits bytes c f out slim_out e (inl h) = h.1 ∙ ap framed_bytes e ∙ optimized_bytes limits.counted (pickle c) (ends_of limits bytes c) (f ∙ h.0)
 spelled_by b limits bytes c f out slim_out e (inr h) = h.1 ∙ e ∙ slim_bytes (pickle c) (f ∙ h.0)
 
 -- the answer where the slim form was written
-pub optimizes : CountingIsExact → (limits : Bounds) (bytes : List ℕ) (c : Checks limits bytes) (limit : ℕ) (out : Slim) (result : List ℕ) → limit < 2 ^ 32 → length out.bytes.items < 2 ^ 64 → limit ≡ limits.memo → IsSlim (pickle c) limit out
-    → ((out.framed ≡ true) × (result ≡ framed_bytes out.bytes.items)) ⊎ ((out.framed ≡ false) × (result ≡ out.bytes.items)) → Optimizes limits bytes result
-optimizes exact limits bytes c limit out result lt short same h how =
+pub optimizes : CountingIsExact → (limits : Bounds) (bytes : List ℕ) (c : Checks limits bytes) (limit room : ℕ) (out : List ℕ) (framed : Bool) (result : List ℕ) → limit < 2 ^ 32 → length out < 2 ^ 64 → limit ≡ limits.memo → IsSlim (pickle c) limit room out → framed ≡ has_frame (pickle c)
+    → ((framed ≡ true) × (result ≡ framed_bytes (drop room out))) ⊎ ((framed ≡ false) × (result ≡ drop room out)) → Optimizes limits bytes result
+optimizes exact limits bytes c limit room out framed result lt short same h framed_so how =
     let p = pickle c in
     let small = small_numbers p limit lt h.fits in
+    let form = ap (drop room) h.spelled ∙ drop_at (replicate room 0) (spellings (slim p)) room (length-replicate room 0) in
     let smaller : AreSmall (sources [] p) (length (after_all p [])) = λ w inside. let s = small w inside in omega (arith, s) in
     let alike : RunsAlike p (optimized p) = optimized_alike p (slim_alike p smaller (λ os. free_if_well (permitted_by None) (run p os start) (c.accepted.sound os))) in
     record {
       checks = c;
-      spelled = spelled_by out.framed limits bytes c (sym h.framed_so) result out.bytes.items h.spelled how;
+      spelled = spelled_by framed limits bytes c (sym framed_so) result (drop room out) form how;
       alike = alike;
       read = all_read p smaller;
-      sequence = optimized_sequence limits.counted p small (subst (λ (l : List ℕ). length l < 2 ^ 64) h.spelled short) (at_front limits bytes c).ends;
-      framed = optimized_framed exact limits.counted p (at_front limits bytes c).ends;
+      sequence = optimized_sequence limits.counted p small (let l = ap length form in let d = length-drop room out in omega (arith, l, d, short)) (ends_of limits bytes c);
+      framed = optimized_framed exact limits.counted p (ends_of limits bytes c);
       sound = λ os. well_alike (permitted_by None) (run p os start) (run (optimized p) os start) (alike os) (c.accepted.sound os);
       fits = none_past p limits.memo (subst (λ m. new_number (sources [] p) (length (after_all p [])) ≤ m) same h.fits);
     }
@@ -142,8 +143,8 @@ is_traced limits bytes left rest answer accepted hs x y e is h first heard =
     (traced_memory limits left rest accepted hs x y (subst (λ a. IsRightAndHeard None (holding_all limits) (in_memory left) (in_memory rest) a hs) is h) first heard)
 
 -- what the second pass is given
-pub aims_at : (limits : Bounds) (bytes : List ℕ) (x : Traced) (plan : Plan) → (t : IsTraced limits bytes x) → IsPlanFor (pickle t.checks) plan → Aims limits.counted bytes x.trace.places.items x.taken plan (pickle t.checks)
-aims_at limits bytes x plan t planned = record { front = at_front limits bytes t.checks; places_so = t.tracks.places; taken_so = t.count; planned = planned }
+pub aims_at : (limits : Bounds) (bytes : List ℕ) (x : Traced) (plan : Plan) → (t : IsTraced limits bytes x) → IsPlanFor (pickle t.checks) plan → Aims bytes x.trace.places.items x.taken plan (pickle t.checks)
+aims_at limits bytes x plan t planned = record { rest = t.checks.rest; spelled = t.checks.accepted.bytes.bytes; places_so = t.tracks.places; taken_so = t.count; planned = planned }
 
 pub plan_for : (p : List Instruction) (plan : Plan) (found : List (Option ℕ)) (writes : ℕ) → plan.sources.items ≡ found → AreNumbers found writes plan.limit plan.numbers.items → found ≡ sources [] p → writes ≡ length (after_all p []) → IsPlanFor p plan
 plan_for p plan found writes same h e w = record {

@@ -1,12 +1,16 @@
 -- Instructions that stay as they are, up to the next that may not.
-use Rattle.std.proofs.Common.{◌≡◌, ℕ, zero, suc, ◌+◌, ◌<◌, Bool, true, false, cond, ◌||◌, List, [], ◌∷◌, ◌++◌, length, take, drop, get_or, Option, inl, inr, refl, sym, ap, ◌∙◌, arith, append_assoc, length-append}
-use Rattle.std.proofs.Math.Seq.{take-append_seam, drop-append_seam}
+use Rattle.std.proofs.Common.{◌≡◌, ℕ, ◌+◌, ◌-◌, ◌≤◌, Bool, true, false, cond, ◌||◌, List, [], ◌∷◌, ◌++◌, length, take, drop, Option, refl, sym, ap, ◌∙◌, arith, append_assoc, append-nil, length-append}
+use Rattle.std.proofs.lemmas.List.{drop-drop}
+use Rattle.std.specs.List.{list_any}
+use Rattle.std.proofs.Math.Seq.{take-add, take-append_seam, drop-append_seam}
 use Rattle.pkops.specs.Spelling.{Instruction, spelling}
 use Rattle.pkread.specs.Sequence.{spellings}
-use Rattle.pkopt.specs.Private.Fronts.{EndsInStop}
+use Rattle.pkopt.specs.declared.place.Place.{Place}
+use Rattle.pkopt.specs.declared.slim.Slim.{Slim}
 use Rattle.pkopt.specs.OneFrame.{has_frame}
-use Rattle.pkopt.specs.Private.Places.{is_plain, places_from}
-use Rattle.pkopt.specs.Slim.{slim_from}
+use Rattle.pkopt.specs.Private.Fates.{form_up_to}
+use Rattle.pkopt.specs.Private.Places.{is_plain, place_of, places_from}
+use Rattle.pkopt.specs.Slim.{is_frame, slim_from}
 use Rattle.pkopt.specs.Writers.{Writes, after, sources, after_all}
 use Rattle.pkopt.proofs.Plain.{plain_is}
 
@@ -35,82 +39,70 @@ slim_plain vs (i ∷ is) ws h =
     ap (λ (l : List Instruction). l ++ slim_from vs (after i ws) is) ((plain_is i h.0).stays vs ws)
     ∙ ap (λ (l : List Instruction). i ∷ l) (ap (λ (x : Writes). slim_from vs x is) ((plain_is i h.0).no_write ws) ∙ slim_plain vs is ws h.1)
 
-pub frame_plain : (q : List Instruction) → AllPlain q → has_frame q ≡ false
-frame_plain [] h = refl
-frame_plain (i ∷ is) h = ap (λ b. b || has_frame is) (plain_is i h.0).no_frame ∙ frame_plain is h.1
+framed_by : (b : Bool) (i : Instruction) (later : List Place) (is : List Instruction) (here : ℕ) → is_plain i.op ≡ b → list_any (λ (x : Place). is_frame x.op) later ≡ has_frame is
+    → list_any (λ (x : Place). is_frame x.op) (cond b later (place_of here i ∷ later)) ≡ is_frame i.op || has_frame is
+framed_by true i later is here p e = e ∙ ap (λ b. b || has_frame is) (sym (plain_is i p).no_frame)
+framed_by false i later is here p e = ap (λ b. is_frame i.op || b) e
 
-pub ends_behind : (limit : ℕ) (q : List Instruction) (i : Instruction) (is : List Instruction) → EndsInStop limit (q ++ i ∷ is) → EndsInStop limit (i ∷ is)
-ends_behind limit [] i is h = h
-ends_behind limit (x ∷ []) i is (a, inl s) = let e = s.1 in cc
-ends_behind limit (x ∷ y ∷ q) i is (a, inl s) = let e = s.1 in cc
-ends_behind limit (x ∷ q) i is (a, inr s) = ends_behind limit q i is s.1
+-- a pickle has a FRAME where one of the places is of one
+pub framed_places : (is : List Instruction) (here : ℕ) → list_any (λ (x : Place). is_frame x.op) (places_from here is) ≡ has_frame is
+framed_places [] here = refl
+framed_places (i ∷ is) here = framed_by (is_plain i.op) i (places_from (here + length (spelling i)) is) is here refl (framed_places is (here + length (spelling i)))
 
-pub ends_on : (limit : ℕ) (i : Instruction) (is : List Instruction) → is_plain i.op ≡ false → EndsInStop limit (i ∷ is) → EndsInStop limit is
-ends_on limit i is other (a, inl s) = let e : true ≡ false = sym (ap is_plain s.0) ∙ other in cc
-ends_on limit i is other (a, inr s) = s.1
-
--- the next instruction that isn't plain begins at this place
-pub record Next (from at : ℕ) (later : List ℕ) (left : List Instruction) : Type 0 where
+-- the next instruction that isn't plain stands at this place
+pub record Next (here : ℕ) (place : Place) (later : List Place) (left : List Instruction) : Type 0 where
   pub plain : List Instruction
   pub first : Instruction
   pub others : List Instruction
   pub parts : left ≡ plain ++ first ∷ others
   pub all_plain : AllPlain plain
-  pub other : is_plain first.op ≡ false
-  pub place : at ≡ from + length (spellings plain)
-  pub ahead : later ≡ places_from (at + length (spelling first)) others
+  pub stands : place ≡ place_of (here + length (spellings plain)) first
+  pub ahead : later ≡ places_from (here + length (spellings plain) + length (spelling first)) others
 
-head_of : (a b : ℕ) (later bs : List ℕ) → a ∷ later ≡ b ∷ bs → (a ≡ b) × (later ≡ bs)
+head_of : (a b : Place) (later bs : List Place) → a ∷ later ≡ b ∷ bs → (a ≡ b) × (later ≡ bs)
 head_of a b later bs e = (cc, cc)
 
-next_by : (b : Bool) (i : Instruction) (is : List Instruction) (from at : ℕ) (later : List ℕ) → is_plain i.op ≡ b
-    → at ∷ later ≡ cond b (places_from (from + length (spelling i)) is) (from ∷ places_from (from + length (spelling i)) is)
-    → (at ∷ later ≡ places_from (from + length (spelling i)) is → Next (from + length (spelling i)) at later is) → Next from at later (i ∷ is)
-next_by true i is from at later p e on =
+next_by : (b : Bool) (i : Instruction) (is : List Instruction) (here : ℕ) (place : Place) (later : List Place) → is_plain i.op ≡ b
+    → place ∷ later ≡ cond b (places_from (here + length (spelling i)) is) (place_of here i ∷ places_from (here + length (spelling i)) is)
+    → (place ∷ later ≡ places_from (here + length (spelling i)) is → Next (here + length (spelling i)) place later is) → Next here place later (i ∷ is)
+next_by true i is here place later p e on =
     let n = on e in
-    let place = n.place in
     let l = length-append (spelling i) (spellings n.plain) in
+    let at : here + length (spelling i) + length (spellings n.plain) ≡ here + length (spelling i ++ spellings n.plain) = omega (arith, l) in
     record {
       plain = i ∷ n.plain;
       first = n.first;
       others = n.others;
       parts = ap (λ (l : List Instruction). i ∷ l) n.parts;
       all_plain = (p, n.all_plain);
-      other = n.other;
-      place = omega (arith, place, l);
-      ahead = n.ahead;
+      stands = n.stands ∙ ap (λ at. place_of at n.first) at;
+      ahead = n.ahead ∙ ap (λ at. places_from (at + length (spelling n.first)) n.others) at;
     }
-next_by false i is from at later p e on =
-    let h = head_of at from later (places_from (from + length (spelling i)) is) e in
+next_by false i is here place later p e on =
+    let h = head_of place (place_of here i) later (places_from (here + length (spelling i)) is) e in
+    let at : here ≡ here + 0 = omega arith in
     record {
       plain = [];
       first = i;
       others = is;
       parts = refl;
       all_plain = tt;
-      other = p;
-      place = let q = h.0 in omega (arith, q);
-      ahead = h.1 ∙ ap (λ n. places_from (n + length (spelling i)) is) (sym h.0);
+      stands = h.0 ∙ ap (λ at. place_of at i) at;
+      ahead = h.1 ∙ ap (λ at. places_from (at + length (spelling i)) is) at;
     }
 
-pub next_place : (left : List Instruction) (from at : ℕ) (later : List ℕ) → at ∷ later ≡ places_from from left → Next from at later left
-next_place [] from at later e = cc
-next_place (i ∷ is) from at later e = next_by (is_plain i.op) i is from at later refl e (λ q. next_place is (from + length (spelling i)) at later q)
+pub next_place : (left : List Instruction) (here : ℕ) (place : Place) (later : List Place) → place ∷ later ≡ places_from here left → Next here place later left
+next_place [] here place later e = cc
+next_place (i ∷ is) here place later e = next_by (is_plain i.op) i is here place later refl e (λ q. next_place is (here + length (spelling i)) place later q)
 
 -- where there is none, all are plain
-none_by : (b : Bool) (i : Instruction) (is : List Instruction) (from n : ℕ) → is_plain i.op ≡ b → [] ≡ cond b (places_from n is) (from ∷ places_from n is) → ([] ≡ places_from n is → AllPlain is) → AllPlain (i ∷ is)
-none_by true i is from n p e on = (p, on e)
-none_by false i is from n p e on = cc
+none_by : (b : Bool) (i : Instruction) (is : List Instruction) (here n : ℕ) → is_plain i.op ≡ b → [] ≡ cond b (places_from n is) (place_of here i ∷ places_from n is) → ([] ≡ places_from n is → AllPlain is) → AllPlain (i ∷ is)
+none_by true i is here n p e on = (p, on e)
+none_by false i is here n p e on = cc
 
-pub none_ahead : (left : List Instruction) (from : ℕ) → [] ≡ places_from from left → AllPlain left
-none_ahead [] from e = tt
-none_ahead (i ∷ is) from e = none_by (is_plain i.op) i is from (from + length (spelling i)) refl e (λ q. none_ahead is (from + length (spelling i)) q)
-
-pub drop_at : (k : ℕ) (xs : List ℕ) → k < length xs → drop k xs ≡ get_or xs k 0 ∷ drop (k + 1) xs
-drop_at zero [] lt = absurd (omega (arith, lt))
-drop_at zero (x ∷ xs) lt = refl
-drop_at (suc k) [] lt = absurd (omega (arith, lt))
-drop_at (suc k) (x ∷ xs) lt = let e : suc (k + 1) ≡ suc k + 1 = omega arith in drop_at k xs (omega (arith, lt)) ∙ ap (λ n. get_or xs k 0 ∷ drop n (x ∷ xs)) e
+pub none_ahead : (left : List Instruction) (here : ℕ) → [] ≡ places_from here left → AllPlain left
+none_ahead [] here e = tt
+none_ahead (i ∷ is) here e = none_by (is_plain i.op) i is here (here + length (spelling i)) refl e (λ q. none_ahead is (here + length (spelling i)) q)
 
 -- the bytes behind the first of three parts, and those of the second
 pub behind_first : (bytes a b : List ℕ) (from : ℕ) → from ≡ length a → bytes ≡ a ++ b → drop from bytes ≡ b
@@ -118,3 +110,23 @@ behind_first bytes a b from here e = ap (λ n. drop n bytes) here ∙ ap (drop (
 
 pub second : (bytes a b c : List ℕ) (from n : ℕ) → from ≡ length a → n ≡ length b → bytes ≡ a ++ (b ++ c) → take n (drop from bytes) ≡ b
 second bytes a b c from n here size e = ap (take n) (behind_first bytes a (b ++ c) from here e) ∙ ap (λ n. take n (b ++ c)) size ∙ take-append_seam b c
+
+-- a run that goes on
+run_on : (bytes : List ℕ) (from here n : ℕ) → from ≤ here → take (here + n - from) (drop from bytes) ≡ take (here - from) (drop from bytes) ++ take n (drop here bytes)
+run_on bytes from here n le =
+    let size : here + n - from ≡ (here - from) + n = omega (arith, le) in
+    let place : from + (here - from) ≡ here = omega (arith, le) in
+    ap (λ k. take k (drop from bytes)) size ∙ take-add (here - from) n (drop from bytes)
+    ∙ ap (λ (l : List ℕ). take (here - from) (drop from bytes) ++ take n l) (drop-drop (here - from) from bytes ∙ ap (λ k. drop k bytes) place)
+
+-- the form grows by what stays as it is
+pub form_on : (bytes : List ℕ) (out : Slim) (here n : ℕ) → out.from ≤ here → form_up_to (here + n) bytes out ≡ form_up_to here bytes out ++ take n (drop here bytes)
+form_on bytes out here n le =
+    ap (λ (l : List ℕ). out.bytes.items ++ l) (run_on bytes out.from here n le)
+    ∙ sym (append_assoc out.bytes.items (take (here - out.from) (drop out.from bytes)) (take n (drop here bytes)))
+
+-- all of it is written
+pub form_written : (bytes : List ℕ) (out : Slim) (here : ℕ) → out.from ≡ here → form_up_to here bytes out ≡ out.bytes.items
+form_written bytes out here e =
+    let none : here - out.from ≡ 0 = omega (arith, e) in
+    ap (λ k. out.bytes.items ++ take k (drop out.from bytes)) none ∙ append-nil out.bytes.items

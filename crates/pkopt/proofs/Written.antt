@@ -1,8 +1,8 @@
 -- The slim form, written instruction by instruction.
-use Rattle.std.proofs.Common.{◌≡◌, ℕ, ◌+◌, ◌-◌, ◌<◌, ◌≤◌, Bool, true, false, ◌||◌, List, [], ◌∷◌, ◌++◌, length, take, drop, get_or, Option, inl, inr, refl, sym, ap, subst, ◌∙◌, arith, append_assoc, append-nil, length-append}
+use Rattle.std.proofs.Common.{◌≡◌, ℕ, ◌+◌, ◌<◌, ◌≤◌, replicate, List, [], ◌∷◌, ◌++◌, length, take, drop, get_or, Option, inl, inr, refl, sym, ap, subst, ◌∙◌, arith, append_assoc, append-nil, length-append}
 use Rattle.std.specs.Prelude.{◌≢◌}
 use Rattle.std.proofs.Math.ListN.{drop_of_length-le}
-use Rattle.pkops.specs.declared.op.Op.{Op}
+use Rattle.std.proofs.lemmas.List.{drop_more}
 use Rattle.pkops.specs.Spelling.{Instruction, spelling}
 use Rattle.pkread.specs.Sequence.{spellings}
 use Rattle.pkread.specs.declared.refusal.Reason.{Reason}
@@ -10,80 +10,75 @@ use Rattle.pkcheck.specs.Effects.{effect_of}
 use Rattle.pkopt.specs.declared.fate.Fate.{Fate}
 use Rattle.pkopt.specs.declared.fate.Fate.TheVariants.{IsPast}
 use Rattle.pkopt.specs.declared.fate.Plan.{Plan}
+use Rattle.pkopt.specs.declared.place.Place.{Place}
 use Rattle.pkopt.specs.declared.slim.Slim.{Slim}
-use Rattle.pkopt.specs.Private.Fates.{fate_by, fate_in, reads_after, writes_after, Adds, Aims, Emits, IsHalted, IsSlim, StopsSlim, refusal_at}
-use Rattle.pkopt.specs.Private.Fronts.{EndsInStop, Front}
-use Rattle.pkopt.specs.OneFrame.{has_frame}
+use Rattle.pkopt.specs.Private.Fates.{fate_by, fate_in, reads_after, writes_after, Adds, Aims, Emits, IsHalted, IsSlim, StopsSlim, form_up_to, refusal_at}
 use Rattle.pkopt.specs.Private.Passes.{memo_use}
 use Rattle.pkopt.specs.Private.Places.{places_from}
-use Rattle.pkopt.specs.Slim.{is_frame, left_of, slim_from}
+use Rattle.pkopt.specs.Slim.{left_of, slim_from}
 use Rattle.pkopt.specs.Writers.{Writes, after, sources, new_number, after_all}
 use Rattle.pkopt.specs.Private.Hearing.{after_all-more}
 use Rattle.pkopt.proofs.Fating.{At, RightFor, fate_right, at_next, on_right, past_right}
 use Rattle.pkopt.proofs.Rereading.{after_all-append}
-use Rattle.pkopt.proofs.Standing.{AllPlain, Next, after_plain, behind_first, drop_at, ends_behind, ends_on, frame_plain, next_place, none_ahead, second, slim_plain, sources_plain, spellings-append}
-
-or_none : (b : Bool) → b || false ≡ b
-or_none b = elim b as (λ b. b || false ≡ b) [ true ↦ refl | false ↦ refl ]
-
-or_assoc : (a b c : Bool) → (a || b) || c ≡ a || (b || c)
-or_assoc a b c = elim a as (λ a. (a || b) || c ≡ a || (b || c)) [ true ↦ refl | false ↦ refl ]
-
-has_frame-append : (is js : List Instruction) → has_frame (is ++ js) ≡ has_frame is || has_frame js
-has_frame-append [] js = refl
-has_frame-append (x ∷ is) js = ap (λ b. is_frame x.op || b) (has_frame-append is js) ∙ sym (or_assoc (is_frame x.op) (has_frame is) (has_frame js))
+use Rattle.pkopt.proofs.Standing.{AllPlain, Next, after_plain, form_on, form_written, next_place, none_ahead, second, slim_plain, sources_plain, spellings-append}
 
 slim_from-append : (vs : List (Option ℕ)) (ws : Writes) (is js : List Instruction) → slim_from vs ws (is ++ js) ≡ slim_from vs ws is ++ slim_from vs (after_all is ws) js
 slim_from-append vs ws [] js = refl
 slim_from-append vs ws (x ∷ xs) js = ap (λ (l : List Instruction). left_of vs ws (effect_of x.op) x ++ l) (slim_from-append vs (after x ws) xs js) ∙ sym (append_assoc (left_of vs ws (effect_of x.op) x) (slim_from vs (after x ws) xs) (slim_from vs (after_all xs (after x ws)) js))
 
-module _ (limit : ℕ) (bytes places : List ℕ) (taken : ℕ) (plan : Plan) (p : List Instruction) (aims : Aims limit bytes places taken plan p) where
+module _ (bytes : List ℕ) (places : List Place) (taken : ℕ) (room : ℕ) (plan : Plan) (p : List Instruction) (aims : Aims bytes places taken plan p) where
   abbrev vs : List (Option ℕ)
   vs = sources [] p
 
   abbrev total : ℕ
   total = length (after_all p [])
 
-  -- the slim form as far as it is written, where the pass stands between these
-  pub record Stood (before left : List Instruction) (from writes reads : ℕ) (framed : Bool) (written : List ℕ) : Type 0 where
+  -- the slim form up to here, where the pass stands between these
+  pub record Stood (before left : List Instruction) (at writes reads : ℕ) (form : List ℕ) : Type 0 where
     pub parts : p ≡ before ++ left
-    pub here : from ≡ length (spellings before)
+    pub here : at ≡ length (spellings before)
     pub place : At vs total plan.limit (after_all before []) left writes reads
-    pub spelled : written ≡ spellings (slim_from vs [] before)
-    pub framed_so : framed ≡ has_frame before
+    pub spelled : form ≡ replicate room 0 ++ spellings (slim_from vs [] before)
 
   -- and the places of what isn't plain among what is left
-  pub record Slimmed (from : ℕ) (ahead : List ℕ) (out : Slim) : Type 0 where
+  pub record Slimmed (ahead : List Place) (out : Slim) : Type 0 where
     pub before : List Instruction
     pub left : List Instruction
-    pub stood : Stood before left from out.writes out.reads out.framed out.bytes.items
-    pub ends : EndsInStop limit left
-    pub ahead_so : ahead ≡ places_from from left
+    pub at : ℕ
+    pub stood : Stood before left at out.writes out.reads (form_up_to at bytes out)
+    pub begun : out.from ≤ at
+    pub ahead_so : ahead ≡ places_from at left
 
-  pub slimmed_first : (out : Slim) → out.writes ≡ 0 → out.reads ≡ 0 → out.framed ≡ false → out.bytes.items ≡ [] → Slimmed 0 places out
-  slimmed_first out writes reads framed empty = record {
+  pub slimmed_first : (out : Slim) → out.writes ≡ 0 → out.reads ≡ 0 → out.from ≡ 0 → out.bytes.items ≡ replicate room 0 → Slimmed places out
+  slimmed_first out writes reads from empty = record {
     before = [];
     left = p;
+    at = 0;
     stood = record {
       parts = refl;
       here = refl;
       place = record { counted = writes; reading = ap (λ k. drop k vs) reads; bounded = omega arith; within = omega arith };
-      spelled = empty;
-      framed_so = framed;
+      spelled = form_written bytes out 0 from ∙ empty ∙ sym (append-nil (replicate room 0));
     };
-    ends = aims.front.ends;
+    begun = omega (arith, from);
     ahead_so = aims.places_so;
   }
 
-  pub slimmed_at : (k from : ℕ) (out : Slim) → k < length places → Slimmed from (drop k places) out → Slimmed from (get_or places k 0 ∷ drop (k + 1) places) out
-  slimmed_at k from out lt h = subst (λ (l : List ℕ). Slimmed from l out) (drop_at k places lt) h
+  pub slimmed_at : (k : ℕ) (d : Place) (out : Slim) → k < length places → Slimmed (drop k places) out → Slimmed (get_or places k d ∷ drop (k + 1) places) out
+  slimmed_at k d out lt h = subst (λ (l : List Place). Slimmed l out) (drop_more places k d lt) h
 
-  pub slimmed_end : (k from : ℕ) (out : Slim) → length places ≤ k → Slimmed from (drop k places) out → Slimmed from [] out
-  slimmed_end k from out le h = subst (λ (l : List ℕ). Slimmed from l out) (drop_of_length-le places le) h
+  pub slimmed_end : (k : ℕ) (out : Slim) → length places ≤ k → Slimmed (drop k places) out → Slimmed [] out
+  slimmed_end k out le h = subst (λ (l : List Place). Slimmed l out) (drop_of_length-le places le) h
 
-  -- the plain instructions are written as they are
-  stood_plain : (before q js : List Instruction) (from writes reads : ℕ) (framed : Bool) (written : List ℕ) → AllPlain q → Stood before (q ++ js) from writes reads framed written → Stood (before ++ q) js (from + length (spellings q)) writes reads framed (written ++ spellings q)
-  stood_plain before q js from writes reads framed written plain h =
+  -- the form grows by what these instructions spell
+  grown : (form more : List ℕ) (is js : List Instruction) → form ≡ replicate room 0 ++ spellings is → more ≡ spellings js → form ++ more ≡ replicate room 0 ++ spellings (is ++ js)
+  grown form more is js e f =
+      ap (λ (l : List ℕ). l ++ more) e ∙ append_assoc (replicate room 0) (spellings is) more
+      ∙ ap (λ (l : List ℕ). replicate room 0 ++ l) (ap (λ (l : List ℕ). spellings is ++ l) f ∙ sym (spellings-append is js))
+
+  -- the plain instructions stay as they are
+  stood_plain : (before q js : List Instruction) (at writes reads : ℕ) (form : List ℕ) → AllPlain q → Stood before (q ++ js) at writes reads form → Stood (before ++ q) js (at + length (spellings q)) writes reads (form ++ spellings q)
+  stood_plain before q js at writes reads form plain h =
       let ws = after_all before [] in
       let e = ap (λ (l : List ℕ). length l) (spellings-append before q) in
       let l = length-append (spellings before) (spellings q) in
@@ -98,19 +93,31 @@ module _ (limit : ℕ) (bytes places : List ℕ) (taken : ℕ) (plan : Plan) (p 
           bounded = subst (λ (x : Writes). length x ≤ total) (after_plain q js ws plain) h.place.bounded;
           within = h.place.within;
         });
-        spelled = ap (λ (l : List ℕ). l ++ spellings q) h.spelled ∙ sym (spellings-append (slim_from vs [] before) q)
-            ∙ ap spellings (sym (slim_from-append vs [] before q ∙ ap (λ (l : List Instruction). slim_from vs [] before ++ l) (slim_plain vs q ws plain)));
-        framed_so = h.framed_so ∙ sym (has_frame-append before q ∙ ap (λ b. has_frame before || b) (frame_plain q plain) ∙ or_none (has_frame before));
+        spelled = grown form (spellings q) (slim_from vs [] before) q h.spelled refl ∙ ap (λ l. replicate room 0 ++ spellings l) (sym (slim_from-append vs [] before q ∙ ap (λ (l : List Instruction). slim_from vs [] before ++ l) (slim_plain vs q ws plain)));
       }
 
-  bytes_at : (before left : List Instruction) → p ≡ before ++ left → bytes ≡ spellings before ++ (spellings left ++ aims.front.rest)
+  bytes_at : (before left : List Instruction) → p ≡ before ++ left → bytes ≡ spellings before ++ (spellings left ++ aims.rest)
   bytes_at before left parts =
-      aims.front.spelled ∙ ap (λ q. spellings q ++ aims.front.rest) parts ∙ ap (λ (l : List ℕ). l ++ aims.front.rest) (spellings-append before left)
-      ∙ append_assoc (spellings before) (spellings left) aims.front.rest
+      aims.spelled ∙ ap (λ q. spellings q ++ aims.rest) parts ∙ ap (λ (l : List ℕ). l ++ aims.rest) (spellings-append before left)
+      ∙ append_assoc (spellings before) (spellings left) aims.rest
 
-  module _ (from at : ℕ) (later : List ℕ) (out : Slim) (h : Slimmed from (at ∷ later) out) where
-    pub next : Next from at later h.left
-    next = next_place h.left from at later h.ahead_so
+  -- the bytes of instructions in the middle
+  middle : (before q js : List Instruction) (at : ℕ) → at ≡ length (spellings before) → p ≡ before ++ (q ++ js) → take (length (spellings q)) (drop at bytes) ≡ spellings q
+  middle before q js at here parts =
+      second bytes (spellings before) (spellings q) (spellings js ++ aims.rest) at (length (spellings q)) here refl
+      (bytes_at before (q ++ js) parts ∙ ap (λ (l : List ℕ). spellings before ++ (l ++ aims.rest)) (spellings-append q js)
+      ∙ ap (λ (l : List ℕ). spellings before ++ l) (append_assoc (spellings q) (spellings js) aims.rest))
+
+  -- the form grows by the plain instructions
+  form_plain : (before q js : List Instruction) (out : Slim) (at : ℕ) → AllPlain q → out.from ≤ at → Stood before (q ++ js) at out.writes out.reads (form_up_to at bytes out) → Stood (before ++ q) js (at + length (spellings q)) out.writes out.reads (form_up_to (at + length (spellings q)) bytes out)
+  form_plain before q js out at plain le h =
+      subst (λ (l : List ℕ). Stood (before ++ q) js (at + length (spellings q)) out.writes out.reads l)
+      (sym (form_on bytes out at (length (spellings q)) le ∙ ap (λ (l : List ℕ). form_up_to at bytes out ++ l) (middle before q js at h.here h.parts)))
+      (stood_plain before q js at out.writes out.reads (form_up_to at bytes out) plain h)
+
+  module _ (place : Place) (later : List Place) (out : Slim) (h : Slimmed (place ∷ later) out) where
+    next : Next h.at place later h.left
+    next = next_place h.left h.at place later h.ahead_so
 
     abbrev done : List Instruction
     done = h.before ++ next.plain
@@ -121,51 +128,38 @@ module _ (limit : ℕ) (bytes places : List ℕ) (taken : ℕ) (plan : Plan) (p 
     abbrev ws : Writes
     ws = after_all done []
 
-    there : Stood done (i ∷ next.others) at out.writes out.reads out.framed (out.bytes.items ++ spellings next.plain)
-    there = subst (λ n. Stood done (i ∷ next.others) n out.writes out.reads out.framed (out.bytes.items ++ spellings next.plain)) (sym next.place)
-        (stood_plain h.before next.plain (i ∷ next.others) from out.writes out.reads out.framed out.bytes.items next.all_plain
-        (subst (λ (l : List Instruction). Stood h.before l from out.writes out.reads out.framed out.bytes.items) next.parts h.stood))
+    stands_at : place.at ≡ h.at + length (spellings next.plain)
+    stands_at = ap (λ (x : Place). x.at) next.stands
 
-    ends_there : EndsInStop limit (i ∷ next.others)
-    ends_there = ends_behind limit next.plain i next.others (subst (EndsInStop limit) next.parts h.ends)
+    size_so : place.size ≡ length (spelling i)
+    size_so = ap (λ (x : Place). x.size) next.stands
 
-    bytes_there : bytes ≡ spellings done ++ (spelling i ++ (spellings next.others ++ aims.front.rest))
-    bytes_there = bytes_at done (i ∷ next.others) there.parts ∙ ap (λ (l : List ℕ). spellings done ++ l) (append_assoc (spelling i) (spellings next.others) aims.front.rest)
+    same : place.op ≡ i.op
+    same = ap (λ (x : Place). x.op) next.stands
 
-    -- it begins behind what is done, and within the bytes
-    pub from_at : from ≤ at
-    from_at = let e = next.place in omega (arith, e)
+    there : Stood done (i ∷ next.others) place.at out.writes out.reads (form_up_to place.at bytes out)
+    there = subst (λ n. Stood done (i ∷ next.others) n out.writes out.reads (form_up_to n bytes out)) (sym stands_at)
+        (form_plain h.before next.plain (i ∷ next.others) out h.at next.all_plain h.begun
+        (subst (λ (l : List Instruction). Stood h.before l h.at out.writes out.reads (form_up_to h.at bytes out)) next.parts h.stood))
 
-    pub within_at : at + length (spelling i) ≤ length bytes
+    -- it begins behind what is copied, and within the bytes
+    pub begun_at : out.from ≤ place.at
+    begun_at = let e = stands_at in let le = h.begun in omega (arith, e, le)
+
+    spelled_at : take place.size (drop place.at bytes) ≡ spelling i
+    spelled_at =
+        let one : spellings (i ∷ []) ≡ spelling i = append-nil (spelling i) in
+        ap (λ n. take n (drop place.at bytes)) (size_so ∙ ap (λ (l : List ℕ). length l) (sym one)) ∙ middle done (i ∷ []) next.others place.at there.here there.parts ∙ one
+
+    pub within_at : place.at + place.size ≤ length bytes
     within_at =
         let e = there.here in
-        let l = ap length bytes_there in
-        let a = length-append (spellings done) (spelling i ++ (spellings next.others ++ aims.front.rest)) in
-        let b = length-append (spelling i) (spellings next.others ++ aims.front.rest) in
-        omega (arith, e, l, a, b)
-
-    -- it stands at the front of the bytes there
-    pub front_at : Front limit (drop at bytes) (i ∷ next.others)
-    front_at = record {
-      ends = ends_there;
-      rest = aims.front.rest;
-      spelled = behind_first bytes (spellings done) (spellings (i ∷ next.others) ++ aims.front.rest) at there.here (bytes_at done (i ∷ next.others) there.parts);
-    }
-
-    -- so it is what was found there
-    pub found_at : (b : List ℕ) (o : Op) (n : ℕ) → b ≡ drop at bytes → ((j : Instruction) (js : List Instruction) → Front limit b (j ∷ js) → (o ≡ j.op) × (n ≡ length (spelling j))) → (o ≡ i.op) × (n ≡ length (spelling i))
-    found_at b o n e f = f i next.others (subst (λ (l : List ℕ). Front limit l (i ∷ next.others)) (sym e) front_at)
-
-    plain_at : take (at - from) (drop from bytes) ≡ spellings next.plain
-    plain_at =
-        let e = next.place in
-        second bytes (spellings h.before) (spellings next.plain) (spellings (i ∷ next.others) ++ aims.front.rest) from (at - from) h.stood.here (omega (arith, e))
-        (bytes_at h.before (next.plain ++ i ∷ next.others) (h.stood.parts ∙ ap (λ (l : List Instruction). h.before ++ l) next.parts)
-        ∙ ap (λ (l : List ℕ). spellings h.before ++ (l ++ aims.front.rest)) (spellings-append next.plain (i ∷ next.others))
-        ∙ ap (λ (l : List ℕ). spellings h.before ++ l) (append_assoc (spellings next.plain) (spellings (i ∷ next.others)) aims.front.rest))
-
-    spelled_at : (n : ℕ) → n ≡ length (spelling i) → take n (drop at bytes) ≡ spelling i
-    spelled_at n e = second bytes (spellings done) (spelling i) (spellings next.others ++ aims.front.rest) at n there.here e bytes_there
+        let size = size_so in
+        let l = ap length (bytes_at done (i ∷ next.others) there.parts) in
+        let a = length-append (spellings done) ((spelling i ++ spellings next.others) ++ aims.rest) in
+        let b = length-append (spelling i ++ spellings next.others) aims.rest in
+        let c = length-append (spelling i) (spellings next.others) in
+        omega (arith, e, size, l, a, b, c)
 
     abbrev fate : Fate
     fate = fate_in plan i.op out.writes out.reads
@@ -174,24 +168,26 @@ module _ (limit : ℕ) (bytes places : List ℕ) (taken : ℕ) (plan : Plan) (p 
     right = subst (λ (l : List (Option ℕ)). RightFor vs total plan.limit plan.numbers.items aims.planned.writes ws i next.others (effect_of i.op) (fate_by (memo_use i.op) l plan.numbers.items plan.limit i.op out.writes out.reads)) (sym aims.planned.reads)
         (fate_right vs total plan.limit plan.numbers.items aims.planned.writes ws i next.others out.writes out.reads there.place)
 
-    -- it isn't written
-    pub slimmed_halted : (o : Op) (r : Reason) → o ≡ i.op → IsHalted plan o out r → StopsSlim p plan.limit (refusal_at at r)
-    slimmed_halted o r same (inl e) = inr (ap (λ r. (refusal_at at r).at) e, ap (λ r. (refusal_at at r).reason) e)
-    slimmed_halted o r same (inr (e, q)) =
+    -- it isn't passed
+    pub slimmed_halted : (r : Reason) → IsHalted plan place.op out r → StopsSlim p plan.limit (refusal_at place.at r)
+    slimmed_halted r (inl e) = inr (ap (λ r. (refusal_at place.at r).at) e, ap (λ r. (refusal_at place.at r).reason) e)
+    slimmed_halted r (inr (e, q)) =
         let past = past_right vs total plan.limit plan.numbers.items aims.planned.writes ws i next.others (effect_of i.op) fate (subst (λ o. fate_in plan o out.writes out.reads ≡ IsPast) same q) right in
         inl (record {
           before = done;
           past = (i, next.others, there.parts, past.0, past.1, past.2);
-          place = ap (λ r. (refusal_at at r).at) e ∙ there.here;
-          why = ap (λ r. (refusal_at at r).reason) e;
+          place = ap (λ r. (refusal_at place.at r).at) e ∙ there.here;
+          why = ap (λ r. (refusal_at place.at r).reason) e;
         })
 
-    -- it is written
-    pub slimmed_next : (o : Op) (n : ℕ) (new : Slim) → o ≡ i.op → n ≡ length (spelling i) → Adds plan (take (at - from) (drop from bytes)) o (take n (drop at bytes)) out new → Slimmed (at + n) later new
-    slimmed_next o n new same size adds =
+    -- it is passed
+    pub slimmed_next : (new : Slim) → Adds plan bytes place out new → Slimmed later new
+    slimmed_next new adds =
         let goes = subst (λ o. fate_in plan o out.writes out.reads ≢ IsPast) same adds.goes_on in
         let written = on_right vs total plan.limit plan.numbers.items aims.planned.writes ws i next.others (effect_of i.op) fate goes right in
-        let emitted = subst (λ (l : List ℕ). Emits fate i.op (take n (drop at bytes)) (out.bytes.items ++ l) new.bytes.items) plain_at (subst (λ o. Emits (fate_in plan o out.writes out.reads) o (take n (drop at bytes)) (out.bytes.items ++ take (at - from) (drop from bytes)) new.bytes.items) same adds.bytes_now) in
+        let spelled = take place.size (drop place.at bytes) in
+        let form = form_up_to (place.at + place.size) bytes new in
+        let emitted = subst (λ o. Emits (fate_in plan o out.writes out.reads) o spelled (form_up_to place.at bytes out) form) same adds.form_now in
         let more : after_all (done ++ i ∷ []) [] ≡ after i ws = after_all-more done i [] in
         let counts = subst (λ o. new.writes ≡ writes_after (memo_use o) out.writes) same adds.writes_now in
         let reads = subst (λ o. new.reads ≡ reads_after (memo_use o) out.reads) same adds.reads_now in
@@ -200,32 +196,32 @@ module _ (limit : ℕ) (bytes places : List ℕ) (taken : ℕ) (plan : Plan) (p 
         let l = length-append (spellings done) (spelling i ++ []) in
         let k = ap (λ (l : List ℕ). length l) one in
         let here = there.here in
+        let size = size_so in
         record {
           before = done ++ i ∷ [];
           left = next.others;
+          at = place.at + place.size;
           stood = record {
             parts = there.parts ∙ sym (append_assoc done (i ∷ []) next.others);
             here = omega (arith, here, e, l, k, size);
             place = subst (λ (x : Writes). At vs total plan.limit x next.others new.writes new.reads) (sym more)
                 (subst (λ n. At vs total plan.limit (after i ws) next.others n new.reads) (sym counts) (subst (λ n. At vs total plan.limit (after i ws) next.others (writes_after (memo_use i.op) out.writes) n) (sym reads)
                 (at_next vs total plan.limit plan.numbers.items aims.planned.writes ws i next.others out.writes out.reads there.place written.1)));
-            spelled = written.0 (out.bytes.items ++ spellings next.plain) new.bytes.items (take n (drop at bytes)) (spelled_at n size) emitted
-                ∙ ap (λ (l : List ℕ). l ++ spellings (left_of vs ws (effect_of i.op) i)) there.spelled ∙ sym (spellings-append (slim_from vs [] done) (left_of vs ws (effect_of i.op) i))
-                ∙ ap spellings (ap (λ (l : List Instruction). slim_from vs [] done ++ l) (sym (append-nil (left_of vs ws (effect_of i.op) i))) ∙ sym (slim_from-append vs [] done (i ∷ [])));
-            framed_so = adds.framed_now ∙ ap (λ o. out.framed || is_frame o) same ∙ ap (λ b. b || is_frame i.op) there.framed_so
-                ∙ sym (has_frame-append done (i ∷ []) ∙ ap (λ b. has_frame done || b) (or_none (is_frame i.op)));
+            spelled = written.0 (form_up_to place.at bytes out) form spelled spelled_at emitted
+                ∙ grown (form_up_to place.at bytes out) (spellings (left_of vs ws (effect_of i.op) i)) (slim_from vs [] done) (left_of vs ws (effect_of i.op) i) there.spelled refl
+                ∙ ap (λ l. replicate room 0 ++ spellings l) (ap (λ (l : List Instruction). slim_from vs [] done ++ l) (sym (append-nil (left_of vs ws (effect_of i.op) i))) ∙ sym (slim_from-append vs [] done (i ∷ [])));
           };
-          ends = ends_on limit i next.others next.other ends_there;
-          ahead_so = next.ahead ∙ ap (λ n. places_from (at + n) next.others) (sym size);
+          begun = adds.from_now;
+          ahead_so = next.ahead ∙ ap (λ n. places_from n next.others) (sym (ap (λ n. n + place.size) stands_at ∙ ap (λ n. h.at + length (spellings next.plain) + n) size_so));
         }
 
-  -- all of it is written
-  module _ (from : ℕ) (out : Slim) (h : Slimmed from [] out) where
+  -- all of it is passed
+  module _ (out : Slim) (h : Slimmed [] out) where
     all_plain : AllPlain h.left
-    all_plain = none_ahead h.left from h.ahead_so
+    all_plain = none_ahead h.left h.at h.ahead_so
 
-    pub from_taken : from ≤ taken
-    from_taken =
+    taken_at : taken ≡ h.at + length (spellings h.left)
+    taken_at =
         let here = h.stood.here in
         let t = aims.taken_so in
         let e = ap (λ q. length (spellings q)) h.stood.parts in
@@ -233,25 +229,21 @@ module _ (limit : ℕ) (bytes places : List ℕ) (taken : ℕ) (plan : Plan) (p 
         let l = length-append (spellings h.before) (spellings h.left) in
         omega (arith, here, t, e, a, l)
 
+    pub begun_last : out.from ≤ taken
+    begun_last = let t = taken_at in let le = h.begun in omega (arith, t, le)
+
     pub within_taken : taken ≤ length bytes
     within_taken =
         let t = aims.taken_so in
-        let e = ap length aims.front.spelled in
-        let l = length-append (spellings p) aims.front.rest in
+        let e = ap length aims.spelled in
+        let l = length-append (spellings p) aims.rest in
         omega (arith, t, e, l)
 
-    pub slimmed_last : (new : Slim) → new.framed ≡ out.framed → new.bytes.items ≡ out.bytes.items ++ take (taken - from) (drop from bytes) → IsSlim p plan.limit new
-    slimmed_last new framed grown =
-        let here = h.stood.here in
-        let t = aims.taken_so in
-        let e = ap (λ q. length (spellings q)) h.stood.parts in
-        let a = ap (λ (l : List ℕ). length l) (spellings-append h.before h.left) in
-        let l = length-append (spellings h.before) (spellings h.left) in
-        let tail : take (taken - from) (drop from bytes) ≡ spellings h.left = second bytes (spellings h.before) (spellings h.left) aims.front.rest from (taken - from) here (omega (arith, here, t, e, a, l)) (bytes_at h.before h.left h.stood.parts) in
-        let s = stood_plain h.before h.left [] from out.writes out.reads out.framed out.bytes.items all_plain (subst (λ (l : List Instruction). Stood h.before l from out.writes out.reads out.framed out.bytes.items) (sym (append-nil h.left)) h.stood) in
+    pub slimmed_last : (new : List ℕ) → new ≡ form_up_to taken bytes out → IsSlim p plan.limit room new
+    slimmed_last new written =
+        let s = form_plain h.before h.left [] out h.at all_plain h.begun (subst (λ (l : List Instruction). Stood h.before l h.at out.writes out.reads (form_up_to h.at bytes out)) (sym (append-nil h.left)) h.stood) in
         let all : h.before ++ h.left ≡ p = sym h.stood.parts in
         record {
-          spelled = grown ∙ ap (λ (l : List ℕ). out.bytes.items ++ l) tail ∙ s.spelled ∙ ap (λ q. spellings (slim_from vs [] q)) all;
-          framed_so = framed ∙ s.framed_so ∙ ap has_frame all;
+          spelled = written ∙ ap (λ n. form_up_to n bytes out) taken_at ∙ s.spelled ∙ ap (λ q. replicate room 0 ++ spellings (slim_from vs [] q)) all;
           fits = subst (λ (x : Writes). new_number vs (length x) ≤ plan.limit) (ap (λ q. after_all q []) all) s.place.within;
         }

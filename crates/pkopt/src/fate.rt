@@ -24,7 +24,7 @@ pub(crate) enum Fate {
 #[derive(Drop)]
 pub(crate) struct Plan {
     /// The write that each read reads.
-    pub sources: Vec<Option<usize>>,
+    pub sources: Vec<Option<u32>>,
     /// The new number of each write that is read.
     pub numbers: Vec<Option<u32>>,
     /// The number that none may have.
@@ -43,7 +43,7 @@ fn number_of(numbers: &[Option<u32>], write: usize) -> Option<u32>
 }
 
 /// The write that a read reads, if there is one.
-fn source_of(sources: &[Option<usize>], read: usize) -> Option<usize>
+fn source_of(sources: &[Option<u32>], read: usize) -> Option<u32>
     ensures { result ≡ slice_index_or sources.now read None }
 {
     if read < sources.len() {
@@ -96,11 +96,11 @@ fn kept_fate(number: Option<u32>) -> Fate
 }
 
 /// That of a read.
-fn fetched_fate(numbers: &[Option<u32>], source: Option<usize>) -> Fate
+fn fetched_fate(numbers: &[Option<u32>], source: Option<u32>) -> Fate
     ensures { result ≡ fetched_fate numbers.now source }
 {
     match source {
-        Some(write) => kept_fate(number_of(numbers, write)),
+        Some(write) => kept_fate(number_of(numbers, write as usize)),
         None => Fate::Stays,
     }
 }

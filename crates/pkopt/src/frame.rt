@@ -1,12 +1,22 @@
 //! Puts the bytes of a pickle into one frame.
 
-ghost use Rattle.std.specs.Prelude.{◌≡◌, ◌≤◌, IfOk, length};
+ghost use Rattle.std.specs.Prelude.{◌≡◌, ◌≤◌, ◌++◌, IfOk, OnOk, cond, drop, length};
 ghost use Rattle.pkops.specs.Table.{code_of};
 ghost use Rattle.pkops.specs.declared.op.Op.TheVariants.{Frame};
-ghost use Rattle.pkopt.specs.Private.FrameBytes.{framed_bytes, head_length};
+ghost use Rattle.pkopt.specs.Private.FrameBytes.{frame_front, framed_bytes, head_length};
 
 use pkops::{Op, row};
 use std::alloc::{AllocError, Global};
+
+/// How many bytes a FRAME has.
+const ROOM: usize = 9;
+
+/// How much room is left for a FRAME, if there is to be one.
+pub(crate) fn room_for(framed: bool) -> usize
+    ensures { result ≡ cond framed 9 0 }
+{
+    if framed { ROOM } else { 0 }
+}
 
 /// How many bytes stand before the frame: the two of a PROTO that comes first.
 fn head_length(bytes: &[u8]) -> usize
@@ -26,16 +36,34 @@ fn frame_code() -> u8
     row(Op::Frame).code
 }
 
-/// The bytes of a pickle, all but a PROTO that comes first in one frame.
-pub(crate) fn in_frame(alloc: Global, bytes: &[u8]) -> Result<Vec<u8>, AllocError>
-    ensures { IfOk result (λ out. out.items ≡ framed_bytes bytes.now) }
+/// A PROTO that comes first, and the FRAME around the other bytes of a pickle.
+fn front_of(alloc: Global, bytes: &[u8]) -> Result<Vec<u8>, AllocError>
+    ensures { IfOk result (λ front. front.items ≡ frame_front bytes.now) }
 {
     let head = head_length(bytes);
     let contents = (bytes.len() - head) as u64;
-    let mut out = Vec::new(alloc);
-    out.extend_from_slice(&bytes[..head])?;
-    out.push(frame_code())?;
-    out.extend_from_slice(&contents.to_le_bytes())?;
-    out.extend_from_slice(&bytes[head..])?;
-    Ok(out)
+    let mut front = Vec::new(alloc);
+    front.extend_from_slice(&bytes[..head])?;
+    front.push(frame_code())?;
+    front.extend_from_slice(&contents.to_le_bytes())?;
+    Ok(front)
+}
+
+/// Writes bytes over as many at the front.
+fn write_over(out: &mut [u8], front: &[u8])
+    requires { length front.now ≤ length out.old }
+    ensures { out.new ≡ front.now ++ drop (length front.now) out.old }
+{
+    out[..front.len()].copy_from_slice(front);
+}
+
+/// Puts a pickle into one frame, all but a PROTO that comes first, where it stands behind room for
+/// a FRAME.
+pub(crate) fn put_in_frame(alloc: Global, out: &mut Vec<u8>) -> Result<(), AllocError>
+    requires { 9 ≤ length out.old.items }
+    ensures { OnOk result (out.new.items ≡ framed_bytes (drop 9 out.old.items)) }
+{
+    let front = front_of(alloc, &out[ROOM..])?;
+    write_over(out, &front);
+    Ok(())
 }

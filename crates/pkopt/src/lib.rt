@@ -7,6 +7,7 @@ mod frame;
 mod memo;
 mod numbers;
 mod optimizing;
+mod place;
 mod renumbering;
 mod slim;
 mod trace;

@@ -23,6 +23,7 @@ pub(crate) enum MemoUse {
 }
 
 /// How an opcode uses the memo.
+#[inline(always)]
 pub(crate) fn memo_use(op: Op) -> MemoUse
     ensures { result ≡ memo_use op }
 {
@@ -45,9 +46,9 @@ pub(crate) struct Memo {
     /// The number that was written first.
     first: usize,
     /// The last write of it, and of those behind it as long as they came in order.
-    row: Vec<usize>,
+    row: Vec<u32>,
     /// Those of the other numbers.
-    rest: BTreeMap<usize, usize>,
+    rest: BTreeMap<usize, u32>,
 }
 
 impl Memo {
@@ -73,7 +74,7 @@ impl Memo {
 
     /// The last write of a number, if there is one.
     #[inline]
-    pub(crate) fn get(&self, number: usize) -> Option<usize>
+    pub(crate) fn get(&self, number: usize) -> Option<u32>
         ensures { result ≡ remembered self.now.first self.now.row.items
             self.now.rest.entries number }
     {
@@ -89,7 +90,7 @@ impl Memo {
 
     /// Notes the last write of a number.
     #[inline]
-    pub(crate) fn note(&mut self, number: usize, write: usize) -> Result<(), AllocError>
+    pub(crate) fn note(&mut self, number: usize, write: u32) -> Result<(), AllocError>
         ensures { OnOk result (Notes number write self.old self.new) }
     {
         if self.row.is_empty() && self.rest.is_empty() {
@@ -115,7 +116,7 @@ impl Memo {
 
 /// What stands under a number there.
 #[inline(never)]
-fn found(rest: &BTreeMap<usize, usize>, number: usize) -> Option<usize>
+fn found(rest: &BTreeMap<usize, u32>, number: usize) -> Option<u32>
     ensures { result ≡ recalled number rest.now.entries }
 {
     match rest.get(&number) {
@@ -126,7 +127,7 @@ fn found(rest: &BTreeMap<usize, usize>, number: usize) -> Option<usize>
 
 /// Puts a write under a number there.
 #[inline(never)]
-fn put(rest: &mut BTreeMap<usize, usize>, number: usize, write: usize) -> Result<(), AllocError>
+fn put(rest: &mut BTreeMap<usize, u32>, number: usize, write: u32) -> Result<(), AllocError>
     ensures { OnOk result (rest.new.entries ≡ stored number write rest.old.entries) }
 {
     rest.insert(number, write)?;

@@ -8,7 +8,7 @@ use std::alloc::{AllocError, Global};
 /// Of each write, whether some read reads it.
 fn kept_among(
     alloc: Global,
-    sources: &[Option<usize>],
+    sources: &[Option<u32>],
     writes: usize,
 ) -> Result<Vec<bool>, AllocError>
     ensures { IfOk result (λ kept. AreKept sources.now writes kept.items) }
@@ -16,6 +16,7 @@ fn kept_among(
     let mut kept = vec![in alloc; false; writes]?;
     for source in sources {
         if let Some(write) = *source {
+            let write = write as usize;
             if write < kept.len() {
                 kept[write] = true;
             }
@@ -60,7 +61,7 @@ fn numbered(alloc: Global, kept: &[bool], limit: u32) -> Result<Vec<Option<u32>>
 /// Of each write that some read reads, its new number, or the limit where it is past that.
 pub(crate) fn new_numbers(
     alloc: Global,
-    sources: &[Option<usize>],
+    sources: &[Option<u32>],
     writes: usize,
     limit: u32,
 ) -> Result<Vec<Option<u32>>, AllocError>

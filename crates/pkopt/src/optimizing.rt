@@ -9,8 +9,9 @@ ghost use Rattle.pkopt.specs.Private.Tracing.{IsTraced};
 ghost use Rattle.pkopt.specs.Writers.{after_all, sources as sources_of};
 
 use crate::fate::Plan;
-use crate::frame::in_frame;
+use crate::frame::{put_in_frame, room_for};
 use crate::numbers::new_numbers;
+use crate::place::any_frame;
 use crate::slim::slim_of;
 use crate::trace::Trace;
 use pkcheck::{Policy, check, check_heard};
@@ -33,8 +34,8 @@ fn lacks_memory() -> Refusal
 /// What becomes of the memo instructions of a pickle.
 fn plan_of(
     alloc: Global,
-    sources: Vec<Option<usize>>,
-    writes: usize,
+    sources: Vec<Option<u32>>,
+    writes: u32,
     limits: &Limits,
 ) -> Result<Plan, AllocError>
     ensures plan { IfOk result (λ plan. (p : List Instruction) → sources.items ≡ sources_of [] p →
@@ -43,7 +44,7 @@ fn plan_of(
     ensures small { IfOk result (λ plan. plan.limit < 2 ^ 32) }
 {
     let limit = limits.memo() as u32;
-    let numbers = new_numbers(alloc, &sources, writes, limit)?;
+    let numbers = new_numbers(alloc, &sources, writes as usize, limit)?;
     Ok(Plan {
         sources,
         numbers,
@@ -128,28 +129,28 @@ pub fn optimized_form(alloc: Global, bytes: &[u8], limits: &Limits) -> Result<Fo
     let Traced { taken, trace } = heard_check(alloc, bytes, limits)?;
     framed();
     let Trace {
+        memo,
         sources,
         places,
         writes,
-        ..
     } = trace;
+    drop(memo);
     let Ok(plan) = plan_of(alloc, sources, writes, limits) else {
         return Err(lacks_memory());
     };
-    let slim = match slim_of(alloc, bytes, &places, taken as usize, limits, &plan) {
+    let framed = any_frame(&places);
+    let room = room_for(framed);
+    let mut slim = match slim_of(alloc, bytes, &places, taken as usize, room, &plan) {
         Ok(slim) => slim,
         Err(refusal) => return Err(refusal),
     };
-    if slim.framed {
-        let Ok(out) = in_frame(alloc, &slim.bytes) else {
-            return Err(lacks_memory());
-        };
-        return Ok(Form { taken, bytes: out });
+    if !framed {
+        return Ok(Form { taken, bytes: slim });
     }
-    Ok(Form {
-        taken,
-        bytes: slim.bytes,
-    })
+    let Ok(()) = put_in_frame(alloc, &mut slim) else {
+        return Err(lacks_memory());
+    };
+    Ok(Form { taken, bytes: slim })
 }
 
 /// The same pickle in less: without memo writes that nothing reads, with those that stay numbered

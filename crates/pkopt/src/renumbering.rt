@@ -7,38 +7,52 @@ ghost use Rattle.pkops.specs.Spelling.{Nothing, Number, instruction, line_feed, 
 ghost use Rattle.pkops.specs.Table.{code_of};
 ghost use Rattle.pkopt.specs.Slim.{renumbered};
 
-use pkops::{Op, row};
+use itoa::Buffer;
+use pkops::Op;
 use std::alloc::AllocError;
-use std::io::Write;
 
-/// The code byte of an opcode.
+/// The code byte of an opcode that names a memo entry.
+#[inline(always)]
 fn code(op: Op) -> u8
+    requires { names_memo_entry op ≡ true }
     ensures { result ≡ code_of op }
 {
-    row(op).code
+    match op {
+        Op::Put => 0x70,
+        Op::BinPut => 0x71,
+        Op::LongBinPut => 0x72,
+        Op::Get => 0x67,
+        Op::BinGet => 0x68,
+        _ => 0x6a,
+    }
 }
 
 /// Adds an opcode and the line of a number.
 fn push_line(out: &mut Vec<u8>, op: Op, number: u32) -> Result<(), AllocError>
+    requires { names_memo_entry op ≡ true }
     ensures { OnOk result (out.new.items
         ≡ out.old.items ++ code_of op ∷ (decimal number ++ line_feed ∷ [])) }
 {
+    let mut digits = Buffer::new();
     out.push(code(op))?;
-    let Ok(()) = writeln!(out, "{number}") else {
-        return Err(AllocError);
-    };
+    out.extend_from_slice(digits.format(number).as_bytes())?;
+    out.push(b'\n')?;
     Ok(())
 }
 
 /// Adds the shorter opcode and a number of one byte, or the longer and one of four.
+#[inline(always)]
 fn push_binary(out: &mut Vec<u8>, short: Op, long: Op, number: u32) -> Result<(), AllocError>
+    requires short { names_memo_entry short ≡ true }
+    requires long { names_memo_entry long ≡ true }
     ensures { OnOk result (out.new.items ≡ out.old.items ++ cond (ltb number 256)
         (spelling (instruction short (Number 1 number)))
         (spelling (instruction long (Number 4 number)))) }
 {
     if number < 256 {
-        out.push(code(short))?;
-        out.push(number as u8)?;
+        out.reserve(2)?;
+        out.push_reserved(code(short));
+        out.push_reserved(number as u8);
         return Ok(());
     }
     out.push(code(long))?;

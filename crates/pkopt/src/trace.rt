@@ -4,32 +4,13 @@ ghost use Rattle.std.specs.Prelude.{◌≡◌, ◌+◌, ◌++◌, ◌∷◌, [],
 ghost use Rattle.pkops.specs.Inst.{instruction_of};
 ghost use Rattle.pkops.specs.Operands.{memo_number};
 ghost use Rattle.pkopt.specs.Private.Memories.{Notes, remembered};
-ghost use Rattle.pkopt.specs.Private.Places.{is_plain};
 ghost use Rattle.pkopt.specs.Private.Passes.{Begins, Steps};
 
 use crate::memo::{Memo, MemoUse, memo_use};
+use crate::place::{Place, is_plain, place_of};
 use pkcheck::Listener;
-use pkops::{Inst, Op};
+use pkops::Inst;
 use std::alloc::{AllocError, Global};
-
-/// An instruction of this opcode stays as it is, wherever it stands: it doesn't use the memo and is
-/// no FRAME.
-#[inline]
-fn is_plain(op: Op) -> bool
-    ensures { result ≡ is_plain op }
-{
-    match op {
-        Op::Put => false,
-        Op::BinPut => false,
-        Op::LongBinPut => false,
-        Op::Memoize => false,
-        Op::Get => false,
-        Op::BinGet => false,
-        Op::LongBinGet => false,
-        Op::Frame => false,
-        _ => true,
-    }
-}
 
 /// The number of the memo entry that an instruction names, where it names one.
 fn number_of(inst: &Inst<'_>) -> usize
@@ -42,13 +23,13 @@ fn number_of(inst: &Inst<'_>) -> usize
 #[derive(Drop)]
 pub(crate) struct Trace {
     /// The last write of each number.
-    memo: Memo,
-    /// How many writes there were.
-    pub writes: usize,
+    pub memo: Memo,
+    /// How many writes there were. Of 2^32 writes the rest of this would take some 100 GB.
+    pub writes: u32,
     /// The write that each read reads.
-    pub sources: Vec<Option<usize>>,
-    /// Where each instruction begins that isn't plain.
-    pub places: Vec<u64>,
+    pub sources: Vec<Option<u32>>,
+    /// Where each instruction stands that isn't plain.
+    pub places: Vec<Place>,
 }
 
 impl Trace {
@@ -123,7 +104,7 @@ impl Listener for Trace {
         if is_plain(inst.op()) {
             return Ok(());
         }
-        self.places.push(at)?;
+        self.places.push(place_of(at, inst))?;
         self.follow(inst)
     }
 

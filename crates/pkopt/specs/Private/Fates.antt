@@ -1,5 +1,5 @@
 -- What becomes of each instruction in the slim form, as the second pass over a pickle finds it.
-use Rattle.std.specs.Prelude.{◌≡◌, ◌≢◌, ◌⊎◌, ℕ, ◌+◌, ◌≤◌, true, cond, nat_eq, ◌||◌, List, [], ◌++◌, length, Option, None, Some, slice_index_or}
+use Rattle.std.specs.Prelude.{◌≡◌, ◌≢◌, ◌⊎◌, ℕ, ◌+◌, ◌-◌, ◌≤◌, true, cond, nat_eq, List, [], ◌++◌, length, take, drop, replicate, Option, None, Some, slice_index_or}
 use Rattle.pkops.specs.declared.op.Op.{Op}
 use Rattle.pkops.specs.Operands.{names_memo_entry}
 use Rattle.pkops.specs.Spelling.{Nothing, Instruction, instruction, spelling}
@@ -11,11 +11,10 @@ use Rattle.pkopt.specs.declared.fate.Fate.{Fate}
 use Rattle.pkopt.specs.declared.fate.Fate.TheVariants.{Goes, Stays, Gets, IsPast}
 use Rattle.pkopt.specs.declared.fate.Plan.{Plan}
 use Rattle.pkopt.specs.declared.memo.MemoUse.{MemoUse}
+use Rattle.pkopt.specs.declared.place.Place.{Place}
 use Rattle.pkopt.specs.declared.memo.MemoUse.TheVariants.{Stores, StoresNext, Fetches, Neither}
 use Rattle.pkopt.specs.declared.slim.Slim.{Slim}
-use Rattle.pkopt.specs.Private.Fronts.{Front}
 use Rattle.pkopt.specs.Limit.{IsPastLimit}
-use Rattle.pkopt.specs.OneFrame.{has_frame}
 use Rattle.pkopt.specs.Private.Passes.{AreNumbers, memo_use}
 use Rattle.pkopt.specs.Private.Places.{places_from}
 use Rattle.pkopt.specs.Slim.{is_frame, renumbered, slim}
@@ -77,16 +76,24 @@ abbrev pub reads_after : MemoUse → ℕ → ℕ
 reads_after Fetches reads = reads + 1
 reads_after _ reads = reads
 
--- these bytes were written, and one more instruction
-pub record Adds (plan : Plan) (plain : List ℕ) (o : Op) (spelled : List ℕ) (old new : Slim) : Type 0
-  where
-    pub goes_on : fate_in plan o old.writes old.reads ≢ IsPast
-    pub writes_now : new.writes ≡ writes_after (memo_use o) old.writes
-    pub reads_now : new.reads ≡ reads_after (memo_use o) old.reads
-    pub framed_now : new.framed ≡ old.framed || is_frame o
-    pub bytes_now :
-        Emits (fate_in plan o old.writes old.reads) o spelled
-        (old.bytes.items ++ plain) new.bytes.items
+-- the slim form of a pickle up to here: what is written of it, and the bytes that stay as they are
+-- and are not yet copied
+abbrev pub form_up_to : ℕ → List ℕ → Slim → List ℕ
+form_up_to here bytes out = out.bytes.items ++ take (here - out.from) (drop out.from bytes)
+
+-- the form grew by what is left of the instruction at this place
+abbrev pub Emitted : Fate → Place → List ℕ → Slim → Slim → Type 0
+Emitted fate place bytes old new =
+    Emits fate place.op (take place.size (drop place.at bytes))
+    (form_up_to place.at bytes old) (form_up_to (place.at + place.size) bytes new)
+
+-- one more instruction was passed
+pub record Adds (plan : Plan) (bytes : List ℕ) (place : Place) (old new : Slim) : Type 0 where
+  pub goes_on : fate_in plan place.op old.writes old.reads ≢ IsPast
+  pub writes_now : new.writes ≡ writes_after (memo_use place.op) old.writes
+  pub reads_now : new.reads ≡ reads_after (memo_use place.op) old.reads
+  pub from_now : new.from ≤ place.at + place.size
+  pub form_now : Emitted (fate_in plan place.op old.writes old.reads) place bytes old new
 
 -- it was not: there was no memory, or its number would be the limit
 abbrev pub IsHalted : Plan → Op → Slim → Reason → Type 0
@@ -104,17 +111,17 @@ pub record IsPlanFor (p : List Instruction) (plan : Plan) : Type 0 where
   pub reads : plan.sources.items ≡ sources [] p
   pub writes : AreNumbers (sources [] p) (length (after_all p [])) plan.limit plan.numbers.items
 
--- what was written is the slim form
-pub record IsSlim (p : List Instruction) (limit : ℕ) (out : Slim) : Type 0 where
-  pub spelled : out.bytes.items ≡ spellings (slim p)
-  pub framed_so : out.framed ≡ has_frame p
+-- what was written, behind so much room, is the slim form
+pub record IsSlim (p : List Instruction) (limit room : ℕ) (out : List ℕ) : Type 0 where
+  pub spelled : out ≡ replicate room 0 ++ spellings (slim p)
   pub fits : new_number (sources [] p) (length (after_all p [])) ≤ limit
 
 -- what the second pass over a pickle is given: the bytes that it stands at the front of, the places
 -- of what isn't plain in it, the number of its bytes, and a plan
-pub record Aims (limit : ℕ) (bytes places : List ℕ) (taken : ℕ) (plan : Plan)
+pub record Aims (bytes : List ℕ) (places : List Place) (taken : ℕ) (plan : Plan)
     (p : List Instruction) : Type 0 where
-  pub front : Front limit bytes p
+  pub rest : List ℕ
+  pub spelled : bytes ≡ spellings p ++ rest
   pub places_so : places ≡ places_from 0 p
   pub taken_so : taken ≡ length (spellings p)
   pub planned : IsPlanFor p plan

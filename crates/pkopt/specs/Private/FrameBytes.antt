@@ -8,9 +8,15 @@ abbrev pub head_length : List ℕ → ℕ
 head_length (code ∷ protocol ∷ bytes) = cond (nat_eq code 128) 2 0
 head_length bytes = 0
 
+-- the FRAME around all but the head
+abbrev pub frame_of : List ℕ → List ℕ
+frame_of bytes = spelling (instruction Frame (Number 8 (length bytes - head_length bytes)))
+
+-- the head and the FRAME
+abbrev pub frame_front : List ℕ → List ℕ
+frame_front bytes = take (head_length bytes) bytes ++ frame_of bytes
+
 -- the bytes, all but the head in one frame
 abbrev pub framed_bytes : List ℕ → List ℕ
 framed_bytes bytes =
-    let head = head_length bytes in
-    take head bytes
-    ++ (spelling (instruction Frame (Number 8 (length bytes - head))) ++ drop head bytes)
+    take (head_length bytes) bytes ++ (frame_of bytes ++ drop (head_length bytes) bytes)

@@ -5,9 +5,10 @@ use Rattle.pkops.specs.Operands.{memo_number}
 use Rattle.pkops.specs.Spelling.{Instruction}
 use Rattle.pkcheck.specs.Effects.{effect_of}
 use Rattle.pkcheck.specs.Heard.{Heard}
+use Rattle.pkopt.specs.declared.place.Place.{Place}
 use Rattle.pkopt.specs.declared.trace.Trace.{Trace}
 use Rattle.pkopt.specs.Private.Passes.{Follows, Hears}
-use Rattle.pkopt.specs.Private.Places.{is_plain, places_told, told}
+use Rattle.pkopt.specs.Private.Places.{is_plain, place_of, places_told, told}
 use Rattle.pkopt.specs.Writers.{Writes, after, read_by, sources, after_all}
 
 pub after_all-more :
@@ -34,7 +35,7 @@ told-more [] h = refl
 told-more (x ∷ hs) h = ap (λ (l : List Instruction). x.instruction ∷ l) (told-more hs h)
 
 cond_append :
-    (b : Bool) (at : ℕ) (xs ys : List ℕ)
+    (b : Bool) (at : Place) (xs ys : List Place)
     → cond b (xs ++ ys) (at ∷ (xs ++ ys)) ≡ cond b xs (at ∷ xs) ++ ys
 cond_append true at xs ys = refl
 cond_append false at xs ys = refl
@@ -43,8 +44,10 @@ places_told-more :
     (hs ks : List Heard) → places_told (hs ++ ks) ≡ places_told hs ++ places_told ks
 places_told-more [] ks = refl
 places_told-more (h ∷ hs) ks =
-    ap (λ (l : List ℕ). cond (is_plain h.instruction.op) l (h.at ∷ l)) (places_told-more hs ks)
-    ∙ cond_append (is_plain h.instruction.op) h.at (places_told hs) (places_told ks)
+    ap (λ (l : List Place). cond (is_plain h.instruction.op) l (place_of h.at h.instruction ∷ l))
+    (places_told-more hs ks)
+    ∙ cond_append (is_plain h.instruction.op) (place_of h.at h.instruction) (places_told hs)
+    (places_told ks)
 
 pub hears_none : (x : Trace) → Hears x x []
 hears_none x = λ ws h. record {
@@ -77,7 +80,7 @@ hears_more x y z hs h f g = λ ws s.
           (sym (ap (sources ws) all ∙ sources-more (told hs) h.instruction ws));
       places_now =
           b.places_now
-          ∙ ap (λ (l : List ℕ). l ++ places_told one) a.places_now
+          ∙ ap (λ (l : List Place). l ++ places_told one) a.places_now
           ∙ append_assoc x.places.items (places_told hs) (places_told one)
-          ∙ ap (λ (l : List ℕ). x.places.items ++ l) (sym (places_told-more hs one));
+          ∙ ap (λ (l : List Place). x.places.items ++ l) (sym (places_told-more hs one));
     }

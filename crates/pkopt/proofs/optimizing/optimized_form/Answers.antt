@@ -1,7 +1,13 @@
-use Rattle.std.proofs.Common.{inl, inr, refl, sym, subst, arith, ℕ, List, ◌≡◌, ◌<◌, ◌≤◌, ◌^◌, length}
+use Rattle.std.proofs.Common.{inl, inr, sym, ap, subst, ◌∙◌, arith, cond, drop, ℕ, List, ◌≡◌, ◌<◌, ◌≤◌, ◌^◌, length}
+use Rattle.std.specs.List.{list_any}
 use Rattle.pkopt.specs.Answer.{pickle}
+use Rattle.pkopt.specs.declared.place.Place.{Place}
 use Rattle.pkopt.specs.Private.Fates.{Aims}
+use Rattle.pkopt.specs.Private.FrameBytes.{framed_bytes}
+use Rattle.pkopt.specs.Slim.{is_frame}
+use Rattle.pkopt.proofs.Framed.{room_there}
 use Rattle.pkopt.proofs.Optimized.{aims_at, optimizes, slim_refused}
+use Rattle.pkopt.proofs.Standing.{framed_places}
 use Rattle.pkopt.proofs.optimizing.optimized_form.Goals as goal
 
 short_bytes : {A : Type 0} (len cap : ℕ) (items : List A) → (len ≡ length items) × (len ≤ cap) → cap < 2 ^ 63 → length items < 2 ^ 64
@@ -12,7 +18,7 @@ slim_of-requires c =
     let x = c.in_ok-taken.field-0 in
     let t = c.in_ok-taken.ensures.ok in
     let planned = c.in-Ok.ensures.plan (pickle t.checks) t.tracks.reads t.tracks.writes in
-    let aims = subst (λ (l : List ℕ). Aims c.args.limits.now.counted c.args.bytes.now l x.taken c.in-Ok.plan (pickle t.checks)) (sym c.deref.ensures.value) (aims_at c.args.limits.now c.args.bytes.now x c.in-Ok.plan t planned) in
+    let aims = subst (λ (l : List Place). Aims c.args.bytes.now l x.taken c.in-Ok.plan (pickle t.checks)) (sym c.deref-2.ensures.value) (aims_at c.args.limits.now c.args.bytes.now x c.in-Ok.plan t planned) in
     (pickle t.checks, aims)
 
 pub returns-in-Err-clause-err : goal.returns-in-Err-clause-err
@@ -20,21 +26,37 @@ returns-in-Err-clause-err c =
     let x = c.in_ok-taken.field-0 in
     let t = c.in_ok-taken.ensures.ok in
     let planned = c.in-Ok.ensures.plan (pickle t.checks) t.tracks.reads t.tracks.writes in
-    let aims = subst (λ (l : List ℕ). Aims c.args.limits.now.counted c.args.bytes.now l x.taken c.in-Ok.plan (pickle t.checks)) (sym c.deref.ensures.value) (aims_at c.args.limits.now c.args.bytes.now x c.in-Ok.plan t planned) in
+    let aims = subst (λ (l : List Place). Aims c.args.bytes.now l x.taken c.in-Ok.plan (pickle t.checks)) (sym c.deref-2.ensures.value) (aims_at c.args.limits.now c.args.bytes.now x c.in-Ok.plan t planned) in
     slim_refused _ _ t.checks _ c.in-Err.refusal c.in-Ok.ensures.limit (c.in-Err.ensures.err (pickle t.checks) aims)
 
-pub returns-then-slim-clause-ok : goal.returns-then-slim-clause-ok
-returns-then-slim-clause-ok c =
+pub put_in_frame-requires : goal.put_in_frame-requires
+put_in_frame-requires c =
     let x = c.in_ok-taken.field-0 in
     let t = c.in_ok-taken.ensures.ok in
     let planned = c.in-Ok.ensures.plan (pickle t.checks) t.tracks.reads t.tracks.writes in
-    let aims = subst (λ (l : List ℕ). Aims c.args.limits.now.counted c.args.bytes.now l x.taken c.in-Ok.plan (pickle t.checks)) (sym c.deref.ensures.value) (aims_at c.args.limits.now c.args.bytes.now x c.in-Ok.plan t planned) in
-    optimizes c.framed.ensures _ _ t.checks c.in-Ok.plan.limit c.in-Ok-slim_of.slim _ c.in-Ok.ensures.small (short_bytes _ _ _ c.in-Ok-slim_of.slim.bytes.ok c.in-Ok-slim_of.slim.bytes.small) c.in-Ok.ensures.limit (c.in-Ok-slim_of.ensures.ok (pickle t.checks) aims) (inl (c.if-slim.true, rw c.deref-then-slim.ensures.value at c.in-Ok-in_frame.ensures))
+    let aims = subst (λ (l : List Place). Aims c.args.bytes.now l x.taken c.in-Ok.plan (pickle t.checks)) (sym c.deref-2.ensures.value) (aims_at c.args.limits.now c.args.bytes.now x c.in-Ok.plan t planned) in
+    room_there _ _ _ _ (c.in-Ok-slim_of.ensures.ok (pickle t.checks) aims) (c.room_for-room.ensures ∙ ap (λ b. cond b 9 0) c.if-not-framed.false)
+
+pub returns-then-not-framed-clause-ok : goal.returns-then-not-framed-clause-ok
+returns-then-not-framed-clause-ok c =
+    let x = c.in_ok-taken.field-0 in
+    let t = c.in_ok-taken.ensures.ok in
+    let slim = c.in-Ok-slim_of.slim in
+    let planned = c.in-Ok.ensures.plan (pickle t.checks) t.tracks.reads t.tracks.writes in
+    let aims = subst (λ (l : List Place). Aims c.args.bytes.now l x.taken c.in-Ok.plan (pickle t.checks)) (sym c.deref-2.ensures.value) (aims_at c.args.limits.now c.args.bytes.now x c.in-Ok.plan t planned) in
+    let framed_so = c.any_frame-framed.ensures ∙ ap (list_any (λ (x : Place). is_frame x.op)) (c.deref.ensures.value ∙ t.tracks.places) ∙ framed_places (pickle t.checks) 0 in
+    let room = c.room_for-room.ensures ∙ ap (λ b. cond b 9 0) c.if-not-framed.true in
+    optimizes c.framed.ensures _ _ t.checks c.in-Ok.plan.limit _ slim.items c.any_frame-framed.result slim.items c.in-Ok.ensures.small (short_bytes _ _ _ slim.ok slim.small) c.in-Ok.ensures.limit (c.in-Ok-slim_of.ensures.ok (pickle t.checks) aims) framed_so
+    (inr (c.if-not-framed.true, ap (λ n. drop n slim.items) (sym room)))
 
 pub returns-clause-ok : goal.returns-clause-ok
 returns-clause-ok c =
     let x = c.in_ok-taken.field-0 in
     let t = c.in_ok-taken.ensures.ok in
+    let slim = c.in-Ok-slim_of.slim in
     let planned = c.in-Ok.ensures.plan (pickle t.checks) t.tracks.reads t.tracks.writes in
-    let aims = subst (λ (l : List ℕ). Aims c.args.limits.now.counted c.args.bytes.now l x.taken c.in-Ok.plan (pickle t.checks)) (sym c.deref.ensures.value) (aims_at c.args.limits.now c.args.bytes.now x c.in-Ok.plan t planned) in
-    optimizes c.framed.ensures _ _ t.checks c.in-Ok.plan.limit c.in-Ok-slim_of.slim _ c.in-Ok.ensures.small (short_bytes _ _ _ c.in-Ok-slim_of.slim.bytes.ok c.in-Ok-slim_of.slim.bytes.small) c.in-Ok.ensures.limit (c.in-Ok-slim_of.ensures.ok (pickle t.checks) aims) (inr (c.if-slim.false, refl))
+    let aims = subst (λ (l : List Place). Aims c.args.bytes.now l x.taken c.in-Ok.plan (pickle t.checks)) (sym c.deref-2.ensures.value) (aims_at c.args.limits.now c.args.bytes.now x c.in-Ok.plan t planned) in
+    let framed_so = c.any_frame-framed.ensures ∙ ap (list_any (λ (x : Place). is_frame x.op)) (c.deref.ensures.value ∙ t.tracks.places) ∙ framed_places (pickle t.checks) 0 in
+    let room = c.room_for-room.ensures ∙ ap (λ b. cond b 9 0) c.if-not-framed.false in
+    optimizes c.framed.ensures _ _ t.checks c.in-Ok.plan.limit _ slim.items c.any_frame-framed.result _ c.in-Ok.ensures.small (short_bytes _ _ _ slim.ok slim.small) c.in-Ok.ensures.limit (c.in-Ok-slim_of.ensures.ok (pickle t.checks) aims) framed_so
+    (inl (c.if-not-framed.false, c.in-Ok-put_in_frame.ensures ∙ ap (λ n. framed_bytes (drop n slim.items)) (sym room)))

@@ -8,5 +8,5 @@ abbrev pub invariant-loop-place : goal.invariant-loop-place
 invariant-loop-place l = record {
   few_writes : l.slim.writes ≤ l.place-index;
   few_reads : l.slim.reads ≤ l.place-index;
-  slimmed : (p : List Instruction) → (aims : Aims l.limits.counted l.bytes l.places l.taken l.plan p) → Slimmed l.limits.counted l.bytes l.places l.taken l.plan p aims l.from (drop l.place-index l.places) l.slim;
+  slimmed : (p : List Instruction) → (aims : Aims l.bytes l.places l.taken l.plan p) → Slimmed l.bytes l.places l.taken l.room l.plan p aims (drop l.place-index l.places) l.slim;
 }
