@@ -90,3 +90,23 @@ held_lies op split bytes good spelled is_split =
 pub form_lies : (op : Op) (held : Form) (split : ℕ) (bytes : _) → held ≡ form.Spelled split bytes → IsGood (instruction op (argument_in op held)) → spelled_by op held ≡ spelling (instruction op (argument_in op held)) → split_by held ≡ split_of (argument_in op held) → (limit : ℕ) × (arg : Argument) × Lies limit op arg split bytes.now
 form_lies op held split bytes e good spelled is_split =
     held_lies op split bytes.now (subst (λ x. IsGood (instruction op (argument_in op x))) e good) (subst (λ x. spelled_by op x ≡ spelling (instruction op (argument_in op x))) e spelled) (subst (λ x. split_by x ≡ split_of (argument_in op x)) e is_split)
+
+-- the argument that lies there is good, and that of the form
+pub record IsHeld (op : Op) (held : Form) (split : ℕ) (bytes : List ℕ) : Type 0 where
+  pub limit : ℕ
+  pub arg : Argument
+  pub lies : Lies limit op arg split bytes
+  pub good : IsGood (instruction op arg)
+  pub is : argument_in op held ≡ arg
+
+pub form_held : (op : Op) (held : Form) (split : ℕ) (bytes : _) → held ≡ form.Spelled split bytes → IsGood (instruction op (argument_in op held)) → spelled_by op held ≡ spelling (instruction op (argument_in op held)) → split_by held ≡ split_of (argument_in op held) → IsHeld op held split bytes.now
+form_held op held split bytes e good spelled is_split =
+    let lies = form_lies op held split bytes e good spelled is_split in
+    let is = ap (argument_in op) e ∙ lies_behind lies.0 op lies.1 split bytes.now lies.2 in
+    record {
+      limit = lies.0;
+      arg = lies.1;
+      lies = lies.2;
+      good = subst (λ x. IsGood (instruction op x)) is good;
+      is = is;
+    }

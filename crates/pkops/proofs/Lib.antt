@@ -14,7 +14,6 @@ pub mod Fronts
 pub mod Sizes
 pub mod Counts
 pub mod Numerals
-pub mod MemoNumbers
 pub mod Floats
 pub mod OldStringsSpelled
 pub mod OldStrings
@@ -23,6 +22,7 @@ pub mod EscapesSpelled
 pub mod EscapeLoop
 pub mod EscapesRead
 pub mod Names
+pub mod EscapesPlain
 pub mod Decided
 pub mod Good
 pub mod TextNamed

@@ -1,8 +1,14 @@
 -- The tests of numerals hold exactly of the numerals.
-use Rattle.std.proofs.Common.{◌≡◌, ℕ, suc, ◌+◌, ◌-◌, ◌<◌, Bool, true, false, ◌||◌, eqb, List, [], ◌∷◌, ◌++◌, length, take, get_or, refl, sym, ap, ◌∙◌, arith, inl, inr}
+use Rattle.std.proofs.Common.{◌≡◌, ℕ, suc, ◌+◌, ◌*◌, ◌-◌, ◌^◌, ◌<◌, Bool, true, false, ◌||◌, eqb, leb, List, [], ◌∷◌, ◌++◌, length, take, get_or, refl, sym, ap, ◌∙◌, arith, inl, inr}
 use Rattle.std.specs.Prelude.{codes}
-use Rattle.std.specs.Char.{is_ascii_digit}
-use Rattle.std.proofs.lemmas.Bool.{and_parts, and_from, or_cases, eqb-true, ltb-true, lt-ltb}
+use Rattle.std.specs.Char.{digit_value, is_ascii_digit}
+use Rattle.std.specs.List.{list_all}
+use Rattle.std.specs.Str.Parse.{AllDigits, digits_value}
+use Rattle.std.proofs.lemmas.Bool.{and_parts, and_from, or_cases, eqb-true, leb-true, ltb-true, lt-ltb}
+use Rattle.std.proofs.lemmas.Int.Digits.{digits_value-lt, digits_value_more}
+use Rattle.std.proofs.lemmas.Str.{digit_value_digit}
+use Rattle.std.proofs.Math.Nat.{pow-le-pow_right}
+use Rattle.std.proofs.lemmas.Str.Parse.{digits_value-take-le}
 use Rattle.std.proofs.lemmas.List.{take_at, length-append}
 use Rattle.std.proofs.lemmas.List.Sums.{AllPass-from_list_all, list_all-from_AllPass}
 use Rattle.std.proofs.Math.Seq.{get_or-append_seam}
@@ -101,3 +107,32 @@ memo_number_is line e =
 
 pub is_memo_number_of : (line : List ℕ) → IsMemoNumber line → is_memo_number line ≡ true
 is_memo_number_of line h = and_from _ _ (is_natural_of line h.natural) (lt-ltb _ _ h.small)
+
+-- what is said by one digit more
+pub one_more : (number said i : ℕ) (ds : List ℕ) → i < length ds → number ≡ digits_value 10 (take i ds) → said ≡ number * 10 + digit_value (get_or ds i 0) → said ≡ digits_value 10 (take (i + 1) ds)
+one_more number said i ds within so_far is =
+    is ∙ ap (λ n. n * 10 + digit_value (get_or ds i 0)) so_far ∙ sym (digits_value_more 10 ds i within)
+
+-- it stays within what all digits say
+pub one_more_small : (number said i : ℕ) (ds : List ℕ) → IsMemoNumber ds → i < length ds → number ≡ digits_value 10 (take i ds) → said ≡ number * 10 + digit_value (get_or ds i 0) → said < 2 ^ 32
+one_more_small number said i ds is within so_far e =
+    let more = one_more number said i ds within so_far e in
+    let small = is.small in
+    let le = digits_value-take-le 10 ds (i + 1) (omega arith) in
+    omega arith
+
+all_digits : (ds : List ℕ) → list_all is_ascii_digit ds ≡ true → AllDigits 10 ds
+all_digits [] e = tt
+all_digits (d ∷ ds) e =
+    let p = and_parts (is_ascii_digit d) _ e in
+    let q = and_parts (leb 48 d) (leb d 57) p.0 in
+    let value = digit_value_digit d (leb-true 48 d q.0, leb-true d 57 q.1) in
+    let high = leb-true d 57 q.1 in
+    (omega arith, all_digits ds p.1)
+
+-- nine digits say a number of 32 bits
+pub few_digits : (ds : List ℕ) → list_all is_ascii_digit ds ≡ true → length ds < 10 → digits_value 10 ds < 2 ^ 32
+few_digits ds e short =
+    let below = digits_value-lt 10 ds (all_digits ds e) in
+    let most = pow-le-pow_right {n = 10} (omega arith) {i = length ds} {j = 9} (omega arith) in
+    omega arith

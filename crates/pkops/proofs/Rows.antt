@@ -5,7 +5,8 @@ use Rattle.std.specs.Char.{encode_utf8}
 use Rattle.pkops.specs.declared.op.Op.TheVariants as op
 use Rattle.pkops.specs.declared.op.Kind.TheVariants as kind
 use Rattle.pkops.specs.Table.{code_of, row_of}
-use Rattle.pkops.specs.Spelling.{Nothing, Number, Signed, Line, Pair, Counted, instruction, spelling}
+use Rattle.pkops.specs.Behind.{argument_behind}
+use Rattle.pkops.specs.Spelling.{Nothing, Number, Signed, Float, Line, Pair, Counted, instruction, layout_at, spelling}
 use Rattle.pkops.specs.Admitted.{is_admitted}
 use Rattle.pkops.specs.Operands.{memo_entry, names_bool, pair_named}
 use Rattle.pkops.specs.Numerals.{IsIntLine, IsLongLine, IsMemoNumber}
@@ -40,6 +41,46 @@ no_bytes = refl
 
 the_end : spelling (instruction op.Stop Nothing) ≡ codes "."
 the_end = refl
+
+-- ---- arguments behind their codes, as pickletools reads them
+
+none_behind : argument_behind (layout_at op.None) 0 (0x4e ∷ []) ≡ Nothing
+none_behind = refl
+
+byte_behind : argument_behind (layout_at op.BinGet) 0 (0x68 ∷ 0x05 ∷ []) ≡ Number 1 5
+byte_behind = refl
+
+two_bytes_behind : argument_behind (layout_at op.BinInt2) 0 (0x4d ∷ 0xff ∷ 0x00 ∷ []) ≡ Number 2 255
+two_bytes_behind = refl
+
+signed_behind : argument_behind (layout_at op.BinInt) 0 (0x4a ∷ 0xff ∷ 0xff ∷ 0xff ∷ 0xff ∷ []) ≡ Signed (negsuc 0)
+signed_behind = refl
+
+four_bytes_behind : argument_behind (layout_at op.LongBinGet) 0 (0x6a ∷ 0x00 ∷ 0x00 ∷ 0x00 ∷ 0x80 ∷ []) ≡ Number 4 2_147_483_648
+four_bytes_behind = refl
+
+eight_bytes_behind : argument_behind (layout_at op.Frame) 0 (0x95 ∷ 0xff ∷ 0x00 ∷ 0x00 ∷ 0x00 ∷ 0x00 ∷ 0x00 ∷ 0x00 ∷ 0x00 ∷ []) ≡ Number 8 255
+eight_bytes_behind = refl
+
+-- the float is -1.25
+float_behind : argument_behind (layout_at op.BinFloat) 0 (0x47 ∷ 0xbf ∷ 0xf4 ∷ 0x00 ∷ 0x00 ∷ 0x00 ∷ 0x00 ∷ 0x00 ∷ 0x00 ∷ []) ≡ Float (0xbf ∷ 0xf4 ∷ 0x00 ∷ 0x00 ∷ 0x00 ∷ 0x00 ∷ 0x00 ∷ 0x00 ∷ [])
+float_behind = refl
+
+line_behind : argument_behind (layout_at op.Int) 0 (codes "I1234\n") ≡ Line (codes "1234")
+line_behind = refl
+
+pair_behind : argument_behind (layout_at op.Global) 2 (codes "cos\nsystem\n") ≡ Pair (codes "os") (codes "system")
+pair_behind = refl
+
+-- the payload is the number 255, lowest byte first
+payload_behind : argument_behind (layout_at op.Long1) 0 (0x8a ∷ 0x02 ∷ 0xff ∷ 0x00 ∷ []) ≡ Counted (0xff ∷ 0x00 ∷ [])
+payload_behind = refl
+
+longer_payload_behind : argument_behind (layout_at op.BinBytes) 0 (0x42 ∷ 0x03 ∷ 0x00 ∷ 0x00 ∷ 0x00 ∷ 0x61 ∷ 0x62 ∷ 0x63 ∷ []) ≡ Counted (codes "abc")
+longer_payload_behind = refl
+
+longest_payload_behind : argument_behind (layout_at op.BinBytes8) 0 (0x8e ∷ 0x03 ∷ 0x00 ∷ 0x00 ∷ 0x00 ∷ 0x00 ∷ 0x00 ∷ 0x00 ∷ 0x00 ∷ 0x61 ∷ 0x62 ∷ 0x63 ∷ []) ≡ Counted (codes "abc")
+longest_payload_behind = refl
 
 -- ---- the table
 

@@ -10,7 +10,7 @@ use crate::arg::Arg;
 use crate::contents::escapes::spells_text;
 use crate::contents::float::is_float_line;
 use crate::contents::name::{is_ascii, is_name};
-use crate::contents::numeral::{is_int_line, is_long_line, memo_number};
+use crate::contents::numeral::{is_int_line, is_long_line, is_memo_number};
 use crate::contents::old_string::is_string_line;
 use crate::op::Op;
 
@@ -86,7 +86,7 @@ fn passes(rule: Rule, arg: Arg<'_>) -> bool
         (Rule::Anything, _) => true,
         (Rule::Int, Arg::Line(line)) => is_int_line(line),
         (Rule::Long, Arg::Line(line)) => is_long_line(line),
-        (Rule::MemoNumber, Arg::Line(line)) => memo_number(line).is_some(),
+        (Rule::MemoNumber, Arg::Line(line)) => is_memo_number(line),
         (Rule::Float, Arg::Line(line)) => is_float_line(line),
         (Rule::OldString, Arg::Line(line)) => is_string_line(line),
         (Rule::Escapes, Arg::Line(line)) => spells_text(line),

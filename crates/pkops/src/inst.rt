@@ -1,19 +1,21 @@
 //! One instruction.
 
-ghost use Rattle.std.specs.Prelude.{◌≡◌, ℕ, MatchBool, SomeIff, ◌+◌, ◌^◌, ◌<◌, ◌≤◌, length};
+ghost use Rattle.std.specs.Prelude.{◌≡◌, ◌≢◌, ℕ, MatchBool, Some, SomeIff, ◌+◌, ◌^◌, ◌<◌, ◌≤◌};
+ghost use Rattle.std.specs.Prelude.{length, true};
 ghost use Rattle.pkops.specs.Spelling.{IsLine, Suits, instruction, laid, layout_at, shown_arg};
 ghost use Rattle.pkops.specs.Spelling.{Argument, spelling};
 ghost use Rattle.pkops.specs.Behind.{argument_in, spelled_by, split_by};
 ghost use Rattle.pkops.specs.Lying.{Lies, split_of};
 ghost use Rattle.pkops.specs.Scanning.{count_len};
 ghost use Rattle.pkops.specs.Contents.{IsGood};
-ghost use Rattle.pkops.specs.Operands.{names_memo_entry};
+ghost use Rattle.pkops.specs.Operands.{names_bool_by, names_memo_entry, number_said};
+ghost use Rattle.pkops.specs.declared.op.Op.TheVariants as opcode;
 
 use crate::arg::Arg;
 use crate::contents::{Rule, keeps, numeral};
 use crate::form::Form;
 use crate::layout::{Layout, is_count};
-use crate::lending::argument_of;
+use crate::lending::{argument_apart, is_bool_behind, memo_number_behind};
 use crate::op::Op;
 use crate::table::kind;
 
@@ -112,7 +114,7 @@ impl<'a> Inst<'a> {
     {
         match self.form {
             Form::Made(arg) => arg,
-            Form::Spelled(split, bytes) => argument_of(self.op, split, bytes),
+            Form::Spelled(split, bytes) => argument_apart(self.op, split, bytes),
         }
     }
 
@@ -136,11 +138,9 @@ impl<'a> Inst<'a> {
         if !names_memo_entry(self.op) {
             return None;
         }
-        match self.arg() {
-            Arg::U1(number) => Some(u32::from(number)),
-            Arg::U4(number) => Some(number),
-            Arg::Line(digits) => numeral::memo_number(digits),
-            _ => None,
+        match self.form {
+            Form::Made(arg) => Some(memo_number_in(self.op, arg)),
+            Form::Spelled(_, bytes) => Some(memo_number_behind(self.op, bytes)),
         }
     }
 
@@ -149,9 +149,12 @@ impl<'a> Inst<'a> {
     pub fn names_bool(&self) -> bool
         ensures { result ≡ names_bool (instruction_of self.now) }
     {
-        match (self.op, self.arg()) {
-            (Op::Int, Arg::Line(line)) => numeral::is_bool_line(line),
-            _ => false,
+        if !is_int(self.op) {
+            return false;
+        }
+        match self.form {
+            Form::Made(arg) => is_bool_in(arg),
+            Form::Spelled(_, bytes) => is_bool_behind(bytes),
         }
     }
 
@@ -193,6 +196,39 @@ fn names_memo_entry(op: Op) -> bool
         op,
         Op::Get | Op::BinGet | Op::LongBinGet | Op::Put | Op::BinPut | Op::LongBinPut
     )
+}
+
+/// Whether the opcode is INT.
+#[inline(always)]
+fn is_int(op: Op) -> bool
+    ensures { MatchBool result (op ≡ opcode.Int) (op ≢ opcode.Int) }
+{
+    matches!(op, Op::Int)
+}
+
+/// Whether an argument of INT says a bool.
+fn is_bool_in(arg: Arg<'_>) -> bool
+    ensures { result ≡ names_bool_by opcode.Int (shown_arg arg.entry) }
+{
+    match arg {
+        Arg::Line(line) => numeral::is_bool_line(line),
+        _ => false,
+    }
+}
+
+/// The number of a memo entry that an argument is.
+#[inline(never)]
+fn memo_number_in(op: Op, arg: Arg<'_>) -> u32
+    requires names { names_memo_entry op ≡ true }
+    requires good { IsGood (instruction op (shown_arg arg)) }
+    ensures { number_said (shown_arg arg.entry) ≡ Some result }
+{
+    match arg {
+        Arg::U1(number) => u32::from(number),
+        Arg::U4(number) => number,
+        Arg::Line(digits) => numeral::number_of(digits),
+        _ => unreachable!(),
+    }
 }
 
 /// The bytes of an argument.

@@ -1,18 +1,25 @@
 //! The argument of bytes whose layout is known: nothing is looked for.
 
-ghost use Rattle.std.specs.Prelude.{◌≡◌, ◌+◌, ◌-◌, ◌≤◌, ℕ, length, take, drop};
+ghost use Rattle.std.specs.Prelude.{◌≡◌, ◌+◌, ◌-◌, ◌≤◌, ℕ, Some, length, take, drop, true};
+ghost use Rattle.std.specs.Str.Parse.{digits_value};
 ghost use Rattle.byteorder.specs.Endian.{little_number};
-ghost use Rattle.pkops.specs.Spelling.{Argument, shown_arg, size_of};
+ghost use Rattle.pkops.specs.Contents.{IsGood};
+ghost use Rattle.pkops.specs.Numerals.{IsMemoNumber};
+ghost use Rattle.pkops.specs.Operands.{names_bool_by, names_memo_entry, number_said};
+ghost use Rattle.pkops.specs.declared.op.Op.TheVariants as opcode;
+ghost use Rattle.pkops.specs.Spelling.{Argument, instruction, shown_arg, size_of};
 ghost use Rattle.pkops.specs.Lying.{Lies, count_in};
 
 use crate::arg::Arg;
+use crate::contents::numeral::{is_bool_line, number_of};
 use crate::layout::{Layout, Width};
 use crate::op::Op;
 use crate::table::layout_of_op;
 use byteorder::{ByteOrder, LittleEndian};
 
 /// The argument of all the bytes, whose code is that of the opcode; the first of two lines has so
-/// many bytes.
+/// many bytes. It is written out where it is called, so that no room is made for the argument.
+#[inline(always)]
 pub fn argument_of<'a>(op: Op, split: usize, bytes: &'a [u8]) -> Arg<'a>
     requires { (limit : ℕ) × (arg : Argument) × Lies limit op arg split bytes.now }
     ensures { (limit : ℕ) (arg : Argument) →
@@ -33,6 +40,53 @@ pub fn argument_of<'a>(op: Op, split: usize, bytes: &'a [u8]) -> Arg<'a>
         ),
         Layout::Counted(width, _) => Arg::Counted(behind(width.size() + 1, bytes)),
     }
+}
+
+/// The same, for callers that have much else to do and would grow too large.
+#[inline(never)]
+pub fn argument_apart<'a>(op: Op, split: usize, bytes: &'a [u8]) -> Arg<'a>
+    requires { (limit : ℕ) × (arg : Argument) × Lies limit op arg split bytes.now }
+    ensures { (limit : ℕ) (arg : Argument) →
+        Lies limit op arg split bytes.now → shown_arg result ≡ arg }
+{
+    argument_of(op, split, bytes)
+}
+
+/// The number of a memo entry behind a code whose argument is one. It makes no `Arg`, since most
+/// of what an instruction costs is the room for one.
+#[inline(always)]
+pub fn memo_number_behind(op: Op, bytes: &[u8]) -> u32
+    requires names { names_memo_entry op ≡ true }
+    requires lies { (limit split : ℕ) × (arg : Argument)
+        × Lies limit op arg split bytes.now × IsGood (instruction op arg) }
+    ensures { (limit split : ℕ) (arg : Argument) →
+        Lies limit op arg split bytes.now → number_said arg ≡ Some result }
+{
+    match op {
+        Op::BinGet | Op::BinPut => u32::from(bytes[1]),
+        Op::LongBinGet | Op::LongBinPut => u32_behind(bytes),
+        _ => line_number_behind(bytes),
+    }
+}
+
+/// Whether the line of an INT says a bool.
+#[inline(always)]
+pub fn is_bool_behind(bytes: &[u8]) -> bool
+    requires { (limit split : ℕ) × (arg : Argument) × Lies limit opcode.Int arg split bytes.now }
+    ensures { (limit split : ℕ) (arg : Argument) →
+        Lies limit opcode.Int arg split bytes.now → result ≡ names_bool_by opcode.Int arg }
+{
+    is_bool_line(between(1, bytes.len() - 1, bytes))
+}
+
+/// The number that the line behind the code says.
+#[inline(never)]
+fn line_number_behind(bytes: &[u8]) -> u32
+    requires some { 2 ≤ length bytes.now }
+    requires number { IsMemoNumber (take (length bytes.now - 2) (drop 1 bytes.now)) }
+    ensures { result ≡ digits_value 10 (take (length bytes.now - 2) (drop 1 bytes.now)) }
+{
+    number_of(between(1, bytes.len() - 1, bytes))
 }
 
 /// The count behind the code.

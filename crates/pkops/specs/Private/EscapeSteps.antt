@@ -1,7 +1,7 @@
 -- How the code reads text with escapes, byte by byte; `proofs/EscapesRead.antt` shows that it reads
 -- exactly what `Escapes` says.
-use Rattle.std.specs.Prelude.{ℕ, ◌+◌, ◌-◌, ◌*◌, ◌<◌, Bool, ◌&&◌, ◌||◌, ◌==◌, nat_lt, if◌then◌else◌, Option, Some, None, ⊤}
-use Rattle.std.specs.Char.{is_ascii_hexdigit, digit_value}
+use Rattle.std.specs.Prelude.{ℕ, ◌+◌, ◌-◌, ◌*◌, ◌<◌, Bool, ◌&&◌, ◌||◌, ◌==◌, nat_lt, not, if◌then◌else◌, Option, Some, None, ⊤}
+use Rattle.std.specs.Char.{is_ascii, is_ascii_hexdigit, digit_value}
 use Rattle.pkops.specs.declared.contents.escapes.State.{State}
 use Rattle.pkops.specs.declared.contents.escapes.State.TheVariants.{Outside, Behind, Digits}
 
@@ -29,3 +29,7 @@ abbrev pub IsSmall : State → Type 0
 IsSmall Outside = ⊤
 IsSmall Behind = ⊤
 IsSmall (Digits left value) = value < 0x11_0000
+
+-- an ASCII byte that is no backslash spells itself
+abbrev pub is_plain : ℕ → Bool
+is_plain byte = is_ascii byte && not (byte == 92)

@@ -2,8 +2,10 @@
 
 ghost use Rattle.std.specs.Prelude.{◌≡◌, Some, None, if◌then◌else◌, encode_utf8_all, IfOk, IfSome};
 ghost use Rattle.std.specs.Prelude.{is_some, string_bytes};
+ghost use Rattle.std.specs.Prelude.{true};
+ghost use Rattle.std.specs.List.{list_all};
 ghost use Rattle.std.specs.Option.{option_map};
-ghost use Rattle.pkops.specs.Private.EscapeSteps.{IsSmall, digit_step, step_of};
+ghost use Rattle.pkops.specs.Private.EscapeSteps.{IsSmall, digit_step, is_plain, step_of};
 ghost use Rattle.pkops.specs.Escapes.{points_of};
 
 use crate::contents::digit::hex_value;
@@ -22,6 +24,36 @@ pub enum State {
 
 /// The text that a line spells, if it spells one.
 pub fn read_text(alloc: Global, line: &[u8]) -> Result<Option<String>, AllocError>
+    ensures { IfOk result (λ text.
+        option_map string_bytes text ≡ option_map encode_utf8_all (points_of line.now)) }
+{
+    if is_plain(line) {
+        read_plain(alloc, line)
+    } else {
+        read_escaped(alloc, line)
+    }
+}
+
+/// Whether a line is ASCII without a backslash, as most lines are: it spells itself.
+fn is_plain(line: &[u8]) -> bool
+    ensures { result ≡ list_all is_plain line.now }
+{
+    line.iter().all(|byte| byte.is_ascii() && *byte != b'\\')
+}
+
+/// The text of such a line.
+fn read_plain(alloc: Global, line: &[u8]) -> Result<Option<String>, AllocError>
+    requires { list_all is_plain line.now ≡ true }
+    ensures { IfOk result (λ text. option_map string_bytes text ≡ Some line.now) }
+{
+    match str::from_utf8(line) {
+        Ok(text) => Ok(Some(text.to_string(alloc)?)),
+        Err(_) => unreachable!(),
+    }
+}
+
+/// The text of any line, byte by byte.
+fn read_escaped(alloc: Global, line: &[u8]) -> Result<Option<String>, AllocError>
     ensures { IfOk result (λ text.
         option_map string_bytes text ≡ option_map encode_utf8_all (points_of line.now)) }
 {
@@ -44,6 +76,14 @@ pub fn read_text(alloc: Global, line: &[u8]) -> Result<Option<String>, AllocErro
 
 /// Whether a line spells a text.
 pub fn spells_text(line: &[u8]) -> bool
+    ensures { result ≡ is_some (points_of line.now) }
+{
+    is_plain(line) || spells_escaped(line)
+}
+
+/// Whether any line does, byte by byte.
+#[inline(never)]
+fn spells_escaped(line: &[u8]) -> bool
     ensures { result ≡ is_some (points_of line.now) }
 {
     let mut state = State::Outside;

@@ -1,20 +1,23 @@
-use Rattle.std.proofs.Common.{subst, sym, inl, inr}
-use Rattle.pkops.specs.Inst.{instruction_of}
-use Rattle.pkops.specs.Spelling.{Suits, layout_at}
+use Rattle.std.proofs.Common.{◌≡◌, ◌∙◌, ap, refl, subst, sym}
+use Rattle.pkops.specs.Behind.{argument_in}
+use Rattle.pkops.specs.Contents.{IsGood}
+use Rattle.pkops.specs.Operands.{memo_entry, number_said}
+use Rattle.pkops.specs.Spelling.{instruction}
 use Rattle.pkops.proofs.Good.{had_good}
-use Rattle.pkops.proofs.MemoNumbers.{said, is_number}
+use Rattle.pkops.proofs.BehindCode.{form_held}
 use Rattle.pkops.proofs.inst.Inst.memo_number.Goals as goal
 
-pub returns-in-Line : goal.returns-in-Line
-returns-in-Line c =
-    said (instruction_of c.args.self.now) c.arg.result c.in-Line.digits _ c.arg.ensures.arg c.in-Line.is (sym c.if-not-names_memo_entry.ensures) (had_good _ c.args.self.now.good) c.memo_number.ensures
+pub memo_number_in-requires-clause-good : goal.memo_number_in-requires-clause-good
+memo_number_in-requires-clause-good c =
+    subst (λ x. IsGood (instruction c.args.self.now.op (argument_in c.args.self.now.op x))) c.in-Made.is (had_good _ c.args.self.now.good)
 
-pub returns-in_default : goal.returns-in_default
-returns-in_default c =
-    elim (is_number c.args.self.now.op c.arg.result (sym c.if-not-names_memo_entry.ensures) (subst (λ x. Suits (layout_at c.args.self.now.op) x) (sym c.arg.ensures.arg) (had_good _ c.args.self.now.good).suits)) [
-      | inl h ↦ absurd (c.in_default.not-U1 h.0 h.1)
-      | inr h ↦ elim h [
-        | inl f ↦ absurd (c.in_default.not-U4 f.0 f.1)
-        | inr l ↦ absurd (c.in_default.not-Line l.0 l.1)
-      ]
-    ]
+pub memo_number_behind-requires-clause-lies : goal.memo_number_behind-requires-clause-lies
+memo_number_behind-requires-clause-lies c =
+    let h = form_held c.args.self.now.op c.args.self.now.form c.in-Spelled.field-0 c.in-Spelled.bytes c.in-Spelled.is (had_good _ c.args.self.now.good) c.args.self.now.spelled c.args.self.now.split in
+    (h.limit, c.in-Spelled.field-0, h.arg, h.lies, h.good)
+
+pub returns-in-Spelled : goal.returns-in-Spelled
+returns-in-Spelled c =
+    let h = form_held c.args.self.now.op c.args.self.now.form c.in-Spelled.field-0 c.in-Spelled.bytes c.in-Spelled.is (had_good _ c.args.self.now.good) c.args.self.now.spelled c.args.self.now.split in
+    let said : memo_entry (instruction c.args.self.now.op (argument_in c.args.self.now.op c.args.self.now.form)) ≡ number_said (argument_in c.args.self.now.op c.args.self.now.form) = rw (sym c.if-not-names_memo_entry.ensures) refl in
+    sym (said ∙ ap number_said h.is ∙ c.memo_number_behind.ensures h.limit c.in-Spelled.field-0 h.arg h.lies)

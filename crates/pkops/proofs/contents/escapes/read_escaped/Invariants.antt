@@ -4,7 +4,7 @@ use Rattle.std.specs.Option.{option_map}
 use Rattle.pkops.specs.Private.EscapeSteps.{IsSmall}
 use Rattle.pkops.specs.Escapes.{points_of}
 use Rattle.pkops.proofs.EscapeLoop.{code_points, joined}
-use Rattle.pkops.proofs.contents.escapes.read_text.Given as goal
+use Rattle.pkops.proofs.contents.escapes.read_escaped.Given as goal
 
 -- the text so far and what is left give what all names
 abbrev pub invariant-bytes : goal.invariant-bytes

@@ -3,7 +3,7 @@ use Rattle.std.specs.Prelude.{is_some}
 use Rattle.pkops.specs.Private.EscapeSteps.{IsSmall}
 use Rattle.pkops.specs.Escapes.{points_of}
 use Rattle.pkops.proofs.EscapeLoop.{code_points}
-use Rattle.pkops.proofs.contents.escapes.spells_text.Given as goal
+use Rattle.pkops.proofs.contents.escapes.spells_escaped.Given as goal
 
 abbrev pub invariant-bytes : goal.invariant-bytes
 invariant-bytes l = record {
