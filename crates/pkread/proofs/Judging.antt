@@ -1,18 +1,15 @@
 -- What was gathered is judged.
 use Rattle.std.proofs.Common.{◌≡◌, ◌≢◌, ℕ, ◌<◌, ◌≤◌, List, [], ◌∷◌, ◌++◌, length, take, Option, Some, None, Result, Ok, Err, refl, sym, ap, ◌∙◌, subst, inl, arith, append-nil}
-use Rattle.std.specs.Prelude.{IfErr, IfOk, IfSome, SomeIff}
-use Rattle.std.specs.Option.{option_map}
+use Rattle.std.specs.Prelude.{IfErr, IfOk, IfSome}
 use Rattle.std.proofs.lemmas.List.{take_all, length-take}
 use Rattle.pkops.specs.Answer.{IsWhole}
 use Rattle.pkops.specs.Contents.{IsGood}
 use Rattle.pkops.specs.Growth.{BegunLaws}
-use Rattle.pkops.specs.Inst.{instruction_of}
 use Rattle.pkops.specs.Lying.{Lies}
 use Rattle.pkops.specs.Scanning.{HasFault, longest}
 use Rattle.pkops.specs.Spelling.{Argument, Instruction, instruction, spelling}
 use Rattle.pkops.specs.Table.{code_of}
 use Rattle.pkops.specs.declared.fault.Fault.TheVariants as fault
-use Rattle.pkops.specs.declared.inst.Inst.{Inst}
 use Rattle.pkops.specs.declared.op.Op.{Op}
 use Rattle.pkread.proofs.Behind.{fronts_more, stops_lacking}
 use Rattle.pkread.proofs.Given.{IsGathered}
@@ -39,23 +36,15 @@ whole_of limit o arg split b l good = record {
 pub broken_of : (limit : ℕ) (o : Op) (arg : Argument) (split : ℕ) (b : List ℕ) → Lies limit o arg split b → (IsGood (instruction o arg) → ⊥) → HasFault limit fault.BadArgument b
 broken_of limit o arg split b l bad = inl (instruction o arg, [], record { laid = l.laid; parts = l.spelled ∙ sym (append-nil (spelling (instruction o arg))); bad = bad })
 
-judged_is : (r : Option Inst) (inst : Inst) (i : Instruction) → SomeIff (option_map instruction_of r) (IsGood i) i → r ≡ Some inst → IsGood i × (instruction_of inst ≡ i)
-judged_is None inst i h e = absurd cc
-judged_is (Some j) inst i h e =
-    let same : j ≡ inst = cc in
-    let old = h.1 in
-    (h.0, cc)
-
 pub if_some : {A : Type 0} {P : A → Type 0} (r : Option A) → ((x : A) → r ≡ Some x → P x) → IfSome r P
 if_some None f = tt
 if_some (Some x) f = f x refl
 
 -- a good instruction that is not admitted
-pub objected : (limit : ℕ) (o : Op) (arg given : Argument) (split : ℕ) (b : List ℕ) (r : Option Inst) (inst : Inst) (found : Option Reason) → SomeIff (option_map instruction_of r) (IsGood (instruction o given)) (instruction o given) → r ≡ Some inst → found ≡ objection (instruction_of inst) → given ≡ arg → Lies limit o arg split b → (x : Reason) → found ≡ Some x → IsAmiss limit b x
-objected limit o arg given split b r inst found h e f same l x g =
-    let j = judged_is r inst (instruction o given) h e in
-    let good : IsGood (instruction o arg) = subst (λ (a : Argument). IsGood (instruction o a)) same j.0 in
-    objection_is_amiss limit b (instruction o arg) (length b) x (whole_of limit o arg split b l good) (ap (λ (a : Argument). objection (instruction o a)) (sym same) ∙ (ap objection (sym j.1) ∙ (sym f ∙ g)))
+pub objected : (limit : ℕ) (o : Op) (arg given : Argument) (split : ℕ) (b : List ℕ) (i : Instruction) (found : Option Reason) → IsGood (instruction o given) → i ≡ instruction o given → found ≡ objection i → given ≡ arg → Lies limit o arg split b → (x : Reason) → found ≡ Some x → IsAmiss limit b x
+objected limit o arg given split b i found h is f same l x g =
+    let good : IsGood (instruction o arg) = subst (λ (a : Argument). IsGood (instruction o a)) same h in
+    objection_is_amiss limit b (instruction o arg) (length b) x (whole_of limit o arg split b l good) (ap (λ (a : Argument). objection (instruction o a)) (sym same) ∙ (ap objection (sym is) ∙ (sym f ∙ g)))
 
 amiss_behind : (limit : ℕ) (m n : Sight) (run b : List ℕ) (u : ℕ) (r : Reason) → Takes m n run → IsAmiss limit b r → RowBehind limit m n run b u r
 amiss_behind limit m n run b u (UnknownOpcode c) k w = (k, w)
@@ -83,24 +72,24 @@ plain_finds limit t u o split old new m n p g =
 
 module _ (t u : ℕ) (o : Op) (split : ℕ) (old new b : List ℕ) (m n : Sight) (same : b ≡ new) where
   -- what was taken is judged
-  pub all_find : (limit : ℕ) (r : Result ℕ Reason) → Grows limit o split old m t new n u → IfOk r (λ s. (s ≡ split) × ((l : ℕ) (arg : Argument) → Lies l o arg split b → IsGood (instruction o arg) × (objection (instruction o arg) ≡ None))) → IfOk r (λ s. Finds limit o s old m t new n u)
+  pub all_find : {A : Type 0} (limit : ℕ) (r : Result A Reason) → Grows limit o split old m t new n u → IfOk r (λ _. (l : ℕ) (arg : Argument) → Lies l o arg split b → IsGood (instruction o arg) × (objection (instruction o arg) ≡ None)) → IfOk r (λ _. Finds limit o split old m t new n u)
   all_find limit (Err x) g h = tt
   all_find limit (Ok s) g h =
-      let j = h.1 limit g.arg (rw same g.lies) in
-      rw h.0 (record { bytes = g.bytes; took = g.took; found = record { arg = g.arg; lies = g.lies; good = j.0; admitted = j.1 } })
+      let j = h limit g.arg (rw same g.lies) in
+      record { bytes = g.bytes; took = g.took; found = record { arg = g.arg; lies = g.lies; good = j.0; admitted = j.1 } }
 
-  pub all_amiss : BegunLaws → (limit : ℕ) (r : Result ℕ Reason) → Grows limit o split old m t new n u → IfErr r (λ x. (l : ℕ) (arg : Argument) → Lies l o arg split b → IsAmiss l b x) → IfErr r (Stops limit old m t new n u)
+  pub all_amiss : {A : Type 0} → BegunLaws → (limit : ℕ) (r : Result A Reason) → Grows limit o split old m t new n u → IfErr r (λ x. (l : ℕ) (arg : Argument) → Lies l o arg split b → IsAmiss l b x) → IfErr r (Stops limit old m t new n u)
   all_amiss laws limit (Ok s) g h = tt
   all_amiss laws limit (Err x) g h = stops_amiss laws limit t u o g.arg split g.bytes old new m n x g.took g.lies (rw same at (h limit g.arg (rw same g.lies)))
 
   -- whatever the limit is
-  pub every_find : (r : Result ℕ Reason) → ((l : ℕ) → Grows l o split old m t new n u) → IfOk r (λ s. (s ≡ split) × ((l : ℕ) (arg : Argument) → Lies l o arg split b → IsGood (instruction o arg) × (objection (instruction o arg) ≡ None))) → IfOk r (λ s. (l : ℕ) → Finds l o s old m t new n u)
+  pub every_find : {A : Type 0} (r : Result A Reason) → ((l : ℕ) → Grows l o split old m t new n u) → IfOk r (λ _. (l : ℕ) (arg : Argument) → Lies l o arg split b → IsGood (instruction o arg) × (objection (instruction o arg) ≡ None)) → IfOk r (λ _. (l : ℕ) → Finds l o split old m t new n u)
   every_find (Err x) g h = tt
   every_find (Ok s) g h = λ l. all_find l (Ok s) (g l) h
 
-  pub every_amiss : BegunLaws → (r : Result ℕ Reason) → ((l : ℕ) → Grows l o split old m t new n u) → IfErr r (λ x. (l : ℕ) (arg : Argument) → Lies l o arg split b → IsAmiss l b x) → IfErr r (λ x. (l : ℕ) → Stops l old m t new n u x)
+  pub every_amiss : {A : Type 0} → BegunLaws → (r : Result A Reason) → ((l : ℕ) → Grows l o split old m t new n u) → IfErr r (λ x. (l : ℕ) (arg : Argument) → Lies l o arg split b → IsAmiss l b x) → IfErr r (λ x. (l : ℕ) → Stops l old m t new n u x)
   every_amiss laws (Ok s) g h = tt
-  every_amiss laws (Err x) g h = λ l. all_amiss laws l (Err x) (g l) h
+  every_amiss {A = A} laws (Err x) g h = λ l. all_amiss {A = A} laws l (Err x) (g l) h
 
 none_of : (c : List ℕ) → length c < 1 → c ≡ []
 none_of [] l = refl

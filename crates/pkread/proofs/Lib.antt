@@ -8,6 +8,7 @@ pub mod Taking
 pub mod Behind
 pub mod LinesBehind
 pub mod Judging
+pub mod Texts
 pub mod Passing
 pub mod Given
 pub mod HeadSteps

@@ -3,6 +3,7 @@ use Rattle.std.proofs.Common.{◌≡◌, ◌≢◌, ℕ, ◌+◌, ◌-◌, ◌%�
 use Rattle.std.specs.List.{AllByRecursion}
 use Rattle.std.proofs.lemmas.List.{take_all}
 use Rattle.pkops.specs.Growth.{BegunLaws}
+use Rattle.pkops.specs.Lying.{Lies}
 use Rattle.pkops.specs.Scanning.{Begun, HasFault, IsLong}
 use Rattle.pkops.specs.Spelling.{IsLine, Line, Pair, instruction, layout_at}
 use Rattle.pkops.specs.Table.{code_of}
@@ -128,16 +129,11 @@ one_stops laws limit most t u o old new m n r e lay s =
     (λ c long clean. rw e (o, c, refl, rw lay (is_long most c long clean)))
     s
 
-pub one_grows : (limit most t u : ℕ) (o : Op) (old new : List ℕ) (m n : Sight) → old ≡ code_of o ∷ [] → layout_at o ≡ layout.Line most → TookLine most old m t new n u → Grows limit o 0 old m t new n u
-one_grows limit most t u o old new m n e lay s = record {
-  bytes = s.text ++ 10 ∷ [];
-  took = s.took;
-  arg = Line s.text;
-  lies = record {
-    laid = record { suits = rw lay s.line; within = tt };
-    spelled = s.took.held ∙ ap (λ (b : List ℕ). b ++ (s.text ++ 10 ∷ [])) e;
-    split_is = refl;
-  };
+pub one_lies : (limit most t u : ℕ) (o : Op) (old new : List ℕ) (m n : Sight) → old ≡ code_of o ∷ [] → layout_at o ≡ layout.Line most → (s : TookLine most old m t new n u) → Lies limit o (Line s.text) 0 new
+one_lies limit most t u o old new m n e lay s = record {
+  laid = record { suits = rw lay s.line; within = tt };
+  spelled = s.took.held ∙ ap (λ (b : List ℕ). b ++ (s.text ++ 10 ∷ [])) e;
+  split_is = refl;
 }
 
 pub first_stops : BegunLaws → (limit most t u : ℕ) (o : Op) (old new : List ℕ) (m n : Sight) (r : Reason) → old ≡ code_of o ∷ [] → layout_at o ≡ layout.Pair most → LacksLine most old m t new n u r → Stops limit old m t new n u r

@@ -1,6 +1,6 @@
 -- Payloads that are passed over.
-use Rattle.std.proofs.Common.{◌≡◌, ℕ, ◌+◌, ◌-◌, ◌<◌, ◌≤◌, true, false, List, [], ◌∷◌, ◌++◌, length, take, drop, refl, sym, ap, subst, ◌∙◌, inl, inr, arith}
-use Rattle.std.specs.Prelude.{IsTrue, max, Bool, if◌then◌else◌}
+use Rattle.std.proofs.Common.{◌≡◌, ℕ, ◌+◌, ◌-◌, ◌<◌, ◌≤◌, true, false, List, [], ◌∷◌, ◌++◌, length, take, drop, refl, sym, ap, subst, ◌∙◌, inl, inr, arith, length-append, Result, Ok, Err}
+use Rattle.std.specs.Prelude.{IfErr, IfOk, IsTrue, max, Bool, if◌then◌else◌}
 use Rattle.std.proofs.lemmas.List.{length-take, take-append-drop}
 use Rattle.pkops.specs.Admitted.{is_admitted_by}
 use Rattle.pkops.specs.Growth.{BegunLaws, CountLaws}
@@ -17,13 +17,13 @@ use Rattle.pkread.proofs.Behind.{payload_lie, payload_stops, payload_took}
 use Rattle.pkread.proofs.Judging.{refuses_of}
 use Rattle.pkread.proofs.OneRow.{OneAnswer}
 use Rattle.pkread.proofs.LinesBehind.{stops_more}
-use Rattle.pkread.proofs.Taking.{lacks_after, took_both}
+use Rattle.pkread.proofs.Taking.{lacks_after, took_both, took_none}
 use Rattle.pkread.specs.Private.Judging.{IsPlain}
 use Rattle.pkread.specs.Private.Gathering.{Counts, Gathers, IsFound, Stops}
 use Rattle.pkread.specs.Heads.{HoldsFew, PassesBy}
 use Rattle.pkread.specs.Private.Passing.{GrowsPassing, PassedAll, PassedSome, StopsPassing}
 use Rattle.pkread.specs.Rows.{FrontsBegin, Refuses, Sight}
-use Rattle.pkread.specs.Private.Taking.{LacksSome, Took}
+use Rattle.pkread.specs.Private.Taking.{LacksSome, Took, TookBlock}
 use Rattle.pkread.specs.declared.refusal.Reason.{Reason}
 
 -- the argument of a passed opcode needs no look
@@ -59,6 +59,32 @@ took_over c d old mid new o m p t u v k l =
 pub lacks_over : (count left t u w : ℕ) (c old mid new : List ℕ) (o m p : Sight) (reason : Reason) → Took c old o t (old ++ c) m u → length c + left ≡ count → LacksSome left mid m u new p w reason → PassedSome count old o t p w reason
 lacks_over count left t u w c old mid new o m p reason k all s =
     ((old ++ c) ++ s.bytes, lacks_after count left t u w c old (old ++ c) ((old ++ c) ++ s.bytes) o m p reason k all (record { bytes = s.bytes; fit = s.fit; held = refl; count_is = s.count_is; lacks = s.lacks; row = s.row }))
+
+-- no bytes were
+pub passed_none : (count t : ℕ) (old : List ℕ) (m : Sight) → count ≡ 0 → PassedAll count old m t m t
+passed_none count t old m e = (old, record { bytes = []; took = took_none old m t; all = sym e })
+
+-- one read, and then the rest
+module _ (count n t u w : ℕ) (old mid cut : List ℕ) (o m p : Sight) (b : TookBlock count n old o t mid m u) where
+  first_over : Took b.bytes old o t (old ++ b.bytes) m u
+  first_over = record { fit = b.took.fit; held = refl; taken = b.took.taken; count = b.took.count }
+
+  pub passed_rest : {A : Type 0} (r : Result A Reason) → IfOk r (λ _. PassedAll (count - n) cut m u p w) → IfOk r (λ _. PassedAll count old o t p w)
+  passed_rest (Err x) h = tt
+  passed_rest (Ok x) h =
+      let is = b.count in
+      let within = b.within in
+      let all = h.1.all in (
+        old ++ (b.bytes ++ h.1.bytes),
+        record { bytes = b.bytes ++ h.1.bytes; took = took_over b.bytes h.1.bytes old cut h.0 o m p t u w first_over h.1.took; all = omega (arith, length-append b.bytes h.1.bytes, is, within, all) },
+      )
+
+  pub stopped_rest : {A : Type 0} (r : Result A Reason) → IfErr r (PassedSome (count - n) cut m u p w) → IfErr r (PassedSome count old o t p w)
+  stopped_rest (Ok x) h = tt
+  stopped_rest (Err x) h =
+      let is = b.count in
+      let within = b.within in
+      lacks_over count (count - n) t u w b.bytes old cut h.0 o m p x first_over (omega (arith, is, within)) h.1
 
 -- the payload behind a count
 pub payload_passes : CountLaws → (limit t u v x : ℕ) (o : Op) (size : Width) (old mid : List ℕ) (m n p : Sight) → old ≡ code_of o ∷ [] → layout_at o ≡ layout.Counted size false → Counts limit size false x old m t mid n u → PassedAll x mid n u p v → GrowsPassing limit o x old m t p v

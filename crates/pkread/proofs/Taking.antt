@@ -106,6 +106,10 @@ took_byte x t u old new m n r e = record { fit = byte_fits x r.fit; held = r.hel
     byte_fits x h zero = h
     byte_fits x h (suc i) = omega arith
 
+-- one byte, as a field of one
+pub took_one : (x t u : ℕ) (old new : List ℕ) (m n : Sight) → Took (x ∷ []) old m t new n u → TookAll 1 old m t new n u
+took_one x t u old new m n k = record { bytes = x ∷ []; took = k; all = refl }
+
 -- a byte more that ends no line
 pub endless_more : (c : List ℕ) (x : ℕ) → AllByRecursion (λ byte. byte ≢ 10) c → x ≢ 10 → AllByRecursion (λ byte. byte ≢ 10) (c ++ x ∷ [])
 endless_more [] x h ne = (ne, tt)

@@ -1,14 +1,16 @@
 //! Why what was scanned is refused.
 
-ghost use Rattle.std.specs.Prelude.{◌≡◌, ℕ, None, IfErr, IfNone, IfOk, IfSome, true};
+ghost use Rattle.std.specs.Prelude.{◌≡◌, ℕ, None, IfErr, IfNone, IfOk, IfSome, MatchBool};
+ghost use Rattle.std.specs.Prelude.{false, true};
+ghost use Rattle.std.specs.Str.{IsUtf8};
 ghost use Rattle.pkops.specs.Contents.{IsGood};
 ghost use Rattle.pkops.specs.Lying.{Lies};
-ghost use Rattle.pkops.specs.Spelling.{Argument, instruction, layout_at};
+ghost use Rattle.pkops.specs.Spelling.{Argument, Suits, instruction, layout_at, shown_arg};
 ghost use Rattle.pkops.specs.declared.layout.Layout.TheVariants as layout;
 ghost use Rattle.pkread.specs.Rows.{IsAmiss};
 ghost use Rattle.pkops.specs.Inst.{instruction_of};
 ghost use Rattle.pkread.specs.Admission.{objection};
-ghost use Rattle.pkread.specs.Private.Judging.{IsPlain, reason_of};
+ghost use Rattle.pkread.specs.Private.Judging.{IsPlain, IsText, reason_of};
 
 use crate::refusal::Reason;
 use pkops::{Arg, Fault, Inst, Op, Width, argument_of};
@@ -37,20 +39,20 @@ pub(crate) fn objection_to(inst: Inst<'_>) -> Option<Reason>
     }
 }
 
-/// Judges an instruction of known layout, and gives the split where it is good and admitted. Its
-/// contents are looked at only where they aren't plain.
+/// Judges an instruction of known layout: whether it is good and admitted. Its contents are looked
+/// at only where they aren't plain.
 #[inline(always)]
-pub(crate) fn judged(op: Op, plain: bool, split: usize, bytes: &[u8]) -> Result<usize, Reason>
+pub(crate) fn judged(op: Op, plain: bool, split: usize, bytes: &[u8]) -> Result<(), Reason>
     requires plain { plain ≡ true → IsPlain op }
     requires lies { (limit : ℕ) × (arg : Argument) × Lies limit op arg split bytes.now }
-    ensures ok { IfOk result (λ same. (same ≡ split) × ((limit : ℕ) (arg : Argument) →
+    ensures ok { IfOk result (λ _. (limit : ℕ) (arg : Argument) →
         Lies limit op arg split bytes.now →
-        IsGood (instruction op arg) × (objection (instruction op arg) ≡ None))) }
+        IsGood (instruction op arg) × (objection (instruction op arg) ≡ None)) }
     ensures err { IfErr result (λ reason. (limit : ℕ) (arg : Argument) →
         Lies limit op arg split bytes.now → IsAmiss limit bytes.now reason) }
 {
     if plain {
-        return Ok(split);
+        return Ok(());
     }
     looked(op, split, bytes)
 }
@@ -58,17 +60,41 @@ pub(crate) fn judged(op: Op, plain: bool, split: usize, bytes: &[u8]) -> Result<
 /// The same where a look is needed. It stands apart so that room for the answer of a look is made
 /// there alone.
 #[inline(always)]
-fn looked(op: Op, split: usize, bytes: &[u8]) -> Result<usize, Reason>
+fn looked(op: Op, split: usize, bytes: &[u8]) -> Result<(), Reason>
     requires { (limit : ℕ) × (arg : Argument) × Lies limit op arg split bytes.now }
-    ensures ok { IfOk result (λ same. (same ≡ split) × ((limit : ℕ) (arg : Argument) →
+    ensures ok { IfOk result (λ _. (limit : ℕ) (arg : Argument) →
         Lies limit op arg split bytes.now →
-        IsGood (instruction op arg) × (objection (instruction op arg) ≡ None))) }
+        IsGood (instruction op arg) × (objection (instruction op arg) ≡ None)) }
     ensures err { IfErr result (λ reason. (limit : ℕ) (arg : Argument) →
         Lies limit op arg split bytes.now → IsAmiss limit bytes.now reason) }
 {
     match look(op, split, bytes) {
         Some(reason) => Err(reason),
-        None => Ok(split),
+        None => Ok(()),
+    }
+}
+
+/// Whether an argument of the opcode's kind is a good one.
+#[inline(never)]
+pub(crate) fn is_good(op: Op, arg: Arg<'_>) -> bool
+    requires { Suits (layout_at op) (shown_arg arg) }
+    ensures { MatchBool result (IsGood (instruction op (shown_arg arg.entry)))
+        (¬ (IsGood (instruction op (shown_arg arg.entry)))) }
+{
+    match Inst::judged(op, arg) {
+        Some(_) => true,
+        None => false,
+    }
+}
+
+/// Whether the bytes are UTF-8.
+#[inline(always)]
+pub(crate) fn is_utf8(payload: &[u8]) -> bool
+    ensures { MatchBool result (IsUtf8 payload.now) (¬ (IsUtf8 payload.now)) }
+{
+    match str::from_utf8(payload) {
+        Ok(_) => true,
+        Err(_) => false,
     }
 }
 
@@ -82,10 +108,11 @@ fn look(op: Op, split: usize, bytes: &[u8]) -> Option<Reason>
     ensures some { IfSome result (λ reason. (limit : ℕ) (arg : Argument) →
         Lies limit op arg split bytes.now → IsAmiss limit bytes.now reason) }
 {
-    match Inst::judged(op, argument_of(op, split, bytes)) {
-        Some(inst) => objection_to(inst),
-        None => Some(Reason::BadArgument),
+    let arg = argument_of(op, split, bytes);
+    if !is_good(op, arg) {
+        return Some(Reason::BadArgument);
     }
+    objection_to(Inst::known(op, arg))
 }
 
 /// Whether arguments of one byte need no look.
@@ -125,11 +152,12 @@ pub(crate) fn signed_is_plain(op: Op) -> bool
     }
 }
 
-/// Whether counted arguments need no look.
+/// Whether counted arguments are good whatever their payload is. Else it is a text.
 #[inline(always)]
 pub(crate) fn counted_is_plain(op: Op, width: Width, signed: bool) -> bool
     requires { layout_at op ≡ layout.Counted width signed }
-    ensures { result ≡ true → IsPlain op }
+    ensures plain { result ≡ true → IsPlain op }
+    ensures text { result ≡ false → IsText op }
 {
     match op {
         Op::ShortBinUnicode => false,

@@ -10,17 +10,41 @@ ghost use Rattle.pkread.specs.Private.Gathering.{Counts, Finds, Stops};
 ghost use Rattle.pkread.specs.Private.Taking.{LacksSome, TookAll};
 ghost use Rattle.pkread.specs.Rows.{sight};
 
-use crate::admission::{counted_is_plain, judged};
-use crate::blocks::{take, take_field};
+use crate::admission::{counted_is_plain, is_good, is_utf8, judged};
+use crate::blocks::{take_byte, take_field, take_payload};
 use crate::buffer::Buffer;
 use crate::lines::line;
 use crate::refusal::Reason;
 use crate::source::Source;
 use pkops::laws::growth;
-use pkops::{Op, Width, count_behind, is_count};
+use pkops::{Arg, Op, Width, count_behind, is_count};
 
-/// Takes an argument of N bytes, and looks at them where they aren't plain. As of each arm, the
-/// answer is the number of bytes of the first of two lines.
+/// Takes an argument of one byte, and looks at it where it isn't plain.
+#[inline(always)]
+pub(crate) fn one_byte<R: Source>(
+    source: &mut R,
+    buffer: &mut Buffer,
+    taken: &mut u64,
+    op: Op,
+    plain: bool,
+) -> Result<(), Reason>
+    requires code { buffer.old.bytes ≡ code_of op ∷ [] }
+    requires lay { layout_at op ≡ layout.U1 }
+    requires plain { plain ≡ true → IsPlain op }
+    ensures most { buffer.new.most ≡ buffer.old.most }
+    ensures ok { IfOk result (λ _. (limit : ℕ) → Finds limit op 0
+        buffer.old.bytes (sight R.left R.failures source.old) taken.old
+        buffer.new.bytes (sight R.left R.failures source.new) taken.new) }
+    ensures err { IfErr result (λ reason. (limit : ℕ) → Stops limit
+        buffer.old.bytes (sight R.left R.failures source.old) taken.old
+        buffer.new.bytes (sight R.left R.failures source.new) taken.new reason) }
+{
+    growth();
+    take_byte(source, buffer, taken)?;
+    judged(op, plain, 0, buffer.bytes())
+}
+
+/// Takes an argument of N bytes, and looks at them where they aren't plain.
 #[inline(always)]
 pub(crate) fn fixed<R: Source, const N: usize>(
     source: &mut R,
@@ -28,7 +52,7 @@ pub(crate) fn fixed<R: Source, const N: usize>(
     taken: &mut u64,
     op: Op,
     plain: bool,
-) -> Result<usize, Reason>
+) -> Result<(), Reason>
     requires code { buffer.old.bytes ≡ code_of op ∷ [] }
     requires fixed { IsFixed (layout_at op) }
     requires width { N ≡ field_len (layout_at op) }
@@ -36,7 +60,7 @@ pub(crate) fn fixed<R: Source, const N: usize>(
     requires few { N ≤ 8 }
     requires plain { plain ≡ true → IsPlain op }
     ensures most { buffer.new.most ≡ buffer.old.most }
-    ensures ok { IfOk result (λ split. (limit : ℕ) → Finds limit op split
+    ensures ok { IfOk result (λ _. (limit : ℕ) → Finds limit op 0
         buffer.old.bytes (sight R.left R.failures source.old) taken.old
         buffer.new.bytes (sight R.left R.failures source.new) taken.new) }
     ensures err { IfErr result (λ reason. (limit : ℕ) → Stops limit
@@ -46,32 +70,6 @@ pub(crate) fn fixed<R: Source, const N: usize>(
     growth();
     take_field::<R, N>(source, buffer, taken)?;
     judged(op, plain, 0, buffer.bytes())
-}
-
-/// The same, apart, for the layouts that few instructions have.
-#[inline(never)]
-pub(crate) fn fixed_apart<R: Source, const N: usize>(
-    source: &mut R,
-    buffer: &mut Buffer,
-    taken: &mut u64,
-    op: Op,
-    plain: bool,
-) -> Result<usize, Reason>
-    requires code { buffer.old.bytes ≡ code_of op ∷ [] }
-    requires fixed { IsFixed (layout_at op) }
-    requires width { N ≡ field_len (layout_at op) }
-    requires some { 0 < N }
-    requires few { N ≤ 8 }
-    requires plain { plain ≡ true → IsPlain op }
-    ensures most { buffer.new.most ≡ buffer.old.most }
-    ensures ok { IfOk result (λ split. (limit : ℕ) → Finds limit op split
-        buffer.old.bytes (sight R.left R.failures source.old) taken.old
-        buffer.new.bytes (sight R.left R.failures source.new) taken.new) }
-    ensures err { IfErr result (λ reason. (limit : ℕ) → Stops limit
-        buffer.old.bytes (sight R.left R.failures source.old) taken.old
-        buffer.new.bytes (sight R.left R.failures source.new) taken.new reason) }
-{
-    fixed::<R, N>(source, buffer, taken, op, plain)
 }
 
 /// Takes the bytes of a count.
@@ -91,7 +89,10 @@ fn take_width<R: Source>(
         buffer.new.bytes (sight R.left R.failures source.new) taken.new) }
 {
     match width {
-        Width::One => take_field::<R, 1>(source, buffer, taken),
+        Width::One => {
+            take_byte(source, buffer, taken)?;
+            Ok(())
+        }
         Width::Four => take_field::<R, 4>(source, buffer, taken),
         Width::Eight => take_field::<R, 8>(source, buffer, taken),
     }
@@ -132,7 +133,8 @@ pub(crate) fn take_count<R: Source>(
 }
 
 /// Takes a counted argument.
-pub(crate) fn counted<R: Source>(
+#[inline(never)]
+fn counted_apart<R: Source>(
     source: &mut R,
     buffer: &mut Buffer,
     taken: &mut u64,
@@ -140,11 +142,11 @@ pub(crate) fn counted<R: Source>(
     op: Op,
     width: Width,
     signed: bool,
-) -> Result<usize, Reason>
+) -> Result<(), Reason>
     requires code { buffer.old.bytes ≡ code_of op ∷ [] }
     requires lay { layout_at op ≡ layout.Counted width signed }
     ensures most { buffer.new.most ≡ buffer.old.most }
-    ensures ok { IfOk result (λ split. Finds limit op split
+    ensures ok { IfOk result (λ _. Finds limit op 0
         buffer.old.bytes (sight R.left R.failures source.old) taken.old
         buffer.new.bytes (sight R.left R.failures source.new) taken.new) }
     ensures err { IfErr result (Stops limit
@@ -153,22 +155,56 @@ pub(crate) fn counted<R: Source>(
 {
     growth();
     let count = take_count(source, buffer, taken, limit, op, width, signed)?;
-    take(source, buffer, taken, count)?;
-    judged(op, counted_is_plain(op, width, signed), 0, buffer.bytes())
+    let head = buffer.bytes().len();
+    take_payload(source, buffer, taken, count)?;
+    if counted_is_plain(op, width, signed) {
+        return Ok(());
+    }
+    if !is_utf8(&buffer.bytes()[head..]) {
+        return Err(Reason::BadArgument);
+    }
+    Ok(())
+}
+
+/// The same. As for each arm that is called, the answer is taken apart and made anew in a function
+/// of its own: else the arms' answers are one in memory, and each instruction clears it.
+#[inline(always)]
+pub(crate) fn counted<R: Source>(
+    source: &mut R,
+    buffer: &mut Buffer,
+    taken: &mut u64,
+    limit: u64,
+    op: Op,
+    width: Width,
+    signed: bool,
+) -> Result<(), Reason>
+    requires code { buffer.old.bytes ≡ code_of op ∷ [] }
+    requires lay { layout_at op ≡ layout.Counted width signed }
+    ensures most { buffer.new.most ≡ buffer.old.most }
+    ensures ok { IfOk result (λ _. Finds limit op 0
+        buffer.old.bytes (sight R.left R.failures source.old) taken.old
+        buffer.new.bytes (sight R.left R.failures source.new) taken.new) }
+    ensures err { IfErr result (Stops limit
+        buffer.old.bytes (sight R.left R.failures source.old) taken.old
+        buffer.new.bytes (sight R.left R.failures source.new) taken.new) }
+{
+    counted_apart(source, buffer, taken, limit, op, width, signed)?;
+    Ok(())
 }
 
 /// Takes a line.
-pub(crate) fn one_line<R: Source>(
+#[inline(never)]
+fn one_line_apart<R: Source>(
     source: &mut R,
     buffer: &mut Buffer,
     taken: &mut u64,
     op: Op,
     most: usize,
-) -> Result<usize, Reason>
+) -> Result<(), Reason>
     requires code { buffer.old.bytes ≡ code_of op ∷ [] }
     requires lay { layout_at op ≡ layout.Line most }
     ensures most { buffer.new.most ≡ buffer.old.most }
-    ensures ok { IfOk result (λ split. (limit : ℕ) → Finds limit op split
+    ensures ok { IfOk result (λ _. (limit : ℕ) → Finds limit op 0
         buffer.old.bytes (sight R.left R.failures source.old) taken.old
         buffer.new.bytes (sight R.left R.failures source.new) taken.new) }
     ensures err { IfErr result (λ reason. (limit : ℕ) → Stops limit
@@ -177,12 +213,39 @@ pub(crate) fn one_line<R: Source>(
 {
     growth();
     line(source, buffer, taken, most)?;
-    judged(op, false, 0, buffer.bytes())
+    let bytes = buffer.bytes();
+    if !is_good(op, Arg::Line(&bytes[1..bytes.len() - 1])) {
+        return Err(Reason::BadArgument);
+    }
+    Ok(())
+}
+
+/// The same.
+#[inline(always)]
+pub(crate) fn one_line<R: Source>(
+    source: &mut R,
+    buffer: &mut Buffer,
+    taken: &mut u64,
+    op: Op,
+    most: usize,
+) -> Result<(), Reason>
+    requires code { buffer.old.bytes ≡ code_of op ∷ [] }
+    requires lay { layout_at op ≡ layout.Line most }
+    ensures most { buffer.new.most ≡ buffer.old.most }
+    ensures ok { IfOk result (λ _. (limit : ℕ) → Finds limit op 0
+        buffer.old.bytes (sight R.left R.failures source.old) taken.old
+        buffer.new.bytes (sight R.left R.failures source.new) taken.new) }
+    ensures err { IfErr result (λ reason. (limit : ℕ) → Stops limit
+        buffer.old.bytes (sight R.left R.failures source.old) taken.old
+        buffer.new.bytes (sight R.left R.failures source.new) taken.new reason) }
+{
+    one_line_apart(source, buffer, taken, op, most)?;
+    Ok(())
 }
 
 /// Takes two lines, and gives the number of bytes of the first.
 #[inline(never)]
-pub(crate) fn two_lines<R: Source>(
+fn two_lines_apart<R: Source>(
     source: &mut R,
     buffer: &mut Buffer,
     taken: &mut u64,
@@ -203,5 +266,28 @@ pub(crate) fn two_lines<R: Source>(
     line(source, buffer, taken, most)?;
     let split = buffer.bytes().len() - 2;
     line(source, buffer, taken, most)?;
-    judged(op, false, split, buffer.bytes())
+    judged(op, false, split, buffer.bytes())?;
+    Ok(split)
+}
+
+/// The same.
+#[inline(always)]
+pub(crate) fn two_lines<R: Source>(
+    source: &mut R,
+    buffer: &mut Buffer,
+    taken: &mut u64,
+    op: Op,
+    most: usize,
+) -> Result<usize, Reason>
+    requires code { buffer.old.bytes ≡ code_of op ∷ [] }
+    requires lay { layout_at op ≡ layout.Pair most }
+    ensures most { buffer.new.most ≡ buffer.old.most }
+    ensures ok { IfOk result (λ split. (limit : ℕ) → Finds limit op split
+        buffer.old.bytes (sight R.left R.failures source.old) taken.old
+        buffer.new.bytes (sight R.left R.failures source.new) taken.new) }
+    ensures err { IfErr result (λ reason. (limit : ℕ) → Stops limit
+        buffer.old.bytes (sight R.left R.failures source.old) taken.old
+        buffer.new.bytes (sight R.left R.failures source.new) taken.new reason) }
+{
+    Ok(two_lines_apart(source, buffer, taken, op, most)?)
 }

@@ -12,6 +12,7 @@ use crate::source::Source;
 const BLOCK: usize = 4096;
 
 /// One read of the bytes that are left to take, of a block at most. Gives how many came.
+#[inline]
 pub(crate) fn take_block<R: Source>(
     source: &mut R,
     buffer: &mut Buffer,
@@ -38,7 +39,8 @@ pub(crate) fn take_block<R: Source>(
 }
 
 /// Takes just so many bytes more, in blocks.
-pub(crate) fn take<R: Source>(
+#[inline(never)]
+fn take<R: Source>(
     source: &mut R,
     buffer: &mut Buffer,
     taken: &mut u64,
@@ -76,11 +78,12 @@ pub(crate) fn take_byte<R: Source>(
         buffer.old.bytes (sight R.left R.failures source.old) taken.old
         buffer.new.bytes (sight R.left R.failures source.new) taken.new) }
 {
-    if *taken == u64::MAX {
+    let before = *taken;
+    if before == u64::MAX {
         return Err(Reason::TooLarge);
     }
     let byte = buffer.read_byte(source)?;
-    *taken += 1;
+    *taken = before + 1;
     Ok(byte)
 }
 
@@ -110,6 +113,32 @@ pub(crate) fn take_field<R: Source, const N: usize>(
         return Ok(());
     }
     take_rest(source, buffer, taken, N - n)
+}
+
+/// Takes a payload of so many bytes more, which most often come in one read.
+#[inline(always)]
+pub(crate) fn take_payload<R: Source>(
+    source: &mut R,
+    buffer: &mut Buffer,
+    taken: &mut u64,
+    count: usize,
+) -> Result<(), Reason>
+    ensures most { buffer.new.most ≡ buffer.old.most }
+    ensures ok { IfOk result (λ _. TookAll count
+        buffer.old.bytes (sight R.left R.failures source.old) taken.old
+        buffer.new.bytes (sight R.left R.failures source.new) taken.new) }
+    ensures err { IfErr result (LacksSome count
+        buffer.old.bytes (sight R.left R.failures source.old) taken.old
+        buffer.new.bytes (sight R.left R.failures source.new) taken.new) }
+{
+    if count == 0 {
+        return Ok(());
+    }
+    let n = take_block(source, buffer, taken, count)?;
+    if n == count {
+        return Ok(());
+    }
+    take_rest(source, buffer, taken, count - n)
 }
 
 /// Takes just so many bytes more, as `take` does. It stands apart so that room for an answer is

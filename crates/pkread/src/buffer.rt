@@ -80,26 +80,24 @@ impl Buffer {
         self.held = 0;
     }
 
-    /// Counts the bytes held among the most. It seldom has to write.
-    #[inline]
+    /// Counts the bytes held among the most. It seldom has to write, and does that apart.
+    #[inline(always)]
     pub(crate) fn raise(&mut self)
         ensures bytes { self.new.bytes ≡ self.old.bytes }
         ensures most { self.new.most ≡ max self.old.most (length self.old.bytes) }
     {
-        if self.held <= self.most {
-            return;
+        if self.held > self.most {
+            self.raise_apart();
         }
-        self.most = self.held;
     }
 
-    /// The same, apart: where an instruction is refused, so that the way of one that is given has
-    /// no test of which it is.
+    /// The same, where it is likely to write, or where an instruction is refused.
     #[inline(never)]
     pub(crate) fn raise_apart(&mut self)
         ensures bytes { self.new.bytes ≡ self.old.bytes }
         ensures most { self.new.most ≡ max self.old.most (length self.old.bytes) }
     {
-        self.raise();
+        self.most = self.most.max(self.held);
     }
 
     /// Counts the bytes held among the most, and forgets all but the first of them.

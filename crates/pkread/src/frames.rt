@@ -46,10 +46,10 @@ impl Frames {
             result self.new }
     {
         if self.open == 0 {
-            self.open = match op {
-                Op::Frame => arg,
-                _ => 0,
-            };
+            match op {
+                Op::Frame => self.open = arg,
+                _ => {}
+            }
             return Ok(());
         }
         match op {

@@ -11,13 +11,13 @@ ghost use Rattle.pkread.specs.Rows.{Refuses, sight, unread};
 ghost use Rattle.pkread.specs.Private.Taking.{LacksSome, Took};
 
 use crate::admission::{byte_is_plain, signed_is_plain, two_is_plain};
-use crate::arms::{counted, fixed, fixed_apart, one_line, two_lines};
+use crate::arms::{counted, fixed, one_byte, one_line, two_lines};
 use crate::blocks::take_byte;
 use crate::buffer::Buffer;
 use crate::refusal::Reason;
 use crate::source::Source;
 use pkops::laws::{growth, one_answer};
-use pkops::{Layout, Op, layout_of_op, op_of_byte};
+use pkops::{Layout, Limits, Op, layout_of_op, op_of_byte};
 
 /// What was gathered: an opcode, and the number of bytes of the first of two lines.
 #[derive(Clone, Copy, Debug)]
@@ -34,34 +34,36 @@ fn behind_code<R: Source>(
     source: &mut R,
     buffer: &mut Buffer,
     taken: &mut u64,
-    limit: u64,
+    limits: &Limits,
     op: Op,
     layout: Layout,
 ) -> Result<usize, Reason>
     requires code { buffer.old.bytes ≡ code_of op ∷ [] }
     requires lay { layout ≡ layout_at op }
     ensures most { buffer.new.most ≡ buffer.old.most }
-    ensures ok { IfOk result (λ split. Finds limit op split
+    ensures ok { IfOk result (λ split. Finds limits.now.counted op split
         buffer.old.bytes (sight R.left R.failures source.old) taken.old
         buffer.new.bytes (sight R.left R.failures source.new) taken.new) }
-    ensures err { IfErr result (Stops limit
+    ensures err { IfErr result (Stops limits.now.counted
         buffer.old.bytes (sight R.left R.failures source.old) taken.old
         buffer.new.bytes (sight R.left R.failures source.new) taken.new) }
 {
     growth();
     match layout {
-        Layout::Nothing => Ok(0),
-        Layout::U1 => fixed::<R, 1>(source, buffer, taken, op, byte_is_plain(op)),
-        Layout::U2 => fixed_apart::<R, 2>(source, buffer, taken, op, two_is_plain(op)),
-        Layout::I4 => fixed_apart::<R, 4>(source, buffer, taken, op, signed_is_plain(op)),
-        Layout::U4 => fixed_apart::<R, 4>(source, buffer, taken, op, true),
-        Layout::U8 => fixed_apart::<R, 8>(source, buffer, taken, op, true),
-        Layout::F8 => fixed_apart::<R, 8>(source, buffer, taken, op, true),
-        // What is called is taken apart and made anew: else the arms' answers are one in memory.
-        Layout::Line(most) => Ok(one_line(source, buffer, taken, op, most)?),
-        Layout::Pair(most) => Ok(two_lines(source, buffer, taken, op, most)?),
-        Layout::Counted(width, signed) => counted(source, buffer, taken, limit, op, width, signed),
+        Layout::Nothing => {}
+        Layout::U1 => one_byte(source, buffer, taken, op, byte_is_plain(op))?,
+        Layout::U2 => fixed::<R, 2>(source, buffer, taken, op, two_is_plain(op))?,
+        Layout::I4 => fixed::<R, 4>(source, buffer, taken, op, signed_is_plain(op))?,
+        Layout::U4 => fixed::<R, 4>(source, buffer, taken, op, true)?,
+        Layout::U8 => fixed::<R, 8>(source, buffer, taken, op, true)?,
+        Layout::F8 => fixed::<R, 8>(source, buffer, taken, op, true)?,
+        Layout::Line(most) => one_line(source, buffer, taken, op, most)?,
+        Layout::Pair(most) => return two_lines(source, buffer, taken, op, most),
+        Layout::Counted(width, signed) => {
+            counted(source, buffer, taken, limits.counted(), op, width, signed)?;
+        }
     }
+    Ok(0)
 }
 
 /// Takes the first byte of an instruction, which the buffer holds where it was taken ahead.
@@ -115,7 +117,7 @@ pub(crate) fn gather_behind<R: Source>(
     source: &mut R,
     buffer: &mut Buffer,
     taken: &mut u64,
-    limit: u64,
+    limits: &Limits,
     op: Op,
     layout: Layout,
 ) -> Result<Found, Reason>
@@ -123,15 +125,15 @@ pub(crate) fn gather_behind<R: Source>(
     requires lay { layout ≡ layout_at op }
     ensures most { buffer.new.most ≡ buffer.old.most }
     ensures op { IfOk result (λ f. f.op ≡ op) }
-    ensures whole { IfOk result (λ f. IsFound limit buffer.new.bytes f.op f.split) }
+    ensures whole { IfOk result (λ f. IsFound limits.now.counted buffer.new.bytes f.op f.split) }
     ensures ok { IfOk result (λ _. (bytes : List ℕ) × Took bytes
         buffer.old.bytes (sight R.left R.failures source.old) taken.old
         buffer.new.bytes (sight R.left R.failures source.new) taken.new) }
-    ensures err { IfErr result (Stops limit
+    ensures err { IfErr result (Stops limits.now.counted
         buffer.old.bytes (sight R.left R.failures source.old) taken.old
         buffer.new.bytes (sight R.left R.failures source.new) taken.new) }
 {
-    let split = behind_code(source, buffer, taken, limit, op, layout)?;
+    let split = behind_code(source, buffer, taken, limits, op, layout)?;
     Ok(Found { op, split })
 }
 
@@ -141,20 +143,20 @@ fn gather_held<R: Source>(
     source: &mut R,
     buffer: &mut Buffer,
     taken: &mut u64,
-    limit: u64,
+    limits: &Limits,
 ) -> Result<Found, Reason>
     requires { Begins buffer.old.bytes taken.old }
     ensures most { buffer.new.most ≡ buffer.old.most }
-    ensures whole { IfOk result (λ f. IsFound limit buffer.new.bytes f.op f.split) }
+    ensures whole { IfOk result (λ f. IsFound limits.now.counted buffer.new.bytes f.op f.split) }
     ensures ok { IfOk result (λ _. (bytes : List ℕ) × Took bytes
         [] (unread buffer.old.bytes (sight R.left R.failures source.old)) taken.old
         buffer.new.bytes (sight R.left R.failures source.new) taken.new) }
-    ensures err { IfErr result (Stops limit
+    ensures err { IfErr result (Stops limits.now.counted
         [] (unread buffer.old.bytes (sight R.left R.failures source.old)) taken.old
         buffer.new.bytes (sight R.left R.failures source.new) taken.new) }
 {
     let op = take_op(source, buffer, taken)?;
-    gather_behind(source, buffer, taken, limit, op, layout_of_op(op))
+    gather_behind(source, buffer, taken, limits, op, layout_of_op(op))
 }
 
 /// Takes bytes until they spell an instruction: its code alone, where the buffer does not hold it
@@ -164,24 +166,24 @@ pub(crate) fn gather<R: Source>(
     source: &mut R,
     buffer: &mut Buffer,
     taken: &mut u64,
-    limit: u64,
+    limits: &Limits,
 ) -> Result<Found, Reason>
     requires { Begins buffer.old.bytes taken.old }
-    ensures whole { IfOk result (λ f. IsFound limit buffer.new.bytes f.op f.split) }
-    ensures ok { IfOk result (λ _. Gathers limit
+    ensures whole { IfOk result (λ f. IsFound limits.now.counted buffer.new.bytes f.op f.split) }
+    ensures ok { IfOk result (λ _. Gathers limits.now.counted
         (unread buffer.old.bytes (sight R.left R.failures source.old))
         (sight R.left R.failures source.new)
         buffer.new.bytes taken.old taken.new) }
-    ensures err { IfErr result (λ reason. (bytes : List ℕ) × Refuses limit
+    ensures err { IfErr result (λ reason. (bytes : List ℕ) × Refuses limits.now.counted
         (unread buffer.old.bytes (sight R.left R.failures source.old))
         (sight R.left R.failures source.new)
         bytes taken.old taken.new reason × HoldsTaken reason bytes buffer.new.bytes) }
     ensures most { buffer.new.most ≡ max buffer.old.most (length buffer.new.bytes) }
-    ensures bound { length buffer.new.bytes ≤ longest limit }
+    ensures bound { length buffer.new.bytes ≤ longest limits.now.counted }
 {
     growth();
     one_answer();
-    let gathered = gather_held(source, buffer, taken, limit);
+    let gathered = gather_held(source, buffer, taken, limits);
     buffer.raise();
     gathered
 }

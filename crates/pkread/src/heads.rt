@@ -32,6 +32,7 @@ pub(crate) enum Gathered {
 }
 
 /// Takes just so many bytes more, in blocks, and forgets each block.
+#[inline(never)]
 fn pass_over<R: Source>(
     source: &mut R,
     buffer: &mut Buffer,
@@ -60,7 +61,62 @@ fn pass_over<R: Source>(
     }
 }
 
+/// The same, where it seldom comes to it. The answer is made anew, as those of the arms are.
+#[inline(always)]
+fn pass_rest<R: Source>(
+    source: &mut R,
+    buffer: &mut Buffer,
+    taken: &mut u64,
+    count: usize,
+) -> Result<(), Reason>
+    requires few { length buffer.old.bytes ≤ 9 }
+    ensures least { buffer.old.most ≤ buffer.new.most }
+    ensures most { buffer.new.most ≤ max buffer.old.most 131_075 }
+    ensures held { buffer.new.bytes ≡ buffer.old.bytes }
+    ensures ok { IfOk result (λ _. PassedAll count
+        buffer.old.bytes (sight R.left R.failures source.old) taken.old
+        (sight R.left R.failures source.new) taken.new) }
+    ensures err { IfErr result (PassedSome count
+        buffer.old.bytes (sight R.left R.failures source.old) taken.old
+        (sight R.left R.failures source.new) taken.new) }
+{
+    pass_over(source, buffer, taken, count)?;
+    Ok(())
+}
+
+/// Takes a payload of so many bytes, which most often come in one read, and forgets them.
+#[inline(always)]
+fn pass_payload<R: Source>(
+    source: &mut R,
+    buffer: &mut Buffer,
+    taken: &mut u64,
+    count: usize,
+) -> Result<(), Reason>
+    requires few { length buffer.old.bytes ≤ 9 }
+    ensures least { buffer.old.most ≤ buffer.new.most }
+    ensures most { buffer.new.most ≤ max buffer.old.most 131_075 }
+    ensures held { buffer.new.bytes ≡ buffer.old.bytes }
+    ensures ok { IfOk result (λ _. PassedAll count
+        buffer.old.bytes (sight R.left R.failures source.old) taken.old
+        (sight R.left R.failures source.new) taken.new) }
+    ensures err { IfErr result (PassedSome count
+        buffer.old.bytes (sight R.left R.failures source.old) taken.old
+        (sight R.left R.failures source.new) taken.new) }
+{
+    if count == 0 {
+        return Ok(());
+    }
+    let head = buffer.bytes().len();
+    let n = take_block(source, buffer, taken, count)?;
+    buffer.cut(head);
+    if n == count {
+        return Ok(());
+    }
+    pass_rest(source, buffer, taken, count - n)
+}
+
 /// How many bytes the count of a passed opcode has. None of these counts has a sign.
+#[inline]
 fn count_width(op: Op) -> Width
     requires { is_passed op ≡ true }
     ensures { layout_at op ≡ layout.Counted result false }
@@ -108,38 +164,65 @@ fn pass_argument<R: Source>(
 {
     growth();
     let count = take_count(source, buffer, taken, limit, op, count_width(op), false)?;
-    pass_over(source, buffer, taken, count)?;
+    pass_payload(source, buffer, taken, count)?;
+    buffer.raise();
     Ok(count as u64)
 }
 
-/// Takes an instruction, and leaves the most that was held but for a payload that is passed.
+/// The same. Its answer is taken apart and made anew in a function of its own, as those of the arms
+/// are, so that room for it is made where a payload is passed.
+#[inline(always)]
+fn pass<R: Source>(
+    source: &mut R,
+    buffer: &mut Buffer,
+    taken: &mut u64,
+    limit: u64,
+    op: Op,
+) -> Result<u64, Reason>
+    requires code { buffer.old.bytes ≡ code_of op ∷ [] }
+    requires passed { is_passed op ≡ true }
+    ensures least { buffer.old.most ≤ buffer.new.most }
+    ensures most { buffer.new.most ≤ max buffer.old.most 131_075 }
+    ensures few { length buffer.new.bytes ≤ 9 }
+    ensures ok { IfOk result (λ count. GrowsPassing limit op count
+        buffer.old.bytes (sight R.left R.failures source.old) taken.old
+        (sight R.left R.failures source.new) taken.new) }
+    ensures err { IfErr result (StopsPassing limit
+        buffer.old.bytes (sight R.left R.failures source.old) taken.old
+        (sight R.left R.failures source.new) taken.new) }
+{
+    Ok(pass_argument(source, buffer, taken, limit, op)?)
+}
+
+/// Takes an instruction. The most that was held is raised on the way of each kind that is given, so
+/// that these are told apart once, and else left but for a payload that is passed.
 #[inline(always)]
 fn gather_parts<R: Source>(
     source: &mut R,
     buffer: &mut Buffer,
     taken: &mut u64,
-    limits: Limits,
+    limits: &Limits,
 ) -> Result<Gathered, Reason>
     requires { Begins buffer.old.bytes taken.old }
     ensures least { buffer.old.most ≤ buffer.new.most }
-    ensures bound { most_now buffer.new ≤ max buffer.old.most (longest limits.counted) }
-    ensures passed { IfOk result (λ g. IfPassed g (λ op count. PassesBy limits.passed op count
+    ensures bound { most_now buffer.new ≤ max buffer.old.most (longest limits.now.counted) }
+    ensures passed { IfOk result (λ g. IfPassed g (λ op count. PassesBy limits.now.passed op count
         (unread buffer.old.bytes (sight R.left R.failures source.old))
         (sight R.left R.failures source.new)
         taken.old taken.new)) }
     ensures few { IfOk result (λ g. IfPassed g (λ _ _.
-        most_now buffer.new ≤ max buffer.old.most 131_075)) }
+        buffer.new.most ≤ max buffer.old.most 131_075)) }
     ensures held { IfOk result (λ g. IfHeld g (λ f.
-        IsFound limits.counted buffer.new.bytes f.op f.split
+        IsFound limits.now.counted buffer.new.bytes f.op f.split
         × (is_passed f.op ≡ false)
-        × (buffer.new.most ≡ buffer.old.most)
-        × Gathers limits.counted
+        × (buffer.new.most ≡ max buffer.old.most (length buffer.new.bytes))
+        × Gathers limits.now.counted
         (unread buffer.old.bytes (sight R.left R.failures source.old))
         (sight R.left R.failures source.new)
         buffer.new.bytes taken.old taken.new
-        × HoldsFew buffer.old.most buffer.new.bytes (most_now buffer.new))) }
+        × HoldsFew buffer.old.most buffer.new.bytes buffer.new.most)) }
     ensures err { IfErr result (λ reason. (bytes : List ℕ)
-        × Refuses (payload_limit_at limits bytes)
+        × Refuses (payload_limit_at limits.now bytes)
         (unread buffer.old.bytes (sight R.left R.failures source.old))
         (sight R.left R.failures source.new)
         bytes taken.old taken.new reason
@@ -151,10 +234,11 @@ fn gather_parts<R: Source>(
     let op = take_op(source, buffer, taken)?;
     let layout = layout_of_op(op);
     if is_passed(op, layout) {
-        let count = pass_argument(source, buffer, taken, limits.passed(), op)?;
+        let count = pass(source, buffer, taken, limits.passed(), op)?;
         return Ok(Gathered::Passed { op, count });
     }
-    let found = gather_behind(source, buffer, taken, limits.counted(), op, layout)?;
+    let found = gather_behind(source, buffer, taken, limits, op, layout)?;
+    buffer.raise();
     Ok(Gathered::Held(found))
 }
 
@@ -164,38 +248,35 @@ pub(crate) fn gather_head<R: Source>(
     source: &mut R,
     buffer: &mut Buffer,
     taken: &mut u64,
-    limits: Limits,
+    limits: &Limits,
 ) -> Result<Gathered, Reason>
     requires { Begins buffer.old.bytes taken.old }
     ensures least { buffer.old.most ≤ buffer.new.most }
-    ensures bound { buffer.new.most ≤ max buffer.old.most (longest limits.counted) }
-    ensures passed { IfOk result (λ g. IfPassed g (λ op count. PassesBy limits.passed op count
+    ensures bound { buffer.new.most ≤ max buffer.old.most (longest limits.now.counted) }
+    ensures passed { IfOk result (λ g. IfPassed g (λ op count. PassesBy limits.now.passed op count
         (unread buffer.old.bytes (sight R.left R.failures source.old))
         (sight R.left R.failures source.new)
         taken.old taken.new)) }
     ensures few { IfOk result (λ g. IfPassed g (λ _ _.
         buffer.new.most ≤ max buffer.old.most 131_075)) }
     ensures held { IfOk result (λ g. IfHeld g (λ f.
-        IsFound limits.counted buffer.new.bytes f.op f.split
+        IsFound limits.now.counted buffer.new.bytes f.op f.split
         × (is_passed f.op ≡ false)
         × (buffer.new.most ≡ max buffer.old.most (length buffer.new.bytes))
-        × Gathers limits.counted
+        × Gathers limits.now.counted
         (unread buffer.old.bytes (sight R.left R.failures source.old))
         (sight R.left R.failures source.new)
         buffer.new.bytes taken.old taken.new
         × HoldsFew buffer.old.most buffer.new.bytes buffer.new.most)) }
     ensures err { IfErr result (λ reason. (bytes : List ℕ)
-        × Refuses (payload_limit_at limits bytes)
+        × Refuses (payload_limit_at limits.now bytes)
         (unread buffer.old.bytes (sight R.left R.failures source.old))
         (sight R.left R.failures source.new)
         bytes taken.old taken.new reason
         × HoldsFew buffer.old.most bytes buffer.new.most) }
 {
     match gather_parts(source, buffer, taken, limits) {
-        Ok(gathered) => {
-            buffer.raise();
-            Ok(gathered)
-        }
+        Ok(gathered) => Ok(gathered),
         Err(reason) => {
             buffer.raise_apart();
             Err(reason)

@@ -173,10 +173,8 @@ impl Core {
             × Raises self.old.held.most bytes r.reason self.new.held.most) }
     {
         let at = self.taken;
-        let limit = self.limits.counted();
-        keep(&mut self.buffer, self.begun);
-        self.begun = false;
-        let gathered = gather(source, &mut self.buffer, &mut self.taken, limit);
+        keep(&mut self.buffer, &mut self.begun);
+        let gathered = gather(source, &mut self.buffer, &mut self.taken, &self.limits);
         let _taken = self.taken;
         match gathered {
             Ok(found) => {
@@ -222,10 +220,8 @@ impl Core {
             × HoldsFew self.old.held.most bytes self.new.held.most) }
     {
         let at = self.taken;
-        let limits = self.limits;
-        keep(&mut self.buffer, self.begun);
-        self.begun = false;
-        let gathered = gather_head(source, &mut self.buffer, &mut self.taken, limits);
+        keep(&mut self.buffer, &mut self.begun);
+        let gathered = gather_head(source, &mut self.buffer, &mut self.taken, &self.limits);
         let _taken = self.taken;
         match gathered {
             Ok(Gathered::Passed { op, count }) => Ok(Gathered::Passed { op, count }),
@@ -272,13 +268,17 @@ impl Core {
     }
 }
 
-/// Leaves in a buffer what was taken ahead of the next instruction, where that is begun.
+/// Leaves in a buffer what was taken ahead of the next instruction, where that is begun. Nothing is
+/// ahead of the one behind it.
 #[inline(always)]
-fn keep(buffer: &mut Buffer, begun: bool)
-    ensures bytes { buffer.new.bytes ≡ ahead_of begun buffer.old.bytes }
+fn keep(buffer: &mut Buffer, begun: &mut bool)
+    ensures bytes { buffer.new.bytes ≡ ahead_of begun.old buffer.old.bytes }
     ensures most { buffer.new.most ≡ buffer.old.most }
+    ensures none { begun.new ≡ false }
 {
-    if !begun {
+    if *begun {
+        *begun = false;
+    } else {
         buffer.clear();
     }
 }

@@ -20,3 +20,8 @@ reason_of fault.TooLarge = TooLarge
 pub record IsPlain (o : Op) : Type 0 where
   pub contents : rule_of o ≡ rule.Anything
   pub admitted : (arg : Argument) → objection (instruction o arg) ≡ None
+
+-- the argument of the opcode is good where its payload is UTF-8, and then it is admitted
+pub record IsText (o : Op) : Type 0 where
+  pub contents : rule_of o ≡ rule.Utf8
+  pub admitted : (arg : Argument) → objection (instruction o arg) ≡ None
