@@ -1,11 +1,12 @@
 -- Where the marks are.
-use Rattle.std.proofs.Common.{◌≡◌, ℕ, zero, suc, ◌+◌, ◌-◌, ◌<◌, ◌≤◌, ◌⊎◌, inl, inr, List, [], ◌∷◌, ◌++◌, length, take, drop, get_or, Ok, Err, refl, sym, ap, ◌∙◌, arith, append-nil, length-drop}
+use Rattle.std.proofs.Common.{◌≡◌, ℕ, zero, suc, ◌+◌, ◌-◌, ◌<◌, ◌≤◌, ◌⊎◌, inl, inr, List, [], ◌∷◌, ◌++◌, length, take, drop, get_or, Ok, Err, refl, sym, ap, ◌∙◌, arith, append-nil, length-append, length-drop}
 use Rattle.std.proofs.lemmas.List.{take-append-drop}
+use Rattle.std.proofs.Math.Seq.{take-append_seam, take-suc}
 use Rattle.std.specs.Prelude.{slice_get, Some, None}
 use Rattle.pkcheck.specs.declared.machine.value.Value.{Value}
 use Rattle.pkcheck.specs.declared.machine.stack.slots.Slot.{Slot}
 use Rattle.pkcheck.specs.declared.machine.stack.slots.Slot.TheVariants.{Mark, Object}
-use Rattle.pkcheck.specs.Shape.{Entry, Item, NoMark, marks_of, slice}
+use Rattle.pkcheck.specs.Shape.{Entry, Item, NoItem, NoMark, items, marks_of, slice}
 use Rattle.pkcheck.specs.Private.Slots.{AllObjects, bars, entry_of, shown, values_of}
 use Rattle.pkcheck.proofs.Shown.{shown_append}
 
@@ -81,10 +82,12 @@ count_all (Mark ∷ xs) h = absurd h
 pub no_slice : (xs : List Slot) → AllObjects xs → slice (shown xs []) [] ≡ Err NoMark
 no_slice xs h = slice_over xs [] [] h
 
+divided : (n : ℕ) (xs : List Slot) → shown xs [] ≡ shown (drop n xs) (shown (take n xs) [])
+divided n xs = ap (λ l. shown l []) (sym (take-append-drop n xs)) ∙ shown_append (take n xs) (drop n xs) []
+
 pub slice_at : (xs : List Slot) (n : ℕ) → IsTopmost xs n → slice (shown xs []) [] ≡ Ok (record { operands = values_of (drop n xs); below = shown (take n xs) [] })
 slice_at xs n t =
-    let split : shown xs [] ≡ shown (drop n xs) (shown (take n xs) []) = ap (λ l. shown l []) (sym (take-append-drop n xs)) ∙ shown_append (take n xs) (drop n xs) [] in
-    rw (split, t.here) (slice_over (drop (suc n) xs) (entry_of Mark ∷ shown (take n xs) []) [] t.above ∙ rw (append-nil (values_of (drop (suc n) xs))) refl)
+    rw (divided n xs, t.here) (slice_over (drop (suc n) xs) (entry_of Mark ∷ shown (take n xs) []) [] t.above ∙ rw (append-nil (values_of (drop (suc n) xs))) refl)
 
 pub slice_count : (xs : List Slot) (n : ℕ) → IsTopmost xs n → length (values_of (drop n xs)) + (n + 1) ≡ length xs
 slice_count xs n t =
@@ -92,7 +95,61 @@ slice_count xs n t =
     let h = t.within in
     omega (arith, e, h, length-drop (suc n) xs)
 
+-- ---- so many objects from the top
+
+items_over : (ys : List Slot) (n k : ℕ) (below : List (Entry Value)) (above : List Value) → AllObjects ys → n ≡ length ys + k → items n (shown ys below) above ≡ items k below (values_of ys ++ above)
+items_over [] n k below above h e = let f : n ≡ k = omega arith in rw f refl
+items_over (Object v ∷ ys) n k below above h e = items_over ys n (suc k) (Item v ∷ below) above h (omega (arith, e))
+items_over (Mark ∷ ys) n k below above h e = absurd h
+
+pub items_at : (xs : List Slot) (n count : ℕ) → AllObjects (drop n xs) → n + count ≡ length xs → items count (shown xs []) [] ≡ Ok (record { operands = values_of (drop n xs); below = shown (take n xs) [] })
+items_at xs n count h e = rw (divided n xs) (items_over (drop n xs) count 0 (shown (take n xs) []) [] h (omega (arith, length-drop n xs)) ∙ rw (append-nil (values_of (drop n xs))) refl)
+
+-- a mark is among them
+pub items_marked : (xs : List Slot) (n count : ℕ) → IsTopmost xs n → length xs - n - 1 < count → items count (shown xs []) [] ≡ Err NoItem
+items_marked xs n count t h =
+    let k = count - length (drop (suc n) xs) - 1 in
+    let w = t.within in
+    rw (divided n xs, t.here) (items_over (drop (suc n) xs) count (suc k) (entry_of Mark ∷ shown (take n xs) []) [] t.above (omega (arith, w, length-drop (suc n) xs)))
+
+-- there are too few
+pub items_few : (xs : List Slot) (count : ℕ) → AllObjects xs → length xs < count → items count (shown xs []) [] ≡ Err NoItem
+items_few xs count a h = let k = count - length xs - 1 in items_over xs count (suc k) [] [] a (omega arith)
+
+objects_drop : (xs : List Slot) (m : ℕ) → AllObjects xs → AllObjects (drop m xs)
+objects_drop xs zero h = h
+objects_drop [] (suc m) h = tt
+objects_drop (Object v ∷ xs) (suc m) h = objects_drop xs m h
+objects_drop (Mark ∷ xs) (suc m) h = absurd h
+
+-- what stands higher
+pub objects_above : (xs : List Slot) (n m : ℕ) → n ≤ m → AllObjects (drop n xs) → AllObjects (drop m xs)
+objects_above xs zero m le h = objects_drop xs m h
+objects_above [] (suc n) m le h = objects_drop [] m tt
+objects_above (x ∷ xs) (suc n) zero le h = absurd (omega (arith, le))
+objects_above (x ∷ xs) (suc n) (suc m) le h = objects_above xs n m (omega (arith, le)) h
+
 -- ---- the marks below a place
+
+bars_split : (xs : List Slot) (n : ℕ) → bars 0 xs ≡ bars 0 (take n xs) ++ bars (0 + length (take n xs)) (drop n xs)
+bars_split xs n = ap (bars 0) (sym (take-append-drop n xs)) ∙ bars_append (take n xs) (drop n xs) 0
+
+pub marks_kept : (xs : List Slot) (n : ℕ) → AllObjects (drop n xs) → length (bars 0 (take n xs)) ≡ length (bars 0 xs)
+marks_kept xs n h = rw (bars_split xs n, bars_objects (drop n xs) (0 + length (take n xs)) h, append-nil (bars 0 (take n xs))) refl
+
+pub marks_slice : (xs : List Slot) (n : ℕ) → IsTopmost xs n → length (bars 0 (take n xs)) + 1 ≡ length (bars 0 xs)
+marks_slice xs n t =
+    let k = 0 + length (take n xs) in
+    let e = length-append (bars 0 (take n xs)) (k ∷ []) in
+    rw (bars_split xs n, t.here, bars_objects (drop (suc n) xs) (suc k) t.above) (omega (arith, e))
+
+-- one more that is no mark
+pub marks_over_object : (xs : List Slot) (m n : ℕ) (d : Slot) (v : Value) → m ≡ suc n → n < length xs → get_or xs n d ≡ Object v → bars 0 (take m xs) ≡ bars 0 (take n xs)
+marks_over_object xs m n d v is h e = rw (is, take-suc xs n d, e) (bars_pushed (take n xs) v)
+
+-- so many of them are those of the lowest entries
+pub marks_cut : (xs : List Slot) (l : List ℕ) (n m : ℕ) → l ≡ bars 0 xs → m ≡ length (bars 0 (take n xs)) → take m l ≡ bars 0 (take n xs)
+marks_cut xs l n m e f = rw (e, f, bars_split xs n) (take-append_seam (bars 0 (take n xs)) (bars (0 + length (take n xs)) (drop n xs)))
 
 bars_from : (xs : List Slot) (k j : ℕ) → j < length (bars k xs) → k ≤ get_or (bars k xs) j 0
 bars_from [] k j h = absurd (omega (arith, h))

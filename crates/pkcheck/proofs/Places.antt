@@ -6,12 +6,13 @@ use Rattle.pkcheck.specs.declared.machine.stack.slots.Slot.{Slot}
 use Rattle.pkcheck.specs.declared.machine.stack.slots.Slot.TheVariants as slot
 use Rattle.pkcheck.specs.declared.machine.effects.Takes.{Takes}
 use Rattle.pkcheck.specs.declared.machine.effects.Takes.TheVariants.{Objects, Slice, SliceAndReceiver}
-use Rattle.pkcheck.specs.Shape.{Entry, Mark, Item, front, operands}
+use Rattle.pkcheck.specs.Shape.{Entry, Mark, Item, front, marks_of, operands}
 use Rattle.pkcheck.specs.declared.machine.value.Value.{Value}
 use Rattle.pkcheck.specs.Private.Places.{below, above, from_bottom}
-use Rattle.pkcheck.specs.Private.Slots.{entry_of, shown, values_of, FirstObject, StartsWell}
+use Rattle.pkcheck.specs.Private.Slots.{bars, entry_of, shown, values_of, FirstObject, StartsWell}
 use Rattle.pkcheck.specs.Private.Denials.{HasFirst}
 use Rattle.pkcheck.proofs.Shown.{shown_append}
+use Rattle.pkcheck.proofs.Bars.{marks_shown}
 use Rattle.pkcheck.proofs.Limited.{length_shown}
 
 shown_over : (xs : List Slot) (es : List (Entry Value)) → shown xs es ≡ shown xs [] ++ es
@@ -62,6 +63,17 @@ has_object (Objects k) (slot.Mark ∷ xs) h w = absurd w.1
 has_object (Slice rule) xs h w = absurd h
 has_object (SliceAndReceiver rule) xs h w = w
 
+object_there : (xs : List Slot) (n : ℕ) → FirstObject (drop n xs) → n < length xs
+object_there (x ∷ xs) zero h = omega arith
+object_there (x ∷ xs) (suc n) h = let g = object_there xs n h in omega (arith, g)
+object_there [] zero h = absurd h
+object_there [] (suc n) h = absurd h
+
+pub first_there : (takes : Takes) (n : ℕ) (xs : List Slot) → HasFirst takes → StartsWell takes (drop n xs) → n < length (shown xs [])
+first_there takes n xs h w =
+    let there = object_there xs n (has_object takes (drop n xs) h w) in
+    omega (arith, there, length_shown xs)
+
 pub first_left : (takes : Takes) (n : ℕ) (xs : List Slot) → HasFirst takes → StartsWell takes (drop n xs) → below (n + 1) (shown xs []) ≡ front (above n (shown xs [])) ++ below n (shown xs [])
 first_left takes n xs h w = rw (below_shown (n + 1) xs, above_shown n xs, below_shown n xs, add-one) (left_is xs n [] (has_object takes (drop n xs) h w))
 
@@ -86,3 +98,10 @@ length_below n es h = let k = length-drop (length es - n) es in omega (arith, h,
 
 pub below_all : {A : Type 0} (n : ℕ) (es : List (Entry A)) → length es ≤ n → below n es ≡ es
 below_all n es h = let k : length es - n ≡ 0 = omega (arith, h) in rw k refl
+
+pub below_marks : (n : ℕ) (xs : List Slot) → length (bars 0 (take n xs)) ≡ marks_of (below n (shown xs []))
+below_marks n xs = rw (below_shown n xs) (marks_shown (take n xs))
+
+pub front_marks : {A : Type 0} (vs : List A) (es : List (Entry A)) → marks_of (front vs ++ es) ≡ marks_of es
+front_marks [] es = refl
+front_marks (v ∷ vs) es = refl

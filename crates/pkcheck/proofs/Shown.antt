@@ -5,7 +5,7 @@ use Rattle.pkcheck.specs.declared.machine.value.Value.{Value}
 use Rattle.pkcheck.specs.declared.machine.stack.slots.Slot.{Slot}
 use Rattle.pkcheck.specs.declared.machine.stack.slots.Slot.TheVariants as slot
 use Rattle.pkcheck.specs.Shape.{NoItem, Entry, slice, items}
-use Rattle.pkcheck.specs.Private.Slots.{AllObjects, FirstObject, entry_of, shown, values_of}
+use Rattle.pkcheck.specs.Private.Slots.{FirstObject, entry_of, shown, values_of}
 
 pub shown_append : (xs ys : List Slot) (below : List (Entry Value)) → shown (xs ++ ys) below ≡ shown ys (shown xs below)
 shown_append [] ys below = refl
@@ -31,17 +31,8 @@ module _ (xs : List Slot) (m n : ℕ) (d : Slot) (is : m ≡ suc n) (h : n < len
   pub items_at_object : (k j : ℕ) (v : Value) → k ≡ suc j → get_or xs n d ≡ slot.Object v → items k (shown (take m xs) []) (values_of (drop m xs)) ≡ items j (shown (take n xs) []) (values_of (drop n xs))
   items_at_object k j v e g = rw (e, shown_take xs m n d (slot.Object v) is h g, values_drop xs m n d (slot.Object v) is h g) refl
 
-pub items_at_bottom : (xs : List Slot) (m k j : ℕ) → m ≡ 0 → k ≡ suc j → items k (shown (take m xs) []) (values_of (drop m xs)) ≡ Err NoItem
-items_at_bottom xs m k j e g = rw (g, e) refl
-
-pub items_done : (xs : List Slot) (m k : ℕ) → k ≡ 0 → items k (shown (take m xs) []) (values_of (drop m xs)) ≡ Ok (record { operands = values_of (drop m xs); below = shown (take m xs) [] })
-items_done xs m k e = rw e refl
-
 pub starts_well : (xs : List Slot) (n k : ℕ) → n + k ≡ length xs → length (drop n xs) ≡ k
 starts_well xs n k e = omega (arith, length-drop n xs)
-
-pub all_objects : (xs : List Slot) (m n : ℕ) (d : Slot) → m ≡ suc n → n < length xs → (v : Value) → get_or xs n d ≡ slot.Object v → AllObjects (drop m xs) → AllObjects (drop n xs)
-all_objects xs m n d is h v e a = rw (drop-cons xs n d, e, ← is) a
 
 pub first_object : (xs : List Slot) (n : ℕ) (d : Slot) → n < length xs → (v : Value) → get_or xs n d ≡ slot.Object v → FirstObject (drop n xs)
 first_object xs n d h v e = rw (drop-cons xs n d, e) tt

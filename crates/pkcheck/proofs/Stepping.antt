@@ -11,5 +11,6 @@ pub mod Settings
 pub mod Stops
 pub mod CoveredStep
 pub mod Passing
+pub mod Operations
 pub mod Pushing
 pub mod Longest

@@ -9,3 +9,4 @@ pub mod Spelled
 pub mod Actions
 pub mod Judging
 pub mod ListIndex
+pub mod Replacing

@@ -3,8 +3,7 @@ use Rattle.std.specs.Prelude.{ℕ, suc, Bool, true, false, List, [], Option, Som
 use Rattle.pkops.specs.Limits.{Bounds}
 use Rattle.pkread.specs.declared.refusal.Reason.{Reason}
 use Rattle.pkread.specs.declared.refusal.Reason.TheVariants.{ImportOffList}
-use Rattle.pkcheck.specs.declared.machine.effects.Effect.{Effect}
-use Rattle.pkcheck.specs.declared.machine.effects.Effect.TheVariants.{Operates, Stops}
+use Rattle.pkcheck.specs.Effects.{Effect, Operates, Stops}
 use Rattle.pkcheck.specs.declared.machine.effects.Gives.{Gives}
 use Rattle.pkcheck.specs.declared.machine.effects.Gives.TheVariants.{MakesText}
 use Rattle.pkcheck.specs.declared.old_strings.OldStrings.{OldStrings}

@@ -82,9 +82,10 @@ impl Model for Machine {
       texts = m.held.texts;
     } };
 
-    // a machine that has not refused is within its limits, and one names a pair exactly where it
-    // was off the list
+    // a machine that has not refused is within its limits and puts no pair aside, and one names a
+    // pair exactly where it was off the list
     ghost invariant = { λ m. (m.refused ≡ None → IsWithin m.limits m.held.knowledge)
+        × (m.refused ≡ None → m.off ≡ None)
         × (is_some (pair_shown (option_map asked_shown m.off)) ≡ has_off_list m.refused) };
 }
 
@@ -161,15 +162,14 @@ impl Machine {
             self.old_strings,
             inst,
             policy,
+            &mut self.off,
         ) {
             Ok(moved) => {
                 self.stopped = is_stopped(moved);
                 Ok(moved)
             }
-            Err(denial) => {
-                let reason = denial.reason;
+            Err(reason) => {
                 self.refused = Some(reason);
-                self.off = unboxed(denial.pair);
                 Err(reason)
             }
         }
@@ -282,16 +282,6 @@ impl Machine {
         ensures { result ≡ self.now.stopped }
     {
         self.stopped
-    }
-}
-
-/// The pair of a refusal, out of its place.
-fn unboxed(pair: Option<Box<Asked>>) -> Option<Asked>
-    ensures { option_map asked_shown result ≡ option_map (λ b. asked_shown b.value) pair }
-{
-    match pair {
-        Some(pair) => Some(Box::into_inner(pair)),
-        None => None,
     }
 }
 

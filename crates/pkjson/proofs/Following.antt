@@ -7,7 +7,7 @@ use Rattle.pkops.specs.Inst.{instruction_of}
 use Rattle.pkops.specs.Limits.{Bounds}
 use Rattle.pkops.specs.Spelling.{Argument, Instruction, instruction, spelling}
 use Rattle.pkread.specs.Sequence.{spellings}
-use Rattle.pkcheck.specs.declared.machine.effects.Effect.TheVariants as effect
+use Rattle.pkcheck.specs.Effects as effect
 use Rattle.pkcheck.specs.Effects.{effect_of}
 use Rattle.pkcheck.specs.Shape.{Entry, top}
 use Rattle.pkjson.specs.declared.action.Action.{Action}

@@ -6,13 +6,12 @@ use Rattle.pkops.specs.Spelling.{Instruction, spelling}
 use Rattle.pkread.specs.Admission.{IsAllowed}
 use Rattle.pkread.specs.Sequence.{spellings}
 use Rattle.pkcheck.specs.declared.machine.effects.Class.TheVariants as class
-use Rattle.pkcheck.specs.declared.machine.effects.Effect.{Effect}
-use Rattle.pkcheck.specs.declared.machine.effects.Effect.TheVariants as effect
+use Rattle.pkcheck.specs.Effects as effect
 use Rattle.pkcheck.specs.declared.machine.effects.Gives.{Gives}
 use Rattle.pkcheck.specs.declared.machine.effects.Gives.TheVariants as gives
 use Rattle.pkcheck.specs.declared.machine.effects.Names.TheVariants.{NoName}
 use Rattle.pkcheck.specs.declared.machine.effects.Wanted.TheVariants.{WantsList, WantsDict}
-use Rattle.pkcheck.specs.Effects.{effect_of}
+use Rattle.pkcheck.specs.Effects.{Effect, effect_of}
 use Rattle.pkcheck.specs.Shape.{Breach, Entry, Taken, operands, top}
 use Rattle.pkcheck.specs.Runs.{Object, State, Stepped, WentOn, Raised, Stopped, Stuck, step, perform, operate_step, effect_asks, class_at, start}
 use Rattle.pkcheck.specs.WholeRuns.{Ended, EndedBy, EndsWell, run, go_on, outcomes_after}

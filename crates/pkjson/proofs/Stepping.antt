@@ -4,13 +4,12 @@ use Rattle.serde_json.specs.Data.{Data, boolean}
 use Rattle.pkops.specs.Spelling.{Instruction}
 use Rattle.pkops.specs.Operands.{names_bool, memo_number}
 use Rattle.pkcheck.specs.declared.machine.effects.Class.TheVariants as class
-use Rattle.pkcheck.specs.declared.machine.effects.Effect.{Effect}
-use Rattle.pkcheck.specs.declared.machine.effects.Effect.TheVariants as effect
+use Rattle.pkcheck.specs.Effects as effect
 use Rattle.pkcheck.specs.declared.machine.effects.Gives.{Gives}
 use Rattle.pkcheck.specs.declared.machine.effects.Gives.TheVariants as gives
 use Rattle.pkcheck.specs.declared.machine.effects.Names.TheVariants.{NoName}
 use Rattle.pkcheck.specs.declared.machine.effects.Wanted.TheVariants.{WantsList, WantsDict}
-use Rattle.pkcheck.specs.Effects.{effect_of}
+use Rattle.pkcheck.specs.Effects.{Effect, effect_of}
 use Rattle.pkcheck.specs.Shape.{Breach, Entry, Mark, Item, Shape, Taken, and_then, operands, moved, front, top}
 use Rattle.pkcheck.specs.Runs.{ObjectClass, Text, Plain, Object, Did, State, Stepped, WentOn, Raised, Stopped, Stuck, step, perform, operate_step, move_step, stop_step, class_at, text, int_or_bool}
 use Rattle.pkjson.specs.declared.action.Action.{Action}

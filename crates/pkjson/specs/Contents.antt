@@ -13,9 +13,7 @@ use Rattle.pkops.specs.Text.{text_bytes}
 use Rattle.pkcheck.specs.declared.machine.effects.Class.TheVariants as class
 use Rattle.pkcheck.specs.declared.machine.effects.Gives.{Gives}
 use Rattle.pkcheck.specs.declared.machine.effects.Gives.TheVariants.{Makes, MakesIntOrBool, MakesText, MayMake, Answers}
-use Rattle.pkcheck.specs.declared.machine.effects.Effect.{Effect}
-use Rattle.pkcheck.specs.declared.machine.effects.Effect.TheVariants.{Operates}
-use Rattle.pkcheck.specs.Effects.{effect_of}
+use Rattle.pkcheck.specs.Effects.{Effect, Operates, effect_of}
 use Rattle.pkcheck.specs.Runs.{Event, Did}
 use Rattle.pkjson.specs.Unfolds.{Content, Scalar, Sequence, Pairs, Heap}
 use Rattle.pkjson.specs.Integers.{integer_named}

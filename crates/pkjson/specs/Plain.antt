@@ -8,9 +8,7 @@ use Rattle.pkcheck.specs.declared.machine.effects.Class.TheVariants as class
 use Rattle.pkcheck.specs.declared.machine.effects.Wanted.TheVariants.{WantsDict}
 use Rattle.pkcheck.specs.declared.machine.effects.Gives.{Gives}
 use Rattle.pkcheck.specs.declared.machine.effects.Gives.TheVariants.{Makes, MakesIntOrBool, MayMake, Leaves}
-use Rattle.pkcheck.specs.declared.machine.effects.Effect.{Effect}
-use Rattle.pkcheck.specs.declared.machine.effects.Effect.TheVariants.{Operates}
-use Rattle.pkcheck.specs.Effects.{effect_of}
+use Rattle.pkcheck.specs.Effects.{Effect, Operates, effect_of}
 use Rattle.pkcheck.specs.Shape.{Breach, Entry, Taken, operands}
 use Rattle.pkcheck.specs.Runs.{ObjectClass, Text, Foreign, Object, State, Outcome, Go, Stepped, WentOn, step, class_at}
 use Rattle.pkcheck.specs.WholeRuns.{Ended, Reached, go_on}

@@ -8,10 +8,8 @@ use Rattle.pkops.specs.declared.op.Op.TheVariants as op
 use Rattle.pkops.specs.Operands.{memo_number, names_memo_entry}
 use Rattle.pkops.specs.Spelling.{Instruction, spelling}
 use Rattle.pkread.specs.Sequence.{spellings}
-use Rattle.pkcheck.specs.declared.machine.effects.Effect.{Effect}
-use Rattle.pkcheck.specs.declared.machine.effects.Effect.TheVariants.{Moves}
 use Rattle.pkcheck.specs.declared.machine.effects.Move.TheVariants as move
-use Rattle.pkcheck.specs.Effects.{effect_of}
+use Rattle.pkcheck.specs.Effects.{Effect, Moves, effect_of}
 use Rattle.pkopt.specs.declared.fate.Fate.{Fate}
 use Rattle.pkopt.specs.declared.fate.Fate.TheVariants.{Goes, Stays, Gets, IsPast}
 use Rattle.pkopt.specs.declared.memo.MemoUse.{MemoUse}

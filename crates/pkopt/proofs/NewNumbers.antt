@@ -4,10 +4,8 @@ use Rattle.std.specs.Prelude.{◌≢◌}
 use Rattle.std.proofs.lemmas.Bool.Decides.{eqb_tells}
 use Rattle.pkops.specs.Spelling.{Instruction}
 use Rattle.pkops.specs.Operands.{memo_number}
-use Rattle.pkcheck.specs.declared.machine.effects.Effect.{Effect}
-use Rattle.pkcheck.specs.declared.machine.effects.Effect.TheVariants.{Moves}
 use Rattle.pkcheck.specs.declared.machine.effects.Move.TheVariants.{Stores, StoresNext}
-use Rattle.pkcheck.specs.Effects.{effect_of}
+use Rattle.pkcheck.specs.Effects.{Effect, Moves, effect_of}
 use Rattle.pkopt.specs.Writers.{Writes, wrote, after, is_read, new_number, after_all}
 
 pub tells_eq : (a b : ℕ) → (a ≡ b) ⊎ (a ≢ b)

@@ -14,10 +14,8 @@ use Rattle.pkread.specs.Framing.{Role, stop, other, total, counted, one_later, r
 use Rattle.pkread.specs.Genops.{is_stop}
 use Rattle.pkread.specs.Pieces.{role_of, number_of, piece_of}
 use Rattle.pkread.specs.Sequence.{spellings}
-use Rattle.pkcheck.specs.declared.machine.effects.Effect.{Effect}
-use Rattle.pkcheck.specs.declared.machine.effects.Effect.TheVariants.{Moves}
 use Rattle.pkcheck.specs.declared.machine.effects.Move.TheVariants.{Stores, StoresNext, Fetches}
-use Rattle.pkcheck.specs.Effects.{effect_of}
+use Rattle.pkcheck.specs.Effects.{Effect, Moves, effect_of}
 use Rattle.pkcheck.specs.Runs.{State, Outcome, start}
 use Rattle.pkcheck.specs.WholeRuns.{run}
 use Rattle.pkopt.specs.Private.Fronts.{EndsInStop}

@@ -5,10 +5,8 @@ use Rattle.std.proofs.lemmas.Bool.Decides.{eqb_tells}
 use Rattle.std.proofs.lemmas.Bool.{eqb-true, eq-eqb}
 use Rattle.pkops.specs.Operands.{memo_number}
 use Rattle.pkops.specs.Spelling.{Instruction}
-use Rattle.pkcheck.specs.declared.machine.effects.Effect.{Effect}
-use Rattle.pkcheck.specs.declared.machine.effects.Effect.TheVariants.{Moves}
 use Rattle.pkcheck.specs.declared.machine.effects.Move.TheVariants.{Stores, StoresNext, Fetches}
-use Rattle.pkcheck.specs.Effects.{effect_of}
+use Rattle.pkcheck.specs.Effects.{Effect, Moves, effect_of}
 use Rattle.pkopt.specs.Writers.{Writes, last_write, different, wrote, after, read_by, sources, is_this, is_read, new_number, after_all, more_if_none}
 use Rattle.pkopt.specs.Slim.{renumbered, is_frame, read_left, left_of, slim_from, slim}
 use Rattle.pkopt.specs.OneFrame.{is_proto, has_frame, frame_around, in_frame, optimized}

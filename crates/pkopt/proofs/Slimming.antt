@@ -9,10 +9,8 @@ use Rattle.pkops.specs.declared.op.Op.{Op}
 use Rattle.pkops.specs.declared.op.Op.TheVariants as op
 use Rattle.pkops.specs.Spelling.{Instruction}
 use Rattle.pkops.specs.Operands.{memo_number}
-use Rattle.pkcheck.specs.declared.machine.effects.Effect.{Effect}
-use Rattle.pkcheck.specs.declared.machine.effects.Effect.TheVariants.{Moves}
 use Rattle.pkcheck.specs.declared.machine.effects.Move.TheVariants.{Stores, StoresNext, Fetches, Passes}
-use Rattle.pkcheck.specs.Effects.{effect_of}
+use Rattle.pkcheck.specs.Effects.{Effect, Moves, effect_of}
 use Rattle.pkcheck.specs.Shape.{Entry, Mark, Item, recalled, fetched}
 use Rattle.pkcheck.specs.Runs.{Object, Event, State, Outcome, move_step, perform, effect_asks, start}
 use Rattle.pkcheck.specs.WholeRuns.{first_outcome, outcomes_after, go_on, run}

@@ -5,8 +5,7 @@ use Rattle.pkcheck.specs.declared.machine.effects.Takes.{Takes}
 use Rattle.pkcheck.specs.declared.machine.effects.Names.{Names}
 use Rattle.pkcheck.specs.declared.machine.effects.Names.TheVariants.{NoName, OfArgument, OfOperands}
 use Rattle.pkcheck.specs.declared.machine.effects.Gives.{Gives}
-use Rattle.pkcheck.specs.declared.machine.effects.Effect.{Effect}
-use Rattle.pkcheck.specs.declared.machine.effects.Effect.TheVariants.{Operates, Moves, Stops, Raises}
+use Rattle.pkcheck.specs.Effects.{Effect, Operates, Moves, Stops, Raises}
 use Rattle.pkcheck.specs.Shape.{top, Breach, Entry, Mark, Item, Shape, Taken, and_then, unless, operands, moved}
 use Rattle.std.specs.Str.{IsUtf8}
 use Rattle.std.proofs.lemmas.List.Elements.{All-append, All-cons, All-nil}

@@ -10,9 +10,7 @@ use Rattle.pkcheck.specs.declared.machine.effects.Names.{Names}
 use Rattle.pkcheck.specs.declared.machine.effects.Names.TheVariants.{NoName, OfArgument, OfOperands}
 use Rattle.pkcheck.specs.declared.machine.effects.Gives.{Gives}
 use Rattle.pkcheck.specs.declared.machine.effects.Gives.TheVariants.{Makes, MakesIntOrBool, MakesText, MayMake, Answers, Leaves}
-use Rattle.pkcheck.specs.declared.machine.effects.Effect.{Effect}
-use Rattle.pkcheck.specs.declared.machine.effects.Effect.TheVariants.{Operates, Moves, Stops, Raises}
-use Rattle.pkcheck.specs.Effects.{effect_as}
+use Rattle.pkcheck.specs.Effects.{Effect, Operates, Moves, Stops, Raises, effect_as}
 use Rattle.pkcheck.specs.Shape.{top, put, Breach, Entry, Item, Mark, Shape, Taken, and_then, unless, front, moved}
 use Rattle.pkops.specs.Spelling.{Instruction}
 use Rattle.pkcheck.specs.Runs.{argument_named, ObjectClass, Text, Plain, Foreign, Object, Event, Import, Did, State, Outcome, Raise, Go, Stepped, Stopped, Named, NoImport, Pair, NotTexts, class_at, texts_named, named, asks, given, come_of, operated, move_step, stop_step, operate_step, perform, step_as}

@@ -8,9 +8,7 @@ use Rattle.pkcheck.specs.declared.machine.effects.Names.TheVariants.{NoName, OfA
 use Rattle.pkcheck.specs.declared.machine.effects.Wanted.{Wanted}
 use Rattle.pkcheck.specs.declared.machine.effects.Gives.{Gives}
 use Rattle.pkcheck.specs.declared.machine.effects.Gives.TheVariants.{Makes, MakesIntOrBool, MakesText, MayMake, Answers, Leaves}
-use Rattle.pkcheck.specs.declared.machine.effects.Effect.{Effect}
-use Rattle.pkcheck.specs.declared.machine.effects.Effect.TheVariants.{Operates, Moves, Stops, Raises}
-use Rattle.pkcheck.specs.Effects.{effect_as}
+use Rattle.pkcheck.specs.Effects.{Effect, Operates, Moves, Stops, Raises, effect_as}
 use Rattle.pkcheck.specs.Shape.{top, Breach, Entry, Shape, Taken, and_then, unless, operands, moved}
 use Rattle.pkops.specs.Spelling.{Instruction}
 use Rattle.pkcheck.specs.Runs.{argument_named, Text, Plain, Foreign, Object, Import, Did, State, Outcome, Raise, Go, Stepped, WentOn, Raised, Stopped, Stuck, Named, Pair, class_at, texts_named, named, asks, come_of, operated, move_step, stop_step, operate_step, perform, step_as}

@@ -10,8 +10,7 @@ use Rattle.pkcheck.specs.declared.machine.effects.Names.TheVariants.{NoName, OfA
 use Rattle.pkcheck.specs.declared.machine.effects.Wanted.{Wanted}
 use Rattle.pkcheck.specs.declared.machine.effects.Gives.{Gives}
 use Rattle.pkcheck.specs.declared.machine.effects.Gives.TheVariants.{Makes, MakesIntOrBool, MakesText, MayMake, Answers, Leaves}
-use Rattle.pkcheck.specs.declared.machine.effects.Effect.{Effect}
-use Rattle.pkcheck.specs.declared.machine.effects.Effect.TheVariants.{Operates, Moves, Stops, Raises}
+use Rattle.pkcheck.specs.Effects.{Effect, Operates, Moves, Stops, Raises}
 use Rattle.pkcheck.specs.Shape.{Breach, NoMark, NoItem, NoMemo, Odd, Extension, Taken}
 use Rattle.pkcheck.specs.Runs.{ObjectClass, Text, Plain, Foreign, Object, Event, State, Outcome, Raise, Go, Stepped, WentOn, Raised, Stopped, Stuck, Named, NoImport, Pair, NotTexts, asks, come_of, operated, operate_step, perform}
 use Rattle.pkcheck.specs.Knowledge.{Known, Knowledge, Policy, Asked, AskedPair, AskedUnknown, Progress, Refusal, Lacks, WrongClass, NotText, UnknownImport, OffList, LeftOver, NotAscii, TooLarge, wrong_first, wrong_receiver, text_fault, operands_asked, asked_of, operate_learned, learn, within, reason_of}

@@ -4,9 +4,7 @@ use Rattle.pkops.specs.Operands.{memo_number, pair_named}
 use Rattle.std.proofs.Common.{◌≡◌, ℕ, Bool, true, false, cond, ltb, List, [], ◌∷◌, ◌++◌, length, Option, Some, None, Result, Ok, Err, inl, inr, refl, sym, ap, subst}
 use Rattle.pkcheck.specs.declared.machine.effects.Names.{Names}
 use Rattle.pkcheck.specs.declared.machine.effects.Names.TheVariants.{NoName, OfArgument, OfOperands}
-use Rattle.pkcheck.specs.declared.machine.effects.Effect.{Effect}
-use Rattle.pkcheck.specs.declared.machine.effects.Effect.TheVariants.{Operates, Moves, Stops, Raises}
-use Rattle.pkcheck.specs.Effects.{effect_as}
+use Rattle.pkcheck.specs.Effects.{Effect, Operates, Moves, Stops, Raises, effect_as}
 use Rattle.pkcheck.specs.Shape.{top, Breach, Entry, Taken, and_then, unless, operands, moved}
 use Rattle.pkops.specs.Spelling.{Instruction}
 use Rattle.pkcheck.specs.Runs.{Text, Plain, Foreign, Event, Import, Did, State, Outcome, Stepped, WentOn, Raised, Stopped, Stuck, step_as, start}

@@ -7,7 +7,6 @@ use Rattle.pkops.specs.Limits.{Bounds}
 use Rattle.pkops.specs.Spelling.{Instruction}
 use Rattle.pkread.specs.declared.refusal.Reason.{Reason}
 use Rattle.pkread.specs.declared.refusal.Reason.TheVariants as reason
-use Rattle.pkcheck.specs.declared.machine.operate.Denial.{Denial}
 use Rattle.pkcheck.specs.declared.machine.stepping.Moved.{Moved}
 use Rattle.pkcheck.specs.Effects.{effect_as}
 use Rattle.pkcheck.specs.Runs.{step_as}
@@ -17,7 +16,7 @@ use Rattle.pkcheck.specs.Covers.{IsObject}
 use Rattle.pkcheck.proofs.Covering.CoversBy.{FollowsIfOk, any_answer, objects_grow}
 use Rattle.pkcheck.specs.Faults.{IsFirstFault}
 use Rattle.pkcheck.specs.Import.{asks_more}
-use Rattle.pkcheck.specs.Private.Denials.{IsDenied, IsForMemory, MayWantMemory, pair_denied}
+use Rattle.pkcheck.specs.Private.Denials.{IsRefusedFor, LacksMemory, MayWantMemory}
 use Rattle.pkcheck.specs.View.{View}
 use Rattle.pkcheck.specs.Stepping.{CoveredBy, AppendsPermitted, Fails, GoesOn, IsNoFalseAlarm, IsPermitted, IsStep, MayLackMemory, MeansInEachRun, PassesNoFault, RefusesForGood, UnknownIsNeeded}
 use Rattle.pkcheck.proofs.Covering.Following.{step_follows}
@@ -93,9 +92,9 @@ module _ (p : Policy) (i : Instruction) (before after : View) where
 
   module _ (r : Reason) where
     -- what was denied is refused so
-    pub denied : (d : Denial) → r ≡ d.reason → after ≡ record before { refused = Some d.reason; off = pair_denied d } → IsDenied (advance before.old_strings p before.limits i before.knowledge) d ⊎ (MayWantMemory (effect_as before.old_strings i) × IsForMemory d) → Fails p i before after r
-    denied d same becomes (inl (f, is, e, g)) = inl (f, is, same ∙ e, becomes ∙ (λ j. record before { refused = Some (sym same j); off = g j }))
-    denied d same becomes (inr (wants, (e, g))) = inr ((λ none. wants_no_memory before.old_strings i none wants), same ∙ e, becomes ∙ (λ j. record before { refused = Some (sym same j); off = g j }))
+    pub denied : (pair : Option Asked) → after ≡ record before { refused = Some r; off = pair } → IsRefusedFor (advance before.old_strings p before.limits i before.knowledge) r pair ⊎ (MayWantMemory (effect_as before.old_strings i) × LacksMemory r pair) → Fails p i before after r
+    denied pair becomes (inl (f, is, e, g)) = inl (f, is, e, becomes ∙ (λ j. record before { refused = Some r; off = g j }))
+    denied pair becomes (inr (wants, (e, g))) = inr ((λ none. wants_no_memory before.old_strings i none wants), e, becomes ∙ (λ j. record before { refused = Some r; off = g j }))
 
     pub memory_by : Fails p i before after r → MayLackMemory p i before after r
     memory_by (inl (f, is, e, becomes)) none lacks = no_memory f (sym e ∙ lacks)

@@ -9,7 +9,7 @@ use Rattle.pkcheck.specs.declared.machine.effects.Gives.{Gives}
 use Rattle.pkcheck.specs.declared.machine.effects.Gives.TheVariants.{Makes, MakesIntOrBool, MakesText, MayMake, Answers, Leaves}
 use Rattle.pkcheck.specs.declared.machine.effects.Takes.{Takes}
 use Rattle.pkcheck.specs.declared.machine.effects.Takes.TheVariants.{Objects}
-use Rattle.pkcheck.specs.declared.machine.effects.Effect.TheVariants.{Operates}
+use Rattle.pkcheck.specs.Effects.{Operates}
 use Rattle.pkcheck.specs.Shape.{put, Breach, Entry, Item, Taken, and_then, operands}
 use Rattle.pkops.specs.Spelling.{Instruction}
 use Rattle.pkcheck.specs.Runs.{Text, Plain, Foreign}

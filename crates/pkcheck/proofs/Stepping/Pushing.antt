@@ -14,20 +14,19 @@ use Rattle.pkcheck.specs.Private.Actions.{effect_by, is_reading}
 use Rattle.pkops.specs.Limits.{Bounds}
 use Rattle.pkops.specs.Spelling.{Instruction}
 use Rattle.pkread.specs.declared.refusal.Reason.{Reason}
-use Rattle.pkcheck.specs.declared.machine.effects.Effect.TheVariants.{Operates, Raises}
 use Rattle.pkcheck.specs.declared.machine.effects.Gives.{Gives}
 use Rattle.pkcheck.specs.declared.machine.effects.Names.TheVariants.{NoName}
 use Rattle.pkcheck.specs.declared.machine.effects.Takes.TheVariants.{Objects}
 use Rattle.pkcheck.specs.declared.old_strings.OldStrings.{OldStrings}
-use Rattle.pkcheck.specs.Effects.{answers, effect_as, effect_of, is_old_string, pushes}
+use Rattle.pkcheck.specs.Effects.{Operates, Raises, answers, effect_as, effect_of, is_old_string, pushes}
 use Rattle.pkcheck.specs.Knowledge.{Known, Knowledge, Policy, advance, known_given}
 use Rattle.pkcheck.specs.Private.Denials.{IsDenied, IsForMemory, MayWantMemory, WantsRoom}
 use Rattle.pkcheck.proofs.Stepping.Going.{denied_by}
 use Rattle.pkcheck.proofs.Stepping.Judged.{create_denied}
 
 -- what an action stands for that reads no old string
-pub of_action : (setting : OldStrings) (i : Instruction) (o : Op) (a b : Action) → o ≡ i.op → effect_of o ≡ effect_by a → is_old_string o ≡ is_reading a → a ≡ b → is_reading b ≡ false → effect_as setting i ≡ effect_by b
-of_action setting i o a b same e old is none = not_old setting ∙ (sym (ap effect_of same) ∙ (e ∙ ap effect_by is)) where
+pub of_action : (setting : OldStrings) (i : Instruction) (o : Op) (a b : Action) → o ≡ i.op → effect_of o ≡ effect_by o a → is_old_string o ≡ is_reading a → a ≡ b → is_reading b ≡ false → effect_as setting i ≡ effect_by o b
+of_action setting i o a b same e old is none = not_old setting ∙ (sym (ap effect_of same) ∙ (e ∙ ap (effect_by o) is)) where
   no : is_old_string i.op ≡ false
   no = sym (ap is_old_string same) ∙ (old ∙ (ap is_reading is ∙ none))
 

@@ -12,15 +12,13 @@ use Rattle.pkops.specs.declared.op.Op.TheVariants as op
 use Rattle.pkread.specs.Core.{phase_after}
 use Rattle.pkread.specs.Reading.{is_ended}
 use Rattle.pkcheck.specs.declared.machine.effects.Class.TheVariants as class
-use Rattle.pkcheck.specs.declared.machine.effects.Effect.{Effect}
-use Rattle.pkcheck.specs.declared.machine.effects.Effect.TheVariants.{Operates, Moves, Stops, Raises}
 use Rattle.pkcheck.specs.declared.machine.effects.Gives.TheVariants.{MakesText}
 use Rattle.pkcheck.specs.declared.machine.effects.Move.TheVariants.{Extends}
 use Rattle.pkcheck.specs.declared.machine.effects.Names.TheVariants.{NoName}
 use Rattle.pkcheck.specs.declared.machine.effects.Takes.TheVariants.{Objects}
 use Rattle.pkcheck.specs.declared.old_strings.OldStrings.{OldStrings}
 use Rattle.pkcheck.specs.declared.old_strings.OldStrings.TheVariants.{Unknown, Ascii, Bytes}
-use Rattle.pkcheck.specs.Effects.{ascii_string, effect_as, effect_of, is_old_string, pushes}
+use Rattle.pkcheck.specs.Effects.{Effect, Operates, Moves, Stops, Raises, ascii_string, effect_as, effect_of, is_old_string, pushes}
 use Rattle.pkops.specs.Limits.{Bounds}
 use Rattle.pkcheck.specs.Knowledge.{Asked, Knowledge, Policy, Progress, advance}
 use Rattle.pkcheck.specs.Memory.{WantsNoMemory}

@@ -7,9 +7,7 @@ use Rattle.pkops.specs.Spelling.{Instruction}
 use Rattle.pkops.specs.Limits.{Bounds}
 use Rattle.pkcheck.specs.declared.machine.effects.Names.{Names}
 use Rattle.pkcheck.specs.declared.machine.effects.Gives.{Gives}
-use Rattle.pkcheck.specs.declared.machine.effects.Effect.{Effect}
-use Rattle.pkcheck.specs.declared.machine.effects.Effect.TheVariants.{Operates, Moves, Stops, Raises}
-use Rattle.pkcheck.specs.Effects.{effect_as}
+use Rattle.pkcheck.specs.Effects.{Effect, Operates, Moves, Stops, Raises, effect_as}
 use Rattle.pkcheck.specs.Shape.{Breach, Taken, and_then, operands}
 use Rattle.pkcheck.specs.Runs.{Object, State, Outcome, CanCome, Stepped, WentOn, Raised, Stopped, Stuck, Named, NoImport, Pair, NotTexts, asks, come_of, operated, operate_step, perform, step_as, effect_asks}
 use Rattle.pkcheck.specs.Knowledge.{Knowledge, Progress, Refusal, within}

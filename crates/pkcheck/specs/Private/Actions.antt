@@ -1,38 +1,67 @@
 -- What the machine does at an opcode, by the effect that it stands for.
-use Rattle.std.specs.Prelude.{Bool, true, false, ⊤}
+use Rattle.std.specs.Prelude.{◌<◌, Bool, true, false, ⊤}
 use Rattle.pkcheck.specs.declared.machine.effects.Action.{Action}
-use Rattle.pkcheck.specs.declared.machine.effects.Action.TheVariants.{Makes, MakesIntOrBool, MakesText, ReadsOldString, Does}
-use Rattle.pkcheck.specs.declared.machine.effects.Effect.{Effect}
-use Rattle.pkcheck.specs.declared.machine.effects.Effect.TheVariants.{Operates}
+use Rattle.pkcheck.specs.declared.machine.effects.Action.TheVariants as action
 use Rattle.pkcheck.specs.declared.machine.effects.Gives.TheVariants as gives
 use Rattle.pkcheck.specs.declared.machine.effects.Names.TheVariants.{NoName}
+use Rattle.pkcheck.specs.declared.machine.effects.Operation.{Operation}
 use Rattle.pkcheck.specs.declared.machine.effects.Takes.TheVariants.{Objects}
-use Rattle.pkcheck.specs.Effects.{answers, pushes}
+use Rattle.pkcheck.specs.declared.machine.effects.Takes.{Takes}
+use Rattle.pkcheck.specs.declared.machine.effects.Gives.{Gives}
+use Rattle.pkcheck.specs.Effects.{Effect, Operates, Moves, Stops, answers, effect_of, pushes}
 use Rattle.pkcheck.specs.Private.Denials.{IsPlain, WellGiven}
 use Rattle.pkcheck.specs.Private.Spelled.{SpellsBytes}
 use Rattle.pkops.specs.declared.layout.Layout.{Layout}
+use Rattle.pkops.specs.declared.op.Op.{Op}
 
--- the effect, where nothing is said of old strings
-abbrev pub effect_by : Action → Effect
-effect_by (Makes c) = pushes c
-effect_by MakesIntOrBool = Operates (Objects 0) NoName gives.MakesIntOrBool
-effect_by MakesText = Operates (Objects 0) NoName gives.MakesText
-effect_by ReadsOldString = answers (Objects 0)
-effect_by (Does e) = e
+-- the effect of an operation
+abbrev pub effect_in : Operation → Effect
+effect_in o = Operates o.takes o.names o.gives
+
+-- the effect of an opcode, where nothing is said of old strings: an operation has a row of its own
+abbrev pub effect_by : Op → Action → Effect
+effect_by o (action.Makes c) = pushes c
+effect_by o action.MakesIntOrBool = Operates (Objects 0) NoName gives.MakesIntOrBool
+effect_by o action.MakesText = Operates (Objects 0) NoName gives.MakesText
+effect_by o action.ReadsOldString = answers (Objects 0)
+effect_by o (action.Moves m) = Moves m
+effect_by o action.Stops = Stops
+effect_by o _ = effect_of o
 
 -- it reads an old string
 abbrev pub is_reading : Action → Bool
-is_reading ReadsOldString = true
+is_reading action.ReadsOldString = true
 is_reading _ = false
 
--- of what the instruction itself says, an operation looks at its names alone, and one that leaves
--- its receiver takes one
-abbrev pub IsWell : Action → Type 0
-IsWell (Does (Operates takes names g)) = IsPlain g × WellGiven g takes
-IsWell _ = ⊤
+-- something is taken, be it an empty slice
+abbrev pub TakesSome : Takes → Type 0
+TakesSome (Objects k) = 0 < k
+TakesSome takes = ⊤
+
+-- it does more than to push a new object
+abbrev pub IsNoPush : Takes → Gives → Type 0
+IsNoPush takes (gives.Makes c) = TakesSome takes
+IsNoPush takes g = ⊤
+
+-- an operation, which does more than to push: of what the instruction itself says it looks at its
+-- names alone, and one that leaves its receiver takes one
+abbrev pub IsOperation : Effect → Type 0
+IsOperation (Operates takes names g) = IsNoPush takes g × IsPlain g × WellGiven g takes
+IsOperation _ = ⊥
+
+-- one that names nothing
+abbrev pub IsUnnamed : Effect → Type 0
+IsUnnamed (Operates takes NoName g) = IsNoPush takes g × IsPlain g × WellGiven g takes
+IsUnnamed _ = ⊥
+
+-- what is said to be an operation is one
+abbrev pub IsWell : Op → Action → Type 0
+IsWell o action.Operates = IsUnnamed (effect_of o)
+IsWell o action.Imports = IsOperation (effect_of o)
+IsWell o _ = ⊤
 
 -- what is read as a text has a payload or a line
 abbrev pub MaySpell : Action → Layout → Type 0
-MaySpell MakesText l = SpellsBytes l
-MaySpell ReadsOldString l = SpellsBytes l
+MaySpell action.MakesText l = SpellsBytes l
+MaySpell action.ReadsOldString l = SpellsBytes l
 MaySpell _ l = ⊤

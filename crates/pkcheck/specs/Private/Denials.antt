@@ -8,8 +8,7 @@ use Rattle.pkcheck.specs.declared.machine.effects.Names.{Names}
 use Rattle.pkcheck.specs.declared.machine.effects.Names.TheVariants.{NoName}
 use Rattle.pkcheck.specs.declared.machine.effects.Move.{Move}
 use Rattle.pkcheck.specs.declared.machine.effects.Move.TheVariants as move
-use Rattle.pkcheck.specs.declared.machine.effects.Effect.{Effect}
-use Rattle.pkcheck.specs.declared.machine.effects.Effect.TheVariants.{Operates, Moves, Stops, Raises}
+use Rattle.pkcheck.specs.Effects.{Effect, Operates, Moves, Stops, Raises}
 use Rattle.pkcheck.specs.declared.machine.operate.Denial.{Denial}
 use Rattle.pkcheck.specs.declared.machine.stepping.Moved.{Moved}
 use Rattle.pkread.specs.declared.refusal.Reason.{Reason}
@@ -80,16 +79,19 @@ abbrev pub pair_denied : Denial → Option Asked
 pair_denied d = option_map (λ b. asked_shown b.value) d.pair
 
 -- it is refused for this reason, with this pair
+abbrev pub IsRefusedFor : {A : Type 0} → Result A Refusal → Reason → Option Asked → Type 0
+IsRefusedFor x r pair =
+    (f : Refusal) × (x ≡ Err f) × (r ≡ reason_of f) × (pair ≡ off_pair f)
+
 abbrev pub IsDenied : {A : Type 0} → Result A Refusal → Denial → Type 0
-IsDenied x d =
-    (f : Refusal)
-    × (x ≡ Err f)
-    × (d.reason ≡ reason_of f)
-    × (pair_denied d ≡ off_pair f)
+IsDenied x d = IsRefusedFor x d.reason (pair_denied d)
 
 -- it is refused for want of memory, with no pair
+abbrev pub LacksMemory : Reason → Option Asked → Type 0
+LacksMemory r pair = (r ≡ reason.OutOfMemory) × (pair ≡ None)
+
 abbrev pub IsForMemory : Denial → Type 0
-IsForMemory d = (d.reason ≡ reason.OutOfMemory) × (pair_denied d ≡ None)
+IsForMemory d = LacksMemory d.reason (pair_denied d)
 
 -- it passes: this is known after it, and these imports are listed
 abbrev pub Passes : Result Progress Refusal → Knowledge → List Asked → List Asked → Bool → Type 0

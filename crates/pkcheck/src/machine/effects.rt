@@ -1,8 +1,9 @@
 //! What each opcode does to the stack and the memo.
 ghost use Rattle.std.specs.Prelude.{◌≡◌, IsTrue};
 ghost use Rattle.pkcheck.specs.Effects.{effect_of, pushes, makes, may_make, answers, imports};
-ghost use Rattle.pkcheck.specs.Effects.{fills, is_old_string};
-ghost use Rattle.pkcheck.specs.Private.Actions.{IsWell, MaySpell, effect_by, is_reading};
+ghost use Rattle.pkcheck.specs.Effects.{Operates, fills, is_old_string};
+ghost use Rattle.pkcheck.specs.Private.Actions.{IsOperation, IsWell, MaySpell, effect_by};
+ghost use Rattle.pkcheck.specs.Private.Actions.{effect_in, is_reading};
 ghost use Rattle.pkops.specs.Spelling.{layout_at};
 ghost use Rattle.pkops.specs.Payloads.{is_passed};
 
@@ -82,17 +83,16 @@ pub enum Move {
     Extends,
 }
 
-/// What an instruction does.
+/// What an operation takes, where its name comes from, and what it gives.
 #[derive(Clone, Copy)]
-pub enum Effect {
-    Operates(Takes, Names, Gives),
-    Moves(Move),
-    Stops,
-    Raises,
+pub struct Operation {
+    pub takes: Takes,
+    pub names: Names,
+    pub gives: Gives,
 }
 
-/// What the machine does at an opcode. What most instructions do is told apart from the rest, so
-/// that it is found at once.
+/// What the machine does at an opcode: what most instructions do is found at once, and an operation
+/// looks for its row of the table itself.
 #[derive(Clone, Copy)]
 pub enum Action {
     /// Pushes a new object of this class.
@@ -103,99 +103,81 @@ pub enum Action {
     MakesText,
     /// Pushes what becomes of an old string.
     ReadsOldString,
-    /// What such an instruction does.
-    Does(Effect),
+    /// Looks at no object.
+    Moves(Move),
+    /// Takes objects and gives one.
+    Operates,
+    /// The same, of the object that stands under a name.
+    Imports,
+    /// Takes the result.
+    Stops,
 }
 
 /// Takes these and pushes a new object of this class.
 #[inline(always)]
-fn makes(takes: Takes, class: Class) -> Action
-    ensures { result ≡ Action.Does (makes takes class) }
+fn makes(takes: Takes, class: Class) -> Operation
+    ensures { effect_in result ≡ makes takes class }
 {
-    Action::Does(Effect::Operates(takes, Names::NoName, Gives::Makes(class)))
+    unnamed(takes, Gives::Makes(class))
 }
 
 /// The same, but it may raise.
 #[inline(always)]
-fn may_make(takes: Takes, class: Class) -> Action
-    ensures { result ≡ Action.Does (may_make takes class) }
+fn may_make(takes: Takes, class: Class) -> Operation
+    ensures { effect_in result ≡ may_make takes class }
 {
-    Action::Does(Effect::Operates(takes, Names::NoName, Gives::MayMake(class)))
+    unnamed(takes, Gives::MayMake(class))
 }
 
 /// Takes these and pushes whatever an operation answers, or raises.
 #[inline(always)]
-fn answers(takes: Takes) -> Action
-    ensures { result ≡ Action.Does (answers takes) }
+fn answers(takes: Takes) -> Operation
+    ensures { effect_in result ≡ answers takes }
 {
-    Action::Does(Effect::Operates(takes, Names::NoName, Gives::Answers))
-}
-
-/// Takes these, imports a pair and pushes whatever stands under it, or raises.
-#[inline(always)]
-fn imports(takes: Takes, names: Names) -> Action
-    ensures { result ≡ Action.Does (imports takes names) }
-{
-    Action::Does(Effect::Operates(takes, names, Gives::Answers))
+    unnamed(takes, Gives::Answers)
 }
 
 /// Takes these but for the first, which it leaves with more in it, or raises.
 #[inline(always)]
-fn fills(takes: Takes, wanted: Wanted) -> Action
-    ensures { result ≡ Action.Does (fills takes wanted) }
+fn fills(takes: Takes, wanted: Wanted) -> Operation
+    ensures { effect_in result ≡ fills takes wanted }
 {
-    Action::Does(Effect::Operates(takes, Names::NoName, Gives::Leaves(wanted)))
+    unnamed(takes, Gives::Leaves(wanted))
 }
 
-/// Looks at no object.
+/// Takes these, names nothing and gives this.
 #[inline(always)]
-fn moves(what: Move) -> Action
-    ensures { result ≡ Action.Does (Effect.Moves what) }
+fn unnamed(takes: Takes, gives: Gives) -> Operation
+    ensures { effect_in result ≡ Operates takes Names.NoName gives }
 {
-    Action::Does(Effect::Moves(what))
+    Operation {
+        takes,
+        names: Names::NoName,
+        gives,
+    }
 }
 
-/// What the opcode does: the table of the opcodes' effects, a row an opcode.
+/// Takes these, imports a pair and pushes whatever stands under it, or raises.
 #[inline(always)]
-pub fn action_of(op: Op) -> Action
-    ensures effect { effect_of op ≡ effect_by result }
-    ensures old { is_old_string op ≡ is_reading result }
-    ensures well { IsWell result }
-    ensures spelled { MaySpell result (layout_at op) }
+fn imports(takes: Takes, names: Names) -> Operation
+    ensures { effect_in result ≡ imports takes names }
+{
+    Operation {
+        takes,
+        names,
+        gives: Gives::Answers,
+    }
+}
+
+/// The operation of an opcode that has one.
+#[inline(always)]
+pub fn operation_of(op: Op) -> Operation
+    ensures { IsOperation (effect_of op) → effect_of op ≡ effect_in result }
 {
     match op {
-        // numbers
-        Op::Int => Action::MakesIntOrBool,
-        Op::BinInt => Action::Makes(Class::Int),
-        Op::BinInt1 => Action::Makes(Class::Int),
-        Op::BinInt2 => Action::Makes(Class::Int),
-        Op::Long => Action::Makes(Class::Int),
-        Op::Long1 => Action::Makes(Class::Int),
-        Op::Long4 => Action::Makes(Class::Int),
-        Op::Float => Action::Makes(Class::Float),
-        Op::BinFloat => Action::Makes(Class::Float),
-        // strings of Python 2, of which a setting says what they become
-        Op::String => Action::ReadsOldString,
-        Op::BinString => Action::ReadsOldString,
-        Op::ShortBinString => Action::ReadsOldString,
         // bytes and buffers
-        Op::BinBytes => Action::Makes(Class::Bytes),
-        Op::ShortBinBytes => Action::Makes(Class::Bytes),
-        Op::BinBytes8 => Action::Makes(Class::Bytes),
-        Op::ByteArray8 => Action::Makes(Class::ByteArray),
-        Op::NextBuffer => answers(Takes::Objects(0)),
         Op::ReadonlyBuffer => answers(Takes::Objects(1)),
-        // None, True and False
-        Op::None => Action::Makes(Class::None),
-        Op::NewTrue => Action::Makes(Class::Bool),
-        Op::NewFalse => Action::Makes(Class::Bool),
-        // texts
-        Op::Unicode => Action::MakesText,
-        Op::ShortBinUnicode => Action::MakesText,
-        Op::BinUnicode => Action::MakesText,
-        Op::BinUnicode8 => Action::MakesText,
         // lists
-        Op::EmptyList => Action::Makes(Class::List),
         Op::Append => fills(Takes::Objects(2), Wanted::WantsList),
         Op::Appends => fills(
             Takes::SliceAndReceiver(SliceRule::AnySlice),
@@ -203,13 +185,11 @@ pub fn action_of(op: Op) -> Action
         ),
         Op::List => makes(Takes::Slice(SliceRule::AnySlice), Class::List),
         // tuples
-        Op::EmptyTuple => Action::Makes(Class::Tuple),
         Op::Tuple => makes(Takes::Slice(SliceRule::AnySlice), Class::Tuple),
         Op::Tuple1 => makes(Takes::Objects(1), Class::Tuple),
         Op::Tuple2 => makes(Takes::Objects(2), Class::Tuple),
         Op::Tuple3 => makes(Takes::Objects(3), Class::Tuple),
         // dicts
-        Op::EmptyDict => Action::Makes(Class::Dict),
         Op::Dict => may_make(Takes::Slice(SliceRule::EvenSlice), Class::Dict),
         Op::SetItem => fills(Takes::Objects(3), Wanted::WantsDict),
         Op::SetItems => fills(
@@ -217,29 +197,12 @@ pub fn action_of(op: Op) -> Action
             Wanted::WantsDict,
         ),
         // sets
-        Op::EmptySet => Action::Makes(Class::Set),
         Op::AddItems => fills(
             Takes::SliceAndReceiver(SliceRule::AnySlice),
             Wanted::WantsSet,
         ),
         Op::FrozenSet => may_make(Takes::Slice(SliceRule::AnySlice), Class::FrozenSet),
-        // the stack alone
-        Op::Pop => moves(Move::Pops),
-        Op::Dup => moves(Move::Duplicates),
-        Op::Mark => moves(Move::PushesMark),
-        Op::PopMark => moves(Move::PopsMark),
-        // the memo
-        Op::Get => moves(Move::Fetches),
-        Op::BinGet => moves(Move::Fetches),
-        Op::LongBinGet => moves(Move::Fetches),
-        Op::Put => moves(Move::Stores),
-        Op::BinPut => moves(Move::Stores),
-        Op::LongBinPut => moves(Move::Stores),
-        Op::Memoize => moves(Move::StoresNext),
         // names of classes and functions
-        Op::Ext1 => moves(Move::Extends),
-        Op::Ext2 => moves(Move::Extends),
-        Op::Ext4 => moves(Move::Extends),
         Op::Global => imports(Takes::Objects(0), Names::OfArgument),
         Op::StackGlobal => imports(Takes::Objects(2), Names::OfOperands),
         // building objects
@@ -249,12 +212,69 @@ pub fn action_of(op: Op) -> Action
         Op::Obj => answers(Takes::Slice(SliceRule::FullSlice)),
         Op::NewObj => answers(Takes::Objects(2)),
         Op::NewObjEx => answers(Takes::Objects(3)),
-        Op::PersId => answers(Takes::Objects(0)),
         Op::BinPersid => answers(Takes::Objects(1)),
-        // the stream itself
-        Op::Proto => moves(Move::Passes),
-        Op::Frame => moves(Move::Passes),
-        Op::Stop => Action::Does(Effect::Stops),
+        // the next of the buffers, and what a persistent identifier names
+        _ => answers(Takes::Objects(0)),
+    }
+}
+
+/// What the machine does at the opcode.
+#[inline(always)]
+pub fn action_of(op: Op) -> Action
+    ensures effect { effect_of op ≡ effect_by op result }
+    ensures old { is_old_string op ≡ is_reading result }
+    ensures well { IsWell op result }
+    ensures spelled { MaySpell result (layout_at op) }
+{
+    match op {
+        Op::Int => Action::MakesIntOrBool,
+        Op::BinInt => Action::Makes(Class::Int),
+        Op::BinInt1 => Action::Makes(Class::Int),
+        Op::BinInt2 => Action::Makes(Class::Int),
+        Op::Long => Action::Makes(Class::Int),
+        Op::Long1 => Action::Makes(Class::Int),
+        Op::Long4 => Action::Makes(Class::Int),
+        Op::Float => Action::Makes(Class::Float),
+        Op::BinFloat => Action::Makes(Class::Float),
+        Op::String => Action::ReadsOldString,
+        Op::BinString => Action::ReadsOldString,
+        Op::ShortBinString => Action::ReadsOldString,
+        Op::BinBytes => Action::Makes(Class::Bytes),
+        Op::ShortBinBytes => Action::Makes(Class::Bytes),
+        Op::BinBytes8 => Action::Makes(Class::Bytes),
+        Op::ByteArray8 => Action::Makes(Class::ByteArray),
+        Op::None => Action::Makes(Class::None),
+        Op::NewTrue => Action::Makes(Class::Bool),
+        Op::NewFalse => Action::Makes(Class::Bool),
+        Op::Unicode => Action::MakesText,
+        Op::ShortBinUnicode => Action::MakesText,
+        Op::BinUnicode => Action::MakesText,
+        Op::BinUnicode8 => Action::MakesText,
+        Op::EmptyList => Action::Makes(Class::List),
+        Op::EmptyTuple => Action::Makes(Class::Tuple),
+        Op::EmptyDict => Action::Makes(Class::Dict),
+        Op::EmptySet => Action::Makes(Class::Set),
+        Op::Pop => Action::Moves(Move::Pops),
+        Op::Dup => Action::Moves(Move::Duplicates),
+        Op::Mark => Action::Moves(Move::PushesMark),
+        Op::PopMark => Action::Moves(Move::PopsMark),
+        Op::Get => Action::Moves(Move::Fetches),
+        Op::BinGet => Action::Moves(Move::Fetches),
+        Op::LongBinGet => Action::Moves(Move::Fetches),
+        Op::Put => Action::Moves(Move::Stores),
+        Op::BinPut => Action::Moves(Move::Stores),
+        Op::LongBinPut => Action::Moves(Move::Stores),
+        Op::Memoize => Action::Moves(Move::StoresNext),
+        Op::Ext1 => Action::Moves(Move::Extends),
+        Op::Ext2 => Action::Moves(Move::Extends),
+        Op::Ext4 => Action::Moves(Move::Extends),
+        Op::Global => Action::Imports,
+        Op::StackGlobal => Action::Imports,
+        Op::Inst => Action::Imports,
+        Op::Proto => Action::Moves(Move::Passes),
+        Op::Frame => Action::Moves(Move::Passes),
+        Op::Stop => Action::Stops,
+        _ => Action::Operates,
     }
 }
 

@@ -1,31 +1,35 @@
 //! What is known along a pickle: the stack, the memo, the texts that both name by number, and the
 //! imports.
 ghost use Rattle.std.specs.Prelude.{◌≡◌, ◌⊎◌, ◌≤◌, ◌++◌, [], length, option_map, IfOk, IfErr};
-ghost use Rattle.std.specs.Prelude.{None, OnErr, OnOk, Some, suc};
+ghost use Rattle.std.specs.Prelude.{None, OnErr, OnOk, Some, false, suc};
 ghost use Rattle.std.specs.List.{slice_get};
 ghost use Rattle.pkcheck.specs.Private.Denials.{IsDenied, IsForMemory, IsFaultOf, IsStopFault};
-ghost use Rattle.pkcheck.specs.Private.Denials.{MayOperate, Passes, WantsRoom, WellGiven};
-ghost use Rattle.pkcheck.specs.Private.Denials.{IsPlain, with_item, with_made};
+ghost use Rattle.pkcheck.specs.Effects.{effect_of};
+ghost use Rattle.pkcheck.specs.Private.Actions.{IsOperation, IsUnnamed};
+ghost use Rattle.pkcheck.specs.Private.Denials.{MayWantMemory, Passes, WantsRoom, with_item};
+ghost use Rattle.pkcheck.specs.Private.Denials.{with_made};
 ghost use Rattle.pkcheck.specs.Private.Spelled.{IsSpelled};
 ghost use Rattle.pkcheck.specs.Runs.{Text, text};
 ghost use Rattle.pkcheck.specs.Import.{import_shown, policy_of};
 ghost use Rattle.pkcheck.specs.Knowledge.{learn, stop_learned, within, nothing_known};
+ghost use Rattle.pkcheck.specs.Knowledge.{Policy as Pairs};
+ghost use Rattle.pkops.specs.Spelling.{Instruction};
 ghost use Rattle.pkcheck.specs.Shape.{and_then, marks_of, moved, top};
 ghost use Rattle.pkops.specs.Inst.{instruction_of};
 ghost use Rattle.pkops.specs.Operands.{memo_number};
 
 use crate::import::Import;
 use crate::imports::Imports;
-use crate::machine::effects::{Class, Effect, Gives, Move, Names, Takes};
+use crate::machine::effects::{Class, Move};
 use crate::machine::ledger::Ledger;
 use crate::machine::memo::Memo;
 use crate::machine::moves::apply;
 use crate::machine::new_text::make_text;
-use crate::machine::operate::{Denial, operate};
+use crate::machine::operate::{Denial, lines_of, operate, operate_named};
 use crate::machine::stack::Stack;
 use crate::machine::value::Value;
 use crate::policy::Policy;
-use pkops::{Inst, Limits};
+use pkops::{Inst, Limits, Op};
 use pkread::Reason;
 use std::alloc::{AllocError, Global};
 use std::marker::Model;
@@ -178,23 +182,40 @@ impl Held {
         apply(&mut self.stack, &mut self.memo, limits, what, inst)
     }
 
-    /// Does the operation.
+    /// Does the operation of an opcode that names nothing.
     #[inline(always)]
-    pub fn operate(
+    pub fn operate(&mut self, limits: &Limits, op: Op) -> Result<(), Reason>
+        requires within { length self.old.knowledge.entries ≤ limits.now.stack }
+        requires unnamed { IsUnnamed (effect_of op) }
+        ensures ok { (p : Pairs) (i : Instruction) → OnOk result (Passes
+            (learn p (effect_of op) i self.old.knowledge) self.new.knowledge
+            self.old.imports self.new.imports false) }
+        ensures room { OnOk result ((length self.new.knowledge.entries ≤ limits.now.stack)
+            × (length self.new.knowledge.memo ≡ length self.old.knowledge.memo)) }
+        ensures texts { self.new.texts ≡ self.old.texts }
+        ensures kept { OnErr result (self.new ≡ self.old) }
+        ensures err { (p : Pairs) (i : Instruction) → IfErr result (λ r. IsDenied (and_then
+            (learn p (effect_of op) i self.old.knowledge) (within limits.now))
+            (record { reason = r; pair = None })
+            ⊎ (MayWantMemory (effect_of op) × IsForMemory (record { reason = r; pair = None }))) }
+    {
+        operate(&mut self.stack, limits, op)?;
+        Ok(())
+    }
+
+    /// The same of an instruction that names a pair.
+    #[inline(always)]
+    pub fn operate_named(
         &mut self,
         alloc: Global,
         limits: &Limits,
-        takes: Takes,
-        names: Names,
-        gives: Gives,
         inst: &Inst,
         policy: &Policy,
     ) -> Result<bool, Denial>
         requires within { length self.old.knowledge.entries ≤ limits.now.stack }
-        requires given { WellGiven gives takes }
-        requires plain { IsPlain gives }
+        requires operation { IsOperation (effect_of (instruction_of inst.now).op) }
         ensures ok { IfOk result (λ b. Passes (learn (policy_of policy.now)
-            (Effect.Operates takes names gives)
+            (effect_of (instruction_of inst.now).op)
             (instruction_of inst.now) self.old.knowledge) self.new.knowledge
             self.old.imports self.new.imports b) }
         ensures room { OnOk result ((length self.new.knowledge.entries ≤ limits.now.stack)
@@ -202,18 +223,18 @@ impl Held {
         ensures texts { self.new.texts ≡ self.old.texts }
         ensures kept { OnErr result (self.new ≡ self.old) }
         ensures err { IfErr result (λ d. IsDenied (and_then (learn (policy_of policy.now)
-            (Effect.Operates takes names gives) (instruction_of inst.now) self.old.knowledge)
-            (within limits.now)) d ⊎ (MayOperate names gives × IsForMemory d)) }
+            (effect_of (instruction_of inst.now).op) (instruction_of inst.now) self.old.knowledge)
+            (within limits.now)) d
+            ⊎ (MayWantMemory (effect_of (instruction_of inst.now).op) × IsForMemory d)) }
     {
-        operate(
+        let lines = lines_of(inst);
+        operate_named(
             alloc,
             &mut self.stack,
             &mut self.ledger,
             limits,
-            takes,
-            names,
-            gives,
-            inst,
+            inst.op(),
+            lines,
             policy,
         )
     }

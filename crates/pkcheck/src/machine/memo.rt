@@ -20,8 +20,8 @@ pub struct Memo {
     zero: Option<Value>,
     /// Those from number 1 on, as long as they came in order.
     row: Pile<Value>,
-    /// The others.
-    rest: BTreeMap<u64, Value>,
+    /// The others. A number of more than 32 bits is none that an instruction spells.
+    rest: BTreeMap<u32, Value>,
 }
 
 impl Model for Memo {
@@ -67,13 +67,13 @@ impl Memo {
 
     /// What is known of the object under a number.
     #[inline(always)]
-    pub fn get(&self, number: u64) -> Option<Value>
+    pub fn get(&self, number: u32) -> Option<Value>
         ensures { result ≡ recalled number self.now }
     {
         if number == 0 {
             return self.zero;
         }
-        if number <= self.row.len() as u64 {
+        if number as usize <= self.row.len() {
             return Some(self.row.entries()[(number - 1) as usize]);
         }
         found(&self.rest, number)
@@ -99,7 +99,21 @@ impl Memo {
                 Err(_) => Err(Reason::OutOfMemory),
             };
         }
-        self.store_elsewhere(limits, number, value)
+        self.store_apart(limits, number, value)
+    }
+
+    /// The same, of a number that isn't the next in order. The call stands apart so that room for
+    /// its answer is made on its own way alone.
+    #[inline(always)]
+    fn store_apart(&mut self, limits: &Limits, number: u64, value: Value) -> Result<(), Reason>
+        requires { length self.old ≤ limits.now.memo }
+        ensures ok { OnOk result (self.new ≡ stored number value self.old) }
+        ensures room { OnOk result (length self.new ≤ limits.now.memo) }
+        ensures err { IfErr result (λ r. (self.new ≡ self.old)
+            × WantsMemo limits.now.memo (stored number value self.old) r) }
+    {
+        self.store_elsewhere(limits, number, value)?;
+        Ok(())
     }
 
     /// The same, of a number that isn't the next in order.
@@ -123,6 +137,9 @@ impl Memo {
             self.row.set((number - 1) as usize, value);
             return Ok(());
         }
+        let Ok(number) = u32::try_from(number) else {
+            return Err(Reason::OutOfMemory);
+        };
         put(&mut self.rest, has_room, number, value)
     }
 }
@@ -140,7 +157,7 @@ fn count(value: Option<Value>) -> u64
 
 /// What stands under a number there.
 #[inline(never)]
-fn found(rest: &BTreeMap<u64, Value>, number: u64) -> Option<Value>
+fn found(rest: &BTreeMap<u32, Value>, number: u32) -> Option<Value>
     ensures { result ≡ recalled number rest.now.entries }
 {
     match rest.get(&number) {
@@ -152,9 +169,9 @@ fn found(rest: &BTreeMap<u64, Value>, number: u64) -> Option<Value>
 /// Puts a value under a number there, where it stands there already or there is room for one more.
 #[inline(never)]
 fn put(
-    rest: &mut BTreeMap<u64, Value>,
+    rest: &mut BTreeMap<u32, Value>,
     has_room: bool,
-    number: u64,
+    number: u32,
     value: Value,
 ) -> Result<(), Reason>
     ensures ok { OnOk result (rest.new.entries ≡ stored number value rest.old.entries) }

@@ -1,9 +1,9 @@
 //! The moves, which look at no object.
 ghost use Rattle.pkcheck.specs.Private.Denials.{IsFault, IsFaultOf};
-ghost use Rattle.pkcheck.specs.Shape.{moved};
+ghost use Rattle.pkcheck.specs.Shape.{moved, slice, Entry, NoMark};
 ghost use Rattle.pkops.specs.Inst.{instruction_of};
 ghost use Rattle.pkops.specs.Operands.{memo_number};
-ghost use Rattle.std.specs.Prelude.{◌≡◌, ◌≤◌, ℕ, List, length, IfErr, OnOk};
+ghost use Rattle.std.specs.Prelude.{◌≡◌, ◌≤◌, ◌∷◌, [], ℕ, List, length, IfErr, OnOk};
 
 use crate::machine::effects::Move;
 use crate::machine::memo::Memo;
@@ -13,7 +13,7 @@ use pkops::{Inst, Limits};
 use pkread::Reason;
 
 /// Pushes the top once more.
-#[inline(never)]
+#[inline(always)]
 pub fn duplicate(stack: &mut Stack, limits: &Limits) -> Result<(), Reason>
     ensures ok { (m : List (ℕ × Value))
         → OnOk result (moved Move.Duplicates 0 (record { entries = stack.old; memo = m })
@@ -28,6 +28,7 @@ pub fn duplicate(stack: &mut Stack, limits: &Limits) -> Result<(), Reason>
 }
 
 /// Stores the top under a number.
+#[inline(always)]
 pub fn remember(stack: &Stack, memo: &mut Memo, limits: &Limits, number: u64) -> Result<(), Reason>
     requires { length memo.old ≤ limits.now.memo }
     ensures ok { OnOk result (moved Move.Stores number
@@ -53,7 +54,7 @@ pub fn recall(stack: &mut Stack, memo: &Memo, limits: &Limits, number: u32) -> R
         × IsFault limits.now (moved Move.Fetches number
         (record { entries = stack.old; memo = memo.now })) r) }
 {
-    match memo.get(number as u64) {
+    match memo.get(number) {
         Some(value) => stack.push(limits, value),
         None => Err(Reason::MissingMemo(number)),
     }
@@ -65,6 +66,31 @@ fn number_of(inst: &Inst<'_>) -> u32
     ensures { result ≡ memo_number (instruction_of inst.now) }
 {
     inst.memo_number().unwrap_or(0)
+}
+
+/// Takes the topmost entry. As below, the call stands apart so that room for its answer
+/// is made on its own way alone.
+#[inline(always)]
+fn pop(stack: &mut Stack) -> Result<(), Reason>
+    ensures ok { OnOk result ((e : Entry Value) × (stack.old ≡ e ∷ stack.new)) }
+    ensures err { IfErr result (λ r. (stack.new ≡ stack.old) × (stack.old ≡ [])
+        × (r ≡ Reason.MissingItem)) }
+{
+    stack.pop()?;
+    Ok(())
+}
+
+/// Takes what stands above the topmost mark, and the mark.
+#[inline(always)]
+fn pop_mark(stack: &mut Stack) -> Result<(), Reason>
+    ensures fewer { length stack.new ≤ length stack.old }
+    ensures ok { OnOk result ((above : List Value) × (slice stack.old []
+        ≡ Ok (record { operands = above; below = stack.new }))) }
+    ensures err { IfErr result (λ r. (stack.new ≡ stack.old) × (slice stack.old [] ≡ Err NoMark)
+        × (r ≡ Reason.MissingMark)) }
+{
+    stack.pop_mark()?;
+    Ok(())
 }
 
 /// Does what the move does.
@@ -89,8 +115,8 @@ pub fn apply(
 {
     match what {
         Move::PushesMark => stack.push_mark(limits),
-        Move::Pops => stack.pop(),
-        Move::PopsMark => stack.pop_mark(),
+        Move::Pops => pop(stack),
+        Move::PopsMark => pop_mark(stack),
         Move::Duplicates => duplicate(stack, limits),
         Move::Stores => remember(stack, memo, limits, number_of(inst) as u64),
         Move::StoresNext => {

@@ -125,8 +125,14 @@ pub fn make_text(
         × WantsRoom limits.now.stack (length stack.old) r) }
 {
     match inst.arg() {
-        Arg::Counted(payload) => name_payload(alloc, stack, ledger, limits, inst.op(), payload),
-        Arg::Line(line) => name_line(alloc, stack, ledger, limits, inst.op(), line),
+        Arg::Counted(payload) => {
+            name_payload(alloc, stack, ledger, limits, inst.op(), payload)?;
+            Ok(())
+        }
+        Arg::Line(line) => {
+            name_line(alloc, stack, ledger, limits, inst.op(), line)?;
+            Ok(())
+        }
         _ => unreachable!(),
     }
 }

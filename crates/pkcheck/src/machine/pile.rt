@@ -73,6 +73,17 @@ impl<T: Copy + Drop> Pile<T> {
         }
     }
 
+    /// Leaves one of them and all before it.
+    #[inline(always)]
+    pub fn end_with(&mut self, place: usize)
+        requires { place < length self.old }
+        ensures { self.new ≡ take (place + 1) self.old }
+    {
+        // Read for the proof, which has the range of the sum from it.
+        let _count = self.count;
+        self.count = place + 1;
+    }
+
     /// Puts an entry in the place of one.
     #[inline(always)]
     pub fn set(&mut self, index: usize, entry: T)
@@ -89,24 +100,24 @@ impl<T: Copy + Drop> Pile<T> {
         ensures err { OnErr result (self.new ≡ self.old) }
     {
         let count = self.count;
-        self.put(count, entry)
-    }
-
-    /// Puts an entry in the place of all from there on.
-    #[inline(always)]
-    pub fn put(&mut self, place: usize, entry: T) -> Result<(), AllocError>
-        requires { place ≤ length self.old }
-        ensures ok { OnOk result (self.new ≡ take place self.old ++ entry ∷ []) }
-        ensures err { OnErr result (self.new ≡ self.old) }
-    {
-        if place >= self.store.len() {
+        if count >= self.store.len() {
             let Ok(()) = lengthen(&mut self.store, self.filler) else {
                 return Err(AllocError);
             };
         }
+        self.store[count] = entry;
+        self.count = count + 1;
+        Ok(())
+    }
+
+    /// Puts an entry in the place of one and all behind it.
+    #[inline(always)]
+    pub fn replace(&mut self, place: usize, entry: T)
+        requires { place < length self.old }
+        ensures { self.new ≡ take place self.old ++ entry ∷ [] }
+    {
         self.store[place] = entry;
         self.count = place + 1;
-        Ok(())
     }
 }
 

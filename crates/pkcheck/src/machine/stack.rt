@@ -15,7 +15,8 @@ use crate::machine::value::Value;
 pub use operands::Operands;
 use pkops::Limits;
 use pkread::Reason;
-use slots::{Slot, mark_place, marks_below, place_of, top};
+pub use slots::Found;
+use slots::{Slot, mark_place, marks_below, place_of, put_on_top, top};
 use std::alloc::Global;
 use std::marker::Model;
 
@@ -76,6 +77,7 @@ impl Stack {
     }
 
     /// What is known of the top.
+    #[inline(always)]
     pub fn top(&self) -> Result<Value, Reason>
         ensures ok { IfOk result (λ v. top self.now ≡ Ok (v, drop 1 self.now)) }
         ensures err { IfErr result (λ r. IsLack (top self.now) r) }
@@ -86,19 +88,25 @@ impl Stack {
         }
     }
 
-    /// The place from which on the operation takes.
-    pub fn find(&self, takes: Takes) -> Result<usize, Reason>
-        ensures within { IfOk result (λ n. n ≤ length self.now) }
-        ensures ok { IfOk result (λ n. operands takes self.now
-            ≡ Ok (record { operands = above n self.now; below = below n self.now })) }
-        ensures first { IfOk result (λ n. HasFirst takes → below (n + 1) self.now
-            ≡ front (above n self.now) ++ below n self.now) }
+    /// Where the operation takes from.
+    #[inline(always)]
+    pub fn find(&self, takes: Takes) -> Result<Found, Reason>
+        ensures within { IfOk result (λ f. f.place ≤ length self.now) }
+        ensures ok { IfOk result (λ f. operands takes self.now ≡ Ok (record {
+          operands = above f.place self.now;
+          below = below f.place self.now;
+        })) }
+        ensures marks { IfOk result (λ f. f.marks ≡ marks_of (below f.place self.now)) }
+        ensures there { IfOk result (λ f. HasFirst takes → f.place < length self.now) }
+        ensures first { IfOk result (λ f. HasFirst takes → below (f.place + 1) self.now
+            ≡ front (above f.place self.now) ++ below f.place self.now) }
         ensures err { IfErr result (λ r. IsLack (operands takes self.now) r) }
     {
         place_of(self.slots.entries(), self.places.entries(), takes)
     }
 
     /// The objects from a place on.
+    #[inline(always)]
     #[tactic(auto, using(crate::proofs::Limited::length_shown, crate::proofs::Places::above_shown))]
     pub fn operands(&self, place: usize) -> Operands<'_>
         requires { place ≤ length self.now }
@@ -118,6 +126,7 @@ impl Stack {
 
     /// Puts a mark on top, where the limit leaves room.
     #[tactic(auto, using(crate::proofs::Limited::length_shown, crate::proofs::Shown::shown_append))]
+    #[inline(always)]
     pub fn push_mark(&mut self, limits: &Limits) -> Result<(), Reason>
         ensures ok { OnOk result (self.new ≡ Mark ∷ self.old) }
         ensures room { OnOk result (length self.new ≤ limits.now.stack) }
@@ -158,7 +167,21 @@ impl Stack {
         }
     }
 
+    /// The same where nothing is taken, which is rare, and where there is room.
+    #[inline(always)]
+    #[tactic(auto, using(crate::proofs::Limited::length_shown, crate::proofs::Shown::shown_append))]
+    fn push_apart(&mut self, value: Value) -> Result<(), Reason>
+        ensures ok { OnOk result (self.new ≡ Item value ∷ self.old) }
+        ensures err { IfErr result (λ r. (self.new ≡ self.old) × (r ≡ Reason.OutOfMemory)) }
+    {
+        match put_on_top(&mut self.slots, value) {
+            Ok(()) => Ok(()),
+            Err(_) => Err(Reason::OutOfMemory),
+        }
+    }
+
     /// Leaves the lowest so many entries.
+    #[inline(always)]
     #[tactic(auto, using(crate::proofs::Limited::length_shown, crate::proofs::Places::below_shown))]
     pub fn truncate(&mut self, count: usize)
         ensures { self.new ≡ below count self.old }
@@ -201,9 +224,29 @@ impl Stack {
         }
     }
 
-    /// Puts an object in the place of all from there on, where the limit leaves room.
-    pub fn replace(&mut self, limits: &Limits, place: usize, value: Value) -> Result<(), Reason>
+    /// Leaves the entry at a place and those below it, of which so many are marks.
+    #[inline(always)]
+    pub fn end_with(&mut self, place: usize, marks: usize)
+        requires there { place < length self.old }
+        requires marks { marks ≡ marks_of (below (place + 1) self.old) }
+        ensures { self.new ≡ below (place + 1) self.old }
+    {
+        self.places.truncate(marks);
+        self.slots.end_with(place);
+    }
+
+    /// Puts an object in the place of all from there on, where the limit leaves room. So many marks
+    /// stay below.
+    #[inline(always)]
+    pub fn replace(
+        &mut self,
+        limits: &Limits,
+        place: usize,
+        marks: usize,
+        value: Value,
+    ) -> Result<(), Reason>
         requires at { place ≤ length self.old }
+        requires marks { marks ≡ marks_of (below place self.old) }
         requires within { length self.old ≤ limits.now.stack }
         ensures ok { OnOk result (self.new ≡ Item value ∷ below place self.old) }
         ensures room { OnOk result (length self.new ≤ limits.now.stack) }
@@ -213,11 +256,21 @@ impl Stack {
         if place as u64 >= limits.stack() {
             return Err(Reason::TooLarge);
         }
-        let Ok(()) = self.slots.put(place, Slot::Object(value)) else {
-            return Err(Reason::OutOfMemory);
-        };
-        let left = marks_below(self.places.entries(), place);
-        self.places.truncate(left);
+        if place >= self.len() {
+            return self.push_apart(value);
+        }
+        self.replace_all(place, marks, value);
         Ok(())
+    }
+
+    /// Puts an object in the place of one or more, all from there on.
+    #[inline(always)]
+    fn replace_all(&mut self, place: usize, marks: usize, value: Value)
+        requires at { place < length self.old }
+        requires marks { marks ≡ marks_of (below place self.old) }
+        ensures { self.new ≡ Item value ∷ below place self.old }
+    {
+        self.places.truncate(marks);
+        self.slots.replace(place, Slot::Object(value));
     }
 }

@@ -1,17 +1,21 @@
 //! One step over what is known.
-ghost use Rattle.std.specs.Prelude.{◌≡◌, ◌⊎◌, ◌≤◌, length, true, None, IfOk, IfErr, OnOk, OnErr};
-ghost use Rattle.pkcheck.specs.Effects.{effect_as, is_old_string};
-ghost use Rattle.pkcheck.specs.Knowledge.{advance, learn, within};
+ghost use Rattle.std.specs.Prelude.{◌≡◌, ◌⊎◌, ◌≤◌, length, option_map, true, None, Ok};
+ghost use Rattle.std.specs.Prelude.{IfOk, IfErr, OnOk, OnErr};
+ghost use Rattle.pkcheck.specs.Effects.{effect_as, effect_of, is_old_string};
+ghost use Rattle.pkcheck.specs.Knowledge.{advance, learn, stop_learned, within};
 ghost use Rattle.pkcheck.specs.Knowledge.{Policy as Pairs};
-ghost use Rattle.pkcheck.specs.Private.Actions.{IsWell};
+ghost use Rattle.pkcheck.specs.Private.Actions.{IsOperation};
 ghost use Rattle.pkcheck.specs.Private.Spelled.{IsSpelled};
-ghost use Rattle.pkcheck.specs.Shape.{and_then};
+ghost use Rattle.pkcheck.specs.Shape.{and_then, top};
 ghost use Rattle.pkcheck.specs.View.{texts_after};
 ghost use Rattle.pkops.specs.Inst.{instruction_of};
-ghost use Rattle.pkcheck.specs.Import.{policy_of};
+ghost use Rattle.pkcheck.specs.Import.{asked_shown, policy_of};
 ghost use Rattle.pkcheck.specs.Private.Denials.{IsDenied, IsForMemory, GoesTo, MayWantMemory};
+ghost use Rattle.pkcheck.specs.Private.Denials.{IsRefusedFor, IsStopFault, LacksMemory};
+ghost use Rattle.pkcheck.specs.Private.Denials.{pair_denied};
 
-use crate::machine::effects::{Action, Class, Effect, action_of};
+use crate::import::Asked;
+use crate::machine::effects::{Action, Class, action_of};
 use crate::machine::held::Held;
 use crate::machine::old_text::is_ascii_string;
 use crate::machine::operate::Denial;
@@ -33,7 +37,8 @@ pub enum Moved {
     Stopped,
 }
 
-/// Does what the instruction does.
+/// Does what the instruction does. Where its import is off the list, the pair is put aside: what
+/// most steps answer is small then.
 #[inline(always)]
 pub fn advance(
     alloc: Global,
@@ -42,9 +47,11 @@ pub fn advance(
     old_strings: OldStrings,
     inst: &Inst,
     policy: &Policy,
-) -> Result<Moved, Denial>
+    off: &mut Option<Asked>,
+) -> Result<Moved, Reason>
     requires stack { length held.old.knowledge.entries ≤ limits.now.stack }
     requires memo { length held.old.knowledge.memo ≤ limits.now.memo }
+    requires none { off.old ≡ None }
     ensures ok { IfOk result (λ v. GoesTo (effect_as old_strings (instruction_of inst.now))
         (advance old_strings (policy_of policy.now) limits.now
         (instruction_of inst.now) held.old.knowledge) held.new.knowledge
@@ -53,12 +60,15 @@ pub fn advance(
         × (length held.new.knowledge.memo ≤ limits.now.memo)) }
     ensures texts { OnOk result (held.new.texts
         ≡ texts_after (effect_as old_strings (instruction_of inst.now)) held.old.texts) }
+    ensures off { OnOk result (off.new ≡ None) }
     ensures kept { OnErr result (held.new ≡ held.old) }
-    ensures err { IfErr result (λ d. IsDenied (advance old_strings (policy_of policy.now) limits.now
-        (instruction_of inst.now) held.old.knowledge) d
-        ⊎ (MayWantMemory (effect_as old_strings (instruction_of inst.now)) × IsForMemory d)) }
+    ensures err { IfErr result (λ r. IsRefusedFor (advance old_strings (policy_of policy.now)
+        limits.now (instruction_of inst.now) held.old.knowledge) r (option_map asked_shown off.new)
+        ⊎ (MayWantMemory (effect_as old_strings (instruction_of inst.now))
+        × LacksMemory r (option_map asked_shown off.new))) }
 {
-    match action_of(inst.op()) {
+    let op = inst.op();
+    match action_of(op) {
         Action::Makes(class) => {
             held.make(limits, class)?;
             Ok(Moved::On)
@@ -72,15 +82,58 @@ pub fn advance(
             Ok(Moved::On)
         }
         Action::ReadsOldString => {
-            let old = Inst::known(inst.op(), inst.arg());
-            read_old_string(alloc, held, limits, old_strings, &old)?;
+            read_copy(alloc, held, limits, old_strings, inst)?;
             Ok(Moved::On)
         }
-        Action::Does(effect) => perform(alloc, held, limits, effect, inst, policy),
+        Action::Moves(what) => {
+            held.apply(limits, what, inst)?;
+            Ok(Moved::On)
+        }
+        Action::Operates => {
+            held.operate(limits, op)?;
+            Ok(Moved::On)
+        }
+        Action::Imports => import(alloc, held, limits, inst, policy, off),
+        Action::Stops => {
+            finish(held)?;
+            Ok(Moved::Stopped)
+        }
     }
 }
 
-/// Pushes what becomes of an old string.
+/// Pushes what becomes of an old string. It is read from a copy: an instruction whose address is
+/// handed on lies in memory in every step.
+#[inline(always)]
+fn read_copy(
+    alloc: Global,
+    held: &mut Held,
+    limits: &Limits,
+    old_strings: OldStrings,
+    inst: &Inst,
+) -> Result<(), Reason>
+    requires old { is_old_string (instruction_of inst.now).op ≡ true }
+    requires spells { IsSpelled (instruction_of inst.now).arg }
+    requires memo { length held.old.knowledge.memo ≤ limits.now.memo }
+    ensures ok { (p : Pairs) → OnOk result (GoesTo (effect_as old_strings (instruction_of inst.now))
+        (advance old_strings p limits.now (instruction_of inst.now) held.old.knowledge)
+        held.new.knowledge held.old.imports held.new.imports Moved.On) }
+    ensures room { OnOk result ((length held.new.knowledge.entries ≤ limits.now.stack)
+        × (length held.new.knowledge.memo ≤ limits.now.memo)) }
+    ensures texts { OnOk result (held.new.texts
+        ≡ texts_after (effect_as old_strings (instruction_of inst.now)) held.old.texts) }
+    ensures kept { OnErr result (held.new ≡ held.old) }
+    ensures err { (p : Pairs) → IfErr result (λ r. IsDenied (advance old_strings p limits.now
+        (instruction_of inst.now) held.old.knowledge) (record { reason = r; pair = None })
+        ⊎ (MayWantMemory (effect_as old_strings (instruction_of inst.now))
+        × IsForMemory (record { reason = r; pair = None }))) }
+{
+    let copy = Inst::known(inst.op(), inst.arg());
+    read_old_string(alloc, held, limits, old_strings, &copy)?;
+    Ok(())
+}
+
+/// Pushes what becomes of it.
+#[inline(never)]
 fn read_old_string(
     alloc: Global,
     held: &mut Held,
@@ -118,49 +171,78 @@ fn read_old_string(
     }
 }
 
-/// Does what an instruction of this effect does.
+/// Takes the result, where nothing else is left.
 #[inline(always)]
-fn perform(
+fn finish(held: &mut Held) -> Result<(), Reason>
+    ensures ok { OnOk result (stop_learned held.old.knowledge.memo
+        (top held.old.knowledge.entries)
+        ≡ Ok (record { after = held.new.knowledge; import = None })) }
+    ensures texts { held.new.texts ≡ held.old.texts }
+    ensures imports { held.new.imports ≡ held.old.imports }
+    ensures room { (length held.new.knowledge.entries ≤ length held.old.knowledge.entries)
+        × (held.new.knowledge.memo ≡ held.old.knowledge.memo) }
+    ensures kept { OnErr result (held.new ≡ held.old) }
+    ensures err { IfErr result (λ r. IsStopFault (stop_learned held.old.knowledge.memo
+        (top held.old.knowledge.entries)) r) }
+{
+    held.finish()?;
+    Ok(())
+}
+
+/// Does the operation of an instruction that names a pair.
+#[inline(always)]
+fn import(
     alloc: Global,
     held: &mut Held,
     limits: &Limits,
-    effect: Effect,
     inst: &Inst,
     policy: &Policy,
-) -> Result<Moved, Denial>
-    requires well { IsWell (Action.Does effect) }
+    off: &mut Option<Asked>,
+) -> Result<Moved, Reason>
+    requires operation { IsOperation (effect_of (instruction_of inst.now).op) }
     requires stack { length held.old.knowledge.entries ≤ limits.now.stack }
     requires memo { length held.old.knowledge.memo ≤ limits.now.memo }
-    ensures ok { IfOk result (λ v. GoesTo effect (and_then (learn (policy_of policy.now) effect
+    requires none { off.old ≡ None }
+    ensures ok { IfOk result (λ v. GoesTo (effect_of (instruction_of inst.now).op)
+        (and_then (learn (policy_of policy.now) (effect_of (instruction_of inst.now).op)
         (instruction_of inst.now) held.old.knowledge) (within limits.now)) held.new.knowledge
         held.old.imports held.new.imports v) }
     ensures room { OnOk result ((length held.new.knowledge.entries ≤ limits.now.stack)
         × (length held.new.knowledge.memo ≤ limits.now.memo)) }
-    ensures texts { OnOk result (held.new.texts ≡ texts_after effect held.old.texts) }
+    ensures texts { held.new.texts ≡ held.old.texts }
+    ensures off { OnOk result (off.new ≡ None) }
     ensures kept { OnErr result (held.new ≡ held.old) }
-    ensures err { IfErr result (λ d. IsDenied (and_then (learn (policy_of policy.now) effect
-        (instruction_of inst.now) held.old.knowledge) (within limits.now)) d
-        ⊎ (MayWantMemory effect × IsForMemory d)) }
+    ensures err { IfErr result (λ r. IsRefusedFor (and_then (learn (policy_of policy.now)
+        (effect_of (instruction_of inst.now).op)
+        (instruction_of inst.now) held.old.knowledge) (within limits.now)) r
+        (option_map asked_shown off.new)
+        ⊎ (MayWantMemory (effect_of (instruction_of inst.now).op)
+        × LacksMemory r (option_map asked_shown off.new))) }
 {
-    match effect {
-        Effect::Operates(takes, names, gives) => {
-            if held.operate(alloc, limits, takes, names, gives, inst, policy)? {
-                Ok(Moved::Import)
-            } else {
-                Ok(Moved::On)
-            }
-        }
-        Effect::Moves(what) => {
-            held.apply(limits, what, inst)?;
-            Ok(Moved::On)
-        }
-        Effect::Stops => {
-            held.finish()?;
-            Ok(Moved::Stopped)
-        }
-        Effect::Raises => Err(Denial {
-            reason: Reason::NotAscii,
-            pair: None,
-        }),
+    match held.operate_named(alloc, limits, inst, policy) {
+        Ok(true) => Ok(Moved::Import),
+        Ok(false) => Ok(Moved::On),
+        Err(denial) => Err(put_aside(denial, off)),
+    }
+}
+
+/// Puts the pair of a denial aside, and gives its reason.
+#[inline(never)]
+fn put_aside(denial: Denial, off: &mut Option<Asked>) -> Reason
+    ensures reason { result ≡ denial.reason }
+    ensures off { option_map asked_shown off.new ≡ pair_denied denial }
+{
+    let Denial { reason, pair } = denial;
+    *off = unboxed(pair);
+    reason
+}
+
+/// The pair of a refusal, out of its place.
+fn unboxed(pair: Option<Box<Asked>>) -> Option<Asked>
+    ensures { option_map asked_shown result ≡ option_map (λ b. asked_shown b.value) pair }
+{
+    match pair {
+        Some(pair) => Some(Box::into_inner(pair)),
+        None => None,
     }
 }

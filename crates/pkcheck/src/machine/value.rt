@@ -34,15 +34,16 @@ pub fn int_or_bool(inst: &Inst) -> Class
 }
 
 /// What is known of what is given.
-#[inline]
+#[inline(always)]
 pub fn value_of(gives: Gives) -> Option<Value>
     requires { IsPlain gives }
     ensures { (ts : List (List ℕ)) (i : Instruction) → StandsIf ts result (known_given gives i) }
 {
     match gives {
+        Gives::Leaves(_) => None,
         Gives::Makes(class) => Some(Value::Made(class)),
         Gives::MayMake(class) => Some(Value::Made(class)),
         Gives::Answers => Some(Value::Unknown),
-        _ => None,
+        _ => unreachable!(),
     }
 }

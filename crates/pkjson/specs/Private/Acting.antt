@@ -5,8 +5,8 @@ use Rattle.serde_json.specs.Find.{of_integer}
 use Rattle.pkops.specs.Spelling.{Instruction}
 use Rattle.pkops.specs.Operands.{names_bool, memo_number}
 use Rattle.pkcheck.specs.declared.machine.effects.Class.TheVariants as class
-use Rattle.pkcheck.specs.declared.machine.effects.Effect.{Effect}
-use Rattle.pkcheck.specs.declared.machine.effects.Effect.TheVariants as effect
+use Rattle.pkcheck.specs.Effects.{Effect}
+use Rattle.pkcheck.specs.Effects as effect
 use Rattle.pkcheck.specs.declared.machine.effects.Gives.{Gives}
 use Rattle.pkcheck.specs.declared.machine.effects.Gives.TheVariants as gives
 use Rattle.pkcheck.specs.declared.machine.effects.Move.{Move as MoveOf}

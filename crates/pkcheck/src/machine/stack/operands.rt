@@ -25,12 +25,27 @@ impl<'a> Model for Operands<'a> {
 
 impl<'a> Operands<'a> {
     /// The objects among these entries from a place on.
+    #[inline(always)]
     pub fn from(slots: &'a [Slot], place: usize) -> Operands<'a>
         requires { place ≤ length slots.now }
         ensures { result ≡ values_of (drop place slots.now) }
     {
         Operands {
             slots: &slots[place..],
+        }
+    }
+
+    /// The first of them: the lowest entry as a rule, of which no mark is one then.
+    #[inline(always)]
+    pub fn first(&self) -> Option<Value>
+        ensures { result ≡ slice_get self.now 0 }
+    {
+        if self.slots.is_empty() {
+            return None;
+        }
+        match self.slots[0] {
+            Slot::Object(value) => Some(value),
+            Slot::Mark => self.get(0),
         }
     }
 

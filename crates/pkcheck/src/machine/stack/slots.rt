@@ -3,14 +3,26 @@ ghost use Rattle.pkcheck.specs.Private.Denials.{IsLack};
 ghost use Rattle.pkcheck.specs.Knowledge.{Lacks, reason_of};
 ghost use Rattle.pkcheck.specs.Shape.{Breach, NoMark, NoItem, operands, slice, items, breaks};
 ghost use Rattle.pkcheck.specs.Shape.{marks_of, top};
-ghost use Rattle.pkcheck.specs.Private.Slots.{bars, shown, values_of, FirstObject, StartsWell};
-ghost use Rattle.pkcheck.specs.Private.Slots.{taken_from};
-ghost use Rattle.std.specs.Prelude.{◌≡◌, List, [], ◌∷◌, ◌<◌, ◌≤◌, ◌+◌, length, take, drop, IfOk};
-ghost use Rattle.std.specs.Prelude.{IfErr, IfSome, MatchOption};
+ghost use Rattle.pkcheck.specs.Private.Slots.{bars, shown, values_of, AllObjects, FirstObject};
+ghost use Rattle.pkcheck.specs.Private.Slots.{taken_from, StartsWell};
+ghost use Rattle.std.specs.Prelude.{ℕ, ◌≡◌, List, [], ◌∷◌, ◌<◌, ◌≤◌, ◌+◌, ◌-◌, length, take, drop};
+ghost use Rattle.std.specs.Prelude.{IfOk};
+ghost use Rattle.std.specs.Prelude.{◌++◌, IfErr, IfSome, MatchOption, OnErr, OnOk};
 
 use crate::machine::effects::{SliceRule, Takes};
+use crate::machine::pile::Pile;
 use crate::machine::value::Value;
 use pkread::Reason;
+use std::alloc::AllocError;
+
+/// Where an operation takes from.
+#[derive(Clone, Copy)]
+pub struct Found {
+    /// How many entries stay below.
+    pub place: usize,
+    /// How many of these are marks.
+    pub marks: usize,
+}
 
 /// An entry of the stack.
 #[derive(Clone, Copy)]
@@ -20,6 +32,7 @@ pub enum Slot {
 }
 
 /// What is known of the top.
+#[inline(always)]
 pub fn top(slots: &[Slot]) -> Option<Value>
     ensures { MatchOption result (top (shown slots.now [])
         ≡ Err NoItem) (λ v. top (shown slots.now []) ≡ Ok (v, drop 1 (shown slots.now []))) }
@@ -33,7 +46,17 @@ pub fn top(slots: &[Slot]) -> Option<Value>
     }
 }
 
+/// Puts an object on top. It is a call: what makes none keeps no register for it.
+#[inline(never)]
+pub fn put_on_top(slots: &mut Pile<Slot>, value: Value) -> Result<(), AllocError>
+    ensures ok { OnOk result (slots.new ≡ slots.old ++ Slot.Object value ∷ []) }
+    ensures err { OnErr result (slots.new ≡ slots.old) }
+{
+    slots.push(Slot::Object(value))
+}
+
 /// The place of the topmost mark.
+#[inline(always)]
 pub fn mark_place(stack: &[Slot], places: &[usize]) -> Option<usize>
     requires { places.now ≡ bars 0 stack.now }
     ensures value { MatchOption result (slice (shown stack.now []) []
@@ -41,6 +64,8 @@ pub fn mark_place(stack: &[Slot], places: &[usize]) -> Option<usize>
         ≡ Ok (taken_from n stack.now))) }
     ensures count { IfSome result (λ n. length (values_of (drop n stack.now)) + (n + 1)
         ≡ length stack.now) }
+    ensures marks { IfSome result (λ n. length (bars 0 (take n stack.now)) + 1
+        ≡ length places.now) }
 {
     match places.last() {
         Some(place) => Some(*place),
@@ -48,24 +73,36 @@ pub fn mark_place(stack: &[Slot], places: &[usize]) -> Option<usize>
     }
 }
 
-/// The place below so many objects, of which none is a mark.
-pub fn objects_place(stack: &[Slot], count: usize) -> Option<usize>
+/// How many objects stand above the topmost mark, or at all.
+#[inline(always)]
+pub fn objects_on_top(stack: &[Slot], places: &[usize]) -> usize
+    requires { places.now ≡ bars 0 stack.now }
+    ensures within { result ≤ length stack.now }
+    ensures objects { AllObjects (drop (length stack.now - result) stack.now) }
+    ensures others { (count : ℕ) → result < count
+        → items count (shown stack.now []) [] ≡ Err NoItem }
+{
+    match places.last() {
+        Some(place) => stack.len() - *place - 1,
+        None => stack.len(),
+    }
+}
+
+/// The place below so many objects, of which none is a mark. The marks say whether one is: their
+/// places are looked at in place of the entries.
+#[inline(always)]
+pub fn objects_place(stack: &[Slot], places: &[usize], count: usize) -> Option<usize>
+    requires { places.now ≡ bars 0 stack.now }
     ensures well { IfSome result (λ n. StartsWell (Takes.Objects count) (drop n stack.now)) }
     ensures value { MatchOption result (items count (shown stack.now []) []
         ≡ Err NoItem) (λ n. (n ≤ length stack.now) × (items count (shown stack.now []) []
         ≡ Ok (taken_from n stack.now))) }
+    ensures marks { IfSome result (λ n. length (bars 0 (take n stack.now)) ≡ length places.now) }
 {
-    let mut place = stack.len();
-    for _k in 0..count {
-        if place == 0 {
-            return None;
-        }
-        place -= 1;
-        if let Slot::Mark = stack[place] {
-            return None;
-        }
+    if objects_on_top(stack, places) < count {
+        return None;
     }
-    Some(place)
+    Some(stack.len() - count)
 }
 
 /// How many objects stand there.
@@ -82,6 +119,7 @@ pub fn count_objects(slots: &[Slot]) -> usize
 }
 
 /// How many of the marks stand below a place.
+#[inline(always)]
 pub fn marks_below(places: &[usize], count: usize) -> usize
     ensures { (ss : List Slot) → places.now ≡ bars 0 ss → take result places.now
         ≡ bars 0 (take count ss) }
@@ -97,6 +135,7 @@ pub fn marks_below(places: &[usize], count: usize) -> usize
 }
 
 /// Whether a slice of so many objects breaks the rule.
+#[inline(always)]
 #[tactic(auto, using(crate::proofs::Settled::is_even_length))]
 pub fn rule_fault(rule: SliceRule, count: usize) -> Option<Reason>
     ensures { (values : List Value) → length values ≡ count → MatchOption result (breaks rule values
@@ -122,10 +161,12 @@ pub fn rule_fault(rule: SliceRule, count: usize) -> Option<Reason>
 }
 
 /// The place of the mark, where what stands above it meets the rule.
+#[inline(always)]
 pub fn slice_place(stack: &[Slot], places: &[usize], rule: SliceRule) -> Result<usize, Reason>
     requires { places.now ≡ bars 0 stack.now }
     ensures ok { IfOk result (λ n. (n ≤ length stack.now)
         × (operands (Takes.Slice rule) (shown stack.now []) ≡ Ok (taken_from n stack.now))) }
+    ensures marks { IfOk result (λ n. length (bars 0 (take n stack.now)) + 1 ≡ length places.now) }
     ensures err { IfErr result (λ r. IsLack (operands (Takes.Slice rule) (shown stack.now [])) r) }
 {
     let Some(place) = mark_place(stack, places) else {
@@ -138,12 +179,14 @@ pub fn slice_place(stack: &[Slot], places: &[usize], rule: SliceRule) -> Result<
 }
 
 /// The place of the object below the mark.
+#[inline(always)]
 pub fn receiver_place(stack: &[Slot], places: &[usize], rule: SliceRule) -> Result<usize, Reason>
     requires { places.now ≡ bars 0 stack.now }
     ensures well { IfOk result (λ n. FirstObject (drop n stack.now)) }
     ensures ok { IfOk result (λ n. (n ≤ length stack.now)
         × (operands (Takes.SliceAndReceiver rule) (shown stack.now [])
         ≡ Ok (taken_from n stack.now))) }
+    ensures marks { IfOk result (λ n. length (bars 0 (take n stack.now)) + 1 ≡ length places.now) }
     ensures err { IfErr result (λ r. IsLack (operands (Takes.SliceAndReceiver rule)
         (shown stack.now [])) r) }
 {
@@ -153,29 +196,46 @@ pub fn receiver_place(stack: &[Slot], places: &[usize], rule: SliceRule) -> Resu
     if place == 0 {
         return Err(Reason::MissingItem);
     }
-    if let Slot::Mark = stack[place - 1] {
+    let Slot::Object(_) = stack[place - 1] else {
         return Err(Reason::MissingItem);
-    }
+    };
     match rule_fault(rule, stack.len() - place - 1) {
         Some(reason) => Err(reason),
         None => Ok(place - 1),
     }
 }
 
-/// The place from which on the operation takes.
-pub fn place_of(stack: &[Slot], places: &[usize], takes: Takes) -> Result<usize, Reason>
+/// Where the operation takes from. A slice goes with its mark, which is the topmost.
+#[inline(always)]
+pub fn place_of(stack: &[Slot], places: &[usize], takes: Takes) -> Result<Found, Reason>
     requires { places.now ≡ bars 0 stack.now }
-    ensures well { IfOk result (λ n. StartsWell takes (drop n stack.now)) }
-    ensures ok { IfOk result (λ n. (n ≤ length stack.now) × (operands takes (shown stack.now [])
-        ≡ Ok (taken_from n stack.now))) }
+    ensures well { IfOk result (λ f. StartsWell takes (drop f.place stack.now)) }
+    ensures ok { IfOk result (λ f. (f.place ≤ length stack.now)
+        × (operands takes (shown stack.now []) ≡ Ok (taken_from f.place stack.now))) }
+    ensures marks { IfOk result (λ f. f.marks ≡ length (bars 0 (take f.place stack.now))) }
     ensures err { IfErr result (λ r. IsLack (operands takes (shown stack.now [])) r) }
 {
     match takes {
-        Takes::Objects(count) => match objects_place(stack, count as usize) {
-            Some(place) => Ok(place),
+        Takes::Objects(count) => match objects_place(stack, places, count as usize) {
+            Some(place) => Ok(Found {
+                place,
+                marks: places.len(),
+            }),
             None => Err(Reason::MissingItem),
         },
-        Takes::Slice(rule) => slice_place(stack, places, rule),
-        Takes::SliceAndReceiver(rule) => receiver_place(stack, places, rule),
+        Takes::Slice(rule) => match slice_place(stack, places, rule) {
+            Ok(place) => Ok(Found {
+                place,
+                marks: places.len() - 1,
+            }),
+            Err(reason) => Err(reason),
+        },
+        Takes::SliceAndReceiver(rule) => match receiver_place(stack, places, rule) {
+            Ok(place) => Ok(Found {
+                place,
+                marks: places.len() - 1,
+            }),
+            Err(reason) => Err(reason),
+        },
     }
 }

@@ -1,4 +1,4 @@
-use Rattle.std.proofs.Common.{◌∙◌, Some, option_map, refl}
+use Rattle.std.proofs.Common.{◌∙◌, Some, option_map, sym}
 use Rattle.pkops.specs.Inst.{instruction_of}
 use Rattle.pkcheck.specs.Knowledge.{Knowledge}
 use Rattle.pkcheck.specs.Import.{asked_shown, policy_of}
@@ -13,7 +13,7 @@ returns-in-Ok-clause-goes_on c =
     let k : Knowledge = c.advance.new.held.knowledge in (
       record { after = k; import = g.0 },
       rw (← c.self.view_is) g.1,
-      rw (← c.self.view_is) (λ j. record { knowledge = k; limits = c.self.inside.limits; old_strings = c.self.inside.old_strings; imports = g.2 j; off = option_map asked_shown c.self.inside.off; refused = c.self.inside.refused; stopped = c.is_stopped-self-inside.ensures j; texts = c.in-Ok.ensures.texts j }),
+      rw (← c.self.view_is) (λ j. record { knowledge = k; limits = c.self.inside.limits; old_strings = c.self.inside.old_strings; imports = g.2 j; off = option_map asked_shown ((c.in-Ok.ensures.off ∙ sym (c.self.invariant.1 c.in_default.is)) j); refused = c.self.inside.refused; stopped = c.is_stopped-self-inside.ensures j; texts = c.in-Ok.ensures.texts j }),
       rw (← c.self.view_is) g.3,
     )
 
@@ -37,8 +37,8 @@ returns-in-Ok-clause-texts c =
 pub returns-in-Err-clause-fails : goal.returns-in-Err-clause-fails
 returns-in-Err-clause-fails c fresh =
     let kept = c.in-Err.ensures.kept in
-    denied (policy_of c.args.policy.now) (instruction_of c.args.inst.now) c.args.self.now _ _ c.in-Err.denial refl
-    (rw (← c.self.view_is) (λ j. record { knowledge = (kept j).knowledge; limits = c.self.inside.limits; old_strings = c.self.inside.old_strings; imports = (kept j).imports; off = c.unboxed.ensures j; refused = Some c.in-Err.denial.reason; stopped = c.self.inside.stopped; texts = (kept j).texts }))
+    denied (policy_of c.args.policy.now) (instruction_of c.args.inst.now) c.args.self.now _ _ (option_map asked_shown c.advance.new.off)
+    (rw (← c.self.view_is) (λ j. record { knowledge = (kept j).knowledge; limits = c.self.inside.limits; old_strings = c.self.inside.old_strings; imports = (kept j).imports; off = option_map asked_shown c.advance.new.off; refused = Some c.in-Err.reason; stopped = c.self.inside.stopped; texts = (kept j).texts }))
     (rw (← c.self.view_is) c.in-Err.ensures.err)
 
 pub returns-in-Err-clause-alarm : goal.returns-in-Err-clause-alarm

@@ -2,7 +2,7 @@ use Rattle.std.proofs.Common.{◌∙◌, None, Some, inl, refl, sym, true, false
 use Rattle.pkops.specs.Inst.{instruction_of}
 use Rattle.pkread.specs.declared.refusal.Reason.TheVariants as reason
 use Rattle.pkcheck.specs.declared.machine.effects.Class.TheVariants as class
-use Rattle.pkcheck.specs.declared.machine.effects.Effect.TheVariants.{Raises}
+use Rattle.pkcheck.specs.Effects.{Raises}
 use Rattle.pkcheck.specs.declared.machine.effects.Gives.TheVariants.{Answers, Makes, MakesText}
 use Rattle.pkcheck.specs.Knowledge.{NotAscii}
 use Rattle.pkcheck.specs.Runs.{Plain, Text, text}

@@ -1,4 +1,4 @@
-use Rattle.std.proofs.Common.{◌∙◌, ◌-◌, ◌++◌, ap, inl, inr, length, refl, arith}
+use Rattle.std.proofs.Common.{◌∙◌, ◌-◌, ◌++◌, ap, inl, inr, length, refl, sym, arith}
 use Rattle.std.proofs.lemmas.Bool.{ltb-false}
 use Rattle.std.proofs.Math.ListN.{set, length-set}
 use Rattle.pkcheck.specs.Private.Slots.{ArePositive, numbered, zeroth}
@@ -29,26 +29,29 @@ returns-then-number-len-clause-room c =
 
 pub invariant_of-self-2 : goal.invariant_of-self-2
 invariant_of-self-2 c =
+    let same = c.in-Ok.ensures.1 in
     on_both (ArePositive c.put.new.rest.entries) _ _ c.put.result
-    (λ h. rw h (positive_stored c.self.inside.rest.entries c.args.number c.args.value (omega arith) c.self.invariant))
+    (λ h. rw h (positive_stored c.self.inside.rest.entries c.in-Ok.number c.args.value (omega (arith, same)) c.self.invariant))
     (λ r h. rw h.0 c.self.invariant) c.put.ensures.ok c.put.ensures.err
 
 pub returns-clause-ok : goal.returns-clause-ok
 returns-clause-ok c =
-    rw (← c.self.view_is)
-    (ok_on _ _ c.put.result (λ h. rw h (put_rest c.self.inside.zero c.self.inside.row c.self.inside.rest.entries c.args.number c.args.value (omega arith))) c.put.ensures.ok)
+    let same = c.in-Ok.ensures.1 in
+    rw (← c.self.view_is, sym same)
+    (ok_on _ _ c.put.result (λ h. rw h (put_rest c.self.inside.zero c.self.inside.row c.self.inside.rest.entries c.in-Ok.number c.args.value (omega (arith, same)))) c.put.ensures.ok)
 
 pub returns-clause-err : goal.returns-clause-err
 returns-clause-err c =
+    let same = c.in-Ok.ensures.1 in
     err_on _ _ c.put.result
     (λ r h. (
       ap (λ es. zeroth c.self.inside.zero ++ (numbered 1 c.self.inside.row ++ es)) h.0 ∙ c.self.view_is,
       elim h.1 [
         | inl a ↦
-            let more = more_rest c.self.inside.zero c.self.inside.row c.self.inside.rest.entries c.args.number c.args.value (omega arith) a.2 in
+            let more = more_rest c.self.inside.zero c.self.inside.row c.self.inside.rest.entries c.in-Ok.number c.args.value (omega (arith, same)) a.2 in
             let v = ap length c.self.view_is in
             let full = ltb-false c.len.result c.memo.result a.1 in
-            inl (a.0, rw (← c.self.view_is) (omega (arith, more, v, full, c.len.ensures)))
+            inl (a.0, rw (← c.self.view_is, sym same) (omega (arith, more, v, full, c.len.ensures)))
         | inr e ↦ inr e
       ],
     ))

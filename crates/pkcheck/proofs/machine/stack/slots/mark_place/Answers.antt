@@ -1,4 +1,4 @@
-use Rattle.pkcheck.proofs.Bars.{last_some, last_none, no_slice, slice_at, slice_count}
+use Rattle.pkcheck.proofs.Bars.{last_some, last_none, no_slice, slice_at, slice_count, marks_slice}
 use Rattle.pkcheck.proofs.machine.stack.slots.mark_place.Goals as goal
 
 pub returns-in-Some-clause-value : goal.returns-in-Some-clause-value
@@ -11,3 +11,6 @@ returns-in-Some-clause-count c = slice_count c.args.stack.now c.in-Some.place.no
 
 pub returns-in-None-clause-value : goal.returns-in-None-clause-value
 returns-in-None-clause-value c = no_slice c.args.stack.now (last_none c.args.stack.now (rw c.requires at c.in-None.ensures.value))
+
+pub returns-in-Some-clause-marks : goal.returns-in-Some-clause-marks
+returns-in-Some-clause-marks c = rw c.requires (marks_slice c.args.stack.now c.in-Some.place.now (last_some c.args.stack.now c.in-Some.place.now (rw c.requires at c.in-Some.ensures.value)))

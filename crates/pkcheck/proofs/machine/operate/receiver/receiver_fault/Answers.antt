@@ -1,6 +1,6 @@
 use Rattle.std.proofs.Common.{◌∙◌}
 use Rattle.pkcheck.proofs.Stepping.Judged.{wrong_head, wrong_none}
-use Rattle.pkcheck.proofs.machine.operate.receiver_fault.Goals as goal
+use Rattle.pkcheck.proofs.machine.operate.receiver.receiver_fault.Goals as goal
 
 pub returns-in-Some : goal.returns-in-Some
 returns-in-Some c ts = rw c.in-Leaves.is (c.is_wrong.ensures ts ∙ wrong_head ts c.in-Leaves.wanted c.args.operands.now c.in-Some.value c.in-Some.ensures)

@@ -3,7 +3,7 @@ use Rattle.pkcheck.specs.Knowledge.{UnknownImport, unknown_pair}
 use Rattle.pkcheck.specs.Import.{policy_of}
 use Rattle.pkcheck.specs.declared.policy.Policy.{Policy}
 use Rattle.pkcheck.specs.declared.policy.Policy.TheVariants.{Listed, Pairs, AnyImport}
-use Rattle.pkcheck.proofs.machine.operate.permit.Goals as goal
+use Rattle.pkcheck.proofs.machine.operate.permitted.permit.Goals as goal
 
 unknown_refused : (policy : Policy) → (policy ≡ AnyImport → ⊥) → unknown_pair (policy_of policy) ≡ Err UnknownImport
 unknown_refused (Listed list) h = refl

@@ -5,8 +5,8 @@ use Rattle.pkcheck.specs.Import.{policy_of}
 use Rattle.pkcheck.specs.Private.Noted.{named_asked}
 use Rattle.pkcheck.specs.Private.Slots.{known}
 use Rattle.pkcheck.proofs.Stepping.Judged.{judged_wrong, judged_err, judged_ok, may_name}
-use Rattle.pkcheck.proofs.machine.operate.judge.Goals as goal
-use Rattle.pkcheck.proofs.machine.operate.judge.Goals.{in-Some+in_ok-permit, in_default}
+use Rattle.pkcheck.proofs.machine.operate.named.judge.Goals as goal
+use Rattle.pkcheck.proofs.machine.operate.named.judge.Goals.{in-Some+in_ok-permit, in_default}
 
 pub returns-then-receiver_fault-clause-err : goal.returns-then-receiver_fault-clause-err
 returns-then-receiver_fault-clause-err c i spelled = inl (WrongClass, judged_wrong (policy_of c.args.policy.now) c.args.names c.args.gives i (map (known c.args.ledger.now.texts) c.args.operands.now) (sym (c.if-receiver_fault.ensures c.args.ledger.now.texts)), refl, refl)

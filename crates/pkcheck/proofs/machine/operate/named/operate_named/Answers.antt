@@ -1,0 +1,7 @@
+use Rattle.pkcheck.proofs.machine.operate.named.operate_named.Goals as goal
+
+pub returns-clause-ok : goal.returns-clause-ok
+returns-clause-ok c i same m = rw (c.operation_of-operation.ensures c.requires.operation) (c.replace_named.ensures.ok i same m)
+
+pub returns-clause-err : goal.returns-clause-err
+returns-clause-err c i same m = rw (c.operation_of-operation.ensures c.requires.operation) (c.replace_named.ensures.err i same m)

@@ -1,0 +1,36 @@
+-- What an operation that names nothing does to the stack, whatever the texts and the memo are.
+use Rattle.std.specs.Prelude.{ℕ, ◌⊎◌, List, false, None}
+use Rattle.pkcheck.specs.declared.machine.value.Value.{Value}
+use Rattle.pkcheck.specs.Effects.{Effect}
+use Rattle.pkread.specs.declared.refusal.Reason.{Reason}
+use Rattle.pkops.specs.Spelling.{Instruction}
+use Rattle.pkops.specs.Limits.{Bounds}
+use Rattle.pkcheck.specs.Shape.{Entry, and_then}
+use Rattle.pkcheck.specs.Knowledge.{Asked, Known, Policy, learn, within}
+use Rattle.pkcheck.specs.Private.Denials.{IsDenied, IsForMemory, MayWantMemory, Passes}
+use Rattle.pkcheck.specs.Private.Slots.{Sees, seen}
+
+-- by this effect these entries become those, and no import is listed
+abbrev pub Replaces : Effect → List (Entry Value) → List (Entry Value) → Type 0
+Replaces e old new =
+    (ts : List (List ℕ))
+    → Sees ts old (seen ts old)
+    → (p : Policy) (i : Instruction) (m : List (ℕ × Known)) (listed : List Asked)
+    → Passes (learn p e i (record { entries = seen ts old; memo = m }))
+    (record { entries = seen ts new; memo = m }) listed listed false
+
+-- what is known of them stays true
+abbrev pub StaysSeen : List (Entry Value) → List (Entry Value) → Type 0
+StaysSeen old new =
+    (ts : List (List ℕ)) → Sees ts old (seen ts old) → Sees ts new (seen ts new)
+
+-- it is refused for this reason
+abbrev pub IsReplaceFault : Bounds → Effect → List (Entry Value) → Reason → Type 0
+IsReplaceFault limits e old r =
+    (ts : List (List ℕ))
+    → Sees ts old (seen ts old)
+    → (p : Policy) (i : Instruction) (m : List (ℕ × Known))
+    → IsDenied (and_then (learn p e i
+    (record { entries = seen ts old; memo = m })) (within limits))
+    (record { reason = r; pair = None })
+    ⊎ (MayWantMemory e × IsForMemory (record { reason = r; pair = None }))

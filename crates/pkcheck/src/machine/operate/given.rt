@@ -1,0 +1,41 @@
+//! What an operation puts in the place of its operands.
+ghost use Rattle.std.specs.Prelude.{◌≡◌, ◌<◌, ◌≤◌, ◌+◌, ◌++◌, length, IfErr, OnOk, IsSome, None};
+ghost use Rattle.pkcheck.specs.Private.Places.{above, below};
+ghost use Rattle.pkcheck.specs.Shape.{front, marks_of, put};
+ghost use Rattle.pkcheck.specs.Private.Denials.{WantsRoom};
+
+use crate::machine::stack::Stack;
+use crate::machine::value::Value;
+use pkops::Limits;
+use pkread::Reason;
+
+/// Puts what is given in the place of the operands, or leaves the first of them. So many marks stay
+/// below.
+#[inline(always)]
+pub fn give(
+    stack: &mut Stack,
+    limits: &Limits,
+    place: usize,
+    marks: usize,
+    value: Option<Value>,
+) -> Result<(), Reason>
+    requires at { place ≤ length stack.old }
+    requires marks { marks ≡ marks_of (below place stack.old) }
+    requires within { length stack.old ≤ limits.now.stack }
+    requires there { value ≡ None → place < length stack.old }
+    requires first { value ≡ None → below (place + 1) stack.old
+        ≡ front (above place stack.old) ++ below place stack.old }
+    ensures ok { OnOk result (stack.new
+        ≡ put value (above place stack.old) ++ below place stack.old) }
+    ensures room { OnOk result (length stack.new ≤ limits.now.stack) }
+    ensures err { IfErr result (λ r. (stack.new ≡ stack.old) × IsSome value
+        × WantsRoom limits.now.stack place r) }
+{
+    match value {
+        Some(value) => stack.replace(limits, place, marks, value),
+        None => {
+            stack.end_with(place, marks);
+            Ok(())
+        }
+    }
+}

@@ -1,0 +1,54 @@
+//! The operations that name nothing.
+ghost use Rattle.std.specs.Prelude.{◌≡◌, ◌≤◌, length, IfErr, OnErr, OnOk};
+ghost use Rattle.pkcheck.specs.declared.machine.effects.Names.{Names};
+ghost use Rattle.pkcheck.specs.Effects.{Operates, effect_of};
+ghost use Rattle.pkcheck.specs.Private.Actions.{IsUnnamed};
+ghost use Rattle.pkcheck.specs.Private.Denials.{IsPlain, WellGiven};
+ghost use Rattle.pkcheck.specs.Private.Replacing.{IsReplaceFault, Replaces, StaysSeen};
+
+use crate::machine::effects::{Gives, Takes, operation_of};
+use crate::machine::operate::given::give;
+use crate::machine::operate::receiver::receiver_fault;
+use crate::machine::stack::Stack;
+use crate::machine::value::value_of;
+use pkops::{Limits, Op};
+use pkread::Reason;
+
+/// Finds the operands, and puts what is given in their place.
+#[inline(always)]
+fn replace(stack: &mut Stack, limits: &Limits, takes: Takes, gives: Gives) -> Result<(), Reason>
+    requires within { length stack.old ≤ limits.now.stack }
+    requires given { WellGiven gives takes }
+    requires plain { IsPlain gives }
+    ensures ok { OnOk result (Replaces (Operates takes Names.NoName gives) stack.old stack.new) }
+    ensures sees { OnOk result (StaysSeen stack.old stack.new) }
+    ensures room { OnOk result (length stack.new ≤ limits.now.stack) }
+    ensures kept { OnErr result (stack.new ≡ stack.old) }
+    ensures err { IfErr result (IsReplaceFault limits.now (Operates takes Names.NoName gives)
+        stack.old) }
+{
+    let found = stack.find(takes)?;
+    let operands = stack.operands(found.place);
+    if receiver_fault(gives, &operands) {
+        return Err(Reason::WrongClass);
+    }
+    match give(stack, limits, found.place, found.marks, value_of(gives)) {
+        Ok(()) => Ok(()),
+        Err(reason) => Err(reason),
+    }
+}
+
+/// Does the operation of an opcode that names nothing.
+#[inline(never)]
+pub fn operate(stack: &mut Stack, limits: &Limits, op: Op) -> Result<(), Reason>
+    requires within { length stack.old ≤ limits.now.stack }
+    requires unnamed { IsUnnamed (effect_of op) }
+    ensures ok { OnOk result (Replaces (effect_of op) stack.old stack.new) }
+    ensures sees { OnOk result (StaysSeen stack.old stack.new) }
+    ensures room { OnOk result (length stack.new ≤ limits.now.stack) }
+    ensures kept { OnErr result (stack.new ≡ stack.old) }
+    ensures err { IfErr result (IsReplaceFault limits.now (effect_of op) stack.old) }
+{
+    let operation = operation_of(op);
+    replace(stack, limits, operation.takes, operation.gives)
+}

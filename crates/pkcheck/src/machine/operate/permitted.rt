@@ -1,0 +1,81 @@
+//! What the policy permits.
+ghost use Rattle.std.specs.Prelude.{◌≡◌, ◌⊎◌, IfOk, IfErr, OnOk, Some, Ok, Err, if◌then◌else◌};
+ghost use Rattle.pkcheck.specs.Import.{asked_shown, policy_of};
+ghost use Rattle.pkcheck.specs.Private.Noted.{named_asked};
+ghost use Rattle.pkcheck.specs.Knowledge.{AskedPair, OffList, permitted};
+ghost use Rattle.pkcheck.specs.Private.Denials.{ruled, IsDenied, IsForMemory};
+
+use crate::import::{Asked, Named, pair_of};
+use crate::machine::ledger::Ledger;
+use crate::machine::operate::Denial;
+use crate::pairs;
+use crate::policy::Policy;
+use pkread::Reason;
+use std::alloc::Global;
+
+/// Whether the policy lets the import pass.
+pub fn permit(
+    alloc: Global,
+    policy: &Policy,
+    ledger: &Ledger,
+    named: Named<'_>,
+) -> Result<(), Denial>
+    ensures ok { OnOk result (
+        ruled (policy_of policy.now) (named_asked ledger.now.texts named.entry)
+        ≡ Ok (Some (named_asked ledger.now.texts named.entry))) }
+    ensures err { IfErr result (λ d. IsDenied (ruled (policy_of policy.now)
+        (named_asked ledger.now.texts named.entry)) d ⊎ IsForMemory d) }
+{
+    if let Policy::AnyImport = policy {
+        return Ok(());
+    }
+    match named {
+        Named::Unknown => Err(Denial {
+            reason: Reason::UnknownImport,
+            pair: None,
+        }),
+        Named::Made(first, second) => {
+            permit_pair(alloc, policy, ledger.text(first), ledger.text(second))
+        }
+        Named::Written(module_name, name) => permit_pair(alloc, policy, module_name, name),
+    }
+}
+
+/// Whether the policy lets the pair pass.
+fn permits(policy: &Policy, module_name: &str, name: &str) -> bool
+    ensures { permitted (policy_of policy.now) module_name.now name.now
+        ≡ if result then Ok (Some (AskedPair module_name.now name.now))
+        else Err (OffList module_name.now name.now) }
+{
+    match policy {
+        Policy::Listed(list) => list.contains(module_name, name),
+        Policy::Pairs(pairs) => pairs::have(pairs, module_name.as_bytes(), name.as_bytes()),
+        Policy::AnyImport => true,
+    }
+}
+
+/// The same, with the refusal of a pair that may not pass.
+fn permit_pair(alloc: Global, policy: &Policy, module_name: &str, name: &str) -> Result<(), Denial>
+    ensures ok { OnOk result (permitted (policy_of policy.now) module_name.now name.now
+        ≡ Ok (Some (AskedPair module_name.now name.now))) }
+    ensures err { IfErr result (λ d. IsDenied (permitted (policy_of policy.now) module_name.now
+        name.now) d ⊎ IsForMemory d) }
+{
+    if permits(policy, module_name, name) {
+        return Ok(());
+    }
+    let pair = boxed_pair(alloc, module_name, name)?;
+    Err(Denial {
+        reason: Reason::ImportOffList,
+        pair: Some(pair),
+    })
+}
+
+/// A pair of these names, in a place of its own.
+fn boxed_pair(alloc: Global, module_name: &str, name: &str) -> Result<Box<Asked>, Reason>
+    ensures ok { IfOk result (λ b. asked_shown b.value ≡ AskedPair module_name.now name.now) }
+    ensures err { IfErr result (λ r. r ≡ Reason.OutOfMemory) }
+{
+    let pair = pair_of(alloc, module_name, name)?;
+    Ok(Box::new(alloc, pair)?)
+}

@@ -1,0 +1,81 @@
+//! Whether an operation has a receiver that will do.
+ghost use Rattle.std.specs.Prelude.{◌≡◌, ℕ, List, [], ◌∷◌, map};
+ghost use Rattle.pkcheck.specs.Private.Slots.{known};
+ghost use Rattle.pkcheck.specs.Runs.{Plain};
+ghost use Rattle.pkcheck.specs.Knowledge.{suits, wrong_first, wrong_receiver};
+
+use crate::machine::effects::{Class, Gives, Wanted};
+use crate::machine::stack::Operands;
+use crate::machine::value::Value;
+
+/// Whether it is a list.
+#[inline(always)]
+fn is_list(class: Class) -> bool
+    ensures { result ≡ suits Wanted.WantsList (Plain class) }
+{
+    match class {
+        Class::List => true,
+        _ => false,
+    }
+}
+
+/// Whether it is a dict.
+#[inline(always)]
+fn is_dict(class: Class) -> bool
+    ensures { result ≡ suits Wanted.WantsDict (Plain class) }
+{
+    match class {
+        Class::Dict => true,
+        _ => false,
+    }
+}
+
+/// Whether an object of this class will do. What is wanted is compared with one after the other:
+/// a match on all of them is a jump through a table, which takes longer.
+#[inline(always)]
+pub fn class_suits(wanted: Wanted, class: Class) -> bool
+    ensures { result ≡ suits wanted (Plain class) }
+{
+    if let Wanted::WantsAny = wanted {
+        return true;
+    }
+    if let Wanted::WantsList = wanted {
+        return is_list(class);
+    }
+    if let Wanted::WantsDict = wanted {
+        return is_dict(class);
+    }
+    match class {
+        Class::Set => true,
+        _ => false,
+    }
+}
+
+/// Whether it is known not to do.
+#[inline(always)]
+pub fn is_wrong(wanted: Wanted, value: Value) -> bool
+    ensures { (ts : List (List ℕ)) → result ≡ wrong_first wanted (known ts value ∷ []) }
+{
+    if let Wanted::WantsAny = wanted {
+        return false;
+    }
+    match value {
+        Value::Unknown => false,
+        Value::Made(class) => !class_suits(wanted, class),
+        Value::Text(_) => true,
+    }
+}
+
+/// Whether the receiver is known to be of a wrong class.
+#[inline(always)]
+pub fn receiver_fault(gives: Gives, operands: &Operands<'_>) -> bool
+    ensures { (ts : List (List ℕ)) → result ≡ wrong_receiver gives (map (known ts) operands.now) }
+{
+    let Gives::Leaves(wanted) = gives else {
+        return false;
+    };
+    match operands.first() {
+        Some(value) => is_wrong(wanted, value),
+        None => false,
+    }
+}
