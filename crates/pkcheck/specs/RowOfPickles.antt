@@ -1,5 +1,5 @@
 -- What an answer of `check_all` says of pickles that stand one after the other in a source.
-use Rattle.std.specs.Prelude.{◌≡◌, ◌≢◌, ℕ, List, [], ◌∷◌, length, map, flat_map, All, Option, Result, MatchResult, option_map}
+use Rattle.std.specs.Prelude.{◌≡◌, ◌≢◌, ℕ, List, [], ◌∷◌, length, map, flat_map, All, Option, Some, Result, MatchResult, option_map}
 use Rattle.std.specs.Io.KnownBytes.{IsAtEnd}
 use Rattle.pkops.specs.Limits.{Bounds}
 use Rattle.pkops.specs.Payloads.{payload_limit}
@@ -8,6 +8,7 @@ use Rattle.pkops.specs.declared.op.Op.{Op}
 use Rattle.pkread.specs.Rows.{Sight, Takes}
 use Rattle.pkread.specs.Sequence.{CountsAt, IsSequence, spellings}
 use Rattle.pkread.specs.declared.refusal.Reason.{Reason}
+use Rattle.pkread.specs.declared.refusal.Reason.TheVariants.{Truncated}
 use Rattle.pkcheck.specs.declared.old_strings.OldStrings.{OldStrings}
 use Rattle.pkcheck.specs.Accepted.{Accepted}
 use Rattle.pkcheck.specs.Import.{asked_shown}
@@ -77,6 +78,9 @@ pub record RefusedInRow (setting : OldStrings) (policy : Policy) (limits : Bound
   pub here : Sight
   pub each : AreAccepted setting policy limits old here before
   pub refused : RefusedFrom (length (bytes_of before)) setting policy limits here new at reason pair
+  -- behind those before stands a further byte where the reason is that the source ended: a row that
+  -- ends there is accepted
+  pub more : reason ≡ Truncated → before ≢ [] → here.left ≢ Some []
 
 -- the answer is right of a source that was seen so before the check and after it
 abbrev pub IsRightOfRow :

@@ -2,6 +2,7 @@
 use Rattle.std.specs.Prelude.{◌≡◌, ◌++◌, ◌⊎◌, ℕ, List, length, drop, leb, if◌then◌else◌, codes, Option, Some, None, Ok, Err}
 use Rattle.std.specs.Str.{IsUtf8}
 use Rattle.toml.specs.Data.{Members, get_member}
+use Rattle.toml.specs.Errors.{IsBlank}
 use Rattle.pkops.specs.Limits.{Bounds}
 use Rattle.pkread.specs.Rows.{Sight}
 use Rattle.pkread.specs.declared.refusal.Reason.{Reason}
@@ -113,12 +114,15 @@ pub record IsNo (old : OldStrings) (policy : Policy) (limits : Bounds)
   pub told : verdict ≡ verdict_of_no verdict.at why pair
   pub room : after ≡ names_placed pair before
 
--- the bytes are no list, for this error: they are not UTF-8, or the text breaks a rule; or memory
--- ran out
+-- the text is no list, for this error: it breaks a rule; or memory ran out, which a text of nothing
+-- but spaces, line ends and comments does not want
+abbrev pub IsNoListText : List ℕ → AllowError → Type 0
+IsNoListText text error = (list_of text ≡ Err error) ⊎ ((error ≡ OutOfMemory) × (¬ IsBlank text))
+
+-- the bytes are no list, for this error: they are not UTF-8, and else by their text
 abbrev pub IsNoList : List ℕ → AllowError → Type 0
 IsNoList bytes error =
-    ((IsUtf8 bytes → ⊥) × (error ≡ Syntax))
-    ⊎ ((list_of bytes ≡ Err error) ⊎ (error ≡ OutOfMemory))
+    ((¬ IsUtf8 bytes) × (error ≡ Syntax)) ⊎ (IsUtf8 bytes × IsNoListText bytes error)
 
 -- the list can't be read
 pub record IsFault (list before after : List ℕ) (verdict : Verdict) : Type 0 where
@@ -137,8 +141,8 @@ pub record IsUsage (settings : Settings) (before after : List ℕ) (verdict : Ve
 abbrev pub policy_in : Members → Policy
 policy_in document = Some (lists_in (get_member (codes "imports") document))
 
--- the bytes are a list, and this holds under its pairs and its limits
+-- the bytes are a list in UTF-8, and this holds under its pairs and its limits
 abbrev pub Under : List ℕ → (Policy → Bounds → Type 0) → Type 0
 Under list P =
-    (document : Members) × (list_of list ≡ Ok document)
+    (document : Members) × IsUtf8 list × (list_of list ≡ Ok document)
     × P (policy_in document) (limits_in (get_member (codes "limits") document))

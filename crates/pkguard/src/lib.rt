@@ -77,7 +77,8 @@ pub extern "C" fn storklocker_check_list(
     ensures no { out.new.status ≡ 1 → Sets settings.now (λ old.
         Under list.now (λ policy limits. IsNo old policy
         (limits_within limits settings.now) pickle.now room.old room.new out.new)) }
-    ensures fault { out.new.status ≡ 2 → IsFault list.now room.old room.new out.new }
+    ensures fault { out.new.status ≡ 2 → Sets settings.now (λ _.
+        IsFault list.now room.old room.new out.new) }
     ensures usage { out.new.status ≡ 3 → IsUsage settings.now room.old room.new out.new }
 {
     *out = match settings::old_strings_of(settings) {

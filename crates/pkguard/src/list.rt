@@ -1,5 +1,6 @@
 //! The list that a text is.
-ghost use Rattle.std.specs.Prelude.{◌≡◌, IfOk, IfErr, Ok};
+ghost use Rattle.std.specs.Prelude.{◌≡◌, IfOk, IfErr, Ok, OnOk};
+ghost use Rattle.std.specs.Str.{IsUtf8};
 ghost use Rattle.pkcheck.specs.Allow.{document_of};
 ghost use Rattle.pkcheck.specs.ListFile.{list_of};
 ghost use Rattle.pkguard.specs.Guard.{IsNoList};
@@ -10,6 +11,7 @@ use std::str;
 
 /// Reads a list from the bytes of a list file. Bytes that are not UTF-8 are no TOML.
 pub fn list_from(alloc: Global, bytes: &[u8]) -> Result<Allow, AllowError>
+    ensures text { OnOk result (IsUtf8 bytes.now) }
     ensures list { IfOk result (λ list. list_of bytes.now ≡ Ok (document_of list)) }
     ensures fault { IfErr result (IsNoList bytes.now) }
 {

@@ -101,6 +101,6 @@ accepted_as limits held bytes old new taken imports l e a =
     (b.instructions, record { new = new; taken = taken; imports = imports; accepted = b; is = refl })
 
 -- and what it refuses
-pub refused_as : (limits held : Bounds) (bytes : List ℕ) (old new : Sight) (at : ℕ) (why : Reason) (pair : Option Asked) (e : ExportError) → held ≡ holding_all limits → old ≡ in_memory bytes → Refused Unknown None held old new at why pair → TellsRefusal at why e → IsRefused limits bytes e
-refused_as limits held bytes old new at why pair e l s r (inl q) = rw q tt
-refused_as limits held bytes old new at why pair e l s r (inr q) = rw q.1 ((new, pair, subst (λ o. Refused Unknown None (holding_all limits) o new at why pair) s (subst (λ h. Refused Unknown None h old new at why pair) l r)), q.0)
+pub refused_as : (limits held : Bounds) (bytes rest : List ℕ) (old : Sight) (at : ℕ) (why : Reason) (pair : Option Asked) (e : ExportError) → held ≡ holding_all limits → old ≡ in_memory bytes → Refused Unknown None held old (in_memory rest) at why pair → TellsRefusal at why e → IsRefused limits bytes e
+refused_as limits held bytes rest old at why pair e l s r (inl q) = rw q tt
+refused_as limits held bytes rest old at why pair e l s r (inr q) = rw q.1 ((rest, pair, subst (λ o. Refused Unknown None (holding_all limits) o (in_memory rest) at why pair) s (subst (λ h. Refused Unknown None h old (in_memory rest) at why pair) l r)), q.0)

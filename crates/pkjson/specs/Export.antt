@@ -85,8 +85,9 @@ pub record HasTooMany (limits : Bounds) (bytes : List ℕ) : Type 0 where
 -- what each error says of the bytes
 abbrev pub IsRefused : Bounds → List ℕ → ExportError → Type 0
 IsRefused limits bytes (Check r) =
-    ((new : Sight) × (pair : Option Asked)
-    × Refused Unknown None (holding_all limits) (in_memory bytes) new r.at r.reason pair)
+    ((rest : List ℕ) × (pair : Option Asked)
+    × Refused Unknown None (holding_all limits) (in_memory bytes) (in_memory rest) r.at r.reason
+    pair)
     × (r.reason ≢ reason.OutOfMemory)
 IsRefused limits bytes (NotPlain at op) = FaultsAt limits bytes at (OtherOpcode op)
 IsRefused limits bytes (Key at) = FaultsAt limits bytes at OtherKey

@@ -26,11 +26,20 @@ use pkops::Inst;
 use std::alloc::Global;
 
 /// The stack and the memo, which name objects by their numbers, and the objects.
-#[derive(Drop)]
 pub struct Arena<'a> {
     pub stack: Vec<Slot>,
     pub memo: Memo,
     pub objects: Vec<Object<'a>>,
+}
+
+impl Drop for Arena<'_> {
+    fn drop(self) {
+        let Arena {
+            stack: _stack,
+            memo: _memo,
+            objects: _objects,
+        } = self;
+    }
 }
 
 impl<'a> Arena<'a> {

@@ -9,12 +9,20 @@ use std::marker::Model;
 
 /// The numbers of the objects that were stored, by theirs in the memo. Most pickles number them in
 /// order, from 0 on, and these are found at once.
-#[derive(Drop)]
 pub struct Memo {
     /// Those from number 0 on, as long as they came in order.
     row: Vec<usize>,
     /// The others.
     rest: BTreeMap<u64, usize>,
+}
+
+impl Drop for Memo {
+    fn drop(self) {
+        let Memo {
+            row: _row,
+            rest: _rest,
+        } = self;
+    }
 }
 
 impl Model for Memo {

@@ -126,8 +126,8 @@ passes_limit limits bytes c limit refusal same h = record { checks = c; before =
 pub checks_memory : (limits : Bounds) (bytes left rest : List ℕ) (taken : ℕ) (imports : List Asked) → left ≡ bytes → Accepted Unknown None (holding_all limits) (in_memory left) (in_memory rest) taken imports → Checks limits bytes
 checks_memory limits bytes left rest taken imports e h = record { rest = rest; taken = taken; imports = imports; accepted = subst (λ b. Accepted Unknown None (holding_all limits) (in_memory b) (in_memory rest) taken imports) e h }
 
-pub fails_memory : (limits : Bounds) (bytes left : List ℕ) (after : Sight) (refusal : Refusal) (pair : Option Asked) → left ≡ bytes → Refused Unknown None (holding_all limits) (in_memory left) after refusal.at refusal.reason pair → FailsCheck limits bytes refusal
-fails_memory limits bytes left after refusal pair e h = record { after = after; pair = pair; refused = subst (λ b. Refused Unknown None (holding_all limits) (in_memory b) after refusal.at refusal.reason pair) e h }
+pub fails_memory : (limits : Bounds) (bytes left rest : List ℕ) (refusal : Refusal) (pair : Option Asked) → left ≡ bytes → Refused Unknown None (holding_all limits) (in_memory left) (in_memory rest) refusal.at refusal.reason pair → FailsCheck limits bytes refusal
+fails_memory limits bytes left rest refusal pair e h = record { rest = rest; pair = pair; refused = subst (λ b. Refused Unknown None (holding_all limits) (in_memory b) (in_memory rest) refusal.at refusal.reason pair) e h }
 
 -- the check was heard
 traced_memory : (limits : Bounds) (bytes rest : List ℕ) (accepted : Yes) (hs : List Heard) (x y : Trace) → IsRightAndHeard None (holding_all limits) (in_memory bytes) (in_memory rest) (Ok accepted) hs → Begins x → Hears x y hs → IsTraced limits bytes (record { taken = accepted.taken; trace = y })

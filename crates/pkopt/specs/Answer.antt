@@ -63,10 +63,10 @@ pub record Optimizes (limits : Bounds) (bytes out : List ℕ) : Type 0 where
 
 -- the check refuses the pickle, at this place and for this reason
 pub record FailsCheck (limits : Bounds) (bytes : List ℕ) (refusal : Refusal) : Type 0 where
-  pub after : Sight
+  pub rest : List ℕ
   pub pair : Option Asked
   pub refused : Refused Unknown None (holding_all limits)
-      (in_memory bytes) after refusal.at refusal.reason pair
+      (in_memory bytes) (in_memory rest) refusal.at refusal.reason pair
 
 -- the pickle passes the check, and at this place stands a write that is read and whose number would
 -- be the limit

@@ -41,7 +41,6 @@ pub(crate) fn memo_use(op: Op) -> MemoUse
 
 /// The last write of each number. Writes are named by their order, 0, 1, 2, .. Most pickles number
 /// them in order, from 0 or from 1 on, and these are found at once.
-#[derive(Drop)]
 pub(crate) struct Memo {
     /// The number that was written first.
     first: usize,
@@ -49,6 +48,16 @@ pub(crate) struct Memo {
     row: Vec<u32>,
     /// Those of the other numbers.
     rest: BTreeMap<usize, u32>,
+}
+
+impl Drop for Memo {
+    fn drop(self) {
+        let Memo {
+            first: _first,
+            row: _row,
+            rest: _rest,
+        } = self;
+    }
 }
 
 impl Memo {

@@ -66,7 +66,7 @@ module _ (o n : Sight) (a b : List ℕ) (old new : State) (from : old.source ≡
 row_of : BegunLaws → (limit t : ℕ) (o n : Sight) (r : Reason) → WhyNoByte o n t r → Row limit o n [] t r
 row_of law limit t o n Source w = (w, law.nothing limit)
 row_of law limit t o n TooLarge w = (w.0, inr (law.nothing limit, w.1))
-row_of law limit t o n OutOfMemory w = w
+row_of law limit t o n OutOfMemory w = (w, law.nothing limit)
 row_of law limit t o n Truncated w = absurd w
 row_of law limit t o n _ w = absurd w
 

@@ -30,7 +30,7 @@ pub row_behind : (limit : ℕ) (m n : Sight) (run b : List ℕ) (u : ℕ) (r : R
 row_behind limit m n run b u Source h w = (w, h)
 row_behind limit m n run b u Truncated h w = (w.0, w.1, w.2, h)
 row_behind limit m n run b u TooLarge h w = (w.0, inr (h, w.1))
-row_behind limit m n run b u OutOfMemory h w = w
+row_behind limit m n run b u OutOfMemory h w = (w, h)
 row_behind limit m n run b u _ h w = absurd w
 
 -- fewer bytes came than are needed

@@ -69,7 +69,7 @@ shows_open old r e h = subst (λ (p : Phase). ShowsFrom p old r) (sym e) h
 -- the count of failures is as the reason says
 pub counts_at : (limit : ℕ) (old new : Sight) (b : List ℕ) (t : ℕ) (r : Reason) → Row limit old new b t r → CountsAt r old.failures new.failures
 counts_at limit old new b t Source w = w.0.count
-counts_at limit old new b t OutOfMemory w = w.count
+counts_at limit old new b t OutOfMemory w = w.0.count
 counts_at limit old new b t _ w = w.0.count
 
 -- where nothing was taken ahead, the source is seen as it is

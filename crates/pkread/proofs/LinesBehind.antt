@@ -110,7 +110,7 @@ pub row_more : (limit : ℕ) (o m n : Sight) (c d b : List ℕ) (u : ℕ) (r : R
 row_more limit o m n c d b u Source k h = let w = h.0 in (record { between = w.between; bytes = Consumes-more o.left m.left w.between c d k.bytes w.bytes; count = w.count ∙ ap (λ (f : ℕ). (f + 1) % (2 ^ 64)) k.count }, h.1)
 row_more limit o m n c d b u Truncated k h = (Takes-more k h.0, h.1, h.2, h.3)
 row_more limit o m n c d b u TooLarge k h = (Takes-more k h.0, h.1)
-row_more limit o m n c d b u OutOfMemory k h = Takes-more k h
+row_more limit o m n c d b u OutOfMemory k h = (Takes-more k h.0, h.1)
 row_more limit o m n c d b u _ k h = (Takes-more k h.0, h.1)
 
 pub stops_more : (limit t u v : ℕ) (c old mid new : List ℕ) (m n p : Sight) (r : Reason) → Took c old m t mid n u → Stops limit mid n u new p v r → Stops limit old m t new p v r

@@ -69,7 +69,7 @@ Row limit old new bytes taken Truncated =
     Takes old new bytes × IsAtEnd new.left × (taken < all_bytes) × Begun limit bytes
 Row limit old new bytes taken TooLarge =
     Takes old new bytes × (IsAmiss limit bytes TooLarge ⊎ (Begun limit bytes × (taken ≡ all_bytes)))
-Row limit old new bytes taken OutOfMemory = Takes old new bytes
+Row limit old new bytes taken OutOfMemory = Takes old new bytes × Begun limit bytes
 Row limit old new bytes taken reason = Takes old new bytes × IsAmiss limit bytes reason
 
 -- each shorter front only begins an instruction

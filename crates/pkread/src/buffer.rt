@@ -71,9 +71,10 @@ impl Buffer {
         Some(self.store[0])
     }
 
-    /// Forgets the bytes, and keeps their memory.
+    /// Forgets the bytes, which were counted among the most, and keeps their memory.
     #[inline]
     pub(crate) fn clear(&mut self)
+        requires { length self.old.bytes ≤ self.old.most }
         ensures bytes { self.new.bytes ≡ [] }
         ensures most { self.new.most ≡ self.old.most }
     {

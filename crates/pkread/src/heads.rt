@@ -155,6 +155,7 @@ fn pass_argument<R: Source>(
     ensures least { buffer.old.most ≤ buffer.new.most }
     ensures most { buffer.new.most ≤ max buffer.old.most 131_075 }
     ensures few { length buffer.new.bytes ≤ 9 }
+    ensures counted { IfOk result (λ _. length buffer.new.bytes ≤ buffer.new.most) }
     ensures ok { IfOk result (λ count. GrowsPassing limit op count
         buffer.old.bytes (sight R.left R.failures source.old) taken.old
         (sight R.left R.failures source.new) taken.new) }
@@ -184,6 +185,7 @@ fn pass<R: Source>(
     ensures least { buffer.old.most ≤ buffer.new.most }
     ensures most { buffer.new.most ≤ max buffer.old.most 131_075 }
     ensures few { length buffer.new.bytes ≤ 9 }
+    ensures counted { IfOk result (λ _. length buffer.new.bytes ≤ buffer.new.most) }
     ensures ok { IfOk result (λ count. GrowsPassing limit op count
         buffer.old.bytes (sight R.left R.failures source.old) taken.old
         (sight R.left R.failures source.new) taken.new) }
@@ -206,6 +208,7 @@ fn gather_parts<R: Source>(
     requires { Begins buffer.old.bytes taken.old }
     ensures least { buffer.old.most ≤ buffer.new.most }
     ensures bound { most_now buffer.new ≤ max buffer.old.most (longest limits.now.counted) }
+    ensures counted { IfOk result (λ _. length buffer.new.bytes ≤ buffer.new.most) }
     ensures passed { IfOk result (λ g. IfPassed g (λ op count. PassesBy limits.now.passed op count
         (unread buffer.old.bytes (sight R.left R.failures source.old))
         (sight R.left R.failures source.new)
@@ -253,6 +256,7 @@ pub(crate) fn gather_head<R: Source>(
     requires { Begins buffer.old.bytes taken.old }
     ensures least { buffer.old.most ≤ buffer.new.most }
     ensures bound { buffer.new.most ≤ max buffer.old.most (longest limits.now.counted) }
+    ensures counted { length buffer.new.bytes ≤ buffer.new.most }
     ensures passed { IfOk result (λ g. IfPassed g (λ op count. PassesBy limits.now.passed op count
         (unread buffer.old.bytes (sight R.left R.failures source.old))
         (sight R.left R.failures source.new)

@@ -50,7 +50,7 @@ pub struct Core {
 }
 
 impl Model for Core {
-    ghost use Rattle.std.specs.Prelude.{◌≤◌};
+    ghost use Rattle.std.specs.Prelude.{◌≡◌, ◌≤◌, false, length};
     ghost use Rattle.pkread.specs.Core.{Begins, CoreView, NoneIfClosed, ahead_of, shown_phase};
     ghost use Rattle.pkops.specs.Scanning.{longest};
 
@@ -65,6 +65,7 @@ impl Model for Core {
     } };
 
     ghost invariant = { λ c. (c.buffer.most ≤ longest c.limits.counted)
+        × (c.begun ≡ false → length c.buffer.bytes ≤ c.buffer.most)
         × Begins (ahead_of c.begun c.buffer.bytes) c.taken
         × NoneIfClosed (shown_phase c.phase) (ahead_of c.begun c.buffer.bytes) };
 }
@@ -272,6 +273,7 @@ impl Core {
 /// ahead of the one behind it.
 #[inline(always)]
 fn keep(buffer: &mut Buffer, begun: &mut bool)
+    requires { begun.old ≡ false → length buffer.old.bytes ≤ buffer.old.most }
     ensures bytes { buffer.new.bytes ≡ ahead_of begun.old buffer.old.bytes }
     ensures most { buffer.new.most ≡ buffer.old.most }
     ensures none { begun.new ≡ false }
@@ -302,7 +304,8 @@ fn ask<R: Source>(source: &mut R, buffer: &mut Buffer, taken: u64) -> Result<boo
         (byte ∷ [])) }
     ensures end { IfOk result (λ more. more ≡ false
         → Takes (sight R.left R.failures source.old) (sight R.left R.failures source.new) []
-        × IsAtEnd (R.left source.new)) }
+        × IsAtEnd (R.left source.new) × (buffer.new.bytes ≡ [])) }
+    ensures same { IfErr result (λ _. buffer.new.bytes ≡ []) }
     ensures err { IfErr result (WhyNoByte
         (sight R.left R.failures source.old) (sight R.left R.failures source.new) taken) }
 {

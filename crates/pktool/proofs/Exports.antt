@@ -33,7 +33,7 @@ error_for limits old new bytes (Key at) t h = (bytes, t, h)
 error_for limits old new bytes (Number at) t h = (bytes, t, h)
 error_for limits old new bytes TooDeep t h = (bytes, t, h)
 error_for limits old new bytes TooMany t h = (bytes, t, h)
-error_for limits old new bytes OutOfMemory t h = t.0.count
+error_for limits old new bytes OutOfMemory t h = (bytes, t.0)
 
 -- the text and then a line end
 pub ends_done : (limits : Bounds) (old new : Sight) (a b c : Option (List ℕ)) (bytes text : List ℕ) → TakesAll old new bytes → IsTextOf limits bytes text → Appends a b text → Appends b c (10 ∷ []) → EndsWith limits old new a c Done

@@ -3,3 +3,4 @@ mod ListingRows
 pub mod Exports
 pub mod Positions
 mod VerdictRows
+pub mod Globals

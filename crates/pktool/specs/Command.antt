@@ -64,6 +64,27 @@ check_app parser =
 abbrev pub optimize_app : App
 optimize_app = app_with (codes "optimize") (file_rule ∷ out_rule ∷ [])
 
+-- the program with no subcommand yet, and with the first three of them
+abbrev pub bare_app : App
+bare_app = record {
+  top = record (new_shape (codes "pktool")) {
+    subcommand_required = true;
+    disable_help_subcommand = true;
+  };
+  subs = [];
+}
+
+abbrev pub reading_app : ValueParser → App
+reading_app parser = record {
+  top = record (new_shape (codes "pktool")) {
+    is_leaf = false;
+    subcommand_required = true;
+    disable_help_subcommand = true;
+  };
+  subs =
+      (file_app (codes "dis")).top ∷ (check_app parser).top ∷ (file_app (codes "imports")).top ∷ [];
+}
+
 -- one level of subcommands, of which one must be given
 abbrev pub program_app : ValueParser → App
 program_app parser = record {
@@ -83,6 +104,9 @@ IsOldRule rule = (parser : ValueParser) × TakesOldWords parser × (rule ≡ old
 
 abbrev pub IsCheck : App → Type 0
 IsCheck app = (parser : ValueParser) × TakesOldWords parser × (app ≡ check_app parser)
+
+abbrev pub IsReading : App → Type 0
+IsReading app = (parser : ValueParser) × TakesOldWords parser × (app ≡ reading_app parser)
 
 abbrev pub IsProgram : App → Type 0
 IsProgram app = (parser : ValueParser) × TakesOldWords parser × (app ≡ program_app parser)

@@ -46,9 +46,9 @@ error_line TooDeep = codes "no: TooDeep\n"
 error_line TooMany = codes "no: TooMany\n"
 error_line OutOfMemory = codes "no: OutOfMemory\n"
 
--- the error is that of the bytes of a source. Without memory there may not be all of them
+-- the error is that of all bytes of a source. Without memory it may be that not all were taken
 abbrev pub IsErrorFor : Bounds → Sight → Sight → ExportError → Type 0
-IsErrorFor limits old new OutOfMemory = new.failures ≡ old.failures
+IsErrorFor limits old new OutOfMemory = (bytes : List ℕ) × Takes old new bytes
 IsErrorFor limits old new error =
     (bytes : List ℕ) × TakesAll old new bytes × IsRefused limits bytes error
 

@@ -5,6 +5,7 @@ ghost use Rattle.clap.specs.Words.{app_of, first_of, found_of, rows_of, rule_of}
 ghost use Rattle.clap.specs.Words.{subcommand_rows_of};
 ghost use Rattle.clap.specs.declared.Command.TheViews.{out-Command as fields_of};
 ghost use Rattle.pktool.specs.Command.{Asks, Gives, IsCheck, IsJob, IsOldRule, IsProgram};
+ghost use Rattle.pktool.specs.Command.{IsReading, bare_app};
 ghost use Rattle.pktool.specs.Command.{all_rule, allow_rule, file_app, file_rule, flag_text};
 ghost use Rattle.pktool.specs.Command.{name_of, old_word, optimize_app};
 
@@ -120,15 +121,29 @@ pub fn command_of(alloc: Global, words: &[&str]) -> Result<Job, Usage>
 fn program<'a>(alloc: Global) -> Result<Command<'a>, AllocError>
     ensures { IfOk result (λ command. IsProgram (app_of command)) }
 {
+    reading_program(alloc)?
+        .subcommand(optimize_command(alloc)?)?
+        .subcommand(file_command(alloc, "json", "Writes a plain pickle as JSON", JSON)?)
+}
+
+/// It, with the first three of its subcommands.
+fn reading_program<'a>(alloc: Global) -> Result<Command<'a>, AllocError>
+    ensures { IfOk result (λ command. IsReading (app_of command)) }
+{
+    bare_program(alloc)
+        .subcommand(file_command(alloc, "dis", "Lists the instructions of a pickle", LINES)?)?
+        .subcommand(check_command(alloc)?)?
+        .subcommand(file_command(alloc, "imports", "Lists what a pickle imports", IMPORTS)?)
+}
+
+/// It, with no subcommand yet.
+fn bare_program<'a>(alloc: Global) -> Command<'a>
+    ensures { app_of result ≡ bare_app }
+{
     Command::new(alloc, "pktool")
         .about("Says which names a pickle would import, before anything opens it")
         .subcommand_required(true)
         .disable_help_subcommand(true)
-        .subcommand(file_command(alloc, "dis", "Lists the instructions of a pickle", LINES)?)?
-        .subcommand(check_command(alloc)?)?
-        .subcommand(file_command(alloc, "imports", "Lists what a pickle imports", IMPORTS)?)?
-        .subcommand(optimize_command(alloc)?)?
-        .subcommand(file_command(alloc, "json", "Writes a plain pickle as JSON", JSON)?)
 }
 
 /// `NAME FILE`, with what its help says of it and of its lines.

@@ -1,6 +1,6 @@
 //! A source that is read whole.
-ghost use Rattle.std.specs.Prelude.{◌≡◌, IfErr, IfOk, IfSome};
-ghost use Rattle.pkread.specs.Rows.{sight};
+ghost use Rattle.std.specs.Prelude.{IfErr, IfOk, IfSome, List, ℕ};
+ghost use Rattle.pkread.specs.Rows.{Takes, sight};
 ghost use Rattle.pktool.specs.Json.{OneFailed, TakesAll};
 
 use pkread::{ReadFailed, Source};
@@ -18,7 +18,8 @@ const SIZE: usize = 4096;
 pub fn take_all<R: Source>(alloc: Global, source: &mut R) -> Result<Option<Vec<u8>>, ReadFailed>
     ensures all { IfOk result (λ found. IfSome found (λ bytes. TakesAll
         (sight R.left R.failures source.old) (sight R.left R.failures source.new) bytes.items)) }
-    ensures none { IfOk result (λ _. R.failures source.new ≡ R.failures source.old) }
+    ensures some { IfOk result (λ _. (bytes : List ℕ) × Takes
+        (sight R.left R.failures source.old) (sight R.left R.failures source.new) bytes) }
     ensures err { IfErr result (λ _. OneFailed (R.failures source.old) (R.failures source.new)) }
 {
     let mut bytes = Vec::new(alloc);

@@ -1,4 +1,5 @@
 //! A file that is made anew.
+use crate::optimizing::Place;
 use std::alloc::Global;
 use std::fs::{File, OpenFile};
 use std::io::{ErrorKind, Write};
@@ -8,11 +9,32 @@ use std::{fs, io};
 /// What the name of a file ends in until it is whole.
 const PARTIAL: &str = ".partial";
 
+/// The file of a name, which is made anew.
+#[derive(Drop)]
+pub struct NewFile<'a, R> {
+    rt: &'a R,
+    alloc: Global,
+    path: &'a str,
+}
+
+impl<'a, R> NewFile<'a, R> {
+    /// The file of this name. Nothing is made yet.
+    pub fn new(rt: &'a R, alloc: Global, path: &'a str) -> NewFile<'a, R> {
+        NewFile { rt, alloc, path }
+    }
+}
+
+impl<'a, R: Files> Place for NewFile<'a, R> {
+    fn put(&mut self, bytes: &[u8]) -> io::Result<()> {
+        replace(self.rt, self.alloc, self.path, bytes)
+    }
+}
+
 /// Creates a file of these bytes, or replaces the one of that name.
 ///
 /// The bytes are written beside it first, where nothing stands in the way, so that the name is
 /// always that of a whole file. What is no plain file, as a device or a link, is written directly.
-pub fn replace<R: Files>(rt: &R, alloc: Global, path: &str, bytes: &[u8]) -> io::Result<()> {
+fn replace<R: Files>(rt: &R, alloc: Global, path: &str, bytes: &[u8]) -> io::Result<()> {
     if is_replaceable(rt, path) {
         let partial = format!(in alloc; "{path}{PARTIAL}")?;
         if let Ok(file) = File::create_new(rt, partial.as_str()) {

@@ -9,12 +9,10 @@ use crate::fault::{Fault, unwritten, write_fault};
 use crate::files::{open_source, read_list, read_whole};
 use crate::importing::imports_to;
 use crate::listing::dis_to;
-use crate::optimizing::write_sizes;
-use crate::printing::write_no;
-use crate::replacing::replace;
-use pkcheck::{No, OldStrings, Policy};
+use crate::optimizing::{Unoptimized, optimize_to, write_refusal};
+use crate::replacing::NewFile;
+use pkcheck::{OldStrings, Policy};
 use pkops::Limits;
-use pkopt::optimized_form;
 use pkread::{Reason, Refusal};
 use std::alloc::Global;
 use std::io::Write;
@@ -164,28 +162,17 @@ fn optimize_file<'a, R: Files, O: Write>(
     let Some(bytes) = read_whole(rt, alloc, file)? else {
         return refused(NO_MEMORY, out);
     };
-    match optimized_form(alloc, bytes.as_slice(), &Limits::STANDARD) {
-        Ok(form) => {
-            let Ok(()) = replace(rt, alloc, to, form.bytes.as_slice()) else {
-                return Err(Fault::Unmade(to));
-            };
-            match write_sizes(form.taken, form.bytes.len(), out) {
-                Ok(()) => Ok(Outcome::Done),
-                Err(error) => Err(unwritten(&error)),
-            }
-        }
-        Err(refusal) => refused(refusal, out),
+    let mut place = NewFile::new(rt, alloc, to);
+    match optimize_to(alloc, bytes.as_slice(), &Limits::STANDARD, &mut place, out) {
+        Ok(outcome) => Ok(outcome),
+        Err(Unoptimized::Unmade) => Err(Fault::Unmade(to)),
+        Err(Unoptimized::Unwritten(error)) => Err(unwritten(&error)),
     }
 }
 
 /// Tells of a refusal.
 fn refused<'a, O: Write>(refusal: Refusal, out: &mut O) -> Result<Outcome, Fault<'a>> {
-    let no = No {
-        at: refusal.at,
-        reason: refusal.reason,
-        pair: None,
-    };
-    match write_no(&no, out) {
+    match write_refusal(refusal, out) {
         Ok(()) => Ok(Outcome::Refused),
         Err(error) => Err(unwritten(&error)),
     }

@@ -1,22 +1,22 @@
 -- What is known along a row of pickles.
-use Rattle.std.proofs.Common.{Bool, true, false, Result, Ok, Err, ◌≡◌, ◌≢◌, ℕ, ◌+◌, ◌-◌, ◌*◌, ◌<◌, ◌≤◌, List, [], ◌∷◌, ◌++◌, length, Option, None, refl, sym, ap, subst, ◌∙◌, arith, length-append, append-nil}
+use Rattle.std.proofs.Common.{Bool, true, false, Result, Ok, Err, ◌≡◌, ◌≢◌, ℕ, ◌+◌, ◌-◌, ◌*◌, ◌<◌, ◌≤◌, List, [], ◌∷◌, ◌++◌, length, Option, None, Some, refl, sym, ap, subst, ◌∙◌, arith, length-append, append-nil}
 use Rattle.std.specs.Prelude.{flat_map, All}
-use Rattle.std.specs.Io.KnownBytes.{IsAtEnd}
+use Rattle.std.specs.Io.KnownBytes.{IsAtEnd, prepend_known}
 use Rattle.std.proofs.lemmas.Grind.{flat_map-append}
 use Rattle.std.proofs.lemmas.List.{length-map, map-append}
 use Rattle.std.proofs.lemmas.List.Elements.{All-nil, All-cons}
 use Rattle.pkops.specs.Limits.{Bounds}
 use Rattle.pkops.specs.Payloads.{payload_limit, payload_limit_at}
 use Rattle.pkops.specs.Spelling.{Instruction, spelling}
-use Rattle.pkread.specs.Again.{RefusesAgain, NoByteIsRefused, StepsAgain}
+use Rattle.pkread.specs.Again.{RefusesAgain, NoByteIsRefused, StepsAgain, WhyNoByte}
 use Rattle.pkread.specs.Run.{ReadingGoesOn}
 use Rattle.pkread.specs.Reading.{State}
 use Rattle.pkread.specs.Core.{Phase, Open, Ended, Refused}
-use Rattle.pkread.specs.Rows.{Refuses, Sight, Takes, TakingLaws, all_bytes}
+use Rattle.pkread.specs.Rows.{Refuses, Sight, Takes, TakingLaws, all_bytes, unread}
 use Rattle.pkread.specs.Sequence.{CountsAt, IsSequence, StopIsLast, spellings}
 use Rattle.pkread.specs.declared.refusal.Refusal.{Refusal as ReadRefusal}
 use Rattle.pkread.specs.declared.refusal.Reason.{Reason}
-use Rattle.pkread.specs.declared.refusal.Reason.TheVariants.{OutOfMemory}
+use Rattle.pkread.specs.declared.refusal.Reason.TheVariants.{OutOfMemory, Truncated}
 use Rattle.pkops.specs.declared.op.Op.TheVariants.{Stop}
 use Rattle.pkcheck.proofs.Wholes.Checked.{Checked, accepted, checked_again, refused_turned}
 use Rattle.pkcheck.proofs.Wholes.FramesSoFar.{FrameLaws}
@@ -143,13 +143,14 @@ module _ (taking : TakingLaws) (setting : OldStrings) (policy : Policy) (limits 
     }
 
     -- the pickle that begins here is refused
-    pub row_refused : (new : Sight) (at : ℕ) (why : Reason) (pair : Option Asked) → RefusedFrom from setting policy limits here new at why pair → RefusedInRow setting policy limits old new pickles at why pair
-    row_refused new at why pair r = record {
+    pub row_refused : (new : Sight) (at : ℕ) (why : Reason) (pair : Option Asked) → RefusedFrom from setting policy limits here new at why pair → (why ≡ Truncated → before ≢ [] → here.left ≢ Some []) → RefusedInRow setting policy limits old new pickles at why pair
+    row_refused new at why pair r more = record {
       before = before;
       number = h.number;
       here = here;
       each = h.each;
       refused = subst (λ n. RefusedFrom n setting policy limits here new at why pair) h.from_is r;
+      more = more;
     }
 
     -- no read failed so far
@@ -169,13 +170,10 @@ module _ (taking : TakingLaws) (setting : OldStrings) (policy : Policy) (limits 
     refused_again law t x h = turned x t.source h.place (law (payload_limit_at limits []) s t x h).0
 
     -- there was no memory for the imports
-    pub refused_growing : RefusedFrom s.taken setting policy limits s.source s.source s.taken OutOfMemory None
-    refused_growing = turned (record { at = s.taken; reason = OutOfMemory }) s.source refl (record {
-      taken = omega arith;
-      fronts = λ k lt. absurd (omega (arith, lt));
-      row = taking.none s.source;
-      alone = λ ne. absurd (ne refl);
-    })
+    pub refused_growing : NoByteIsRefused → RefusedFrom s.taken setting policy limits s.source s.source s.taken OutOfMemory None
+    refused_growing law =
+        let x : ReadRefusal = record { at = s.taken; reason = OutOfMemory } in
+        refused_again law (record s { phase = Refused x }) x (record { place = refl; why = taking.none s.source; after = refl })
 
 -- the same, told by equal parts
 pub told : (setting : OldStrings) (policy : Policy) (limits : Bounds) (old new mid : Sight) (n m a b : ℕ) (x y : Reason) (u v : Option Asked) → new ≡ mid → n ≡ m → a ≡ b → x ≡ y → u ≡ v → RefusedInRow setting policy limits old mid m b y v → RefusedInRow setting policy limits old new n a x u
@@ -214,3 +212,18 @@ again_false s t (Err x) h e = absurd cc
 
 pub again_refused : (s t : State) (r : Result Bool ReadRefusal) (x : ReadRefusal) → StepsAgain s r t → r ≡ Err x → RefusesAgain s x t
 again_refused s t r x h e = let k = rw e at h in k
+
+known_ahead : (b : ℕ) (left : Option (List ℕ)) → prepend_known (b ∷ []) left ≢ Some []
+known_ahead b None = λ e. cc
+known_ahead b (Some l) = λ e. cc
+
+-- behind a pickle stands a further byte
+pub some_ahead : (b : ℕ) (ahead : List ℕ) (now : Sight) → ahead ≡ b ∷ [] → (unread ahead now).left ≢ Some []
+some_ahead b ahead now is = rw is (known_ahead b now.left)
+
+-- neither want of memory nor a refusal of `again` says that the source ended
+pub growing_is_not_cut : OutOfMemory ≡ Truncated → ⊥
+growing_is_not_cut e = cc
+
+pub again_is_not_cut : (s t : State) (x : ReadRefusal) → RefusesAgain s x t → x.reason ≡ Truncated → ⊥
+again_is_not_cut s t x h e = subst (WhyNoByte s.source t.source s.taken) e h.why

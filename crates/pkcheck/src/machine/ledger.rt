@@ -30,12 +30,22 @@ pub enum Entry {
 
 /// The texts that a pickle made, and the imports that it asked for. An import takes the memory of
 /// an entry; of a pair that an instruction spells, the names besides, which the pickle spells too.
-#[derive(Debug, Drop)]
+#[derive(Debug)]
 pub struct Ledger {
     texts: Texts,
     /// The names that stand in no text.
     written: Texts,
     entries: Vec<Entry>,
+}
+
+impl Drop for Ledger {
+    fn drop(self) {
+        let Ledger {
+            texts: _texts,
+            written: _written,
+            entries: _entries,
+        } = self;
+    }
 }
 
 impl Model for Ledger {

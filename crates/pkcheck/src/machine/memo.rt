@@ -14,7 +14,6 @@ use std::marker::Model;
 
 /// What is known of the objects that were stored, by their numbers. Most pickles number them in
 /// order, from 0 on or (those of Python 2's `cPickle`) from 1 on, and these are found at once.
-#[derive(Drop)]
 pub struct Memo {
     /// That of number 0.
     zero: Option<Value>,
@@ -22,6 +21,16 @@ pub struct Memo {
     row: Pile<Value>,
     /// The others. A number of more than 32 bits is none that an instruction spells.
     rest: BTreeMap<u32, Value>,
+}
+
+impl Drop for Memo {
+    fn drop(self) {
+        let Memo {
+            zero: _zero,
+            row: _row,
+            rest: _rest,
+        } = self;
+    }
 }
 
 impl Model for Memo {

@@ -21,12 +21,20 @@ use std::alloc::Global;
 use std::marker::Model;
 
 /// The stack. A place on it is the number of entries below.
-#[derive(Drop)]
 pub struct Stack {
     /// The entries, the last of them on top.
     slots: Pile<Slot>,
     /// The places of the marks among them.
     places: Pile<usize>,
+}
+
+impl Drop for Stack {
+    fn drop(self) {
+        let Stack {
+            slots: _slots,
+            places: _places,
+        } = self;
+    }
 }
 
 impl Model for Stack {

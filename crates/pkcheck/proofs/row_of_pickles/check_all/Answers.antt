@@ -10,7 +10,7 @@ use Rattle.pkcheck.proofs.Wholes.FramesSoFar.{FrameLaws}
 use Rattle.pkcheck.proofs.Wholes.Given.{refused_head, seen_so, took_head, took_passed}
 use Rattle.pkcheck.proofs.Stepping.Longest.{longest}
 use Rattle.pkcheck.proofs.Wholes.Payloads.{long_passed}
-use Rattle.pkcheck.proofs.Wholes.RowOfPickles.{again_false, again_refused, again_true, count_on, less_to_do, none_failed, pickle_more, refused_again, refused_growing, row_accepted, row_begins, row_refused, some_byte, told, told_yes}
+use Rattle.pkcheck.proofs.Wholes.RowOfPickles.{again_false, again_refused, again_true, count_on, less_to_do, none_failed, pickle_more, refused_again, refused_growing, row_accepted, row_begins, row_refused, some_byte, told, told_yes, some_ahead, growing_is_not_cut, again_is_not_cut}
 use Rattle.pkcheck.proofs.row_of_pickles.check_all.Goals as goal
 
 pub instructions-init : goal.instructions-init
@@ -19,7 +19,7 @@ instructions-init g c =
     let laws : FrameLaws = record { more = c.frames.ensures.more; all = c.frames.ensures.all; refused = c.frames.ensures.refused } in
     record {
       same = refl;
-      row = (_, _, [], row_begins taking _ _ _ _ _ (ap (λ l. l.asked) c.new-imports.ensures), [], [], rw (c.new-reader.ensures.state, c.new-frames.ensures, c.new_as-machine.ensures.fresh) (checked_none _ _ _ _ laws c.heads.ensures.begins));
+      row = (_, _, [], row_begins taking _ _ _ _ _ (ap (λ l. l.asked) c.new-imports.ensures), [], [], rw (c.new-reader.ensures.state, c.new-frames.ensures, c.new_as-machine.ensures.fresh) (checked_none _ _ _ _ laws c.heads.ensures.begins), λ ne. absurd (ne refl));
     }
 
 pub returns-in-Err-clause-answer : goal.returns-in-Err-clause-answer
@@ -28,7 +28,7 @@ returns-in-Err-clause-answer g c =
     let k = c.next_head.follows.holds-at-none in
     let r = c.instructions.invariant.row in
     let e = c.refused.ensures in
-    told _ _ _ _ _ _ _ _ _ _ _ _ _ _ refl e.pickle e.at e.reason e.pair (row_refused taking _ _ _ _ _ _ _ _ _ r.3 _ _ _ _ (refused_turned _ _ _ _ _ r.4 r.5 _ _ _ r.6 _ c.in-Err.refusal _ (refused_head _ _ _ r.4 _ r.6.reads r.6.read_limits _ c.heads.ensures.refused c.next_head.result c.in-Err.refusal k.1 (cc (c.in-Err.is))) (seen_so _ _ _ k.3 (search rules))).0)
+    told _ _ _ _ _ _ _ _ _ _ _ _ _ _ refl e.pickle e.at e.reason e.pair (row_refused taking _ _ _ _ _ _ _ _ _ r.3 _ _ _ _ (refused_turned _ _ _ _ _ r.4 r.5 _ _ _ r.6 _ c.in-Err.refusal _ (refused_head _ _ _ r.4 _ r.6.reads r.6.read_limits _ c.heads.ensures.refused c.next_head.result c.in-Err.refusal k.1 (cc (c.in-Err.is))) (seen_so _ _ _ k.3 (search rules))).0 (λ is. r.7))
 
 pub returns-in-Err-clause-count : goal.returns-in-Err-clause-count
 returns-in-Err-clause-count g c =
@@ -56,7 +56,7 @@ returns-in_default-clause-answer g c =
     let r = c.instructions.invariant.row in
     let e = c.heads.ensures.ended _ _ _ r.4 _ _ c.next_head.result r.6.reads k.1 (cc (c.in-Ok-Ended.is, c.in-Ok-Ended.field-0-is)) in
     let f = c.refused-in_default.ensures in
-    told _ _ _ _ _ _ _ _ _ _ _ _ _ _ (seen_so _ _ _ k.3 (search rules) ∙ ap (λ s. s.source) e.1) f.pickle (f.at ∙ (c.taken-taken.ensures ∙ ap (λ s. s.taken) e.1)) f.reason f.pair (row_refused taking _ _ _ _ _ _ _ _ _ (pickle_more taking _ _ _ _ _ _ _ _ _ r.3 r.4 r.5 _ _ _ r.6 e.0 _ (taking.none _) _ refl) _ _ _ _ (refused_growing taking _ _ _ r.6.laws c.rows.ensures.begins (state g.R.Source.left g.R.Source.failures c.instructions.reader) r.6.read_limits))
+    told _ _ _ _ _ _ _ _ _ _ _ _ _ _ (seen_so _ _ _ k.3 (search rules) ∙ ap (λ s. s.source) e.1) f.pickle (f.at ∙ (c.taken-taken.ensures ∙ ap (λ s. s.taken) e.1)) f.reason f.pair (row_refused taking _ _ _ _ _ _ _ _ _ (pickle_more taking _ _ _ _ _ _ _ _ _ r.3 r.4 r.5 _ _ _ r.6 e.0 _ (taking.none _) _ refl) _ _ _ _ (refused_growing taking _ _ _ r.6.laws c.rows.ensures.begins (state g.R.Source.left g.R.Source.failures c.instructions.reader) r.6.read_limits c.rows.ensures.refused) (λ is. absurd (growing_is_not_cut is)))
 
 pub returns-in_default-clause-count : goal.returns-in_default-clause-count
 returns-in_default-clause-count g c =
@@ -76,7 +76,7 @@ returns-in-Err-again-clause-answer g c =
     let h = again_refused _ _ c.again.result c.in-Err-again.refusal steps (cc (c.in-Err-again.is)) in
     let ahead = (let b = rw c.in-Err-again.is at c.again.ensures.byte in b) in
     let f = c.refused-in-Err-again.ensures in
-    told _ _ _ _ _ _ _ _ _ _ _ _ _ _ (seen_so _ _ _ ahead (search rules)) f.pickle f.at f.reason f.pair (row_refused taking _ _ _ _ _ _ _ _ _ (pickle_more taking _ _ _ _ _ _ _ _ _ r.3 r.4 r.5 _ _ _ r.6 e.0 _ (taking.none _) _ refl) _ _ _ _ (refused_again taking _ _ _ r.6.laws c.rows.ensures.begins _ r.6.read_limits c.rows.ensures.refused _ c.in-Err-again.refusal h))
+    told _ _ _ _ _ _ _ _ _ _ _ _ _ _ (seen_so _ _ _ ahead (search rules)) f.pickle f.at f.reason f.pair (row_refused taking _ _ _ _ _ _ _ _ _ (pickle_more taking _ _ _ _ _ _ _ _ _ r.3 r.4 r.5 _ _ _ r.6 e.0 _ (taking.none _) _ refl) _ _ _ _ (refused_again taking _ _ _ r.6.laws c.rows.ensures.begins _ r.6.read_limits c.rows.ensures.refused _ c.in-Err-again.refusal h) (λ is. absurd (again_is_not_cut _ _ c.in-Err-again.refusal h is)))
 
 pub returns-in-Err-again-clause-count : goal.returns-in-Err-again-clause-count
 returns-in-Err-again-clause-count g c =
@@ -97,6 +97,7 @@ instructions-preserved-in-Ok-true g c =
     let e = c.heads.ensures.ended _ _ _ r.4 _ _ c.next_head.result r.6.reads k.1 (cc (c.in-Ok-Ended.is, c.in-Ok-Ended.field-0-is)) in
     let steps = subst (λ s. StepsAgain s c.again.result (state g.R.Source.left g.R.Source.failures c.again.new.self)) e.1 c.again.ensures.steps in
     let h = again_true _ _ c.again.result steps (cc (c.in-Ok-true.is, c.in-Ok-true.field-0-test)) in
+    let ahead = (let b = rw (c.in-Ok-true.is, c.in-Ok-true.field-0-test) at c.again.ensures.byte in b) in
     let s = state g.R.Source.left g.R.Source.failures c.again.new.self in
     let more = pickle_more taking _ _ _ _ _ _ _ _ _ r.3 r.4 r.5 _ _ _ r.6 e.0 s.source h.0 _ c.in-Ok.ensures.imports in
     let machine = c.in-Ok.ensures.fresh in
@@ -104,7 +105,7 @@ instructions-preserved-in-Ok-true g c =
     let setting = r.6.same_setting in
     record {
       same = search rules;
-      row = (s.source, s.taken, r.2 ++ record { instructions = r.4; imports = c.instructions.machine.imports } ∷ [], rw h.2 more, [], [], rw (c.new-frames-in-Ok-Ended.ensures, machine, limits, setting) (checked_again _ _ _ s.source r.6.laws c.rows.ensures.begins s h.1 (h.3 ∙ r.6.read_limits)));
+      row = (s.source, s.taken, r.2 ++ record { instructions = r.4; imports = c.instructions.machine.imports } ∷ [], rw h.2 more, [], [], rw (c.new-frames-in-Ok-Ended.ensures, machine, limits, setting) (checked_again _ _ _ s.source r.6.laws c.rows.ensures.begins s h.1 (h.3 ∙ r.6.read_limits)), λ ne. some_ahead ahead.0 _ _ ahead.1);
     }
 
 pub returns-in-Ok-false-clause-answer : goal.returns-in-Ok-false-clause-answer
@@ -132,7 +133,7 @@ returns-in-Err-judge_passed-clause-answer g c =
     let w = took_passed _ _ _ r.4 _ r.6.reads r.6.read_limits _ c.heads.ensures.passed c.next_head.result c.in-Ok-Passed.at c.in-Ok-Passed.op c.in-Ok-Passed.field-0-2 k.1 (cc (c.in-Ok-Passed.is, c.in-Ok-Passed.field-0-is)) in
     let i : Instruction = instruction c.in-Ok-Passed.op (Counted w.payload) in
     let e = c.refused-in-Err-judge_passed.ensures in
-    told _ _ _ _ _ _ _ _ _ _ _ _ _ _ refl e.pickle e.at e.reason e.pair (row_refused taking _ _ _ _ _ _ _ _ _ r.3 _ _ _ _ (refused_took _ _ _ _ _ r.4 r.5 _ _ _ r.6 _ c.in-Ok-Passed.at i _ w.took (seen_so _ _ _ k.3 (search rules)) (longest c.args.policy.now) _ _ _ (c.in-Err-judge_passed.ensures.err i (long_passed _ _ _ _ _ _ _ _ _ w _ c.taken.ensures)) c.into_off_list.ensures).0)
+    told _ _ _ _ _ _ _ _ _ _ _ _ _ _ refl e.pickle e.at e.reason e.pair (row_refused taking _ _ _ _ _ _ _ _ _ r.3 _ _ _ _ (refused_took _ _ _ _ _ r.4 r.5 _ _ _ r.6 _ c.in-Ok-Passed.at i _ w.took (seen_so _ _ _ k.3 (search rules)) (longest c.args.policy.now) _ _ _ (c.in-Err-judge_passed.ensures.err i (long_passed _ _ _ _ _ _ _ _ _ w _ c.taken.ensures)) c.into_off_list.ensures).0 (λ is. r.7))
 
 pub returns-in-Err-judge_passed-clause-count : goal.returns-in-Err-judge_passed-clause-count
 returns-in-Err-judge_passed-clause-count g c =
@@ -151,7 +152,7 @@ returns-in-Err-judge-clause-answer g c =
     let r = c.instructions.invariant.row in
     let took = took_head _ _ _ r.4 _ r.6.reads r.6.read_limits _ c.heads.ensures.given c.next_head.result c.in-Ok-Inst.at c.in-Ok-Inst.inst k.1 (cc (c.in-Ok-Inst.is, c.in-Ok-Inst.field-0-is)) in
     let e = c.refused-in-Err-judge.ensures in
-    told _ _ _ _ _ _ _ _ _ _ _ _ _ _ refl e.pickle e.at e.reason e.pair (row_refused taking _ _ _ _ _ _ _ _ _ r.3 _ _ _ _ (refused_took _ _ _ _ _ r.4 r.5 _ _ _ r.6 _ c.in-Ok-Inst.at (instruction_of c.in-Ok-Inst.inst) _ took (seen_so _ _ _ k.3 (search rules)) (longest c.args.policy.now) _ _ _ c.in-Err-judge.ensures.err c.into_off_list-in-Err-judge.ensures).0)
+    told _ _ _ _ _ _ _ _ _ _ _ _ _ _ refl e.pickle e.at e.reason e.pair (row_refused taking _ _ _ _ _ _ _ _ _ r.3 _ _ _ _ (refused_took _ _ _ _ _ r.4 r.5 _ _ _ r.6 _ c.in-Ok-Inst.at (instruction_of c.in-Ok-Inst.inst) _ took (seen_so _ _ _ k.3 (search rules)) (longest c.args.policy.now) _ _ _ c.in-Err-judge.ensures.err c.into_off_list-in-Err-judge.ensures).0 (λ is. r.7))
 
 pub returns-in-Err-judge-clause-count : goal.returns-in-Err-judge-clause-count
 returns-in-Err-judge-clause-count g c =
@@ -170,7 +171,7 @@ instructions-preserved-in_default-judge_passed g c =
     let i : Instruction = instruction c.in-Ok-Passed.op (Counted w.payload) in
     record {
       same = k.0 ∙ c.instructions.invariant.same;
-      row = (_, _, r.2, r.3, _, _, checked_took _ _ _ _ _ r.4 r.5 _ _ _ r.6 _ _ _ c.in-Ok-Passed.at i w.took (c.in_default-judge_passed.ensures.ok i (long_passed _ _ _ _ _ _ _ _ _ w _ c.taken.ensures)));
+      row = (_, _, r.2, r.3, _, _, checked_took _ _ _ _ _ r.4 r.5 _ _ _ r.6 _ _ _ c.in-Ok-Passed.at i w.took (c.in_default-judge_passed.ensures.ok i (long_passed _ _ _ _ _ _ _ _ _ w _ c.taken.ensures)), r.7);
     }
 
 pub instructions-preserved : goal.instructions-preserved
@@ -180,7 +181,7 @@ instructions-preserved g c =
     let took = took_head _ _ _ r.4 _ r.6.reads r.6.read_limits _ c.heads.ensures.given c.next_head.result c.in-Ok-Inst.at c.in-Ok-Inst.inst k.1 (cc (c.in-Ok-Inst.is, c.in-Ok-Inst.field-0-is)) in
     record {
       same = k.0 ∙ c.instructions.invariant.same;
-      row = (_, _, r.2, r.3, _, _, checked_took _ _ _ _ _ r.4 r.5 _ _ _ r.6 _ _ _ c.in-Ok-Inst.at (instruction_of c.in-Ok-Inst.inst) took c.in_default-judge.ensures.ok);
+      row = (_, _, r.2, r.3, _, _, checked_took _ _ _ _ _ r.4 r.5 _ _ _ r.6 _ _ _ c.in-Ok-Inst.at (instruction_of c.in-Ok-Inst.inst) took c.in_default-judge.ensures.ok, r.7);
     }
 
 pub instructions-smaller : goal.instructions-smaller

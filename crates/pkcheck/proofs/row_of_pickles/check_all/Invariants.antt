@@ -1,4 +1,4 @@
-use Rattle.std.proofs.Common.{◌≡◌, List, ℕ}
+use Rattle.std.proofs.Common.{◌≡◌, ◌≢◌, List, [], ℕ, Some}
 use Rattle.std.specs.Prelude.{Option}
 use Rattle.pkops.specs.Spelling.{Instruction}
 use Rattle.pkread.specs.Rows.{Sight, sight}
@@ -15,7 +15,8 @@ invariant-instructions g l = record {
   same : l.reader.source.ghost_name ≡ l.initial.reader.source.ghost_name;
   row : (here : Sight) × (from : ℕ) × (before : List Pickle)
       × RowSoFar l.fn.old_strings (policy_of l.fn.policy) l.fn.limits (sight g.R.Source.left g.R.Source.failures l.fn.source) here from l.pickles l.imports.asked before
-      × (p : List Instruction) × (asked : List (Option Asked)) × Checked l.fn.old_strings (policy_of l.fn.policy) l.fn.limits here from p asked (state g.R.Source.left g.R.Source.failures l.reader) l.frames l.machine;
+      × (p : List Instruction) × (asked : List (Option Asked)) × Checked l.fn.old_strings (policy_of l.fn.policy) l.fn.limits here from p asked (state g.R.Source.left g.R.Source.failures l.reader) l.frames l.machine
+      × (before ≢ [] → here.left ≢ Some []);
 }
 
 abbrev pub decreases-instructions : goal.decreases-instructions
