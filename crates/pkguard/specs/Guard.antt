@@ -10,79 +10,69 @@ use Rattle.pkcheck.specs.Knowledge.{Policy, Asked, AskedPair}
 use Rattle.pkcheck.specs.ListFile.{limits_in, list_of, lists_in}
 use Rattle.pkcheck.specs.Accepted.{Accepted}
 use Rattle.pkcheck.specs.Refused.{Refused}
+use Rattle.pkcheck.specs.RowOfPickles.{AcceptedRow, RefusedInRow}
 use Rattle.pkcheck.specs.declared.allow.error.AllowError.{AllowError}
 use Rattle.pkcheck.specs.declared.allow.error.AllowError.TheVariants.{Syntax, OutOfMemory}
 use Rattle.pkcheck.specs.declared.old_strings.OldStrings.{OldStrings}
 use Rattle.pkguard.specs.declared.settings.Settings.{Settings}
 use Rattle.pkguard.specs.declared.verdict.Verdict.{Verdict}
 use Rattle.pkguard.specs.Codes.{reason_code, reason_number, fault_code}
-use Rattle.pkguard.specs.Settings.{old_strings_of}
+use Rattle.pkguard.specs.Settings.{old_strings_in}
 
 -- bytes in memory, as a source
 abbrev pub memory : List ℕ → Sight
 memory bytes = record { left = Some bytes; failures = 0 }
 
--- the verdict of a yes
-abbrev pub verdict_of_yes : (taken imports : ℕ) → Verdict
-verdict_of_yes taken imports = record {
+-- a verdict that tells nothing
+abbrev nothing_told : Verdict
+nothing_told = record {
   status = 0;
   reason = 0;
   number = 0;
   has_pair = 0;
   at = 0;
-  taken = taken;
-  imports = imports;
+  taken = 0;
+  imports = 0;
   module_length = 0;
   name_length = 0;
+  pickles = 0;
 }
 
--- the verdict of a no with a pair, of which C is told the lengths of the names
-abbrev no_with : ℕ → Reason → (has_pair module_length name_length : ℕ) → Verdict
-no_with at reason has_pair module_length name_length = record {
+-- the verdict of a yes, to so many pickles
+abbrev pub verdict_of_yes : (taken imports pickles : ℕ) → Verdict
+verdict_of_yes taken imports pickles = record nothing_told {
+  taken = taken;
+  imports = imports;
+  pickles = pickles;
+}
+
+-- the verdict of a no behind so many pickles
+abbrev no_alone : ℕ → Reason → ℕ → Verdict
+no_alone at reason pickles = record nothing_told {
   status = 1;
   reason = reason_code reason;
   number = reason_number reason;
-  has_pair = has_pair;
   at = at;
-  taken = 0;
-  imports = 0;
-  module_length = module_length;
-  name_length = name_length;
+  pickles = pickles;
 }
 
--- the verdict of a no
-abbrev pub verdict_of_no : ℕ → Reason → Option Asked → Verdict
-verdict_of_no at reason (Some (AskedPair module_name name)) =
-    no_with at reason 1 (length module_name) (length name)
-verdict_of_no at reason _ = no_with at reason 0 0 0
+-- the same with the lengths of the names of its pair, where it has one
+abbrev pub verdict_of_no : ℕ → Reason → Option Asked → ℕ → Verdict
+verdict_of_no at reason (Some (AskedPair module_name name)) pickles =
+    record (no_alone at reason pickles) {
+      has_pair = 1;
+      module_length = length module_name;
+      name_length = length name;
+    }
+verdict_of_no at reason _ pickles = no_alone at reason pickles
 
 -- the verdict where the list can't be read
 abbrev pub verdict_of_fault : AllowError → Verdict
-verdict_of_fault error = record {
-  status = 2;
-  reason = fault_code error;
-  number = 0;
-  has_pair = 0;
-  at = 0;
-  taken = 0;
-  imports = 0;
-  module_length = 0;
-  name_length = 0;
-}
+verdict_of_fault error = record nothing_told { status = 2; reason = fault_code error }
 
--- the verdict where the settings have a number that stands for nothing
+-- the verdict where the settings are not served
 abbrev pub verdict_of_usage : Verdict
-verdict_of_usage = record {
-  status = 3;
-  reason = 0;
-  number = 0;
-  has_pair = 0;
-  at = 0;
-  taken = 0;
-  imports = 0;
-  module_length = 0;
-  name_length = 0;
-}
+verdict_of_usage = record nothing_told { status = 3 }
 
 -- bytes at the front of the room, if they fit, and else the room as it was
 abbrev pub placed : List ℕ → List ℕ → List ℕ
@@ -100,7 +90,7 @@ pub record IsYes (old : OldStrings) (policy : Policy) (limits : Bounds)
   pub rest : List ℕ
   pub imports : List Asked
   pub accepted : Accepted old policy limits (memory pickle) (memory rest) verdict.taken imports
-  pub told : verdict ≡ verdict_of_yes verdict.taken (length imports)
+  pub told : verdict ≡ verdict_of_yes verdict.taken (length imports) 1
   pub room : after ≡ before
 
 -- the pickle at the front of the bytes is refused, at a place and for a reason; the names of the
@@ -111,7 +101,28 @@ pub record IsNo (old : OldStrings) (policy : Policy) (limits : Bounds)
   pub why : Reason
   pub pair : Option Asked
   pub refused : Refused old policy limits (memory pickle) (memory rest) verdict.at why pair
-  pub told : verdict ≡ verdict_of_no verdict.at why pair
+  pub told : verdict ≡ verdict_of_no verdict.at why pair 0
+  pub room : after ≡ names_placed pair before
+
+-- all bytes are one pickle or more, one after the other, and each is accepted
+pub record IsYesOfRow (old : OldStrings) (policy : Policy) (limits : Bounds)
+    (pickles before after : List ℕ) (verdict : Verdict) : Type 0 where
+  pub rest : List ℕ
+  pub imports : List Asked
+  pub accepted : AcceptedRow old policy limits (memory pickles) (memory rest) verdict.taken
+      verdict.pickles imports
+  pub told : verdict ≡ verdict_of_yes verdict.taken (length imports) verdict.pickles
+  pub room : after ≡ before
+
+-- a pickle of the row is refused, at a place and for a reason, and those before it are accepted
+pub record IsNoOfRow (old : OldStrings) (policy : Policy) (limits : Bounds)
+    (pickles before after : List ℕ) (verdict : Verdict) : Type 0 where
+  pub rest : List ℕ
+  pub why : Reason
+  pub pair : Option Asked
+  pub refused : RefusedInRow old policy limits (memory pickles) (memory rest) verdict.pickles
+      verdict.at why pair
+  pub told : verdict ≡ verdict_of_no verdict.at why pair verdict.pickles
   pub room : after ≡ names_placed pair before
 
 -- the text is no list, for this error: it breaks a rule; or memory ran out, which a text of nothing
@@ -131,9 +142,9 @@ pub record IsFault (list before after : List ℕ) (verdict : Verdict) : Type 0 w
   pub told : verdict ≡ verdict_of_fault error
   pub room : after ≡ before
 
--- the settings have a number of old strings that stands for nothing
+-- the settings are not served
 pub record IsUsage (settings : Settings) (before after : List ℕ) (verdict : Verdict) : Type 0 where
-  pub unknown : old_strings_of settings.old_strings ≡ None
+  pub unserved : old_strings_in settings ≡ None
   pub told : verdict ≡ verdict_of_usage
   pub room : after ≡ before
 

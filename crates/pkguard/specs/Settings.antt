@@ -1,5 +1,5 @@
 -- What the settings of a check say.
-use Rattle.std.specs.Prelude.{◌≡◌, ◌==◌, ℕ, if◌then◌else◌, min, Option, Some, None}
+use Rattle.std.specs.Prelude.{◌≡◌, ◌==◌, ◌&&◌, ℕ, Bool, nat_le, if◌then◌else◌, min, Option, Some, None}
 use Rattle.pkops.specs.Limits.{Bounds, bounds}
 use Rattle.pkcheck.specs.declared.old_strings.OldStrings.{OldStrings}
 use Rattle.pkcheck.specs.declared.old_strings.OldStrings.TheVariants.{Unknown, Ascii, Bytes}
@@ -19,6 +19,18 @@ old_strings_of number =
     else if number == 2 then Some Bytes
     else None
 
--- the settings have a number of old strings, and this holds of what they become
+-- the settings have the size of this version, and ask for nothing that it can't do: no memo number
+-- is too great, each pickle of a row begins with an empty memo, and limits are no larger than usual
+abbrev pub is_served : Settings → Bool
+is_served settings =
+    settings.size == 64 && nat_le 4_294_967_295 settings.numbers && settings.row_memo == 0
+    && settings.large == 0 && nat_le settings.sorted 1
+
+-- what old strings become, where the settings are served
+abbrev pub old_strings_in : Settings → Option OldStrings
+old_strings_in settings =
+    if is_served settings then old_strings_of settings.old_strings else None
+
+-- the settings are served, and this holds of what old strings become
 abbrev pub Sets : Settings → (OldStrings → Type 0) → Type 0
-Sets settings P = (old : OldStrings) × (old_strings_of settings.old_strings ≡ Some old) × P old
+Sets settings P = (old : OldStrings) × (old_strings_in settings ≡ Some old) × P old

@@ -1,8 +1,9 @@
 //! The checker for C: a static library, whose functions check a pickle that lies in memory.
 //!
-//! `python/storklocker/storklocker.h` declares them for C. None wants anything of its arguments
-//! that C's types don't say, so none has a `requires`. Nothing is kept between calls and nothing is
-//! to be freed, so any number of threads may call, and share pairs, lists and settings.
+//! `python/storklocker.c` calls them with no null pointer, and `python/storklocker/storklocker.h`
+//! declares for C what it makes of them. None wants anything of its arguments that C's types don't
+//! say, so none has a `requires`. Nothing is kept between calls and nothing is to be freed, so any
+//! number of threads may call, and share pairs, lists and settings.
 #![tactic(auto)]
 
 mod codes;
@@ -14,10 +15,10 @@ ghost use Rattle.std.specs.Prelude.{◌≡◌, ◌≢◌, ◌≤◌, Some};
 ghost use Rattle.pkops.specs.Limits.{greatest};
 ghost use Rattle.pkcheck.specs.Import.{policy_of};
 ghost use Rattle.pkcheck.specs.Pairs.{have};
-ghost use Rattle.pkguard.specs.Guard.{IsFault, IsNo, IsUsage, IsYes, Under};
+ghost use Rattle.pkguard.specs.Guard.{IsFault, IsNo, IsNoOfRow, IsUsage, IsYes, IsYesOfRow, Under};
 ghost use Rattle.pkguard.specs.Settings.{Sets, limits_within};
 
-use pkcheck::{OldStrings, Pair, Policy, check_as};
+use pkcheck::{OldStrings, Pair, Policy, check_all, check_as};
 use pkops::Limits;
 use pkread::Memory;
 pub use settings::Settings;
@@ -31,7 +32,7 @@ pub use verdict::Verdict;
 /// other order the answer is the same. `room` gets the two names of a refused pair, one behind the
 /// other, where it has room for both, and stays as it is where it hasn't.
 #[unsafe(no_mangle)]
-pub extern "C" fn storklocker_check_pairs(
+pub extern "C" fn pkguard_check_pairs(
     alloc: Global,
     pairs: &[Pair<'_>],
     settings: &Settings,
@@ -48,7 +49,7 @@ pub extern "C" fn storklocker_check_pairs(
         (limits_within greatest settings.now) pickle.now room.old room.new out.new) }
     ensures usage { out.new.status ≡ 3 → IsUsage settings.now room.old room.new out.new }
 {
-    *out = match settings::old_strings_of(settings) {
+    *out = match settings::old_strings_in(settings) {
         None => verdict::of_usage(),
         Some(old) => {
             let limits = settings::limits_of(settings, &Limits::GREATEST);
@@ -58,10 +59,41 @@ pub extern "C" fn storklocker_check_pairs(
     out.status
 }
 
+/// Checks pickles that stand one after the other, up to the end of the bytes, under pairs.
+#[unsafe(no_mangle)]
+pub extern "C" fn pkguard_check_row(
+    alloc: Global,
+    pairs: &[Pair<'_>],
+    settings: &Settings,
+    pickles: &[u8],
+    room: &mut [u8],
+    out: &mut Verdict,
+) -> u32
+    ensures status { result ≡ out.new.status }
+    ensures bound { out.new.status ≤ 3 }
+    ensures list { out.new.status ≢ 2 }
+    ensures yes { out.new.status ≡ 0 → Sets settings.now (λ old. IsYesOfRow old
+        (Some (have pairs.now)) (limits_within greatest settings.now) pickles.now
+        room.old room.new out.new) }
+    ensures no { out.new.status ≡ 1 → Sets settings.now (λ old. IsNoOfRow old
+        (Some (have pairs.now)) (limits_within greatest settings.now) pickles.now
+        room.old room.new out.new) }
+    ensures usage { out.new.status ≡ 3 → IsUsage settings.now room.old room.new out.new }
+{
+    *out = match settings::old_strings_in(settings) {
+        None => verdict::of_usage(),
+        Some(old) => {
+            let limits = settings::limits_of(settings, &Limits::GREATEST);
+            answered_row(alloc, &Policy::Pairs(pairs), &limits, old, pickles, room)
+        }
+    };
+    out.status
+}
+
 /// The same under the text of a list file, which is read anew at each call. Its limits hold as well
 /// as the settings: each limit is the smaller of the two.
 #[unsafe(no_mangle)]
-pub extern "C" fn storklocker_check_list(
+pub extern "C" fn pkguard_check_list(
     alloc: Global,
     list: &[u8],
     settings: &Settings,
@@ -81,7 +113,7 @@ pub extern "C" fn storklocker_check_list(
         IsFault list.now room.old room.new out.new) }
     ensures usage { out.new.status ≡ 3 → IsUsage settings.now room.old room.new out.new }
 {
-    *out = match settings::old_strings_of(settings) {
+    *out = match settings::old_strings_in(settings) {
         None => verdict::of_usage(),
         Some(old) => listed(alloc, list, settings, old, pickle, room),
     };
@@ -130,7 +162,29 @@ fn answered(
 {
     let mut source = Memory::new(pickle);
     match check_as(alloc, &mut source, policy, limits, old) {
-        Ok(yes) => verdict::of_yes(&yes),
-        Err(no) => verdict::of_no(&no, room),
+        Ok(yes) => verdict::of_yes(yes.taken, &yes.imports, 1),
+        Err(no) => verdict::of_no(&no, 0, room),
+    }
+}
+
+/// What `check_all` answers.
+fn answered_row(
+    alloc: Global,
+    policy: &Policy<'_>,
+    limits: &Limits,
+    old: OldStrings,
+    pickles: &[u8],
+    room: &mut [u8],
+) -> Verdict
+    ensures bound { result.status ≤ 1 }
+    ensures yes { result.status ≡ 0 → IsYesOfRow old (policy_of policy.now) limits.now pickles.now
+        room.old room.new result }
+    ensures no { result.status ≡ 1 → IsNoOfRow old (policy_of policy.now) limits.now pickles.now
+        room.old room.new result }
+{
+    let mut source = Memory::new(pickles);
+    match check_all(alloc, &mut source, policy, limits, old) {
+        Ok(yes) => verdict::of_yes(yes.taken, &yes.imports, yes.pickles),
+        Err(all) => verdict::of_no(&all.no, all.pickle, room),
     }
 }

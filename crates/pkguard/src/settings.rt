@@ -1,15 +1,18 @@
 //! Settings of a check.
 ghost use Rattle.std.specs.Prelude.{◌≡◌};
-ghost use Rattle.pkguard.specs.Settings.{limits_within, old_strings_of};
+ghost use Rattle.pkguard.specs.Settings.{is_served, limits_within, old_strings_in};
+ghost use Rattle.pkguard.specs.Settings.{old_strings_of};
 
 use pkcheck::OldStrings;
 use pkops::Limits;
 use std::cmp;
 
-/// Settings of a check, for C. A number above the greatest that a limit may be stands for it.
+/// Settings of a check, for C. A limit above the greatest that it may be stands for that.
 #[repr(C)]
 #[derive(Clone, Copy, Debug)]
 pub struct Settings {
+    /// How many bytes the settings have: the fields of a later version stand behind these.
+    pub size: u64,
     /// The most bytes that the payload of a counted argument may have.
     pub counted: u64,
     /// The most entries that the stack may have, marks included.
@@ -18,15 +21,49 @@ pub struct Settings {
     pub memo: u64,
     /// The most bytes that a payload of bytes may have, which is passed over.
     pub passed: u64,
+    /// The greatest number at which an instruction may write to the memo.
+    pub numbers: u64,
     /// What old strings become: 0 for anything, 1 for a text where they are ASCII, 2 for bytes.
     pub old_strings: u32,
+    /// What the memo of a pickle is to the next one of a row: 0 for nothing.
+    pub row_memo: u32,
+    /// Whether larger limits are allowed: 0 where they are not.
+    pub large: u32,
+    /// Whether the caller vouches for the order of its pairs: 1 where it does, else 0.
+    pub sorted: u32,
+}
+
+/// How many bytes the settings of this version have.
+const SETTINGS_SIZE: u64 = 64;
+
+/// Whether this library serves the settings: their size is its own, and it can do what each number
+/// but that of old strings asks for.
+fn is_served(settings: &Settings) -> bool
+    ensures { result ≡ is_served settings.now }
+{
+    settings.size == SETTINGS_SIZE
+        && settings.numbers >= u64::from(u32::MAX)
+        && settings.row_memo == 0
+        && settings.large == 0
+        && settings.sorted <= 1
+}
+
+/// What old strings become, where the settings are served.
+pub fn old_strings_in(settings: &Settings) -> Option<OldStrings>
+    ensures { result ≡ old_strings_in settings.now }
+{
+    if is_served(settings) {
+        old_strings_of(settings.old_strings)
+    } else {
+        None
+    }
 }
 
 /// What old strings become by their number, which is frozen.
-pub fn old_strings_of(settings: &Settings) -> Option<OldStrings>
-    ensures { result ≡ old_strings_of settings.now.old_strings }
+fn old_strings_of(number: u32) -> Option<OldStrings>
+    ensures { result ≡ old_strings_of number }
 {
-    match settings.old_strings {
+    match number {
         0 => Some(OldStrings::Unknown),
         1 => Some(OldStrings::Ascii),
         2 => Some(OldStrings::Bytes),

@@ -5,13 +5,13 @@ ghost use Rattle.pkguard.specs.Guard.{placed, verdict_of_fault, verdict_of_no, v
 ghost use Rattle.pkguard.specs.Guard.{names_placed, verdict_of_usage};
 
 use crate::codes::{fault_code, reason_code, reason_number};
-use pkcheck::{AllowError, Asked, No, Yes};
+use pkcheck::{AllowError, Asked, Imports, No};
 
 /// A verdict for C. What a status doesn't speak of is 0.
 #[repr(C)]
 #[derive(Clone, Copy, Debug, Drop)]
 pub struct Verdict {
-    /// 0 at a yes, 1 at a no, 2 where the list can't be read, 3 where the settings are at fault.
+    /// 0 at a yes, 1 at a no, 2 where the list can't be read, 3 where the settings are not served.
     pub status: u32,
     /// The number of the reason at status 1, of the list's fault at status 2.
     pub reason: u32,
@@ -21,15 +21,31 @@ pub struct Verdict {
     pub has_pair: u32,
     /// The offset of the refused instruction, at status 1.
     pub at: u64,
-    /// How many bytes the pickle has, at status 0.
+    /// How many bytes were accepted, at status 0.
     pub taken: u64,
-    /// How many imports it makes, at status 0.
+    /// How many imports they make, at status 0.
     pub imports: u64,
     /// How many bytes the module of the pair has.
     pub module_length: u64,
     /// How many bytes its name has.
     pub name_length: u64,
+    /// How many pickles are accepted.
+    pub pickles: u64,
 }
+
+/// A verdict that tells nothing.
+const NOTHING: Verdict = Verdict {
+    status: 0,
+    reason: 0,
+    number: 0,
+    has_pair: 0,
+    at: 0,
+    taken: 0,
+    imports: 0,
+    module_length: 0,
+    name_length: 0,
+    pickles: 0,
+};
 
 /// The verdict where a list can't be read.
 pub fn of_fault(error: AllowError) -> Verdict
@@ -38,55 +54,39 @@ pub fn of_fault(error: AllowError) -> Verdict
     Verdict {
         status: 2,
         reason: fault_code(error),
-        number: 0,
-        has_pair: 0,
-        at: 0,
-        taken: 0,
-        imports: 0,
-        module_length: 0,
-        name_length: 0,
+        ..NOTHING
     }
 }
 
-/// The verdict where the settings have a number that stands for nothing.
+/// The verdict where the settings are not served.
 pub fn of_usage() -> Verdict
     ensures { result ≡ verdict_of_usage }
 {
     Verdict {
         status: 3,
-        reason: 0,
-        number: 0,
-        has_pair: 0,
-        at: 0,
-        taken: 0,
-        imports: 0,
-        module_length: 0,
-        name_length: 0,
+        ..NOTHING
     }
 }
 
-/// The verdict of a yes.
-pub fn of_yes(yes: &Yes) -> Verdict
-    ensures { result ≡ verdict_of_yes yes.now.taken (length yes.now.imports) }
+/// The verdict of a yes, to so many pickles.
+pub fn of_yes(taken: u64, imports: &Imports, pickles: u64) -> Verdict
+    ensures { result ≡ verdict_of_yes taken (length imports.now) pickles }
 {
     Verdict {
-        status: 0,
-        reason: 0,
-        number: 0,
-        has_pair: 0,
-        at: 0,
-        taken: yes.taken,
-        imports: yes.imports.len() as u64,
-        module_length: 0,
-        name_length: 0,
+        taken,
+        imports: imports.len() as u64,
+        pickles,
+        ..NOTHING
     }
 }
 
-/// The verdict of a no. The names of its pair go to the front of `room`, if both fit.
-pub fn of_no(no: &No, room: &mut [u8]) -> Verdict
+/// The verdict of a no behind so many pickles. The names of its pair go to the front of `room`, if
+/// both fit.
+pub fn of_no(no: &No, pickles: u64, room: &mut [u8]) -> Verdict
     ensures told { result
-        ≡ verdict_of_no no.now.at no.now.reason (option_map asked_shown no.now.pair) }
+        ≡ verdict_of_no no.now.at no.now.reason (option_map asked_shown no.now.pair) pickles }
     ensures place { result.at ≡ no.now.at }
+    ensures count { result.pickles ≡ pickles }
     ensures names { room.new ≡ names_placed (option_map asked_shown no.now.pair) room.old }
 {
     let (has_pair, module_length, name_length) = match &no.pair {
@@ -102,10 +102,10 @@ pub fn of_no(no: &No, room: &mut [u8]) -> Verdict
         number: reason_number(no.reason),
         has_pair,
         at: no.at,
-        taken: 0,
-        imports: 0,
         module_length,
         name_length,
+        pickles,
+        ..NOTHING
     }
 }
 
