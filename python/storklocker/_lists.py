@@ -1,66 +1,140 @@
-"""Lists of what a pickle may import."""
+"""What a pickle may import, and what it may cost: values that don't change."""
 
 from __future__ import annotations
 
-import ctypes
+import bisect
+import operator
 import os
-from typing import Iterable, Tuple, Union
+from collections.abc import Mapping
+from typing import Any, Iterable, Iterator, List, Optional, Tuple, Union
 
-from . import _library
-from ._settings import GREATEST, STANDARD, Limits
+from . import _names
+from ._answers import LIST_FAULTS, Import, ListFault
+from ._storklocker import Limits as _Limits
+from ._storklocker import Pairs as _Pairs
+from ._storklocker import read_list
 
-# (no pointer may be null, not even to no bytes)
-_NO_BYTE = ctypes.create_string_buffer(1)
-_NO_ROOM = ctypes.addressof(_NO_BYTE)
+Pair = Tuple[str, str]
+_Numbers = Tuple[int, int, int, int, int, int]
 
-
-class ListFault(ValueError):
-    """A text is no list file. `fault` says why, in the program's words, such as `Shape(Imports)`."""
-
-    def __init__(self, fault: str) -> None:
-        super().__init__(f"list: {fault}")
-        self.fault = fault
+_UNBOUND = (1 << 32) - 1
+"""The limit of memo numbers of a list file that has none."""
 
 
-class AllowList:
-    """The pairs of a module and a name that a pickle may import. It doesn't change, and threads may share it.
+class Limits(_Limits):
+    """The limits of a check: a value that doesn't change. A number above the greatest stands for it.
+
+    counted: bytes of the payload of a counted argument; 16,777,216 and at most that.
+    stack: entries of the stack, marks included; 1,000,000 and at most that.
+    memo: entries of the memo; 1,000,000 and at most that.
+    passed: bytes of a payload of bytes, which is not looked at; 16,777,216 and at most 1,099,511,627,776.
+    numbers: the greatest number that a pickle may give a memo entry; 1,000,000 and at most 4,294,967,295. CPython
+        takes 16 bytes for each number up to it, so that 7 bytes can cost the loading process 64 GB.
+    large: whether counted, stack and memo may be up to 4,294,967,295.
+    """
+
+    __slots__ = ()
+
+    def __new__(
+        cls,
+        *,
+        counted: int = 16_777_216,
+        stack: int = 1_000_000,
+        memo: int = 1_000_000,
+        passed: int = 16_777_216,
+        numbers: int = 1_000_000,
+        large: bool = False,
+    ) -> "Limits":
+        given = [operator.index(it) for it in (counted, stack, memo, passed, numbers)]
+        if any(not 0 <= number < 1 << 64 for number in given):
+            raise ValueError("a limit is a number from 0 to 2 ** 64 - 1")
+        return super().__new__(cls, *given, bool(large))
+
+    @property
+    def large(self) -> bool:
+        """Whether counted, stack and memo may be up to 4,294,967,295."""
+        return bool(self._large)
+
+    @property
+    def _numbers(self) -> _Numbers:
+        return (self.counted, self.stack, self.memo, self.passed, self.numbers, self._large)
+
+    def __eq__(self, other: object) -> bool:
+        return self._numbers == other._numbers if isinstance(other, Limits) else NotImplemented
+
+    def __hash__(self) -> int:
+        return hash(self._numbers)
+
+    def __repr__(self) -> str:
+        return (
+            f"Limits(counted={self.counted}, stack={self.stack}, memo={self.memo}, "
+            f"passed={self.passed}, numbers={self.numbers}, large={self.large})"
+        )
+
+    def __reduce__(self) -> Tuple[Any, ...]:
+        return (_limits_of, self._numbers)
+
+
+def _limits_of(
+    counted: int, stack: int, memo: int, passed: int, numbers: int, large: int
+) -> Limits:
+    return Limits(
+        counted=counted, stack=stack, memo=memo, passed=passed, numbers=numbers, large=bool(large)
+    )
+
+
+STANDARD = Limits()
+
+
+class AllowList(_Pairs):
+    """The pairs of a module and a name that a pickle may import: a value that doesn't change.
 
         AllowList([("collections", "OrderedDict"), ("a.b", "C")])
+        AllowList({"collections": ["OrderedDict", "deque"], "datetime": ["datetime"]})
+        AllowList.from_file("list.toml")
 
-    A pair is looked up in logarithmic time, so a long list costs little. `from_text` and `from_file` take a list
-    file, which each check then reads anew, at some 0.2 microseconds a pair: for many small pickles prefer pairs. The
-    limits of a list file hold in each check under it.
+    It is iterated in order, and has `in`, `len`, `|`, `==` and a hash; it can be copied, pickled and shared by threads.
+    A pair is looked up in logarithmic time, so a long list costs little. `limits` are those of its list file, which hold
+    in each check under it; None of pairs.
 
     A name permits what it names alone: `("os", "path")` doesn't permit `("os", "path.join")`.
     """
 
-    __slots__ = ("_call", "_front", "_count", "_kept", "_limits")
+    __slots__ = ("_limits", "_loaded", "_fixed", "_guard", "__weakref__")
+    _limits: Optional[Limits]
+    _loaded: Optional["AllowList"]
+    _fixed: Optional["AllowList"]
+    _guard: Any
 
-    def __init__(self, pairs: Iterable[Tuple[str, str]]) -> None:
-        texts = sorted({(_name(module), _name(name)) for module, name in pairs})
-        array = (_library.Pair * max(1, len(texts)))(
-            *((module, len(module), name, len(name)) for module, name in texts)
-        )
-        # (the array holds but the addresses of the texts)
-        self._kept: object = (texts, array)
-        self._call = _library.check_pairs
-        self._front: Union[int, bytes] = ctypes.addressof(array)
-        self._count = len(texts)
-        self._limits: Limits = STANDARD
+    def __new__(cls, pairs: Union[Iterable[Pair], "Mapping[str, Iterable[str]]"]) -> "AllowList":
+        return cls._of(_encoded(pairs), None)
+
+    @classmethod
+    def _of(
+        cls, pairs: Iterable[Tuple[bytes, bytes]], limits: Optional[Limits]
+    ) -> "AllowList":
+        held = STANDARD if limits is None else limits
+        made = super().__new__(cls, tuple(sorted(set(pairs))), held._numbers, limits is not None)
+        made._limits = limits
+        made._loaded = made._fixed = made._guard = None
+        return made
 
     @classmethod
     def from_text(cls, text: Union[str, bytes]) -> "AllowList":
-        """The list of a list file's text. Raises ListFault where the text is none."""
-        made = cls.__new__(cls)
-        made._kept = made._front = text.encode() if isinstance(text, str) else bytes(text)
-        made._call = _library.check_list
-        made._count = len(made._front)
-        made._limits = GREATEST
-        told = made._ask(b"N.", made._limits._address("unknown"))
-        if told.status == _library.NO_LIST:
-            fault = _library.LIST_FAULTS[told.reason]
+        """The list of a list file's text. Raises ListFault where the text is none.
+
+        Where its limits leave out `numbers`, that of `STANDARD` holds.
+        """
+        if not isinstance(text, (str, bytes, bytearray)):
+            raise TypeError(f"the text of a list file is a str or bytes, not {type(text)!r}")
+        read = read_list(text.encode() if isinstance(text, str) else bytes(text))
+        if isinstance(read, int):
+            fault = LIST_FAULTS[read]
             raise MemoryError() if fault == "OutOfMemory" else ListFault(fault)
-        return made
+        room, (counted, stack, memo, passed, numbers, large) = read
+        numbers = STANDARD.numbers if numbers == _UNBOUND else numbers
+        limits = _limits_of(counted, stack, memo, passed, numbers, large)
+        return cls._of(((module or b"", name or b"") for module, name in records(room)), limits)
 
     @classmethod
     def from_file(cls, file: Union[str, "os.PathLike[str]"]) -> "AllowList":
@@ -68,18 +142,147 @@ class AllowList:
         with open(file, "rb") as opened:
             return cls.from_text(opened.read())
 
-    def _ask(
-        self, data: bytes, settings: int, room: int = _NO_ROOM, size: int = 0
-    ) -> _library.VerdictStructure:
-        """One call of the library. The addresses of settings and room stay the caller's to keep."""
-        told = _library.VerdictStructure()
-        self._call(
-            self._front, self._count, settings, data, len(data), room, size, ctypes.byref(told)
+    @property
+    def limits(self) -> Optional[Limits]:
+        """The limits of its list file; None where it was made of pairs."""
+        return self._limits
+
+    def __iter__(self) -> Iterator[Pair]:
+        for module, name in self._pairs:
+            yield (module.decode(), name.decode())
+
+    def __len__(self) -> int:
+        return len(self._pairs)
+
+    def __contains__(self, pair: object) -> bool:
+        if not _is_pair(pair):
+            return False
+        module, name = pair  # type: ignore[misc]
+        wanted = (_bytes_of(module), _bytes_of(name))
+        place = bisect.bisect_left(self._pairs, wanted)
+        return place < len(self._pairs) and self._pairs[place] == wanted
+
+    def __or__(self, other: object) -> "AllowList":
+        """What either permits, within the limits of both."""
+        if not isinstance(other, AllowList):
+            return NotImplemented
+        return type(self)._of(self._pairs + other._pairs, _within(self._limits, other._limits))
+
+    def __eq__(self, other: object) -> bool:
+        if not isinstance(other, AllowList):
+            return NotImplemented
+        return self._pairs == other._pairs and self._limits == other._limits
+
+    def __hash__(self) -> int:
+        return hash((self._pairs, self._limits))
+
+    def __repr__(self) -> str:
+        shown = [repr(pair) for pair, _ in zip(self, range(4))]
+        if len(self) > len(shown):
+            shown.append(f"... {len(self) - len(shown)} more")
+        limits = "" if self._limits is None else f" within {self._limits!r}"
+        return f"AllowList([{', '.join(shown)}]){limits}"
+
+    def __reduce__(self) -> Tuple[Any, ...]:
+        return (_list_of, (type(self), self._pairs, self._limits))
+
+    def for_loading(self) -> "AllowList":
+        """The pairs that can be imported as they are: without those whose module only Python 2 has."""
+        if self._loaded is None:
+            lost = [pair for pair in self if _names.is_lost(pair)]
+            self._loaded = _AS_IT_IS if not lost else self._without(lost)
+        return self if self._loaded is _AS_IT_IS else self._loaded
+
+    def for_old_names(self) -> "AllowList":
+        """The pairs for which CPython takes a pair of this list, under `fix_imports`."""
+        if self._fixed is None:
+            pairs = (_bytes_of_pair(old) for pair in self for old in _names.old_names(pair))
+            self._fixed = self._of(pairs, self._limits)
+        return self._fixed
+
+    def _without(self, lost: List[Pair]) -> "AllowList":
+        left = set(self._pairs) - {_bytes_of_pair(pair) for pair in lost}
+        return self._of(left, self._limits)
+
+
+def _list_of(
+    kind: "type[AllowList]", pairs: Tuple[Tuple[bytes, bytes], ...], limits: Optional[Limits]
+) -> AllowList:
+    return kind._of(pairs, limits)
+
+
+def _within(one: Optional[Limits], other: Optional[Limits]) -> Optional[Limits]:
+    if one is None or other is None:
+        return one or other
+    return _limits_of(*map(min, one._numbers, other._numbers))  # type: ignore[arg-type]
+
+
+def _bytes_of(text: str) -> bytes:
+    """The text in UTF-8; what has no UTF-8 is in no list."""
+    return text.encode("utf-8", "surrogatepass")
+
+
+def _bytes_of_pair(pair: Pair) -> Tuple[bytes, bytes]:
+    return (_bytes_of(pair[0]), _bytes_of(pair[1]))
+
+
+def _is_pair(pair: object) -> bool:
+    return (
+        isinstance(pair, (tuple, list))
+        and len(pair) == 2
+        and isinstance(pair[0], str)
+        and isinstance(pair[1], str)
+    )
+
+
+def _pairs_in(given: Any) -> Iterator[Any]:
+    """The items of what was given, each with the words for it."""
+    if not isinstance(given, Mapping):
+        for place, pair in enumerate(given):
+            yield (f"item {place}", pair)
+        return
+    for module, names in given.items():
+        if isinstance(names, (str, bytes)):
+            raise TypeError(f"the names of module {module!r} are a list of texts, not {names!r:.80}")
+        for name in names:
+            yield (f"a name of module {module!r}", (module, name))
+
+
+def _encoded(given: Any) -> Iterator[Tuple[bytes, bytes]]:
+    if isinstance(given, (str, bytes)) or not hasattr(given, "__iter__"):
+        raise TypeError(
+            f"an AllowList is made of pairs or of modules with their names, not of {given!r:.80}"
         )
-        return told
+    for words, pair in _pairs_in(given):
+        if not _is_pair(pair):
+            raise TypeError(f"{words} is no pair of two texts, a module and a name: {pair!r:.80}")
+        if not (pair[0] and pair[1]):
+            raise ValueError(f"{words} has an empty module or name: {pair!r:.80}")
+        yield (pair[0].encode(), pair[1].encode())
 
 
-def _name(text: str) -> bytes:
-    if not isinstance(text, str) or not text:
-        raise ValueError("a module and a name are texts that are not empty")
-    return text.encode()
+def records(room: bytes) -> Iterator[Tuple[Optional[bytes], Optional[bytes]]]:
+    """The pairs that the library gave in a room; None of an import that it can't tell."""
+    at = 0
+    while at < len(room):
+        texts: List[Optional[bytes]] = []
+        for _ in range(2):
+            length = int.from_bytes(room[at : at + 8], "little")
+            at += 8
+            if length == (1 << 64) - 1:
+                texts.append(None)
+                continue
+            texts.append(room[at : at + length])
+            at += length
+        yield (texts[0], texts[1])
+
+
+def imports_in(room: bytes) -> List[Import]:
+    """The imports that the library gave in a room."""
+    return [
+        Import(None, None) if module is None or name is None else Import(module.decode(), name.decode())
+        for module, name in records(room)
+    ]
+
+
+_AS_IT_IS = AllowList([])

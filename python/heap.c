@@ -1,0 +1,37 @@
+/* The memory of a Rattle archive, which leaves it to these three calls. No block has fewer than LEAST bytes, so that the
+   small vectors of a short pickle seldom grow. Where memory is refused `block` points to a byte that nobody owns. */
+#include <stdbool.h>
+#include <stddef.h>
+#include <stdlib.h>
+
+#define LEAST 512
+
+struct tried {
+    bool is_granted;
+    unsigned char *block;
+};
+
+struct tried rattle_alloc(size_t size, size_t alignment);
+struct tried rattle_realloc(unsigned char *block, size_t kept, size_t size, size_t alignment);
+void rattle_dealloc(unsigned char *block);
+
+static unsigned char nobodys;
+
+static struct tried answer(void *block) {
+    return (struct tried){block != NULL, block != NULL ? block : &nobodys};
+}
+
+/* Alignments divide 16, as malloc's does. */
+struct tried rattle_alloc(size_t size, size_t alignment) {
+    (void)alignment;
+    return answer(malloc(size < LEAST ? LEAST : size));
+}
+
+struct tried rattle_realloc(unsigned char *block, size_t kept, size_t size, size_t alignment) {
+    (void)kept, (void)alignment;
+    return size <= LEAST ? (struct tried){true, block} : answer(realloc(block, size));
+}
+
+void rattle_dealloc(unsigned char *block) {
+    free(block);
+}

@@ -1,0 +1,119 @@
+"""How the bytes of a pickle come from a file, before anyone has looked at them."""
+
+from __future__ import annotations
+
+import functools
+from typing import Any, Callable, Dict, List
+
+FIRST_BLOCK = 4096
+"""How many bytes are read at first. Each further block has as many as there are by then."""
+
+_PIECE = 1 << 16
+
+
+class TextFile(TypeError):
+    """A file gave something else than bytes."""
+
+
+def block_of(read: Callable[..., Any], count: int) -> bytes:
+    """What a file gives where `count` bytes are asked for; nothing at its end."""
+    given = read(count)
+    if given is None:
+        raise BlockingIOError("the file has no bytes yet: a pickle is read from one that blocks")
+    if isinstance(given, (bytes, bytearray, memoryview)):
+        return bytes(given)
+    raise TextFile(f"a file opened for bytes is wanted: this one gave {type(given)!r}")
+
+
+def can_step_back(file: Any) -> bool:
+    """Whether a file can be put back to where a pickle ended, and cheaply.
+
+    One that has `peek` and no `raw`, such as of gzip, would read all that is before the place anew.
+    """
+    if hasattr(file, "peek") and not hasattr(file, "raw"):
+        return False
+    try:
+        return bool(file.seekable())
+    except (AttributeError, ValueError):
+        return False
+
+
+@functools.lru_cache(maxsize=None)
+def _arguments() -> Dict[bytes, Any]:
+    """How long the argument of an opcode is, as `pickletools` says by its code."""
+    import pickletools
+
+    return {op.code.encode("latin-1"): op.arg for op in pickletools.opcodes}
+
+
+class Walk:
+    """Takes just the instructions of one pickle from a file that can't step back, without judging them.
+
+    Where an instruction is none, or a file ends, it ends too, and a check of what was taken says why. So does it before
+    a payload that is longer than all before it where `is_refused` says so of that.
+    """
+
+    def __init__(self, file: Any, is_refused: Callable[[bytes], bool]) -> None:
+        self._read, self._readline = file.read, file.readline
+        self._is_refused = is_refused
+        self._taken: List[bytes] = []
+        self._length = 0
+
+    def taken(self) -> bytes:
+        """The bytes of a pickle, up to its STOP."""
+        codes = _arguments()
+        while True:
+            code = self._piece(1)
+            if code not in codes or not self._argument(codes[code]) or code == b".":
+                return b"".join(self._taken)
+
+    def _argument(self, kind: Any) -> bool:
+        """Takes the argument of an instruction; false where there can be no further one."""
+        if kind is None:
+            return True
+        if kind.n == -1:
+            lines = 2 if kind.name == "stringnl_noescape_pair" else 1
+            return all(self._line() for _ in range(lines))
+        if kind.n >= 0:
+            return self._bytes(kind.n)
+        size = {-2: 1, -3: 4, -4: 4, -5: 8}[kind.n]
+        count = self._piece(size)
+        length = int.from_bytes(count, "little", signed=kind.n == -3)
+        return len(count) == size and length >= 0 and self._bytes(length)
+
+    def _keep(self, piece: bytes) -> bytes:
+        self._taken.append(piece)
+        self._length += len(piece)
+        return piece
+
+    def _piece(self, count: int) -> bytes:
+        """Up to `count` bytes, fewer at the end of the file alone."""
+        found = block_of(self._read, count)
+        while 0 < len(found) < count:
+            more = block_of(self._read, count - len(found))
+            if not more:
+                break
+            found += more
+        return self._keep(found)
+
+    def _is_hopeless(self, length: int) -> bool:
+        if length <= max(_PIECE, self._length):
+            return False
+        self._taken = [b"".join(self._taken)]
+        return self._is_refused(self._taken[0])
+
+    def _bytes(self, length: int) -> bool:
+        if self._is_hopeless(length):
+            return False
+        while length > 0:
+            piece = self._piece(min(length, _PIECE))
+            if not piece:
+                return False
+            length -= len(piece)
+        return True
+
+    def _line(self) -> bool:
+        line = self._readline()
+        if not isinstance(line, bytes):
+            raise TextFile(f"a file opened for bytes is wanted: this one gave {type(line)!r}")
+        return self._keep(line).endswith(b"\n")
