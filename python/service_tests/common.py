@@ -1,0 +1,120 @@
+"""What the tests of the adapters share: a guard, good values, hostile pickles, a Redis of their own."""
+
+import contextlib
+import datetime
+import os
+import pickle
+import socket
+import subprocess
+import sys
+import time
+from pathlib import Path
+
+import storklocker
+
+HERE = Path(__file__).resolve().parent
+GOOD, HOSTILE = 1000, 50
+LISTED = [
+    ("datetime", "datetime"),
+    ("decimal", "Decimal"),
+    ("jobs", "add"),
+    ("jobs", "finish"),
+]
+MARKS = Path(os.environ["STORKLOCKER_MARKS"])
+
+
+def guard(on_refusal=None):
+    """The guard that every adapter is tried with."""
+    return storklocker.Guard(storklocker.AllowList(LISTED), on_refusal=on_refusal)
+
+
+def good(number):
+    """A value of listed names."""
+    return {"id": number, "when": datetime.datetime(2026, 1, 2), "rows": list(range(20))}
+
+
+class Command:
+    """Pickles as a call of os.system that leaves a mark."""
+
+    def __reduce__(self):
+        return (os.system, (f"touch {MARKS / 'command'}",))
+
+
+def hostile(number):
+    """One of five hostile pickles, by the number: each would do harm, or break its reader."""
+    pickled = pickle.dumps(good(number), 4)
+    shapes = (
+        pickle.dumps(Command(), 4),
+        b"ctripwire\nTrip\n.",  # a module that leaves a mark when it is imported
+        pickled[: len(pickled) // 2],
+        pickled + pickle.dumps(Command(), 4),  # the second runs where one Unpickler goes on
+        b"cdatetime\ndatetime\n)R.",  # listed, and its load raises
+    )
+    return shapes[number % len(shapes)]
+
+
+def counts(reasons):
+    """How often each reason comes among HOSTILE pickles: ten of each shape."""
+    found = {}
+    for reason in reasons:
+        found[reason] = found.get(reason, 0) + 1
+    return found
+
+
+def nothing_ran():
+    """No hostile pickle left a mark, and nothing imported the module that it names."""
+    assert not list(MARKS.iterdir()), f"a hostile pickle ran: {list(MARKS.iterdir())}"
+
+
+def free_port():
+    with socket.socket() as taken:
+        taken.bind(("127.0.0.1", 0))
+        return taken.getsockname()[1]
+
+
+@contextlib.contextmanager
+def redis_server(folder):
+    """A Redis on a free loopback port, which ends with the test; gives the port."""
+    port = free_port()
+    words = ["--port", str(port), "--bind", "127.0.0.1", "--save", "", "--appendonly", "no"]
+    server = subprocess.Popen(
+        ["redis-server", *words, "--dir", str(folder)], stdout=subprocess.DEVNULL
+    )
+    try:
+        _wait_for(port, server)
+        yield port
+    finally:
+        server.terminate()
+        server.wait(10)
+
+
+def _wait_for(port, server):
+    for _ in range(100):
+        if server.poll() is not None:
+            raise RuntimeError("redis-server ended")
+        with contextlib.suppress(OSError), socket.create_connection(("127.0.0.1", port), 1):
+            return
+        time.sleep(0.05)
+    raise RuntimeError("redis-server does not answer")
+
+
+@contextlib.contextmanager
+def process(*words, log, **environment):
+    """Another process in this folder, ended with the test; its output goes to a file."""
+    with open(log, "wb") as out:
+        started = subprocess.Popen(
+            [sys.executable, *words],
+            cwd=HERE,
+            env={**os.environ, **environment},
+            stdout=out,
+            stderr=subprocess.STDOUT,
+        )
+    try:
+        yield started
+    finally:
+        started.terminate()
+        try:
+            started.wait(20)
+        except subprocess.TimeoutExpired:
+            started.kill()
+            started.wait()

@@ -1,0 +1,76 @@
+"""Celery: a worker behind the guard, hostile messages in its queue, a hostile result."""
+
+import os
+import tempfile
+import uuid
+from pathlib import Path
+
+import common
+
+NEEDS = ("celery", "redis")
+
+
+def publish(app, body):
+    """Puts a message into the queue as a stranger would who can reach the broker."""
+    from kombu import Exchange, Producer
+
+    name = str(uuid.uuid4())
+    headers = dict.fromkeys(("group", "parent_id", "eta", "expires"))
+    headers.update(lang="py", task="jobs.add", id=name, root_id=name, retries=0)
+    headers.update(argsrepr="()", kwargsrepr="{}", timelimit=[None, None], origin="stranger")
+    with app.connection() as connection, connection.channel() as channel:
+        Producer(channel, exchange=Exchange("celery"), routing_key="celery").publish(
+            body,
+            content_type="application/x-python-serialize",
+            content_encoding="binary",
+            headers=headers,
+            correlation_id=name,
+            reply_to="",
+        )
+    return name
+
+
+def run():
+    """The test."""
+    with tempfile.TemporaryDirectory() as folder, common.redis_server(folder) as port:
+        refused = Path(folder, "refused")
+        refused.touch()
+        os.environ.update(REDIS_PORT=str(port), REFUSED_LOG=str(refused))
+        import celery_app
+
+        log = Path(folder, "worker")
+        words = ("-m", "celery", "-A", "celery_app", "worker", "-c", "2", "-l", "warning")
+        # (Celery refuses pickles where it runs as root)
+        with common.process(*words, log=log, C_FORCE_ROOT="1") as worker:
+            results = [celery_app.add.delay(number, 1) for number in range(common.GOOD // 2)]
+            names = [publish(celery_app.app, common.hostile(it)) for it in range(common.HOSTILE)]
+            results += [celery_app.finish.delay(common.good(it)) for it in range(common.GOOD // 2)]
+            values = [result.get(timeout=120) for result in results]
+            assert celery_app.add.delay(2, 3).get(timeout=30) == 5
+            assert worker.poll() is None, log.read_text()
+        half = common.GOOD // 2
+        assert values == [*range(1, half + 1), *(common.good(it) for it in range(half))]
+        lines = refused.read_text().splitlines()
+        told = {line.split()[1] for line in lines}
+        # (what is accepted and raises is no refusal: nothing was loaded of the others)
+        assert told == {name for at, name in enumerate(names) if at % 5 != 4}, (len(told), lines[:3])
+        assert all(line.startswith("jobs.add ") for line in lines)
+        assert b"touch" not in log.read_bytes(), "the log has a body"
+        common.nothing_ran()
+        hostile_result(celery_app.app)
+        common.nothing_ran()
+        results.clear()  # (a result asks Redis when it goes)
+
+
+def hostile_result(app):
+    """A result that a stranger wrote is refused where a client asks for it."""
+    name = str(uuid.uuid4())
+    app.backend.client.set(f"celery-task-meta-{name}", common.hostile(0))
+    result = app.AsyncResult(name)
+    try:
+        result.get(timeout=5)
+    except Exception as error:
+        assert "ImportOffList" in str(error), error
+    else:
+        raise AssertionError("a hostile result was loaded")
+    app.backend.remove_pending_result(result)

@@ -1,0 +1,41 @@
+"""What every adapter of a cache does where a pickle cannot be loaded."""
+
+from __future__ import annotations
+
+import pickle
+from typing import Any, Callable
+
+from .. import Guard
+
+
+class Unloadable(pickle.UnpicklingError):
+    """A pickle was accepted, and what it calls raised an exception. `__cause__` has it."""
+
+
+class Loader:
+    """A guard that stands for the module `pickle` and raises nothing but `UnpicklingError` and
+    `EOFError` when it loads: whoever writes a pickle can make a listed callable raise anything.
+    """
+
+    def __init__(self, guard: Guard) -> None:
+        self._guard = guard
+
+    def __getattr__(self, name: str) -> Any:
+        return getattr(self._guard, name)
+
+    def load(self, file: Any, **words: Any) -> Any:
+        """`pickle.load`, behind the guard."""
+        return _tried(self._guard.load, file, words)
+
+    def loads(self, data: Any, **words: Any) -> Any:
+        """`pickle.loads`, behind the guard."""
+        return _tried(self._guard.loads, data, words)
+
+
+def _tried(call: Callable[..., Any], data: Any, words: Any) -> Any:
+    try:
+        return call(data, **words)
+    except (pickle.UnpicklingError, EOFError, OSError, MemoryError):
+        raise
+    except Exception as error:
+        raise Unloadable(f"its load raised {type(error).__name__}") from error

@@ -1,0 +1,69 @@
+"""Classes of other libraries, whose methods read a name of their module as something else."""
+
+from __future__ import annotations
+
+import types
+from typing import Any, Callable, Dict, Iterator, Mapping, Optional, Set, Type, TypeVar, cast
+
+T = TypeVar("T")
+
+
+def rebound(cls: Type[T], names: Mapping[str, object]) -> Type[T]:
+    """A subclass of `cls` in whose methods these global names stand for these objects.
+
+    Every method of `cls`, or of a class it inherits from, that reads one of the names as a global is
+    made anew over a copy of its module's names. Nothing else of the library changes, and other users
+    of `cls` are left as they are. Raises TypeError where a name is read by no method: then the
+    library has changed, and nothing would be guarded.
+    """
+    methods: Dict[str, object] = {}
+    read: Set[str] = set()
+    for owner in reversed(cls.__mro__[:-1]):
+        for word, member in vars(owner).items():
+            methods.pop(word, None)
+            function = _function_of(member)
+            if function is None:
+                continue
+            found = names.keys() & set(_names_read(function.__code__))
+            if found:
+                read |= found
+                methods[word] = _like(member, _over(function, names))
+    if read != names.keys():
+        missing = ", ".join(sorted(names.keys() - read))
+        raise TypeError(f"{cls.__module__}.{cls.__qualname__} does not use {missing} any more")
+    made: Dict[str, Any] = {"__module__": __name__, **methods}
+    return cast(Type[T], type(cls.__name__, (cls,), made))
+
+
+def _function_of(member: object) -> Optional[types.FunctionType]:
+    inner = member.__func__ if isinstance(member, (staticmethod, classmethod)) else member
+    return inner if isinstance(inner, types.FunctionType) else None
+
+
+def _names_read(code: types.CodeType) -> Iterator[str]:
+    """The names that a function reads, those of the functions within it too."""
+    yield from code.co_names
+    for constant in code.co_consts:
+        if isinstance(constant, types.CodeType):
+            yield from _names_read(constant)
+
+
+def _over(function: types.FunctionType, names: Mapping[str, object]) -> types.FunctionType:
+    made = types.FunctionType(
+        function.__code__,
+        {**function.__globals__, **names},
+        function.__name__,
+        function.__defaults__,
+        function.__closure__,
+    )
+    made.__kwdefaults__ = function.__kwdefaults__
+    made.__dict__.update(function.__dict__)
+    made.__doc__ = function.__doc__
+    made.__qualname__ = function.__qualname__
+    return made
+
+
+def _like(member: object, function: Callable[..., Any]) -> object:
+    if isinstance(member, (staticmethod, classmethod)):
+        return type(member)(function)
+    return function

@@ -1,0 +1,28 @@
+"""Bags of pickles in Dask, checked or loaded where they lie.
+
+    from storklocker.contrib.dask import check_bag, load_bag
+
+    bag = dask.bag.from_sequence(pairs)         # of a key and the bytes of a pickle
+    refused = check_bag(bag, guard).filter(lambda row: not row.accepted).compute()
+    values = load_bag(bag, guard)               # of a key and the value, or the refusal
+
+The guard travels to the workers, so its hook must be picklable. Nothing is dropped: each entry has
+its row.
+"""
+
+from __future__ import annotations
+
+from typing import Any
+
+from .. import Guard
+from ._rows import checked, loaded
+
+
+def check_bag(bag: Any, guard: Guard) -> Any:
+    """A bag of a `Row` for each pair of a key and a pickle: accepted or not, and why."""
+    return bag.map_partitions(checked, guard)
+
+
+def load_bag(bag: Any, guard: Guard) -> Any:
+    """A bag of a `Row` for each pair, with the value that was loaded where it was accepted."""
+    return bag.map_partitions(loaded, guard)

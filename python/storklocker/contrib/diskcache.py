@@ -1,0 +1,22 @@
+"""diskcache's disk behind a guard: values, in rows and in files, and keys.
+
+    from storklocker.contrib import diskcache as guarded
+
+    cache = diskcache.Cache("cache", disk=guarded.disk(guard))
+    value = cache["key"]        # Refused where the guard refuses it
+"""
+
+from __future__ import annotations
+
+from typing import Any, Type
+
+from .. import Guard
+from ._loading import Loader
+from ._rebinding import rebound
+
+
+def disk(guard: Guard) -> Type[Any]:
+    """The class that `diskcache.Cache` takes as `disk`."""
+    from diskcache.core import Disk
+
+    return rebound(Disk, {"pickle": Loader(guard)})

@@ -1,0 +1,127 @@
+"""Django's cache backends behind a guard: in memory, in files, in a database and in Redis.
+
+    CACHES = {"default": {
+        "BACKEND": "storklocker.contrib.django.FileBasedCache",
+        "LOCATION": "/var/cache/project",
+        "OPTIONS": {"GUARD": "project.pickles.guard"},
+    }}
+
+`GUARD` is a `Guard`, or the dotted name of one. What the guard refuses is a miss: `get` gives its
+default, `incr` raises ValueError, `touch` and `has_key` answer False. With `"FORGET": True` a
+refused entry is deleted too. The pickle that stands in front of a file's value, its expiry, goes
+through the guard like the value.
+"""
+
+from __future__ import annotations
+
+import zlib
+from typing import Any, Dict, Iterable, Tuple, Type
+
+from .. import Guard
+from ._loading import Loader, Unloadable
+from ._rebinding import rebound
+
+
+def LocMemCache(location: str, params: Dict[str, Any]) -> Any:
+    """Django's `LocMemCache`."""
+    from django.core.cache.backends import locmem
+
+    return _made(locmem.LocMemCache, location, params)
+
+
+def FileBasedCache(location: str, params: Dict[str, Any]) -> Any:
+    """Django's `FileBasedCache`."""
+    from django.core.cache.backends import filebased
+
+    return _made(filebased.FileBasedCache, location, params, _FileLoader)
+
+
+def DatabaseCache(location: str, params: Dict[str, Any]) -> Any:
+    """Django's `DatabaseCache`."""
+    from django.core.cache.backends import db
+
+    return _made(db.DatabaseCache, location, params)
+
+
+def RedisCache(location: Any, params: Dict[str, Any]) -> Any:
+    """`RedisCache` of django-redis."""
+    from django_redis.cache import RedisCache as Plain
+
+    guard, forget, params = _settings_of(params)
+    params["OPTIONS"] = {**params["OPTIONS"], "SERIALIZER": f"{__name__}._RedisSerializer", "GUARD": guard}
+    return _missing(Plain, guard, forget)(location, params)
+
+
+class _RedisSerializer:
+    """What django-redis takes as `SERIALIZER`."""
+
+    def __init__(self, options: Dict[str, Any]) -> None:
+        guard: Guard = options["GUARD"]
+        self.dumps = guard.dumps
+        self.loads = Loader(guard).loads
+
+
+class _FileLoader(Loader):
+    """What files hold: in front of the value stands its expiry, a time or None."""
+
+    def load(self, file: Any, **words: Any) -> Any:
+        expiry = super().load(file, **words)
+        if expiry is None or isinstance(expiry, (int, float)):
+            return expiry
+        raise Unloadable("the expiry is no time")
+
+
+def _made(
+    plain: Type[Any], location: str, params: Dict[str, Any], loader: Type[Loader] = Loader
+) -> Any:
+    guard, forget, params = _settings_of(params)
+    kind = rebound(plain, {"pickle": loader(guard)})
+    return _missing(kind, guard, forget)(location, params)
+
+
+def _settings_of(params: Dict[str, Any]) -> Tuple[Guard, bool, Dict[str, Any]]:
+    options = dict(params.get("OPTIONS", {}))
+    guard, forget = options.pop("GUARD", None), bool(options.pop("FORGET", False))
+    if isinstance(guard, str):
+        from django.utils.module_loading import import_string
+
+        guard = import_string(guard)
+    if not isinstance(guard, Guard):
+        raise TypeError('OPTIONS["GUARD"] is a storklocker.Guard, or the dotted name of one')
+    return guard, forget, {**params, "OPTIONS": options}
+
+
+def _missing(plain: Type[Any], guard: Guard, forget: bool) -> Type[Any]:
+    """The backend, where a refused entry is one that is not there."""
+
+    class Cache(plain):  # type: ignore[misc]
+        def _or(self, otherwise: Any, name: str, key: Any, *given: Any, **named: Any) -> Any:
+            try:
+                return getattr(super(), name)(key, *given, **named)
+            except (guard.UnpicklingError, zlib.error):
+                if forget:
+                    self.delete(key, version=named.get("version"))
+                return otherwise
+
+        def get(self, key: Any, default: Any = None, version: Any = None, **more: Any) -> Any:
+            return self._or(default, "get", key, default, version=version, **more)
+
+        def touch(self, key: Any, *given: Any, **named: Any) -> Any:
+            return self._or(False, "touch", key, *given, **named)
+
+        def has_key(self, key: Any, *given: Any, **named: Any) -> Any:
+            return self._or(False, "has_key", key, *given, **named)
+
+        def incr(self, key: Any, delta: int = 1, version: Any = None, **more: Any) -> Any:
+            value = self._or(None, "incr", key, delta, version=version, **more)
+            if value is None:
+                raise ValueError(f"Key {key!r} not found")
+            return value
+
+        def get_many(self, keys: Iterable[Any], version: Any = None, **more: Any) -> Any:
+            missing = object()
+            found = ((key, self.get(key, missing, version=version)) for key in keys)
+            return {key: value for key, value in found if value is not missing}
+
+    Cache.__name__ = Cache.__qualname__ = plain.__name__
+    return Cache

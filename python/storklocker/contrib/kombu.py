@@ -1,0 +1,57 @@
+"""Kombu's and Celery's content type `pickle` behind a guard.
+
+    from storklocker.contrib.kombu import register
+
+    app = Celery("project", ...)
+    app.conf.update(task_serializer="pickle", accept_content=["pickle"])
+    register(guard, app)
+
+Messages and results of the type `application/x-python-serialize` are loaded by the guard from then
+on, in workers, in clients and in result backends. With a Celery application a refused message is
+rejected and not put back, its body is not logged, and the guard's hook gets the task's name and id.
+"""
+
+from __future__ import annotations
+
+import functools
+from typing import Any, Callable, Optional
+
+from .. import Guard
+from ._loading import Loader
+
+CONTENT_TYPE = "application/x-python-serialize"
+
+
+def register(guard: Guard, app: Optional[Any] = None) -> None:
+    """Puts the guard in the place of kombu's own pickle codec, and in front of the tasks of `app`."""
+    from kombu import serialization
+
+    loader = Loader(guard)
+
+    def decode(data: Any) -> Any:
+        return loader.loads(data.encode() if isinstance(data, str) else data)
+
+    serialization.register("pickle", guard.dumps, decode, CONTENT_TYPE, "binary")
+    if app is not None:
+        app.Task.Strategy = functools.partial(_strategy, guard)
+
+
+def _strategy(guard: Guard, task: Any, app: Any, consumer: Any, **named: Any) -> Callable[..., Any]:
+    """Celery's own way with a task's messages, which rejects those that the guard refuses."""
+    from celery.exceptions import InvalidTaskError
+    from celery.worker.strategy import default
+    from kombu.exceptions import DecodeError
+
+    handle = default(task, app, consumer, **named)
+
+    def handle_guarded(message: Any, *given: Any, **named: Any) -> Any:
+        headers = message.headers or {}
+        try:
+            with guard.context({"task": headers.get("task"), "id": headers.get("id")}):
+                return handle(message, *given, **named)
+        except DecodeError as error:
+            # (Celery logs the body of what it rejects)
+            message.body = b""
+            raise InvalidTaskError(f"the message was refused: {error}") from None
+
+    return handle_guarded

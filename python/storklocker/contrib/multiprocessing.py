@@ -1,0 +1,52 @@
+"""Connections and managers of `multiprocessing` behind a guard.
+
+    from storklocker.contrib import multiprocessing as guarded
+
+    listener = guarded.Listener(("localhost", 6000), guard, authkey=key)
+    connection = guarded.Client(("localhost", 6000), guard, authkey=key)
+
+    guarded.register(guard, "guarded")
+    Manager(address, authkey=key, serializer="guarded").connect()
+
+`recv` raises Refused where the guard refuses what came; the connection goes on behind it. A manager
+sends its own `multiprocessing.managers.Token`, which the list must have.
+"""
+
+from __future__ import annotations
+
+from multiprocessing import connection, managers
+from typing import Any
+
+from .. import Guard
+
+
+class Listener(connection.Listener):
+    """`multiprocessing.connection.Listener`, whose connections load through the guard."""
+
+    def __init__(self, address: Any, guard: Guard, **named: Any) -> None:
+        super().__init__(address, **named)
+        self._guard = guard
+
+    def accept(self) -> Any:
+        return _guarded(super().accept(), self._guard)
+
+
+def Client(address: Any, guard: Guard, **named: Any) -> Any:
+    """`multiprocessing.connection.Client`, whose connection loads through the guard."""
+    return _guarded(connection.Client(address, **named), guard)
+
+
+def register(guard: Guard, name: str) -> None:
+    """Makes `serializer=name` of managers a serializer behind the guard."""
+
+    def listener(address: Any = None, backlog: int = 1, authkey: Any = None) -> Any:
+        return Listener(address, guard, backlog=backlog, authkey=authkey)
+
+    def client(address: Any, authkey: Any = None) -> Any:
+        return Client(address, guard, authkey=authkey)
+
+    managers.listener_client[name] = (listener, client)  # type: ignore[attr-defined]
+
+
+def _guarded(plain: Any, guard: Guard) -> Any:
+    return connection.ConnectionWrapper(plain, guard.dumps, guard.loads)  # type: ignore[attr-defined]

@@ -1,0 +1,54 @@
+"""NumPy's files behind a guard.
+
+    from storklocker.contrib.numpy import load_npy, load_npz
+
+    array = load_npy("array.npy", guard)
+    arrays = load_npz("arrays.npz", guard)
+
+An array of objects is a pickle behind a header. The file is read once: what is checked is what is
+loaded. Arrays of numbers hold no pickle.
+"""
+
+from __future__ import annotations
+
+import io
+import zipfile
+from pathlib import Path
+from typing import Any, BinaryIO, Dict, Union
+
+from .. import Guard
+
+Source = Union[str, Path, BinaryIO]
+
+
+def load_npy(source: Source, guard: Guard) -> Any:
+    """The array of an `.npy` file. Raises Refused where its pickle is refused."""
+    return _array_of(bytes_of(source), guard)
+
+
+def load_npz(source: Source, guard: Guard) -> Dict[str, Any]:
+    """The arrays of an `.npz` file by their names. One that is refused refuses the file."""
+    with zipfile.ZipFile(io.BytesIO(bytes_of(source))) as archive:
+        names = archive.namelist()
+        if len(set(names)) != len(names):
+            raise guard.UnpicklingError("two members of the file have one name")
+        return {name[:-4]: _array_of(archive.read(name), guard) for name in names}
+
+
+def bytes_of(source: Source) -> bytes:
+    """All bytes of a file, by its name or opened."""
+    return Path(source).read_bytes() if isinstance(source, (str, Path)) else source.read()
+
+
+def _array_of(data: bytes, guard: Guard) -> Any:
+    import numpy
+    from numpy.lib import format as numpy_format
+
+    layout: Any = numpy_format
+    stream = io.BytesIO(data)
+    version = layout.read_magic(stream)
+    read = layout.read_array_header_1_0 if version == (1, 0) else layout.read_array_header_2_0
+    _, _, kind = read(stream)
+    if kind.hasobject:
+        return guard.load(stream)
+    return numpy.load(io.BytesIO(data), allow_pickle=False)

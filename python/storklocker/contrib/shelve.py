@@ -1,0 +1,29 @@
+"""A shelf whose values are checked before they are loaded.
+
+    from storklocker.contrib import shelve
+
+    with shelve.open("jobs", guard) as shelf:
+        shelf["a"]                  # Refused where the guard refuses it
+"""
+
+from __future__ import annotations
+
+import os
+import shelve as plain
+from typing import Any, Optional, Union
+
+from .. import Guard
+from ._rebinding import rebound
+
+
+def open(
+    path: Union[str, "os.PathLike[str]"],
+    guard: Guard,
+    *,
+    flag: Any = "c",
+    protocol: Optional[int] = None,
+    writeback: bool = False,
+) -> "plain.Shelf[Any]":
+    """`shelve.open`, where every value goes through the guard. Keys are texts and no pickles."""
+    shelf = rebound(plain.DbfilenameShelf, {"Unpickler": guard.Unpickler})
+    return shelf(os.fspath(path), flag, protocol, writeback)
