@@ -1,4 +1,4 @@
-"""What the tests of the adapters share: a guard, good values, hostile pickles, a Redis of their own."""
+"""What the tests of the adapters share: a guard, good values, hostile pickles, their own Redis."""
 
 import contextlib
 import datetime

@@ -18,7 +18,7 @@ Worker([Queue("jobs", connection=connection)], connection=connection).work(burst
 
 
 def run():
-    """The test: many jobs in one process, and some in a process each, as RQ's own worker does it."""
+    """The test: many jobs in one process, and some in a process each, as RQ's own worker does."""
     with tempfile.TemporaryDirectory() as folder, common.redis_server(folder) as port:
         for kind, count in (("SimpleWorker", common.GOOD), ("Worker", 20)):
             work(kind, count, port, Path(folder, kind))

@@ -11,9 +11,9 @@ T = TypeVar("T")
 def rebound(cls: Type[T], names: Mapping[str, object]) -> Type[T]:
     """A subclass of `cls` in whose methods these global names stand for these objects.
 
-    Every method of `cls`, or of a class it inherits from, that reads one of the names as a global is
-    made anew over a copy of its module's names. Nothing else of the library changes, and other users
-    of `cls` are left as they are. Raises TypeError where a name is read by no method: then the
+    Every method of `cls`, or of a class it inherits from, that reads one of the names as a global
+    is made anew over a copy of its module's names. Nothing else of the library changes, and other
+    users of `cls` are left as they are. Raises TypeError where no method reads a name: then the
     library has changed, and nothing would be guarded.
     """
     methods: Dict[str, object] = {}

@@ -48,7 +48,8 @@ def RedisCache(location: Any, params: Dict[str, Any]) -> Any:
     from django_redis.cache import RedisCache as Plain
 
     guard, forget, params = _settings_of(params)
-    params["OPTIONS"] = {**params["OPTIONS"], "SERIALIZER": f"{__name__}._RedisSerializer", "GUARD": guard}
+    serializer = f"{__name__}._RedisSerializer"
+    params["OPTIONS"] = {**params["OPTIONS"], "SERIALIZER": serializer, "GUARD": guard}
     return _missing(Plain, guard, forget)(location, params)
 
 

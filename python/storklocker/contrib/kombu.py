@@ -23,7 +23,7 @@ CONTENT_TYPE = "application/x-python-serialize"
 
 
 def register(guard: Guard, app: Optional[Any] = None) -> None:
-    """Puts the guard in the place of kombu's own pickle codec, and in front of the tasks of `app`."""
+    """Puts the guard in the place of kombu's pickle codec, and in front of the tasks of `app`."""
     from kombu import serialization
 
     loader = Loader(guard)

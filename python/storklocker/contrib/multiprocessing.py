@@ -49,4 +49,5 @@ def register(guard: Guard, name: str) -> None:
 
 
 def _guarded(plain: Any, guard: Guard) -> Any:
-    return connection.ConnectionWrapper(plain, guard.dumps, guard.loads)  # type: ignore[attr-defined]
+    wrapper: Any = getattr(connection, "ConnectionWrapper")
+    return wrapper(plain, guard.dumps, guard.loads)

@@ -24,9 +24,9 @@ class NameRefused(pickle.UnpicklingError):
 
 
 def serializer(guard: Guard) -> Type[Any]:
-    """The class that RQ takes as `serializer`: pickles go through the guard, and so does the name of
-    a job's function. A result that has the shape of a job (a text, anything, a tuple, a dict) is
-    judged as one.
+    """The class that RQ takes as `serializer`: pickles go through the guard, and so does the name
+    of a job's function. A result that has the shape of a job (a text, anything, a tuple, a dict)
+    is judged as one.
     """
     loader = Loader(guard)
 
