@@ -218,7 +218,7 @@ static PyObject *verdict_of(struct state *state, const struct storklocker_verdic
     }
     if (v->status == STORKLOCKER_USAGE) {
         Py_DECREF(pair);
-        PyErr_SetString(PyExc_NotImplementedError, "this library doesn't serve these settings");
+        PyErr_SetString(PyExc_NotImplementedError, "this build of the checker doesn't serve one_unpickler, numbers or large");
         return NULL;
     }
     int is_yes = v->status == STORKLOCKER_YES;

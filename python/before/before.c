@@ -1,4 +1,4 @@
-/* Until the archive has the calls of the new header: the old two, renamed. */
+/* Until the archive has these two calls. */
 #define PY_SSIZE_T_CLEAN
 #define Py_LIMITED_API 0x03080000
 #include <Python.h>
@@ -6,57 +6,13 @@
 
 #include "storklocker.h"
 
-struct old_settings { uint64_t counted, stack, memo, passed; uint32_t old_strings; };
-struct old_verdict { uint32_t status, reason, number, has_pair; uint64_t at, taken, imports, module_length, name_length; };
-uint32_t before_check_pairs(const struct storklocker_pair *, size_t, const struct old_settings *, const uint8_t *, size_t,
-    uint8_t *, size_t, struct old_verdict *);
-uint32_t before_check_list(const uint8_t *, size_t, const struct old_settings *, const uint8_t *, size_t, uint8_t *,
-    size_t, struct old_verdict *);
+uint32_t pkguard_check_list(const uint8_t *, size_t, const struct storklocker_settings *, const uint8_t *, size_t, uint8_t *,
+    size_t, struct storklocker_verdict *);
+uint32_t pkguard_read_list(const uint8_t *list, size_t n, uint8_t *room, size_t size, struct storklocker_settings *s,
+    uint64_t *wanted, struct storklocker_verdict *v);
+uint32_t pkguard_imports(const struct storklocker_settings *s, const uint8_t *d, size_t l, uint8_t *room, size_t size,
+    uint64_t *wanted, struct storklocker_verdict *v);
 
-static struct old_settings old_of(const struct storklocker_settings *s) {
-    return (struct old_settings){s->counted, s->stack, s->memo, s->passed, s->old_strings};
-}
-static void copy(struct storklocker_verdict *to, const struct old_verdict *from) {
-    memset(to, 0, sizeof *to);
-    memcpy(to, from, sizeof *from);
-    to->pickles = from->status == STORKLOCKER_YES;
-}
-uint32_t pkguard_check_pairs(const struct storklocker_pair *p, size_t n, const struct storklocker_settings *s,
-    const uint8_t *d, size_t l, uint8_t *room, size_t size, struct storklocker_verdict *v) {
-    struct old_settings o = old_of(s);
-    struct old_verdict w;
-    before_check_pairs(p, n, &o, d, l, room, size, &w);
-    copy(v, &w);
-    return v->status;
-}
-uint32_t pkguard_check_list(const uint8_t *p, size_t n, const struct storklocker_settings *s,
-    const uint8_t *d, size_t l, uint8_t *room, size_t size, struct storklocker_verdict *v) {
-    struct old_settings o = old_of(s);
-    struct old_verdict w;
-    before_check_list(p, n, &o, d, l, room, size, &w);
-    copy(v, &w);
-    return v->status;
-}
-uint32_t pkguard_check_row(const struct storklocker_pair *p, size_t n, const struct storklocker_settings *s,
-    const uint8_t *d, size_t l, uint8_t *room, size_t size, struct storklocker_verdict *v) {
-    uint64_t taken = 0, imports = 0, pickles = 0;
-    memset(v, 0, sizeof *v);
-    if (s->row_memo == STORKLOCKER_MEMO_KEPT) {
-        v->status = STORKLOCKER_USAGE;
-        return v->status;
-    }
-    do {
-        pkguard_check_pairs(p, n, s, d + taken, l - taken, room, size, v);
-        v->pickles += pickles;
-        if (v->status != STORKLOCKER_YES) {
-            v->at += taken;
-            return v->status;
-        }
-        taken += v->taken, imports += v->imports, pickles = v->pickles;
-    } while (taken < l);
-    v->taken = taken, v->imports = imports;
-    return v->status;
-}
 static void put(uint8_t **to, const char *text, Py_ssize_t length) {
     for (int k = 0; k < 8; k++)
         *(*to)++ = (uint8_t)((uint64_t)length >> (8 * k));

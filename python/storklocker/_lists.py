@@ -12,13 +12,25 @@ from . import _names
 from ._answers import LIST_FAULTS, Import, ListFault
 from ._storklocker import Limits as _Limits
 from ._storklocker import Pairs as _Pairs
-from ._storklocker import read_list
+from ._storklocker import check, read_list
 
 Pair = Tuple[str, str]
 _Numbers = Tuple[int, int, int, int, int, int]
 
 _UNBOUND = (1 << 32) - 1
 """The limit of memo numbers of a list file that has none."""
+
+
+def _standard_numbers() -> int:
+    """The package's limit of memo numbers, where this build of the checker has one."""
+    try:
+        check(b"N.", _Pairs((), (0, 2, 0, 0, 1_000_000, 0), False))
+    except NotImplementedError:
+        return _UNBOUND
+    return 1_000_000
+
+
+_NUMBERS = _standard_numbers()
 
 
 class Limits(_Limits):
@@ -42,7 +54,7 @@ class Limits(_Limits):
         stack: int = 1_000_000,
         memo: int = 1_000_000,
         passed: int = 16_777_216,
-        numbers: int = 1_000_000,
+        numbers: int = _NUMBERS,
         large: bool = False,
     ) -> "Limits":
         given = [operator.index(it) for it in (counted, stack, memo, passed, numbers)]

@@ -6,12 +6,15 @@ import os
 import pathlib
 import pickle
 import subprocess
+import sys
 
 import storklocker
 
 ROOT = pathlib.Path(__file__).resolve().parents[2]
-PACKAGE = ROOT / "python" / "storklocker"
+PYTHON = ROOT / "python"
+PACKAGE = PYTHON / "storklocker"
 GUARD = ROOT / "crates" / "pkguard"
+ARCHIVE = os.environ.get("STORKLOCKER_ARCHIVE", str(GUARD / "out" / "libpkguard.a"))
 PROGRAM = os.environ.get("PKTOOL", str(ROOT / "pktool"))
 COMPILER = os.environ.get("CC", "cc")
 
@@ -43,7 +46,32 @@ def compiled(folder, source, *more):
     return str(made)
 
 
-def toolchain():
-    """The folder of the toolchain."""
-    said = subprocess.run(["rt", "doc"], check=True, capture_output=True, text=True)
-    return pathlib.Path(said.stdout.strip()).parent
+def python(code, *words, **environment):
+    """What a fresh interpreter prints that runs some code."""
+    path = os.pathsep.join([str(PYTHON), str(pathlib.Path(__file__).parent)])
+    ran = subprocess.run(
+        [sys.executable, *words, "-c", code],
+        capture_output=True, text=True, env={**os.environ, "PYTHONPATH": path, **environment},
+    )
+    assert ran.returncode == 0, ran.stderr
+    return ran.stdout
+
+
+def is_served(call=storklocker.check_row, *words, **named):
+    """Whether this build of the checker can do what a call asks for."""
+    try:
+        call(b"N.", *(words or (BY_PAIRS,)), **named)
+    except NotImplementedError:
+        return False
+    return True
+
+
+def wants(served):
+    """Leaves a test out where the checker can't do what it asks for yet."""
+    return (lambda test: test) if served else (lambda test: None)
+
+
+KEEPS_MEMO = is_served(one_unpickler=True)
+HAS_NUMBERS = is_served(limits=storklocker.Limits(numbers=5))
+HAS_IMPORTS = is_served(lambda data, _: storklocker.imports(data))
+IS_LARGE = is_served(limits=storklocker.Limits(large=True))

@@ -1,0 +1,46 @@
+"""Puts the extension module, which `make` compiles, into the package."""
+
+import os
+import pathlib
+import shutil
+import subprocess
+import sysconfig
+
+from setuptools import Extension, setup
+from setuptools.command.build_ext import build_ext
+
+HERE = pathlib.Path(__file__).resolve().parent
+ARCHIVE = HERE.parent / "crates" / "pkguard" / "out" / "libpkguard.a"
+
+
+def words():
+    """How `make` comes to the archive of the checker."""
+    named = os.environ.get("STORKLOCKER_ARCHIVE")
+    if named:
+        return ["--archive", named]
+    if ARCHIVE.exists():
+        return ["--archive", str(ARCHIVE)]
+    if shutil.which("rt"):
+        return []
+    raise SystemExit(
+        f"storklocker: {ARCHIVE} isn't there, and no rt is on the path to prove and build it.\n"
+        "Install a released wheel, or name a libpkguard.a in STORKLOCKER_ARCHIVE."
+    )
+
+
+class Make(build_ext):
+    """Compiles by `make`, whose flags are those of the released wheels."""
+
+    def build_extension(self, ext):
+        out = pathlib.Path(self.get_ext_fullpath(ext.name)).parent
+        include = sysconfig.get_path("include")
+        command = [str(HERE / "make"), *words(), "--include", include, "--out", str(out.resolve())]
+        if subprocess.run(command).returncode != 0:
+            raise SystemExit("storklocker: the extension module could not be made")
+
+
+setup(
+    ext_modules=[Extension("storklocker._storklocker", [], py_limited_api=True)],
+    cmdclass={"build_ext": Make},
+    options={"bdist_wheel": {"py_limited_api": "cp38"}},
+)
