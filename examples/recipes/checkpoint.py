@@ -1,40 +1,88 @@
-"""Writes a file laid out as PyTorch's checkpoints are, without PyTorch: a zip with the pickle `NAME/data.pkl`."""
+"""Checks a PyTorch checkpoint with pktool, and copies what was checked for torch.load to open.
 
-import pickle
+Readers of zip files disagree about crafted ones: what one takes for the pickle, another may not
+see. So torch never opens MODEL. CHECKED is written anew, with the pickle that was checked and every
+other member once.
+
+Prints the verdict. The status is 0 where CHECKED was written, 1 where MODEL is refused, 2 where a
+file could not be read or written. PKTOOL names the program, else it is on the path.
+"""
+
+import argparse
+import os
+import shutil
+import subprocess
 import sys
-import types
 import zipfile
-from collections import OrderedDict
+from pathlib import Path
+from typing import List
 
 
-def named(module, name):
-    """Something that is pickled by these names."""
-    made = types.FunctionType((lambda *_: None).__code__, {}, name)
-    made.__module__, made.__qualname__ = module, name
-    for part in (module.partition(".")[0], module):
-        sys.modules.setdefault(part, types.ModuleType(part))
-    setattr(sys.modules[module], name, made)
-    return made
+class Refused(Exception):
+    """Why a checkpoint is refused."""
 
 
-class Tensor:
-    def __reduce__(self):
-        arguments = (Storage(), 0, (2, 3), (3, 1), False, OrderedDict())
-        return (named("torch._utils", "_rebuild_tensor_v2"), arguments)
+def pickle_of(members: List[zipfile.ZipInfo], size: int) -> zipfile.ZipInfo:
+    """The one pickle of a checkpoint, whose file has this size."""
+    names = {member.filename.casefold() for member in members}
+    pickles = [member for member in members if member.filename.casefold().endswith(".pkl")]
+    if len(names) != len(members):
+        raise Refused("two members have one name")
+    if len(pickles) != 1:
+        raise Refused(f"one pickle is wanted, and there are {len(pickles)}")
+    if pickles[0].filename != members[0].filename.split("/")[0] + "/data.pkl":
+        raise Refused("the pickle is not data.pkl of the checkpoint's folder")
+    if any(member.compress_type != zipfile.ZIP_STORED for member in members):
+        raise Refused("a member is compressed")
+    if sum(member.file_size for member in members) > size:
+        raise Refused("members overlap")
+    return pickles[0]
 
 
-class Storage:
-    pass
+def check(allow: Path, data: bytes) -> None:
+    """Has pktool check a pickle, and prints what it says."""
+    command = [os.environ.get("PKTOOL", "pktool"), "check", "--allow", str(allow), "/dev/stdin"]
+    ended = subprocess.run(command, input=data, stdout=subprocess.PIPE)
+    verdict = ended.stdout.decode().rstrip("\n")
+    if ended.returncode == 1:
+        raise Refused(verdict)
+    if ended.returncode != 0 or not verdict.startswith("yes: "):
+        raise OSError(f"{command[0]} ended with status {ended.returncode}")
+    print(verdict)
 
 
-class Pickler(pickle.Pickler):
-    def persistent_id(self, thing):
-        if isinstance(thing, Storage):
-            return ("storage", named("torch", "FloatStorage"), "0", "cpu", 6)
-        return None
+def copy_checked(allow: Path, model: Path, checked: Path) -> None:
+    """Writes `checked`, which must not be there, where the pickle of `model` is accepted."""
+    with model.open("rb") as file, zipfile.ZipFile(file) as source:
+        members = source.infolist()
+        pickle = pickle_of(members, os.fstat(file.fileno()).st_size)
+        data = source.read(pickle)
+        check(allow, data)
+        with checked.open("xb") as made, zipfile.ZipFile(made, "w") as target:
+            for member in members:
+                if member is pickle:
+                    target.writestr(member.filename, data)
+                    continue
+                with source.open(member) as opened, target.open(member.filename, "w") as copied:
+                    shutil.copyfileobj(opened, copied)
 
 
-with zipfile.ZipFile(sys.argv[1], "w") as archive:
-    with archive.open("model/data.pkl", "w") as file:
-        Pickler(file, 2).dump(OrderedDict(weight=Tensor()))
-    archive.writestr("model/data/0", bytes(24))
+def main() -> int:
+    parser = argparse.ArgumentParser(description=(__doc__ or "").splitlines()[0])
+    parser.add_argument("--allow", metavar="LIST", type=Path, required=True)
+    parser.add_argument("model", metavar="MODEL", type=Path)
+    parser.add_argument("checked", metavar="CHECKED", type=Path)
+    words = parser.parse_args()
+    try:
+        copy_checked(words.allow, words.model, words.checked)
+    except OSError as error:
+        print(f"checkpoint: {error}", file=sys.stderr)
+        return 2
+    except (Refused, zipfile.BadZipFile, ValueError, RuntimeError, EOFError) as error:
+        print(f"refused: {error}")
+        return 1
+    return 0
+
+
+if __name__ == "__main__":
+    sys.exit(main())

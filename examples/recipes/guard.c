@@ -1,10 +1,11 @@
-/* Checks a file from C: cc -I../../python/storklocker guard.c -L../../python/storklocker -lstorklocker */
+/* Checks a file from C, and prints as pktool does: guard FILE. The file `guard` compiles it. */
+#include <inttypes.h>
 #include <stdio.h>
 #include <stdlib.h>
 
 #include "storklocker.h"
 
-#define BYTES(text) (const uint8_t *)text, sizeof text - 1
+#define BYTES(text) (const uint8_t *)(text), sizeof(text) - 1
 
 /* in order, by module and then by name */
 static const struct storklocker_pair permitted[] = {
@@ -13,26 +14,84 @@ static const struct storklocker_pair permitted[] = {
 };
 static const struct storklocker_settings standard = STORKLOCKER_STANDARD;
 
+/* All bytes of a file, to be freed, or null where it can't be read or memory is short. */
+static uint8_t *read_all(FILE *file, size_t *length) {
+    size_t room = 1 << 16;
+    uint8_t *bytes = malloc(room);
+    for (*length = 0; bytes != NULL;) {
+        *length += fread(bytes + *length, 1, room - *length, file);
+        if (*length < room)
+            break;
+        uint8_t *more = room <= PTRDIFF_MAX / 2 ? realloc(bytes, room *= 2) : NULL;
+        if (more == NULL)
+            free(bytes);
+        bytes = more;
+    }
+    if (bytes != NULL && ferror(file)) {
+        free(bytes);
+        bytes = NULL;
+    }
+    return bytes;
+}
+
+static uint32_t check(const uint8_t *pickle, size_t length, uint8_t *room, size_t size,
+    struct storklocker_verdict *verdict) {
+    return storklocker_check_pairs(permitted, sizeof permitted / sizeof *permitted, &standard,
+        pickle, length, room, size, verdict);
+}
+
+/* A name is the stranger's: what isn't printable ASCII must not reach a terminal or a log. */
+static void print_quoted(const uint8_t *name, uint64_t length) {
+    putchar('"');
+    for (uint64_t i = 0; i < length; i++)
+        if (name[i] < ' ' || name[i] > '~' || name[i] == '"' || name[i] == '\\')
+            printf("\\x%02x", name[i]);
+        else
+            putchar(name[i]);
+    putchar('"');
+}
+
+/* The pair of a refusal. Its lengths are known from the first call, and a second one writes it. */
+static void print_pair(
+    const uint8_t *pickle, size_t length, const struct storklocker_verdict *verdict) {
+    size_t size = verdict->module_length + verdict->name_length;
+    struct storklocker_verdict again;
+    uint8_t *names = malloc(size + 1);
+    if (names != NULL && check(pickle, length, names, size, &again) == STORKLOCKER_NO
+        && again.has_pair) {
+        putchar(' ');
+        print_quoted(names, again.module_length);
+        putchar(' ');
+        print_quoted(names + again.module_length, again.name_length);
+    }
+    free(names);
+}
+
 int main(int count, char **words) {
-    static uint8_t pickle[1 << 20];
-    uint8_t names[256];
+    size_t length;
+    uint8_t none[1];
     struct storklocker_verdict verdict;
-    FILE *file = count == 2 ? fopen(words[1], "rb") : NULL;
-    if (file == NULL)
+    if (count != 2) {
+        fputs("usage: guard FILE\n", stderr);
         return 2;
-    size_t length = fread(pickle, 1, sizeof pickle, file);
+    }
+    FILE *file = fopen(words[1], "rb");
+    uint8_t *pickle = file != NULL ? read_all(file, &length) : NULL;
+    if (pickle == NULL) {
+        perror("guard: cannot read the file");
+        return 2;
+    }
     fclose(file);
 
-    uint32_t status = storklocker_check_pairs(
-        permitted, 2, &standard, pickle, length, names, sizeof names, &verdict);
+    uint32_t status = check(pickle, length, none, 0, &verdict);
     if (status == STORKLOCKER_YES) {
-        printf("yes: %llu bytes\n", (unsigned long long)verdict.taken);
-        return 0;
+        printf("yes: %" PRIu64 " bytes\n", verdict.taken);
+    } else {
+        printf("no at %" PRIu64 ": reason %" PRIu32, verdict.at, verdict.reason);
+        if (verdict.has_pair)
+            print_pair(pickle, length, &verdict);
+        printf("\n");
     }
-    printf("no at %llu: reason %u", (unsigned long long)verdict.at, verdict.reason);
-    if (verdict.has_pair && verdict.module_length + verdict.name_length <= sizeof names)
-        printf(", %.*s.%.*s", (int)verdict.module_length, names, (int)verdict.name_length,
-            names + verdict.module_length);
-    printf("\n");
-    return 1;
+    free(pickle);
+    return status == STORKLOCKER_YES ? 0 : 1;
 }

@@ -3,30 +3,35 @@
 On a cluster: ship the package with `--py-files`, then `rows.rdd.mapPartitions(loaded)`.
 """
 
+import datetime
 import pickle
+from typing import Any, Iterable, Iterator, Optional, Tuple
 
 PAIRS = [("collections", "OrderedDict"), ("datetime", "date")]
 
 
-def loaded(partition):
+def loaded(partition: Iterable[Tuple[Any, Any]]) -> Iterator[Tuple[Any, Any, Optional[str]]]:
     """Each row's pickle, loaded or with the reason why not. The list is made once a partition."""
-    import storklocker
+    import storklocker  # on the executor
 
     allow = storklocker.AllowList(PAIRS)
     for key, data in partition:
         try:
             yield key, storklocker.loads(data, allow), None
-        except (storklocker.Refused, storklocker.MoreBytes) as error:
-            yield key, None, str(error)
+        except (storklocker.Refused, storklocker.MoreBytes) as refusal:
+            yield key, None, str(refusal)
+        except Exception as error:  # no bytes at all, or what an accepted pickle calls raises
+            yield key, None, type(error).__name__
 
 
 if __name__ == "__main__":
-    import datetime
-
-    partition = [
+    rows = [
         (1, pickle.dumps(datetime.date(2026, 1, 2), 4)),
         (2, b"cbuiltins\neval\n(S'1'\ntR."),
         (3, bytearray(pickle.dumps([1, 2], 4)[:-1])),
+        (4, b"N)R."),
+        (5, None),
+        (6, pickle.dumps([1, 2], 4)),
     ]
-    for row in loaded(iter(partition)):
+    for row in loaded(rows):
         print(row)
