@@ -1,0 +1,183 @@
+#!/usr/bin/env python3
+"""Checks the documents: length, links, files that they name, counts, and the examples in them.
+
+Every example runs: blocks of `console` in a shell, blocks of `pycon` in one session for each
+document, blocks of `python` alone. What they print has to stand below them. The last line counts.
+"""
+
+import argparse
+import pickletools
+import re
+import sys
+from pathlib import Path
+from typing import Callable, Dict, Iterator, List, NamedTuple, Tuple
+
+import worked
+
+ROOT = Path(__file__).resolve().parent.parent
+LONGEST_LINE = 100
+MOST_WORDS = 12_000
+UNCOUNTED = {"docs/THEOREM.md", "CHANGELOG.md"}
+UNREAD = {"out", "target", "node_modules"}
+
+
+class Document(NamedTuple):
+    name: str
+    text: str
+
+
+class Fault(NamedTuple):
+    document: str
+    line: int
+    what: str
+
+    def __str__(self) -> str:
+        return f"{self.document}:{self.line}: {self.what}"
+
+
+def documents() -> List[Document]:
+    """Every document of the repository."""
+    found = []
+    for path in sorted(ROOT.rglob("*.md")):
+        name = path.relative_to(ROOT)
+        if not any(part in UNREAD or part.startswith(".") for part in name.parts):
+            found.append(Document(name.as_posix(), path.read_text(encoding="utf-8")))
+    return found
+
+
+def found_in(document: Document, pattern: str) -> Iterator[Tuple[int, "re.Match[str]"]]:
+    """Where a pattern stands in the text of a document, outside its examples."""
+    blocks = re.compile(r"(?ms)^ *```.*?^ *```$")
+    prose = blocks.sub(lambda block: "\n" * block[0].count("\n"), document.text)
+    for match in re.finditer(pattern, prose):
+        yield prose.count("\n", 0, match.start()) + 1, match
+
+
+def long_lines(document: Document) -> Iterator[Fault]:
+    for number, line in enumerate(document.text.splitlines(), 1):
+        if len(line) > LONGEST_LINE:
+            yield Fault(document.name, number, f"a line of {len(line)} characters")
+
+
+def headings_of(path: Path) -> List[str]:
+    """The headings of a document, as a link names them."""
+    lines = re.findall(r"(?m)^#+ (.*)$", path.read_text(encoding="utf-8"))
+    return [re.sub(r"[^\w\- ]", "", line.lower()).replace(" ", "-") for line in lines]
+
+
+def dead_links(document: Document) -> Iterator[Fault]:
+    """Links to files that aren't there, and to headings that no document has."""
+    here = ROOT / document.name
+    for line, match in found_in(document, r"\]\(([^)\s]+)\)"):
+        if re.match(r"[a-z]+:", match[1]):
+            continue
+        file, _, heading = match[1].partition("#")
+        target = here.parent / file if file else here
+        if not target.exists():
+            yield Fault(document.name, line, f"{match[1]} leads nowhere")
+        elif heading and heading not in headings_of(target):
+            yield Fault(document.name, line, f"no heading is {match[1]}")
+
+
+def missing_files(document: Document) -> Iterator[Fault]:
+    """Files that a document names and the repository doesn't have."""
+    for line, match in found_in(document, r"`([\w./-]+\.(?:antt|rt|py|edit|toml|pickle|stdout))`"):
+        name = match[1]
+        near = [ROOT / name, ROOT / "crates" / name, (ROOT / document.name).parent / name]
+        if not any(path.exists() for path in near) and not any(ROOT.glob("*/**/" + name)):
+            yield Fault(document.name, line, f"there is no file {name}")
+
+
+def lines_of(file: str, pattern: str) -> int:
+    """How many lines of a file match."""
+    return len(re.findall(pattern, (ROOT / file).read_text(encoding="utf-8"), re.MULTILINE))
+
+
+def files_like(pattern: str) -> int:
+    """How many files have such a name."""
+    return len(list(ROOT.glob(pattern)))
+
+
+# What a document may count, and how many there are.
+COUNTS: Dict[str, Callable[[], int]] = {
+    "opcodes": lambda: len(pickletools.opcodes),
+    "reasons": lambda: lines_of("crates/pkread/src/refusal.rt", r"^    [A-Z]\w*(?:\(u\d+\))?,$"),
+    "crates": lambda: lines_of("crates.txt", r"^\w.*:"),
+    "recipes": lambda: files_like("examples/recipes/*.stdout"),
+    "edits that must fail": lambda: files_like("crates/*/must-fail/*.edit"),
+}
+WORDS = "one two three four five six seven eight nine ten eleven twelve".split()
+
+
+def wrong_counts(document: Document) -> Iterator[Fault]:
+    """Counts that aren't those of the repository. `more than 100` is right where there are more."""
+    number = "[0-9][0-9,]*|" + "|".join(WORDS)
+    pattern = rf"(?i)\b(more than )?\b({number})\s+({'|'.join(COUNTS)})\b"
+    for line, match in found_in(document, pattern):
+        word = match[2].lower()
+        told = WORDS.index(word) + 1 if word in WORDS else int(word.replace(",", ""))
+        actual = COUNTS[re.sub(r"\s+", " ", match[3].lower())]()
+        few = word in WORDS[:3]  # of some of them, as in "three reasons come last"
+        if not few and (told > actual if match[1] else told != actual):
+            yield Fault(document.name, line, f"{match[0]!r}, and there are {actual}")
+
+
+def wrong_rows(document: Document) -> Iterator[Fault]:
+    """Rows of a table of opcodes that differ from CPython's."""
+    rows = {}
+    for line, match in found_in(document, r"(?m)^\| (\w+) \| `(..)` \| (\w+) \| (\d) \|"):
+        rows[match[1]] = line, (match[2], match[3], int(match[4]))
+    for opcode in pickletools.opcodes if rows else []:
+        kind = opcode.arg.name if opcode.arg else "none"
+        wanted = (f"{ord(opcode.code):02x}", kind, opcode.proto)
+        line, told = rows.pop(opcode.name, (1, None))
+        if told != wanted:
+            yield Fault(document.name, line, f"{opcode.name} is {wanted} in CPython, not {told}")
+    for name, (line, _) in rows.items():
+        yield Fault(document.name, line, f"CPython has no opcode {name}")
+
+
+def wrong_versions(document: Document) -> Iterator[Fault]:
+    """Versions of the project other than that of the package."""
+    package = (ROOT / "python/pyproject.toml").read_text(encoding="utf-8")
+    version = re.search(r'(?m)^version = "(.*)"$', package)
+    for line, match in found_in(document, r"\b0\.\d+\.\d+\b"):
+        if version and document.name not in UNCOUNTED and match[0] != version[1]:
+            yield Fault(document.name, line, f"version {match[0]}, and the package is {version[1]}")
+
+
+def too_many_words(found: List[Document]) -> Iterator[Fault]:
+    texts = [document.text for document in found if document.name not in UNCOUNTED]
+    words = sum(len(re.findall(r"\S*\w\S*", text)) for text in texts)
+    print(f"{words} words in {len(texts)} documents")
+    if words > MOST_WORDS:
+        yield Fault("all documents", 0, f"{words} words, and {MOST_WORDS} are the most")
+
+
+CHECKS = [long_lines, dead_links, missing_files, wrong_counts, wrong_rows, wrong_versions]
+
+
+def main() -> int:
+    parser = argparse.ArgumentParser(description=(__doc__ or "").splitlines()[0])
+    parser.add_argument("--text", action="store_true", help="run no examples")
+    words = parser.parse_args()
+    found = documents()
+    passed = 0
+    faults = list(too_many_words(found))
+    for document in found:
+        for check in CHECKS:
+            wrong = list(check(document))
+            passed += not wrong
+            faults += wrong
+        if not words.text:
+            ran, mistaken = worked.examples(document.text)
+            passed += max(0, ran - len(mistaken))
+            faults += [Fault(document.name, line, what) for line, what in mistaken]
+    for fault in faults:
+        print(fault)
+    print(f"{passed} passed, {len(faults)} failed")
+    return 1 if faults else 0
+
+
+if __name__ == "__main__":
+    sys.exit(main())

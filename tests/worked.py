@@ -1,0 +1,124 @@
+"""Runs the examples of a document, and compares what they print with what stands below them."""
+
+import doctest
+import os
+import subprocess
+import sys
+from pathlib import Path
+from typing import Dict, Iterator, List, NamedTuple, Tuple
+
+ROOT = Path(__file__).resolve().parent.parent
+SECONDS = 120
+
+
+class Block(NamedTuple):
+    """A fenced block of a document."""
+
+    language: str
+    line: int
+    text: str
+
+
+def blocks_of(text: str) -> Iterator[Block]:
+    """The fenced blocks of a document, without the margin in which they stand."""
+    inside: List[str] = []
+    start, margin, language = 0, 0, ""
+    for number, line in enumerate(text.splitlines(), 1):
+        if not line.lstrip().startswith("```"):
+            inside.append(line[margin:])
+        elif start == 0:
+            margin = len(line) - len(line.lstrip())
+            start, language, inside = number, line.strip("` "), []
+        else:
+            yield Block(language, start + 1, "\n".join(inside) + "\n")
+            start = margin = 0
+
+
+def commands_of(block: Block) -> Iterator[Tuple[int, str, str]]:
+    """The commands of a block for the shell: the line of each, the command, and what it prints."""
+    parts = ("\n" + block.text).split("\n$ ")
+    line = block.line + parts[0].count("\n")
+    for part in parts[1:]:
+        command, _, printed = part.partition("\n")
+        yield line, command, printed.rstrip("\n")
+        line += part.count("\n") + 1
+
+
+def environment() -> Dict[str, str]:
+    """That of an example: the package is on Python's path."""
+    return {**os.environ, "PYTHONPATH": str(ROOT / "python"), "PYTHONDONTWRITEBYTECODE": "1"}
+
+
+def run(command: List[str], given: str = "") -> str:
+    """What a command at the top of the repository prints."""
+    try:
+        ended = subprocess.run(
+            command,
+            cwd=ROOT,
+            env=environment(),
+            input=given,
+            stdout=subprocess.PIPE,
+            stderr=subprocess.STDOUT,
+            encoding="utf-8",
+            errors="replace",
+            timeout=SECONDS,
+        )
+    except subprocess.TimeoutExpired:
+        return f"nothing within {SECONDS} seconds"
+    return ended.stdout.rstrip("\n")
+
+
+def faults_of_shell(block: Block) -> Iterator[Tuple[int, str]]:
+    """The commands whose output is another."""
+    for line, command, printed in commands_of(block):
+        told = run(["sh", "-c", command])
+        if told != printed:
+            yield line, f"{command} prints\n{told}"
+
+
+def session_of(blocks: List[Block]) -> str:
+    """One session of all blocks for Python, whose lines have the numbers of the document."""
+    lines: List[str] = []
+    for block in blocks:
+        lines += [""] * (block.line - 1 - len(lines)) + block.text.splitlines()
+    return "\n".join(lines) + "\n"
+
+
+def run_session() -> int:
+    """Runs the session on standard input. This is the process of the examples."""
+    test = doctest.DocTestParser().get_doctest(sys.stdin.read(), {}, "document", None, 0)
+    flags = doctest.NORMALIZE_WHITESPACE | doctest.REPORT_NDIFF
+    return doctest.DocTestRunner(verbose=False, optionflags=flags).run(test).failed
+
+
+def faults_of_python(blocks: List[Block]) -> Iterator[Tuple[int, str]]:
+    """What a session of a document's examples reports."""
+    if blocks:
+        told = run([sys.executable, __file__], session_of(blocks))
+        if told:
+            yield blocks[0].line, told
+
+
+def faults_of_program(block: Block) -> Iterator[Tuple[int, str]]:
+    """What Python says of a program that defines something."""
+    told = run([sys.executable, "-"], block.text)
+    if told:
+        yield block.line, told
+
+
+def examples(text: str) -> Tuple[int, List[Tuple[int, str]]]:
+    """How many blocks of a document ran, and what is wrong with them, each with its line."""
+    blocks = list(blocks_of(text))
+    sessions = [block for block in blocks if block.language == "pycon"]
+    shells = [block for block in blocks if block.language == "console"]
+    programs = [block for block in blocks if block.language == "python"]
+    faults = list(faults_of_python(sessions))
+    for block in shells:
+        faults += faults_of_shell(block)
+    for block in programs:
+        faults += faults_of_program(block)
+    return len(sessions) + len(shells) + len(programs), faults
+
+
+if __name__ == "__main__":
+    sys.exit(run_session())
