@@ -40,6 +40,9 @@ def commands_of(block: Block) -> Iterator[Tuple[int, str, str]]:
     line = block.line + parts[0].count("\n")
     for part in parts[1:]:
         command, _, printed = part.partition("\n")
+        while command.endswith("\\"):
+            more, _, printed = printed.partition("\n")
+            command += "\n" + more
         yield line, command, printed.rstrip("\n")
         line += part.count("\n") + 1
 
