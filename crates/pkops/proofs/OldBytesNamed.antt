@@ -1,5 +1,5 @@
 -- The bytes of an old string as a function are those that it names.
-use Rattle.std.proofs.Common.{MatchOption, ◌≡◌, ℕ, ◌-◌, true, suc, eqb, leb, List, [], ◌∷◌, ◌++◌, length, take, drop, get_or, Option, Some, None, refl, sym, ap, ◌∙◌, arith, inl, inr}
+use Rattle.std.proofs.Common.{MatchOption, ◌≡◌, ◌↔◌, ℕ, ◌-◌, true, suc, eqb, leb, List, [], ◌∷◌, ◌++◌, length, take, drop, get_or, Option, Some, None, refl, sym, ap, ◌∙◌, arith, inl, inr}
 use Rattle.std.specs.List.{flat_map}
 use Rattle.std.specs.Option.{option_map}
 use Rattle.std.proofs.lemmas.Bool.{and_parts, cases_Bool, eqb-true, eq-eqb, leb-true, le-leb}
@@ -65,3 +65,7 @@ back _ _ bytes e = absurd cc
 pub answered : {A : Type 0} (i : Instruction) (view : A → List ℕ) (bytes : Option A) → option_map view bytes ≡ old_bytes i → MatchOption bytes ((named : List ℕ) → NamesBytes i named → ⊥) (λ x. NamesBytes i (view x))
 answered i view None e = λ named h. let f = forth i.op i.arg named h in cc
 answered i view (Some x) e = back i.op i.arg (view x) (sym e)
+
+-- an instruction names the bytes that the function gives, and no other
+pub old_bytes_are_named : (i : Instruction) (bytes : List ℕ) → NamesBytes i bytes ↔ (old_bytes i ≡ Some bytes)
+old_bytes_are_named i bytes = (forth i.op i.arg bytes, back i.op i.arg bytes)

@@ -6,6 +6,7 @@ ghost use Rattle.pkops.specs.Answer.{Answer, Answers};
 ghost use Rattle.pkops.specs.Contents.{Keeps};
 ghost use Rattle.pkops.specs.Deciding.{passes};
 ghost use Rattle.pkops.specs.Growth.{BegunLaws, CountLaws, FieldLaws};
+ghost use Rattle.pkops.specs.OldBytes.{NamesBytes, old_bytes};
 ghost use Rattle.pkops.specs.Scanning.{Spells};
 ghost use Rattle.pkops.specs.Spelling.{Argument, Instruction};
 ghost use Rattle.pkops.specs.Table.{code_of};
@@ -52,4 +53,11 @@ pub fn rules_are_computed()
 #[inline]
 pub fn text_is_named()
     ensures { (i : Instruction) (text : List ℕ) → NamesText i text ↔ (text_bytes i ≡ Some text) }
+{}
+
+/// The bytes of an old string, as `old_bytes_of` answers them, are those that it names.
+#[inline]
+pub fn old_bytes_are_named()
+    ensures { (i : Instruction) (bytes : List ℕ) →
+        NamesBytes i bytes ↔ (old_bytes i ≡ Some bytes) }
 {}
