@@ -1,6 +1,6 @@
 -- A pickle without its frames and without the memo writes that nothing reads. The writes that stay
--- have the numbers
--- 0, 1, 2, .. in order, and each read has the new number of the write that it reads.
+-- have the numbers 0, 1, 2, .. in order, and each read has the new number of the write that it
+-- reads.
 use Rattle.std.specs.Prelude.{ℕ, Bool, true, false, cond, ltb, List, [], ◌∷◌, ◌++◌, length, Option, None, Some}
 use Rattle.std.specs.Fmt.{decimal}
 use Rattle.pkops.specs.declared.op.Op.{Op}

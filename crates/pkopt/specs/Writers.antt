@@ -6,8 +6,7 @@ use Rattle.pkcheck.specs.declared.machine.effects.Move.TheVariants.{Stores, Stor
 use Rattle.pkcheck.specs.Effects.{Effect, Moves, effect_of}
 
 -- the numbers of the memo writes so far, the last first. Writes are named by their order, 0, 1, 2,
--- ..: that of a
--- write is the number of writes before it
+-- ..: that of a write is the number of writes before it
 abbrev pub Writes : Type 0
 Writes = List ℕ
 

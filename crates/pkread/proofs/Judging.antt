@@ -129,21 +129,21 @@ refuses_of one limit t u old new m n r e s =
     let row : Row limit m n new u r = row_of limit m n new u r (subst (λ (c : List ℕ). RowBehind limit m n c new u r) (sym is) s.row) in
     record { taken = omega (arith, s.count_is, ap length is); fronts = s.fronts; row = row; alone = one_row one limit m n new u r row }
 
-pub refused_all : {A : Type 0} → OneAnswer → (limit t u : ℕ) (old new b : List ℕ) (m n : Sight) (r : Result A Reason) → old ≡ [] → b ≡ new → IfErr r (Stops limit old m t new n u) → IfErr r (λ reason. (bytes : List ℕ) × Refuses limit m n bytes t u reason × HoldsTaken reason bytes b)
-refused_all one limit t u old new b m n (Ok x) e f h = tt
-refused_all one limit t u old new b m n (Err x) e f h = (new, refuses_of one limit t u old new m n x e h, record { exact = λ _. f; within = omega (arith, ap length f) })
+pub refused_all : {A : Type 0} → OneAnswer → (limit t u : ℕ) (old new : List ℕ) (m n : Sight) (r : Result A Reason) → old ≡ [] → IfErr r (Stops limit old m t new n u) → IfErr r (λ reason. (bytes : List ℕ) × Refuses limit m n bytes t u reason × HoldsTaken reason bytes new)
+refused_all one limit t u old new m n (Ok x) e h = tt
+refused_all one limit t u old new m n (Err x) e h = (new, refuses_of one limit t u old new m n x e h, record { exact = λ _. refl; within = omega arith })
 
 -- what was found was gathered
-pub gathered_all : BegunLaws → (limit t u : ℕ) (old new b : List ℕ) (m n : Sight) (r : Result Found Reason) → old ≡ [] → b ≡ new → IfOk r (λ f. IsFound limit new f.op f.split) → IfOk r (λ _. (bytes : List ℕ) × Took bytes old m t new n u) → IfOk r (λ _. Gathers limit m n b t u)
-gathered_all laws limit t u old new b m n (Err x) e f h k = tt
-gathered_all laws limit t u old new b m n (Ok x) e f h k =
+pub gathered_all : BegunLaws → (limit t u : ℕ) (old new : List ℕ) (m n : Sight) (r : Result Found Reason) → old ≡ [] → IfOk r (λ f. IsFound limit new f.op f.split) → IfOk r (λ _. (bytes : List ℕ) × Took bytes old m t new n u) → IfOk r (λ _. Gathers limit m n new t u)
+gathered_all laws limit t u old new m n (Err x) e h k = tt
+gathered_all laws limit t u old new m n (Ok x) e h k =
     let took = k.1 in
     let is : new ≡ k.0 = took.held ∙ ap (λ (c : List ℕ). c ++ k.0) e in
-    rw f (record {
+    record {
       taken = omega (arith, took.count, ap length is);
       fronts = laws.whole limit x.op h.arg x.split new h.lies;
       source = rw is took.taken;
-    })
+    }
 
 -- bytes of which each shorter front begins an instruction are not many
 pub short : BegunLaws → (limit : ℕ) (b : List ℕ) → FrontsBegin limit b → length b ≤ longest limit
@@ -152,9 +152,9 @@ short laws limit (x ∷ b) f =
     let s = laws.short limit (take (length b) (x ∷ b)) (f (length b) (omega arith)) in
     omega (arith, s, length-take (length b) (x ∷ b))
 
-pub bounded : BegunLaws → (limit t u : ℕ) (old new b : List ℕ) (m n : Sight) (r : Result Found Reason) → b ≡ new → IfOk r (λ f. IsFound limit new f.op f.split) → IfErr r (Stops limit old m t new n u) → length b ≤ longest limit
-bounded laws limit t u old new b m n (Ok x) f h k = rw f (short laws limit new (laws.whole limit x.op h.arg x.split new h.lies))
-bounded laws limit t u old new b m n (Err x) f h k = rw f (short laws limit new k.fronts)
+pub bounded : BegunLaws → (limit t u : ℕ) (old new : List ℕ) (m n : Sight) (r : Result Found Reason) → IfOk r (λ f. IsFound limit new f.op f.split) → IfErr r (Stops limit old m t new n u) → length new ≤ longest limit
+bounded laws limit t u old new m n (Ok x) h k = short laws limit new (laws.whole limit x.op h.arg x.split new h.lies)
+bounded laws limit t u old new m n (Err x) h k = short laws limit new k.fronts
 
 -- as the lemmas on a reader's step take it
 abbrev pub found_gathered : (limit : ℕ) (b : List ℕ) (o : Op) (split : ℕ) → IsFound limit b o split → IsGathered limit b o

@@ -9,8 +9,7 @@ use Rattle.pkread.specs.declared.state.Phase as declared
 use Rattle.pkread.specs.declared.refusal.Refusal.{Refusal}
 
 -- how a reader goes on: with the next instruction, with nothing since it gave STOP, or with the
--- same refusal
--- for ever
+-- same refusal for ever
 pub data Phase : Type 0 where
   Open : Phase
   Ended : Phase
@@ -38,6 +37,12 @@ abbrev pub NoneIfClosed : Phase → List ℕ → Type 0
 NoneIfClosed Open ahead = ⊤
 NoneIfClosed Ended ahead = ahead ≡ []
 NoneIfClosed (Refused refusal) ahead = ahead ≡ []
+
+-- a reader that has given STOP has held bytes
+abbrev pub SomeIfEnded : Phase → ℕ → Type 0
+SomeIfEnded Open most = ⊤
+SomeIfEnded Ended most = 0 < most
+SomeIfEnded (Refused refusal) most = ⊤
 
 -- the buffer, the bytes taken ahead of the next instruction, the number of bytes taken but for
 -- these, the limits, and how the reader goes on

@@ -29,8 +29,7 @@ pub record PassesBy (limit : ℕ) (op : Op) (count : ℕ) (old new : Sight)
   pub taken : after ≡ before + length (spelling (instruction op (Counted payload)))
 
 -- the most bytes ever held rise to 131,075 at most, or to 9 and the count where the bytes taken
--- begin an
--- instruction with a counted argument that is not passed
+-- begin an instruction with a counted argument that is not passed
 abbrev pub HoldsFew : ℕ → List ℕ → ℕ → Type 0
 HoldsFew old bytes new =
     (new ≤ max old 131_075)

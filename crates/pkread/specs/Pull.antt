@@ -5,8 +5,7 @@ use Rattle.pkread.specs.declared.source.Memory.{Memory}
 use Rattle.pkread.specs.declared.source.Input.{Input}
 
 -- at `Ok(n)` the first n bytes of `to` are the next n, and n is 0 only at the end or with no room;
--- at
--- `Err` nothing is said
+-- at `Err` nothing is said
 abbrev pub Pulled : {E : Type 0} → Option (List ℕ) → Option (List ℕ) → Result ℕ E → List ℕ → Type 0
 Pulled old new result to =
     MatchResult result

@@ -6,6 +6,7 @@ use Rattle.pkops.specs.Limits.{Bounds}
 use Rattle.pkops.specs.Spelling.{Instruction, spelling}
 use Rattle.pkread.specs.Admission.{IsAllowed}
 use Rattle.pkread.specs.Core.{Phase, Open, Ended, Refused, CoreView, phase_after}
+use Rattle.pkread.specs.Held.{most_held}
 use Rattle.pkread.specs.Rows.{Sight, Takes, Refuses, sight, unread, all_bytes}
 use Rattle.pkread.specs.Sequence.{CountsAt}
 use Rattle.pkread.specs.declared.reader.Next.{Next}
@@ -39,7 +40,7 @@ state left failures r = record {
   source = unread r.core.ahead (sight left failures (source_of r));
   taken = r.core.taken;
   limits = r.core.limits;
-  most = r.core.held.most;
+  most = most_held r.core.held;
   phase = r.core.phase;
 }
 
@@ -107,8 +108,7 @@ GivesNext old new (next.Inst at inst) = Gives old at (instruction_of inst) new
 GivesNext old new next.Ended = ⊥
 
 -- a call goes by the phase: an open reader gives or refuses; after STOP and after a refusal it
--- answers
--- the same for ever, and nothing changes
+-- answers the same for ever, and nothing changes
 abbrev pub StepsFrom : Phase → State → Result Next Refusal → State → Type 0
 StepsFrom Open old result new = MatchResult result (GivesNext old new) (λ r. RefusesAt old r new)
 StepsFrom Ended old result new = (result ≡ Ok next.Ended) × (new ≡ old)

@@ -77,8 +77,7 @@ abbrev pub FrontsBegin : ℕ → List ℕ → Type 0
 FrontsBegin limit bytes = (k : ℕ) → k < length bytes → Begun limit (take k bytes)
 
 -- the bytes were taken before a refusal for this reason: no more than show it, and they show no
--- other
--- (want of memory aside, which may stand in place of any)
+-- other (want of memory aside, which may stand in place of any of them)
 pub record Refuses (limit : ℕ) (old new : Sight) (bytes : List ℕ) (before after : ℕ)
     (reason : Reason) : Type 0 where
   pub taken : after ≡ before + length bytes

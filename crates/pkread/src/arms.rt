@@ -31,7 +31,7 @@ pub(crate) fn one_byte<R: Source>(
     requires code { buffer.old.bytes ≡ code_of op ∷ [] }
     requires lay { layout_at op ≡ layout.U1 }
     requires plain { plain ≡ true → IsPlain op }
-    ensures most { buffer.new.most ≡ buffer.old.most }
+    ensures peak { buffer.new.peak ≡ buffer.old.peak }
     ensures ok { IfOk result (λ _. (limit : ℕ) → Finds limit op 0
         buffer.old.bytes (sight R.left R.failures source.old) taken.old
         buffer.new.bytes (sight R.left R.failures source.new) taken.new) }
@@ -59,7 +59,7 @@ pub(crate) fn fixed<R: Source, const N: usize>(
     requires some { 0 < N }
     requires few { N ≤ 8 }
     requires plain { plain ≡ true → IsPlain op }
-    ensures most { buffer.new.most ≡ buffer.old.most }
+    ensures peak { buffer.new.peak ≡ buffer.old.peak }
     ensures ok { IfOk result (λ _. (limit : ℕ) → Finds limit op 0
         buffer.old.bytes (sight R.left R.failures source.old) taken.old
         buffer.new.bytes (sight R.left R.failures source.new) taken.new) }
@@ -80,7 +80,7 @@ fn take_width<R: Source>(
     taken: &mut u64,
     width: Width,
 ) -> Result<(), Reason>
-    ensures most { buffer.new.most ≡ buffer.old.most }
+    ensures peak { buffer.new.peak ≡ buffer.old.peak }
     ensures ok { IfOk result (λ _. TookAll (size_of width)
         buffer.old.bytes (sight R.left R.failures source.old) taken.old
         buffer.new.bytes (sight R.left R.failures source.new) taken.new) }
@@ -111,7 +111,7 @@ pub(crate) fn take_count<R: Source>(
 ) -> Result<usize, Reason>
     requires code { buffer.old.bytes ≡ code_of op ∷ [] }
     requires lay { layout_at op ≡ layout.Counted width signed }
-    ensures most { buffer.new.most ≡ buffer.old.most }
+    ensures peak { buffer.new.peak ≡ buffer.old.peak }
     ensures few { length buffer.new.bytes ≤ 9 }
     ensures ok { IfOk result (λ n. Counts limit width signed n
         buffer.old.bytes (sight R.left R.failures source.old) taken.old
@@ -145,7 +145,7 @@ fn counted_apart<R: Source>(
 ) -> Result<(), Reason>
     requires code { buffer.old.bytes ≡ code_of op ∷ [] }
     requires lay { layout_at op ≡ layout.Counted width signed }
-    ensures most { buffer.new.most ≡ buffer.old.most }
+    ensures peak { buffer.new.peak ≡ buffer.old.peak }
     ensures ok { IfOk result (λ _. Finds limit op 0
         buffer.old.bytes (sight R.left R.failures source.old) taken.old
         buffer.new.bytes (sight R.left R.failures source.new) taken.new) }
@@ -180,7 +180,7 @@ pub(crate) fn counted<R: Source>(
 ) -> Result<(), Reason>
     requires code { buffer.old.bytes ≡ code_of op ∷ [] }
     requires lay { layout_at op ≡ layout.Counted width signed }
-    ensures most { buffer.new.most ≡ buffer.old.most }
+    ensures peak { buffer.new.peak ≡ buffer.old.peak }
     ensures ok { IfOk result (λ _. Finds limit op 0
         buffer.old.bytes (sight R.left R.failures source.old) taken.old
         buffer.new.bytes (sight R.left R.failures source.new) taken.new) }
@@ -203,7 +203,7 @@ fn one_line_apart<R: Source>(
 ) -> Result<(), Reason>
     requires code { buffer.old.bytes ≡ code_of op ∷ [] }
     requires lay { layout_at op ≡ layout.Line most }
-    ensures most { buffer.new.most ≡ buffer.old.most }
+    ensures peak { buffer.new.peak ≡ buffer.old.peak }
     ensures ok { IfOk result (λ _. (limit : ℕ) → Finds limit op 0
         buffer.old.bytes (sight R.left R.failures source.old) taken.old
         buffer.new.bytes (sight R.left R.failures source.new) taken.new) }
@@ -231,7 +231,7 @@ pub(crate) fn one_line<R: Source>(
 ) -> Result<(), Reason>
     requires code { buffer.old.bytes ≡ code_of op ∷ [] }
     requires lay { layout_at op ≡ layout.Line most }
-    ensures most { buffer.new.most ≡ buffer.old.most }
+    ensures peak { buffer.new.peak ≡ buffer.old.peak }
     ensures ok { IfOk result (λ _. (limit : ℕ) → Finds limit op 0
         buffer.old.bytes (sight R.left R.failures source.old) taken.old
         buffer.new.bytes (sight R.left R.failures source.new) taken.new) }
@@ -254,7 +254,7 @@ fn two_lines_apart<R: Source>(
 ) -> Result<usize, Reason>
     requires code { buffer.old.bytes ≡ code_of op ∷ [] }
     requires lay { layout_at op ≡ layout.Pair most }
-    ensures most { buffer.new.most ≡ buffer.old.most }
+    ensures peak { buffer.new.peak ≡ buffer.old.peak }
     ensures ok { IfOk result (λ split. (limit : ℕ) → Finds limit op split
         buffer.old.bytes (sight R.left R.failures source.old) taken.old
         buffer.new.bytes (sight R.left R.failures source.new) taken.new) }
@@ -281,7 +281,7 @@ pub(crate) fn two_lines<R: Source>(
 ) -> Result<usize, Reason>
     requires code { buffer.old.bytes ≡ code_of op ∷ [] }
     requires lay { layout_at op ≡ layout.Pair most }
-    ensures most { buffer.new.most ≡ buffer.old.most }
+    ensures peak { buffer.new.peak ≡ buffer.old.peak }
     ensures ok { IfOk result (λ split. (limit : ℕ) → Finds limit op split
         buffer.old.bytes (sight R.left R.failures source.old) taken.old
         buffer.new.bytes (sight R.left R.failures source.new) taken.new) }

@@ -20,7 +20,7 @@ pub(crate) fn take_block<R: Source>(
     left: usize,
 ) -> Result<usize, Reason>
     requires { 0 < left }
-    ensures most { buffer.new.most ≡ buffer.old.most }
+    ensures peak { buffer.new.peak ≡ buffer.old.peak }
     ensures ok { IfOk result (λ n. TookBlock left n
         buffer.old.bytes (sight R.left R.failures source.old) taken.old
         buffer.new.bytes (sight R.left R.failures source.new) taken.new) }
@@ -46,7 +46,7 @@ fn take<R: Source>(
     taken: &mut u64,
     count: usize,
 ) -> Result<(), Reason>
-    ensures most { buffer.new.most ≡ buffer.old.most }
+    ensures peak { buffer.new.peak ≡ buffer.old.peak }
     ensures ok { IfOk result (λ _. TookAll count
         buffer.old.bytes (sight R.left R.failures source.old) taken.old
         buffer.new.bytes (sight R.left R.failures source.new) taken.new) }
@@ -70,7 +70,7 @@ pub(crate) fn take_byte<R: Source>(
     buffer: &mut Buffer,
     taken: &mut u64,
 ) -> Result<u8, Reason>
-    ensures most { buffer.new.most ≡ buffer.old.most }
+    ensures peak { buffer.new.peak ≡ buffer.old.peak }
     ensures ok { IfOk result (λ byte. Took (byte ∷ [])
         buffer.old.bytes (sight R.left R.failures source.old) taken.old
         buffer.new.bytes (sight R.left R.failures source.new) taken.new) }
@@ -96,7 +96,7 @@ pub(crate) fn take_field<R: Source, const N: usize>(
 ) -> Result<(), Reason>
     requires some { 0 < N }
     requires few { N ≤ 8 }
-    ensures most { buffer.new.most ≡ buffer.old.most }
+    ensures peak { buffer.new.peak ≡ buffer.old.peak }
     ensures ok { IfOk result (λ _. TookAll N
         buffer.old.bytes (sight R.left R.failures source.old) taken.old
         buffer.new.bytes (sight R.left R.failures source.new) taken.new) }
@@ -123,7 +123,7 @@ pub(crate) fn take_payload<R: Source>(
     taken: &mut u64,
     count: usize,
 ) -> Result<(), Reason>
-    ensures most { buffer.new.most ≡ buffer.old.most }
+    ensures peak { buffer.new.peak ≡ buffer.old.peak }
     ensures ok { IfOk result (λ _. TookAll count
         buffer.old.bytes (sight R.left R.failures source.old) taken.old
         buffer.new.bytes (sight R.left R.failures source.new) taken.new) }
@@ -150,7 +150,7 @@ fn take_rest<R: Source>(
     taken: &mut u64,
     count: usize,
 ) -> Result<(), Reason>
-    ensures most { buffer.new.most ≡ buffer.old.most }
+    ensures peak { buffer.new.peak ≡ buffer.old.peak }
     ensures ok { IfOk result (λ _. TookAll count
         buffer.old.bytes (sight R.left R.failures source.old) taken.old
         buffer.new.bytes (sight R.left R.failures source.new) taken.new) }

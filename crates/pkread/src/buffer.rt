@@ -1,8 +1,8 @@
 //! The bytes of the instruction begun, and the most that were ever held.
 
 ghost use Rattle.std.specs.Prelude.{◌≡◌, ◌+◌, ◌++◌, ◌∷◌, ◌<◌, ◌≤◌, ◌%◌, ◌^◌, [], ℕ, List};
-ghost use Rattle.std.specs.Prelude.{IfOk, IfErr, IfNone, IfSome, length, max, take};
-ghost use Rattle.pkread.specs.Held.{Held, none_held};
+ghost use Rattle.std.specs.Prelude.{IfOk, IfErr, IfNone, IfSome, length, take};
+ghost use Rattle.pkread.specs.Held.{Held, most_held, none_held};
 ghost use Rattle.pkread.specs.Rows.{sight};
 ghost use Rattle.pkread.specs.Private.Taking.{AreBytes, PulledInto, Reads, ReadsByte, ReadsNone};
 
@@ -11,13 +11,14 @@ use crate::source::{ReadFailed, Source};
 use std::alloc::{AllocError, Global};
 use std::marker::Model;
 
-/// Bytes that grow at the end, and know how many they have been at most. The store never shrinks,
-/// so that no read clears memory first.
+/// Bytes that grow at the end, and know how many they have been at most. Only where some are
+/// forgotten has it to count them. The store never shrinks, so that no read clears memory first.
 #[derive(Debug, Drop)]
 pub(crate) struct Buffer {
     store: Vec<u8>,
     held: usize,
-    most: usize,
+    /// The most that were held where some were forgotten.
+    peak: usize,
 }
 
 impl Model for Buffer {
@@ -26,7 +27,7 @@ impl Model for Buffer {
 
     ghost Value = { Held };
 
-    ghost view = { λ b. record { bytes = take b.held b.store.items; most = b.most } };
+    ghost view = { λ b. record { bytes = take b.held b.store.items; peak = b.peak } };
 
     ghost invariant = { λ b. b.held ≤ length b.store.items };
 }
@@ -39,15 +40,15 @@ impl Buffer {
         Buffer {
             store: Vec::new(alloc),
             held: 0,
-            most: 0,
+            peak: 0,
         }
     }
 
     /// The most bytes ever held.
     pub(crate) fn most(&self) -> usize
-        ensures { result ≡ self.now.most }
+        ensures { result ≡ most_held self.now }
     {
-        self.most
+        self.peak.max(self.held)
     }
 
     /// The bytes held.
@@ -71,51 +72,52 @@ impl Buffer {
         Some(self.store[0])
     }
 
-    /// Forgets the bytes, which were counted among the most, and keeps their memory.
+    /// Forgets the bytes, and keeps their memory.
     #[inline]
     pub(crate) fn clear(&mut self)
-        requires { length self.old.bytes ≤ self.old.most }
         ensures bytes { self.new.bytes ≡ [] }
-        ensures most { self.new.most ≡ self.old.most }
+        ensures peak { self.new.peak ≡ most_held self.old }
     {
+        self.count();
         self.held = 0;
     }
 
-    /// Counts the bytes held among the most. It seldom has to write, and does that apart.
-    #[inline(always)]
-    pub(crate) fn raise(&mut self)
-        ensures bytes { self.new.bytes ≡ self.old.bytes }
-        ensures most { self.new.most ≡ max self.old.most (length self.old.bytes) }
-    {
-        if self.held > self.most {
-            self.raise_apart();
-        }
-    }
-
-    /// The same, where it is likely to write, or where an instruction is refused.
-    #[inline(never)]
-    pub(crate) fn raise_apart(&mut self)
-        ensures bytes { self.new.bytes ≡ self.old.bytes }
-        ensures most { self.new.most ≡ max self.old.most (length self.old.bytes) }
-    {
-        self.most = self.most.max(self.held);
-    }
-
-    /// Counts the bytes held among the most, and forgets all but the first of them.
+    /// Forgets all but the first of the bytes.
     pub(crate) fn cut(&mut self, count: usize)
         requires { count ≤ length self.old.bytes }
         ensures bytes { self.new.bytes ≡ take count self.old.bytes }
-        ensures most { self.new.most ≡ max self.old.most (length self.old.bytes) }
+        ensures peak { self.new.peak ≡ most_held self.old }
     {
-        self.raise();
+        self.count();
         self.held = count;
+    }
+
+    /// Counts the bytes held, before some are forgotten. It seldom has to write, and does that
+    /// apart.
+    #[inline(always)]
+    fn count(&mut self)
+        ensures bytes { self.new.bytes ≡ self.old.bytes }
+        ensures peak { self.new.peak ≡ most_held self.old }
+    {
+        if self.held > self.peak {
+            self.raise();
+        }
+    }
+
+    #[inline(never)]
+    fn raise(&mut self)
+        requires { self.old.peak ≤ length self.old.bytes }
+        ensures bytes { self.new.bytes ≡ self.old.bytes }
+        ensures peak { self.new.peak ≡ length self.old.bytes }
+    {
+        self.peak = self.held;
     }
 
     /// One read of a byte, which stands behind the others then. It goes through an array of one:
     /// a copy of a known length to a known place is a move.
     #[inline]
     pub(crate) fn read_byte<R: Source>(&mut self, source: &mut R) -> Result<u8, Reason>
-        ensures most { self.new.most ≡ self.old.most }
+        ensures peak { self.new.peak ≡ self.old.peak }
         ensures ok { IfOk result (λ byte. ReadsByte byte
             self.old.bytes (sight R.left R.failures source.old)
             self.new.bytes (sight R.left R.failures source.new)) }
@@ -144,7 +146,7 @@ impl Buffer {
     ) -> Result<usize, Reason>
         requires some { 0 < N }
         requires few { N ≤ 8 }
-        ensures most { self.new.most ≡ self.old.most }
+        ensures peak { self.new.peak ≡ self.old.peak }
         ensures ok { IfOk result (λ n. Reads N n
             self.old.bytes (sight R.left R.failures source.old)
             self.new.bytes (sight R.left R.failures source.new)) }
@@ -169,7 +171,7 @@ impl Buffer {
     pub(crate) fn read<R: Source>(&mut self, source: &mut R, wanted: usize) -> Result<usize, Reason>
         requires some { 0 < wanted }
         requires few { wanted ≤ 4096 }
-        ensures most { self.new.most ≡ self.old.most }
+        ensures peak { self.new.peak ≡ self.old.peak }
         ensures ok { IfOk result (λ n. Reads wanted n
             self.old.bytes (sight R.left R.failures source.old)
             self.new.bytes (sight R.left R.failures source.new)) }

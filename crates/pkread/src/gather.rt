@@ -1,7 +1,7 @@
 //! Takes the bytes of one instruction from a source, in one pass.
 
 ghost use Rattle.std.specs.Prelude.{◌≡◌, ◌∷◌, ◌≤◌, [], ℕ, List, IfOk, IfErr, true};
-ghost use Rattle.std.specs.Prelude.{length, max};
+ghost use Rattle.std.specs.Prelude.{length};
 ghost use Rattle.pkops.specs.Scanning.{longest};
 ghost use Rattle.pkops.specs.Spelling.{layout_at};
 ghost use Rattle.pkops.specs.Table.{code_of};
@@ -40,7 +40,7 @@ fn behind_code<R: Source>(
 ) -> Result<usize, Reason>
     requires code { buffer.old.bytes ≡ code_of op ∷ [] }
     requires lay { layout ≡ layout_at op }
-    ensures most { buffer.new.most ≡ buffer.old.most }
+    ensures peak { buffer.new.peak ≡ buffer.old.peak }
     ensures ok { IfOk result (λ split. Finds limits.now.counted op split
         buffer.old.bytes (sight R.left R.failures source.old) taken.old
         buffer.new.bytes (sight R.left R.failures source.new) taken.new) }
@@ -70,7 +70,7 @@ fn behind_code<R: Source>(
 #[inline]
 fn take_code<R: Source>(source: &mut R, buffer: &mut Buffer, taken: &mut u64) -> Result<u8, Reason>
     requires { Begins buffer.old.bytes taken.old }
-    ensures most { buffer.new.most ≡ buffer.old.most }
+    ensures peak { buffer.new.peak ≡ buffer.old.peak }
     ensures ok { IfOk result (λ byte. Took (byte ∷ [])
         [] (unread buffer.old.bytes (sight R.left R.failures source.old)) taken.old
         buffer.new.bytes (sight R.left R.failures source.new) taken.new) }
@@ -93,7 +93,7 @@ pub(crate) fn take_op<R: Source>(
     taken: &mut u64,
 ) -> Result<Op, Reason>
     requires { Begins buffer.old.bytes taken.old }
-    ensures most { buffer.new.most ≡ buffer.old.most }
+    ensures peak { buffer.new.peak ≡ buffer.old.peak }
     ensures code { IfOk result (λ op. buffer.new.bytes ≡ code_of op ∷ []) }
     ensures ok { IfOk result (λ op. Took (code_of op ∷ [])
         [] (unread buffer.old.bytes (sight R.left R.failures source.old)) taken.old
@@ -123,7 +123,7 @@ pub(crate) fn gather_behind<R: Source>(
 ) -> Result<Found, Reason>
     requires code { buffer.old.bytes ≡ code_of op ∷ [] }
     requires lay { layout ≡ layout_at op }
-    ensures most { buffer.new.most ≡ buffer.old.most }
+    ensures peak { buffer.new.peak ≡ buffer.old.peak }
     ensures op { IfOk result (λ f. f.op ≡ op) }
     ensures whole { IfOk result (λ f. IsFound limits.now.counted buffer.new.bytes f.op f.split) }
     ensures ok { IfOk result (λ _. (bytes : List ℕ) × Took bytes
@@ -137,7 +137,7 @@ pub(crate) fn gather_behind<R: Source>(
     Ok(Found { op, split })
 }
 
-/// Takes an instruction, and leaves the most that was held.
+/// Takes an instruction, and says no more of it than its parts do.
 #[inline]
 fn gather_held<R: Source>(
     source: &mut R,
@@ -146,7 +146,7 @@ fn gather_held<R: Source>(
     limits: &Limits,
 ) -> Result<Found, Reason>
     requires { Begins buffer.old.bytes taken.old }
-    ensures most { buffer.new.most ≡ buffer.old.most }
+    ensures peak { buffer.new.peak ≡ buffer.old.peak }
     ensures whole { IfOk result (λ f. IsFound limits.now.counted buffer.new.bytes f.op f.split) }
     ensures ok { IfOk result (λ _. (bytes : List ℕ) × Took bytes
         [] (unread buffer.old.bytes (sight R.left R.failures source.old)) taken.old
@@ -178,12 +178,10 @@ pub(crate) fn gather<R: Source>(
         (unread buffer.old.bytes (sight R.left R.failures source.old))
         (sight R.left R.failures source.new)
         bytes taken.old taken.new reason × HoldsTaken reason bytes buffer.new.bytes) }
-    ensures most { buffer.new.most ≡ max buffer.old.most (length buffer.new.bytes) }
+    ensures peak { buffer.new.peak ≡ buffer.old.peak }
     ensures bound { length buffer.new.bytes ≤ longest limits.now.counted }
 {
     growth();
     one_answer();
-    let gathered = gather_held(source, buffer, taken, limits);
-    buffer.raise();
-    gathered
+    gather_held(source, buffer, taken, limits)
 }

@@ -10,8 +10,9 @@ ghost use Rattle.pkops.specs.declared.layout.Layout.TheVariants as layout;
 ghost use Rattle.pkread.specs.Private.Gathering.{Gathers, IsFound, Stops};
 ghost use Rattle.pkread.specs.Heads.{HoldsFew, PassesBy};
 ghost use Rattle.pkread.specs.Private.Passing.{GrowsPassing, IfHeld, IfPassed, PassedAll};
-ghost use Rattle.pkread.specs.Private.Passing.{PassedSome, StopsPassing, most_now};
+ghost use Rattle.pkread.specs.Private.Passing.{PassedSome, StopsPassing};
 ghost use Rattle.pkread.specs.Core.{Begins};
+ghost use Rattle.pkread.specs.Held.{most_held};
 ghost use Rattle.pkread.specs.Rows.{Refuses, sight, unread};
 ghost use Rattle.pkread.specs.Private.Taking.{Took};
 
@@ -40,8 +41,8 @@ fn pass_over<R: Source>(
     count: usize,
 ) -> Result<(), Reason>
     requires few { length buffer.old.bytes ≤ 9 }
-    ensures least { buffer.old.most ≤ buffer.new.most }
-    ensures most { buffer.new.most ≤ max buffer.old.most 131_075 }
+    ensures least { buffer.old.peak ≤ buffer.new.peak }
+    ensures peak { buffer.new.peak ≤ max buffer.old.peak 131_075 }
     ensures held { buffer.new.bytes ≡ buffer.old.bytes }
     ensures ok { IfOk result (λ _. PassedAll count
         buffer.old.bytes (sight R.left R.failures source.old) taken.old
@@ -70,8 +71,8 @@ fn pass_rest<R: Source>(
     count: usize,
 ) -> Result<(), Reason>
     requires few { length buffer.old.bytes ≤ 9 }
-    ensures least { buffer.old.most ≤ buffer.new.most }
-    ensures most { buffer.new.most ≤ max buffer.old.most 131_075 }
+    ensures least { buffer.old.peak ≤ buffer.new.peak }
+    ensures peak { buffer.new.peak ≤ max buffer.old.peak 131_075 }
     ensures held { buffer.new.bytes ≡ buffer.old.bytes }
     ensures ok { IfOk result (λ _. PassedAll count
         buffer.old.bytes (sight R.left R.failures source.old) taken.old
@@ -93,8 +94,8 @@ fn pass_payload<R: Source>(
     count: usize,
 ) -> Result<(), Reason>
     requires few { length buffer.old.bytes ≤ 9 }
-    ensures least { buffer.old.most ≤ buffer.new.most }
-    ensures most { buffer.new.most ≤ max buffer.old.most 131_075 }
+    ensures least { buffer.old.peak ≤ buffer.new.peak }
+    ensures peak { buffer.new.peak ≤ max buffer.old.peak 131_075 }
     ensures held { buffer.new.bytes ≡ buffer.old.bytes }
     ensures ok { IfOk result (λ _. PassedAll count
         buffer.old.bytes (sight R.left R.failures source.old) taken.old
@@ -152,10 +153,9 @@ fn pass_argument<R: Source>(
 ) -> Result<u64, Reason>
     requires code { buffer.old.bytes ≡ code_of op ∷ [] }
     requires passed { is_passed op ≡ true }
-    ensures least { buffer.old.most ≤ buffer.new.most }
-    ensures most { buffer.new.most ≤ max buffer.old.most 131_075 }
+    ensures least { buffer.old.peak ≤ buffer.new.peak }
+    ensures peak { buffer.new.peak ≤ max buffer.old.peak 131_075 }
     ensures few { length buffer.new.bytes ≤ 9 }
-    ensures counted { IfOk result (λ _. length buffer.new.bytes ≤ buffer.new.most) }
     ensures ok { IfOk result (λ count. GrowsPassing limit op count
         buffer.old.bytes (sight R.left R.failures source.old) taken.old
         (sight R.left R.failures source.new) taken.new) }
@@ -166,7 +166,6 @@ fn pass_argument<R: Source>(
     growth();
     let count = take_count(source, buffer, taken, limit, op, count_width(op), false)?;
     pass_payload(source, buffer, taken, count)?;
-    buffer.raise();
     Ok(count as u64)
 }
 
@@ -182,10 +181,9 @@ fn pass<R: Source>(
 ) -> Result<u64, Reason>
     requires code { buffer.old.bytes ≡ code_of op ∷ [] }
     requires passed { is_passed op ≡ true }
-    ensures least { buffer.old.most ≤ buffer.new.most }
-    ensures most { buffer.new.most ≤ max buffer.old.most 131_075 }
+    ensures least { buffer.old.peak ≤ buffer.new.peak }
+    ensures peak { buffer.new.peak ≤ max buffer.old.peak 131_075 }
     ensures few { length buffer.new.bytes ≤ 9 }
-    ensures counted { IfOk result (λ _. length buffer.new.bytes ≤ buffer.new.most) }
     ensures ok { IfOk result (λ count. GrowsPassing limit op count
         buffer.old.bytes (sight R.left R.failures source.old) taken.old
         (sight R.left R.failures source.new) taken.new) }
@@ -194,55 +192,6 @@ fn pass<R: Source>(
         (sight R.left R.failures source.new) taken.new) }
 {
     Ok(pass_argument(source, buffer, taken, limit, op)?)
-}
-
-/// Takes an instruction. The most that was held is raised on the way of each kind that is given, so
-/// that these are told apart once, and else left but for a payload that is passed.
-#[inline(always)]
-fn gather_parts<R: Source>(
-    source: &mut R,
-    buffer: &mut Buffer,
-    taken: &mut u64,
-    limits: &Limits,
-) -> Result<Gathered, Reason>
-    requires { Begins buffer.old.bytes taken.old }
-    ensures least { buffer.old.most ≤ buffer.new.most }
-    ensures bound { most_now buffer.new ≤ max buffer.old.most (longest limits.now.counted) }
-    ensures counted { IfOk result (λ _. length buffer.new.bytes ≤ buffer.new.most) }
-    ensures passed { IfOk result (λ g. IfPassed g (λ op count. PassesBy limits.now.passed op count
-        (unread buffer.old.bytes (sight R.left R.failures source.old))
-        (sight R.left R.failures source.new)
-        taken.old taken.new)) }
-    ensures few { IfOk result (λ g. IfPassed g (λ _ _.
-        buffer.new.most ≤ max buffer.old.most 131_075)) }
-    ensures held { IfOk result (λ g. IfHeld g (λ f.
-        IsFound limits.now.counted buffer.new.bytes f.op f.split
-        × (is_passed f.op ≡ false)
-        × (buffer.new.most ≡ max buffer.old.most (length buffer.new.bytes))
-        × Gathers limits.now.counted
-        (unread buffer.old.bytes (sight R.left R.failures source.old))
-        (sight R.left R.failures source.new)
-        buffer.new.bytes taken.old taken.new
-        × HoldsFew buffer.old.most buffer.new.bytes buffer.new.most)) }
-    ensures err { IfErr result (λ reason. (bytes : List ℕ)
-        × Refuses (payload_limit_at limits.now bytes)
-        (unread buffer.old.bytes (sight R.left R.failures source.old))
-        (sight R.left R.failures source.new)
-        bytes taken.old taken.new reason
-        × HoldsFew buffer.old.most bytes (most_now buffer.new)) }
-{
-    growth();
-    one_answer();
-    one_code();
-    let op = take_op(source, buffer, taken)?;
-    let layout = layout_of_op(op);
-    if is_passed(op, layout) {
-        let count = pass(source, buffer, taken, limits.passed(), op)?;
-        return Ok(Gathered::Passed { op, count });
-    }
-    let found = gather_behind(source, buffer, taken, limits, op, layout)?;
-    buffer.raise();
-    Ok(Gathered::Held(found))
 }
 
 /// Takes bytes until they spell an instruction, as `gather` does, but holds no byte payload.
@@ -254,36 +203,39 @@ pub(crate) fn gather_head<R: Source>(
     limits: &Limits,
 ) -> Result<Gathered, Reason>
     requires { Begins buffer.old.bytes taken.old }
-    ensures least { buffer.old.most ≤ buffer.new.most }
-    ensures bound { buffer.new.most ≤ max buffer.old.most (longest limits.now.counted) }
-    ensures counted { length buffer.new.bytes ≤ buffer.new.most }
+    ensures least { buffer.old.peak ≤ buffer.new.peak }
+    ensures bound { most_held buffer.new ≤ max buffer.old.peak (longest limits.now.counted) }
     ensures passed { IfOk result (λ g. IfPassed g (λ op count. PassesBy limits.now.passed op count
         (unread buffer.old.bytes (sight R.left R.failures source.old))
         (sight R.left R.failures source.new)
         taken.old taken.new)) }
     ensures few { IfOk result (λ g. IfPassed g (λ _ _.
-        buffer.new.most ≤ max buffer.old.most 131_075)) }
+        most_held buffer.new ≤ max buffer.old.peak 131_075)) }
     ensures held { IfOk result (λ g. IfHeld g (λ f.
         IsFound limits.now.counted buffer.new.bytes f.op f.split
         × (is_passed f.op ≡ false)
-        × (buffer.new.most ≡ max buffer.old.most (length buffer.new.bytes))
+        × (buffer.new.peak ≡ buffer.old.peak)
         × Gathers limits.now.counted
         (unread buffer.old.bytes (sight R.left R.failures source.old))
         (sight R.left R.failures source.new)
         buffer.new.bytes taken.old taken.new
-        × HoldsFew buffer.old.most buffer.new.bytes buffer.new.most)) }
+        × HoldsFew buffer.old.peak buffer.new.bytes (most_held buffer.new))) }
     ensures err { IfErr result (λ reason. (bytes : List ℕ)
         × Refuses (payload_limit_at limits.now bytes)
         (unread buffer.old.bytes (sight R.left R.failures source.old))
         (sight R.left R.failures source.new)
         bytes taken.old taken.new reason
-        × HoldsFew buffer.old.most bytes buffer.new.most) }
+        × HoldsFew buffer.old.peak bytes (most_held buffer.new)) }
 {
-    match gather_parts(source, buffer, taken, limits) {
-        Ok(gathered) => Ok(gathered),
-        Err(reason) => {
-            buffer.raise_apart();
-            Err(reason)
-        }
+    growth();
+    one_answer();
+    one_code();
+    let op = take_op(source, buffer, taken)?;
+    let layout = layout_of_op(op);
+    if is_passed(op, layout) {
+        let count = pass(source, buffer, taken, limits.passed(), op)?;
+        return Ok(Gathered::Passed { op, count });
     }
+    let found = gather_behind(source, buffer, taken, limits, op, layout)?;
+    Ok(Gathered::Held(found))
 }

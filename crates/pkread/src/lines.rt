@@ -16,7 +16,7 @@ pub(crate) fn line<R: Source>(
     taken: &mut u64,
     most: usize,
 ) -> Result<(), Reason>
-    ensures most { buffer.new.most ≡ buffer.old.most }
+    ensures peak { buffer.new.peak ≡ buffer.old.peak }
     ensures ok { IfOk result (λ _. TookLine most
         buffer.old.bytes (sight R.left R.failures source.old) taken.old
         buffer.new.bytes (sight R.left R.failures source.new) taken.new) }

@@ -11,6 +11,7 @@ ghost use Rattle.pkops.specs.Spelling.{Argument, instruction};
 ghost use Rattle.pkread.specs.Core as phase;
 ghost use Rattle.pkread.specs.Core.{NoneIfClosed, ahead_of, phase_after, shown_phase};
 ghost use Rattle.pkread.specs.Heads.{HoldsFew, PassesBy};
+ghost use Rattle.pkread.specs.Held.{most_held};
 ghost use Rattle.pkread.specs.Private.Gathering.{Gathers, IsFound};
 ghost use Rattle.pkread.specs.Private.Passing.{IfHeld, IfPassed};
 ghost use Rattle.pkread.specs.Again.{WhyNoByte};
@@ -50,8 +51,10 @@ pub struct Core {
 }
 
 impl Model for Core {
-    ghost use Rattle.std.specs.Prelude.{◌≡◌, ◌≤◌, false, length};
-    ghost use Rattle.pkread.specs.Core.{Begins, CoreView, NoneIfClosed, ahead_of, shown_phase};
+    ghost use Rattle.std.specs.Prelude.{◌≤◌, length};
+    ghost use Rattle.pkread.specs.Core.{Begins, CoreView, NoneIfClosed, SomeIfEnded};
+    ghost use Rattle.pkread.specs.Core.{ahead_of, shown_phase};
+    ghost use Rattle.pkread.specs.Held.{most_held};
     ghost use Rattle.pkops.specs.Scanning.{longest};
 
     ghost Value = { CoreView };
@@ -64,8 +67,9 @@ impl Model for Core {
       phase = shown_phase c.phase;
     } };
 
-    ghost invariant = { λ c. (c.buffer.most ≤ longest c.limits.counted)
-        × (c.begun ≡ false → length c.buffer.bytes ≤ c.buffer.most)
+    ghost invariant = { λ c. (most_held c.buffer ≤ longest c.limits.counted)
+        × (length (ahead_of c.begun c.buffer.bytes) ≤ c.buffer.peak)
+        × SomeIfEnded (shown_phase c.phase) (most_held c.buffer)
         × Begins (ahead_of c.begun c.buffer.bytes) c.taken
         × NoneIfClosed (shown_phase c.phase) (ahead_of c.begun c.buffer.bytes) };
 }
@@ -107,7 +111,7 @@ impl Core {
     }
 
     pub(crate) fn most(&self) -> usize
-        ensures most { result ≡ self.now.held.most }
+        ensures most { result ≡ most_held self.now.held }
         ensures bound { result ≤ longest self.now.limits.counted }
     {
         self.buffer.most()
@@ -118,6 +122,7 @@ impl Core {
     fn give(&mut self, op: Op)
         requires open { self.old.phase ≡ phase.Open }
         requires none { self.old.ahead ≡ [] }
+        requires some { 0 < most_held self.old.held }
         ensures { self.new ≡ record self.old { phase = phase_after op } }
     {
         match op {
@@ -163,7 +168,7 @@ impl Core {
             (sight R.left R.failures source.new)
             self.new.held.bytes self.old.taken self.new.taken) }
         ensures most { IfOk result (λ _.
-            self.new.held.most ≡ max self.old.held.most (length self.new.held.bytes)) }
+            most_held self.new.held ≡ max (most_held self.old.held) (length self.new.held.bytes)) }
         ensures within { self.new.taken ≤ all_bytes }
         ensures place { IfErr result (λ r.
             (r.at ≡ self.old.taken) × (self.new.phase ≡ phase.Refused r)) }
@@ -171,7 +176,7 @@ impl Core {
             (unread self.old.ahead (sight R.left R.failures source.old))
             (sight R.left R.failures source.new)
             bytes self.old.taken self.new.taken r.reason
-            × Raises self.old.held.most bytes r.reason self.new.held.most) }
+            × Raises (most_held self.old.held) bytes r.reason (most_held self.new.held)) }
     {
         let at = self.taken;
         keep(&mut self.buffer, &mut self.begun);
@@ -192,23 +197,25 @@ impl Core {
         requires { self.old.phase ≡ phase.Open }
         ensures limits { self.new.limits ≡ self.old.limits }
         ensures ahead { self.new.ahead ≡ [] }
-        ensures least { self.old.held.most ≤ self.new.held.most }
+        ensures least { most_held self.old.held ≤ most_held self.new.held }
         ensures passed { IfOk result (λ g. IfPassed g (λ op count. PassesBy self.old.limits.passed
             op count (unread self.old.ahead (sight R.left R.failures source.old))
             (sight R.left R.failures source.new)
             self.old.taken self.new.taken)) }
         ensures open { IfOk result (λ g. IfPassed g (λ _ _. self.new.phase ≡ phase.Open)) }
         ensures few { IfOk result (λ g. IfPassed g (λ _ _.
-            self.new.held.most ≤ max self.old.held.most 131_075)) }
+            most_held self.new.held ≤ max (most_held self.old.held) 131_075)) }
         ensures held { IfOk result (λ g. IfHeld g (λ f.
             IsFound self.old.limits.counted self.new.held.bytes f.op f.split
             × (is_passed f.op ≡ false)
-            × (self.new.held.most ≡ max self.old.held.most (length self.new.held.bytes))
+            × (most_held self.new.held
+            ≡ max (most_held self.old.held) (length self.new.held.bytes))
             × Gathers self.old.limits.counted
             (unread self.old.ahead (sight R.left R.failures source.old))
             (sight R.left R.failures source.new)
             self.new.held.bytes self.old.taken self.new.taken
-            × HoldsFew self.old.held.most self.new.held.bytes self.new.held.most)) }
+            × HoldsFew (most_held self.old.held) self.new.held.bytes
+            (most_held self.new.held))) }
         ensures next { IfOk result (λ g. IfHeld g (λ f. self.new.phase ≡ phase_after f.op)) }
         ensures within { self.new.taken ≤ all_bytes }
         ensures place { IfErr result (λ r.
@@ -218,7 +225,7 @@ impl Core {
             (unread self.old.ahead (sight R.left R.failures source.old))
             (sight R.left R.failures source.new)
             bytes self.old.taken self.new.taken r.reason
-            × HoldsFew self.old.held.most bytes self.new.held.most) }
+            × HoldsFew (most_held self.old.held) bytes (most_held self.new.held)) }
     {
         let at = self.taken;
         keep(&mut self.buffer, &mut self.begun);
@@ -238,7 +245,7 @@ impl Core {
     pub(crate) fn again<R: Source>(&mut self, source: &mut R) -> Result<bool, Refusal>
         requires { self.old.phase ≡ phase.Ended }
         ensures none { self.old.ahead ≡ [] }
-        ensures kept { (self.new.held.most ≡ self.old.held.most)
+        ensures kept { (most_held self.new.held ≡ most_held self.old.held)
             × (self.new.taken ≡ self.old.taken) × (self.new.limits ≡ self.old.limits) }
         ensures room { IfOk result (λ _. self.old.taken < all_bytes) }
         ensures byte { IfOk result (λ more. more ≡ true → (byte : ℕ)
@@ -273,9 +280,9 @@ impl Core {
 /// ahead of the one behind it.
 #[inline(always)]
 fn keep(buffer: &mut Buffer, begun: &mut bool)
-    requires { begun.old ≡ false → length buffer.old.bytes ≤ buffer.old.most }
+    requires { length (ahead_of begun.old buffer.old.bytes) ≤ buffer.old.peak }
     ensures bytes { buffer.new.bytes ≡ ahead_of begun.old buffer.old.bytes }
-    ensures most { buffer.new.most ≡ buffer.old.most }
+    ensures peak { buffer.new.peak ≡ most_held buffer.old }
     ensures none { begun.new ≡ false }
 {
     if *begun {
@@ -296,7 +303,7 @@ fn phase_of(more: bool) -> Phase
 /// Asks for one byte, which stands in the buffer then. Gives whether it came.
 fn ask<R: Source>(source: &mut R, buffer: &mut Buffer, taken: u64) -> Result<bool, Reason>
     requires { buffer.old.bytes ≡ [] }
-    ensures most { buffer.new.most ≡ buffer.old.most }
+    ensures peak { buffer.new.peak ≡ buffer.old.peak }
     ensures room { IfOk result (λ _. taken < all_bytes) }
     ensures byte { IfOk result (λ more. more ≡ true → (byte : ℕ)
         × (buffer.new.bytes ≡ byte ∷ [])

@@ -29,7 +29,8 @@ RowBehind limit before after run bytes taken Truncated =
 RowBehind limit before after run bytes taken TooLarge =
     Takes before after run
     × (IsAmiss limit bytes TooLarge ⊎ (Begun limit bytes × (taken ≡ all_bytes)))
-RowBehind limit before after run bytes taken OutOfMemory = Takes before after run × Begun limit bytes
+RowBehind limit before after run bytes taken OutOfMemory =
+    Takes before after run × Begun limit bytes
 RowBehind limit before after run bytes taken reason =
     Takes before after run × IsAmiss limit bytes reason
 

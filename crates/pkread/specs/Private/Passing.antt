@@ -1,10 +1,9 @@
 -- Bytes that are taken and not held: they are spoken of as if they stood behind those held.
-use Rattle.std.specs.Prelude.{◌≡◌, ℕ, List, length, max, ⊤}
+use Rattle.std.specs.Prelude.{◌≡◌, ℕ, List, length, ⊤}
 use Rattle.pkops.specs.Lying.{Lies}
 use Rattle.pkops.specs.Spelling.{Counted}
 use Rattle.pkops.specs.declared.op.Op.{Op}
 use Rattle.pkread.specs.Private.Gathering.{Stops}
-use Rattle.pkread.specs.Held.{Held}
 use Rattle.pkread.specs.Rows.{Sight}
 use Rattle.pkread.specs.Private.Taking.{LacksSome, Took, TookAll}
 use Rattle.pkread.specs.declared.gather.Found.{Found}
@@ -36,10 +35,6 @@ pub record GrowsPassing (limit : ℕ) (op : Op) (count : ℕ) (old : List ℕ) (
 abbrev pub StopsPassing : ℕ → List ℕ → Sight → ℕ → Sight → ℕ → Reason → Type 0
 StopsPassing limit old before t after u reason =
     (new : List ℕ) × Stops limit old before t new after u reason
-
--- the most that a buffer has held, those that it holds among them
-abbrev pub most_now : Held → ℕ
-most_now held = max held.most (length held.bytes)
 
 -- what holds where all of an instruction is held
 abbrev pub IfHeld : Gathered → (Found → Type 0) → Type 0

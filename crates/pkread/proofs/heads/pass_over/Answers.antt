@@ -24,8 +24,8 @@ blocks-2-preserved g c =
     let head = ap length c.bytes-head.ensures in
     let least = c.blocks-2.invariant.least in
     let most = c.blocks-2.invariant.most in
-    let stays = c.take_block.ensures.most in
-    let cut = c.cut.ensures.most in
+    let stays = c.take_block.ensures.peak in
+    let cut = c.cut.ensures.peak in
     record {
       took = (k.0 ++ b.bytes, took_over k.0 b.bytes _ _ _ _ _ _ _ _ _ k.1 b.took, omega (arith, length-append k.0 b.bytes, all, n, within));
       held = c.cut.ensures.bytes ∙ (ap (take (length c.bytes-head.result.now)) held ∙ (take_at _ b.bytes _ (omega (arith, head, ap length same)) ∙ same));

@@ -4,6 +4,7 @@ use Rattle.pkops.specs.Payloads.{payload_limit_at}
 use Rattle.pkread.specs.Core.{Open}
 use Rattle.pkread.specs.Reading.{state}
 use Rattle.pkread.specs.Heads.{HoldsFew}
+use Rattle.pkread.specs.Held.{most_held}
 use Rattle.pkread.specs.Private.Gathering.{Gathers}
 use Rattle.pkread.specs.Rows.{Refuses}
 use Rattle.pkread.proofs.Given.{is_allowed, seen_so}
@@ -18,7 +19,7 @@ returns-in_err-op g c =
     let e = c.in_err-op.ensures in
     let old = state g.R.Source.left g.R.Source.failures c.args.self.now in
     let new = c.collect_head.new.self in
-    let why = subst (λ s. (bytes : List ℕ) × Refuses (payload_limit_at old.limits bytes) old.source s bytes old.taken new.taken c.in_err-op.field-0.0.reason × HoldsFew old.most bytes new.held.most) (seen_so new.ahead _ e.ahead) e.err in (
+    let why = subst (λ s. (bytes : List ℕ) × Refuses (payload_limit_at old.limits bytes) old.source s bytes old.taken new.taken c.in_err-op.field-0.0.reason × HoldsFew old.most bytes (most_held new.held)) (seen_so new.ahead _ e.ahead) e.err in (
       (refl, λ _. tt, (refl, (e.limits, steps_head_open old _ _ open' (rw (p.1, p.2) (refuses_head old _ _ e.place.0 e.least why e.place.1))), (λ ne. absurd (ne open')), e.ahead)),
       record { shows = shows_head_open old _ open' (rw (p.1, p.2) e.place.0); after = tt },
     )
