@@ -1,11 +1,11 @@
 -- What an answer of `check_all` says of pickles that stand one after the other in a source.
-use Rattle.std.specs.Prelude.{◌≡◌, ◌≢◌, ℕ, List, [], ◌∷◌, length, map, flat_map, All, Option, Some, Result, MatchResult, option_map}
+use Rattle.std.specs.Prelude.{◌≡◌, ◌≢◌, ◌<◌, ℕ, List, [], ◌∷◌, length, map, flat_map, All, Option, Some, Result, MatchResult, option_map}
 use Rattle.std.specs.Io.KnownBytes.{IsAtEnd}
 use Rattle.pkops.specs.Limits.{Bounds}
 use Rattle.pkops.specs.Payloads.{payload_limit}
 use Rattle.pkops.specs.Spelling.{Instruction}
 use Rattle.pkops.specs.declared.op.Op.{Op}
-use Rattle.pkread.specs.Rows.{Sight, Takes}
+use Rattle.pkread.specs.Rows.{Sight, Takes, all_bytes}
 use Rattle.pkread.specs.Sequence.{CountsAt, IsSequence, spellings}
 use Rattle.pkread.specs.declared.refusal.Reason.{Reason}
 use Rattle.pkread.specs.declared.refusal.Reason.TheVariants.{Truncated}
@@ -64,10 +64,16 @@ pub record AcceptedRow (setting : OldStrings) (policy : Policy) (limits : Bounds
   pub is_row : IsRow (payload_limit limits) (sequences_of row) (bytes_of row)
   pub bytes : Takes old new (bytes_of row)
   pub count : taken ≡ length (bytes_of row)
+  -- a further byte could still be asked for: where none can be, the answer is TooLarge
+  pub within : taken < all_bytes
   pub number : pickles ≡ length row
   -- each pickle of it is accepted, and the imports are theirs, in order
   pub each : AreAccepted setting policy limits old new row
   pub listed : imports ≡ imports_of row
+
+-- a byte is left, where the source tells what is left
+abbrev pub HasMore : Sight → Type 0
+HasMore here = here.left ≢ Some []
 
 -- the pickle of this number, counted from 0, was refused, and those before it were accepted
 pub record RefusedInRow (setting : OldStrings) (policy : Policy) (limits : Bounds) (old new : Sight)
@@ -78,9 +84,9 @@ pub record RefusedInRow (setting : OldStrings) (policy : Policy) (limits : Bound
   pub here : Sight
   pub each : AreAccepted setting policy limits old here before
   pub refused : RefusedFrom (length (bytes_of before)) setting policy limits here new at reason pair
-  -- behind those before stands a further byte where the reason is that the source ended: a row that
-  -- ends there is accepted
-  pub more : reason ≡ Truncated → before ≢ [] → here.left ≢ Some []
+  -- where the source ended, a further byte stands behind those before: a row that ends there is
+  -- accepted
+  pub more : reason ≡ Truncated → before ≢ [] → HasMore here
 
 -- the answer is right of a source that was seen so before the check and after it
 abbrev pub IsRightOfRow :

@@ -44,7 +44,8 @@ pub struct NoAll {
 /// what the imports name.
 ///
 /// A `YesAll` holds of one pickle at least. A `NoAll` names the first pickle that is refused; where
-/// it is not known whether one more pickle begins, as where the source fails, it names that one.
+/// it is not known whether one more pickle begins, as where the source fails or 2^64 - 1 bytes were
+/// taken, it names that one.
 pub fn check_all<R: Source>(
     alloc: Global,
     source: &mut R,

@@ -25,7 +25,7 @@ use Rattle.pkcheck.specs.View.{View, fresh}
 use Rattle.pkcheck.specs.Accepted.{Accepted}
 use Rattle.pkcheck.specs.Knowledge.{Policy, Asked}
 use Rattle.pkcheck.specs.Refused.{RefusedFrom}
-use Rattle.pkcheck.specs.RowOfPickles.{AcceptedRow, AreAccepted, IsAccepted, Pickle, RefusedInRow, bytes_of, imports_of, sequences_of}
+use Rattle.pkcheck.specs.RowOfPickles.{AcceptedRow, AreAccepted, HasMore, IsAccepted, Pickle, RefusedInRow, bytes_of, imports_of, sequences_of}
 
 -- what is left to take, and whether a pickle has just ended
 abbrev pub left_to_do : ℕ → Phase → ℕ
@@ -130,20 +130,21 @@ module _ (taking : TakingLaws) (setting : OldStrings) (policy : Policy) (limits 
     not_none some e = omega (arith, some, h.number, ap length e, length-map before (λ (y : Pickle). y.instructions))
 
     -- the source is at its end
-    pub row_accepted : (taken : ℕ) → 0 < pickles → IsAtEnd here.left → taken ≡ from → AcceptedRow setting policy limits old here taken pickles imports
-    row_accepted taken some ends is = record {
+    pub row_accepted : (taken : ℕ) → 0 < pickles → IsAtEnd here.left → taken ≡ from → taken < all_bytes → AcceptedRow setting policy limits old here taken pickles imports
+    row_accepted taken some ends is within = record {
       row = before;
       ends = ends;
       is_row = record { some = not_none some; each = accepted_sequences old here before h.each; spelled = refl };
       bytes = accepted_bytes old here before h.each;
       count = is ∙ h.from_is;
+      within = within;
       number = h.number;
       each = h.each;
       listed = h.listed;
     }
 
     -- the pickle that begins here is refused
-    pub row_refused : (new : Sight) (at : ℕ) (why : Reason) (pair : Option Asked) → RefusedFrom from setting policy limits here new at why pair → (why ≡ Truncated → before ≢ [] → here.left ≢ Some []) → RefusedInRow setting policy limits old new pickles at why pair
+    pub row_refused : (new : Sight) (at : ℕ) (why : Reason) (pair : Option Asked) → RefusedFrom from setting policy limits here new at why pair → (why ≡ Truncated → before ≢ [] → HasMore here) → RefusedInRow setting policy limits old new pickles at why pair
     row_refused new at why pair r more = record {
       before = before;
       number = h.number;
@@ -205,8 +206,8 @@ again_true s t (Ok true) (room, takes, is) e = (takes, ap (λ x. x.phase) is, ap
 again_true s t (Ok false) h e = absurd cc
 again_true s t (Err x) h e = absurd cc
 
-pub again_false : (s t : State) (r : Result Bool ReadRefusal) → StepsAgain s r t → r ≡ Ok false → Takes s.source t.source [] × IsAtEnd t.source.left
-again_false s t (Ok false) (room, takes, is) e = (takes, is.0)
+pub again_false : (s t : State) (r : Result Bool ReadRefusal) → StepsAgain s r t → r ≡ Ok false → Takes s.source t.source [] × IsAtEnd t.source.left × (s.taken < all_bytes)
+again_false s t (Ok false) (room, takes, is) e = (takes, is.0, room)
 again_false s t (Ok true) h e = absurd cc
 again_false s t (Err x) h e = absurd cc
 
@@ -218,7 +219,7 @@ known_ahead b None = λ e. cc
 known_ahead b (Some l) = λ e. cc
 
 -- behind a pickle stands a further byte
-pub some_ahead : (b : ℕ) (ahead : List ℕ) (now : Sight) → ahead ≡ b ∷ [] → (unread ahead now).left ≢ Some []
+pub some_ahead : (b : ℕ) (ahead : List ℕ) (now : Sight) → ahead ≡ b ∷ [] → HasMore (unread ahead now)
 some_ahead b ahead now is = rw is (known_ahead b now.left)
 
 -- neither want of memory nor a refusal of `again` says that the source ended

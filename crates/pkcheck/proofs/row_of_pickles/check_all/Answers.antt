@@ -1,10 +1,10 @@
-use Rattle.std.proofs.Common.{rules, [], ◌∷◌, ◌++◌, refl, ap, subst, ◌∙◌, arith}
+use Rattle.std.proofs.Common.{rules, ◌<◌, [], ◌∷◌, ◌++◌, refl, sym, ap, subst, ◌∙◌, arith}
 use Rattle.pkops.specs.Inst.{instruction_of}
 use Rattle.pkops.specs.Payloads.{payload_limit}
 use Rattle.pkops.specs.Spelling.{Counted, Instruction, instruction}
 use Rattle.pkread.specs.Again.{StepsAgain}
 use Rattle.pkread.specs.Reading.{state}
-use Rattle.pkread.specs.Rows.{sight}
+use Rattle.pkread.specs.Rows.{all_bytes, sight}
 use Rattle.pkcheck.proofs.Wholes.Checked.{checked_again, checked_none, checked_took, count_took, refused_turned, refused_took}
 use Rattle.pkcheck.proofs.Wholes.FramesSoFar.{FrameLaws}
 use Rattle.pkcheck.proofs.Wholes.Given.{refused_head, seen_so, took_head, took_passed}
@@ -119,7 +119,8 @@ returns-in-Ok-false-clause-answer g c =
     let s = state g.R.Source.left g.R.Source.failures c.again.new.self in
     let ahead = (let b = rw (c.in-Ok-false.is, c.in-Ok-false.field-0-test) at c.again.ensures.byte in b) in
     let more = pickle_more taking _ _ _ _ _ _ _ _ _ r.3 r.4 r.5 _ _ _ r.6 e.0 s.source h.0 _ c.in-Ok.ensures.imports in
-    told_yes _ _ _ _ _ _ _ _ _ _ _ (seen_so _ _ _ ahead (search rules)) refl c.from_ledger.ensures (row_accepted taking _ _ _ _ _ _ _ _ _ more _ (omega arith) h.1 (c.taken-taken.ensures ∙ ap (λ s. s.taken) e.1))
+    let is = c.taken-taken.ensures ∙ ap (λ s. s.taken) e.1 in
+    told_yes _ _ _ _ _ _ _ _ _ _ _ (seen_so _ _ _ ahead (search rules)) refl c.from_ledger.ensures (row_accepted taking _ _ _ _ _ _ _ _ _ more _ (omega arith) h.1 is (subst (λ n. n < all_bytes) (sym is) h.2))
 
 pub returns-in-Ok-false-clause-count : goal.returns-in-Ok-false-clause-count
 returns-in-Ok-false-clause-count g c =

@@ -1,11 +1,11 @@
-use Rattle.std.proofs.Common.{◌≡◌, ◌≢◌, List, [], ℕ, Some}
+use Rattle.std.proofs.Common.{◌≡◌, ◌≢◌, List, [], ℕ}
 use Rattle.std.specs.Prelude.{Option}
 use Rattle.pkops.specs.Spelling.{Instruction}
 use Rattle.pkread.specs.Rows.{Sight, sight}
 use Rattle.pkread.specs.Reading.{state}
 use Rattle.pkcheck.specs.Import.{policy_of}
 use Rattle.pkcheck.specs.Knowledge.{Asked}
-use Rattle.pkcheck.specs.RowOfPickles.{Pickle}
+use Rattle.pkcheck.specs.RowOfPickles.{HasMore, Pickle}
 use Rattle.pkcheck.proofs.Wholes.Checked.{Checked}
 use Rattle.pkcheck.proofs.Wholes.RowOfPickles.{RowSoFar, left_to_do}
 use Rattle.pkcheck.proofs.row_of_pickles.check_all.Given as goal
@@ -16,7 +16,7 @@ invariant-instructions g l = record {
   row : (here : Sight) × (from : ℕ) × (before : List Pickle)
       × RowSoFar l.fn.old_strings (policy_of l.fn.policy) l.fn.limits (sight g.R.Source.left g.R.Source.failures l.fn.source) here from l.pickles l.imports.asked before
       × (p : List Instruction) × (asked : List (Option Asked)) × Checked l.fn.old_strings (policy_of l.fn.policy) l.fn.limits here from p asked (state g.R.Source.left g.R.Source.failures l.reader) l.frames l.machine
-      × (before ≢ [] → here.left ≢ Some []);
+      × (before ≢ [] → HasMore here);
 }
 
 abbrev pub decreases-instructions : goal.decreases-instructions
