@@ -14,7 +14,7 @@ pub mod Nodes
 pub mod Ranks
 pub mod Weighs
 pub mod Fits
-pub mod Writes
+pub mod Sends
 pub mod Settled
 pub mod Replayed
 pub mod Result

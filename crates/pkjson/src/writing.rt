@@ -1,13 +1,14 @@
-//! The text of the value that an object unfolds to.
+//! The text of the value that an object unfolds to, which serde is sent.
 
-ghost use Rattle.std.specs.Prelude.{◌≡◌, ◌<◌, length, All, IfOk, OnOk};
+ghost use Rattle.std.specs.Prelude.{◌<◌, length, All, IfOk, OnOk};
 ghost use Rattle.pkjson.specs.Private.Nodes.{heap, named, IsClosed};
 ghost use Rattle.pkjson.specs.Private.Fits.{Fits, ItemsFit, MembersFit};
-ghost use Rattle.pkjson.specs.Private.Writes.{Writes, WritesItems, WritesMembers, IsCompact};
+ghost use Rattle.pkjson.specs.Private.Sends.{IsCompact, Sends, SendsArray, SendsObject};
 
 use crate::node::Node;
-use json::Writer;
-use std::alloc::{AllocError, Global};
+use serde::{Described, Serialize, Serializer};
+use serde_json::Number;
+use std::alloc::Global;
 
 /// The text of the value of an object, which has one of at most so many levels.
 pub fn text_of(
@@ -15,83 +16,107 @@ pub fn text_of(
     nodes: &[Node<'_>],
     place: usize,
     levels: u32,
-) -> Result<Vec<u8>, AllocError>
+) -> Result<Vec<u8>, serde_json::Error>
     requires closed { IsClosed nodes.now }
     requires place { place < length nodes.now }
     requires fits { Fits (heap nodes.now) levels place }
     ensures { IfOk result (λ text. IsCompact (heap nodes.now) place text.items) }
 {
-    let mut out = Writer::new(Vec::new(alloc));
-    write(nodes, place, levels, &mut out)?;
-    Ok(out.into_inner())
+    let value = Unfolded {
+        nodes,
+        place,
+        levels,
+    };
+    serde_json::to_vec(alloc, &value)
 }
 
-/// Writes the value of an object, which has one of at most so many levels.
-#[cycle(writing)]
-fn write(nodes: &[Node<'_>], place: usize, levels: u32, out: &mut Writer) -> Result<(), AllocError>
-    requires closed { IsClosed nodes.now }
-    requires place { place < length nodes.now }
-    requires fits { Fits (heap nodes.now) levels place }
-    ensures ok { OnOk result (Writes (heap nodes.now) place out.old.tokens out.new.tokens) }
-    ensures before { out.new.before ≡ out.old.before }
-{
-    match &nodes[place] {
-        Node::Null => out.null(),
-        Node::Bool(truth) => out.boolean(*truth),
-        Node::Int(number) => out.i64(*number),
-        Node::Text(text) => out.string(text),
-        Node::List(items) => {
-            out.begin_array()?;
-            write_items(nodes, items, levels - 1, out)?;
-            out.end_array()
-        }
-        Node::Dict(members) => {
-            out.begin_object()?;
-            write_members(nodes, members, levels - 1, out)?;
-            out.end_object()
-        }
+/// An object, for the value that it unfolds to, which has at most so many levels.
+#[derive(Drop)]
+struct Unfolded<'n, 'a> {
+    nodes: &'n [Node<'a>],
+    place: usize,
+    levels: u32,
+    ghost closed: { ∥ IsClosed nodes.now ∥₁ },
+    ghost within: { place < length nodes.now },
+    ghost fits: { ∥ Fits (heap nodes.now) levels place ∥₁ },
+}
+
+impl<'n, 'a> Described for Unfolded<'n, 'a> {
+    ghost use Rattle.pkjson.specs.Private.Nodes.{heap};
+    ghost use Rattle.pkjson.specs.Private.Sends.{Sends};
+
+    ghost writes = { λ value. Sends (heap value.nodes.now) value.place };
+}
+
+impl<'n, 'a> Serialize for Unfolded<'n, 'a> {
+    fn serialize<S: Serializer>(&self, out: &mut S) -> Result<(), S::Error> {
+        send(self.nodes, self.place, self.levels, out)
     }
 }
 
-/// Writes their values, in order.
-#[cycle(writing)]
-fn write_items(
+/// Sends the value of an object, which has one of at most so many levels.
+#[cycle(sending)]
+fn send<S: Serializer>(
+    nodes: &[Node<'_>],
+    place: usize,
+    levels: u32,
+    out: &mut S,
+) -> Result<(), S::Error>
+    requires closed { IsClosed nodes.now }
+    requires place { place < length nodes.now }
+    requires fits { ∥ Fits (heap nodes.now) levels place ∥₁ }
+    ensures { OnOk result
+        (Sends (heap nodes.now) place (S.written out.old) (S.written out.new)) }
+{
+    match &nodes[place] {
+        Node::Null => out.unit(),
+        Node::Bool(truth) => out.bool(*truth),
+        Node::Int(number) => Number::from(*number).serialize(out),
+        Node::Text(text) => out.str(text),
+        Node::List(items) => send_items(nodes, items, levels - 1, out),
+        Node::Dict(members) => send_members(nodes, members, levels - 1, out),
+    }
+}
+
+/// Sends an array of their values, in order.
+#[cycle(sending)]
+fn send_items<S: Serializer>(
     nodes: &[Node<'_>],
     items: &[usize],
     levels: u32,
-    out: &mut Writer,
-) -> Result<(), AllocError>
+    out: &mut S,
+) -> Result<(), S::Error>
     requires closed { IsClosed nodes.now }
     requires places { All (λ x. x < length nodes.now) items.now }
-    requires fits { ItemsFit (heap nodes.now) levels items.now }
-    ensures ok { OnOk result
-        (WritesItems (heap nodes.now) items.now out.old.tokens out.new.tokens) }
-    ensures before { out.new.before ≡ out.old.before }
+    requires fits { ∥ ItemsFit (heap nodes.now) levels items.now ∥₁ }
+    ensures { OnOk result
+        (SendsArray (heap nodes.now) items.now (S.written out.old) (S.written out.new)) }
 {
+    out.begin_seq(Some(items.len()))?;
     for item in items {
-        write(nodes, *item, levels, out)?;
+        send(nodes, *item, levels, out)?;
     }
-    Ok(())
+    out.end_seq()
 }
 
-/// Writes their keys and values, in order.
-#[cycle(writing)]
-fn write_members(
+/// Sends an object of their keys and values, in order.
+#[cycle(sending)]
+fn send_members<S: Serializer>(
     nodes: &[Node<'_>],
     members: &[(&str, usize)],
     levels: u32,
-    out: &mut Writer,
-) -> Result<(), AllocError>
+    out: &mut S,
+) -> Result<(), S::Error>
     requires closed { IsClosed nodes.now }
     requires places { All (λ p. p.1 < length nodes.now) members.now }
-    requires fits { MembersFit (heap nodes.now) levels (named members.now) }
-    ensures ok { OnOk result
-        (WritesMembers (heap nodes.now) (named members.now) out.old.tokens out.new.tokens) }
-    ensures before { out.new.before ≡ out.old.before }
+    requires fits { ∥ MembersFit (heap nodes.now) levels (named members.now) ∥₁ }
+    ensures { OnOk result
+        (SendsObject (heap nodes.now) (named members.now) (S.written out.old) (S.written out.new)) }
 {
+    out.begin_map(Some(members.len()))?;
     for (key, value) in members {
         out.key(key)?;
-        write(nodes, *value, levels, out)?;
+        send(nodes, *value, levels, out)?;
     }
-    Ok(())
+    out.end_map()
 }

@@ -1,0 +1,148 @@
+-- What is sent of the parts makes what is sent of the whole.
+use Rattle.std.proofs.Common.{◌≡◌, ℕ, suc, ◌+◌, ◌<◌, ◌≤◌, ℤ, pos, negsuc, Bool, false, List, [], ◌∷◌, length, drop, get_or, refl, ap, subst, Option, Some, None, add-one, drop-cons}
+use Rattle.std.specs.Prelude.{option_map, slice_get}
+use Rattle.std.specs.Borrow.{Bor}
+use Rattle.std.proofs.Props.{props}
+use mathlib.Core.HLevel.{Π_prop}
+use Rattle.std.proofs.lemmas.List.{drop_all}
+use Rattle.serde.specs.Event as event
+use Rattle.serde.specs.Event.{Log, Logs}
+use Rattle.serde.specs.declared.name.Case.TheVariants.{AsIs}
+use Rattle.serde_json.specs.Data.{Num, Data, null, boolean, number, string, array, object, Items, no_items, item, Members, no_members, member}
+use Rattle.serde_json.specs.Events.{SendsItems, SendsMembers, items_len, members_len, number_event}
+use Rattle.serde_json.specs.Find.{is_float, of_integer}
+use Rattle.serde_json.specs.Sent.{IsTextOf}
+use Rattle.serde_json.specs.Written.{has_float, items_have_float, members_have_float}
+use Rattle.serde_json.proofs.FreeTexts.{text_of_value}
+use Rattle.pkjson.specs.declared.node.Node.{Node}
+use Rattle.pkjson.specs.declared.node.Node.TheVariants as node
+use Rattle.pkjson.specs.Unfolds.{Scalar, Sequence, Pairs, Heap, Unfolds, UnfoldItems, UnfoldMembers}
+use Rattle.pkjson.specs.Private.Nodes.{IsBelow, IsClosed, content, heap, named}
+use Rattle.pkjson.specs.Private.Sends.{IsCompact, Sends, SendsArray, SendsObject}
+
+module _ (h : Heap) (x : ℕ) (old new : Log) where
+  pub sends_null : h x ≡ Some (Scalar null) → Logs old new event.nothing → Sends h x old new
+  unfolding Sends
+  sends_null e t = (null, e, t)
+
+  pub sends_bool : (b : Bool) → h x ≡ Some (Scalar (boolean b)) → Logs old new (event.boolean b) → Sends h x old new
+  unfolding Sends
+  sends_bool b e t = (boolean b, e, t)
+
+  pub sends_text : (s : List ℕ) → h x ≡ Some (Scalar (string s)) → Logs old new (event.text s) → Sends h x old new
+  unfolding Sends
+  sends_text s e t = (string s, e, t)
+
+  pub sends_int : (z : ℤ) (n : Num) → h x ≡ Some (Scalar (number (of_integer z))) → n ≡ of_integer z → Logs old new (number_event n) → Sends h x old new
+  unfolding Sends
+  sends_int z n e is t = (number (of_integer z), e, subst (λ m. Logs old new (number_event m)) is t)
+
+  pub sends_array : (xs : List ℕ) → h x ≡ Some (Sequence xs) → SendsArray h xs old new → Sends h x old new
+  unfolding Sends SendsArray
+  sends_array xs e w = (array w.0, (xs, e, w.1), w.2)
+
+  pub sends_object : (ps : List (List ℕ × ℕ)) → h x ≡ Some (Pairs ps) → SendsObject h ps old new → Sends h x old new
+  unfolding Sends SendsObject
+  sends_object ps e w = (object w.0, (ps, e, w.1), w.2)
+
+named_length : (ps : List (Bor (List ℕ) × ℕ)) → length (named ps) ≡ length ps
+named_length [] = refl
+named_length (p ∷ ps) = ap suc (named_length ps)
+
+module _ (h : Heap) where
+  items_length : (xs : List ℕ) (vs : Items) → UnfoldItems h xs vs → items_len vs ≡ length xs
+  items_length [] no_items u = refl
+  items_length (x ∷ xs) (item v vs) u = ap suc (items_length xs vs u.1)
+  items_length [] (item v vs) u = absurd u
+  items_length (x ∷ xs) no_items u = absurd u
+
+  members_length : (ps : List (List ℕ × ℕ)) (ms : Members) → UnfoldMembers h ps ms → members_len ms ≡ length ps
+  members_length [] no_members u = refl
+  members_length (p ∷ ps) (member k v ms) u = ap suc (members_length ps ms u.2)
+  members_length [] (member k v ms) u = absurd u
+  members_length (p ∷ ps) no_members u = absurd u
+
+  -- whatever ends an array well from its n-th item on ends it well from the first one on
+  abbrev pub ItemsSoFar : List ℕ → ℕ → Log → Log → Type 0
+  ItemsSoFar xs n first here = (end : Log) (vs : Items) → UnfoldItems h (drop n xs) vs → SendsItems vs here end → (ws : Items) × UnfoldItems h xs ws × SendsItems ws first end
+
+  pub no_items_sent : (xs : List ℕ) (first : Log) → ItemsSoFar xs 0 first first
+  no_items_sent xs first = λ end vs u s. (vs, u, s)
+
+  pub item_sent : (xs : List ℕ) (n : ℕ) (first here mid : Log) → n < length xs → ItemsSoFar xs n first here → Sends h (get_or xs n 0) here mid → ItemsSoFar xs (n + 1) first mid
+  unfolding Sends
+  item_sent xs n first here mid l far w = λ end vs u s. far end (item w.0 vs) (rw (drop-cons xs n 0 l) (w.1, rw add-one at u)) (mid, w.2, s)
+
+  pub array_sent : (xs : List ℕ) (n : ℕ) (old first here end : Log) → length xs ≤ n → Logs old first (event.seq_begins (Some (length xs))) → ItemsSoFar xs n first here → Logs here end event.seq_ends → SendsArray h xs old end
+  unfolding SendsArray
+  array_sent xs n old first here end all begins far ends =
+      let w = far end no_items (rw (drop_all n xs all) tt) ends in
+      (w.0, w.1, (first, rw (items_length xs w.0 w.1) begins, w.2))
+
+  -- the same of an object and its members
+  abbrev pub MembersSoFar : List (Bor (List ℕ) × ℕ) → ℕ → Log → Log → Type 0
+  MembersSoFar ps n first here = (end : Log) (ms : Members) → UnfoldMembers h (named (drop n ps)) ms → SendsMembers ms here end → (ws : Members) × UnfoldMembers h (named ps) ws × SendsMembers ws first end
+
+  pub no_members_sent : (ps : List (Bor (List ℕ) × ℕ)) (first : Log) → MembersSoFar ps 0 first first
+  no_members_sent ps first = λ end ms u s. (ms, u, s)
+
+  pub member_sent : (ps : List (Bor (List ℕ) × ℕ)) (n : ℕ) (d : Bor (List ℕ) × ℕ) (first here keyed mid : Log) → n < length ps → MembersSoFar ps n first here → Logs here keyed (event.field_key (get_or ps n d).0.now AsIs) → Sends h (get_or ps n d).1 keyed mid → MembersSoFar ps (n + 1) first mid
+  unfolding Sends
+  member_sent ps n d first here keyed mid l far key w = λ end ms u s. far end (member (get_or ps n d).0.now w.0 ms) (rw (drop-cons ps n d l) (refl, w.1, rw add-one at u)) (keyed, mid, key, w.2, s)
+
+  pub object_sent : (ps : List (Bor (List ℕ) × ℕ)) (n : ℕ) (old first here end : Log) → length ps ≤ n → Logs old first (event.map_begins (Some (length ps))) → MembersSoFar ps n first here → Logs here end event.map_ends → SendsObject h (named ps) old end
+  unfolding SendsObject
+  object_sent ps n old first here end all begins far ends =
+      let w = far end no_members (rw (drop_all n ps all) tt) ends in
+      (w.0, w.1, (first, rw (members_length (named ps) w.0 w.1, named_length ps) begins, w.2))
+
+-- whether each object names only objects that there are is a proposition
+below_prop : (n : ℕ) (m : Node) → IsProp (IsBelow n m)
+below_prop n (node.List v) = Prim.hlevel props
+below_prop n (node.Dict v) = Prim.hlevel props
+below_prop n _ = Prim.hlevel props
+
+pub closed_prop : (ns : List Node) → IsProp (IsClosed ns)
+unfolding IsClosed
+closed_prop ns = Π_prop (λ x. Π_prop (λ m. Π_prop (λ e. below_prop (length ns) m)))
+
+-- no object is a float
+whole_integer : (z : ℤ) → is_float (of_integer z) ≡ false
+whole_integer (pos n) = refl
+whole_integer (negsuc n) = refl
+
+whole_node : (o : Option Node) (n : Num) → option_map content o ≡ Some (Scalar (number n)) → is_float n ≡ false
+whole_node None n e = absurd cc
+whole_node (Some node.Null) n e = absurd cc
+whole_node (Some (node.Bool b)) n e = absurd cc
+whole_node (Some (node.Int z)) n e = let is : of_integer z ≡ n = cc in subst (λ m. is_float m ≡ false) is (whole_integer z)
+whole_node (Some (node.Text t)) n e = absurd cc
+whole_node (Some (node.List v)) n e = absurd cc
+whole_node (Some (node.Dict v)) n e = absurd cc
+
+module _ (ns : List Node) where
+  mutual
+    no_float : (x : ℕ) (v : Data) → Unfolds (heap ns) x v → has_float v ≡ false
+    no_float x null u = refl
+    no_float x (boolean b) u = refl
+    no_float x (number n) u = whole_node (slice_get ns x) n u
+    no_float x (string t) u = refl
+    no_float x (array vs) u = no_floats u.0 vs u.2
+    no_float x (object ms) u = no_member_floats u.0 ms u.2
+
+    no_floats : (xs : List ℕ) (vs : Items) → UnfoldItems (heap ns) xs vs → items_have_float vs ≡ false
+    no_floats [] no_items u = refl
+    no_floats (x ∷ xs) (item v vs) u = rw (no_float x v u.0) (no_floats xs vs u.1)
+    no_floats [] (item v vs) u = absurd u
+    no_floats (x ∷ xs) no_items u = absurd u
+
+    no_member_floats : (ps : List (List ℕ × ℕ)) (ms : Members) → UnfoldMembers (heap ns) ps ms → members_have_float ms ≡ false
+    no_member_floats [] no_members u = refl
+    no_member_floats (p ∷ ps) (member k v ms) u = rw (no_float p.1 v u.1) (no_member_floats ps ms u.2)
+    no_member_floats [] (member k v ms) u = absurd u
+    no_member_floats (p ∷ ps) no_members u = absurd u
+
+  -- what is printed of the events of a value is its text
+  pub compact : (x : ℕ) (text : List ℕ) → ((log : Log) × Sends (heap ns) x (Some []) log × IsTextOf log text) → IsCompact (heap ns) x text
+  unfolding Sends IsCompact
+  compact x text w = (w.1.0, w.1.1, text_of_value w.1.0 w.0 text w.1.2 w.2 (no_float x w.1.0 w.1.1))
