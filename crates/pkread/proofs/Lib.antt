@@ -16,4 +16,5 @@ pub mod Again
 pub mod Walking
 pub mod Run
 pub mod Walked
+pub mod OneSequence
 mod WorkedRows

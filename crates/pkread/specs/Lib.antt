@@ -9,6 +9,7 @@ pub mod Reading
 pub mod Heads
 pub mod Again
 pub mod Sequence
+pub mod Sequences
 pub mod Run
 pub mod Genops
 pub mod Walked

@@ -6,9 +6,10 @@ ghost use Rattle.pkread.specs.Pieces.{FramesBreak, FramesGoOn, FramesHold};
 ghost use Rattle.pkread.specs.Run.{EndIsRead, EndOfHeads, HeadIsRead, NextIsRead, PassedIsRead};
 ghost use Rattle.pkread.specs.Run.{ReadingBegins, ReadingGoesOn, RefusalIsRead, RefusalOfHeads};
 ghost use Rattle.pkread.specs.Rows.{TakingLaws};
+ghost use Rattle.pkread.specs.Sequences.{OneSequence, SequenceGoesOn};
 ghost use Rattle.pkread.specs.Walked.{EndIsWalked, ItemIsWalked, RefusalIsWalked, WalkBegins};
 
-use pkops::laws::{growth, one_answer};
+use pkops::laws::{growth, one_answer, one_spelling};
 
 /// Along any instructions laid end to end, the rule of `Frames::take` refuses first exactly at
 /// the first instruction that the frame rules forbid.
@@ -66,3 +67,13 @@ pub fn frames()
     ensures all { FramesHold }
     ensures refused { FramesBreak }
 {}
+
+/// Bytes have one sequence at their front, whatever the limits on payloads, and it begins with any
+/// instructions that they have there and of which none is STOP.
+#[inline]
+pub fn one_sequence()
+    ensures one { OneSequence }
+    ensures goes_on { SequenceGoesOn }
+{
+    one_spelling();
+}

@@ -1,0 +1,8 @@
+use Rattle.pkread.proofs.OneSequence.{one_sequence, sequence_goes_on}
+use Rattle.pkread.proofs.laws.one_sequence.Goals as goal
+
+pub returns-clause-one : goal.returns-clause-one
+returns-clause-one c = one_sequence c.one_spelling.ensures
+
+pub returns-clause-goes_on : goal.returns-clause-goes_on
+returns-clause-goes_on c = sequence_goes_on c.one_spelling.ensures

@@ -1,0 +1,30 @@
+-- Two sequences of instructions in the same bytes.
+use Rattle.std.specs.Prelude.{◌≡◌, ℕ, List, ◌∷◌, ◌++◌, All}
+use Rattle.pkops.specs.Spelling.{Instruction, spelling}
+use Rattle.pkops.specs.declared.op.Op.{Op}
+use Rattle.pkread.specs.Admission.{IsAllowedBy}
+use Rattle.pkread.specs.Sequence.{IsSequence, NoStop, spellings}
+
+-- bytes have one sequence at their front, whatever the limits on payloads
+abbrev pub OneSequence : Type 0
+OneSequence =
+    (limit other : Op → ℕ) (instructions others : List Instruction) (rest more : List ℕ) →
+    IsSequence limit instructions → IsSequence other others →
+    spellings instructions ++ rest ≡ spellings others ++ more →
+    (instructions ≡ others) × (rest ≡ more)
+
+-- a sequence begins with these instructions, and one more is spelled behind them
+pub record GoesOnBehind (sequence front : List Instruction) (rest more : List ℕ) : Type 0 where
+  pub next : Instruction
+  pub after : List Instruction
+  pub split : sequence ≡ front ++ next ∷ after
+  pub bytes : more ≡ spelling next ++ (spellings after ++ rest)
+
+-- where bytes have a sequence at their front, it begins with any instructions that they have there
+-- and of which none is STOP
+abbrev pub SequenceGoesOn : Type 0
+SequenceGoesOn =
+    (limit other : Op → ℕ) (sequence front : List Instruction) (rest more : List ℕ) →
+    IsSequence limit sequence → All (IsAllowedBy other) front → NoStop front →
+    spellings sequence ++ rest ≡ spellings front ++ more →
+    GoesOnBehind sequence front rest more
