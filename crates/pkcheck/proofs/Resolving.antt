@@ -97,12 +97,12 @@ module _ (ts : List (List ℕ)) where
   pub moved_is_lack : (m : Move) (n : ℕ) (h : Shape Value) (r : Reason) → Resolves ts h → IsLack (moved m n h) r → IsLack (moved m n (resolved ts h)) r
   moved_is_lack m n h r a (b, e, g) = (b, moved_lacks m n h a b e, g)
 
-  pub moved_fault : (m : Move) (n : ℕ) (l : Bounds) (h : Shape Value) (r : Reason) → Resolves ts h → IsFaultOf m l (moved m n h) r → IsFaultOf m l (moved m n (resolved ts h)) r
+  pub moved_fault : (m : Move) (n : ℕ) (l : Bounds) (h : Shape Value) (r : Reason) → Resolves ts h → IsFaultOf m l n (moved m n h) r → IsFaultOf m l n (moved m n (resolved ts h)) r
   moved_fault m n l h r a (inl e) = inl (moved_is_lack m n h r a e)
   moved_fault m n l h r a (inr (inl (e, (k, is, past)))) =
       let p = length_seen k.entries in
       let q = length_recalled k.memo in
-      inr (inl (e, (resolved ts k, moved_seen m n h a k is, elim past [ inl g ↦ inl (rw p g) | inr g ↦ inr (rw q g) ])))
+      inr (inl (e, (resolved ts k, moved_seen m n h a k is, elim past [ inl g ↦ inl (rw p g) | inr g ↦ inr (elim g [ inl f ↦ inl (rw q f) | inr f ↦ inr f ]) ])))
   moved_fault m n l h r a (inr (inr e)) = inr (inr e)
 
   -- ---- what an operation takes

@@ -1,6 +1,7 @@
 -- A step of the machine, by its parts.
 pub mod Errs
 pub mod Placed
+pub mod Past
 pub mod Moving
 pub mod Judged
 pub mod Going

@@ -10,6 +10,7 @@ abbrev pub limits_within : Bounds → Settings → Bounds
 limits_within most settings =
     bounds (min settings.counted most.counted) (min settings.stack most.stack)
     (min settings.memo most.memo) most.depth most.values (min settings.passed most.passed)
+    most.numbers
 
 -- what old strings become by their number, which is frozen
 abbrev pub old_strings_of : ℕ → Option OldStrings

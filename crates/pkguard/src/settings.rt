@@ -75,7 +75,7 @@ fn old_strings_of(number: u32) -> Option<OldStrings>
 pub fn limits_of(settings: &Settings, most: &Limits) -> Limits
     ensures { result ≡ limits_within most.now settings.now }
 {
-    let limits = Limits::new(
+    let limits = Limits::large(
         cmp::min(settings.counted, most.counted()),
         cmp::min(settings.stack, most.stack()),
         cmp::min(settings.memo, most.memo()),
@@ -85,7 +85,10 @@ pub fn limits_of(settings: &Settings, most: &Limits) -> Limits
     let Some(limits) = limits else {
         return *most;
     };
-    match limits.with_passed(cmp::min(settings.passed, most.passed())) {
+    let Some(limits) = limits.with_passed(cmp::min(settings.passed, most.passed())) else {
+        return *most;
+    };
+    match limits.with_numbers(most.numbers()) {
         Some(limits) => limits,
         None => *most,
     }

@@ -1,12 +1,13 @@
 //! Limits on what is read, kept and written.
 
 ghost use Rattle.std.specs.Prelude.{◌≡◌, ◌≤◌, SomeIff};
-ghost use Rattle.pkops.specs.Limits.{AreWithin, bounds, greatest, holding_all, standard};
+ghost use Rattle.pkops.specs.Limits.{AreWithin, bounds, greatest, greatest_large, holding_all};
+ghost use Rattle.pkops.specs.Limits.{large, standard};
 
 use std::marker::Model;
 
-/// Limits on what is read, kept and written; none is above its standard number, but for that on
-/// payloads that are passed over.
+/// Limits on what is read, kept and written. None is above its standard number, but for that on
+/// payloads that are passed over, and but for those of large data.
 #[derive(Clone, Copy, Debug, PartialEq, Eq)]
 pub struct Limits {
     counted: u64,
@@ -15,17 +16,19 @@ pub struct Limits {
     depth: u64,
     values: u64,
     passed: u64,
+    numbers: u64,
 }
 
 impl Model for Limits {
-    ghost use Rattle.pkops.specs.Limits.{AreWithin, Bounds, bounds, greatest};
+    ghost use Rattle.pkops.specs.Limits.{AreWithin, Bounds, bounds, greatest_large};
 
     ghost Value = { Bounds };
 
-    ghost view = { λ a. bounds a.counted a.stack a.memo a.depth a.values a.passed };
+    ghost view = { λ a. bounds a.counted a.stack a.memo a.depth a.values a.passed a.numbers };
 
     ghost invariant = { λ a.
-        AreWithin (bounds a.counted a.stack a.memo a.depth a.values a.passed) greatest };
+        AreWithin (bounds a.counted a.stack a.memo a.depth a.values a.passed a.numbers)
+        greatest_large };
 
     ghost inverse = { λ b. record {
       counted = b.counted;
@@ -34,12 +37,14 @@ impl Model for Limits {
       depth = b.depth;
       values = b.values;
       passed = b.passed;
+      numbers = b.numbers;
     } };
 }
 
 impl Limits {
     /// 16,777,216 bytes of a payload, 1,000,000 entries of the stack and as many of the memo,
-    /// JSON values 100 deep and 1,000,000 of them, 16,777,216 bytes of a payload passed over.
+    /// JSON values 100 deep and 1,000,000 of them, 16,777,216 bytes of a payload passed over, and
+    /// each number of the memo that an instruction can spell: up to 4,294,967,295.
     pub const STANDARD: Limits = Limits {
         counted: 16_777_216,
         stack: 1_000_000,
@@ -47,27 +52,64 @@ impl Limits {
         depth: 100,
         values: 1_000_000,
         passed: 16_777_216,
+        numbers: 4_294_967_295,
     };
 
-    /// The greatest that limits may be: the standard ones, but for 1,099,511,627,776 bytes of a
-    /// payload passed over.
+    /// The greatest that limits may be where nothing is said of large data: the standard ones, but
+    /// for 1,099,511,627,776 bytes of a payload passed over.
     pub const GREATEST: Limits = Limits {
         passed: 1_099_511_627_776,
         ..Limits::STANDARD
     };
 
+    /// Those of large data: 4,294,967,295 bytes of a payload, as many entries of the stack and as
+    /// many of the memo, and else the standard ones.
+    pub const LARGE: Limits = Limits {
+        counted: 4_294_967_295,
+        stack: 4_294_967_295,
+        memo: 4_294_967_295,
+        ..Limits::STANDARD
+    };
+
+    /// The greatest that limits may be: those of large data, but for 1,099,511,627,776 bytes of a
+    /// payload passed over.
+    pub const GREATEST_LARGE: Limits = Limits {
+        passed: 1_099_511_627_776,
+        ..Limits::LARGE
+    };
+
     /// Limits with these numbers, where each is at most the standard one. That on payloads passed
-    /// over is the standard one.
+    /// over and that on numbers of the memo are the standard ones.
     pub fn new(counted: u64, stack: u64, memo: u64, depth: u64, values: u64) -> Option<Limits>
         ensures { SomeIff result
-            (AreWithin (bounds counted stack memo depth values standard.passed) standard)
-            (bounds counted stack memo depth values standard.passed) }
+            (AreWithin (bounds counted stack memo depth values standard.passed standard.numbers)
+            standard)
+            (bounds counted stack memo depth values standard.passed standard.numbers) }
     {
         if counted <= Limits::STANDARD.counted
             && stack <= Limits::STANDARD.stack
             && memo <= Limits::STANDARD.memo
-            && depth <= Limits::STANDARD.depth
-            && values <= Limits::STANDARD.values
+        {
+            Limits::large(counted, stack, memo, depth, values)
+        } else {
+            None
+        }
+    }
+
+    /// The same for large data, where each number is at most that of [`Limits::LARGE`]. What is
+    /// kept stays bounded by what was read: no payload, stack or memo takes memory before its bytes
+    /// are there.
+    pub fn large(counted: u64, stack: u64, memo: u64, depth: u64, values: u64) -> Option<Limits>
+        ensures { SomeIff result
+            (AreWithin (bounds counted stack memo depth values standard.passed standard.numbers)
+            large)
+            (bounds counted stack memo depth values standard.passed standard.numbers) }
+    {
+        if counted <= Limits::LARGE.counted
+            && stack <= Limits::LARGE.stack
+            && memo <= Limits::LARGE.memo
+            && depth <= Limits::LARGE.depth
+            && values <= Limits::LARGE.values
         {
             Some(Limits {
                 counted,
@@ -75,7 +117,7 @@ impl Limits {
                 memo,
                 depth,
                 values,
-                passed: Limits::STANDARD.passed,
+                ..Limits::STANDARD
             })
         } else {
             None
@@ -89,6 +131,19 @@ impl Limits {
     {
         if passed <= Limits::GREATEST.passed {
             Some(Limits { passed, ..self })
+        } else {
+            None
+        }
+    }
+
+    /// The same limits with this one on numbers of the memo, where it is at most 4,294,967,295. A
+    /// reader that keeps its memo in an array, as CPython's does, takes memory for each number up
+    /// to the greatest that a pickle stores under.
+    pub fn with_numbers(self, numbers: u64) -> Option<Limits>
+        ensures { SomeIff result (numbers ≤ greatest.numbers) (record self { numbers = numbers }) }
+    {
+        if numbers <= Limits::GREATEST.numbers {
+            Some(Limits { numbers, ..self })
         } else {
             None
         }
@@ -109,7 +164,7 @@ impl Limits {
     /// The most bytes that the payload of a counted argument may have, where it is held.
     pub fn counted(&self) -> u64
         ensures is { result ≡ self.now.counted }
-        ensures most { result ≤ standard.counted }
+        ensures most { result ≤ greatest_large.counted }
     {
         self.counted
     }
@@ -117,7 +172,7 @@ impl Limits {
     /// The most entries that the stack may have, marks included.
     pub fn stack(&self) -> u64
         ensures is { result ≡ self.now.stack }
-        ensures most { result ≤ standard.stack }
+        ensures most { result ≤ greatest_large.stack }
     {
         self.stack
     }
@@ -125,7 +180,7 @@ impl Limits {
     /// The most entries that the memo may have.
     pub fn memo(&self) -> u64
         ensures is { result ≡ self.now.memo }
-        ensures most { result ≤ standard.memo }
+        ensures most { result ≤ greatest_large.memo }
     {
         self.memo
     }
@@ -133,7 +188,7 @@ impl Limits {
     /// How deep JSON values may nest.
     pub fn depth(&self) -> u64
         ensures is { result ≡ self.now.depth }
-        ensures most { result ≤ standard.depth }
+        ensures most { result ≤ greatest_large.depth }
     {
         self.depth
     }
@@ -141,7 +196,7 @@ impl Limits {
     /// The most JSON values.
     pub fn values(&self) -> u64
         ensures is { result ≡ self.now.values }
-        ensures most { result ≤ standard.values }
+        ensures most { result ≤ greatest_large.values }
     {
         self.values
     }
@@ -150,8 +205,16 @@ impl Limits {
     /// where only its length is told.
     pub fn passed(&self) -> u64
         ensures is { result ≡ self.now.passed }
-        ensures most { result ≤ greatest.passed }
+        ensures most { result ≤ greatest_large.passed }
     {
         self.passed
+    }
+    /// The greatest number under which PUT, BINPUT and LONG_BINPUT may store into the memo. That of
+    /// MEMOIZE is the count of entries, on which `memo` is the limit.
+    pub fn numbers(&self) -> u64
+        ensures is { result ≡ self.now.numbers }
+        ensures most { result ≤ greatest_large.numbers }
+    {
+        self.numbers
     }
 }

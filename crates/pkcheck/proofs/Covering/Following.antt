@@ -10,11 +10,11 @@ use Rattle.pkcheck.specs.declared.machine.effects.Names.{Names}
 use Rattle.pkcheck.specs.declared.machine.effects.Names.TheVariants.{NoName, OfArgument, OfOperands}
 use Rattle.pkcheck.specs.declared.machine.effects.Gives.{Gives}
 use Rattle.pkcheck.specs.declared.machine.effects.Gives.TheVariants.{Makes, MakesIntOrBool, MakesText, MayMake, Answers, Leaves}
-use Rattle.pkcheck.specs.Effects.{Effect, Operates, Moves, Stops, Raises, effect_as}
+use Rattle.pkcheck.specs.Effects.{Effect, Operates, Moves, Stops, Raises, effect_as, number_stored}
 use Rattle.pkcheck.specs.Shape.{top, put, Breach, Entry, Item, Mark, Shape, Taken, and_then, unless, front, moved}
 use Rattle.pkops.specs.Spelling.{Instruction}
 use Rattle.pkcheck.specs.Runs.{argument_named, ObjectClass, Text, Plain, Foreign, Object, Event, Import, Did, State, Outcome, Raise, Go, Stepped, Stopped, Named, NoImport, Pair, NotTexts, class_at, texts_named, named, asks, given, come_of, operated, move_step, stop_step, operate_step, perform, step_as}
-use Rattle.pkcheck.specs.Knowledge.{argument_asked, Known, Knowledge, Policy, Asked, AskedPair, AskedUnknown, Progress, Refusal, WrongClass, OffList, TooLarge, wrong_receiver, permitted, unknown_pair, operands_asked, asked_of, known_given, within, left_over, move_learned, stop_learned, operate_learned, learn, advance}
+use Rattle.pkcheck.specs.Knowledge.{argument_asked, Known, Knowledge, Policy, Asked, AskedPair, AskedUnknown, Progress, Refusal, WrongClass, OffList, TooLarge, wrong_receiver, permitted, unknown_pair, operands_asked, asked_of, known_given, is_past, within, left_over, move_learned, stop_learned, operate_learned, learn, advance}
 use Rattle.pkops.specs.Limits.{Bounds}
 use Rattle.pkcheck.specs.Covers.{Pointwise, AlikeEntry, AlikeCell, Alike, imports_of, IsAsked, Adds}
 use Rattle.pkcheck.proofs.Covering.CoversBy.{TrueBy, CoversBy, Choose, AnswerHolds, OutcomeHolds, FollowsBy, FollowsIfOk}
@@ -219,14 +219,10 @@ module _ (U : List Object → ℕ → Type 0) where
     learn_follows p Stops i k s o h w = stop_follows k.memo (top k.entries) s (top s.shape.entries) refl (top_alike (TrueBy U s.objects) k.entries s.shape.entries h.entries) h.memo
     learn_follows p Raises i k s o h w = tt
 
-    within_follows : (l : Bounds) (x : Result Progress Refusal) (s : State) (st : Stepped) → FollowsIfOk U x s st → FollowsIfOk U (and_then x (within l)) s st
-    within_follows l (Err r) s st h = tt
-    within_follows l (Ok q) s st h =
-        elim (ltb l.stack (length q.after.entries)) as (λ b. FollowsIfOk U (cond b (Err TooLarge) (cond (ltb l.memo (length q.after.memo)) (Err TooLarge) (Ok q))) s st) [
-          | true ↦ tt
-          | false ↦ elim (ltb l.memo (length q.after.memo)) as (λ b. FollowsIfOk U (cond b (Err TooLarge) (Ok q)) s st) [ true ↦ tt | false ↦ h ]
-        ]
+    within_follows : (l : Bounds) (n : ℕ) (x : Result Progress Refusal) (s : State) (st : Stepped) → FollowsIfOk U x s st → FollowsIfOk U (and_then x (within l n)) s st
+    within_follows l n (Err r) s st h = tt
+    within_follows l n (Ok q) s st h = elim (is_past l n q.after) as (λ b. FollowsIfOk U (cond b (Err TooLarge) (Ok q)) s st) [ true ↦ tt | false ↦ h ]
 
     -- where the checker goes on, the step finds what it needs, and what is known after covers the state after
     pub step_follows : (setting : OldStrings) (p : Policy) (l : Bounds) (i : Instruction) (k : Knowledge) (s : State) (o : Outcome) → CoversBy U k s → OutcomeHolds U s.objects o → FollowsIfOk U (advance setting p l i k) s (step_as setting i s o)
-    step_follows setting p l i k s o h w = within_follows l (learn p (effect_as setting i) i k) s (step_as setting i s o) (learn_follows p (effect_as setting i) i k s o h w)
+    step_follows setting p l i k s o h w = within_follows l (number_stored (effect_as setting i) i) (learn p (effect_as setting i) i k) s (step_as setting i s o) (learn_follows p (effect_as setting i) i k s o h w)

@@ -1,5 +1,5 @@
 -- What one step shows of the faults of its instruction.
-use Rattle.std.proofs.Common.{◌≡◌, ◌≢◌, ℕ, ◌<◌, ◌≤◌, Bool, true, false, cond, ltb, List, [], ◌∷◌, ◌++◌, length, Option, Some, None, Result, Ok, Err, ◌⊎◌, inl, inr, refl, sym, ap, subst, ◌∙◌, arith, lt-ltb}
+use Rattle.std.proofs.Common.{◌≡◌, ◌≢◌, ℕ, ◌<◌, ◌≤◌, Bool, true, false, cond, List, [], ◌∷◌, ◌++◌, length, Option, Some, None, Result, Ok, Err, ◌⊎◌, inl, inr, refl, sym, ap, subst, ◌∙◌, arith}
 use Rattle.std.proofs.lemmas.List.{append_cancel_left}
 use Rattle.std.proofs.lemmas.Option.{slice_get_within}
 use Rattle.pkops.specs.Spelling.{Instruction}
@@ -13,7 +13,7 @@ use Rattle.pkcheck.specs.declared.machine.effects.Gives.TheVariants.{Makes, Make
 use Rattle.pkcheck.specs.Effects.{Effect, Operates, Moves, Stops, Raises}
 use Rattle.pkcheck.specs.Shape.{Breach, NoMark, NoItem, NoMemo, Odd, Extension, Taken}
 use Rattle.pkcheck.specs.Runs.{ObjectClass, Text, Plain, Foreign, Object, Event, State, Outcome, Raise, Go, Stepped, WentOn, Raised, Stopped, Stuck, Named, NoImport, Pair, NotTexts, asks, come_of, operated, operate_step, perform}
-use Rattle.pkcheck.specs.Knowledge.{Known, Knowledge, Policy, Asked, AskedPair, AskedUnknown, Progress, Refusal, Lacks, WrongClass, NotText, UnknownImport, OffList, LeftOver, NotAscii, TooLarge, wrong_first, wrong_receiver, text_fault, operands_asked, asked_of, operate_learned, learn, within, reason_of}
+use Rattle.pkcheck.specs.Knowledge.{Known, Knowledge, Policy, Asked, AskedPair, AskedUnknown, Progress, Refusal, Lacks, WrongClass, NotText, UnknownImport, OffList, LeftOver, NotAscii, TooLarge, wrong_first, wrong_receiver, text_fault, operands_asked, asked_of, operate_learned, learn, is_past, within, reason_of}
 use Rattle.pkcheck.specs.Covers.{Pointwise, AlikeEntry, AlikeCell, IsObject, imports_of, IsAsked, Adds}
 use Rattle.pkcheck.proofs.Covering.CoversBy.{TrueBy, CoversBy, FollowsBy}
 use Rattle.pkcheck.specs.Faults.{IsMade, is_text, WrongReceiver, NonText, HasWrongReceiver, HasNonText, IsOff, AsksFor, LeavesMore, IsPast, GoesOnPast, rank, IsRaise}
@@ -22,6 +22,7 @@ use Rattle.pkcheck.proofs.Covering.Refusing.{HasList, IsTooLarge, RaisesAlone}
 use Rattle.pkcheck.proofs.Covering.Answering.{Answered, guess, IsGoing}
 use Rattle.pkcheck.specs.Stepping.{IsPermitted}
 use Rattle.pkcheck.proofs.Covering.Soundness.{imports_of-append, emptied}
+use Rattle.pkcheck.proofs.Stepping.Past.{within_past}
 
 -- longer than all that is listed
 abbrev pub IsLonger : Policy → List ℕ → Type 0
@@ -313,43 +314,29 @@ longer_differs v e = let n = ap length e in omega arith
 
 -- ---- the limits
 
-pub within_ok : (l : Bounds) (q r : Progress) → within l q ≡ Ok r → r ≡ q
-within_ok l q r =
-    elim (ltb l.stack (length q.after.entries)) as (λ b. cond b (Err TooLarge) (cond (ltb l.memo (length q.after.memo)) (Err TooLarge) (Ok q)) ≡ Ok r → r ≡ q) [
-      | true ↦ λ e. cc
-      | false ↦ elim (ltb l.memo (length q.after.memo)) as (λ b. cond b (Err TooLarge) (Ok q) ≡ Ok r → r ≡ q) [ true ↦ λ e. cc | false ↦ λ e. cc ]
-    ]
+pub within_ok : (l : Bounds) (n : ℕ) (q r : Progress) → within l n q ≡ Ok r → r ≡ q
+within_ok l n q r = elim (is_past l n q.after) as (λ b. cond b (Err TooLarge) (Ok q) ≡ Ok r → r ≡ q) [ true ↦ λ e. cc | false ↦ λ e. cc ]
 
-pub within_unknown : {A : Type 0} (l : Bounds) (q : Progress) → within l q ≡ Err UnknownImport → A
-within_unknown {A = A} l q =
-    elim (ltb l.stack (length q.after.entries)) as (λ b. cond b (Err TooLarge) (cond (ltb l.memo (length q.after.memo)) (Err TooLarge) (Ok q)) ≡ Err UnknownImport → A) [
-      | true ↦ λ e. cc
-      | false ↦ elim (ltb l.memo (length q.after.memo)) as (λ b. cond b (Err TooLarge) (Ok q) ≡ Err UnknownImport → A) [ true ↦ λ e. cc | false ↦ λ e. cc ]
-    ]
+pub within_unknown : {A : Type 0} (l : Bounds) (n : ℕ) (q : Progress) → within l n q ≡ Err UnknownImport → A
+within_unknown {A = A} l n q = elim (is_past l n q.after) as (λ b. cond b (Err TooLarge) (Ok q) ≡ Err UnknownImport → A) [ true ↦ λ e. cc | false ↦ λ e. cc ]
 
-pub stack_past : (l : Bounds) (q : Progress) → l.stack < length q.after.entries → within l q ≡ Err TooLarge
-stack_past l q h = rw (lt-ltb l.stack (length q.after.entries) h) refl
+pub covered_past : (l : Bounds) (n : ℕ) (q : Progress) (t : State) → CoversBy IsObject q.after t → IsPast l n t → within l n q ≡ Err TooLarge
+covered_past l n q t h (inl g) = within_past l n q (inl (subst (λ n. l.stack < n) (sym (length-Pointwise (AlikeEntry (TrueBy IsObject t.objects)) q.after.entries t.shape.entries h.entries)) g))
+covered_past l n q t h (inr (inl g)) = within_past l n q (inr (inl (subst (λ n. l.memo < n) (sym (length-Pointwise (AlikeCell (TrueBy IsObject t.objects)) q.after.memo t.shape.memo h.memo)) g)))
+covered_past l n q t h (inr (inr g)) = within_past l n q (inr (inr g))
 
-pub memo_past : (l : Bounds) (q : Progress) → l.memo < length q.after.memo → within l q ≡ Err TooLarge
-memo_past l q h =
-    rw (lt-ltb l.memo (length q.after.memo) h) (elim (ltb l.stack (length q.after.entries)) as (λ b. cond {A = Result Progress Refusal} b (Err TooLarge) (Err TooLarge) ≡ Err TooLarge) [ true ↦ refl | false ↦ refl ])
-
-pub covered_past : (l : Bounds) (q : Progress) (t : State) → CoversBy IsObject q.after t → IsPast l t → within l q ≡ Err TooLarge
-covered_past l q t h (inl g) = stack_past l q (subst (λ n. l.stack < n) (sym (length-Pointwise (AlikeEntry (TrueBy IsObject t.objects)) q.after.entries t.shape.entries h.entries)) g)
-covered_past l q t h (inr g) = memo_past l q (subst (λ n. l.memo < n) (sym (length-Pointwise (AlikeCell (TrueBy IsObject t.objects)) q.after.memo t.shape.memo h.memo)) g)
-
-pub past_refused : (l : Bounds) (q : Progress) (s : State) (st : Stepped) → FollowsBy IsObject q s st → GoesOnPast l st → within l q ≡ Err TooLarge
-past_refused l q s (WentOn t) h g = covered_past l q t h.0 g
-past_refused l q s (Stopped r t) h g = covered_past l q t h.2 g
-past_refused l q s (Raised t) h g = absurd g
-past_refused l q s (Stuck b) h g = absurd g
+pub past_refused : (l : Bounds) (n : ℕ) (q : Progress) (s : State) (st : Stepped) → FollowsBy IsObject q s st → GoesOnPast l n st → within l n q ≡ Err TooLarge
+past_refused l n q s (WentOn t) h g = covered_past l n q t h.0 g
+past_refused l n q s (Stopped r t) h g = covered_past l n q t h.2 g
+past_refused l n q s (Raised t) h g = absurd g
+past_refused l n q s (Stuck b) h g = absurd g
 
 -- a step that goes on, past a limit or not
-pub goes_past : (l : Bounds) (e : Effect) (st : Stepped) → IsGoing e st → IsTooLarge l st → GoesOnPast l st
-goes_past l e (WentOn t) h g = g
-goes_past l e (Stopped r t) h g = g
-goes_past l e (Raised t) h g = absurd h
-goes_past l e (Stuck b) h g = absurd h
+pub goes_past : (l : Bounds) (n : ℕ) (e : Effect) (st : Stepped) → IsGoing e st → IsTooLarge l n st → GoesOnPast l n st
+goes_past l n e (WentOn t) h g = g
+goes_past l n e (Stopped r t) h g = g
+goes_past l n e (Raised t) h g = absurd h
+goes_past l n e (Stuck b) h g = absurd h
 
 pub left_nothing : (q : Progress) (s : State) (st : Stepped) → FollowsBy IsObject q s st → LeavesMore st → ⊥
 left_nothing q s (Stopped r t) h g = g (emptied q.after.entries t.shape.entries (λ x y. AlikeEntry (TrueBy IsObject t.objects) x y) h.1 h.2.entries)

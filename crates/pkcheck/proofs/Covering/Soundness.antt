@@ -1,14 +1,14 @@
 -- What the checker accepts is sound over all runs.
 use Rattle.pkcheck.specs.declared.old_strings.OldStrings.{OldStrings}
 use Rattle.pkops.specs.Operands.{memo_number, pair_named}
-use Rattle.std.proofs.Common.{◌≡◌, ℕ, Bool, true, false, cond, ltb, List, [], ◌∷◌, ◌++◌, length, Option, Some, None, Result, Ok, Err, inl, inr, refl, sym, ap, subst}
+use Rattle.std.proofs.Common.{◌≡◌, ℕ, Bool, true, false, cond, List, [], ◌∷◌, ◌++◌, Option, Some, None, Result, Ok, Err, inl, inr, refl, sym, ap, subst}
 use Rattle.pkcheck.specs.declared.machine.effects.Names.{Names}
 use Rattle.pkcheck.specs.declared.machine.effects.Names.TheVariants.{NoName, OfArgument, OfOperands}
-use Rattle.pkcheck.specs.Effects.{Effect, Operates, Moves, Stops, Raises, effect_as}
+use Rattle.pkcheck.specs.Effects.{Effect, Operates, Moves, Stops, Raises, effect_as, number_stored}
 use Rattle.pkcheck.specs.Shape.{top, Breach, Entry, Taken, and_then, unless, operands, moved}
 use Rattle.pkops.specs.Spelling.{Instruction}
 use Rattle.pkcheck.specs.Runs.{Text, Plain, Foreign, Event, Import, Did, State, Outcome, Stepped, WentOn, Raised, Stopped, Stuck, step_as, start}
-use Rattle.pkcheck.specs.Knowledge.{argument_asked, Known, Knowledge, Asked, AskedPair, AskedUnknown, Progress, Refusal, WrongClass, OffList, TooLarge, lacking, permitted, operands_asked, asked_of, within, left_over, move_learned, stop_learned, learn, advance, nothing_known}
+use Rattle.pkcheck.specs.Knowledge.{argument_asked, Known, Knowledge, Asked, AskedPair, AskedUnknown, Progress, Refusal, WrongClass, OffList, TooLarge, lacking, permitted, operands_asked, asked_of, is_past, within, left_over, move_learned, stop_learned, learn, advance, nothing_known}
 use Rattle.pkops.specs.Limits.{Bounds}
 use Rattle.pkcheck.specs.Covers.{Pointwise, AlikeEntry, IsObject, imports_of, IsAsked, Adds}
 use Rattle.pkcheck.specs.Stepping.{IsPermitted}
@@ -94,12 +94,12 @@ module _ (list : List ℕ → List ℕ → Bool) where
   learn_listed Stops i k = stop_listed k.memo (top k.entries)
   learn_listed Raises i k = tt
 
-  within_listed : (l : Bounds) (x : Result Progress Refusal) → PassesListed list x → PassesListed list (and_then x (within l))
-  within_listed l (Err r) h = tt
-  within_listed l (Ok q) h = refused_listed (ltb l.stack (length q.after.entries)) TooLarge _ (refused_listed (ltb l.memo (length q.after.memo)) TooLarge (Ok q) h)
+  within_listed : (l : Bounds) (n : ℕ) (x : Result Progress Refusal) → PassesListed list x → PassesListed list (and_then x (within l n))
+  within_listed l n (Err r) h = tt
+  within_listed l n (Ok q) h = refused_listed (is_past l n q.after) TooLarge (Ok q) h
 
   pub advance_listed : (setting : OldStrings) (l : Bounds) (i : Instruction) (k : Knowledge) → PassesListed list (advance setting (Some list) l i k)
-  advance_listed setting l i k = within_listed l (learn (Some list) (effect_as setting i) i k) (learn_listed (effect_as setting i) i k)
+  advance_listed setting l i k = within_listed l (number_stored (effect_as setting i) i) (learn (Some list) (effect_as setting i) i k) (learn_listed (effect_as setting i) i k)
 
   AllListed-append : (ps qs : List (List ℕ × List ℕ)) → AllListed list ps → AllListed list qs → AllListed list (ps ++ qs)
   AllListed-append [] qs h g = g

@@ -8,7 +8,7 @@ use Rattle.std.proofs.lemmas.Str.{IsUtf8-append, IsUtf8-from_ascii, IsUtf8-nil}
 use Rattle.std.proofs.lemmas.Str.Ascii.{IsAscii-from_all}
 use Rattle.pkops.specs.Spelling.{Instruction}
 use Rattle.pkops.specs.Limits.{Bounds}
-use Rattle.pkcheck.specs.Effects.{effect_as}
+use Rattle.pkcheck.specs.Effects.{effect_as, number_stored}
 use Rattle.pkread.specs.declared.refusal.Reason.{Reason}
 use Rattle.pkread.specs.declared.refusal.Reason.TheVariants as reason
 use Rattle.pkcheck.specs.Shape.{Breach, NoMark, NoItem, NoMemo, Odd, Extension, and_then}
@@ -67,11 +67,11 @@ module _ (p : Policy) (l : Bounds) (i : Instruction) (k : Knowledge) (Here : Arr
   follows : (s : State) (o : Outcome) → Here.any s → FollowsIfOk IsObject (learn p (effect_as Here.setting i) i k) s (step_as Here.setting i s o)
   follows s o g = learn_follows IsObject objects_grow p (effect_as Here.setting i) i k s o (h.each s g) (any_answer s.objects o)
 
-  refused : (s : State) (o : Outcome) → Here.any s → FaultIfErr p l (effect_as Here.setting i) s (step_as Here.setting i s o) (learn p (effect_as Here.setting i) i k)
-  refused s o g = learn_refused IsObject p l (effect_as Here.setting i) i k s o (h.each s g)
+  refused : (s : State) (o : Outcome) → Here.any s → FaultIfErr p l (number_stored (effect_as Here.setting i) i) (effect_as Here.setting i) s (step_as Here.setting i s o) (learn p (effect_as Here.setting i) i k)
+  refused s o g = learn_refused IsObject p l (number_stored (effect_as Here.setting i) i) (effect_as Here.setting i) i k s o (h.each s g)
 
-  fault_at : (r : Refusal) → advance Here.setting p l i k ≡ Err r → (s : State) (o : Outcome) → Here.any s → Fault p l (effect_as Here.setting i) s (step_as Here.setting i s o) r
-  fault_at r e s o g = subst (λ x. FaultIfErr p l (effect_as Here.setting i) s (step_as Here.setting i s o) x) e (step_refused IsObject p l objects_grow Here.setting i k s o (h.each s g) (any_answer s.objects o))
+  fault_at : (r : Refusal) → advance Here.setting p l i k ≡ Err r → (s : State) (o : Outcome) → Here.any s → Fault p l (number_stored (effect_as Here.setting i) i) (effect_as Here.setting i) s (step_as Here.setting i s o) r
+  fault_at r e s o g = subst (λ x. FaultIfErr p l (number_stored (effect_as Here.setting i) i) (effect_as Here.setting i) s (step_as Here.setting i s o) x) e (step_refused IsObject p objects_grow l Here.setting i k s o (h.each s g) (any_answer s.objects o))
 
   -- the state in which what is unknown are answers of this text, and the step that answers this text
   abbrev at : (v : Word) → State
@@ -91,8 +91,8 @@ module _ (p : Policy) (l : Bounds) (i : Instruction) (k : Knowledge) (Here : Arr
 
   -- ---- the fault is there
 
-  guessed : (v : Word) (x : Result Progress Refusal) → Exactly v.text (effect_as Here.setting i) k (at v) (step_as Here.setting i (at v) (answer v)) x → and_then x (within l) ≡ Err UnknownImport → AsksGuess v.text (effect_as Here.setting i) k (at v) (step_as Here.setting i (at v) (answer v))
-  guessed v (Ok q) g e = within_unknown l q e
+  guessed : (v : Word) (x : Result Progress Refusal) → Exactly v.text (effect_as Here.setting i) k (at v) (step_as Here.setting i (at v) (answer v)) x → and_then x (within l (number_stored (effect_as Here.setting i) i)) ≡ Err UnknownImport → AsksGuess v.text (effect_as Here.setting i) k (at v) (step_as Here.setting i (at v) (answer v))
+  guessed v (Ok q) g e = within_unknown l (number_stored (effect_as Here.setting i) i) q e
   guessed v (Err UnknownImport) g e = g
   guessed v (Err TooLarge) g e = cc
   guessed v (Err (Lacks b)) g e = cc
@@ -102,7 +102,7 @@ module _ (p : Policy) (l : Bounds) (i : Instruction) (k : Knowledge) (Here : Arr
   guessed v (Err LeftOver) g e = cc
   guessed v (Err NotAscii) g e = cc
 
-  goes_on : (v : Word) (x : Result Progress Refusal) → Exactly v.text (effect_as Here.setting i) k (at v) (step_as Here.setting i (at v) (answer v)) x → and_then x (within l) ≡ Err TooLarge → IsGoing (effect_as Here.setting i) (step_as Here.setting i (at v) (answer v))
+  goes_on : (v : Word) (x : Result Progress Refusal) → Exactly v.text (effect_as Here.setting i) k (at v) (step_as Here.setting i (at v) (answer v)) x → and_then x (within l (number_stored (effect_as Here.setting i) i)) ≡ Err TooLarge → IsGoing (effect_as Here.setting i) (step_as Here.setting i (at v) (answer v))
   goes_on v (Ok q) g e = g.0
   goes_on v (Err TooLarge) g e = absurd g
   goes_on v (Err UnknownImport) g e = cc
@@ -147,7 +147,7 @@ module _ (p : Policy) (l : Bounds) (i : Instruction) (k : Knowledge) (Here : Arr
   has_fault v long (OffList m n) e x = (m, n, off_list m n e)
   has_fault v long LeftOver e x = record { each = λ s g o. fault_at LeftOver e s o g; some = some_run }
   has_fault v long NotAscii e x = record { each = λ s g o. raise_is s _ (fault_at NotAscii e s o g); some = some_run }
-  has_fault v long TooLarge e x = (at empty, answer empty, here empty, h.answers empty _, goes_past l (effect_as Here.setting i) _ (goes_on empty (learn p (effect_as Here.setting i) i k) (exactly empty) e) (fault_at TooLarge e (at empty) (answer empty) (there empty)))
+  has_fault v long TooLarge e x = (at empty, answer empty, here empty, h.answers empty _, goes_past l (number_stored (effect_as Here.setting i) i) (effect_as Here.setting i) _ (goes_on empty (learn p (effect_as Here.setting i) i k) (exactly empty) e) (fault_at TooLarge e (at empty) (answer empty) (there empty)))
 
   -- ---- a fault is refused, by it or by one that is tried earlier
 
@@ -161,10 +161,10 @@ module _ (p : Policy) (l : Bounds) (i : Instruction) (k : Knowledge) (Here : Arr
 
   -- what the checker makes of it, whatever the limits
   refuses : (q : Refusal) → learn p (effect_as Here.setting i) i k ≡ Err q → advance Here.setting p l i k ≡ Err q
-  refuses q e = ap (λ x. and_then x (within l)) e
+  refuses q e = ap (λ x. and_then x (within l (number_stored (effect_as Here.setting i) i))) e
 
-  passes : (q : Progress) → learn p (effect_as Here.setting i) i k ≡ Ok q → advance Here.setting p l i k ≡ within l q
-  passes q e = ap (λ x. and_then x (within l)) e
+  passes : (q : Progress) → learn p (effect_as Here.setting i) i k ≡ Ok q → advance Here.setting p l i k ≡ within l (number_stored (effect_as Here.setting i) i) q
+  passes q e = ap (λ x. and_then x (within l (number_stored (effect_as Here.setting i) i))) e
 
   by_ : (r : Refusal) → ((q : Progress) → learn p (effect_as Here.setting i) i k ≡ Ok q → By r) → ((q : Refusal) → learn p (effect_as Here.setting i) i k ≡ Err q → By r) → (x : Result Progress Refusal) → learn p (effect_as Here.setting i) i k ≡ x → By r
   by_ r f g (Ok q) e = f q e
@@ -173,8 +173,8 @@ module _ (p : Policy) (l : Bounds) (i : Instruction) (k : Knowledge) (Here : Arr
   follows_ok : (q : Progress) → learn p (effect_as Here.setting i) i k ≡ Ok q → (s : State) (o : Outcome) → Here.any s → FollowsBy IsObject q s (step_as Here.setting i s o)
   follows_ok q e s o g = subst (λ x. FollowsIfOk IsObject x s (step_as Here.setting i s o)) e (follows s o g)
 
-  fault_of : (q : Refusal) → learn p (effect_as Here.setting i) i k ≡ Err q → (s : State) (o : Outcome) → Here.any s → Fault p l (effect_as Here.setting i) s (step_as Here.setting i s o) q
-  fault_of q e s o g = subst (λ x. FaultIfErr p l (effect_as Here.setting i) s (step_as Here.setting i s o) x) e (refused s o g)
+  fault_of : (q : Refusal) → learn p (effect_as Here.setting i) i k ≡ Err q → (s : State) (o : Outcome) → Here.any s → Fault p l (number_stored (effect_as Here.setting i) i) (effect_as Here.setting i) s (step_as Here.setting i s o) q
+  fault_of q e s o g = subst (λ x. FaultIfErr p l (number_stored (effect_as Here.setting i) i) (effect_as Here.setting i) s (step_as Here.setting i s o) x) e (refused s o g)
 
   exactly_err : (q : Refusal) → learn p (effect_as Here.setting i) i k ≡ Err q → (v : Word) → Exactly v.text (effect_as Here.setting i) k (at v) (step_as Here.setting i (at v) (answer v)) (Err q)
   exactly_err q e v = subst (λ x. Exactly v.text (effect_as Here.setting i) k (at v) (step_as Here.setting i (at v) (answer v)) x) e (exactly v)
@@ -264,7 +264,7 @@ module _ (p : Policy) (l : Bounds) (i : Instruction) (k : Knowledge) (Here : Arr
 
   large_refused : GoesPast l Here i → By TooLarge
   large_refused f =
-      by_ TooLarge (λ q e. (TooLarge, passes q e ∙ past_refused l q f.0 (step_as Here.setting i f.0 f.1) (follows_ok q e f.0 f.1 (h.real f.0 f.2)) f.4, omega arith))
+      by_ TooLarge (λ q e. (TooLarge, passes q e ∙ past_refused l (number_stored (effect_as Here.setting i) i) q f.0 (step_as Here.setting i f.0 f.1) (follows_ok q e f.0 f.1 (h.real f.0 f.2)) f.4, omega arith))
       (λ q e. (q, refuses q e, (let t = last_turn q in omega (arith, t)))) (learn p (effect_as Here.setting i) i k) refl
 
 -- a pair off the list is refused
@@ -355,8 +355,8 @@ module _ (p : Policy) (l : Bounds) (i : Instruction) (k : Knowledge) (Here : Arr
   pub first_fault : (v : Word) → IsLonger p v.text → (r : Refusal) → advance Here.setting p l i k ≡ Err r → (r ≡ Lacks Extension → ⊥) → IsFirstFault p l Here i (reason_of r) (off_pair r)
   first_fault v long r e x = record { fault = has_fault p l i k Here h v long r e x; first = first r e; asks = pair_of r e }
 
-  asks_guess : (v : Word) (q : Progress) → advance Here.setting p l i k ≡ Ok q → q.import ≡ Some AskedUnknown → (x : Result Progress Refusal) → learn p (effect_as Here.setting i) i k ≡ x → and_then x (within l) ≡ Ok q → AsksGuess v.text (effect_as Here.setting i) k (at p l i k Here h v) (step_as Here.setting i (at p l i k Here h v) (answer p l i k Here h v))
-  asks_guess v q e u (Ok r) is w = (subst (λ x. Exactly v.text (effect_as Here.setting i) k (at p l i k Here h v) (step_as Here.setting i (at p l i k Here h v) (answer p l i k Here h v)) x) is (exactly p l i k Here h v)).1 (ap (λ (z : Progress). z.import) (sym (within_ok l r q w)) ∙ u)
+  asks_guess : (v : Word) (q : Progress) → advance Here.setting p l i k ≡ Ok q → q.import ≡ Some AskedUnknown → (x : Result Progress Refusal) → learn p (effect_as Here.setting i) i k ≡ x → and_then x (within l (number_stored (effect_as Here.setting i) i)) ≡ Ok q → AsksGuess v.text (effect_as Here.setting i) k (at p l i k Here h v) (step_as Here.setting i (at p l i k Here h v) (answer p l i k Here h v))
+  asks_guess v q e u (Ok r) is w = (subst (λ x. Exactly v.text (effect_as Here.setting i) k (at p l i k Here h v) (step_as Here.setting i (at p l i k Here h v) (answer p l i k Here h v)) x) is (exactly p l i k Here h v)).1 (ap (λ (z : Progress). z.import) (sym (within_ok l (number_stored (effect_as Here.setting i) i) r q w)) ∙ u)
   asks_guess v q e u (Err r) is w = cc
 
   -- an import is listed as unknown only where two runs ask for different pairs

@@ -1,10 +1,12 @@
 -- No rule of the list file speaks of memory.
-use Rattle.std.proofs.Common.{◌≢◌, ◌==◌, ℕ, not, length, Bool, true, false, Option, Some, None, codes}
+use Rattle.std.proofs.Common.{◌≢◌, ◌==◌, ℕ, not, length, Bool, true, false, cond, Option, Some, None, codes}
+use Rattle.std.specs.Str.{bytes_eq}
 use Rattle.toml.specs.Data.{Data, string, integer, float, boolean, datetime, array, table, Members, no_members, member, get_member}
+use Rattle.pkops.specs.Limits.{Bounds}
 use Rattle.pkcheck.specs.declared.allow.error.AllowError.{AllowError}
 use Rattle.pkcheck.specs.declared.allow.error.AllowError.TheVariants.{Shape, Version, OutOfMemory}
 use Rattle.pkcheck.specs.declared.allow.error.Where.TheVariants as part
-use Rattle.pkcheck.specs.ListFile.{Text, kept_or, or_else, is_version, is_two, is_top_key, version_fault, keys_fault, module_fault, modules_fault, imports_fault, greatest_at, is_limit, limit_fault, each_limit_fault, limits_fault, fault_of, are_names}
+use Rattle.pkcheck.specs.ListFile.{Text, kept_or, or_else, is_version, is_two, is_top_key, version_fault, keys_fault, module_fault, modules_fault, imports_fault, greatest_at, greatest_where, is_large, is_limit, is_true, key_fault, large_fault, limit_fault, each_limit_fault, table_fault, limits_fault, fault_of, are_names}
 
 abbrev IsOfRule : Option AllowError → Type 0
 IsOfRule fault = fault ≢ Some OutOfMemory
@@ -63,14 +65,30 @@ limit_is : (most : Option ℕ) (value : Data) → IsOfRule (limit_fault most val
 limit_is (Some most) value = kept_or_is (is_limit most value) (Shape part.Limit) (λ h. cc)
 limit_is None value = λ h. cc
 
-each_limit_is : (limits : Members) → IsOfRule (each_limit_fault limits)
-each_limit_is no_members = λ h. cc
-each_limit_is (member key value rest) =
-    or_else_is (limit_fault (greatest_at key) value) (each_limit_fault rest) (limit_is (greatest_at key) value) (each_limit_is rest)
+none_or : (is : Bool) (fault : Option AllowError) → IsOfRule fault → IsOfRule (cond is None fault)
+none_or true fault h = λ e. cc
+none_or false fault h = h
+
+key_is : (most : Bounds) (key : Text) (value : Data) → IsOfRule (key_fault most key value)
+key_is most key value = none_or (bytes_eq key (codes "large")) (limit_fault (greatest_at most key) value) (limit_is (greatest_at most key) value)
+
+each_limit_is : (most : Bounds) (limits : Members) → IsOfRule (each_limit_fault most limits)
+each_limit_is most no_members = λ h. cc
+each_limit_is most (member key value rest) =
+    or_else_is (key_fault most key value) (each_limit_fault most rest) (key_is most key value) (each_limit_is most rest)
+
+large_is : (value : Option Data) → IsOfRule (large_fault value)
+large_is (Some value) = kept_or_is (is_true value) (Shape part.Limit) (λ h. cc)
+large_is None = λ h. cc
+
+table_is : (limits : Members) → IsOfRule (table_fault limits)
+table_is limits =
+    let is = get_member (codes "large") limits in
+    or_else_is (large_fault is) (each_limit_fault (greatest_where (is_large is)) limits) (large_is is) (each_limit_is (greatest_where (is_large is)) limits)
 
 limits_is : (value : Option Data) → IsOfRule (limits_fault value)
 limits_is None = λ h. cc
-limits_is (Some (table limits)) = each_limit_is limits
+limits_is (Some (table limits)) = table_is limits
 limits_is (Some (string _)) = λ h. cc
 limits_is (Some (integer _)) = λ h. cc
 limits_is (Some (float _)) = λ h. cc

@@ -2,7 +2,7 @@
 use Rattle.std.proofs.Common.{◌≡◌, refl, codes, Bool, true, false, Err, Ok, Result}
 use Rattle.toml.proofs.OnLiterals.{toml_on_literals}
 use Rattle.toml.specs.Data.{Members, get_member}
-use Rattle.pkops.specs.Limits.{Bounds, standard}
+use Rattle.pkops.specs.Limits.{Bounds, large, standard}
 use Rattle.pkcheck.specs.declared.allow.error.AllowError.{AllowError}
 use Rattle.pkcheck.specs.declared.allow.error.AllowError.TheVariants.{Syntax, Shape, Version}
 use Rattle.pkcheck.specs.declared.allow.error.Where.TheVariants as part
@@ -79,6 +79,15 @@ other_limit : list_of (codes "version = 2\nimports = {}\nlimits = { heap = 1 }")
 unfolding toml_on_literals
 other_limit = refl
 
+-- `large` is judged before the other keys, and says `true` or nothing
+large_first : list_of (codes "version = 2\nimports = {}\nlimits = { heap = 1, large = false }") ≡ Err (Shape part.Limit)
+unfolding toml_on_literals
+large_first = refl
+
+above_large : list_of (codes "version = 2\nimports = {}\nlimits = { large = true, stack = 4294967296 }") ≡ Err (Shape part.Limit)
+unfolding toml_on_literals
+above_large = refl
+
 -- the limits of a list
 abbrev limits_read : Result Members AllowError → Bounds
 limits_read (Ok list) = limits_in (get_member (codes "limits") list)
@@ -87,3 +96,16 @@ limits_read (Err error) = standard
 one_limit : limits_read (list_of (codes "version = 2\nimports = {}\nlimits = { passed = 16777217 }")) ≡ record standard { passed = 16_777_217 }
 unfolding toml_on_literals
 one_limit = refl
+
+large_limits : limits_read (list_of (codes "version = 2\nimports = {}\nlimits = { large = true, passed = 16777217 }")) ≡ record large { passed = 16_777_217 }
+unfolding toml_on_literals
+large_limits = refl
+
+-- another limit stands beside `large`
+large_stack : limits_read (list_of (codes "version = 2\nimports = {}\nlimits = { stack = 1000001, large = true }")) ≡ record large { stack = 1_000_001 }
+unfolding toml_on_literals
+large_stack = refl
+
+limited_numbers : limits_read (list_of (codes "version = 2\nimports = {}\nlimits = { numbers = 1000000 }")) ≡ record standard { numbers = 1_000_000 }
+unfolding toml_on_literals
+limited_numbers = refl

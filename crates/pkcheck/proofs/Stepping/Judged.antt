@@ -1,7 +1,6 @@
 -- What the policy makes of an import, and what is refused.
 use Rattle.pkops.specs.Operands.{pair_named}
-use Rattle.std.proofs.Common.{◌≡◌, ℕ, ◌⊎◌, inl, inr, List, [], ◌∷◌, ◌++◌, Bool, true, false, cond, Option, Some, None, Result, Ok, Err, option_map, refl, ◌∙◌, length, ◌<◌, arith, map, ◌≤◌}
-use Rattle.std.proofs.lemmas.Bool.{lt-ltb}
+use Rattle.std.proofs.Common.{◌≡◌, ℕ, ◌⊎◌, inl, inr, List, [], ◌∷◌, ◌++◌, Bool, true, false, cond, Option, Some, None, Result, Ok, Err, option_map, refl, ◌∙◌, length, arith, map, ◌≤◌}
 use Rattle.std.specs.Prelude.{is_some, IsSome}
 use Rattle.pkcheck.specs.declared.machine.effects.Names.{Names}
 use Rattle.pkcheck.specs.declared.machine.effects.Names.TheVariants.{NoName, OfArgument, OfOperands}
@@ -28,6 +27,7 @@ use Rattle.pkcheck.specs.declared.machine.effects.Wanted.{Wanted}
 use Rattle.std.specs.List.{slice_get}
 use Rattle.pkcheck.specs.Private.Denials.{ruled, judged, IsDenied, IsForMemory, IsLack, MayGive, MayName, MayOperate, Passes, WantsRoom, HasFirst, WellGiven}
 use Rattle.pkcheck.specs.Import.{asks_more}
+use Rattle.pkcheck.proofs.Stepping.Past.{within_past}
 
 abbrev pub ruled_any : Policy → Option Asked → Result (Option Asked) Refusal
 ruled_any p None = Ok None
@@ -74,9 +74,6 @@ unchosen : {A B E : Type 0} (b : Bool) (e : E) (x : Result A E) (f : A → Resul
 unchosen true e x f r h = cc
 unchosen false e x f r h = rw h refl
 
-past_stack : (l : Bounds) (k : Knowledge) (a : Option Asked) → l.stack < length k.entries → within l (record { after = k; import = a }) ≡ Err TooLarge
-past_stack l k a h = rw (lt-ltb l.stack (length k.entries) h) refl
-
 module _ (p : Policy) (takes : Takes) (names : Names) (gives : Gives) (i : Instruction) (k : Knowledge) where
   pub learn_lacks : (b : Breach) → operands takes k.entries ≡ Err b → learn p (Operates takes names gives) i k ≡ Err (Lacks b)
   learn_lacks b e = rw e refl
@@ -95,8 +92,8 @@ module _ (p : Policy) (takes : Takes) (names : Names) (gives : Gives) (i : Instr
   judged_denied t d e (f, g, h, j) = (f, learn_denied t e f g, h, j)
 
   -- a given object wants room for one more
-  pub room_denied : (l : Bounds) (t : Taken Known) (a : Option Asked) (v : Known) → operands takes k.entries ≡ Ok t → judged p names gives i t.operands ≡ Ok a → known_given gives i ≡ Some v → l.stack ≤ length t.below → IsDenied (and_then (learn p (Operates takes names gives) i k) (within l)) (record { reason = reason.TooLarge; pair = None })
-  room_denied l t a v e g j h = (TooLarge, rw (learn_passes t e a g, j) (past_stack l (record { entries = Item v ∷ t.below; memo = k.memo }) a (omega arith)), refl, refl)
+  pub room_denied : (l : Bounds) (t : Taken Known) (a : Option Asked) (v : Known) → operands takes k.entries ≡ Ok t → judged p names gives i t.operands ≡ Ok a → known_given gives i ≡ Some v → l.stack ≤ length t.below → IsDenied (and_then (learn p (Operates takes names gives) i k) (within l 0)) (record { reason = reason.TooLarge; pair = None })
+  room_denied l t a v e g j h = (TooLarge, rw (learn_passes t e a g, j) (within_past l 0 (record { after = record { entries = Item v ∷ t.below; memo = k.memo }; import = a }) (inl (omega arith))), refl, refl)
 
 pub may_give : (gives : Gives) (i : Instruction) (v : Known) → known_given gives i ≡ Some v → MayGive gives
 may_give (Makes s) i v e = tt
@@ -111,8 +108,8 @@ may_name NoName i ks a e = cc
 may_name OfArgument i ks a e = tt
 may_name OfOperands i ks a e = tt
 
-pub within_denied : (x : Result Progress Refusal) (l : Bounds) (d : Denial) → IsDenied x d → IsDenied (and_then x (within l)) d
-within_denied x l d (f, e, g, h) = (f, rw e refl, g, h)
+pub within_denied : (x : Result Progress Refusal) (l : Bounds) (n : ℕ) (d : Denial) → IsDenied x d → IsDenied (and_then x (within l n)) d
+within_denied x l n d (f, e, g, h) = (f, rw e refl, g, h)
 
 wrong_any : (ts : List (List ℕ)) (w : Wanted) (v : Value) (ks : List Known) → wrong_first w (known ts v ∷ []) ≡ wrong_first w (known ts v ∷ ks)
 wrong_any ts w Unknown ks = refl
@@ -149,7 +146,7 @@ module _ (p : Policy) (takes : Takes) (names : Names) (gives : Gives) (i : Instr
       Passes (learn p (Operates takes names gives) i k) (record { entries = new; memo = k.memo }) before after b
   does_pass new before after b e f g = (option_map (named_asked us) a, rw e (learn_passes p takes names gives i k t found _ fits), f, g ∙ some_named us a)
 
-  pub unroomed : (ts : List (List ℕ)) (v : Option Value) → StandsIf ts v (known_given gives i) → (l : Bounds) (r : Reason) → IsSome v → WantsRoom l.stack (length t.below) r → IsDenied (and_then (learn p (Operates takes names gives) i k) (within l)) (record { reason = r; pair = None }) ⊎ (MayOperate names gives × IsForMemory (record { reason = r; pair = None }))
+  pub unroomed : (ts : List (List ℕ)) (v : Option Value) → StandsIf ts v (known_given gives i) → (l : Bounds) (r : Reason) → IsSome v → WantsRoom l.stack (length t.below) r → IsDenied (and_then (learn p (Operates takes names gives) i k) (within l 0)) (record { reason = r; pair = None }) ⊎ (MayOperate names gives × IsForMemory (record { reason = r; pair = None }))
   unroomed ts v given l r s w =
       let (n, j) = given_some ts v (known_given gives i) s given in
       elim w [
@@ -183,7 +180,7 @@ module _ (p : Policy) (takes : Takes) (names : Names) (gives : Gives) (i : Instr
   nothing_asked : judged p names gives i [] ≡ Ok None
   nothing_asked = rw (f, no_receiver gives) refl
 
-  pub create_denied : (l : Bounds) (r : Reason) (v : Known) → known_given gives i ≡ Some v → WantsRoom l.stack (length k.entries) r → IsDenied (and_then (learn p (Operates takes names gives) i k) (within l)) (record { reason = r; pair = None }) ⊎ (MayOperate names gives × IsForMemory (record { reason = r; pair = None }))
+  pub create_denied : (l : Bounds) (r : Reason) (v : Known) → known_given gives i ≡ Some v → WantsRoom l.stack (length k.entries) r → IsDenied (and_then (learn p (Operates takes names gives) i k) (within l 0)) (record { reason = r; pair = None }) ⊎ (MayOperate names gives × IsForMemory (record { reason = r; pair = None }))
   create_denied l r v j s =
       elim s [
         | inl u ↦ inl (rw u.0 (room_denied p takes names gives i k l _ None v nothing_taken nothing_asked j u.1))

@@ -8,14 +8,14 @@ use Rattle.pkops.specs.Limits.{Bounds}
 use Rattle.pkcheck.specs.Private.Denials.{IsFault, IsFaultOf, MoveMayWantMemory, WantsRoom, WantsMemo}
 
 -- one more entry than there is room for
-pub grown : {A : Type 0} (b : Bounds) (x : Result (Shape A) Breach) (e : Entry A) (es : List (Entry A)) (m : List (ℕ × A)) (r : Reason) → x ≡ Ok (record { entries = e ∷ es; memo = m }) → WantsRoom b.stack (length es) r → IsFault b x r
-grown b x e es m r is (inl h) = inr (inl (h.0, (record { entries = e ∷ es; memo = m }, is, inl (let g = h.1 in omega arith))))
-grown b x e es m r is (inr h) = inr (inr h)
+pub grown : {A : Type 0} (b : Bounds) (n : ℕ) (x : Result (Shape A) Breach) (e : Entry A) (es : List (Entry A)) (m : List (ℕ × A)) (r : Reason) → x ≡ Ok (record { entries = e ∷ es; memo = m }) → WantsRoom b.stack (length es) r → IsFault b n x r
+grown b n x e es m r is (inl h) = inr (inl (h.0, (record { entries = e ∷ es; memo = m }, is, inl (let g = h.1 in omega arith))))
+grown b n x e es m r is (inr h) = inr (inr h)
 
 -- more cells than there is room for
-pub stuffed : {A : Type 0} (b : Bounds) (x : Result (Shape A) Breach) (es : List (Entry A)) (m : List (ℕ × A)) (r : Reason) → x ≡ Ok (record { entries = es; memo = m }) → WantsMemo b.memo m r → IsFault b x r
-stuffed b x es m r is (inl h) = inr (inl (h.0, (record { entries = es; memo = m }, is, inr h.1)))
-stuffed b x es m r is (inr h) = inr (inr h)
+pub stuffed : {A : Type 0} (b : Bounds) (n : ℕ) (x : Result (Shape A) Breach) (es : List (Entry A)) (m : List (ℕ × A)) (r : Reason) → x ≡ Ok (record { entries = es; memo = m }) → WantsMemo b.memo m r → IsFault b n x r
+stuffed b n x es m r is (inl h) = inr (inl (h.0, (record { entries = es; memo = m }, is, inr (inl h.1))))
+stuffed b n x es m r is (inr h) = inr (inr h)
 
 module _ {A : Type 0} (h : Shape A) where
   pub duplicated : (t : A × List (Entry A)) → top h.entries ≡ Ok t → moved Duplicates 0 h ≡ Ok (record h { entries = Item t.0 ∷ h.entries })
@@ -30,7 +30,10 @@ module _ {A : Type 0} (h : Shape A) where
   pub fetches_none : (n : ℕ) → recalled n h.memo ≡ None → moved Fetches n h ≡ Err (NoMemo n)
   fetches_none n e = rw e refl
 
-pub fault_of : {A : Type 0} (m : Move) (l : Bounds) (x : Result (Shape A) Breach) (r : Reason) → MoveMayWantMemory m → IsFault l x r → IsFaultOf m l x r
-fault_of m l x r w (inl h) = inl h
-fault_of m l x r w (inr (inl h)) = inr (inl h)
-fault_of m l x r w (inr (inr h)) = inr (inr (w, h))
+-- the number passes no limit that was not passed without it
+pub fault_of : {A : Type 0} (m : Move) (l : Bounds) (n : ℕ) (x : Result (Shape A) Breach) (r : Reason) → MoveMayWantMemory m → IsFault l 0 x r → IsFaultOf m l n x r
+fault_of m l n x r w (inl h) = inl h
+fault_of m l n x r w (inr (inl (e, (k, is, inl h)))) = inr (inl (e, (k, is, inl h)))
+fault_of m l n x r w (inr (inl (e, (k, is, inr (inl h))))) = inr (inl (e, (k, is, inr (inl h))))
+fault_of m l n x r w (inr (inl (e, (k, is, inr (inr h))))) = absurd (omega arith)
+fault_of m l n x r w (inr (inr h)) = inr (inr (w, h))

@@ -7,14 +7,14 @@ use Rattle.pkops.specs.declared.op.Op.TheVariants as op
 use Rattle.pkread.specs.declared.refusal.Reason.{Reason}
 use Rattle.pkcheck.specs.declared.machine.effects.Class.{Class}
 use Rattle.pkcheck.specs.declared.machine.stepping.Moved.TheVariants.{On}
-use Rattle.pkcheck.specs.Effects.{effect_as, pushes}
+use Rattle.pkcheck.specs.Effects.{effect_as, number_stored, pushes}
 use Rattle.pkcheck.specs.Shape.{and_then}
 use Rattle.pkcheck.specs.Knowledge.{Policy, TooLarge, learn, within}
 use Rattle.pkcheck.specs.Private.Denials.{WantsRoom, with_made}
 use Rattle.pkops.specs.Payloads.{is_passed}
 use Rattle.pkcheck.specs.Stepping.{Fails, GoesOn}
 use Rattle.pkcheck.specs.View.{View, moved_as, texts_after}
-use Rattle.pkcheck.proofs.Stepping.Going.{within_fits, within_past}
+use Rattle.pkcheck.proofs.Stepping.Past.{within_fits, within_past}
 use Rattle.pkcheck.proofs.Stepping.Settings.{wants_no_memory}
 
 -- such an instruction is admitted
@@ -33,12 +33,12 @@ module _ (p : Policy) (i : Instruction) (before after : View) (c : Class) (e : e
   passes stack memo running becomes =
       let texts = sym (ap (λ x. texts_after x before.texts) e) in (
         record { after = with_made c before.knowledge; import = None },
-        ap (λ x. and_then x (within before.limits)) learned ∙ within_fits before.limits _ stack memo,
+        ap (λ x. and_then x (within before.limits (number_stored (effect_as before.old_strings i) i))) learned ∙ within_fits before.limits _ _ stack memo (rw e (omega arith)),
         becomes ∙ (λ j. record before { knowledge = with_made c before.knowledge; stopped = running j; texts = texts j }),
         sym (ap (λ x. moved_as x None) e),
       )
 
   pub lacks_room : (r : Reason) → WantsRoom before.limits.stack (length before.knowledge.entries) r → after ≡ record before { refused = Some r; off = None } → Fails p i before after r
   lacks_room r (inl h) becomes =
-      inl (TooLarge, ap (λ x. and_then x (within before.limits)) learned ∙ within_past before.limits (with_made c before.knowledge) (inl (let le = h.1 in omega (arith, le))), h.0, becomes)
+      inl (TooLarge, ap (λ x. and_then x (within before.limits (number_stored (effect_as before.old_strings i) i))) learned ∙ within_past before.limits _ (record { after = with_made c before.knowledge; import = None }) (inl (let le = h.1 in omega (arith, le))), h.0, becomes)
   lacks_room r (inr h) becomes = inr ((λ none. wants_no_memory before.old_strings i none (rw e (inr tt))), h, becomes)

@@ -61,6 +61,6 @@ gone e U q s (Stopped r u) ne g h = absurd (ne g)
 gone e U q s (Raised u) ne g h = absurd g
 gone e U q s (Stuck b) ne g h = absurd g
 
-pub going : (l : Bounds) (v : List ℕ) (e : Effect) (k : Knowledge) (s : State) (st : Stepped) (q : Progress) (x : Result Progress Refusal) → Exactly v e k s st x → and_then x (within l) ≡ Ok q → IsGoing e st
-going l v e k s st q (Ok q') h g = h.0
-going l v e k s st q (Err r) h g = cc
+pub going : (l : Bounds) (n : ℕ) (v : List ℕ) (e : Effect) (k : Knowledge) (s : State) (st : Stepped) (q : Progress) (x : Result Progress Refusal) → Exactly v e k s st x → and_then x (within l n) ≡ Ok q → IsGoing e st
+going l n v e k s st q (Ok q') h g = h.0
+going l n v e k s st q (Err r) h g = cc

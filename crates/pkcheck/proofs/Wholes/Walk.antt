@@ -3,7 +3,7 @@ use Rattle.pkcheck.specs.declared.old_strings.OldStrings.{OldStrings}
 use Rattle.std.proofs.Common.{◌≡◌, ◌≢◌, List, [], ◌∷◌, ◌++◌, length, Result, Ok, Err, refl, sym, ap, subst, ◌∙◌}
 use Rattle.std.specs.Prelude.{Option}
 use Rattle.pkops.specs.declared.op.Op.TheVariants as op
-use Rattle.pkcheck.specs.Effects.{effect_as}
+use Rattle.pkcheck.specs.Effects.{effect_as, number_stored}
 use Rattle.std.proofs.lemmas.List.Elements.{All-nil}
 use Rattle.pkops.specs.Spelling.{Instruction}
 use Rattle.pkcheck.specs.Runs.{CanCome, Text, State, Outcome, step_as, effect_asks}
@@ -95,7 +95,7 @@ module _ (setting : OldStrings) (p : Policy) (l : Bounds) where
       let v = word.text in
       let o = new_text v s in
       let f : FollowsBy (Answered v) q s (step_as setting i s o) = subst (λ x. FollowsIfOk (Answered v) x s (step_as setting i s o)) e (step_follows (Answered v) (grows v) setting p l i k s o c (new_text_holds v s)) in
-      let goes = going l v (effect_as setting i) k s (step_as setting i s o) q (learn p (effect_as setting i) i k) (learn_exactly v p (effect_as setting i) i k s (length s.objects) (Text v) c) e in
+      let goes = going l (number_stored (effect_as setting i) i) v (effect_as setting i) k s (step_as setting i s o) q (learn p (effect_as setting i) i k) (learn_exactly v p (effect_as setting i) i k s (length s.objects) (Text v) c) e in
       let w = gone (effect_as setting i) (Answered v) q s (step_as setting i s o) (only_stop setting i on) goes f in
       let m = h.some word w.0 w.2 in
       (m.0, run_on setting (effect_asks (effect_as setting i)) i is s o m.1.0 (Reached m.0) word.utf8 m.1.1 refl (ap (λ st. go_on st (run_as setting is m.1.0)) w.1 ∙ m.1.2), m.2)

@@ -8,7 +8,7 @@ use Rattle.pkcheck.specs.declared.machine.effects.Names.{Names}
 use Rattle.pkcheck.specs.declared.machine.effects.Names.TheVariants.{NoName}
 use Rattle.pkcheck.specs.declared.machine.effects.Move.{Move}
 use Rattle.pkcheck.specs.declared.machine.effects.Move.TheVariants as move
-use Rattle.pkcheck.specs.Effects.{Effect, Operates, Moves, Stops, Raises}
+use Rattle.pkcheck.specs.Effects.{Effect, Operates, Moves, Stops, Raises, number_moved}
 use Rattle.pkcheck.specs.declared.machine.operate.Denial.{Denial}
 use Rattle.pkcheck.specs.declared.machine.stepping.Moved.{Moved}
 use Rattle.pkread.specs.declared.refusal.Reason.{Reason}
@@ -43,20 +43,24 @@ abbrev pub WantsMemo : {A : Type 0} → ℕ → List (ℕ × A) → Reason → T
 WantsMemo limit cells r =
     ((r ≡ reason.TooLarge) × (limit < length cells)) ⊎ (r ≡ reason.OutOfMemory)
 
--- it leaves more than the limits
-abbrev pub IsPast : {A : Type 0} → Bounds → Result (Shape A) Breach → Type 0
-IsPast {A} l x =
-    (k : Shape A) × (x ≡ Ok k) × ((l.stack < length k.entries) ⊎ (l.memo < length k.memo))
+-- it leaves more than the limits, or this number is above its limit
+abbrev pub IsPast : {A : Type 0} → Bounds → ℕ → Result (Shape A) Breach → Type 0
+IsPast {A} l n x =
+    (k : Shape A) × (x ≡ Ok k)
+    × ((l.stack < length k.entries) ⊎ ((l.memo < length k.memo) ⊎ (l.numbers < n)))
 
 -- the reason of a breach, or of want of room
-abbrev pub IsFault : {A : Type 0} → Bounds → Result (Shape A) Breach → Reason → Type 0
-IsFault l x r = IsLack x r ⊎ (((r ≡ reason.TooLarge) × IsPast l x) ⊎ (r ≡ reason.OutOfMemory))
+abbrev pub IsFault : {A : Type 0} → Bounds → ℕ → Result (Shape A) Breach → Reason → Type 0
+IsFault l n x r =
+    IsLack x r ⊎ (((r ≡ reason.TooLarge) × IsPast l n x) ⊎ (r ≡ reason.OutOfMemory))
 
--- the same, where only some moves may want memory
-abbrev pub IsFaultOf : {A : Type 0} → Move → Bounds → Result (Shape A) Breach → Reason → Type 0
-IsFaultOf m l x r =
+-- the same of a move with this number, where only some moves may want memory
+abbrev pub IsFaultOf : {A : Type 0} → Move → Bounds → ℕ → Result (Shape A) Breach → Reason
+    → Type 0
+IsFaultOf m l n x r =
     IsLack x r
-    ⊎ (((r ≡ reason.TooLarge) × IsPast l x) ⊎ (MoveMayWantMemory m × (r ≡ reason.OutOfMemory)))
+    ⊎ (((r ≡ reason.TooLarge) × IsPast l (number_moved m n) x)
+    ⊎ (MoveMayWantMemory m × (r ≡ reason.OutOfMemory)))
 
 -- what the policy makes of it
 abbrev pub ruled : Policy → Asked → Result (Option Asked) Refusal

@@ -1,7 +1,7 @@
 -- What an operation that names nothing does to the stack, whatever the texts and the memo are.
 use Rattle.std.specs.Prelude.{ℕ, ◌⊎◌, List, false, None}
 use Rattle.pkcheck.specs.declared.machine.value.Value.{Value}
-use Rattle.pkcheck.specs.Effects.{Effect}
+use Rattle.pkcheck.specs.Effects.{Effect, number_stored}
 use Rattle.pkread.specs.declared.refusal.Reason.{Reason}
 use Rattle.pkops.specs.Spelling.{Instruction}
 use Rattle.pkops.specs.Limits.{Bounds}
@@ -31,6 +31,6 @@ IsReplaceFault limits e old r =
     → Sees ts old (seen ts old)
     → (p : Policy) (i : Instruction) (m : List (ℕ × Known))
     → IsDenied (and_then (learn p e i
-    (record { entries = seen ts old; memo = m })) (within limits))
+    (record { entries = seen ts old; memo = m })) (within limits (number_stored e i)))
     (record { reason = r; pair = None })
     ⊎ (MayWantMemory e × IsForMemory (record { reason = r; pair = None }))

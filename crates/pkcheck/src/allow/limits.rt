@@ -2,9 +2,11 @@
 ghost use Rattle.std.specs.Prelude.{◌≡◌, ◌≤◌, option_map};
 ghost use Rattle.toml.specs.Data.{get_member};
 ghost use Rattle.toml.specs.View.{table_view, view};
-ghost use Rattle.pkops.specs.Limits.{greatest, standard};
-ghost use Rattle.pkcheck.specs.ListFile.{each_limit_fault, greatest_at, is_limit, limit_fault};
-ghost use Rattle.pkcheck.specs.ListFile.{limit_or, limits_at, limits_fault, limits_in};
+ghost use Rattle.pkops.specs.Limits.{AreWithin};
+ghost use Rattle.pkcheck.specs.ListFile.{each_limit_fault, greatest_at, greatest_where, is_large};
+ghost use Rattle.pkcheck.specs.ListFile.{is_limit, is_true, key_fault, large_fault, limit_fault};
+ghost use Rattle.pkcheck.specs.ListFile.{limit_or, limits_among, limits_at, limits_fault};
+ghost use Rattle.pkcheck.specs.ListFile.{limits_in, standard_where, table_fault};
 
 use crate::allow::rules::value_at;
 use crate::allow::{AllowError, Where};
@@ -17,21 +19,98 @@ pub fn limits_fault(limits: Option<&Value>) -> Option<AllowError>
 {
     match limits {
         None => None,
-        Some(Value::Table(limits)) => each_limit_fault(limits),
+        Some(Value::Table(limits)) => table_fault(limits),
         Some(_) => Some(AllowError::Shape(Where::Limits)),
     }
 }
 
-fn each_limit_fault(limits: &Table) -> Option<AllowError>
-    ensures { result ≡ each_limit_fault (table_view limits.now) }
+/// The first error of the keys: `large` is judged before the others.
+fn table_fault(limits: &Table) -> Option<AllowError>
+    ensures { result ≡ table_fault (table_view limits.now) }
+{
+    let fault = large_fault(value_at(limits, "large"));
+    if fault.is_some() {
+        return fault;
+    }
+    each_limit_fault(limits, &greatest_where(is_large(value_at(limits, "large"))))
+}
+
+fn large_fault(value: Option<&Value>) -> Option<AllowError>
+    ensures { result ≡ large_fault (option_map (λ v. view v.now) value.entry) }
+{
+    match value {
+        Some(value) => {
+            if is_true(value) {
+                None
+            } else {
+                Some(AllowError::Shape(Where::Limit))
+            }
+        }
+        None => None,
+    }
+}
+
+/// Whether the limits are those of large data.
+fn is_large(value: Option<&Value>) -> bool
+    ensures { result ≡ is_large (option_map (λ v. view v.now) value.entry) }
+{
+    match value {
+        Some(value) => is_true(value),
+        None => false,
+    }
+}
+
+fn is_true(value: &Value) -> bool
+    ensures { result ≡ is_true (view value.now) }
+{
+    match value {
+        Value::Boolean(value) => *value,
+        _ => false,
+    }
+}
+
+/// The greatest limits, of large data or not.
+fn greatest_where(is_large: bool) -> Limits
+    ensures { result ≡ greatest_where is_large }
+{
+    if is_large {
+        Limits::GREATEST_LARGE
+    } else {
+        Limits::GREATEST
+    }
+}
+
+/// The limits where none are named, of large data or not.
+fn standard_where(is_large: bool) -> Limits
+    ensures { result ≡ standard_where is_large }
+{
+    if is_large {
+        Limits::LARGE
+    } else {
+        Limits::STANDARD
+    }
+}
+
+fn each_limit_fault(limits: &Table, most: &Limits) -> Option<AllowError>
+    ensures { result ≡ each_limit_fault most.now (table_view limits.now) }
 {
     for (key, value) in limits {
-        let fault = limit_fault(greatest_at(key.as_str()), value);
+        let fault = key_fault(most, key.as_str(), value);
         if fault.is_some() {
             return fault;
         }
     }
     None
+}
+
+fn key_fault(most: &Limits, key: &str, value: &Value) -> Option<AllowError>
+    ensures { result ≡ key_fault most.now key.now (view value.now) }
+{
+    if key == "large" {
+        None
+    } else {
+        limit_fault(greatest_at(most, key), value)
+    }
 }
 
 fn limit_fault(most: Option<u64>, value: &Value) -> Option<AllowError>
@@ -59,21 +138,23 @@ fn is_limit(most: u64, value: &Value) -> bool
 }
 
 /// The greatest limit that may stand at a key, where it is one of a limit.
-fn greatest_at(key: &str) -> Option<u64>
-    ensures { result ≡ greatest_at key.now }
+fn greatest_at(most: &Limits, key: &str) -> Option<u64>
+    ensures { result ≡ greatest_at most.now key.now }
 {
     if key == "counted" {
-        Some(Limits::GREATEST.counted())
+        Some(most.counted())
     } else if key == "stack" {
-        Some(Limits::GREATEST.stack())
+        Some(most.stack())
     } else if key == "memo" {
-        Some(Limits::GREATEST.memo())
+        Some(most.memo())
     } else if key == "depth" {
-        Some(Limits::GREATEST.depth())
+        Some(most.depth())
     } else if key == "values" {
-        Some(Limits::GREATEST.values())
+        Some(most.values())
     } else if key == "passed" {
-        Some(Limits::GREATEST.passed())
+        Some(most.passed())
+    } else if key == "numbers" {
+        Some(most.numbers())
     } else {
         None
     }
@@ -93,40 +174,44 @@ pub fn limits_in(limits: Option<&Value>) -> Limits
 fn limits_at(limits: &Table) -> Limits
     ensures { result ≡ limits_at (table_view limits.now) }
 {
-    let (greatest, standard) = (Limits::GREATEST, Limits::STANDARD);
-    let held = Limits::new(
-        limit_or(
-            greatest.counted(),
-            standard.counted(),
-            value_at(limits, "counted"),
-        ),
-        limit_or(
-            greatest.stack(),
-            standard.stack(),
-            value_at(limits, "stack"),
-        ),
-        limit_or(greatest.memo(), standard.memo(), value_at(limits, "memo")),
-        limit_or(
-            greatest.depth(),
-            standard.depth(),
-            value_at(limits, "depth"),
-        ),
-        limit_or(
-            greatest.values(),
-            standard.values(),
-            value_at(limits, "values"),
-        ),
+    if is_large(value_at(limits, "large")) {
+        limits_among(limits, &Limits::GREATEST_LARGE, &Limits::LARGE)
+    } else {
+        limits_among(limits, &Limits::GREATEST, &Limits::STANDARD)
+    }
+}
+
+/// The limits of a table, each at most one of these and else another of these.
+fn limits_among(limits: &Table, most: &Limits, standard: &Limits) -> Limits
+    requires { AreWithin standard.now most.now }
+    ensures { result ≡ limits_among most.now standard.now (table_view limits.now) }
+{
+    let held = Limits::large(
+        limit_at(limits, "counted", most.counted(), standard.counted()),
+        limit_at(limits, "stack", most.stack(), standard.stack()),
+        limit_at(limits, "memo", most.memo(), standard.memo()),
+        limit_at(limits, "depth", most.depth(), standard.depth()),
+        limit_at(limits, "values", most.values(), standard.values()),
     );
-    let passed = limit_or(
-        greatest.passed(),
-        standard.passed(),
-        value_at(limits, "passed"),
-    );
+    let passed = limit_at(limits, "passed", most.passed(), standard.passed());
+    let numbers = limit_at(limits, "numbers", most.numbers(), standard.numbers());
     let Some(held) = held else { unreachable!() };
-    let Some(limits) = held.with_passed(passed) else {
+    let Some(passing) = held.with_passed(passed) else {
+        unreachable!()
+    };
+    let Some(limits) = passing.with_numbers(numbers) else {
         unreachable!()
     };
     limits
+}
+
+/// The limit that stands at a key of a table, where it is one; else the standard one.
+fn limit_at(limits: &Table, key: &str, most: u64, standard: u64) -> u64
+    requires { standard ≤ most }
+    ensures is { result ≡ limit_or most standard (get_member key.now (table_view limits.now)) }
+    ensures most { result ≤ most }
+{
+    limit_or(most, standard, value_at(limits, key))
 }
 
 /// The limit that is the value, where it is one; else the standard one.

@@ -4,7 +4,7 @@ ghost use Rattle.std.specs.Prelude.{◌≡◌, ◌⊎◌, ◌≤◌, ◌++◌, [
 ghost use Rattle.std.specs.Prelude.{None, OnErr, OnOk, Some, false, suc};
 ghost use Rattle.std.specs.List.{slice_get};
 ghost use Rattle.pkcheck.specs.Private.Denials.{IsDenied, IsForMemory, IsFaultOf, IsStopFault};
-ghost use Rattle.pkcheck.specs.Effects.{effect_of};
+ghost use Rattle.pkcheck.specs.Effects.{effect_of, number_moved, number_stored};
 ghost use Rattle.pkcheck.specs.Private.Actions.{IsOperation, IsUnnamed};
 ghost use Rattle.pkcheck.specs.Private.Denials.{MayWantMemory, Passes, WantsRoom, with_item};
 ghost use Rattle.pkcheck.specs.Private.Denials.{with_made};
@@ -173,11 +173,13 @@ impl Held {
             self.old.knowledge ≡ Ok self.new.knowledge) }
         ensures room { OnOk result ((length self.new.knowledge.entries ≤ limits.now.stack)
             × (length self.new.knowledge.memo ≤ limits.now.memo)) }
+        ensures number { OnOk result (number_moved what (memo_number (instruction_of inst.now))
+            ≤ limits.now.numbers) }
         ensures texts { self.new.texts ≡ self.old.texts }
         ensures imports { self.new.imports ≡ self.old.imports }
         ensures err { IfErr result (λ r. (self.new ≡ self.old)
-            × IsFaultOf what limits.now (moved what (memo_number (instruction_of inst.now))
-            self.old.knowledge) r) }
+            × IsFaultOf what limits.now (memo_number (instruction_of inst.now))
+            (moved what (memo_number (instruction_of inst.now)) self.old.knowledge) r) }
     {
         apply(&mut self.stack, &mut self.memo, limits, what, inst)
     }
@@ -195,7 +197,8 @@ impl Held {
         ensures texts { self.new.texts ≡ self.old.texts }
         ensures kept { OnErr result (self.new ≡ self.old) }
         ensures err { (p : Pairs) (i : Instruction) → IfErr result (λ r. IsDenied (and_then
-            (learn p (effect_of op) i self.old.knowledge) (within limits.now))
+            (learn p (effect_of op) i self.old.knowledge)
+            (within limits.now (number_stored (effect_of op) i)))
             (record { reason = r; pair = None })
             ⊎ (MayWantMemory (effect_of op) × IsForMemory (record { reason = r; pair = None }))) }
     {
@@ -224,7 +227,8 @@ impl Held {
         ensures kept { OnErr result (self.new ≡ self.old) }
         ensures err { IfErr result (λ d. IsDenied (and_then (learn (policy_of policy.now)
             (effect_of (instruction_of inst.now).op) (instruction_of inst.now) self.old.knowledge)
-            (within limits.now)) d
+            (within limits.now (number_stored (effect_of (instruction_of inst.now).op)
+            (instruction_of inst.now)))) d
             ⊎ (MayWantMemory (effect_of (instruction_of inst.now).op) × IsForMemory d)) }
     {
         let lines = lines_of(inst);

@@ -1,4 +1,5 @@
 //! The moves, which look at no object.
+ghost use Rattle.pkcheck.specs.Effects.{number_moved};
 ghost use Rattle.pkcheck.specs.Private.Denials.{IsFault, IsFaultOf};
 ghost use Rattle.pkcheck.specs.Shape.{moved, slice, Entry, NoMark};
 ghost use Rattle.pkops.specs.Inst.{instruction_of};
@@ -20,7 +21,7 @@ pub fn duplicate(stack: &mut Stack, limits: &Limits) -> Result<(), Reason>
         ≡ Ok (record { entries = stack.new; memo = m })) }
     ensures room { OnOk result (length stack.new ≤ limits.now.stack) }
     ensures err { (m : List (ℕ × Value)) → IfErr result (λ r. (stack.new ≡ stack.old)
-        × IsFault limits.now (moved Move.Duplicates 0
+        × IsFault limits.now 0 (moved Move.Duplicates 0
         (record { entries = stack.old; memo = m })) r) }
 {
     let value = stack.top()?;
@@ -36,11 +37,31 @@ pub fn remember(stack: &Stack, memo: &mut Memo, limits: &Limits, number: u64) ->
         ≡ Ok (record { entries = stack.now; memo = memo.new })) }
     ensures room { OnOk result (length memo.new ≤ limits.now.memo) }
     ensures err { IfErr result (λ r. (memo.new ≡ memo.old)
-        × IsFault limits.now (moved Move.Stores number
+        × IsFault limits.now 0 (moved Move.Stores number
         (record { entries = stack.now; memo = memo.old })) r) }
 {
     let value = stack.top()?;
     memo.store(limits, number, value)
+}
+
+/// The same under the number that the instruction names, where the limit allows it.
+#[inline(always)]
+fn remember_at(stack: &Stack, memo: &mut Memo, limits: &Limits, number: u32) -> Result<(), Reason>
+    requires { length memo.old ≤ limits.now.memo }
+    ensures ok { OnOk result (moved Move.Stores number
+        (record { entries = stack.now; memo = memo.old })
+        ≡ Ok (record { entries = stack.now; memo = memo.new })) }
+    ensures room { OnOk result (length memo.new ≤ limits.now.memo) }
+    ensures number { OnOk result (number ≤ limits.now.numbers) }
+    ensures err { IfErr result (λ r. (memo.new ≡ memo.old)
+        × IsFaultOf Move.Stores limits.now number (moved Move.Stores number
+        (record { entries = stack.now; memo = memo.old })) r) }
+{
+    if number as u64 > limits.numbers() {
+        let _value = stack.top()?;
+        return Err(Reason::TooLarge);
+    }
+    remember(stack, memo, limits, number as u64)
 }
 
 /// Pushes what was stored under a number.
@@ -51,7 +72,7 @@ pub fn recall(stack: &mut Stack, memo: &Memo, limits: &Limits, number: u32) -> R
         ≡ Ok (record { entries = stack.new; memo = memo.now })) }
     ensures room { OnOk result (length stack.new ≤ limits.now.stack) }
     ensures err { IfErr result (λ r. (stack.new ≡ stack.old)
-        × IsFault limits.now (moved Move.Fetches number
+        × IsFault limits.now 0 (moved Move.Fetches number
         (record { entries = stack.old; memo = memo.now })) r) }
 {
     match memo.get(number) {
@@ -109,8 +130,11 @@ pub fn apply(
         ≡ Ok (record { entries = stack.new; memo = memo.new })) }
     ensures room { OnOk result ((length stack.new ≤ limits.now.stack)
         × (length memo.new ≤ limits.now.memo)) }
+    ensures number { OnOk result (number_moved what (memo_number (instruction_of inst.now))
+        ≤ limits.now.numbers) }
     ensures err { IfErr result (λ r. (stack.new ≡ stack.old) × (memo.new ≡ memo.old)
-        × IsFaultOf what limits.now (moved what (memo_number (instruction_of inst.now))
+        × IsFaultOf what limits.now (memo_number (instruction_of inst.now))
+        (moved what (memo_number (instruction_of inst.now))
         (record { entries = stack.old; memo = memo.old })) r) }
 {
     match what {
@@ -118,7 +142,7 @@ pub fn apply(
         Move::Pops => pop(stack),
         Move::PopsMark => pop_mark(stack),
         Move::Duplicates => duplicate(stack, limits),
-        Move::Stores => remember(stack, memo, limits, number_of(inst) as u64),
+        Move::Stores => remember_at(stack, memo, limits, number_of(inst)),
         Move::StoresNext => {
             let next = memo.len();
             remember(stack, memo, limits, next)

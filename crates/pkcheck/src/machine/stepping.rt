@@ -1,7 +1,7 @@
 //! One step over what is known.
 ghost use Rattle.std.specs.Prelude.{◌≡◌, ◌⊎◌, ◌≤◌, length, option_map, true, None, Ok};
 ghost use Rattle.std.specs.Prelude.{IfOk, IfErr, OnOk, OnErr};
-ghost use Rattle.pkcheck.specs.Effects.{effect_as, effect_of, is_old_string};
+ghost use Rattle.pkcheck.specs.Effects.{effect_as, effect_of, is_old_string, number_stored};
 ghost use Rattle.pkcheck.specs.Knowledge.{advance, learn, stop_learned, within};
 ghost use Rattle.pkcheck.specs.Knowledge.{Policy as Pairs};
 ghost use Rattle.pkcheck.specs.Private.Actions.{IsOperation};
@@ -205,7 +205,9 @@ fn import(
     requires none { off.old ≡ None }
     ensures ok { IfOk result (λ v. GoesTo (effect_of (instruction_of inst.now).op)
         (and_then (learn (policy_of policy.now) (effect_of (instruction_of inst.now).op)
-        (instruction_of inst.now) held.old.knowledge) (within limits.now)) held.new.knowledge
+        (instruction_of inst.now) held.old.knowledge) (within limits.now
+        (number_stored (effect_of (instruction_of inst.now).op) (instruction_of inst.now))))
+        held.new.knowledge
         held.old.imports held.new.imports v) }
     ensures room { OnOk result ((length held.new.knowledge.entries ≤ limits.now.stack)
         × (length held.new.knowledge.memo ≤ limits.now.memo)) }
@@ -214,7 +216,8 @@ fn import(
     ensures kept { OnErr result (held.new ≡ held.old) }
     ensures err { IfErr result (λ r. IsRefusedFor (and_then (learn (policy_of policy.now)
         (effect_of (instruction_of inst.now).op)
-        (instruction_of inst.now) held.old.knowledge) (within limits.now)) r
+        (instruction_of inst.now) held.old.knowledge) (within limits.now
+        (number_stored (effect_of (instruction_of inst.now).op) (instruction_of inst.now)))) r
         (option_map asked_shown off.new)
         ⊎ (MayWantMemory (effect_of (instruction_of inst.now).op)
         × LacksMemory r (option_map asked_shown off.new))) }

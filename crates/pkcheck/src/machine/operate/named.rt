@@ -9,7 +9,7 @@ ghost use Rattle.pkcheck.specs.Shape.{and_then};
 ghost use Rattle.pkcheck.specs.Private.Denials.{judged, IsDenied, IsForMemory, MayName, MayOperate};
 ghost use Rattle.pkcheck.specs.Private.Denials.{MayWantMemory, Passes, WellGiven, IsPlain};
 ghost use Rattle.pkcheck.specs.Private.Actions.{IsOperation};
-ghost use Rattle.pkcheck.specs.Effects.{Operates, effect_of};
+ghost use Rattle.pkcheck.specs.Effects.{Operates, effect_of, number_stored};
 ghost use Rattle.pkops.specs.Contents.{IsGood};
 ghost use Rattle.pkops.specs.Operands.{pair_named};
 ghost use Rattle.pkops.specs.Spelling.{Instruction, Pair, instruction};
@@ -111,7 +111,8 @@ fn replace_named(
         → (m : List (ℕ × Known))
         → IfErr result (λ d. IsDenied (and_then (learn (policy_of policy.now)
         (Operates takes names gives) i
-        (record { entries = seen ledger.old.texts stack.old; memo = m })) (within limits.now)) d
+        (record { entries = seen ledger.old.texts stack.old; memo = m })) (within limits.now
+        (number_stored (Operates takes names gives) i))) d
         ⊎ (MayOperate names gives × IsForMemory d)) }
 {
     let found = stack.find(takes)?;
@@ -162,7 +163,8 @@ pub fn operate_named(
         → (m : List (ℕ × Known))
         → IfErr result (λ d. IsDenied (and_then (learn (policy_of policy.now)
         (effect_of op) i
-        (record { entries = seen ledger.old.texts stack.old; memo = m })) (within limits.now)) d
+        (record { entries = seen ledger.old.texts stack.old; memo = m })) (within limits.now
+        (number_stored (effect_of op) i))) d
         ⊎ (MayWantMemory (effect_of op) × IsForMemory d)) }
 {
     let operation = operation_of(op);

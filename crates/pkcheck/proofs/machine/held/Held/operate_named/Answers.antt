@@ -1,5 +1,5 @@
 use Rattle.std.proofs.Common.{◌⊎◌, IfErr, IfOk, subst}
-use Rattle.pkcheck.specs.Effects.{effect_of}
+use Rattle.pkcheck.specs.Effects.{effect_of, number_stored}
 use Rattle.pkcheck.specs.Private.Denials.{IsDenied, IsForMemory, MayWantMemory, Passes}
 use Rattle.pkcheck.specs.Import.{policy_of}
 use Rattle.pkcheck.specs.Knowledge.{learn, within}
@@ -23,5 +23,5 @@ returns-clause-ok c =
 pub returns-clause-err : goal.returns-clause-err
 returns-clause-err c =
     rw (← c.self.view_is)
-    (subst (λ o. IfErr c.operate_named.result (λ d. IsDenied (and_then (learn (policy_of c.args.policy.now) (effect_of o) (instruction_of c.args.inst.now) (resolved c.self.inside.ledger.texts (record { entries = c.self.inside.stack; memo = c.self.inside.memo }))) (within c.args.limits.now)) d ⊎ (MayWantMemory (effect_of o) × IsForMemory d))) c.op.ensures.op
+    (subst (λ o. IfErr c.operate_named.result (λ d. IsDenied (and_then (learn (policy_of c.args.policy.now) (effect_of o) (instruction_of c.args.inst.now) (resolved c.self.inside.ledger.texts (record { entries = c.self.inside.stack; memo = c.self.inside.memo }))) (within c.args.limits.now (number_stored (effect_of o) (instruction_of c.args.inst.now)))) d ⊎ (MayWantMemory (effect_of o) × IsForMemory d))) c.op.ensures.op
     (c.operate_named.ensures.err (instruction_of c.args.inst.now) c.lines_of-lines.ensures.named (remembered c.self.inside.ledger.texts c.self.inside.memo)))

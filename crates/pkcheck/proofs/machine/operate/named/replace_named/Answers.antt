@@ -14,7 +14,7 @@ use Rattle.pkcheck.proofs.machine.operate.named.replace_named.Goals as goal
 pub returns-in_err-found-clause-err : goal.returns-in_err-found-clause-err
 returns-in_err-found-clause-err c =
     let p = err_from_is_err_and c.from_residual.result c.from_residual.ensures.1 in
-    rw (p.1, p.2) (λ i named m. inl (within_denied _ c.args.limits.now (record { reason = c.in_err-found.field-0.0; pair = None }) (lack_denied (policy_of c.args.policy.now) c.args.takes c.args.names c.args.gives i (record { entries = seen c.args.ledger.now.texts c.args.stack.now; memo = m }) c.in_err-found.field-0.0
+    rw (p.1, p.2) (λ i named m. inl (within_denied _ c.args.limits.now 0 (record { reason = c.in_err-found.field-0.0; pair = None }) (lack_denied (policy_of c.args.policy.now) c.args.takes c.args.names c.args.gives i (record { entries = seen c.args.ledger.now.texts c.args.stack.now; memo = m }) c.in_err-found.field-0.0
     (found_lacks c.args.ledger.now.texts c.args.takes c.args.stack.now c.requires.sees c.in_err-found.field-0.0 c.in_err-found.ensures.err))))
 
 pub returns-in_err-named-clause-err : goal.returns-in_err-named-clause-err
@@ -24,7 +24,7 @@ returns-in_err-named-clause-err c =
     rw (p.1, p.2) (λ i named m.
     let d = rw c.operands-operands.ensures at (c.in_err-named.ensures.err i (c.names_of-spelled.ensures i named)) in
     elim d [
-      | inl e ↦ inl (within_denied _ c.args.limits.now c.in_err-named.field-0.0 (judged_denied (policy_of c.args.policy.now) c.args.takes c.args.names c.args.gives i (record { entries = seen c.args.ledger.now.texts c.args.stack.now; memo = m }) _ c.in_err-named.field-0.0 found e))
+      | inl e ↦ inl (within_denied _ c.args.limits.now 0 c.in_err-named.field-0.0 (judged_denied (policy_of c.args.policy.now) c.args.takes c.args.names c.args.gives i (record { entries = seen c.args.ledger.now.texts c.args.stack.now; memo = m }) _ c.in_err-named.field-0.0 found e))
       | inr e ↦ inr (inl e.0, e.1)
     ])
 
