@@ -13,6 +13,7 @@ NUMERAL = 1_024
 PAYLOAD = 2**24
 ENTRIES = 1_000_000
 NOTHING = "version = 1\n[imports]\n"
+LARGE = "version = 2\n[imports]\n[limits]\nlarge = true\n"
 
 
 @dataclasses.dataclass(frozen=True)
@@ -192,4 +193,55 @@ AT_LIMITS = {
     **{name: Hostile(make) for name, make in ENTRIES_OF.items()},
     **{f"payload of {name}": Hostile(runs((head, 1), (b"a", PAYLOAD), (b".", 1))) for name, head in COUNTED.items()},
     **{f"payload of {name}, cut": Hostile(runs((head, 1), (b"a", PAYLOAD - 1))) for name, head in COUNTED.items()},
+}
+
+
+def numbered_over(numbers):
+    """The object on the top stored under as many numbers as make the size."""
+
+    def make(megabytes):
+        return numbered(lambda: numbers(megabytes * MEGABYTE // 5))(megabytes)
+
+    return make
+
+
+def falling(count):
+    return range(count - 1, -1, -1)
+
+
+def far_apart(count):
+    """Numbers of 32 bits, no two of them near each other."""
+    return ((i * 2_654_435_761) % 2**32 for i in range(count))
+
+
+def text_of(share):
+    """A text whose count is that share of the size, and bytes up to the size."""
+
+    def make(megabytes):
+        size = megabytes * MEGABYTE
+        yield b"X" + struct.pack("<I", int(size * share))
+        yield from times(b"a", size)
+        yield b"."
+
+    return make
+
+
+# What grows without an end under the limits of large data: entries of the stack and of the memo, and payloads.
+AT_NO_LIMIT = {
+    name: Hostile(make, LARGE)
+    for name, make in {
+        "marks": repeated(b"(", tail=b"N."),
+        "objects": repeated(b"N", tail=b"."),
+        "texts of one byte": repeated(b"\x8c\x01a", tail=b"."),
+        "memo entries": repeated(b"\x94", head=b"N", tail=b"."),
+        "memo entries in rising numbers": numbered_over(range),
+        "memo entries in falling numbers": numbered_over(falling),
+        "memo entries in numbers far apart": numbered_over(far_apart),
+        "a long list": repeated(b"N", head=b"](", tail=b"e."),
+        "a long tuple": repeated(b"N", head=b"(", tail=b"t."),
+        "a long dict": repeated(b"NN", head=b"}(", tail=b"u."),
+        "lists in lists": repeated(b"]", tail=b"."),
+        "one text": text_of(1),
+        "one text that is cut": text_of(2),
+    }.items()
 }

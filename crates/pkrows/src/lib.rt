@@ -14,6 +14,8 @@ mod giving;
 #[cfg(test)]
 mod judging;
 #[cfg(test)]
+mod large;
+#[cfg(test)]
 mod limited;
 #[cfg(test)]
 mod lists;

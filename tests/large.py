@@ -1,0 +1,107 @@
+#!/usr/bin/env python3
+"""Checks large data under the limits of large data, and under the standard ones, which refuse it.
+
+CPython makes the pickles. Each has to be accepted whole under `large = true`, within the bounds on
+time and memory, and refused as TooLarge without. The last line says how many pickles passed.
+"""
+import argparse
+import dataclasses
+import os
+import pathlib
+import pickle
+import sys
+import tempfile
+from typing import Callable, Iterator, List
+
+import program
+
+# What a byte may cost, and what a run may take besides.
+NANOSECONDS = 100
+SECONDS = 1.0
+PEAK = 96 * 10**6
+PER_BYTE = 3
+WALL = 60
+IMPORTS = """\
+version = 2
+[imports]
+_codecs = ["encode"]
+"""
+LARGE = IMPORTS + "[limits]\nlarge = true\n"
+
+
+@dataclasses.dataclass(frozen=True)
+class Data:
+    """Large data: its name, what makes its value, and the protocol of its pickle."""
+
+    name: str
+    make: Callable[[], object]
+    protocol: int
+
+
+def dicts() -> object:
+    return [{} for _ in range(1_100_000)]
+
+
+def texts() -> object:
+    return [f"text {i}" for i in range(1_200_000)]
+
+
+def text() -> object:
+    return "a" * 20_000_000
+
+
+def array() -> object:
+    """What an array of numpy holds. Protocol 2 has no bytes: they are a text that is encoded."""
+    return bytes(range(256)) * (24_000_000 // 256)
+
+
+DATA = [
+    *(Data("1,100,000 dicts", dicts, protocol) for protocol in (0, 2, 4, 5)),
+    *(Data("1,200,000 texts", texts, protocol) for protocol in (2, 4, 5)),
+    *(Data("a text of 20 MB", text, protocol) for protocol in (2, 4, 5)),
+    Data("an array of 24 MB", array, 2),
+]
+
+
+def check(runner: "program.Runner", allow: str, name: str) -> "program.Ran":
+    pathlib.Path("list.toml").write_text(allow, encoding="utf-8")
+    return runner.run(["check", "--allow", "list.toml", name])
+
+
+def faults(size: int, without: "program.Ran", large: "program.Ran") -> Iterator[str]:
+    """What is wrong with the two answers on a pickle of this size."""
+    if without.status != 1 or not without.out.endswith(b": TooLarge\n"):
+        yield f"without: {without.out!r}"
+    if large.status != 0 or not large.out.startswith(b"yes: %d bytes, " % size):
+        yield f"large: {large.out!r}"
+    if large.seconds > SECONDS + size * NANOSECONDS / 1e9:
+        yield f"{large.seconds:.2f} s of a processor"
+    if large.peak > PEAK + size * PER_BYTE:
+        yield f"{large.peak / 1e6:.0f} MB"
+
+
+def passes(runner: "program.Runner", data: Data) -> bool:
+    """Prints the line of a pickle, and gives whether both answers are right."""
+    value = pickle.dumps(data.make(), data.protocol)
+    pathlib.Path("pickle").write_bytes(value)
+    without, large = (check(runner, allow, "pickle") for allow in (IMPORTS, LARGE))
+    wrong = list(faults(len(value), without, large))
+    cost = f"{len(value) / 1e6:.1f} MB, {large.seconds:.2f} s, {large.peak / 1e6:.0f} MB of memory"
+    print(f"{data.name}, protocol {data.protocol}: {cost} {'; '.join(wrong)}".rstrip(), flush=True)
+    return not wrong
+
+
+def main() -> int:
+    argparse.ArgumentParser(description=__doc__.splitlines()[0] if __doc__ else None).parse_args()
+    program.require(program.PROGRAM)
+    runner = program.Runner(program.PROGRAM, WALL)
+    with tempfile.TemporaryDirectory(prefix="large-") as folder:
+        os.chdir(folder)
+        passed: List[bool] = [passes(runner, data) for data in DATA]
+        os.chdir("/")
+    print(f"{passed.count(True)} passed, {passed.count(False)} failed")
+    return 0 if all(passed) else 1
+
+
+if __name__ == "__main__":
+    sys.exit(main())
