@@ -196,8 +196,8 @@ class Guard:
     PickleBuffer = pickle.PickleBuffer
     HIGHEST_PROTOCOL = pickle.HIGHEST_PROTOCOL
     DEFAULT_PROTOCOL = pickle.DEFAULT_PROTOCOL
-    format_version = pickle.format_version
-    compatible_formats = pickle.compatible_formats
+    format_version = pickle.format_version  # type: ignore[attr-defined]
+    compatible_formats = pickle.compatible_formats  # type: ignore[attr-defined]
     dump = staticmethod(pickle.dump)
     dumps = staticmethod(pickle.dumps)
     context = staticmethod(context)
@@ -433,13 +433,14 @@ class GuardedUnpickler(pickle.Unpickler):
         errors: Optional[str] = None,
         buffers: Optional[Iterable[Any]] = None,
     ) -> None:
-        if not (hasattr(file, "read") and hasattr(file, "readline")):
+        steps_back = can_step_back(file)
+        if not all([hasattr(file, name) for name in ("read", "readline")]):
             raise TypeError("file must have 'read' and 'readline' attributes")
         encoding, errors = self.guard._decoding(encoding, errors)
         feed = _Feed()
         super().__init__(feed, fix_imports=False, encoding=encoding, errors=errors, buffers=buffers)
         self._feed, self._file = feed, file
-        self._steps_back = can_step_back(file)
+        self._steps_back = steps_back
         self._lock = threading.Lock()
         self._is_spent = False
         self._bytes = b""  # of all pickles that were loaded, and what was read ahead

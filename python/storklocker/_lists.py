@@ -72,7 +72,9 @@ class Limits(_Limits):
         return (self.counted, self.stack, self.memo, self.passed, self.numbers, self._large)
 
     def __eq__(self, other: object) -> bool:
-        return self._numbers == other._numbers if isinstance(other, Limits) else NotImplemented
+        if not isinstance(other, Limits):
+            return NotImplemented
+        return self._numbers == other._numbers
 
     def __hash__(self) -> int:
         return hash(self._numbers)
@@ -166,11 +168,10 @@ class AllowList(_Pairs):
     def __len__(self) -> int:
         return len(self._pairs)
 
-    def __contains__(self, pair: object) -> bool:
+    def __contains__(self, pair: Any) -> bool:
         if not _is_pair(pair):
             return False
-        module, name = pair  # type: ignore[misc]
-        wanted = (_bytes_of(module), _bytes_of(name))
+        wanted = _bytes_of_pair(pair)
         place = bisect.bisect_left(self._pairs, wanted)
         return place < len(self._pairs) and self._pairs[place] == wanted
 
@@ -238,7 +239,7 @@ def _bytes_of_pair(pair: Pair) -> Tuple[bytes, bytes]:
     return (_bytes_of(pair[0]), _bytes_of(pair[1]))
 
 
-def _is_pair(pair: object) -> bool:
+def _is_pair(pair: Any) -> bool:
     return (
         isinstance(pair, (tuple, list))
         and len(pair) == 2

@@ -2,7 +2,7 @@
 
 from __future__ import annotations
 
-import _compat_pickle as tables  # type: ignore[import]
+import _compat_pickle as tables
 from typing import Dict, Iterator, List, Tuple
 
 Pair = Tuple[str, str]

@@ -1,14 +1,12 @@
-"""Many calls, several threads, and no memory."""
+"""Many calls, and threads with little room."""
 
-import pickle
-import subprocess
-import tempfile
+import gc
 import threading
 import unittest
 from pathlib import Path
 
 import storklocker
-from common import BY_PAIRS, BY_TEXT, GUARD, SEEDS, compiled, toolchain
+from common import BY_PAIRS, BY_TEXT, SEEDS
 
 CASES = [
     *((data, BY_PAIRS) for data in SEEDS[::5]),
@@ -19,6 +17,7 @@ CASES = [
     (b"]q\x01h\x05.", BY_TEXT),
     (b"(((((((", BY_TEXT),
     (b"X\x05\x00\x00\x00abc", BY_PAIRS),
+    (b"\x8c\x01m\x8d\x58\x02\0\0\0\0\0\0" + 600 * b"n" + b"\x93.", BY_PAIRS),
 ]
 
 
@@ -28,36 +27,28 @@ def resident():
 
 
 def call(count):
+    guard = storklocker.Guard(BY_PAIRS)
     for k in range(count):
         data, listed = CASES[k % len(CASES)]
         storklocker.check(data, listed)
+        if k % 50 == 0:
+            again = storklocker.AllowList(listed) | BY_PAIRS
+            storklocker.check_row(data, again, limits=storklocker.Limits(stack=k))
+            storklocker.AllowList.from_text("version = 1\n[imports]\na = ['b']\n")
+            try:
+                guard.loads(data)
+            except Exception:
+                continue
 
 
 class Endurance(unittest.TestCase):
     def test_memory_stays_flat(self):
-        call(2_000)
+        call(10_000)
+        gc.collect()
         before = resident()
-        call(100_000)
+        call(200_000)
+        gc.collect()
         self.assertLess(resident() - before, 1024)
-
-    def test_four_threads(self):
-        big = pickle.dumps([{"number": k, "pair": ("a", k)} for k in range(2_000)], 4)
-        cases = [*CASES, (big, BY_PAIRS), (big[:-1], BY_PAIRS)]
-        wanted = [storklocker.check(*case) for case in cases]
-        wrong = []
-
-        def work():
-            for _ in range(200):
-                for case, answer in zip(cases, wanted):
-                    if storklocker.check(*case) != answer:
-                        wrong.append(case)
-
-        threads = [threading.Thread(target=work) for _ in range(4)]
-        for thread in threads:
-            thread.start()
-        for thread in threads:
-            thread.join()
-        self.assertEqual(wrong, [])
 
     def test_a_thread_with_a_small_stack(self):
         answers = []
@@ -73,14 +64,6 @@ class Endurance(unittest.TestCase):
         thread.join()
         self.assertEqual(answers, ["no at 999999: Truncated", "yes: 1000000 bytes, 0 imports"])
 
-    def test_each_allocation_refused_in_turn(self):
-        source = Path(__file__).with_name("refused.c")
-        wrap = "-Wl,--wrap=malloc,--wrap=realloc,--wrap=free"
-        with tempfile.TemporaryDirectory() as folder:
-            program = compiled(
-                folder, source, wrap, str(GUARD / "out" / "libpkguard.a"),
-                str(toolchain() / "c" / "liblibc_c.a"),
-            )
-            ran = subprocess.run([program], capture_output=True, text=True)
-        self.assertEqual(ran.returncode, 0, ran.stdout)
-        self.assertEqual(len(ran.stdout.splitlines()), 4, ran.stdout)
+
+if __name__ == "__main__":
+    unittest.main()

@@ -1,0 +1,270 @@
+"""The extension module: numbers and fields as the header and the crate have them, what it shows, and its memory."""
+
+import os
+import re
+import subprocess
+import sys
+import tempfile
+import unittest
+from pathlib import Path
+
+from common import ARCHIVE, COMPILER, GUARD, PACKAGE, PYTHON, ROOT, python
+from storklocker import Reason, __version__, _storklocker
+from storklocker._answers import LIST_FAULTS
+
+REASONS = (
+    "Source Truncated UnknownOpcode BadArgument TooLarge ExtensionCode UnsupportedProtocol BrokenFrame "
+    "MissingMark MissingItem MissingMemo OddItems WrongClass NotText UnknownImport ImportOffList LeftOver "
+    "OutOfMemory NotAscii"
+).split()
+FAULTS = (
+    "Syntax Shape(Version) Shape(TopKey) Shape(Imports) Shape(Module) Shape(Name) Version OutOfMemory "
+    "Shape(Limits) Shape(LimitKey) Shape(Limit)"
+).split()
+OLD_STRINGS = ("unknown", "ascii", "bytes")
+HEADER = (PACKAGE / "storklocker.h").read_text()
+MODULE = Path(_storklocker.__file__)
+
+
+def constant_of(name):
+    """The name as the header spells it: `UnknownOpcode` is UNKNOWN_OPCODE, `Shape(TopKey)` SHAPE_TOP_KEY."""
+    return re.sub(r"(?<=[a-z])(?=[A-Z])", "_", name.replace("(", "_").rstrip(")")).upper()
+
+
+def numbers_in(kind):
+    """The numbers of one of the header's enums."""
+    body = re.search(rf"enum storklocker_{kind} \{{(.*?)\}};", HEADER, re.S)[1]
+    return {name: int(number) for name, number in re.findall(r"STORKLOCKER_(\w+) = (\d+)", body)}
+
+
+def fields_of_crate(file, name):
+    """Names and types of the fields of a structure of the crates."""
+    text = (ROOT / "crates" / file).read_text()
+    body = re.search(rf"#\[repr\(C\)\]\n(?:#.*\n)*pub struct {name}\S* \{{(.*?)\n\}}", text, re.S)[1]
+    return re.findall(r"pub (\w+): (.*),", body)
+
+
+def fields_of_header(name):
+    body = re.search(rf"struct {name} \{{(.*?)\n\}};", HEADER, re.S)[1]
+    return [(field, f"u{bits}") for bits, field in re.findall(r"uint(\d+)_t (\w+);", body)]
+
+
+class Numbers(unittest.TestCase):
+    def test_they_are_frozen(self):
+        self.assertEqual({it.name: it.value for it in Reason}, dict(zip(REASONS, range(1, 99))))
+        self.assertEqual(LIST_FAULTS, dict(zip(range(1, 99), FAULTS)))
+
+    def test_header_has_them(self):
+        reasons = {constant_of(name): k for k, name in enumerate(REASONS, 1)}
+        self.assertEqual(numbers_in("reason"), reasons)
+        faults = {f"LIST_{constant_of(name)}": k for k, name in enumerate(FAULTS, 1)}
+        self.assertEqual(numbers_in("fault"), faults)
+        old_strings = {f"OLD_{name.upper()}": k for k, name in enumerate(OLD_STRINGS)}
+        self.assertEqual(numbers_in("old_strings"), old_strings)
+        self.assertEqual(numbers_in("status"), {"YES": 0, "NO": 1, "NO_LIST": 2, "USAGE": 3})
+
+    def test_crate_has_them(self):
+        code = (GUARD / "src" / "codes.rt").read_text()
+        reasons = re.findall(r"Reason::(\w+)(?:\(_\))? => (\d+),", code)
+        self.assertEqual([(name, int(k)) for name, k in reasons], list(zip(REASONS, range(1, 99))))
+        faults = re.findall(r"AllowError::(\w+)(?:\(Where::(\w+)\))? => (\d+),", code)
+        named = [(f"{name}({part})" if part else name, int(k)) for name, part, k in faults]
+        self.assertEqual(named, list(zip(FAULTS, range(1, 99))))
+        settings = (GUARD / "src" / "settings.rt").read_text()
+        old_strings = re.findall(r"(\d+) => Some\(OldStrings::(\w+)\),", settings)
+        self.assertEqual(
+            [(name.lower(), int(k)) for k, name in old_strings], list(zip(OLD_STRINGS, range(9)))
+        )
+
+    def test_readme_has_them(self):
+        rows = re.findall(r"^\| (\d+) \| ([A-Z]\w+)(?:\(\w+\))? \|", (ROOT / "README.md").read_text(), re.M)
+        self.assertEqual([(name, int(k)) for name, k in ((n, k) for k, n in rows)], list(zip(REASONS, range(1, 99))))
+
+    def test_header_and_crate_have_the_same_fields(self):
+        for file, name, header in (
+            ("pkguard/src/verdict.rt", "Verdict", "storklocker_verdict"),
+            ("pkguard/src/settings.rt", "Settings", "storklocker_settings"),
+        ):
+            self.assertEqual(fields_of_crate(file, name), fields_of_header(header))
+
+    def test_one_version(self):
+        project = (PYTHON / "pyproject.toml").read_text()
+        self.assertIn(f'version = "{__version__}"', project)
+        self.assertIn(f'STORKLOCKER_VERSION "{__version__}"', HEADER)
+
+
+class Module(unittest.TestCase):
+    def test_nothing_else_is_visible(self):
+        said = subprocess.run(["nm", "-D", "--defined-only", str(MODULE)], check=True, capture_output=True, text=True)
+        self.assertEqual([line.split()[-1] for line in said.stdout.splitlines()], ["PyInit__storklocker"])
+
+    def test_an_old_c_library_suffices(self):
+        said = subprocess.run(["objdump", "-T", str(MODULE)], check=True, capture_output=True, text=True).stdout
+        versions = {tuple(map(int, it.split("."))) for it in re.findall(r"GLIBC_([\d.]+)", said)}
+        self.assertLessEqual(max(versions), (2, 17))
+        self.assertNotIn("PyUnstable", said)
+
+    def test_it_is_as_short_as_it_was_promised(self):
+        self.assertLessEqual(len((PYTHON / "_storklocker.c").read_text().splitlines()), 300)
+
+    def test_the_same_bytes_in_another_folder(self):
+        with tempfile.TemporaryDirectory() as folder:
+            made = []
+            for name in ("one", "another/of more words"):
+                place = Path(folder, name)
+                place.mkdir(parents=True)
+                for file in PYTHON.glob("*"):
+                    if file.is_file():
+                        (place / file.name).write_bytes(file.read_bytes())
+                        (place / file.name).chmod(0o755)
+                (place / "storklocker").mkdir()
+                (place / "storklocker" / "storklocker.h").write_text(HEADER)
+                words = [str(place / "make"), "--archive", ARCHIVE, "--out", str(place / "out")]
+                subprocess.run(words, check=True)
+                made.append((place / "out" / "_storklocker.abi3.so").read_bytes())
+        self.assertEqual(made[0], made[1])
+
+    def test_what_make_says_of_bad_words(self):
+        for words, said in (
+            (["--archive"], "wants a value"), (["--archive", "no/such.a"], "no/such.a"), (["--fast"], "--fast"),
+            (["--cc", "no-such-cc"], "no-such-cc"), (["--include", "/no/such"], "Python.h"),
+        ):
+            ran = subprocess.run([str(PYTHON / "make"), *words], capture_output=True, text=True)
+            self.assertEqual(ran.returncode, 2, words)
+            self.assertIn(said, ran.stderr)
+
+    def test_import_costs_little(self):
+        code = (
+            "import pickle, sys, time; had = set(sys.modules); began = time.perf_counter();"
+            "import storklocker; print(time.perf_counter() - began, *sorted(set(sys.modules) - had))"
+        )
+        said = [python(code).split() for _ in range(5)]
+        for module in ("asyncio", "ctypes", "hashlib", "importlib.util", "pickletools", "json", "typing_extensions"):
+            self.assertNotIn(module, said[0][1:])
+
+    def test_types(self):
+        found = subprocess.run(["mypy", "--version"], capture_output=True).returncode if _has("mypy") else 1
+        if found == 0:
+            ran = subprocess.run(
+                ["mypy", "--strict", "--cache-dir", os.devnull, str(PACKAGE)], capture_output=True, text=True, cwd=PYTHON
+            )
+            self.assertEqual(ran.returncode, 0, ran.stdout)
+
+    def test_help_is_a_page(self):
+        page = python("import pydoc, storklocker; print(pydoc.render_doc(storklocker, renderer=pydoc.plaintext))")
+        for word in ("class Guard", "class AllowList", "class Limits", "check(data, allow, *, limits=None", "loads("):
+            self.assertIn(word, page)
+
+
+def _has(program):
+    return any(Path(folder, program).exists() for folder in os.environ["PATH"].split(os.pathsep))
+
+
+SANITIZED = r"""
+import ctypes, sys
+import storklocker
+from storklocker import _storklocker
+assert _storklocker.__file__.startswith(sys.argv[1]), _storklocker.__file__
+library = ctypes.CDLL(_storklocker.__file__)
+library.are_left.restype = ctypes.c_long
+library.grant.argtypes = [ctypes.c_long]
+import common
+
+LONG = b"\x8c\x01m\x8d" + (600).to_bytes(8, "little") + 600 * b"n" + b"\x93."
+CALLS = {
+    "accepted": lambda: storklocker.check(common.SEEDS[10], common.BY_PAIRS),
+    "refused": lambda: storklocker.check(b"cos\nsystem\n.", common.BY_PAIRS),
+    "long names": lambda: storklocker.check(LONG, common.BY_PAIRS),
+    "row": lambda: storklocker.check_row(common.SEEDS[10] * 3 + b"0", common.BY_PAIRS),
+    "list": lambda: storklocker.AllowList.from_text(common.LIST_TEXT),
+    "load": lambda: storklocker.loads(common.SEEDS[10], common.BY_PAIRS),
+}
+if common.HAS_IMPORTS:
+    CALLS["imports"] = lambda: storklocker.imports(common.SEEDS[10])
+
+def answer(call):
+    try:
+        return call()
+    except storklocker.Refused as refused:
+        return refused.verdict
+
+for name, call in CALLS.items():
+    wanted, count, wants = answer(call), 0, 0
+    while True:
+        library.grant(count)
+        try:
+            same = answer(call) == wanted
+        except MemoryError:
+            same, wants = True, wants + 1
+        was_refused = library.are_left() == -1
+        assert library.are_left() in (0, -1), (name, count)
+        library.grant(-1)
+        assert same, (name, count)
+        if not was_refused:
+            break
+        count += 1
+    assert wants > 0, name
+    print(f"{name}: {count} allocations, {wants} answered MemoryError")
+
+try:
+    from _testcapi import set_nomemory, remove_mem_hooks
+except ImportError:
+    print("no _testcapi: Python's own memory is not refused")
+else:
+    for name, call in CALLS.items():
+        for count in range(60):
+            set_nomemory(count, count + 1)
+            try:
+                answer(call)
+            except MemoryError:
+                pass
+            finally:
+                remove_mem_hooks()
+        print(f"{name}: Python's memory refused")
+"""
+
+
+class Sanitized(unittest.TestCase):
+    @classmethod
+    def setUpClass(cls):
+        cls.folder = tempfile.TemporaryDirectory()
+        cls.package = Path(cls.folder.name, "storklocker")
+        cls.package.mkdir()
+        for file in PACKAGE.glob("*.py"):
+            (cls.package / file.name).write_bytes(file.read_bytes())
+        words = [str(PYTHON / "make"), "--debug", "--archive", ARCHIVE, "--out", str(cls.package)]
+        subprocess.run(words, check=True)
+        found = [
+            subprocess.run([*COMPILER.split(), f"-print-file-name={name}"], capture_output=True, text=True).stdout.strip()
+            for name in ("libasan.so", "libubsan.so")
+        ]
+        cls.environment = {
+            **os.environ,
+            "LD_PRELOAD": " ".join(found),
+            "ASAN_OPTIONS": "detect_leaks=0:allocator_may_return_null=1",
+            "PYTHONPATH": os.pathsep.join([cls.folder.name, str(PYTHON / "tests")]),
+            "PYTHONMALLOC": "malloc",
+            "PYTHONDONTWRITEBYTECODE": "1",
+        }
+
+    @classmethod
+    def tearDownClass(cls):
+        cls.folder.cleanup()
+
+    def ran(self, *words):
+        ran = subprocess.run(
+            [sys.executable, *words], capture_output=True, text=True, env=self.environment, cwd=PYTHON / "tests"
+        )
+        self.assertEqual(ran.returncode, 0, ran.stdout[-2000:] + ran.stderr[-4000:])
+        return ran.stdout
+
+    def test_each_allocation_refused_in_turn(self):
+        said = self.ran("-c", SANITIZED, self.folder.name)
+        self.assertGreaterEqual(said.count("answered MemoryError"), 6)
+
+    def test_values_and_guards(self):
+        self.ran("-m", "unittest", "-q", "test_values.Lists", "test_values.Copies", "test_guard.Loads", "test_guard.Files")
+
+
+if __name__ == "__main__":
+    sys.exit(unittest.main())
