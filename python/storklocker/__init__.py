@@ -23,7 +23,8 @@ is left. It doesn't say that the listed names are harmless, nor that loading suc
 """
 
 from ._answers import Import, ListFault, MoreBytes, Reason, Refused, RowVerdict, Verdict
-from ._lists import STANDARD, AllowList, Limits
+from ._limits import Limits
+from ._lists import STANDARD, AllowList
 from ._guard import Guard, Refusal, context, imports, loads, missing
 from ._storklocker import check, check_row
 from ._storklocker import version as __version__

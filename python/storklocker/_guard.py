@@ -11,7 +11,8 @@ from typing import Any, Callable, Dict, Iterable, Iterator, List, Optional, Set,
 
 from . import _names
 from ._answers import Import, MoreBytes, Reason, Refused, Verdict
-from ._lists import AllowList, Limits, imports_in
+from ._limits import Limits
+from ._lists import AllowList, imports_in, with_room
 from ._reading import FIRST_BLOCK, Walk, block_of, can_step_back
 from ._storklocker import check, check_row, verdict_unless_whole
 from ._storklocker import imports as _imports
@@ -101,7 +102,7 @@ def imports(
 
     One that the pickle doesn't show is `Import(None, None)`. Raises Refused where the pickle is no good under any list.
     """
-    verdict, room = _imports(data, _NOTHING, limits, old_strings)
+    (verdict,), room = with_room(lambda size: _imports(data, _NOTHING, limits, old_strings, size))
     if not verdict:
         raise Refused(verdict)
     return imports_in(room)

@@ -3,99 +3,20 @@
 from __future__ import annotations
 
 import bisect
-import operator
 import os
 from collections.abc import Mapping
-from typing import Any, Iterable, Iterator, List, Optional, Tuple, Union
+from typing import Any, Callable, Iterable, Iterator, List, Optional, Tuple, Union
 
 from . import _names
 from ._answers import LIST_FAULTS, Import, ListFault
-from ._storklocker import Limits as _Limits
+from ._limits import UNBOUND, Limits, limits_of
 from ._storklocker import Pairs as _Pairs
-from ._storklocker import check, read_list
+from ._storklocker import read_list
 
 Pair = Tuple[str, str]
-_Numbers = Tuple[int, int, int, int, int, int]
 
-_UNBOUND = (1 << 32) - 1
-"""The limit of memo numbers of a list file that has none."""
-
-
-def _standard_numbers() -> int:
-    """The package's limit of memo numbers, where this build of the checker has one."""
-    try:
-        check(b"N.", _Pairs((), (0, 2, 0, 0, 1_000_000, 0), False))
-    except NotImplementedError:
-        return _UNBOUND
-    return 1_000_000
-
-
-_NUMBERS = _standard_numbers()
-
-
-class Limits(_Limits):
-    """The limits of a check: a value that doesn't change. A number above the greatest stands for it.
-
-    counted: bytes of the payload of a counted argument; 16,777,216 and at most that.
-    stack: entries of the stack, marks included; 1,000,000 and at most that.
-    memo: entries of the memo; 1,000,000 and at most that.
-    passed: bytes of a payload of bytes, which is not looked at; 16,777,216 and at most 1,099,511,627,776.
-    numbers: the greatest number that a pickle may give a memo entry; 1,000,000 and at most 4,294,967,295. CPython
-        takes 16 bytes for each number up to it, so that 7 bytes can cost the loading process 64 GB.
-    large: whether counted, stack and memo may be up to 4,294,967,295.
-    """
-
-    __slots__ = ()
-
-    def __new__(
-        cls,
-        *,
-        counted: int = 16_777_216,
-        stack: int = 1_000_000,
-        memo: int = 1_000_000,
-        passed: int = 16_777_216,
-        numbers: int = _NUMBERS,
-        large: bool = False,
-    ) -> "Limits":
-        given = [operator.index(it) for it in (counted, stack, memo, passed, numbers)]
-        if any(not 0 <= number < 1 << 64 for number in given):
-            raise ValueError("a limit is a number from 0 to 2 ** 64 - 1")
-        return super().__new__(cls, *given, bool(large))
-
-    @property
-    def large(self) -> bool:
-        """Whether counted, stack and memo may be up to 4,294,967,295."""
-        return bool(self._large)
-
-    @property
-    def _numbers(self) -> _Numbers:
-        return (self.counted, self.stack, self.memo, self.passed, self.numbers, self._large)
-
-    def __eq__(self, other: object) -> bool:
-        if not isinstance(other, Limits):
-            return NotImplemented
-        return self._numbers == other._numbers
-
-    def __hash__(self) -> int:
-        return hash(self._numbers)
-
-    def __repr__(self) -> str:
-        return (
-            f"Limits(counted={self.counted}, stack={self.stack}, memo={self.memo}, "
-            f"passed={self.passed}, numbers={self.numbers}, large={self.large})"
-        )
-
-    def __reduce__(self) -> Tuple[Any, ...]:
-        return (_limits_of, self._numbers)
-
-
-def _limits_of(
-    counted: int, stack: int, memo: int, passed: int, numbers: int, large: int
-) -> Limits:
-    return Limits(
-        counted=counted, stack=stack, memo=memo, passed=passed, numbers=numbers, large=bool(large)
-    )
-
+_MOST = 1 << 30
+"""The most bytes that the names of a list or of the imports of a pickle may have."""
 
 STANDARD = Limits()
 
@@ -128,7 +49,7 @@ class AllowList(_Pairs):
         cls, pairs: Iterable[Tuple[bytes, bytes]], limits: Optional[Limits]
     ) -> "AllowList":
         held = STANDARD if limits is None else limits
-        made = super().__new__(cls, tuple(sorted(set(pairs))), held._numbers, limits is not None)
+        made = super().__new__(cls, tuple(sorted(set(pairs))), held, limits is not None)
         made._limits = limits
         made._loaded = made._fixed = made._guard = None
         return made
@@ -141,13 +62,14 @@ class AllowList(_Pairs):
         """
         if not isinstance(text, (str, bytes, bytearray)):
             raise TypeError(f"the text of a list file is a str or bytes, not {type(text)!r}")
-        read = read_list(text.encode() if isinstance(text, str) else bytes(text))
-        if isinstance(read, int):
-            fault = LIST_FAULTS[read]
-            raise MemoryError() if fault == "OutOfMemory" else ListFault(fault)
-        room, (counted, stack, memo, passed, numbers, large) = read
-        numbers = STANDARD.numbers if numbers == _UNBOUND else numbers
-        limits = _limits_of(counted, stack, memo, passed, numbers, large)
+        data = text.encode() if isinstance(text, str) else bytes(text)
+        (fault, numbers), room = with_room(lambda size: read_list(data, size))
+        if fault != 0:
+            words = LIST_FAULTS[fault]
+            raise MemoryError() if words == "OutOfMemory" else ListFault(words)
+        limits = limits_of(*numbers)
+        if limits.numbers == UNBOUND:
+            limits = limits._replace(numbers=STANDARD.numbers)
         return cls._of(((module or b"", name or b"") for module, name in records(room)), limits)
 
     @classmethod
@@ -227,7 +149,7 @@ def _list_of(
 def _within(one: Optional[Limits], other: Optional[Limits]) -> Optional[Limits]:
     if one is None or other is None:
         return one or other
-    return _limits_of(*map(min, one._numbers, other._numbers))  # type: ignore[arg-type]
+    return limits_of(*(min(mine, its) for mine, its in zip(one, other)))
 
 
 def _bytes_of(text: str) -> bytes:
@@ -272,6 +194,18 @@ def _encoded(given: Any) -> Iterator[Tuple[bytes, bytes]]:
         if not (pair[0] and pair[1]):
             raise ValueError(f"{words} has an empty module or name: {pair!r:.80}")
         yield (pair[0].encode(), pair[1].encode())
+
+
+def with_room(call: Callable[[int], Tuple[Any, ...]]) -> Tuple[Any, bytes]:
+    """What a call says that is told how much room it has, and what it puts there."""
+    size = 4096
+    while True:
+        *said, wanted, room = call(size)
+        if wanted <= size:
+            return said, room[:wanted]
+        if wanted > _MOST:
+            raise MemoryError(f"the names have {wanted} bytes, more than 2 ** 30")
+        size = wanted
 
 
 def records(room: bytes) -> Iterator[Tuple[Optional[bytes], Optional[bytes]]]:

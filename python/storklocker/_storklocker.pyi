@@ -1,28 +1,17 @@
-from typing import Any, Optional, Tuple, Type, TypeVar, Union
+from typing import Optional, Tuple, Type, TypeVar
 
-from ._answers import Verdict
+from ._answers import RowVerdict, Verdict
+from ._limits import Limits
 
-_L = TypeVar("_L", bound="Limits")
 _P = TypeVar("_P", bound="Pairs")
+_Numbers = Tuple[int, int, int, int, int, int]
 
 version: str
-
-class Limits:
-    counted: int
-    stack: int
-    memo: int
-    passed: int
-    numbers: int
-    _large: int
-    def __new__(cls: Type[_L], *numbers: Any) -> _L: ...
 
 class Pairs:
     _pairs: Tuple[Tuple[bytes, bytes], ...]
     def __new__(
-        cls: Type[_P],
-        pairs: Tuple[Tuple[bytes, bytes], ...],
-        numbers: Tuple[int, int, int, int, int, int],
-        is_bound: bool,
+        cls: Type[_P], pairs: Tuple[Tuple[bytes, bytes], ...], limits: _Numbers, is_bound: bool
     ) -> _P: ...
 
 def check(
@@ -39,13 +28,11 @@ def check_row(
     one_unpickler: bool = False,
     limits: Optional[Limits] = None,
     old_strings: str = "unknown",
-) -> Verdict: ...
+) -> RowVerdict: ...
 def verdict_unless_whole(
     data: bytes, allow: Pairs, limits: Optional[Limits], old_strings: str
 ) -> Optional[Verdict]: ...
-def read_list(
-    text: bytes,
-) -> Union[int, Tuple[bytes, Tuple[int, int, int, int, int, int]]]: ...
+def read_list(text: bytes, size: int) -> Tuple[int, _Numbers, int, bytes]: ...
 def imports(
-    data: bytes, allow: Pairs, limits: Optional[Limits], old_strings: str
-) -> Tuple[Verdict, bytes]: ...
+    data: bytes, allow: Pairs, limits: Optional[Limits], old_strings: str, size: int
+) -> Tuple[Verdict, int, bytes]: ...
