@@ -3,20 +3,16 @@
 #define PY_SSIZE_T_CLEAN
 #define Py_LIMITED_API 0x03080000
 #include <Python.h>
-#include <stddef.h>
 #include <structmember.h>
 
 #include "storklocker.h"
 
-/* From so many bytes on other threads run during a check: below, the lock costs more than the check. */
-#define LOCK_KEPT_BELOW 65536
-/* Names up to this length need no second call. */
-#define ROOM 512
+#define LOCK_KEPT_BELOW 65536 /* so many bytes are checked sooner than the lock is taken again */
+#define ROOM 512              /* names up to this length need no second call */
 
 /* What `HELD` of storklocker._held has at each place. */
 enum { VERDICT, ROW_VERDICT, LIMITS, REASONS, TUPLE_NEW, UNKNOWN };
-/* A kind of answer: none where the pickle is accepted and is all of the bytes. */
-enum { UNLESS_WHOLE = -1 };
+#define HELD(state, place) PyTuple_GetItem((state)->held, place)
 struct state {
     PyObject *held, *pairs;
 };
@@ -39,15 +35,6 @@ struct request {
     size_t length;
 };
 
-static PyObject *held(const struct state *state, Py_ssize_t which) {
-    return PyTuple_GetItem(state->held, which);
-}
-
-static PyObject *none(void) {
-    Py_INCREF(Py_None);
-    return Py_None;
-}
-
 /* The settings of the six numbers of a `Limits`. The package has looked at each, and its pairs are in order. */
 static int has_settings(PyObject *numbers, struct storklocker_settings *s) {
     int large;
@@ -61,30 +48,21 @@ static int has_settings(PyObject *numbers, struct storklocker_settings *s) {
 
 static void pairs_dealloc(PyObject *self) {
     PyTypeObject *type = Py_TYPE(self);
-    freefunc release = (freefunc)PyType_GetSlot(type, Py_tp_free);
     PyMem_Free(((Pairs *)self)->pairs);
     Py_CLEAR(((Pairs *)self)->kept);
-    release(self);
+    ((freefunc)PyType_GetSlot(type, Py_tp_free))(self);
     Py_DECREF(type);
-}
-
-/* A pair of bytes, as C sees it. */
-static struct storklocker_pair pair_of(PyObject *module, PyObject *name) {
-    return (struct storklocker_pair){
-        (const uint8_t *)PyBytes_AsString(module), (size_t)PyBytes_Size(module),
-        (const uint8_t *)PyBytes_AsString(name), (size_t)PyBytes_Size(name)};
 }
 
 static PyObject *pairs_new(PyTypeObject *type, PyObject *args, PyObject *Py_UNUSED(kwargs)) {
     PyObject *kept, *numbers, *module, *name;
     int is_bound;
     struct storklocker_settings settings;
-    allocfunc allocate = (allocfunc)PyType_GetSlot(type, Py_tp_alloc);
     if (!PyArg_ParseTuple(args, "O!O!p", &PyTuple_Type, &kept, &PyTuple_Type, &numbers, &is_bound)
         || !has_settings(numbers, &settings))
         return NULL;
     size_t count = (size_t)PyTuple_Size(kept);
-    Pairs *made = (Pairs *)allocate(type, 0);
+    Pairs *made = (Pairs *)((allocfunc)PyType_GetSlot(type, Py_tp_alloc))(type, 0);
     if (made == NULL)
         return NULL;
     Py_INCREF(kept);
@@ -96,7 +74,9 @@ static PyObject *pairs_new(PyTypeObject *type, PyObject *args, PyObject *Py_UNUS
         PyErr_NoMemory();
     for (; made->count < count && !PyErr_Occurred(); made->count++)
         if (PyArg_ParseTuple(PyTuple_GetItem(kept, (Py_ssize_t)made->count), "SS", &module, &name))
-            made->pairs[made->count] = pair_of(module, name);
+            made->pairs[made->count] = (struct storklocker_pair){
+                (const uint8_t *)PyBytes_AsString(module), (size_t)PyBytes_Size(module),
+                (const uint8_t *)PyBytes_AsString(name), (size_t)PyBytes_Size(name)};
     if (PyErr_Occurred())
         Py_CLEAR(made);
     return (PyObject *)made;
@@ -114,26 +94,22 @@ static int is_wrong(const char *wanted, PyObject *given) {
     return 0;
 }
 
-static void narrow(uint64_t *limit, uint64_t other) {
-    if (other < *limit)
-        *limit = other;
-}
-
 /* The limits that are given, or else those of the list. Where the list has its own, both hold. */
+#define NARROW(limit) r->settings.limit = own->limit < r->settings.limit ? own->limit : r->settings.limit
 static int has_limits(const struct state *state, struct request *r) {
     const struct storklocker_settings *own = &r->list->settings;
     r->settings = *own;
     if (r->limits == NULL || r->limits == Py_None)
         return 1;
-    if (PyObject_IsInstance(r->limits, held(state, LIMITS)) != 1)
+    if (PyObject_IsInstance(r->limits, HELD(state, LIMITS)) != 1)
         return is_wrong("limits is a storklocker.Limits or None", r->limits);
     if (!has_settings(r->limits, &r->settings) || !r->list->is_bound)
         return !PyErr_Occurred();
-    narrow(&r->settings.counted, own->counted);
-    narrow(&r->settings.stack, own->stack);
-    narrow(&r->settings.memo, own->memo);
-    narrow(&r->settings.passed, own->passed);
-    narrow(&r->settings.numbers, own->numbers);
+    NARROW(counted);
+    NARROW(stack);
+    NARROW(memo);
+    NARROW(passed);
+    NARROW(numbers);
     r->settings.large &= own->large;
     return 1;
 }
@@ -151,7 +127,7 @@ static int is_ready(const struct state *state, struct request *r) {
     if (!has_limits(state, r))
         return 0;
     while (r->old_strings != NULL && code <= STORKLOCKER_OLD_BYTES
-           && PyObject_RichCompareBool(r->old_strings, held(state, UNKNOWN + code), Py_EQ) != 1)
+           && PyObject_RichCompareBool(r->old_strings, HELD(state, UNKNOWN + code), Py_EQ) != 1)
         code++;
     if (code > STORKLOCKER_OLD_BYTES && !PyErr_Occurred())
         PyErr_Format(PyExc_ValueError, "old_strings is 'unknown', 'ascii' or 'bytes', not %R", r->old_strings);
@@ -171,49 +147,47 @@ static void ask(
         PyEval_RestoreThread(thread);
 }
 
-/* A verdict of one of the two kinds; takes over the reference to the pair. */
+/* A verdict of one of the two kinds. No pair is null. */
 static PyObject *verdict_of(
     const struct state *state, int kind, const struct storklocker_verdict *v, PyObject *pair) {
-    int is_yes = v->status == STORKLOCKER_YES;
-    if (v->status == STORKLOCKER_NO_LIST || v->reason == STORKLOCKER_OUT_OF_MEMORY)
-        PyErr_NoMemory();
-    if (v->status == STORKLOCKER_USAGE)
-        PyErr_SetString(PyExc_NotImplementedError, "this build has no one_unpickler, numbers or large");
-    if (PyErr_Occurred()) {
-        Py_XDECREF(pair);
-        return NULL;
-    }
     int is_numbered = v->reason == STORKLOCKER_UNKNOWN_OPCODE || v->reason == STORKLOCKER_UNSUPPORTED_PROTOCOL
         || v->reason == STORKLOCKER_MISSING_MEMO;
-    PyObject *reason = PyTuple_GetItem(held(state, REASONS), (Py_ssize_t)v->reason);
-    PyObject *number = is_numbered ? PyLong_FromUnsignedLong(v->number) : none();
-    PyObject *fields = Py_BuildValue(
-        "OKKKONNK", is_yes ? Py_True : Py_False, v->taken, v->imports, v->at, reason, number, pair, v->pickles);
+    if (v->status == STORKLOCKER_NO_LIST || v->reason == STORKLOCKER_OUT_OF_MEMORY)
+        return PyErr_NoMemory();
+    if (v->status == STORKLOCKER_USAGE)
+        PyErr_SetString(PyExc_NotImplementedError, "this build has no one_unpickler, numbers or large");
+    PyObject *fields = v->status == STORKLOCKER_USAGE ? NULL : Py_BuildValue(
+        "OKKKONOK", v->status == STORKLOCKER_YES ? Py_True : Py_False, v->taken, v->imports, v->at,
+        PyTuple_GetItem(HELD(state, REASONS), (Py_ssize_t)v->reason),
+        is_numbered ? PyLong_FromUnsignedLong(v->number) : Py_BuildValue(""), pair ? pair : Py_None, v->pickles);
     PyObject *made = fields == NULL
-        ? NULL : PyObject_CallFunctionObjArgs(held(state, TUPLE_NEW), held(state, kind), fields, NULL);
+        ? NULL : PyObject_CallFunctionObjArgs(HELD(state, TUPLE_NEW), HELD(state, kind), fields, NULL);
     Py_XDECREF(fields);
     return made;
 }
 
-/* The answer of a call. Names that want more room than there was are asked for once more. */
-static PyObject *answered(const struct state *state, call_of_pairs *call, const struct request *r, int kind) {
+/* The answer of a call; none where `is_short` and the pickle is accepted and all of the bytes. Names that want more
+   room than there was are asked for once more. */
+static PyObject *answered(
+    const struct state *state, call_of_pairs *call, const struct request *r, int kind, int is_short) {
     struct storklocker_verdict v;
     uint8_t few[ROOM], *room = few;
     ask(call, r, room, ROOM, &v);
-    if (kind == UNLESS_WHOLE && v.status == STORKLOCKER_YES && v.taken == r->length)
-        return none();
+    if (is_short && v.status == STORKLOCKER_YES && v.taken == r->length)
+        return Py_BuildValue("");
     if (v.has_pair && v.module_length + v.name_length > ROOM) {
-        size_t size = (size_t)(v.module_length + v.name_length);
-        if ((room = PyMem_Malloc(size)) == NULL)
+        if ((room = PyMem_Malloc((size_t)(v.module_length + v.name_length))) == NULL)
             return PyErr_NoMemory();
-        ask(call, r, room, size, &v);
+        ask(call, r, room, (size_t)(v.module_length + v.name_length), &v);
     }
     const char *names = (const char *)room;
-    PyObject *pair = !v.has_pair ? none() : Py_BuildValue(
+    PyObject *pair = !v.has_pair ? NULL : Py_BuildValue(
         "s#s#", names, (Py_ssize_t)v.module_length, names + v.module_length, (Py_ssize_t)v.name_length);
     if (room != few)
         PyMem_Free(room);
-    return verdict_of(state, kind == UNLESS_WHOLE ? VERDICT : kind, &v, pair);
+    PyObject *made = v.has_pair && pair == NULL ? NULL : verdict_of(state, kind, &v, pair);
+    Py_XDECREF(pair);
+    return made;
 }
 
 static PyObject *check(PyObject *module, PyObject *args, PyObject *kwargs) {
@@ -224,7 +198,7 @@ static PyObject *check(PyObject *module, PyObject *args, PyObject *kwargs) {
             args, kwargs, "OO|$OO:check", words, &r.data, &r.allow, &r.limits, &r.old_strings)
         || !is_ready(state, &r))
         return NULL;
-    return answered(state, storklocker_check_pairs, &r, VERDICT);
+    return answered(state, storklocker_check_pairs, &r, VERDICT, 0);
 }
 
 static PyObject *check_row(PyObject *module, PyObject *args, PyObject *kwargs) {
@@ -237,7 +211,7 @@ static PyObject *check_row(PyObject *module, PyObject *args, PyObject *kwargs) {
         || !is_ready(state, &r))
         return NULL;
     r.settings.row_memo = is_kept ? STORKLOCKER_MEMO_KEPT : STORKLOCKER_MEMO_FRESH;
-    return answered(state, storklocker_check_row, &r, ROW_VERDICT);
+    return answered(state, storklocker_check_row, &r, ROW_VERDICT, 0);
 }
 
 static PyObject *verdict_unless_whole(PyObject *module, PyObject *args) {
@@ -245,7 +219,7 @@ static PyObject *verdict_unless_whole(PyObject *module, PyObject *args) {
     struct request r = {0};
     if (!PyArg_ParseTuple(args, "OOOO", &r.data, &r.allow, &r.limits, &r.old_strings) || !is_ready(state, &r))
         return NULL;
-    return answered(state, storklocker_check_pairs, &r, UNLESS_WHOLE);
+    return answered(state, storklocker_check_pairs, &r, VERDICT, 1);
 }
 
 static PyObject *read_list(PyObject *Py_UNUSED(module), PyObject *args) {
@@ -278,17 +252,16 @@ static PyObject *imports(PyObject *module, PyObject *args) {
         return NULL;
     storklocker_imports(
         &r.settings, r.bytes, r.length, (uint8_t *)PyBytes_AsString(room), (size_t)size, &wanted, &v);
-    return Py_BuildValue("NKN", verdict_of(state, VERDICT, &v, none()), wanted, room);
+    return Py_BuildValue("NKN", verdict_of(state, VERDICT, &v, NULL), wanted, room);
 }
 
 static PyMethodDef methods[] = {
     {"check", (PyCFunction)(void (*)(void))check, METH_VARARGS | METH_KEYWORDS,
      "check($module, data, allow, *, limits=None, old_strings='unknown')\n--\n\n"
      "Checks the pickle at the front of `data`, a bytes object, without running it: a Verdict.\n\n"
-     "What stands behind its STOP isn't looked at. A yes covers every run of the pickle machine, whatever\n"
-     "the called objects answer. Without `limits` those of the list hold, or STANDARD; beside those of a list\n"
-     "file the smaller of the two. `old_strings` is what the strings of Python 2 become: 'ascii' texts, where\n"
-     "a byte above 7f is refused; 'bytes' bytes; 'unknown' any object. Raises MemoryError."},
+     "What stands behind its STOP isn't looked at. Without `limits` those of the list hold, or STANDARD; beside\n"
+     "those of a list file the smaller of the two. `old_strings` is what the strings of Python 2 become: 'ascii'\n"
+     "texts, where a byte above 7f is refused; 'bytes' bytes; 'unknown' any object. Raises MemoryError."},
     {"check_row", (PyCFunction)(void (*)(void))check_row, METH_VARARGS | METH_KEYWORDS,
      "check_row($module, data, allow, *, one_unpickler=False, limits=None, old_strings='unknown')\n--\n\n"
      "Checks pickles that stand one after the other, up to the end of `data`: a RowVerdict.\n\n"
