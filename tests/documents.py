@@ -45,10 +45,15 @@ def documents() -> List[Document]:
     return found
 
 
-def found_in(document: Document, pattern: str) -> Iterator[Tuple[int, "re.Match[str]"]]:
-    """Where a pattern stands in the text of a document, outside its examples."""
+def prose_of(document: Document) -> str:
+    """The text of a document without its blocks of code, whose lines are left empty."""
     blocks = re.compile(r"(?ms)^ *```.*?^ *```$")
-    prose = blocks.sub(lambda block: "\n" * block[0].count("\n"), document.text)
+    return blocks.sub(lambda block: "\n" * block[0].count("\n"), document.text)
+
+
+def found_in(document: Document, pattern: str) -> Iterator[Tuple[int, "re.Match[str]"]]:
+    """Where a pattern stands in the prose of a document."""
+    prose = prose_of(document)
     for match in re.finditer(pattern, prose):
         yield prose.count("\n", 0, match.start()) + 1, match
 
@@ -147,9 +152,10 @@ def wrong_versions(document: Document) -> Iterator[Fault]:
 
 
 def too_many_words(found: List[Document]) -> Iterator[Fault]:
-    texts = [document.text for document in found if document.name not in UNCOUNTED]
-    words = sum(len(re.findall(r"\S*\w\S*", text)) for text in texts)
-    print(f"{words} words in {len(texts)} documents")
+    """More words than a reader reads to the end: of the prose, which is not all that is printed."""
+    counted = [document for document in found if document.name not in UNCOUNTED]
+    words = sum(len(re.findall(r"\S*\w\S*", prose_of(document))) for document in counted)
+    print(f"{words} words in {len(counted)} documents")
     if words > MOST_WORDS:
         yield Fault("all documents", 0, f"{words} words, and {MOST_WORDS} are the most")
 
