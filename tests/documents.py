@@ -18,7 +18,7 @@ ROOT = Path(__file__).resolve().parent.parent
 LONGEST_LINE = 100
 MOST_WORDS = 12_000
 UNCOUNTED = {"docs/THEOREM.md", "CHANGELOG.md"}
-UNREAD = {"out", "target", "node_modules"}
+MADE = {"out", "target", "__pycache__"}
 
 
 class Document(NamedTuple):
@@ -35,14 +35,14 @@ class Fault(NamedTuple):
         return f"{self.document}:{self.line}: {self.what}"
 
 
-def documents() -> List[Document]:
-    """Every document of the repository."""
-    found = []
-    for path in sorted(ROOT.rglob("*.md")):
-        name = path.relative_to(ROOT)
-        if not any(part in UNREAD or part.startswith(".") for part in name.parts):
-            found.append(Document(name.as_posix(), path.read_text(encoding="utf-8")))
-    return found
+def files() -> List[Path]:
+    """The files of the repository, without those that a run made."""
+    found = (path for path in ROOT.rglob("*") if path.is_file())
+    return [path for path in found if not is_made(path.relative_to(ROOT))]
+
+
+def is_made(name: Path) -> bool:
+    return any(part in MADE or part.startswith(".") for part in name.parts)
 
 
 def prose_of(document: Document) -> str:
@@ -85,12 +85,10 @@ def dead_links(document: Document) -> Iterator[Fault]:
 
 
 def missing_files(document: Document) -> Iterator[Fault]:
-    """Files that a document names and the repository doesn't have."""
+    """Files that a document names, whole or by the end of their paths, and that aren't there."""
     for line, match in found_in(document, r"`([\w./-]+\.(?:antt|rt|py|edit|toml|pickle|stdout))`"):
-        name = match[1]
-        near = [ROOT / name, ROOT / "crates" / name, (ROOT / document.name).parent / name]
-        if not any(path.exists() for path in near) and not any(ROOT.glob("*/**/" + name)):
-            yield Fault(document.name, line, f"there is no file {name}")
+        if not any(path.endswith("/" + match[1]) for path in PATHS):
+            yield Fault(document.name, line, f"there is no file {match[1]}")
 
 
 def lines_of(file: str, pattern: str) -> int:
@@ -161,6 +159,15 @@ def too_many_words(found: List[Document]) -> Iterator[Fault]:
 
 
 CHECKS = [long_lines, dead_links, missing_files, wrong_counts, wrong_rows, wrong_versions]
+
+
+PATHS = [path.as_posix() for path in files()]
+
+
+def documents() -> List[Document]:
+    """Every document of the repository."""
+    names = sorted(Path(path).relative_to(ROOT).as_posix() for path in PATHS if path.endswith(".md"))
+    return [Document(name, (ROOT / name).read_text(encoding="utf-8")) for name in names]
 
 
 def main() -> int:
