@@ -17,7 +17,9 @@ import worked
 ROOT = Path(__file__).resolve().parent.parent
 LONGEST_LINE = 100
 MOST_WORDS = 12_000
-UNCOUNTED = {"docs/THEOREM.md", "CHANGELOG.md"}
+# The papers that a reader is to read to the end, and those that are none of them.
+COUNTED = re.compile(r"(README|docs/.*|bench/README|tests/README)\.md")
+UNCOUNTED = {"docs/THEOREM.md"}
 MADE = {"out", "target", "__pycache__"}
 
 
@@ -145,13 +147,14 @@ def wrong_versions(document: Document) -> Iterator[Fault]:
     package = (ROOT / "python/pyproject.toml").read_text(encoding="utf-8")
     version = re.search(r'(?m)^version = "(.*)"$', package)
     for line, match in found_in(document, r"\b0\.\d+\.\d+\b"):
-        if version and document.name not in UNCOUNTED and match[0] != version[1]:
+        if version and document.name != "CHANGELOG.md" and match[0] != version[1]:
             yield Fault(document.name, line, f"version {match[0]}, and the package is {version[1]}")
 
 
 def too_many_words(found: List[Document]) -> Iterator[Fault]:
     """More words than a reader reads to the end: of the prose, which is not all that is printed."""
-    counted = [document for document in found if document.name not in UNCOUNTED]
+    papers = [document for document in found if COUNTED.fullmatch(document.name)]
+    counted = [document for document in papers if document.name not in UNCOUNTED]
     words = sum(len(re.findall(r"\S*\w\S*", prose_of(document))) for document in counted)
     print(f"{words} words in {len(counted)} documents")
     if words > MOST_WORDS:
