@@ -2,7 +2,8 @@
 """Checks the documents: length, links, files that they name, counts, and the examples in them.
 
 Every example runs: blocks of `console` in a shell, blocks of `pycon` in one session for each
-document, blocks of `python` alone. What they print has to stand below them. The last line counts.
+document. What they print has to stand below them. Blocks of `python` are parsed. The last line
+counts.
 """
 
 import argparse

@@ -1,5 +1,6 @@
 """Runs the examples of a document, and compares what they print with what stands below them."""
 
+import ast
 import doctest
 import os
 import subprocess
@@ -103,10 +104,11 @@ def faults_of_python(blocks: List[Block]) -> Iterator[Tuple[int, str]]:
 
 
 def faults_of_program(block: Block) -> Iterator[Tuple[int, str]]:
-    """What Python says of a program that defines something."""
-    told = run([sys.executable, "-"], block.text)
-    if told:
-        yield block.line, told
+    """What Python says of the form of a program."""
+    try:
+        ast.parse(block.text)
+    except SyntaxError as error:
+        yield block.line - 1 + (error.lineno or 1), str(error)
 
 
 def examples(text: str) -> Tuple[int, List[Tuple[int, str]]]:

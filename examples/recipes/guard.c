@@ -12,7 +12,6 @@ static const struct storklocker_pair permitted[] = {
     {BYTES("collections"), BYTES("OrderedDict")},
     {BYTES("datetime"), BYTES("datetime")},
 };
-static const struct storklocker_settings standard = STORKLOCKER_STANDARD;
 
 /* All bytes of a file, to be freed, or null where it can't be read or memory is short. */
 static uint8_t *read_all(FILE *file, size_t *length) {
@@ -36,8 +35,8 @@ static uint8_t *read_all(FILE *file, size_t *length) {
 
 static uint32_t check(const uint8_t *pickle, size_t length, uint8_t *room, size_t size,
     struct storklocker_verdict *verdict) {
-    return storklocker_check_pairs(permitted, sizeof permitted / sizeof *permitted, &standard,
-        pickle, length, room, size, verdict);
+    const size_t count = sizeof permitted / sizeof *permitted;
+    return storklocker_check_pairs(permitted, count, NULL, pickle, length, room, size, verdict);
 }
 
 /* A name is the stranger's: what isn't printable ASCII must not reach a terminal or a log. */
@@ -69,7 +68,6 @@ static void print_pair(
 
 int main(int count, char **words) {
     size_t length;
-    uint8_t none[1];
     struct storklocker_verdict verdict;
     if (count != 2) {
         fputs("usage: guard FILE\n", stderr);
@@ -83,7 +81,7 @@ int main(int count, char **words) {
     }
     fclose(file);
 
-    uint32_t status = check(pickle, length, none, 0, &verdict);
+    uint32_t status = check(pickle, length, NULL, 0, &verdict);
     if (status == STORKLOCKER_YES) {
         printf("yes: %" PRIu64 " bytes\n", verdict.taken);
     } else {

@@ -18,7 +18,7 @@ def loaded(partition: Iterable[Tuple[Any, Any]]) -> Iterator[Tuple[Any, Any, Opt
     for key, data in partition:
         try:
             yield key, storklocker.loads(data, allow), None
-        except (storklocker.Refused, storklocker.MoreBytes) as refusal:
+        except storklocker.Refused as refusal:
             yield key, None, str(refusal)
         except Exception as error:  # no bytes at all, or what an accepted pickle calls raises
             yield key, None, type(error).__name__

@@ -17,7 +17,7 @@ def work(jobs: "queue.Queue[bytes]", do: Callable[[Any], None]) -> None:
         data = jobs.get()
         try:
             job = storklocker.loads(data, PERMITTED)
-        except (storklocker.Refused, storklocker.MoreBytes) as refusal:
+        except storklocker.Refused as refusal:
             logging.warning("a job was refused: %s", refusal)
         except Exception as error:  # an accepted pickle may raise whatever what it calls raises
             logging.warning("a job was not loaded: %s", type(error).__name__)
