@@ -4,7 +4,9 @@
 #include <stddef.h>
 #include <stdlib.h>
 
+#ifndef LEAST
 #define LEAST 512
+#endif
 
 struct tried {
     bool is_granted;

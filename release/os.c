@@ -1,5 +1,5 @@
-/* What a static program takes of the system: the words of the command line, and errno. The toolchain's own file of these is
-   compiled for x86-64 alone. */
+/* What a static program takes of the system: the words of the command line, and errno. The
+   toolchain's own file of these is compiled for x86-64 alone. */
 #include <errno.h>
 #include <stddef.h>
 #include <stdint.h>
@@ -14,7 +14,8 @@ __attribute__((constructor)) static void keep(int given, char **all) {
     count = given < 0 ? 0 : (size_t)given;
 }
 
-/* puts word i, without its NUL, at the start of `to`: its length, -1 where there is no such word, -2 where it doesn't fit */
+/* puts word i, without its NUL, at the start of `to`: its length, -1 where there is no such word,
+   -2 where it doesn't fit */
 ptrdiff_t rattle_arg(size_t i, unsigned char *to, size_t room) {
     if (i >= count)
         return -1;
