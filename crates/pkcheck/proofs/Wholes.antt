@@ -1,6 +1,8 @@
 -- Whole runs, and a check.
 pub mod RunSteps
 pub mod Walk
+pub mod Origins
+pub mod NextPickle
 pub mod Listed
 pub mod FramesSoFar
 pub mod Faultless

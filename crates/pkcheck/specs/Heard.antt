@@ -12,6 +12,7 @@ use Rattle.pkcheck.specs.declared.old_strings.OldStrings.{OldStrings}
 use Rattle.pkcheck.specs.declared.old_strings.OldStrings.TheVariants.{Unknown}
 use Rattle.pkcheck.specs.Knowledge.{Policy, Asked}
 use Rattle.pkcheck.specs.Refused.{Why, reading, judging, growing}
+use Rattle.pkcheck.specs.RowRuns.{Beginning}
 use Rattle.pkcheck.specs.RunFaults.{RunsBehind}
 use Rattle.pkcheck.specs.Shape.{marks_of}
 use Rattle.pkcheck.specs.declared.checking.Yes.{Yes}
@@ -44,9 +45,10 @@ AreHeardBehind before [] (h ∷ hs) = ⊥
 AreHeardBehind before (i ∷ is) [] = ⊥
 
 -- the refused instruction, where it was read whole and admitted
-abbrev pub refused_instruction : {setting : OldStrings} {policy : Policy} {limits : Bounds}
-    {before : List Instruction} {here new : Sight} {at : ℕ} {reason : Reason} {pair : Option Asked}
-    → Why setting policy limits before here new at reason pair → List Instruction
+abbrev pub refused_instruction : {setting : OldStrings} {beginning : Beginning} {policy : Policy}
+    {limits : Bounds} {before : List Instruction} {here new : Sight} {at : ℕ} {reason : Reason}
+    {pair : Option Asked} → Why setting beginning policy limits before here new at reason pair
+    → List Instruction
 refused_instruction (reading h) = []
 refused_instruction (judging h) = h.instruction ∷ []
 refused_instruction (growing h) = h.instruction ∷ []

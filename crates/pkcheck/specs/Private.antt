@@ -9,4 +9,5 @@ pub mod Spelled
 pub mod Actions
 pub mod Judging
 pub mod ListIndex
+pub mod NextPickle
 pub mod Replacing

@@ -1,5 +1,5 @@
 -- What an answer of `check_all` says of pickles that stand one after the other in a source.
-use Rattle.std.specs.Prelude.{◌≡◌, ◌≢◌, ◌<◌, ℕ, List, [], ◌∷◌, length, map, flat_map, All, Option, Some, Result, MatchResult, option_map}
+use Rattle.std.specs.Prelude.{◌≡◌, ◌≢◌, ◌<◌, ℕ, List, [], ◌∷◌, ◌++◌, length, flat_map, All, Option, Some, Result, MatchResult, option_map}
 use Rattle.std.specs.Io.KnownBytes.{IsAtEnd}
 use Rattle.pkops.specs.Limits.{Bounds}
 use Rattle.pkops.specs.Payloads.{payload_limit}
@@ -9,11 +9,14 @@ use Rattle.pkread.specs.Rows.{Sight, Takes, all_bytes}
 use Rattle.pkread.specs.Sequence.{CountsAt, IsSequence, spellings}
 use Rattle.pkread.specs.declared.refusal.Reason.{Reason}
 use Rattle.pkread.specs.declared.refusal.Reason.TheVariants.{Truncated}
-use Rattle.pkcheck.specs.declared.old_strings.OldStrings.{OldStrings}
-use Rattle.pkcheck.specs.Accepted.{Accepted}
+use Rattle.pkcheck.specs.declared.loading.Loading.{Loading}
+use Rattle.pkcheck.specs.declared.loading.Memo.{Memo}
+use Rattle.pkcheck.specs.declared.loading.Memo.TheVariants.{Fresh, Kept}
+use Rattle.pkcheck.specs.Accepted.{AcceptedFrom}
 use Rattle.pkcheck.specs.Import.{asked_shown}
 use Rattle.pkcheck.specs.Knowledge.{Policy, Asked}
 use Rattle.pkcheck.specs.Refused.{RefusedFrom}
+use Rattle.pkcheck.specs.RowRuns.{Beginning, Afresh, Behind, Pickle, imports_of, sequences_of}
 use Rattle.pkcheck.specs.declared.row_of_pickles.YesAll.{YesAll}
 use Rattle.pkcheck.specs.declared.row_of_pickles.NoAll.{NoAll}
 
@@ -24,39 +27,33 @@ pub record IsRow (limit : Op → ℕ) (sequences : List (List Instruction)) (byt
   pub each : All (IsSequence limit) sequences
   pub spelled : bytes ≡ flat_map spellings sequences
 
--- a pickle of a row: its instructions, and its imports in order
-pub record Pickle : Type 0 where
-  pub instructions : List Instruction
-  pub imports : List Asked
-
--- the instructions of each
-abbrev pub sequences_of : List Pickle → List (List Instruction)
-sequences_of pickles = map (λ pickle. pickle.instructions) pickles
-
 -- the bytes of all
 abbrev pub bytes_of : List Pickle → List ℕ
 bytes_of pickles = flat_map spellings (sequences_of pickles)
 
--- the imports of all, in order
-abbrev pub imports_of : List Pickle → List Asked
-imports_of pickles = flat_map (λ pickle. pickle.imports) pickles
+-- where the runs of the pickle behind these begin
+abbrev pub begins : Memo → List Pickle → Beginning
+begins Fresh before = Afresh
+begins Kept before = Behind before
 
--- what `check` says of an accepted pickle holds of this one, with these instructions and imports
-abbrev pub IsAccepted : OldStrings → Policy → Bounds → Sight → Sight → Pickle → Type 0
-IsAccepted setting policy limits old new pickle =
-    (accepted : Accepted setting policy limits old new
+-- what `check` says of an accepted pickle holds of this one behind those before it, with these
+-- instructions and imports
+abbrev pub IsAccepted : Loading → Policy → Bounds → Sight → Sight → List Pickle → Pickle → Type 0
+IsAccepted loading policy limits old new before pickle =
+    (accepted : AcceptedFrom loading.old_strings (begins loading.memo before) policy limits old new
     (length (spellings pickle.instructions)) pickle.imports)
     × (accepted.instructions ≡ pickle.instructions)
 
--- it holds of each of these, which were taken one after the other
-abbrev pub AreAccepted : OldStrings → Policy → Bounds → Sight → Sight → List Pickle → Type 0
-AreAccepted setting policy limits old new [] = Takes old new []
-AreAccepted setting policy limits old new (pickle ∷ pickles) =
-    (between : Sight) × IsAccepted setting policy limits old between pickle
-    × AreAccepted setting policy limits between new pickles
+-- it holds of each of these, which stand behind those before and were taken one after the other
+abbrev pub AreAccepted :
+    Loading → Policy → Bounds → Sight → Sight → List Pickle → List Pickle → Type 0
+AreAccepted loading policy limits old new before [] = Takes old new []
+AreAccepted loading policy limits old new before (pickle ∷ pickles) =
+    (between : Sight) × IsAccepted loading policy limits old between before pickle
+    × AreAccepted loading policy limits between new (before ++ pickle ∷ []) pickles
 
 -- a row was accepted, of `taken` bytes and so many pickles, with these imports
-pub record AcceptedRow (setting : OldStrings) (policy : Policy) (limits : Bounds) (old new : Sight)
+pub record AcceptedRow (loading : Loading) (policy : Policy) (limits : Bounds) (old new : Sight)
     (taken pickles : ℕ) (imports : List Asked) : Type 0 where
   pub row : List Pickle
   -- the source has come to its end, and a row is all that it had
@@ -68,7 +65,7 @@ pub record AcceptedRow (setting : OldStrings) (policy : Policy) (limits : Bounds
   pub within : taken < all_bytes
   pub number : pickles ≡ length row
   -- each pickle of it is accepted, and the imports are theirs, in order
-  pub each : AreAccepted setting policy limits old new row
+  pub each : AreAccepted loading policy limits old new [] row
   pub listed : imports ≡ imports_of row
 
 -- a byte is left, where the source tells what is left
@@ -76,25 +73,25 @@ abbrev pub HasMore : Sight → Type 0
 HasMore here = here.left ≢ Some []
 
 -- the pickle of this number, counted from 0, was refused, and those before it were accepted
-pub record RefusedInRow (setting : OldStrings) (policy : Policy) (limits : Bounds) (old new : Sight)
+pub record RefusedInRow (loading : Loading) (policy : Policy) (limits : Bounds) (old new : Sight)
     (pickle at : ℕ) (reason : Reason) (pair : Option Asked) : Type 0 where
   pub before : List Pickle
   pub number : pickle ≡ length before
   -- where the source was as it is seen here, they had been taken
   pub here : Sight
-  pub each : AreAccepted setting policy limits old here before
-  pub refused : RefusedFrom (length (bytes_of before)) setting policy limits here new at reason pair
+  pub each : AreAccepted loading policy limits old here [] before
+  pub refused : RefusedFrom (length (bytes_of before)) loading.old_strings
+      (begins loading.memo before) policy limits here new at reason pair
   -- where the source ended, a further byte stands behind those before: a row that ends there is
   -- accepted
   pub more : reason ≡ Truncated → before ≢ [] → HasMore here
 
 -- the answer is right of a source that was seen so before the check and after it
-abbrev pub IsRightOfRow :
-    OldStrings → Policy → Bounds → Sight → Sight → Result YesAll NoAll → Type 0
-IsRightOfRow setting policy limits old new answer =
+abbrev pub IsRightOfRow : Loading → Policy → Bounds → Sight → Sight → Result YesAll NoAll → Type 0
+IsRightOfRow loading policy limits old new answer =
     MatchResult answer
-    (λ yes. AcceptedRow setting policy limits old new yes.taken yes.pickles yes.imports)
-    (λ all. RefusedInRow setting policy limits old new all.pickle all.no.at all.no.reason
+    (λ yes. AcceptedRow loading policy limits old new yes.taken yes.pickles yes.imports)
+    (λ all. RefusedInRow loading policy limits old new all.pickle all.no.at all.no.reason
     (option_map asked_shown all.no.pair))
 
 -- the count of failed reads goes up by one where the reason is Source, and stays at every other

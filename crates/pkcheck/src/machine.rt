@@ -15,8 +15,8 @@ mod stepping;
 pub(crate) mod texts;
 pub(crate) mod value;
 
-ghost use Rattle.std.specs.Prelude.{◌≡◌, ◌++◌, option_map, is_some, IfOk, IfErr, IsTrue};
-ghost use Rattle.std.specs.Prelude.{false, true, OnOk};
+ghost use Rattle.std.specs.Prelude.{◌≡◌, option_map, is_some, IfOk, IfErr, IsTrue};
+ghost use Rattle.std.specs.Prelude.{None, false, true, OnOk};
 ghost use Rattle.std.specs.List.{slice_get};
 ghost use Rattle.pkcheck.specs.declared.old_strings.OldStrings.TheVariants as OldStrings;
 ghost use Rattle.pkops.specs.Inst.{instruction_of};
@@ -26,6 +26,7 @@ ghost use Rattle.pkcheck.specs.Shape.{marks_of};
 ghost use Rattle.pkcheck.specs.Runs.{State, start};
 ghost use Rattle.pkcheck.specs.Covers.{Covers};
 ghost use Rattle.pkcheck.specs.Import.{asked_shown, import_shown, policy_of, pair_shown};
+ghost use Rattle.pkcheck.specs.Private.NextPickle.{moved_apart, restarted};
 ghost use Rattle.pkops.specs.Payloads.{is_passed};
 ghost use Rattle.pkcheck.specs.Stepping.{AnswersAgain, AppendsPermitted, Fails, GoesOn, IfFirst};
 ghost use Rattle.pkcheck.specs.Stepping.{IsNoFalseAlarm, IsStep, MayLackMemory, MeansInEachRun};
@@ -35,6 +36,7 @@ ghost use Rattle.pkcheck.specs.View.{fresh, has_off_list, stopped_by};
 
 use crate::import::{Asked, Import};
 use crate::imports::Imports;
+use crate::loading::Memo;
 use crate::machine::effects::class_passed;
 use crate::machine::held::Held;
 use crate::machine::ledger::Ledger;
@@ -245,18 +247,22 @@ impl Machine {
         }
     }
 
-    /// Lists the imports behind others, and goes back to the first instruction, of a further
-    /// pickle. It keeps the memory.
-    pub(crate) fn restart(&mut self, imports: &mut Ledger) -> Result<(), AllocError>
-        ensures fresh { OnOk result (self.new
-            ≡ fresh self.old.old_strings self.old.limits) }
-        ensures imports { OnOk result (imports.new.asked
-            ≡ imports.old.asked ++ self.old.imports) }
+    /// Goes on to the first instruction of a further pickle. With a fresh memo it lists the imports
+    /// apart, behind others, and forgets all. With a memo that is kept it takes the stack away
+    /// alone, in no time: what the memo holds may name any of the texts.
+    pub(crate) fn restart(&mut self, memo: Memo, apart: &mut Ledger) -> Result<(), AllocError>
+        requires { self.old.refused ≡ None }
+        ensures next { OnOk result (self.new ≡ restarted memo self.old) }
+        ensures apart { OnOk result (apart.new.asked
+            ≡ moved_apart memo apart.old.asked self.old.imports) }
     {
-        self.held.list_in(self.alloc, imports)?;
-        self.held.clear();
-        self.refused = None;
-        self.off = None;
+        match memo {
+            Memo::Fresh => {
+                self.held.list_in(self.alloc, apart)?;
+                self.held.clear();
+            }
+            Memo::Kept => self.held.clear_stack(),
+        }
         self.stopped = false;
         Ok(())
     }

@@ -3,15 +3,16 @@
 ghost use Rattle.std.specs.Prelude.{◌≡◌, None, option_map};
 ghost use Rattle.pkread.specs.Rows.{sight};
 ghost use Rattle.pkcheck.specs.Import.{asked_shown, policy_of};
+ghost use Rattle.pkcheck.specs.Private.NextPickle.{listed_in};
 ghost use Rattle.pkcheck.specs.RowOfPickles.{CountsInRow, IsRightOfRow};
 
 use crate::checking::No;
 use crate::import::Asked;
 use crate::imports::Imports;
+use crate::loading::{Loading, Memo};
 use crate::machine::Machine;
 use crate::machine::in_frames::{judge, judge_passed};
 use crate::machine::ledger::Ledger;
-use crate::old_strings::OldStrings;
 use crate::policy::Policy;
 use pkops::Limits;
 use pkread::laws::{frames, heads, rows};
@@ -39,9 +40,13 @@ pub struct NoAll {
 }
 
 /// Reads one pickle after the other, up to the end of the source, and checks each as
-/// [`check_as`](crate::check_as) does: of one pickle nothing is left to the next. It takes time in
-/// the number of bytes, however many pickles they are, and memory for the largest of them and for
-/// what the imports name.
+/// [`check_as`](crate::check_as) does. It takes time in the number of bytes, however many pickles
+/// they are.
+///
+/// With [`Memo::Fresh`] nothing is left of one pickle to the next, and the memory is for the largest
+/// of them and for what the imports name. With [`Memo::Kept`] each pickle begins with an empty stack
+/// and with the memo, the objects and the events that those before it left: what the answer says of
+/// a pickle, it says of every run of the row that comes to it. The memory is for all of them.
 ///
 /// A `YesAll` holds of one pickle at least. A `NoAll` names the first pickle that is refused; where
 /// it is not known whether one more pickle begins, as where the source fails or 2^64 - 1 bytes were
@@ -51,9 +56,9 @@ pub fn check_all<R: Source>(
     source: &mut R,
     policy: &Policy<'_>,
     limits: &Limits,
-    old_strings: OldStrings,
+    loading: Loading,
 ) -> Result<YesAll, NoAll>
-    ensures answer { IsRightOfRow old_strings (policy_of policy.now) limits.now
+    ensures answer { IsRightOfRow loading (policy_of policy.now) limits.now
         (sight R.left R.failures source.old) (sight R.left R.failures source.new) result }
     ensures count { CountsInRow (R.failures source.old) (R.failures source.new) result }
 {
@@ -62,8 +67,8 @@ pub fn check_all<R: Source>(
     rows();
     let mut reader = Reader::new(alloc, source, limits);
     let mut frames = Frames::new();
-    let mut machine = Machine::new_as(alloc, limits, old_strings);
-    let mut imports = Ledger::new(alloc);
+    let mut machine = Machine::new_as(alloc, limits, loading.old_strings);
+    let mut apart = Ledger::new(alloc);
     let mut pickles = 0u64;
     'instructions: loop {
         match reader.next_head() {
@@ -71,7 +76,7 @@ pub fn check_all<R: Source>(
             Ok(Head::Ended) => {
                 let taken = reader.taken();
                 pickles += 1;
-                let Ok(()) = machine.restart(&mut imports) else {
+                let Ok(()) = machine.restart(loading.memo, &mut apart) else {
                     return Err(refused(pickles, taken, Reason::OutOfMemory, None));
                 };
                 frames = Frames::new();
@@ -82,7 +87,7 @@ pub fn check_all<R: Source>(
                         return Ok(YesAll {
                             taken,
                             pickles,
-                            imports: Imports::from_ledger(imports),
+                            imports: imports_of_row(loading.memo, apart, machine),
                         });
                     }
                 }
@@ -99,6 +104,16 @@ pub fn check_all<R: Source>(
                 }
             }
         }
+    }
+}
+
+/// The imports of a row. Those of pickles that the machine forgot stand apart.
+fn imports_of_row(memo: Memo, apart: Ledger, machine: Machine) -> Imports
+    ensures { result ≡ listed_in memo apart.asked machine.imports }
+{
+    match memo {
+        Memo::Fresh => Imports::from_ledger(apart),
+        Memo::Kept => machine.into_imports(),
     }
 }
 

@@ -7,13 +7,13 @@ use Rattle.pkcheck.specs.declared.machine.effects.Names.TheVariants.{NoName, OfA
 use Rattle.pkcheck.specs.Effects.{Effect, Operates, Moves, Stops, Raises, effect_as, number_stored}
 use Rattle.pkcheck.specs.Shape.{top, Breach, Entry, Taken, and_then, unless, operands, moved}
 use Rattle.pkops.specs.Spelling.{Instruction}
-use Rattle.pkcheck.specs.Runs.{Text, Plain, Foreign, Event, Import, Did, State, Outcome, Stepped, WentOn, Raised, Stopped, Stuck, step_as, start}
-use Rattle.pkcheck.specs.Knowledge.{argument_asked, Known, Knowledge, Asked, AskedPair, AskedUnknown, Progress, Refusal, WrongClass, OffList, TooLarge, lacking, permitted, operands_asked, asked_of, is_past, within, left_over, move_learned, stop_learned, learn, advance, nothing_known}
+use Rattle.pkcheck.specs.Runs.{Text, Plain, Foreign, Event, Import, Did, State, Outcome, Stepped, WentOn, Raised, Stopped, Stuck, step_as}
+use Rattle.pkcheck.specs.Knowledge.{argument_asked, Known, Knowledge, Asked, AskedPair, AskedUnknown, Progress, Refusal, WrongClass, OffList, TooLarge, lacking, permitted, operands_asked, asked_of, is_past, within, left_over, move_learned, stop_learned, learn, advance}
 use Rattle.pkops.specs.Limits.{Bounds}
 use Rattle.pkcheck.specs.Covers.{Pointwise, AlikeEntry, IsObject, imports_of, IsAsked, Adds}
 use Rattle.pkcheck.specs.Stepping.{IsPermitted}
 use Rattle.pkcheck.proofs.Covering.CoversBy.{any_answer, TrueBy, CoversBy, FollowsBy, FollowsIfOk, objects_grow}
-use Rattle.pkcheck.specs.WholeRuns.{Ended, first_outcome, go_on, run_as, AllListed, EndsWell, Sound}
+use Rattle.pkcheck.specs.WholeRuns.{Ended, first_outcome, go_on, run_as, AllListed, EndsWell}
 use Rattle.pkcheck.proofs.Covering.Verdicts.{Verdict, Yes, No, with_import, verdict_on, verdict, IsYes}
 use Rattle.pkcheck.proofs.Covering.Following.{step_follows}
 
@@ -130,12 +130,9 @@ module _ (list : List ℕ → List ℕ → Bool) where
     fine_after is s st os (Ok q) h g y old on = step_fine q s st (run_as setting is os) h g old (λ t c listed. on q.after t (yes_before q.import _ y) c listed)
     fine_after is s st os (Err r) h g y old on = absurd y
 
-    fine_from : (is : List Instruction) (k : Knowledge) (s : State) (os : List Outcome) → IsYes (verdict setting (Some list) l is k) → CoversBy IsObject k s → AllListed list (imports_of s.events) → EndsWell list (run_as setting is os s)
-    fine_from [] k s os h c old = old
-    fine_from (i ∷ is) k s os h c old =
+    -- a yes is sound from a state that is covered, where all imports so far are listed
+    pub sound_along : (is : List Instruction) (k : Knowledge) (s : State) (os : List Outcome) → IsYes (verdict setting (Some list) l is k) → CoversBy IsObject k s → AllListed list (imports_of s.events) → EndsWell list (run_as setting is os s)
+    sound_along [] k s os h c old = old
+    sound_along (i ∷ is) k s os h c old =
         fine_after is s (step_as setting i s (first_outcome os)) _ (advance setting (Some list) l i k) (advance_listed setting l i k) (step_follows IsObject objects_grow setting (Some list) l i k s (first_outcome os) c (any_answer s.objects (first_outcome os))) h old
-        (λ k' t y c' listed. fine_from is k' t _ y c' listed)
-
-  -- a yes is sound
-  pub sound : (setting : OldStrings) (l : Bounds) (is : List Instruction) → IsYes (verdict setting (Some list) l is nothing_known) → Sound setting is list
-  sound setting l is y os = fine_from setting l is nothing_known start os y (record { entries = tt; memo = tt }) tt
+        (λ k' t y c' listed. sound_along is k' t _ y c' listed)

@@ -1,6 +1,6 @@
 -- What is known once instructions were read and judged, and the answers that follow.
 use Rattle.pkcheck.specs.declared.old_strings.OldStrings.{OldStrings}
-use Rattle.std.proofs.Common.{◌≡◌, ℕ, ◌+◌, ◌<◌, List, [], ◌∷◌, ◌++◌, map, Option, Some, None, Ok, Err, inl, inr, refl, sym, ap, subst, ◌∙◌, arith}
+use Rattle.std.proofs.Common.{◌≡◌, ℕ, ◌+◌, ◌<◌, List, [], ◌∷◌, ◌++◌, map, Option, Some, None, Ok, Err, false, inl, inr, refl, sym, ap, subst, ◌∙◌, append-nil, arith}
 use Rattle.pkops.specs.Limits.{Bounds}
 use Rattle.pkops.specs.Payloads.{payload_limit, payload_limit_at}
 use Rattle.pkops.specs.Spelling.{Instruction, spelling}
@@ -15,26 +15,27 @@ use Rattle.pkread.specs.Rows.{Sight, Takes, Refuses as ReaderRefuses}
 use Rattle.pkread.specs.declared.refusal.Reason.{Reason}
 use Rattle.pkread.specs.declared.refusal.Reason.TheVariants as reason
 use Rattle.pkread.specs.declared.refusal.Refusal.{Refusal as ReadRefusal}
-use Rattle.pkcheck.specs.Accepted.{Accepted}
+use Rattle.pkcheck.specs.Accepted.{AcceptedFrom}
 use Rattle.pkcheck.specs.Import.{asks_more}
 use Rattle.pkcheck.specs.Private.Judging.{IsPassed, BreaksFrame, IsRefusedByMachine, IsRefused}
 use Rattle.pkcheck.specs.Knowledge.{Policy, Asked, Refusal, reason_of, advance, nothing_known, Lacks, WrongClass, NotText, UnknownImport, OffList, LeftOver, NotAscii, TooLarge}
 use Rattle.pkcheck.specs.Shape.{NoMark, NoItem, NoMemo, Odd, Extension}
-use Rattle.pkcheck.specs.Listing.{imports_among, ImportsAreListed}
+use Rattle.pkcheck.specs.Listing.{imports_among, ImportsAreListed, permitted_by}
 use Rattle.pkcheck.specs.Refused.{RefusedFrom, Why, reading, judging, growing, HasFirstFault}
-use Rattle.pkcheck.specs.RunFaults.{HasFault, RunsBehind}
+use Rattle.pkcheck.specs.RowRuns.{Afresh, Beginning, listed_before}
+use Rattle.pkcheck.specs.RunFaults.{HasFault, RunsFrom}
 use Rattle.pkcheck.specs.Faults.{Arrivals, HasFaultHere, everyone, rank}
 use Rattle.pkcheck.specs.Heard.{refused_instruction}
 use Rattle.pkcheck.proofs.Covering.Answering.{Word}
-use Rattle.pkcheck.specs.Runs.{start}
 use Rattle.pkcheck.proofs.Covering.Verdicts.{Yes, verdict}
 use Rattle.pkcheck.specs.Stepping.{LacksMemory}
 use Rattle.pkcheck.specs.View.{View, fresh, stopped_by, off_pair}
-use Rattle.pkcheck.specs.WholeRuns.{run_as}
+use Rattle.pkcheck.specs.WholeRuns.{EndsWell, run_as}
 use Rattle.pkcheck.proofs.Wholes.FramesSoFar.{FrameLaws}
-use Rattle.pkcheck.proofs.Wholes.Faultless.{stands_behind, machine_fault, length-asked, each_asks, faultless, unknown_is_open}
+use Rattle.pkcheck.proofs.Wholes.Faultless.{machine_fault, length-asked, each_asks, faultless, unknown_is_open}
 use Rattle.pkcheck.proofs.Wholes.Given.{Took, Turned}
-use Rattle.pkcheck.proofs.Wholes.Listed.{listed, sound_by}
+use Rattle.pkcheck.proofs.Wholes.Listed.{listed_from, sound_from}
+use Rattle.pkcheck.proofs.Wholes.Origins.{Begins, Origin, alone, begins_afresh, in_each, stands_from}
 use Rattle.pkcheck.proofs.Stepping.Stops.{stops_nowhere, nowhere_last, sequence_last}
 use Rattle.pkcheck.proofs.Stepping.Settings.{same_end, wants_no_registry}
 use Rattle.pkcheck.proofs.Covering.Showing.{IsLonger}
@@ -42,14 +43,15 @@ use Rattle.pkcheck.proofs.Covering.Standing.{Stands, has_fault, first, pair_of}
 use Rattle.pkcheck.proofs.Stepping.Extensions.{no_extension}
 use Rattle.pkcheck.proofs.Wholes.Walk.{along, verdict_more}
 
--- these instructions were read, from where the source was seen so and `from` bytes were taken, and judged, and these are their imports
-pub record Checked (setting : OldStrings) (policy : Policy) (limits : Bounds) (old : Sight) (from : ℕ) (p : List Instruction) (asked : List (Option Asked)) (s : State) (still_open : ℕ) (m : View) : Type 0 where
+-- these instructions of a pickle were read, from where the source was seen so, and judged, and these are their imports
+pub record Checked (setting : OldStrings) (policy : Policy) (limits : Bounds) (old : Sight) (o : Origin) (p : List Instruction) (asked : List (Option Asked)) (s : State) (still_open : ℕ) (m : View) : Type 0 where
   pub laws : FrameLaws
-  pub reads : Reads old from (payload_limit limits) p s
+  pub begins : Begins setting policy o.beginning o.known
+  pub reads : Reads old o.at (payload_limit limits) p s
   pub read_limits : s.limits ≡ limits
   pub frames : counted_all 0 (map piece_of p) ≡ Some still_open
-  pub accepts : verdict setting policy limits p nothing_known ≡ Yes m.knowledge asked
-  pub imports : m.imports ≡ imports_among asked
+  pub accepts : verdict setting policy limits p o.known ≡ Yes m.knowledge asked
+  pub imports : m.imports ≡ listed_before o.beginning ++ imports_among asked
   pub same_limits : m.limits ≡ limits
   pub same_setting : m.old_strings ≡ setting
   pub refused : m.refused ≡ None
@@ -60,12 +62,14 @@ pub record Checked (setting : OldStrings) (policy : Policy) (limits : Bounds) (o
 pub from_start : (taken count : ℕ) → count ≡ taken → taken ≡ 0 + count
 from_start taken count e = omega (arith, e)
 
-among_more : (asked : List (Option Asked)) (a : Option Asked) → imports_among (asked ++ a ∷ []) ≡ asks_more a (imports_among asked)
-among_more [] None = refl
-among_more [] (Some a) = refl
-among_more (None ∷ asked) a = among_more asked a
-among_more (Some x ∷ asked) None = ap (λ l. x ∷ l) (among_more asked None)
-among_more (Some x ∷ asked) (Some a) = ap (λ l. x ∷ l) (among_more asked (Some a))
+among_more : (done : List Asked) (asked : List (Option Asked)) (a : Option Asked) → done ++ imports_among (asked ++ a ∷ []) ≡ asks_more a (done ++ imports_among asked)
+among_more (x ∷ done) asked None = ap (λ l. x ∷ l) (among_more done asked None)
+among_more (x ∷ done) asked (Some a) = ap (λ l. x ∷ l) (among_more done asked (Some a))
+among_more [] [] None = refl
+among_more [] [] (Some a) = refl
+among_more [] (None ∷ asked) a = among_more [] asked a
+among_more [] (Some x ∷ asked) None = ap (λ l. x ∷ l) (among_more [] asked None)
+among_more [] (Some x ∷ asked) (Some a) = ap (λ l. x ∷ l) (among_more [] asked (Some a))
 
 -- nothing is tried before the frames
 none_earlier : (policy : Policy) (limits : Bounds) (p : List Instruction) (i : Instruction) (here : Arrivals) (r : Reason) → rank r < 1 → HasFault policy limits p here i r → ⊥
@@ -103,15 +107,27 @@ counts_at policy i still_open m n why (inl (e, becomes, is)) a b same = subst (�
 counts_at policy i still_open m n why (inr (o, inl (f, e, is, becomes))) a b same = subst (λ x. CountsAt x a b) (sym is) (counts_same f a b same)
 counts_at policy i still_open m n why (inr (o, inr (wants, is, becomes))) a b same = subst (λ x. CountsAt x a b) (sym is) same
 
+-- the machine is at the first instruction of a pickle whose runs begin so
+pub record IsReady (setting : OldStrings) (policy : Policy) (limits : Bounds) (b : Beginning) (m : View) : Type 0 where
+  pub begins : Begins setting policy b m.knowledge
+  pub imports : m.imports ≡ listed_before b
+  pub same_limits : m.limits ≡ limits
+  pub same_setting : m.old_strings ≡ setting
+  pub refused : m.refused ≡ None
+  pub off : m.off ≡ None
+  pub stopped : m.stopped ≡ false
+
 module _ (setting : OldStrings) (policy : Policy) (limits : Bounds) (old : Sight) where
-  pub checked_none : FrameLaws → ReadingBegins → Checked setting policy limits old 0 [] [] (begun old limits) 0 (fresh setting limits)
-  checked_none laws begins = record {
+  -- of a pickle with which the source begins
+  pub checked_first : FrameLaws → ReadingBegins → (b : Beginning) → listed_before b ≡ [] → Begins setting policy b nothing_known → Checked setting policy limits old (record { at = 0; beginning = b; known = nothing_known }) [] [] (begun old limits) 0 (fresh setting limits)
+  checked_first laws begins b none at_first = record {
     laws = laws;
+    begins = at_first;
     reads = begins old (payload_limit limits) limits;
     read_limits = refl;
     frames = refl;
     accepts = refl;
-    imports = refl;
+    imports = rw none refl;
     same_limits = refl;
     same_setting = refl;
     refused = refl;
@@ -119,34 +135,39 @@ module _ (setting : OldStrings) (policy : Policy) (limits : Bounds) (old : Sight
     stopped = refl;
   }
 
-  -- the same of a reader that is open again
-  pub checked_again : FrameLaws → ReadingGoesOn → (s : State) → s.phase ≡ Open → s.limits ≡ limits → Checked setting policy limits s.source s.taken [] [] s 0 (fresh setting limits)
-  checked_again laws law s open' same = record {
+  pub checked_none : FrameLaws → ReadingBegins → Checked setting policy limits old alone [] [] (begun old limits) 0 (fresh setting limits)
+  checked_none laws begins = checked_first laws begins Afresh refl (begins_afresh setting policy)
+
+  -- of a pickle behind others, where the reader is open again
+  pub checked_again : FrameLaws → ReadingGoesOn → (s : State) → s.phase ≡ Open → s.limits ≡ limits → (b : Beginning) (m : View) → IsReady setting policy limits b m → Checked setting policy limits s.source (record { at = s.taken; beginning = b; known = m.knowledge }) [] [] s 0 m
+  checked_again laws law s open' same b m ready = record {
     laws = laws;
+    begins = ready.begins;
     reads = law s (payload_limit limits) open';
     read_limits = same;
-    same_setting = refl;
+    same_setting = ready.same_setting;
     frames = refl;
     accepts = refl;
-    imports = refl;
-    same_limits = refl;
-    refused = refl;
-    off = refl;
-    stopped = rw open' refl;
+    imports = ready.imports ∙ sym (append-nil (listed_before b));
+    same_limits = ready.same_limits;
+    refused = ready.refused;
+    off = ready.off;
+    stopped = ready.stopped ∙ rw open' refl;
   }
 
-  module _ (from : ℕ) (p : List Instruction) (asked : List (Option Asked)) (s : State) (still_open : ℕ) (m : View) (h : Checked setting policy limits old from p asked s still_open m) where
+  module _ (origin : Origin) (p : List Instruction) (asked : List (Option Asked)) (s : State) (still_open : ℕ) (m : View) (h : Checked setting policy limits old origin p asked s still_open m) where
     -- one instruction more passed
-    pub checked_took : (t : State) (is_open : ℕ) (n : View) (at : ℕ) (i : Instruction) → Took old from limits p s at i t → (g : IsPassed policy i still_open m is_open n) → Checked setting policy limits old from (p ++ i ∷ []) (asked ++ g.1.1.0.import ∷ []) t is_open n
+    pub checked_took : (t : State) (is_open : ℕ) (n : View) (at : ℕ) (i : Instruction) → Took old origin.at limits p s at i t → (g : IsPassed policy i still_open m is_open n) → Checked setting policy limits old origin (p ++ i ∷ []) (asked ++ g.1.1.0.import ∷ []) t is_open n
     checked_took t is_open n at i took (frames, (v, (q, passes, becomes, moved))) =
         let passes' : advance setting policy limits i m.knowledge ≡ Ok q = subst (λ o. advance o policy limits i m.knowledge ≡ Ok q) h.same_setting (subst (λ l. advance m.old_strings policy l i m.knowledge ≡ Ok q) h.same_limits passes) in
         record {
           laws = h.laws;
+          begins = h.begins;
           reads = took.more.reads;
           read_limits = took.same_limits ∙ h.read_limits;
           frames = (h.laws.more p i still_open is_open h.frames frames).0;
-          accepts = verdict_more setting policy limits p i nothing_known m.knowledge q asked h.accepts passes' ∙ ap (λ x. Yes x.knowledge (asked ++ q.import ∷ [])) (sym becomes);
-          imports = ap (λ x. x.imports) becomes ∙ ap (asks_more q.import) h.imports ∙ sym (among_more asked q.import);
+          accepts = verdict_more setting policy limits p i origin.known m.knowledge q asked h.accepts passes' ∙ ap (λ x. Yes x.knowledge (asked ++ q.import ∷ [])) (sym becomes);
+          imports = ap (λ x. x.imports) becomes ∙ ap (asks_more q.import) h.imports ∙ sym (among_more (listed_before origin.beginning) asked q.import);
           same_limits = ap (λ x. x.limits) becomes ∙ h.same_limits;
           same_setting = ap (λ x. x.old_strings) becomes ∙ h.same_setting;
           refused = ap (λ x. x.refused) becomes ∙ h.refused;
@@ -155,38 +176,39 @@ module _ (setting : OldStrings) (policy : Policy) (limits : Bounds) (old : Sight
         }
 
     -- where STOP was read and judged: these instructions are accepted
-    pub accepted : (new : Sight) (taken : ℕ) (imports : List Asked) → IsSequence (payload_limit limits) p → new ≡ s.source → s.taken ≡ from + taken → imports ≡ m.imports → (a : Accepted setting policy limits old new taken imports) × (a.instructions ≡ p)
+    pub accepted : (new : Sight) (taken : ℕ) (imports : List Asked) → IsSequence (payload_limit limits) p → new ≡ s.source → s.taken ≡ origin.at + taken → imports ≡ imports_among asked → (a : AcceptedFrom setting origin.beginning policy limits old new taken imports) × (a.instructions ≡ p)
     accepted new taken imports sequence same count lists =
-        let last = sequence_last (payload_limit limits) p sequence in (
+        let last = sequence_last (payload_limit limits) p sequence in
+        let b = origin.beginning in (
           record {
             instructions = p;
             sequence = sequence;
             bytes = rw same h.reads.bytes;
             count = (let reads = h.reads.count in omega (arith, count, reads));
             framed = h.laws.all p still_open h.frames;
-            sound = sound_by setting policy limits p m.knowledge asked h.accepts;
+            sound = in_each setting b p (EndsWell (permitted_by policy)) (λ st os c. sound_from setting policy limits p origin.known m.knowledge asked st os h.accepts (h.begins.each st c) (h.begins.permitted st c));
             asked = asked;
-            each = length-asked setting policy limits p nothing_known m.knowledge asked h.accepts;
-            listed = lists ∙ h.imports;
-            imported = λ os. subst (λ l. ImportsAreListed l (run_as setting p os start)) (sym (lists ∙ h.imports)) (listed setting policy limits p m.knowledge asked last h.accepts os);
-            at_each = each_asks setting policy limits p m.knowledge asked last h.accepts;
-            faultless = faultless setting policy limits p m.knowledge asked last h.accepts h.laws.more still_open h.frames;
-            unknown = unknown_is_open setting policy limits p m.knowledge asked last h.accepts;
+            each = length-asked setting policy limits p origin.known m.knowledge asked h.accepts;
+            listed = lists;
+            imported = in_each setting b p (ImportsAreListed (listed_before b ++ imports)) (λ st os c. subst (λ l. ImportsAreListed (listed_before b ++ l) (run_as setting p os st)) (sym lists) (listed_from setting policy limits p origin.known m.knowledge asked (listed_before b) st os last h.accepts (h.begins.each st c) (h.begins.listed st c)));
+            at_each = each_asks setting policy limits b origin.known h.begins p m.knowledge asked last h.accepts;
+            faultless = faultless setting policy limits b origin.known h.begins p m.knowledge asked last h.accepts h.laws.more still_open h.frames;
+            unknown = unknown_is_open setting policy limits b origin.known h.begins p m.knowledge asked last h.accepts;
           },
           refl,
         )
 
     -- where none is STOP, the machine knows what holds in the runs that get behind these instructions
-    pub known_behind : NoStop p → Stands m.knowledge (RunsBehind setting p)
-    known_behind none = stands_behind setting policy limits p m.knowledge (along setting policy limits p nothing_known m.knowledge asked (stops_nowhere p none) h.accepts)
+    pub known_behind : NoStop p → Stands m.knowledge (RunsFrom setting origin.beginning p)
+    known_behind none = stands_from setting policy limits origin.beginning p origin.known m.knowledge h.begins (along setting policy limits p origin.known m.knowledge asked (stops_nowhere p none) h.accepts)
 
     -- a refusal that is about these instructions: those before the place, and the refused one where it was read
     abbrev pub RefusedAfter : ℕ → Reason → Option Asked → Sight → List Instruction → Type 0
     RefusedAfter at reason pair new q =
-        (r : RefusedFrom from setting policy limits old new at reason pair) × (r.instructions ++ refused_instruction r.why ≡ q)
+        (r : RefusedFrom origin.at setting origin.beginning policy limits old new at reason pair) × (r.instructions ++ refused_instruction r.why ≡ q)
 
     -- where none is STOP, and then something is refused
-    refused_here : (at : ℕ) (why : Reason) (pair : Option Asked) (new : Sight) → NoStop p → at ≡ s.taken → (w : Why setting policy limits p s.source new at why pair) → RefusedAfter at why pair new (p ++ refused_instruction w)
+    refused_here : (at : ℕ) (why : Reason) (pair : Option Asked) (new : Sight) → NoStop p → at ≡ s.taken → (w : Why setting origin.beginning policy limits p s.source new at why pair) → RefusedAfter at why pair new (p ++ refused_instruction w)
     refused_here at reason pair new none place why = (
       record {
         instructions = p;
@@ -196,7 +218,7 @@ module _ (setting : OldStrings) (policy : Policy) (limits : Bounds) (old : Sight
         bytes = h.reads.bytes;
         place = place ∙ h.reads.count;
         framed = h.laws.all p still_open h.frames;
-        faultless = faultless setting policy limits p m.knowledge asked (nowhere_last p (stops_nowhere p none)) h.accepts h.laws.more still_open h.frames;
+        faultless = faultless setting policy limits origin.beginning origin.known h.begins p m.knowledge asked (nowhere_last p (stops_nowhere p none)) h.accepts h.laws.more still_open h.frames;
         why = why;
       },
       refl,
@@ -206,7 +228,7 @@ module _ (setting : OldStrings) (policy : Policy) (limits : Bounds) (old : Sight
     RefusesHere b t x at new = ReaderRefuses (payload_limit_at limits b) s.source new b at t.taken x.reason
 
     -- where the reader refuses
-    pub refused_turned : (t : State) (x : ReadRefusal) (new : Sight) → Turned old from limits p s x t → new ≡ t.source → RefusedAfter x.at x.reason None new (p ++ [])
+    pub refused_turned : (t : State) (x : ReadRefusal) (new : Sight) → Turned old origin.at limits p s x t → new ≡ t.source → RefusedAfter x.at x.reason None new (p ++ [])
     refused_turned t x new o same =
         refused_here x.at x.reason None new o.no_stop o.place (reading (record {
           bytes = o.bytes;
@@ -215,7 +237,7 @@ module _ (setting : OldStrings) (policy : Policy) (limits : Bounds) (old : Sight
           none = refl;
         }))
 
-    module _ (t : State) (at : ℕ) (i : Instruction) (new : Sight) (took : Took old from limits p s at i t) (same : new ≡ t.source) where
+    module _ (t : State) (at : ℕ) (i : Instruction) (new : Sight) (took : Took old origin.at limits p s at i t) (same : new ≡ t.source) where
       allowed : IsAllowedBy (payload_limit limits) i
       allowed = took.allowed
 
@@ -224,7 +246,7 @@ module _ (setting : OldStrings) (policy : Policy) (limits : Bounds) (old : Sight
 
       -- it is refused
       abbrev IsWhy : Reason → Option Asked → Type 0
-      IsWhy reason pair = (w : Why setting policy limits p s.source new at reason pair) × (refused_instruction w ≡ i ∷ [])
+      IsWhy reason pair = (w : Why setting origin.beginning policy limits p s.source new at reason pair) × (refused_instruction w ≡ i ∷ [])
 
       -- the frames refuse it
       breaks_frame : (n : View) (why : Reason) → BreaksFrame i still_open m n why → IsWhy why n.off
@@ -234,7 +256,7 @@ module _ (setting : OldStrings) (policy : Policy) (limits : Bounds) (old : Sight
           allowed = allowed;
           bytes = takes;
           fault = h.laws.refused p i still_open h.frames e;
-          first = λ earlier lt g. none_earlier policy limits p i (everyone (RunsBehind setting p)) earlier lt g;
+          first = λ earlier lt g. none_earlier policy limits p i (everyone (RunsFrom setting origin.beginning p)) earlier lt g;
           asks = ap (λ x. x.off) becomes ∙ h.off;
         }),
         refl,
@@ -255,11 +277,11 @@ module _ (setting : OldStrings) (policy : Policy) (limits : Bounds) (old : Sight
       )
 
       module _ (long : (v : Word) × IsLonger policy v.text) where
-        known : Stands m.knowledge (RunsBehind setting p)
+        known : Stands m.knowledge (RunsFrom setting origin.beginning p)
         known = known_behind took.more.no_stop
 
         -- a fault of the machine is one of the instruction
-        behind : (r : Reason) → HasFaultHere policy limits (RunsBehind setting p) i r → HasFault policy limits p (RunsBehind setting p) i r
+        behind : (r : Reason) → HasFaultHere policy limits (RunsFrom setting origin.beginning p) i r → HasFault policy limits p (RunsFrom setting origin.beginning p) i r
         behind reason.BrokenFrame g = absurd g
         behind reason.MissingMark g = g
         behind reason.MissingItem g = g
@@ -281,14 +303,14 @@ module _ (setting : OldStrings) (policy : Policy) (limits : Bounds) (old : Sight
         behind reason.OutOfMemory g = g
 
         -- the machine refuses it
-        judged : (is_open : ℕ) (f : Refusal) → counted still_open (piece_of i) ≡ Some is_open → advance setting policy limits i m.knowledge ≡ Err f → HasFirstFault setting policy limits p s.source new (reason_of f) (off_pair f)
+        judged : (is_open : ℕ) (f : Refusal) → counted still_open (piece_of i) ≡ Some is_open → advance setting policy limits i m.knowledge ≡ Err f → HasFirstFault setting origin.beginning policy limits p s.source new (reason_of f) (off_pair f)
         judged is_open f o e = record {
           instruction = i;
           allowed = allowed;
           bytes = takes;
-          fault = behind (reason_of f) (has_fault policy limits i m.knowledge (RunsBehind setting p) known long.0 long.1 f e (no_extension setting policy limits i m.knowledge f (wants_no_registry setting i allowed.admitted) e));
-          first = λ earlier lt g. first policy limits i m.knowledge (RunsBehind setting p) known f e earlier lt (machine_fault policy limits p i (h.laws.more p i still_open is_open h.frames o).1 (everyone (RunsBehind setting p)) earlier g);
-          asks = pair_of policy limits i m.knowledge (RunsBehind setting p) known f e;
+          fault = behind (reason_of f) (has_fault policy limits i m.knowledge (RunsFrom setting origin.beginning p) known long.0 long.1 f e (no_extension setting policy limits i m.knowledge f (wants_no_registry setting i allowed.admitted) e));
+          first = λ earlier lt g. first policy limits i m.knowledge (RunsFrom setting origin.beginning p) known f e earlier lt (machine_fault policy limits p i (h.laws.more p i still_open is_open h.frames o).1 (everyone (RunsFrom setting origin.beginning p)) earlier g);
+          asks = pair_of policy limits i m.knowledge (RunsFrom setting origin.beginning p) known f e;
         }
 
         refused_by_machine : (n : View) (why : Reason) → IsRefusedByMachine policy i still_open m n why → IsWhy why n.off
@@ -309,5 +331,5 @@ module _ (setting : OldStrings) (policy : Policy) (limits : Bounds) (old : Sight
             subst (λ x. RefusedAfter at why x new (p ++ i ∷ [])) (sym is) (subst (RefusedAfter at why n.off new) (ap (λ q. p ++ q) w.1) (refused_here at why n.off new took.more.no_stop took.place w.0))
 
     -- no read failed where the frames or the machine refuse
-    pub count_took : (t : State) (at : ℕ) (i : Instruction) (new : Sight) (why : Reason) (pair : Option Asked) → RefusedFrom from setting policy limits old new at why pair → Took old from limits p s at i t → new ≡ t.source → (n : View) → IsRefused policy i still_open m n why → CountsAt why old.failures new.failures
+    pub count_took : (t : State) (at : ℕ) (i : Instruction) (new : Sight) (why : Reason) (pair : Option Asked) → RefusedFrom origin.at setting origin.beginning policy limits old new at why pair → Took old origin.at limits p s at i t → new ≡ t.source → (n : View) → IsRefused policy i still_open m n why → CountsAt why old.failures new.failures
     count_took t at i new why pair a took same n g = counts_at policy i still_open m n why g old.failures new.failures (ap (λ x. x.failures) same ∙ took.bytes.count ∙ h.reads.bytes.count)

@@ -5,38 +5,24 @@ use Rattle.pkops.specs.Limits.{Bounds}
 use Rattle.pkops.specs.Spelling.{Instruction}
 use Rattle.pkread.specs.Pieces.{FramesGoOn, piece_of}
 use Rattle.pkcheck.specs.Covers.{Asks, IsObject}
-use Rattle.pkcheck.proofs.Covering.CoversBy.{CoversBy, FollowsBy, FollowsIfOk, any_answer, objects_grow}
+use Rattle.pkcheck.proofs.Covering.CoversBy.{FollowsBy, FollowsIfOk, any_answer, objects_grow}
 use Rattle.pkcheck.proofs.Covering.Verdicts.{StopsLast}
-use Rattle.pkcheck.specs.Knowledge.{Knowledge, Policy, Asked, AskedUnknown, Progress, advance, nothing_known}
+use Rattle.pkcheck.specs.Knowledge.{Knowledge, Policy, Asked, AskedUnknown, Progress, advance}
 use Rattle.pkcheck.specs.Listing.{EachAsks, UnknownIsOpen}
 use Rattle.pkread.specs.Framing.{IsFramed, counted_all}
 use Rattle.pkread.specs.declared.refusal.Reason.{Reason}
 use Rattle.pkread.specs.declared.refusal.Reason.TheVariants as reason
 use Rattle.pkcheck.specs.Faults.{Arrivals, HasFaultHere, everyone}
-use Rattle.pkcheck.specs.RunFaults.{HasFault, IsFaultless, RunsBehind}
-use Rattle.pkcheck.specs.Runs.{State, Stepped, WentOn, Raised, Stopped, Stuck, start, step_as}
+use Rattle.pkcheck.specs.RowRuns.{Beginning}
+use Rattle.pkcheck.specs.RunFaults.{HasFault, IsFaultless, RunsFrom}
+use Rattle.pkcheck.specs.Runs.{State, Stepped, WentOn, Raised, Stopped, Stuck, step_as}
 use Rattle.pkcheck.proofs.Covering.Verdicts.{Yes, verdict}
 use Rattle.pkcheck.proofs.Covering.Following.{step_follows}
-use Rattle.pkcheck.proofs.Covering.Standing.{Stands, no_fault, unknown_exactly}
-use Rattle.pkcheck.proofs.Covering.Answering.{Answered}
+use Rattle.pkcheck.proofs.Covering.Standing.{no_fault, unknown_exactly}
 use Rattle.pkcheck.proofs.Wholes.FramesSoFar.{framed_in}
+use Rattle.pkcheck.proofs.Wholes.Origins.{Begins, arrived, stands_from}
 use Rattle.pkcheck.proofs.Stepping.Stops.{nowhere_before}
-use Rattle.pkcheck.proofs.Wholes.Walk.{Along, along, verdict_first, verdict_split}
-
-pub nothing_covers : CoversBy IsObject nothing_known start
-nothing_covers = record { entries = tt; memo = tt }
-
-pub nothing_covers_by : (v : List ℕ) → CoversBy (Answered v) nothing_known start
-nothing_covers_by v = record { entries = tt; memo = tt }
-
--- what is known along instructions stands for the runs that get behind them
-pub stands_behind : (setting : OldStrings) (policy : Policy) (limits : Bounds) (before : List Instruction) (known : Knowledge) → Along setting policy limits before nothing_known known → Stands known (RunsBehind setting before)
-stands_behind setting policy limits before known a = record {
-  each = λ s g. a.each start s g.0 nothing_covers g.1;
-  real = λ s g. (g.0, g.2);
-  answers = λ v n. v.utf8;
-  some = λ v. let m = a.some v start (nothing_covers_by v.text) in (m.0, m.1, m.2);
-}
+use Rattle.pkcheck.proofs.Wholes.Walk.{along, verdict_first, verdict_split}
 
 -- a fault of an instruction that is framed is one of the machine
 pub machine_fault : (policy : Policy) (limits : Bounds) (before : List Instruction) (i : Instruction) → IsFramed (map piece_of before) (piece_of i) [] → (here : Arrivals) (r : Reason) → HasFault policy limits before here i r → HasFaultHere policy limits here i r
@@ -81,27 +67,28 @@ module _ (setting : OldStrings) (policy : Policy) (limits : Bounds) where
       let f = verdict_first (advance setting policy limits i k) (verdict setting policy limits p) known asked e in
       ap length f.rest.first ∙ ap suc (length-asked p f.passed.after known f.rest.listed f.rest.accepts)
 
-  module _ (p : List Instruction) (known : Knowledge) (asked : List (Option Asked)) (last : StopsLast p) (accepts : verdict setting policy limits p nothing_known ≡ Yes known asked) where
-    pub faultless : FramesGoOn → (still_open : ℕ) → counted_all 0 (map piece_of p) ≡ Some still_open → IsFaultless setting policy limits p
+  module _ (b : Beginning) (first : Knowledge) (begins : Begins setting policy b first) (p : List Instruction) (known : Knowledge) (asked : List (Option Asked)) (last : StopsLast p) (accepts : verdict setting policy limits p first ≡ Yes known asked) where
+    pub faultless : FramesGoOn → (still_open : ℕ) → counted_all 0 (map piece_of p) ≡ Some still_open → IsFaultless setting b policy limits p
     faultless goes_on still_open frames before i after e reason h =
-        let s = verdict_split setting policy limits before i after nothing_known known asked (ap (λ x. verdict setting policy limits x nothing_known) (sym e) ∙ accepts) in
-        let a = along setting policy limits before nothing_known s.known s.earlier (nowhere_before before i after (subst StopsLast e last)) s.accepts in
+        let s = verdict_split setting policy limits before i after first known asked (ap (λ x. verdict setting policy limits x first) (sym e) ∙ accepts) in
+        let a = along setting policy limits before first s.known s.earlier (nowhere_before before i after (subst StopsLast e last)) s.accepts in
         let w = framed_in goes_on before i after still_open (ap (λ x. counted_all 0 (map piece_of x)) (sym e) ∙ frames) in
-        no_fault policy limits i s.known (RunsBehind setting before) (stands_behind setting policy limits before s.known a) s.passed s.passes reason (machine_fault policy limits before i w (everyone (RunsBehind setting before)) reason h)
+        no_fault policy limits i s.known (RunsFrom setting b before) (stands_from setting policy limits b before first s.known begins a) s.passed s.passes reason (machine_fault policy limits before i w (everyone (RunsFrom setting b before)) reason h)
 
-    pub unknown_is_open : UnknownIsOpen setting p asked
+    pub unknown_is_open : UnknownIsOpen setting b p asked
     unknown_is_open before i after earlier later e g n =
-        let s = verdict_split setting policy limits before i after nothing_known known asked (ap (λ x. verdict setting policy limits x nothing_known) (sym e) ∙ accepts) in
-        let a = along setting policy limits before nothing_known s.known s.earlier (nowhere_before before i after (subst StopsLast e last)) s.accepts in
-        let m = length-asked before nothing_known s.known s.earlier s.accepts in
-        unknown_exactly policy limits i s.known (RunsBehind setting before) (stands_behind setting policy limits before s.known a) s.passed s.passes (same_place s.earlier earlier s.passed.import (Some AskedUnknown) s.later later (m ∙ sym n) (sym s.listed ∙ g))
+        let s = verdict_split setting policy limits before i after first known asked (ap (λ x. verdict setting policy limits x first) (sym e) ∙ accepts) in
+        let a = along setting policy limits before first s.known s.earlier (nowhere_before before i after (subst StopsLast e last)) s.accepts in
+        let m = length-asked before first s.known s.earlier s.accepts in
+        unknown_exactly policy limits i s.known (RunsFrom setting b before) (stands_from setting policy limits b before first s.known begins a) s.passed s.passes (same_place s.earlier earlier s.passed.import (Some AskedUnknown) s.later later (m ∙ sym n) (sym s.listed ∙ g))
 
-    pub each_asks : EachAsks setting p asked
+    pub each_asks : EachAsks setting b p asked
     each_asks before i after earlier import later e g n state outcome gets =
-        let s = verdict_split setting policy limits before i after nothing_known known asked (ap (λ x. verdict setting policy limits x nothing_known) (sym e) ∙ accepts) in
-        let a = along setting policy limits before nothing_known s.known s.earlier (nowhere_before before i after (subst StopsLast e last)) s.accepts in
-        let m = length-asked before nothing_known s.known s.earlier s.accepts in
+        let s = verdict_split setting policy limits before i after first known asked (ap (λ x. verdict setting policy limits x first) (sym e) ∙ accepts) in
+        let a = along setting policy limits before first s.known s.earlier (nowhere_before before i after (subst StopsLast e last)) s.accepts in
+        let m = length-asked before first s.known s.earlier s.accepts in
         let same = same_place s.earlier earlier s.passed.import import s.later later (m ∙ sym n) (sym s.listed ∙ g) in
-        let covered = a.each start state gets.0 nothing_covers gets.1 in
+        let w = arrived setting b before state gets in
+        let covered = a.each w.0 state w.2.0 (begins.each w.0 w.1) w.2.1 in
         let follows = subst (λ x. FollowsIfOk IsObject x state (step_as setting i state outcome)) s.passes (step_follows IsObject objects_grow setting policy limits i s.known state outcome covered (any_answer state.objects outcome)) in
         subst (λ x. Asks x state (step_as setting i state outcome)) same (asks_so s.passed state (step_as setting i state outcome) follows)

@@ -15,6 +15,7 @@ use Rattle.pkcheck.specs.Shape.{marks_of}
 use Rattle.pkcheck.specs.View.{View}
 use Rattle.pkcheck.proofs.Wholes.Checked.{Checked, known_behind}
 use Rattle.pkcheck.proofs.Wholes.Given.{Took}
+use Rattle.pkcheck.proofs.Wholes.Origins.{alone}
 
 -- one more was heard
 pub heard_more : (before p : List Instruction) (hs : List Heard) (i : Instruction) (x : Heard) → AreHeardBehind before p hs → IsHeardOf (before ++ p) i x → AreHeardBehind before (p ++ i ∷ []) (hs ++ x ∷ [])
@@ -24,12 +25,12 @@ heard_more before [] (y ∷ hs) i x u h = absurd u
 heard_more before (j ∷ p) [] i x u h = absurd u
 
 -- what is heard of the instruction that the reader gives
-pub heard_here : (policy : Policy) (limits : Bounds) (old : Sight) (p : List Instruction) (asked : List (Option Asked)) (s : State) (still_open : ℕ) (m : View) → Checked Unknown policy limits old 0 p asked s still_open m
+pub heard_here : (policy : Policy) (limits : Bounds) (old : Sight) (p : List Instruction) (asked : List (Option Asked)) (s : State) (still_open : ℕ) (m : View) → Checked Unknown policy limits old alone p asked s still_open m
     → (t : State) (at : ℕ) (i : Instruction) → Took old 0 limits p s at i t
     → (n : ℕ) → ((st : RunState) → Covers m.knowledge st → n ≡ marks_of st.shape.entries)
     → IsHeardOf p i (heard at i n)
 heard_here policy limits old p asked s still_open m h t at i took n marks =
-    let known = known_behind Unknown policy limits old 0 p asked s still_open m h took.more.no_stop in
+    let known = known_behind Unknown policy limits old alone p asked s still_open m h took.more.no_stop in
     let some = known.some (record { text = []; utf8 = IsUtf8-nil }) in
     record {
       same = refl;

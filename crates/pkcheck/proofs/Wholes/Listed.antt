@@ -14,15 +14,13 @@ use Rattle.pkcheck.specs.Covers.{Pointwise, IsObject, imports_of, IsAsked, Adds}
 use Rattle.pkcheck.proofs.Stepping.Settings.{only_stop as never_stops}
 use Rattle.pkcheck.proofs.Covering.CoversBy.{any_answer, CoversBy, FollowsBy, FollowsIfOk, objects_grow}
 use Rattle.pkcheck.specs.Import.{asks_more}
-use Rattle.pkcheck.specs.WholeRuns.{Ended, first_outcome, outcomes_after, go_on, run_as, Sound, EndsWell, AllListed}
+use Rattle.pkcheck.specs.WholeRuns.{Ended, first_outcome, outcomes_after, go_on, run_as, EndsWell, AllListed}
 use Rattle.pkcheck.proofs.Covering.Verdicts.{Yes, verdict, IsYes}
-use Rattle.pkcheck.specs.Runs.{start}
-use Rattle.pkcheck.specs.Knowledge.{nothing_known}
 use Rattle.pkcheck.proofs.Covering.Verdicts.{StopsLast}
 use Rattle.pkcheck.specs.Listing.{StandsFor, IsBeginning, ImportsAreListed, imports_among, permitted_by}
 use Rattle.pkcheck.proofs.Covering.Alike.{Pointwise-append}
 use Rattle.pkcheck.proofs.Covering.Following.{step_follows}
-use Rattle.pkcheck.proofs.Covering.Soundness.{emptied, imports_of-append, sound}
+use Rattle.pkcheck.proofs.Covering.Soundness.{emptied, imports_of-append, sound_along}
 use Rattle.pkcheck.proofs.Wholes.Walk.{verdict_first}
 
 -- only a STOP stops
@@ -50,11 +48,12 @@ only_stop (Moves m) i r s u o h = absurd (shape_stops r s u (moved m (memo_numbe
 only_stop Stops i r s u o h = refl
 only_stop Raises i r s u o h = cc
 
-stop_is_last : (setting : OldStrings) (i : Instruction) (is : List Instruction) → StopsLast (i ∷ is) → effect_as setting i ≡ Stops → is ≡ []
+-- nothing stands behind what stops
+pub stop_is_last : (setting : OldStrings) (i : Instruction) (is : List Instruction) → StopsLast (i ∷ is) → effect_as setting i ≡ Stops → is ≡ []
 stop_is_last setting i [] h e = refl
 stop_is_last setting i (j ∷ is) h e = absurd (never_stops setting i h.0 e)
 
-after_first : (i : Instruction) (is : List Instruction) → StopsLast (i ∷ is) → StopsLast is
+pub after_first : (i : Instruction) (is : List Instruction) → StopsLast (i ∷ is) → StopsLast is
 after_first i [] h = tt
 after_first i (j ∷ is) h = h.1
 
@@ -94,7 +93,8 @@ module _ (setting : OldStrings) (p : Policy) (l : Bounds) where
   none_left [] k known asked e h = cc
   none_left (i ∷ is) k known asked e h = cc
 
-  listed_from : (is : List Instruction) (k known : Knowledge) (asked : List (Option Asked)) (done : List Asked) (s : State) (os : List Outcome) → StopsLast is → verdict setting p l is k ≡ Yes known asked → CoversBy IsObject k s → Pointwise StandsFor done (imports_of s.events) → ImportsAreListed (done ++ imports_among asked) (run_as setting is os s)
+  -- the imports of a run are a beginning of those listed, behind those listed before, and all of them where it stopped
+  pub listed_from : (is : List Instruction) (k known : Knowledge) (asked : List (Option Asked)) (done : List Asked) (s : State) (os : List Outcome) → StopsLast is → verdict setting p l is k ≡ Yes known asked → CoversBy IsObject k s → Pointwise StandsFor done (imports_of s.events) → ImportsAreListed (done ++ imports_among asked) (run_as setting is os s)
   listed_from [] k known asked done s os last e c h = all_begins done (imports_among asked) (imports_of s.events) h
   listed_from (i ∷ is) k known asked done s os last e c h =
       let f = verdict_first (advance setting p l i k) (verdict setting p l is) known asked e in
@@ -104,10 +104,6 @@ module _ (setting : OldStrings) (p : Policy) (l : Bounds) where
       (step_listed f.passed s st done f.rest.listed (run_as setting is (outcomes_after (effect_asks (effect_as setting i)) os)) w h
       (λ r t g. none_left is f.passed.after known f.rest.listed (stop_is_last setting i is last (only_stop (effect_as setting i) i r s t (first_outcome os) g)) f.rest.accepts)
       (λ t d g. listed_from is f.passed.after known f.rest.listed (asks_more f.passed.import done) t _ (after_first i is last) f.rest.accepts d g))
-
-  -- in every run the imports are a beginning of those listed, and all of them where it stopped
-  pub listed : (is : List Instruction) (known : Knowledge) (asked : List (Option Asked)) → StopsLast is → verdict setting p l is nothing_known ≡ Yes known asked → (os : List Outcome) → ImportsAreListed (imports_among asked) (run_as setting is os start)
-  listed is known asked last e os = listed_from is nothing_known known asked [] start os last e (record { entries = tt; memo = tt }) tt
 
 -- any pair is on the list of all pairs
 abbrev any_pair : List ℕ → List ℕ → Bool
@@ -132,6 +128,6 @@ fine_from setting l (i ∷ is) k known asked s os e c =
     step_fine f.passed s st (run_as setting is _) w (λ t d. fine_from setting l is f.passed.after known f.rest.listed t _ f.rest.accepts d)
 
 -- a yes is sound, whatever the policy
-pub sound_by : (setting : OldStrings) (p : Policy) (l : Bounds) (is : List Instruction) (known : Knowledge) (asked : List (Option Asked)) → verdict setting p l is nothing_known ≡ Yes known asked → Sound setting is (permitted_by p)
-sound_by setting None l is known asked e = λ os. fine_from setting l is nothing_known known asked start os e (record { entries = tt; memo = tt })
-sound_by setting (Some list) l is known asked e = sound list setting l is (subst IsYes (sym e) tt)
+pub sound_from : (setting : OldStrings) (p : Policy) (l : Bounds) (is : List Instruction) (k known : Knowledge) (asked : List (Option Asked)) (s : State) (os : List Outcome) → verdict setting p l is k ≡ Yes known asked → CoversBy IsObject k s → AllListed (permitted_by p) (imports_of s.events) → EndsWell (permitted_by p) (run_as setting is os s)
+sound_from setting None l is k known asked s os e c h = fine_from setting l is k known asked s os e c
+sound_from setting (Some list) l is k known asked s os e c h = sound_along list setting l is k s os (subst IsYes (sym e) tt) c h

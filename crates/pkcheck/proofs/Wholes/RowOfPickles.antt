@@ -1,5 +1,5 @@
 -- What is known along a row of pickles.
-use Rattle.std.proofs.Common.{Bool, true, false, Result, Ok, Err, ◌≡◌, ◌≢◌, ℕ, ◌+◌, ◌-◌, ◌*◌, ◌<◌, ◌≤◌, List, [], ◌∷◌, ◌++◌, length, Option, None, Some, refl, sym, ap, subst, ◌∙◌, arith, length-append, append-nil}
+use Rattle.std.proofs.Common.{Bool, true, false, Result, Ok, Err, ◌≡◌, ◌≢◌, ℕ, ◌+◌, ◌-◌, ◌*◌, ◌<◌, ◌≤◌, List, [], ◌∷◌, ◌++◌, length, Option, None, Some, refl, sym, ap, subst, ◌∙◌, arith, length-append, append-nil, append_assoc}
 use Rattle.std.specs.Prelude.{flat_map, All}
 use Rattle.std.specs.Io.KnownBytes.{IsAtEnd, prepend_known}
 use Rattle.std.proofs.lemmas.Grind.{flat_map-append}
@@ -18,14 +18,22 @@ use Rattle.pkread.specs.declared.refusal.Refusal.{Refusal as ReadRefusal}
 use Rattle.pkread.specs.declared.refusal.Reason.{Reason}
 use Rattle.pkread.specs.declared.refusal.Reason.TheVariants.{OutOfMemory, Truncated}
 use Rattle.pkops.specs.declared.op.Op.TheVariants.{Stop}
-use Rattle.pkcheck.proofs.Wholes.Checked.{Checked, accepted, checked_again, refused_turned}
+use Rattle.pkcheck.proofs.Wholes.Checked.{Checked, IsReady, accepted, checked_again, refused_turned}
+use Rattle.pkcheck.proofs.Wholes.NextPickle.{begins_next, imports_more}
+use Rattle.pkcheck.proofs.Wholes.Origins.{Begins, Origin, begins_afresh, begins_row}
 use Rattle.pkcheck.proofs.Wholes.FramesSoFar.{FrameLaws}
 use Rattle.pkcheck.specs.declared.old_strings.OldStrings.{OldStrings}
-use Rattle.pkcheck.specs.View.{View, fresh}
-use Rattle.pkcheck.specs.Accepted.{Accepted}
-use Rattle.pkcheck.specs.Knowledge.{Policy, Asked}
+use Rattle.pkcheck.specs.declared.loading.Loading.{Loading}
+use Rattle.pkcheck.specs.declared.loading.Memo.{Memo}
+use Rattle.pkcheck.specs.declared.loading.Memo.TheVariants.{Fresh, Kept}
+use Rattle.pkcheck.specs.View.{View}
+use Rattle.pkcheck.specs.Accepted.{AcceptedFrom}
+use Rattle.pkcheck.specs.Knowledge.{Knowledge, Policy, Asked, nothing_known}
+use Rattle.pkcheck.specs.Listing.{imports_among}
+use Rattle.pkcheck.specs.Private.NextPickle.{listed_apart, listed_in, moved_apart, restarted}
 use Rattle.pkcheck.specs.Refused.{RefusedFrom}
-use Rattle.pkcheck.specs.RowOfPickles.{AcceptedRow, AreAccepted, HasMore, IsAccepted, Pickle, RefusedInRow, bytes_of, imports_of, sequences_of}
+use Rattle.pkcheck.specs.RowOfPickles.{AcceptedRow, AreAccepted, HasMore, IsAccepted, RefusedInRow, begins, bytes_of}
+use Rattle.pkcheck.specs.RowRuns.{Beginning, Pickle, imports_of, listed_before, sequences_of}
 
 -- what is left to take, and whether a pickle has just ended
 abbrev pub left_to_do : ℕ → Phase → ℕ
@@ -42,23 +50,45 @@ pub some_byte : (p : List Instruction) → StopIsLast p → 0 < length (spelling
 some_byte [] h = absurd (no_end h.0 h.1 h.2)
 some_byte (i ∷ p) h = omega (arith, length-append (spelling i) (spellings p))
 
-module _ (setting : OldStrings) (policy : Policy) (limits : Bounds) where
-  -- these pickles were accepted, and the next begins here
-  pub record RowSoFar (old here : Sight) (from pickles : ℕ) (imports : List Asked) (before : List Pickle) : Type 0 where
-    pub each : AreAccepted setting policy limits old here before
-    pub from_is : from ≡ length (bytes_of before)
+module _ (loading : Loading) (policy : Policy) (limits : Bounds) where
+  -- these pickles were accepted, and the next begins here. Of the imports these are listed apart
+  pub record RowSoFar (old here : Sight) (origin : Origin) (pickles : ℕ) (apart : List Asked) (before : List Pickle) : Type 0 where
+    pub each : AreAccepted loading policy limits old here [] before
+    pub from_is : origin.at ≡ length (bytes_of before)
+    pub begins : origin.beginning ≡ begins loading.memo before
     pub number : pickles ≡ length before
-    pub few : pickles ≤ from
-    pub listed : imports ≡ imports_of before
+    pub few : pickles ≤ origin.at
+    pub listed : apart ≡ listed_apart loading.memo before
 
 -- taking nothing more changes nothing
 takes_no_more : TakingLaws → (old between new : Sight) (run : List ℕ) → Takes old between run → Takes between new [] → Takes old new run
 takes_no_more taking old between new run h k = subst (Takes old new) (append-nil run) (taking.more old between new run [] h k)
 
-module _ (taking : TakingLaws) (setting : OldStrings) (policy : Policy) (limits : Bounds) where
+-- what was read and judged, as a pickle of the row
+abbrev pub this : List Instruction → List (Option Asked) → Pickle
+this p asked = record { instructions = p; imports = imports_among asked }
+
+none_apart : (memo : Memo) → [] ≡ listed_apart memo []
+none_apart Fresh = refl
+none_apart Kept = refl
+
+pub none_before : (memo : Memo) → listed_before (begins memo []) ≡ []
+none_before Fresh = refl
+none_before Kept = refl
+
+pub begins_first : (memo : Memo) (setting : OldStrings) (policy : Policy) → Begins setting policy (begins memo []) nothing_known
+begins_first Fresh setting policy = begins_afresh setting policy
+begins_first Kept setting policy = begins_row setting policy
+
+-- the imports of a row, which stand apart or in the machine
+pub all_listed : (memo : Memo) (apart own : List Asked) (before : List Pickle) → apart ≡ listed_apart memo before → own ≡ listed_before (begins memo before) → listed_in memo apart own ≡ imports_of before
+all_listed Fresh apart own before e h = e
+all_listed Kept apart own before e h = h
+
+module _ (taking : TakingLaws) (loading : Loading) (policy : Policy) (limits : Bounds) where
   -- the bytes alone tie it to a source
-  abbrev moved : (a b c d : Sight) (n : ℕ) (imports : List Asked) (h : Accepted setting policy limits a b n imports) → Takes c d (spellings h.instructions) → Accepted setting policy limits c d n imports
-  moved a b c d n imports h takes = record {
+  abbrev moved : (beginning : Beginning) (a b c d : Sight) (n : ℕ) (imports : List Asked) (h : AcceptedFrom loading.old_strings beginning policy limits a b n imports) → Takes c d (spellings h.instructions) → AcceptedFrom loading.old_strings beginning policy limits c d n imports
+  moved beginning a b c d n imports h takes = record {
     instructions = h.instructions;
     sequence = h.sequence;
     bytes = takes;
@@ -75,113 +105,137 @@ module _ (taking : TakingLaws) (setting : OldStrings) (policy : Policy) (limits 
   }
 
   -- the source may have been asked once more, in vain
-  accepted_on : (old mid new : Sight) (x : Pickle) → IsAccepted setting policy limits old mid x → Takes mid new [] → IsAccepted setting policy limits old new x
-  accepted_on old mid new x (a, same) takes = (moved old mid old new _ x.imports a (takes_no_more taking old mid new _ a.bytes takes), same)
+  accepted_on : (old mid new : Sight) (before : List Pickle) (x : Pickle) → IsAccepted loading policy limits old mid before x → Takes mid new [] → IsAccepted loading policy limits old new before x
+  accepted_on old mid new before x (a, same) takes = (moved (begins loading.memo before) old mid old new _ x.imports a (takes_no_more taking old mid new _ a.bytes takes), same)
 
   -- one pickle more
-  accepted_more : (old mid new : Sight) (xs : List Pickle) (x : Pickle) → AreAccepted setting policy limits old mid xs → IsAccepted setting policy limits mid new x → AreAccepted setting policy limits old new (xs ++ x ∷ [])
-  accepted_more old mid new [] x takes (a, same) = (new, (moved mid new old new _ x.imports a (taking.more old mid new [] _ takes a.bytes), same), taking.none new)
-  accepted_more old mid new (y ∷ xs) x (between, first, rest) h = (between, first, accepted_more between mid new xs x rest h)
+  accepted_more : (old mid new : Sight) (before xs : List Pickle) (x : Pickle) → AreAccepted loading policy limits old mid before xs → IsAccepted loading policy limits mid new (before ++ xs) x → AreAccepted loading policy limits old new before (xs ++ x ∷ [])
+  accepted_more old mid new before [] x takes h =
+      let (a, same) = subst (λ l. IsAccepted loading policy limits mid new l x) (append-nil before) h in
+      (new, (moved (begins loading.memo before) mid new old new _ x.imports a (taking.more old mid new [] _ takes a.bytes), same), taking.none new)
+  accepted_more old mid new before (y ∷ xs) x (between, first, rest) h =
+      (between, first, accepted_more between mid new (before ++ y ∷ []) xs x rest (subst (λ l. IsAccepted loading policy limits mid new l x) (sym (append_assoc before (y ∷ []) xs)) h))
 
   -- the bytes of all were taken
-  pub accepted_bytes : (old new : Sight) (xs : List Pickle) → AreAccepted setting policy limits old new xs → Takes old new (bytes_of xs)
-  accepted_bytes old new [] takes = takes
-  accepted_bytes old new (x ∷ xs) (between, (a, same), rest) = taking.more old between new (spellings x.instructions) (bytes_of xs) (subst (λ p. Takes old between (spellings p)) same a.bytes) (accepted_bytes between new xs rest)
+  pub accepted_bytes : (old new : Sight) (before xs : List Pickle) → AreAccepted loading policy limits old new before xs → Takes old new (bytes_of xs)
+  accepted_bytes old new before [] takes = takes
+  accepted_bytes old new before (x ∷ xs) (between, (a, same), rest) = taking.more old between new (spellings x.instructions) (bytes_of xs) (subst (λ p. Takes old between (spellings p)) same a.bytes) (accepted_bytes between new (before ++ x ∷ []) xs rest)
 
   -- each is a sequence
-  pub accepted_sequences : (old new : Sight) (xs : List Pickle) → AreAccepted setting policy limits old new xs → All (IsSequence (payload_limit limits)) (sequences_of xs)
-  accepted_sequences old new [] takes = All-nil (IsSequence (payload_limit limits))
-  accepted_sequences old new (x ∷ xs) (between, (a, same), rest) = All-cons (IsSequence (payload_limit limits)) x.instructions (sequences_of xs) (subst (IsSequence (payload_limit limits)) same a.sequence) (accepted_sequences between new xs rest)
+  pub accepted_sequences : (old new : Sight) (before xs : List Pickle) → AreAccepted loading policy limits old new before xs → All (IsSequence (payload_limit limits)) (sequences_of xs)
+  accepted_sequences old new before [] takes = All-nil (IsSequence (payload_limit limits))
+  accepted_sequences old new before (x ∷ xs) (between, (a, same), rest) = All-cons (IsSequence (payload_limit limits)) x.instructions (sequences_of xs) (subst (IsSequence (payload_limit limits)) same a.sequence) (accepted_sequences between new (before ++ x ∷ []) xs rest)
 
   -- none yet
-  pub row_begins : (old : Sight) (imports : List Asked) → imports ≡ [] → RowSoFar setting policy limits old old 0 0 imports []
-  row_begins old imports none = record { each = taking.none old; from_is = refl; number = refl; few = omega arith; listed = none }
+  pub row_begins : (old : Sight) (apart : List Asked) → apart ≡ [] → RowSoFar loading policy limits old old (record { at = 0; beginning = begins loading.memo []; known = nothing_known }) 0 apart []
+  row_begins old apart none = record { each = taking.none old; from_is = refl; begins = refl; number = refl; few = omega arith; listed = none ∙ none_apart loading.memo }
 
-  module _ (old here : Sight) (from pickles : ℕ) (imports : List Asked) (before : List Pickle) (h : RowSoFar setting policy limits old here from pickles imports before) where
+  -- what is listed apart behind one pickle more
+  apart_more : (memo : Memo) (apart own : List Asked) (before : List Pickle) (p : List Instruction) (asked : List (Option Asked)) → apart ≡ listed_apart memo before → own ≡ listed_before (begins memo before) ++ imports_among asked → moved_apart memo apart own ≡ listed_apart memo (before ++ record { instructions = p; imports = imports_among asked } ∷ [])
+  apart_more Fresh apart own before p asked e h = rw (e, h) (sym (imports_more before (record { instructions = p; imports = imports_among asked })))
+  apart_more Kept apart own before p asked e h = e
+
+  module _ (old here : Sight) (origin : Origin) (pickles : ℕ) (apart : List Asked) (before : List Pickle) (h : RowSoFar loading policy limits old here origin pickles apart before) where
     bytes_more : (x : Pickle) → length (bytes_of (before ++ x ∷ [])) ≡ length (bytes_of before) + length (spellings x.instructions)
     bytes_more x =
         let e : bytes_of (before ++ x ∷ []) ≡ bytes_of before ++ (spellings x.instructions ++ []) = ap (λ (l : List (List Instruction)). flat_map spellings l) (map-append (λ (y : Pickle). y.instructions) before (x ∷ [])) ∙ flat_map-append spellings (sequences_of before) (x.instructions ∷ []) in
         omega (arith, ap length e, length-append (bytes_of before) (spellings x.instructions ++ []), length-append (spellings x.instructions) [])
 
-    imports_more : (x : Pickle) → imports_of (before ++ x ∷ []) ≡ imports_of before ++ x.imports
-    imports_more x = flat_map-append (λ (y : Pickle). y.imports) before (x ∷ []) ∙ ap (λ l. imports_of before ++ l) (append-nil x.imports)
+    module _ (p : List Instruction) (asked : List (Option Asked)) (s : State) (still_open : ℕ) (m : View) (checked : Checked loading.old_strings policy limits here origin p asked s still_open m) (sequence : IsSequence (payload_limit limits) p) where
+      is_accepted : IsAccepted loading policy limits here s.source before (this p asked)
+      is_accepted =
+          let a = accepted loading.old_strings policy limits here origin p asked s still_open m checked s.source (length (spellings p)) (imports_among asked) sequence refl checked.reads.count refl in
+          subst (λ b. (a : AcceptedFrom loading.old_strings b policy limits here s.source (length (spellings p)) (imports_among asked)) × (a.instructions ≡ p)) h.begins a
 
-    -- a pickle more was accepted
-    pub row_more : (new : Sight) (next : ℕ) (more all : List Asked) (p : List Instruction) → (a : Accepted setting policy limits here new (length (spellings p)) more) × (a.instructions ≡ p) → next ≡ from + length (spellings p) → all ≡ imports ++ more → RowSoFar setting policy limits old new next (pickles + 1) all (before ++ record { instructions = p; imports = more } ∷ [])
-    row_more new next more all p a from_next listed =
-        let x : Pickle = record { instructions = p; imports = more } in
-        let some = some_byte p (subst StopIsLast a.1 a.0.sequence.stops) in
-        record {
-          each = accepted_more old here new before x h.each a;
-          from_is = from_next ∙ ap (λ n. n + length (spellings p)) h.from_is ∙ sym (bytes_more x);
-          number = omega (arith, h.number, length-append before (x ∷ []));
-          few = (let few = h.few in omega (arith, few, some, from_next));
-          listed = listed ∙ (ap (λ l. l ++ more) h.listed ∙ sym (imports_more x));
-        }
+      -- the pickle that was read and judged here was accepted, and the next begins
+      pub pickle_more : (new : Sight) → Takes s.source new [] → (known : Knowledge) (all : List Asked) → all ≡ moved_apart loading.memo apart m.imports → RowSoFar loading policy limits old new (record { at = s.taken; beginning = begins loading.memo (before ++ this p asked ∷ []); known = known }) (pickles + 1) all (before ++ this p asked ∷ [])
+      pickle_more new takes known all listed =
+          let x = this p asked in
+          let a = accepted_on here s.source new before x is_accepted takes in
+          let some = some_byte p (subst StopIsLast a.1 a.0.sequence.stops) in
+          let reads = checked.reads.count in
+          record {
+            each = accepted_more old here new [] before x h.each a;
+            from_is = reads ∙ ap (λ n. n + length (spellings p)) h.from_is ∙ sym (bytes_more x);
+            begins = refl;
+            number = omega (arith, h.number, length-append before (x ∷ []));
+            few = (let few = h.few in omega (arith, few, some, reads));
+            listed = listed ∙ apart_more loading.memo apart m.imports before p asked h.listed (checked.imports ∙ ap (λ b. listed_before b ++ imports_among asked) h.begins);
+          }
 
-    -- so was the one that was read and judged here
-    pub pickle_more : (p : List Instruction) (asked : List (Option Asked)) (s : State) (still_open : ℕ) (m : View) → Checked setting policy limits here from p asked s still_open m → IsSequence (payload_limit limits) p → (new : Sight) → Takes s.source new [] → (all : List Asked) → all ≡ imports ++ m.imports → RowSoFar setting policy limits old new s.taken (pickles + 1) all (before ++ record { instructions = p; imports = m.imports } ∷ [])
-    pickle_more p asked s still_open m checked sequence new takes all listed =
-        let x : Pickle = record { instructions = p; imports = m.imports } in
-        let a = accepted setting policy limits here from p asked s still_open m checked s.source (length (spellings p)) m.imports sequence refl checked.reads.count refl in
-        row_more new s.taken m.imports all p (accepted_on here s.source new x a takes) checked.reads.count listed
+      ready : (memo : Memo) → origin.beginning ≡ begins memo before → IsReady loading.old_strings policy limits (begins memo (before ++ this p asked ∷ [])) (restarted memo m)
+      ready Fresh e = record { begins = begins_afresh loading.old_strings policy; imports = refl; same_limits = checked.same_limits; same_setting = checked.same_setting; refused = refl; off = refl; stopped = refl }
+      ready Kept e = record {
+        begins = begins_next loading.old_strings policy limits before origin.known (subst (λ b. Begins loading.old_strings policy b origin.known) e checked.begins) (payload_limit limits) p sequence m.knowledge asked checked.accepts;
+        imports = checked.imports ∙ (ap (λ b. listed_before b ++ imports_among asked) e ∙ sym (imports_more before (this p asked)));
+        same_limits = checked.same_limits;
+        same_setting = checked.same_setting;
+        refused = checked.refused;
+        off = checked.off;
+        stopped = refl;
+      }
+
+      -- the machine that restarts is ready for the next
+      pub next_ready : IsReady loading.old_strings policy limits (begins loading.memo (before ++ this p asked ∷ [])) (restarted loading.memo m)
+      next_ready = ready loading.memo h.begins
 
     not_none : 0 < pickles → sequences_of before ≢ []
     not_none some e = omega (arith, some, h.number, ap length e, length-map before (λ (y : Pickle). y.instructions))
 
     -- the source is at its end
-    pub row_accepted : (taken : ℕ) → 0 < pickles → IsAtEnd here.left → taken ≡ from → taken < all_bytes → AcceptedRow setting policy limits old here taken pickles imports
-    row_accepted taken some ends is within = record {
+    pub row_accepted : (taken : ℕ) (imports : List Asked) → 0 < pickles → IsAtEnd here.left → taken ≡ origin.at → taken < all_bytes → imports ≡ imports_of before → AcceptedRow loading policy limits old here taken pickles imports
+    row_accepted taken imports some ends is within listed = record {
       row = before;
       ends = ends;
-      is_row = record { some = not_none some; each = accepted_sequences old here before h.each; spelled = refl };
-      bytes = accepted_bytes old here before h.each;
+      is_row = record { some = not_none some; each = accepted_sequences old here [] before h.each; spelled = refl };
+      bytes = accepted_bytes old here [] before h.each;
       count = is ∙ h.from_is;
       within = within;
       number = h.number;
       each = h.each;
-      listed = h.listed;
+      listed = listed;
     }
 
     -- the pickle that begins here is refused
-    pub row_refused : (new : Sight) (at : ℕ) (why : Reason) (pair : Option Asked) → RefusedFrom from setting policy limits here new at why pair → (why ≡ Truncated → before ≢ [] → HasMore here) → RefusedInRow setting policy limits old new pickles at why pair
+    pub row_refused : (new : Sight) (at : ℕ) (why : Reason) (pair : Option Asked) → RefusedFrom origin.at loading.old_strings origin.beginning policy limits here new at why pair → (why ≡ Truncated → before ≢ [] → HasMore here) → RefusedInRow loading policy limits old new pickles at why pair
     row_refused new at why pair r more = record {
       before = before;
       number = h.number;
       here = here;
       each = h.each;
-      refused = subst (λ n. RefusedFrom n setting policy limits here new at why pair) h.from_is r;
+      refused = subst (λ b. RefusedFrom (length (bytes_of before)) loading.old_strings b policy limits here new at why pair) h.begins (subst (λ n. RefusedFrom n loading.old_strings origin.beginning policy limits here new at why pair) h.from_is r);
       more = more;
     }
 
     -- no read failed so far
     pub none_failed : here.failures ≡ old.failures
-    none_failed = (accepted_bytes old here before h.each).count
+    none_failed = (accepted_bytes old here [] before h.each).count
 
-  module _ (laws : FrameLaws) (begins : ReadingGoesOn) (s : State) (same : s.limits ≡ limits) where
+  module _ (laws : FrameLaws) (begins : ReadingGoesOn) (s : State) (same : s.limits ≡ limits) (b : Beginning) (m : View) (ready : IsReady loading.old_strings policy limits b m) where
     -- no byte was taken of the pickle that would begin
-    turned : (x : ReadRefusal) (new : Sight) → x.at ≡ s.taken → Refuses (payload_limit_at limits []) s.source new [] s.taken s.taken x.reason → RefusedFrom s.taken setting policy limits s.source new x.at x.reason None
+    turned : (x : ReadRefusal) (new : Sight) → x.at ≡ s.taken → Refuses (payload_limit_at limits []) s.source new [] s.taken s.taken x.reason → RefusedFrom s.taken loading.old_strings b policy limits s.source new x.at x.reason None
     turned x new place why =
         let open' : State = record s { phase = Open } in
-        let here = checked_again setting policy limits s.source laws begins open' refl same in
-        (refused_turned setting policy limits s.source s.taken [] [] open' 0 (fresh setting limits) here (record s { source = new }) x new (record { no_stop = All-nil (λ i. i.op ≢ Stop); place = place; bytes = []; why = why }) refl).0
+        let origin : Origin = record { at = s.taken; beginning = b; known = m.knowledge } in
+        let here = checked_again loading.old_strings policy limits s.source laws begins open' refl same b m ready in
+        (refused_turned loading.old_strings policy limits s.source origin [] [] open' 0 m here (record s { source = new }) x new (record { no_stop = All-nil (λ i. i.op ≢ Stop); place = place; bytes = []; why = why }) refl).0
 
     -- the reader refused behind STOP
-    pub refused_again : NoByteIsRefused → (t : State) (x : ReadRefusal) → RefusesAgain s x t → RefusedFrom s.taken setting policy limits s.source t.source x.at x.reason None
+    pub refused_again : NoByteIsRefused → (t : State) (x : ReadRefusal) → RefusesAgain s x t → RefusedFrom s.taken loading.old_strings b policy limits s.source t.source x.at x.reason None
     refused_again law t x h = turned x t.source h.place (law (payload_limit_at limits []) s t x h).0
 
     -- there was no memory for the imports
-    pub refused_growing : NoByteIsRefused → RefusedFrom s.taken setting policy limits s.source s.source s.taken OutOfMemory None
+    pub refused_growing : NoByteIsRefused → RefusedFrom s.taken loading.old_strings b policy limits s.source s.source s.taken OutOfMemory None
     refused_growing law =
         let x : ReadRefusal = record { at = s.taken; reason = OutOfMemory } in
         refused_again law (record s { phase = Refused x }) x (record { place = refl; why = taking.none s.source; after = refl })
 
 -- the same, told by equal parts
-pub told : (setting : OldStrings) (policy : Policy) (limits : Bounds) (old new mid : Sight) (n m a b : ℕ) (x y : Reason) (u v : Option Asked) → new ≡ mid → n ≡ m → a ≡ b → x ≡ y → u ≡ v → RefusedInRow setting policy limits old mid m b y v → RefusedInRow setting policy limits old new n a x u
-told setting policy limits old new mid n m a b x y u v d e f g h r = rw (d, e, f, g, h) r
+pub told : (loading : Loading) (policy : Policy) (limits : Bounds) (old new mid : Sight) (n m a b : ℕ) (x y : Reason) (u v : Option Asked) → new ≡ mid → n ≡ m → a ≡ b → x ≡ y → u ≡ v → RefusedInRow loading policy limits old mid m b y v → RefusedInRow loading policy limits old new n a x u
+told loading policy limits old new mid n m a b x y u v d e f g h r = rw (d, e, f, g, h) r
 
-pub told_yes : (setting : OldStrings) (policy : Policy) (limits : Bounds) (old new mid : Sight) (n m a : ℕ) (u v : List Asked) → new ≡ mid → n ≡ m → u ≡ v → AcceptedRow setting policy limits old mid m a v → AcceptedRow setting policy limits old new n a u
-told_yes setting policy limits old new mid n m a u v d e h r = rw (d, e, h) r
+pub told_yes : (loading : Loading) (policy : Policy) (limits : Bounds) (old new mid : Sight) (n m a : ℕ) (u v : List Asked) → new ≡ mid → n ≡ m → u ≡ v → AcceptedRow loading policy limits old mid m a v → AcceptedRow loading policy limits old new n a u
+told_yes loading policy limits old new mid n m a u v d e h r = rw (d, e, h) r
 
 -- less is left to do where an instruction was taken
 left_most : (taken : ℕ) (p : Phase) → left_to_do taken p ≤ 2 * (all_bytes - taken) + 1
@@ -197,8 +251,8 @@ left_least taken (Refused r) = omega arith
 pub less_to_do : (s t : ℕ) (p q : Phase) (i : Instruction) → t ≡ s + length (spelling i) → t ≤ all_bytes → left_to_do t q < left_to_do s p
 less_to_do s t p q i taken within = omega (arith, left_most t q, left_least s p, taken, within)
 
-pub count_on : (setting : OldStrings) (policy : Policy) (limits : Bounds) (old new : Sight) (n a : ℕ) (x : Reason) (u : Option Asked) → RefusedInRow setting policy limits old new n a x u → (y : Reason) (b : ℕ) (here : Sight) → x ≡ y → b ≡ old.failures → new ≡ here → CountsAt y b here.failures → CountsAt x old.failures new.failures
-count_on setting policy limits old new n a x u r y b here e f g h = rw (e, ← f, g) h
+pub count_on : (loading : Loading) (policy : Policy) (limits : Bounds) (old new : Sight) (n a : ℕ) (x : Reason) (u : Option Asked) → RefusedInRow loading policy limits old new n a x u → (y : Reason) (b : ℕ) (here : Sight) → x ≡ y → b ≡ old.failures → new ≡ here → CountsAt y b here.failures → CountsAt x old.failures new.failures
+count_on loading policy limits old new n a x u r y b here e f g h = rw (e, ← f, g) h
 
 -- what `again` answered
 pub again_true : (s t : State) (r : Result Bool ReadRefusal) → StepsAgain s r t → r ≡ Ok true → Takes s.source t.source [] × (t.phase ≡ Open) × (t.taken ≡ s.taken) × (t.limits ≡ s.limits)

@@ -23,7 +23,7 @@ abbrev pub StopsNowhere : List Instruction → Type 0
 StopsNowhere [] = Unit {0}
 StopsNowhere (i ∷ is) = (i.op ≢ op.Stop) × StopsNowhere is
 
-yes_parts : (k j : Knowledge) (as' bs : List (Option Asked)) → Yes k as' ≡ Yes j bs → (k ≡ j) × (as' ≡ bs)
+pub yes_parts : (k j : Knowledge) (as' bs : List (Option Asked)) → Yes k as' ≡ Yes j bs → (k ≡ j) × (as' ≡ bs)
 yes_parts k j as' bs e = (cc, cc)
 
 -- what was accepted of the rest

@@ -79,6 +79,17 @@ impl Held {
         self.ledger.clear();
     }
 
+    /// Takes the stack away, and keeps all else.
+    pub fn clear_stack(&mut self)
+        ensures { self.new ≡ record {
+          knowledge = record { entries = []; memo = self.old.knowledge.memo };
+          texts = self.old.texts;
+          imports = self.old.imports;
+        } }
+    {
+        self.stack.clear();
+    }
+
     /// The number of open marks.
     pub fn marks(&self) -> usize
         ensures { result ≡ marks_of self.now.knowledge.entries }

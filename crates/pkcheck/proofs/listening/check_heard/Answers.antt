@@ -29,7 +29,7 @@ returns-in-Ok-Ended-clause-answer g c =
     let k = c.next.follows.holds-at-none in
     let r = c.instructions.invariant.checked in
     let e = c.nexts.ensures.ended _ _ _ r.0 _ _ c.next.result r.2.reads k.1 (cc (c.in-Ok-Ended.is, c.in-Ok-Ended.field-0-is)) in
-    let w = accepted _ _ _ _ _ r.0 r.1 _ _ _ r.2 _ _ _ e.0 (let same = ap (λ s. s.source) e.1 in seen_so _ _ _ k.3 (search rules) ∙ same) (from_start _ _ (c.taken.ensures ∙ ap (λ s. s.taken) e.1)) c.into_imports.ensures in
+    let w = accepted _ _ _ _ _ r.0 r.1 _ _ _ r.2 _ _ _ e.0 (let same = ap (λ s. s.source) e.1 in seen_so _ _ _ k.3 (search rules) ∙ same) (from_start _ _ (c.taken.ensures ∙ ap (λ s. s.taken) e.1)) (c.into_imports.ensures ∙ r.2.imports) in
     (r.3, record { right = w.0; each = subst (λ p. AreHeardBehind [] p r.3) (sym w.1) r.4 }, r.5)
 
 pub returns-in-Err-judge-clause-answer : goal.returns-in-Err-judge-clause-answer

@@ -9,12 +9,13 @@ use Rattle.pkcheck.specs.Heard.{Heard, AreHeardBehind}
 use Rattle.pkcheck.specs.Import.{policy_of}
 use Rattle.pkcheck.specs.Knowledge.{Asked}
 use Rattle.pkcheck.proofs.Wholes.Checked.{Checked}
+use Rattle.pkcheck.proofs.Wholes.Origins.{alone}
 use Rattle.pkcheck.proofs.listening.check_heard.Given as goal
 
 abbrev pub invariant-instructions : goal.invariant-instructions
 invariant-instructions g l = record {
   same : l.reader.source.ghost_name ≡ l.initial.reader.source.ghost_name;
-  checked : (p : List Instruction) × (asked : List (Option Asked)) × Checked Unknown (policy_of l.fn.policy) (holding_all l.fn.limits) (sight g.R.Source.left g.R.Source.failures l.fn.source) 0 p asked (state g.R.Source.left g.R.Source.failures l.reader) l.frames l.machine
+  checked : (p : List Instruction) × (asked : List (Option Asked)) × Checked Unknown (policy_of l.fn.policy) (holding_all l.fn.limits) (sight g.R.Source.left g.R.Source.failures l.fn.source) alone p asked (state g.R.Source.left g.R.Source.failures l.reader) l.frames l.machine
       × (hs : List Heard) × AreHeardBehind [] p hs × g.L.Listener.hears l.initial.listener l.listener hs;
 }
 

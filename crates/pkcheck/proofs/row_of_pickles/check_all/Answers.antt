@@ -5,12 +5,16 @@ use Rattle.pkops.specs.Spelling.{Counted, Instruction, instruction}
 use Rattle.pkread.specs.Again.{StepsAgain}
 use Rattle.pkread.specs.Reading.{state}
 use Rattle.pkread.specs.Rows.{all_bytes, sight}
-use Rattle.pkcheck.proofs.Wholes.Checked.{checked_again, checked_none, checked_took, count_took, refused_turned, refused_took}
+use Rattle.pkcheck.proofs.Wholes.Checked.{checked_again, checked_first, checked_took, count_took, refused_turned, refused_took}
 use Rattle.pkcheck.proofs.Wholes.FramesSoFar.{FrameLaws}
 use Rattle.pkcheck.proofs.Wholes.Given.{refused_head, seen_so, took_head, took_passed}
 use Rattle.pkcheck.proofs.Stepping.Longest.{longest}
+use Rattle.pkcheck.specs.Knowledge.{nothing_known}
+use Rattle.pkcheck.specs.Private.NextPickle.{restarted}
+use Rattle.pkcheck.specs.RowOfPickles.{begins}
+use Rattle.pkcheck.proofs.Wholes.Origins.{Origin}
 use Rattle.pkcheck.proofs.Wholes.Payloads.{long_passed}
-use Rattle.pkcheck.proofs.Wholes.RowOfPickles.{again_false, again_refused, again_true, count_on, less_to_do, none_failed, pickle_more, refused_again, refused_growing, row_accepted, row_begins, row_refused, some_byte, told, told_yes, some_ahead, growing_is_not_cut, again_is_not_cut}
+use Rattle.pkcheck.proofs.Wholes.RowOfPickles.{again_false, again_refused, again_true, all_listed, begins_first, count_on, less_to_do, next_ready, none_before, none_failed, pickle_more, refused_again, refused_growing, row_accepted, row_begins, row_refused, some_byte, this, told, told_yes, some_ahead, growing_is_not_cut, again_is_not_cut}
 use Rattle.pkcheck.proofs.row_of_pickles.check_all.Goals as goal
 
 pub instructions-init : goal.instructions-init
@@ -19,7 +23,7 @@ instructions-init g c =
     let laws : FrameLaws = record { more = c.frames.ensures.more; all = c.frames.ensures.all; refused = c.frames.ensures.refused } in
     record {
       same = refl;
-      row = (_, _, [], row_begins taking _ _ _ _ _ (ap (λ l. l.asked) c.new-imports.ensures), [], [], rw (c.new-reader.ensures.state, c.new-frames.ensures, c.new_as-machine.ensures.fresh) (checked_none _ _ _ _ laws c.heads.ensures.begins), λ ne. absurd (ne refl));
+      row = (_, _, [], row_begins taking _ _ _ _ _ (ap (λ l. l.asked) c.new-apart.ensures), [], [], rw (c.new-reader.ensures.state, c.new-frames.ensures, c.new_as-machine.ensures.fresh) (checked_first _ _ _ _ laws c.heads.ensures.begins _ (none_before c.args.loading.memo) (begins_first c.args.loading.memo _ _)), λ ne. absurd (ne refl));
     }
 
 pub returns-in-Err-clause-answer : goal.returns-in-Err-clause-answer
@@ -56,7 +60,7 @@ returns-in_default-clause-answer g c =
     let r = c.instructions.invariant.row in
     let e = c.heads.ensures.ended _ _ _ r.4 _ _ c.next_head.result r.6.reads k.1 (cc (c.in-Ok-Ended.is, c.in-Ok-Ended.field-0-is)) in
     let f = c.refused-in_default.ensures in
-    told _ _ _ _ _ _ _ _ _ _ _ _ _ _ (seen_so _ _ _ k.3 (search rules) ∙ ap (λ s. s.source) e.1) f.pickle (f.at ∙ (c.taken-taken.ensures ∙ ap (λ s. s.taken) e.1)) f.reason f.pair (row_refused taking _ _ _ _ _ _ _ _ _ (pickle_more taking _ _ _ _ _ _ _ _ _ r.3 r.4 r.5 _ _ _ r.6 e.0 _ (taking.none _) _ refl) _ _ _ _ (refused_growing taking _ _ _ r.6.laws c.rows.ensures.begins (state g.R.Source.left g.R.Source.failures c.instructions.reader) r.6.read_limits c.rows.ensures.refused) (λ is. absurd (growing_is_not_cut is)))
+    told _ _ _ _ _ _ _ _ _ _ _ _ _ _ (seen_so _ _ _ k.3 (search rules) ∙ ap (λ s. s.source) e.1) f.pickle (f.at ∙ (c.taken-taken.ensures ∙ ap (λ s. s.taken) e.1)) f.reason f.pair (row_refused taking _ _ _ _ _ _ _ _ _ (pickle_more taking _ _ _ _ _ _ _ _ _ r.3 r.4 r.5 _ _ _ r.6 e.0 _ (taking.none _) nothing_known _ refl) _ _ _ _ (refused_growing taking c.args.loading _ _ r.6.laws c.rows.ensures.begins (state g.R.Source.left g.R.Source.failures c.instructions.reader) r.6.read_limits _ _ (next_ready taking _ _ _ _ _ _ _ _ _ r.3 r.4 r.5 _ _ _ r.6 e.0) c.rows.ensures.refused) (λ is. absurd (growing_is_not_cut is)))
 
 pub returns-in_default-clause-count : goal.returns-in_default-clause-count
 returns-in_default-clause-count g c =
@@ -76,7 +80,7 @@ returns-in-Err-again-clause-answer g c =
     let h = again_refused _ _ c.again.result c.in-Err-again.refusal steps (cc (c.in-Err-again.is)) in
     let ahead = (let b = rw c.in-Err-again.is at c.again.ensures.byte in b) in
     let f = c.refused-in-Err-again.ensures in
-    told _ _ _ _ _ _ _ _ _ _ _ _ _ _ (seen_so _ _ _ ahead (search rules)) f.pickle f.at f.reason f.pair (row_refused taking _ _ _ _ _ _ _ _ _ (pickle_more taking _ _ _ _ _ _ _ _ _ r.3 r.4 r.5 _ _ _ r.6 e.0 _ (taking.none _) _ refl) _ _ _ _ (refused_again taking _ _ _ r.6.laws c.rows.ensures.begins _ r.6.read_limits c.rows.ensures.refused _ c.in-Err-again.refusal h) (λ is. absurd (again_is_not_cut _ _ c.in-Err-again.refusal h is)))
+    told _ _ _ _ _ _ _ _ _ _ _ _ _ _ (seen_so _ _ _ ahead (search rules)) f.pickle f.at f.reason f.pair (row_refused taking _ _ _ _ _ _ _ _ _ (pickle_more taking _ _ _ _ _ _ _ _ _ r.3 r.4 r.5 _ _ _ r.6 e.0 _ (taking.none _) nothing_known _ refl) _ _ _ _ (refused_again taking c.args.loading _ _ r.6.laws c.rows.ensures.begins _ r.6.read_limits _ _ (next_ready taking _ _ _ _ _ _ _ _ _ r.3 r.4 r.5 _ _ _ r.6 e.0) c.rows.ensures.refused _ c.in-Err-again.refusal h) (λ is. absurd (again_is_not_cut _ _ c.in-Err-again.refusal h is)))
 
 pub returns-in-Err-again-clause-count : goal.returns-in-Err-again-clause-count
 returns-in-Err-again-clause-count g c =
@@ -99,13 +103,15 @@ instructions-preserved-in-Ok-true g c =
     let h = again_true _ _ c.again.result steps (cc (c.in-Ok-true.is, c.in-Ok-true.field-0-test)) in
     let ahead = (let b = rw (c.in-Ok-true.is, c.in-Ok-true.field-0-test) at c.again.ensures.byte in b) in
     let s = state g.R.Source.left g.R.Source.failures c.again.new.self in
-    let more = pickle_more taking _ _ _ _ _ _ _ _ _ r.3 r.4 r.5 _ _ _ r.6 e.0 s.source h.0 _ c.in-Ok.ensures.imports in
-    let machine = c.in-Ok.ensures.fresh in
-    let limits = r.6.same_limits in
-    let setting = r.6.same_setting in
+    let more = pickle_more taking _ _ _ _ _ _ _ _ _ r.3 r.4 r.5 _ _ _ r.6 e.0 s.source h.0 (restarted c.args.loading.memo c.instructions.machine).knowledge _ c.in-Ok.ensures.apart in
+    let machine = c.in-Ok.ensures.next in
+    let ready = next_ready taking _ _ _ _ _ _ _ _ _ r.3 r.4 r.5 _ _ _ r.6 e.0 in
+    let memo = c.args.loading.memo in
+    let row = r.2 ++ this r.4 r.5 ∷ [] in
+    let origin : Origin = record { at = s.taken; beginning = begins memo row; known = (restarted memo c.instructions.machine).knowledge } in
     record {
       same = search rules;
-      row = (s.source, s.taken, r.2 ++ record { instructions = r.4; imports = c.instructions.machine.imports } ∷ [], rw h.2 more, [], [], rw (c.new-frames-in-Ok-Ended.ensures, machine, limits, setting) (checked_again _ _ _ s.source r.6.laws c.rows.ensures.begins s h.1 (h.3 ∙ r.6.read_limits)), λ ne. some_ahead ahead.0 _ _ ahead.1);
+      row = (s.source, origin, row, rw h.2 more, [], [], rw (c.new-frames-in-Ok-Ended.ensures, machine) (checked_again _ _ _ s.source r.6.laws c.rows.ensures.begins s h.1 (h.3 ∙ r.6.read_limits) _ _ ready), λ ne. some_ahead ahead.0 _ _ ahead.1);
     }
 
 pub returns-in-Ok-false-clause-answer : goal.returns-in-Ok-false-clause-answer
@@ -118,9 +124,10 @@ returns-in-Ok-false-clause-answer g c =
     let h = again_false _ _ c.again.result steps (cc (c.in-Ok-false.is, c.in-Ok-false.field-0-test)) in
     let s = state g.R.Source.left g.R.Source.failures c.again.new.self in
     let ahead = (let b = rw (c.in-Ok-false.is, c.in-Ok-false.field-0-test) at c.again.ensures.byte in b) in
-    let more = pickle_more taking _ _ _ _ _ _ _ _ _ r.3 r.4 r.5 _ _ _ r.6 e.0 s.source h.0 _ c.in-Ok.ensures.imports in
+    let more = pickle_more taking _ _ _ _ _ _ _ _ _ r.3 r.4 r.5 _ _ _ r.6 e.0 s.source h.0 nothing_known _ c.in-Ok.ensures.apart in
     let is = c.taken-taken.ensures ∙ ap (λ s. s.taken) e.1 in
-    told_yes _ _ _ _ _ _ _ _ _ _ _ (seen_so _ _ _ ahead (search rules)) refl c.from_ledger.ensures (row_accepted taking _ _ _ _ _ _ _ _ _ more _ (omega arith) h.1 is (subst (λ n. n < all_bytes) (sym is) h.2))
+    let ready = next_ready taking _ _ _ _ _ _ _ _ _ r.3 r.4 r.5 _ _ _ r.6 e.0 in
+    told_yes _ _ _ _ _ _ _ _ _ _ _ (seen_so _ _ _ ahead (search rules)) refl c.imports_of_row.ensures (row_accepted taking _ _ _ _ _ _ _ _ _ more _ _ (omega arith) h.1 is (subst (λ n. n < all_bytes) (sym is) h.2) (all_listed c.args.loading.memo _ _ _ more.listed (ap (λ m. m.imports) c.in-Ok.ensures.next ∙ ready.imports)))
 
 pub returns-in-Ok-false-clause-count : goal.returns-in-Ok-false-clause-count
 returns-in-Ok-false-clause-count g c =

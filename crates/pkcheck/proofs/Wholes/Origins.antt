@@ -1,0 +1,95 @@
+-- Where the runs of a pickle begin, and what is known there.
+use Rattle.pkcheck.specs.declared.old_strings.OldStrings.{OldStrings}
+use Rattle.std.proofs.Common.{◌≡◌, ℕ, List, [], Some, refl, sym, subst}
+use Rattle.std.specs.Prelude.{All}
+use Rattle.std.proofs.lemmas.List.Elements.{All-nil}
+use Rattle.pkops.specs.Limits.{Bounds}
+use Rattle.pkops.specs.Spelling.{Instruction}
+use Rattle.pkcheck.specs.Covers.{IsObject, Pointwise, imports_of}
+use Rattle.pkcheck.specs.Knowledge.{Knowledge, Policy, nothing_known}
+use Rattle.pkcheck.specs.Listing.{StandsFor, permitted_by}
+use Rattle.pkcheck.specs.RowRuns.{Afresh, Arrives, Beginning, Behind, CanArrive, CanComeTo, ComesTo, InEachRunFrom, listed_before}
+use Rattle.pkcheck.specs.RunFaults.{RunsFrom}
+use Rattle.pkcheck.specs.Runs.{CanCome, Outcome, State, start}
+use Rattle.pkcheck.specs.WholeRuns.{AllListed, CanGetTo, Ended, GetsTo, run_as}
+use Rattle.pkcheck.proofs.Covering.Answering.{Answered, Word}
+use Rattle.pkcheck.proofs.Covering.CoversBy.{CoversBy}
+use Rattle.pkcheck.proofs.Covering.Standing.{Stands}
+use Rattle.pkcheck.proofs.Wholes.Walk.{Along}
+
+-- the offset of the first byte of a pickle, where its runs begin, and what is known there
+pub record Origin : Type 0 where
+  pub at : ℕ
+  pub beginning : Beginning
+  pub known : Knowledge
+
+-- that of a pickle alone
+abbrev pub alone : Origin
+alone = record { at = 0; beginning = Afresh; known = nothing_known }
+
+module _ (setting : OldStrings) where
+  -- the states in which the runs begin
+  abbrev pub StartsIn : Beginning → State → Type 0
+  StartsIn Afresh s = s ≡ start
+  StartsIn (Behind before) s = ComesTo setting before s
+
+  -- those of runs of which all outcomes can come
+  abbrev pub CanStartIn : Beginning → State → Type 0
+  CanStartIn Afresh s = s ≡ start
+  CanStartIn (Behind before) s = CanComeTo setting before s
+
+  -- what is known where the runs begin
+  pub record Begins (policy : Policy) (b : Beginning) (known : Knowledge) : Type 0 where
+    pub each : (s : State) → StartsIn b s → CoversBy IsObject known s
+    pub some : (v : Word) → (s : State) × CanStartIn b s × CoversBy (Answered v.text) known s
+    pub permitted : (s : State) → StartsIn b s → AllListed (permitted_by policy) (imports_of s.events)
+    pub listed : (s : State) → StartsIn b s → Pointwise StandsFor (listed_before b) (imports_of s.events)
+
+  -- a run that gets behind instructions began somewhere
+  pub arrived : (b : Beginning) (before : List Instruction) (t : State) → Arrives setting b before t → (s : State) × StartsIn b s × GetsTo setting before s t
+  arrived Afresh before t h = (start, refl, h)
+  arrived (Behind pickles) before t h = h
+
+  arrives : (b : Beginning) (before : List Instruction) (s t : State) → CanStartIn b s → CanGetTo setting before s t → CanArrive setting b before t
+  arrives Afresh before s t e h = subst (λ x. CanGetTo setting before x t) e h
+  arrives (Behind pickles) before s t c h = (s, c, h)
+
+  any_arrives : (b : Beginning) (before : List Instruction) (t : State) → CanArrive setting b before t → Arrives setting b before t
+  any_arrives Afresh before t h = (h.0, h.2)
+  any_arrives (Behind pickles) before t h = (h.0, (h.1.0, h.1.2), (h.2.0, h.2.2))
+
+  -- what holds of each run from where they begin
+  pub in_each : (b : Beginning) (p : List Instruction) (Holds : Ended → Type 0) → ((s : State) (os : List Outcome) → StartsIn b s → Holds (run_as setting p os s)) → InEachRunFrom setting b p Holds
+  in_each Afresh p Holds h = λ os. h start os refl
+  in_each (Behind pickles) p Holds h = h
+
+  module _ (policy : Policy) where
+    -- with nothing, nothing is known
+    pub begins_afresh : Begins policy Afresh nothing_known
+    begins_afresh = record {
+      each = λ s e. subst (CoversBy IsObject nothing_known) (sym e) (record { entries = tt; memo = tt });
+      some = λ v. (start, refl, record { entries = tt; memo = tt });
+      permitted = λ s e. subst (λ x. AllListed (permitted_by policy) (imports_of x.events)) (sym e) tt;
+      listed = λ s e. subst (λ x. Pointwise StandsFor [] (imports_of x.events)) (sym e) tt;
+    }
+
+    first_state : (s : State) → Some start ≡ Some s → s ≡ start
+    first_state s e = cc
+
+    -- nor is anything behind no pickles
+    pub begins_row : Begins policy (Behind []) nothing_known
+    begins_row = record {
+      each = λ s h. begins_afresh.each s (first_state s h.1);
+      some = λ v. (start, ([], All-nil (All CanCome), refl), record { entries = tt; memo = tt });
+      permitted = λ s h. begins_afresh.permitted s (first_state s h.1);
+      listed = λ s h. begins_afresh.listed s (first_state s h.1);
+    }
+
+    -- what is known along instructions stands for the runs that get behind them
+    pub stands_from : (limits : Bounds) (b : Beginning) (before : List Instruction) (first known : Knowledge) → Begins policy b first → Along setting policy limits before first known → Stands known (RunsFrom setting b before)
+    stands_from limits b before first known h a = record {
+      each = λ t g. let w = arrived b before t g in a.each w.0 t w.2.0 (h.each w.0 w.1) w.2.1;
+      real = λ t g. any_arrives b before t g;
+      answers = λ v n. v.utf8;
+      some = λ v. let w = h.some v in let m = a.some v w.0 w.2 in (m.0, arrives b before w.0 m.0 w.1 m.1, m.2);
+    }
