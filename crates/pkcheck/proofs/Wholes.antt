@@ -12,3 +12,4 @@ pub mod Checked
 pub mod Hearing
 pub mod RowOfPickles
 mod AnswerExamples
+mod RowExamples

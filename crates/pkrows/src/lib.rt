@@ -20,6 +20,8 @@ mod limited;
 #[cfg(test)]
 mod lists;
 #[cfg(test)]
+mod loaded_rows;
+#[cfg(test)]
 mod machines;
 #[cfg(test)]
 mod old_strings;

@@ -13,17 +13,17 @@ use Rattle.pkcheck.specs.Shape.{NoItem, NoMemo, Odd}
 use Rattle.pkcheck.specs.Knowledge.{Policy, Asked, AskedPair, AskedUnknown, Lacks, WrongClass, NotText, UnknownImport, OffList, LeftOver, NotAscii, TooLarge, nothing_known}
 use Rattle.pkcheck.proofs.Covering.Verdicts.{Verdict, Yes, No, verdict}
 
-abbrev bare : Op → Instruction
+abbrev pub bare : Op → Instruction
 bare op = instruction op Nothing
 
-abbrev text : List ℕ → Instruction
+abbrev pub text : List ℕ → Instruction
 text t = instruction op.ShortBinUnicode (Counted t)
 
-abbrev global : List ℕ → List ℕ → Instruction
+abbrev pub global : List ℕ → List ℕ → Instruction
 global m n = instruction op.Global (Pair m n)
 
 -- a memo opcode of one byte
-abbrev at : Op → ℕ → Instruction
+abbrev pub at : Op → ℕ → Instruction
 at op n = instruction op (Number 1 n)
 
 -- the list of one pair
