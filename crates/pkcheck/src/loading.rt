@@ -15,6 +15,8 @@ pub enum Memo {
 /// How the pickles of a row are loaded: the settings of whoever reads it.
 #[derive(Clone, Copy, Debug, PartialEq, Eq)]
 pub struct Loading {
+    /// What becomes of the memo.
     pub memo: Memo,
+    /// What becomes of old strings.
     pub old_strings: OldStrings,
 }
