@@ -1,3 +1,4 @@
+pub mod Halving
 pub mod Covering
 pub mod Stepping
 pub mod Wholes

@@ -6,6 +6,7 @@ mod allow;
 mod checking;
 mod import;
 mod imports;
+pub mod laws;
 mod listening;
 mod loading;
 mod machine;

@@ -1,7 +1,7 @@
 //! A list as an array of pairs, which lies with its owner.
 
-ghost use Rattle.std.specs.Prelude.{◌≡◌, IsTrue};
-ghost use Rattle.pkcheck.specs.Pairs.{have};
+ghost use Rattle.std.specs.Prelude.{◌≡◌};
+ghost use Rattle.pkcheck.specs.Pairs.{found, have};
 
 use std::cmp::Ordering;
 
@@ -22,13 +22,13 @@ pub struct Pair<'a> {
 pub fn have(pairs: &[Pair<'_>], module_name: &[u8], name: &[u8]) -> bool
     ensures { result ≡ have pairs.now module_name.now name.now }
 {
-    finds(pairs, module_name, name)
+    found(pairs, module_name, name)
         || pairs.iter().any(|pair| pair.module_name == module_name && pair.name == name)
 }
 
 /// Whether halving finds the pair, as it does where the pairs are in order.
-fn finds(pairs: &[Pair<'_>], module_name: &[u8], name: &[u8]) -> bool
-    ensures { IsTrue result → IsTrue (have pairs.now module_name.now name.now) }
+pub fn found(pairs: &[Pair<'_>], module_name: &[u8], name: &[u8]) -> bool
+    ensures { result ≡ found pairs.now module_name.now name.now }
 {
     let mut low = 0;
     let mut high = pairs.len();

@@ -3,13 +3,14 @@ use Rattle.std.proofs.Common.{◌≡◌, ℕ, ◌+◌, ◌<◌, ◌≤◌, Bool,
 use Rattle.std.specs.Prelude.{replicate}
 use Rattle.std.proofs.lemmas.List.{length-replicate}
 use Rattle.pkcheck.specs.declared.policy.Policy.{Policy}
-use Rattle.pkcheck.specs.declared.policy.Policy.TheVariants.{Listed, Pairs, AnyImport}
+use Rattle.pkcheck.specs.declared.policy.Policy.TheVariants.{Listed, Pairs, Sorted, AnyImport}
 use Rattle.pkcheck.specs.Allow.{lists}
-use Rattle.pkcheck.specs.Pairs.{have}
+use Rattle.pkcheck.specs.Pairs.{found, have}
 use Rattle.pkcheck.specs.Import.{policy_of}
 use Rattle.std.proofs.lemmas.List.Elements.{All-replicate}
 use Rattle.std.proofs.lemmas.Str.{IsUtf8-from_ascii}
 use Rattle.std.proofs.lemmas.Str.Ascii.{IsAscii-from_all}
+use Rattle.pkcheck.proofs.Halving.{found_is_had}
 use Rattle.pkcheck.proofs.Covering.Answering.{Word}
 use Rattle.pkcheck.proofs.Covering.Showing.{IsLonger}
 use Rattle.pkcheck.proofs.ListFile.ListBound.{lists_bound, pairs_bound}
@@ -27,4 +28,7 @@ bounded list bound below =
 pub longest : (policy : Policy) → (v : Word) × IsLonger (policy_of policy) v.text
 longest (Listed list) = let (bound, below) = lists_bound list.now in bounded (lists list.now) bound below
 longest (Pairs pairs) = let (bound, below) = pairs_bound pairs.now in bounded (have pairs.now) bound below
+longest (Sorted pairs) =
+    let (bound, below) = pairs_bound pairs.now in
+    bounded (found pairs.now) bound (λ m n h. below m n (found_is_had pairs.now m n h))
 longest AnyImport = (letters 0, tt)

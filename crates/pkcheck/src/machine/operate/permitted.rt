@@ -50,6 +50,7 @@ fn permits(policy: &Policy, module_name: &str, name: &str) -> bool
     match policy {
         Policy::Listed(list) => list.contains(module_name, name),
         Policy::Pairs(pairs) => pairs::have(pairs, module_name.as_bytes(), name.as_bytes()),
+        Policy::Sorted(pairs) => pairs::found(pairs, module_name.as_bytes(), name.as_bytes()),
         Policy::AnyImport => true,
     }
 }

@@ -1,0 +1,5 @@
+use Rattle.pkcheck.proofs.Halving.{halving_is_right}
+use Rattle.pkcheck.proofs.laws.halving.Goals as goal
+
+pub returns : goal.returns
+returns c = halving_is_right
