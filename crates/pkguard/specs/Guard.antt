@@ -1,5 +1,5 @@
 -- What a verdict for C says.
-use Rattle.std.specs.Prelude.{◌≡◌, ◌++◌, ◌⊎◌, ℕ, List, length, drop, leb, if◌then◌else◌, codes, Option, Some, None, Ok, Err}
+use Rattle.std.specs.Prelude.{◌≡◌, ◌≢◌, ◌++◌, ◌⊎◌, ℕ, List, length, drop, leb, if◌then◌else◌, codes, Option, Some, None, Ok, Err}
 use Rattle.std.specs.Str.{IsUtf8}
 use Rattle.toml.specs.Data.{Members, get_member}
 use Rattle.toml.specs.Errors.{IsBlank}
@@ -17,6 +17,8 @@ use Rattle.pkcheck.specs.declared.old_strings.OldStrings.{OldStrings}
 use Rattle.pkguard.specs.declared.settings.Settings.{Settings}
 use Rattle.pkguard.specs.declared.verdict.Verdict.{Verdict}
 use Rattle.pkguard.specs.Codes.{reason_code, reason_number, fault_code}
+use Rattle.pkguard.specs.Encoding.{encoded_all, wanted_by}
+use Rattle.pkguard.specs.Listed.{pairs_in, settings_with}
 use Rattle.pkguard.specs.Settings.{old_strings_in}
 
 -- bytes in memory, as a source
@@ -24,7 +26,7 @@ abbrev pub memory : List ℕ → Sight
 memory bytes = record { left = Some bytes; failures = 0 }
 
 -- a verdict that tells nothing
-abbrev nothing_told : Verdict
+abbrev pub nothing_told : Verdict
 nothing_told = record {
   status = 0;
   reason = 0;
@@ -145,6 +147,36 @@ pub record IsFault (list before after : List ℕ) (verdict : Verdict) : Type 0 w
 -- the settings are not served
 pub record IsUsage (settings : Settings) (before after : List ℕ) (verdict : Verdict) : Type 0 where
   pub unserved : old_strings_in settings ≡ None
+  pub told : verdict ≡ verdict_of_usage
+  pub room : after ≡ before
+
+-- the pickle at the front of the bytes is accepted, whatever it imports, and its imports are in the
+-- room, if it has room for all of them
+pub record IsImports (old : OldStrings) (limits : Bounds) (pickle before after : List ℕ)
+    (wanted : ℕ) (verdict : Verdict) : Type 0 where
+  pub rest : List ℕ
+  pub imports : List Asked
+  pub accepted : Accepted old None limits (memory pickle) (memory rest) verdict.taken imports
+  pub told : verdict ≡ verdict_of_yes verdict.taken (length imports) 1
+  pub asks : wanted ≡ wanted_by imports
+  pub room : after ≡ placed (encoded_all imports) before
+
+-- the bytes are a list in UTF-8; its limits are told, and its pairs are in the room, if it has room
+-- for all of them
+pub record IsListRead (list before after : List ℕ) (limits : Settings) (wanted : ℕ)
+    (verdict : Verdict) : Type 0 where
+  pub document : Members
+  pub utf8 : IsUtf8 list
+  pub is_list : list_of list ≡ Ok document
+  pub bounds : limits ≡ settings_with (limits_in (get_member (codes "limits") document))
+  pub asks : wanted ≡ wanted_by (pairs_in (get_member (codes "imports") document))
+  pub room : after ≡ placed (encoded_all (pairs_in (get_member (codes "imports") document))) before
+  pub told : verdict ≡ nothing_told
+
+-- the settings have another size than those of this version
+pub record IsOfAnotherSize (settings : Settings) (before after : List ℕ) (verdict : Verdict)
+    : Type 0 where
+  pub size : settings.size ≢ 64
   pub told : verdict ≡ verdict_of_usage
   pub room : after ≡ before
 

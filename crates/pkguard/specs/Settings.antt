@@ -1,8 +1,10 @@
 -- What the settings of a check say.
-use Rattle.std.specs.Prelude.{◌≡◌, ◌==◌, ◌&&◌, ℕ, Bool, nat_le, if◌then◌else◌, min, Option, Some, None}
+use Rattle.std.specs.Prelude.{◌≡◌, ◌==◌, ◌&&◌, ℕ, Bool, true, List, nat_le, if◌then◌else◌, min, Option, Some, None}
 use Rattle.pkops.specs.Limits.{Bounds, bounds}
 use Rattle.pkcheck.specs.declared.old_strings.OldStrings.{OldStrings}
 use Rattle.pkcheck.specs.declared.old_strings.OldStrings.TheVariants.{Unknown, Ascii, Bytes}
+use Rattle.pkcheck.specs.declared.pairs.Pair.{Pair}
+use Rattle.pkcheck.specs.Pairs.{AreInOrder, found, have}
 use Rattle.pkguard.specs.declared.settings.Settings.{Settings}
 
 -- each limit, and at most that of the others
@@ -35,3 +37,16 @@ old_strings_in settings =
 -- the settings are served, and this holds of what old strings become
 abbrev pub Sets : Settings → (OldStrings → Type 0) → Type 0
 Sets settings P = (old : OldStrings) × (old_strings_in settings ≡ Some old) × P old
+
+-- the pairs that are permitted: all of the array, or those that halving finds, where the caller
+-- vouches for their order
+abbrev pub listed_by : Settings → List Pair → List ℕ → List ℕ → Bool
+listed_by settings pairs = if settings.sorted == 1 then found pairs else have pairs
+
+-- no other pair is permitted than those of the array, and all of them are where the caller keeps
+-- its word
+pub record PermitsPairs (settings : Settings) (pairs : List Pair) : Type 0 where
+  pub no_more : (module_name name : List ℕ) → listed_by settings pairs module_name name ≡ true
+      → have pairs module_name name ≡ true
+  pub all : (settings.sorted ≡ 1 → AreInOrder pairs) → (module_name name : List ℕ)
+      → listed_by settings pairs module_name name ≡ have pairs module_name name

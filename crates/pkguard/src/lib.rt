@@ -7,17 +7,19 @@
 #![tactic(auto)]
 
 mod codes;
+mod encoding;
 mod list;
 mod settings;
 mod verdict;
 
-ghost use Rattle.std.specs.Prelude.{◌≡◌, ◌≢◌, ◌≤◌, Some};
+ghost use Rattle.std.specs.Prelude.{◌≡◌, ◌≢◌, ◌≤◌, None, Some};
 ghost use Rattle.pkops.specs.Limits.{greatest};
 ghost use Rattle.pkcheck.specs.Import.{policy_of};
-ghost use Rattle.pkcheck.specs.Pairs.{have};
-ghost use Rattle.pkguard.specs.Guard.{IsFault, IsNo, IsNoOfRow, IsUsage, IsYes, IsYesOfRow, Under};
-ghost use Rattle.pkguard.specs.Settings.{Sets, limits_within};
+ghost use Rattle.pkguard.specs.Guard.{IsFault, IsImports, IsListRead, IsOfAnotherSize};
+ghost use Rattle.pkguard.specs.Guard.{IsNo, IsNoOfRow, IsUsage, IsYes, IsYesOfRow, Under};
+ghost use Rattle.pkguard.specs.Settings.{PermitsPairs, Sets, limits_within, listed_by};
 
+use pkcheck::laws::halving;
 use pkcheck::{OldStrings, Pair, Policy, check_all, check_as};
 use pkops::Limits;
 use pkread::Memory;
@@ -29,7 +31,8 @@ pub use verdict::Verdict;
 /// status, which also stands in the verdict.
 ///
 /// Of pairs in order, by module and then by name, a listed one is found in logarithmic time; in any
-/// other order the answer is the same. `room` gets the two names of a refused pair, one behind the
+/// other order the answer is the same. Where the caller vouches for their order, one that is missing
+/// is refused in logarithmic time too. `room` gets the two names of a refused pair, one behind the
 /// other, where it has room for both, and stays as it is where it hasn't.
 #[unsafe(no_mangle)]
 pub extern "C" fn pkguard_check_pairs(
@@ -43,17 +46,22 @@ pub extern "C" fn pkguard_check_pairs(
     ensures status { result ≡ out.new.status }
     ensures bound { out.new.status ≤ 3 }
     ensures list { out.new.status ≢ 2 }
-    ensures yes { out.new.status ≡ 0 → Sets settings.now (λ old. IsYes old (Some (have pairs.now))
-        (limits_within greatest settings.now) pickle.now room.old room.new out.new) }
-    ensures no { out.new.status ≡ 1 → Sets settings.now (λ old. IsNo old (Some (have pairs.now))
-        (limits_within greatest settings.now) pickle.now room.old room.new out.new) }
+    ensures pairs { PermitsPairs settings.now pairs.now }
+    ensures yes { out.new.status ≡ 0 → Sets settings.now (λ old. IsYes old
+        (Some (listed_by settings.now pairs.now)) (limits_within greatest settings.now) pickle.now
+        room.old room.new out.new) }
+    ensures no { out.new.status ≡ 1 → Sets settings.now (λ old. IsNo old
+        (Some (listed_by settings.now pairs.now)) (limits_within greatest settings.now) pickle.now
+        room.old room.new out.new) }
     ensures usage { out.new.status ≡ 3 → IsUsage settings.now room.old room.new out.new }
 {
+    halving();
     *out = match settings::old_strings_in(settings) {
         None => verdict::of_usage(),
         Some(old) => {
             let limits = settings::limits_of(settings, &Limits::GREATEST);
-            answered(alloc, &Policy::Pairs(pairs), &limits, old, pickle, room)
+            let policy = settings::policy_by(settings, pairs);
+            answered(alloc, &policy, &limits, old, pickle, room)
         }
     };
     out.status
@@ -72,19 +80,22 @@ pub extern "C" fn pkguard_check_row(
     ensures status { result ≡ out.new.status }
     ensures bound { out.new.status ≤ 3 }
     ensures list { out.new.status ≢ 2 }
+    ensures pairs { PermitsPairs settings.now pairs.now }
     ensures yes { out.new.status ≡ 0 → Sets settings.now (λ old. IsYesOfRow old
-        (Some (have pairs.now)) (limits_within greatest settings.now) pickles.now
+        (Some (listed_by settings.now pairs.now)) (limits_within greatest settings.now) pickles.now
         room.old room.new out.new) }
     ensures no { out.new.status ≡ 1 → Sets settings.now (λ old. IsNoOfRow old
-        (Some (have pairs.now)) (limits_within greatest settings.now) pickles.now
+        (Some (listed_by settings.now pairs.now)) (limits_within greatest settings.now) pickles.now
         room.old room.new out.new) }
     ensures usage { out.new.status ≡ 3 → IsUsage settings.now room.old room.new out.new }
 {
+    halving();
     *out = match settings::old_strings_in(settings) {
         None => verdict::of_usage(),
         Some(old) => {
             let limits = settings::limits_of(settings, &Limits::GREATEST);
-            answered_row(alloc, &Policy::Pairs(pairs), &limits, old, pickles, room)
+            let policy = settings::policy_by(settings, pairs);
+            answered_row(alloc, &policy, &limits, old, pickles, room)
         }
     };
     out.status
@@ -118,6 +129,122 @@ pub extern "C" fn pkguard_check_list(
         Some(old) => listed(alloc, list, settings, old, pickle, room),
     };
     out.status
+}
+
+/// Reads the text of a list file: its limits, and its pairs, which go to the room if it has room
+/// for all of them. They stand by module in the byte order of the modules, and those of a module in
+/// the order of its array.
+#[unsafe(no_mangle)]
+pub extern "C" fn pkguard_read_list(
+    alloc: Global,
+    list: &[u8],
+    room: &mut [u8],
+    limits: &mut Settings,
+    wanted: &mut u64,
+    out: &mut Verdict,
+) -> u32
+    ensures status { result ≡ out.new.status }
+    ensures bound { out.new.status ≤ 3 }
+    ensures never { out.new.status ≢ 1 }
+    ensures read { out.new.status ≡ 0
+        → IsListRead list.now room.old room.new limits.new wanted.new out.new }
+    ensures size { out.new.status ≢ 3 → limits.old.size ≡ 64 }
+    ensures fault { out.new.status ≡ 2 → IsFault list.now room.old room.new out.new }
+    ensures usage { out.new.status ≡ 3 → IsOfAnotherSize limits.old room.old room.new out.new }
+    ensures nothing { out.new.status ≢ 0 → wanted.new ≡ 0 }
+    ensures same { out.new.status ≢ 0 → limits.new ≡ limits.old }
+{
+    *wanted = 0;
+    *out = if settings::has_size(limits) {
+        read(alloc, list, room, limits, wanted)
+    } else {
+        verdict::of_usage()
+    };
+    out.status
+}
+
+/// Checks the pickle at the front of some bytes, whatever it imports. Its imports go to the room in
+/// order, if it has room for all of them.
+#[unsafe(no_mangle)]
+pub extern "C" fn pkguard_imports(
+    alloc: Global,
+    settings: &Settings,
+    pickle: &[u8],
+    room: &mut [u8],
+    wanted: &mut u64,
+    out: &mut Verdict,
+) -> u32
+    ensures status { result ≡ out.new.status }
+    ensures bound { out.new.status ≤ 3 }
+    ensures list { out.new.status ≢ 2 }
+    ensures yes { out.new.status ≡ 0 → Sets settings.now (λ old. IsImports old
+        (limits_within greatest settings.now) pickle.now room.old room.new wanted.new out.new) }
+    ensures no { out.new.status ≡ 1 → Sets settings.now (λ old. IsNo old None
+        (limits_within greatest settings.now) pickle.now room.old room.new out.new) }
+    ensures usage { out.new.status ≡ 3 → IsUsage settings.now room.old room.new out.new }
+    ensures nothing { out.new.status ≢ 0 → wanted.new ≡ 0 }
+{
+    *wanted = 0;
+    *out = match settings::old_strings_in(settings) {
+        None => verdict::of_usage(),
+        Some(old) => {
+            let limits = settings::limits_of(settings, &Limits::GREATEST);
+            imported(alloc, &limits, old, pickle, room, wanted)
+        }
+    };
+    out.status
+}
+
+/// What a list file says.
+fn read(
+    alloc: Global,
+    list: &[u8],
+    room: &mut [u8],
+    limits: &mut Settings,
+    wanted: &mut u64,
+) -> Verdict
+    ensures bound { result.status ≢ 1 }
+    ensures most { result.status ≤ 2 }
+    ensures read { result.status ≡ 0
+        → IsListRead list.now room.old room.new limits.new wanted.new result }
+    ensures fault { result.status ≡ 2 → IsFault list.now room.old room.new result }
+    ensures nothing { result.status ≢ 0 → wanted.new ≡ wanted.old }
+    ensures same { result.status ≢ 0 → limits.new ≡ limits.old }
+{
+    match list::list_from(alloc, list) {
+        Err(error) => verdict::of_fault(error),
+        Ok(allow) => {
+            *limits = settings::with_limits(&allow.limits());
+            *wanted = list::give_pairs(&allow, room);
+            verdict::of_list()
+        }
+    }
+}
+
+/// What `check` answers under any import, and the imports of a yes.
+fn imported(
+    alloc: Global,
+    limits: &Limits,
+    old: OldStrings,
+    pickle: &[u8],
+    room: &mut [u8],
+    wanted: &mut u64,
+) -> Verdict
+    ensures bound { result.status ≤ 1 }
+    ensures yes { result.status ≡ 0
+        → IsImports old limits.now pickle.now room.old room.new wanted.new result }
+    ensures no { result.status ≡ 1
+        → IsNo old None limits.now pickle.now room.old room.new result }
+    ensures nothing { result.status ≢ 0 → wanted.new ≡ wanted.old }
+{
+    let mut source = Memory::new(pickle);
+    match check_as(alloc, &mut source, &Policy::AnyImport, limits, old) {
+        Ok(yes) => {
+            *wanted = encoding::give_imports(&yes.imports, room);
+            verdict::of_yes(yes.taken, &yes.imports, 1)
+        }
+        Err(no) => verdict::of_no(&no, 0, room),
+    }
 }
 
 /// What `check` answers under the text of a list file.

@@ -1,13 +1,20 @@
-//! The list that a text is.
-ghost use Rattle.std.specs.Prelude.{◌≡◌, IfOk, IfErr, Ok, OnOk};
+//! The list that a text is, and its pairs in the caller's room.
+ghost use Rattle.std.specs.Prelude.{◌≡◌, ◌++◌, ℕ, List, IfOk, IfErr, Ok, OnOk, codes, option_map};
 ghost use Rattle.std.specs.Str.{IsUtf8};
 ghost use Rattle.pkcheck.specs.Allow.{document_of};
 ghost use Rattle.pkcheck.specs.ListFile.{list_of};
-ghost use Rattle.pkguard.specs.Guard.{IsNoList};
+ghost use Rattle.toml.specs.Data.{get_member};
+ghost use Rattle.toml.specs.View.{array_view, table_view, view};
+ghost use Rattle.pkguard.specs.Encoding.{encoded_all, wanted_by};
+ghost use Rattle.pkguard.specs.Guard.{IsNoList, placed};
+ghost use Rattle.pkguard.specs.Listed.{pair_in, pairs_among, pairs_at, pairs_in, pairs_of};
+ghost use Rattle.pkguard.specs.Private.Written.{IsWritten};
 
-use pkcheck::{Allow, AllowError};
+use crate::encoding::put_import;
+use pkcheck::{Allow, AllowError, Import};
 use std::alloc::Global;
 use std::str;
+use toml::{Table, Value};
 
 /// Reads a list from the bytes of a list file. Bytes that are not UTF-8 are no TOML.
 pub fn list_from(alloc: Global, bytes: &[u8]) -> Result<Allow, AllowError>
@@ -21,5 +28,87 @@ pub fn list_from(alloc: Global, bytes: &[u8]) -> Result<Allow, AllowError>
             Err(error) => Err(error),
         },
         Err(_) => Err(AllowError::Syntax),
+    }
+}
+
+/// Puts the pairs of a list into the room, if it has room for all of them, and tells how many bytes
+/// they want.
+pub fn give_pairs(list: &Allow, room: &mut [u8]) -> u64
+    ensures wanted { result
+        ≡ wanted_by (pairs_in (get_member (codes "imports") (document_of list.now))) }
+    ensures room { room.new
+        ≡ placed (encoded_all (pairs_in (get_member (codes "imports") (document_of list.now))))
+        room.old }
+{
+    let wanted = put_pairs(list.imports(), &mut []);
+    if wanted <= room.len() {
+        put_pairs(list.imports(), room);
+    }
+    wanted as u64
+}
+
+/// Puts the pairs of a table `imports` at the front of the room.
+fn put_pairs(imports: Option<&Value>, room: &mut [u8]) -> usize
+    ensures { IsWritten (encoded_all (pairs_in (option_map (λ v. view v.now) imports.entry)))
+        room.old room.new result }
+{
+    match imports {
+        Some(Value::Table(modules)) => put_modules(modules, room),
+        _ => 0,
+    }
+}
+
+/// Puts the pairs of each module at the front of the room.
+fn put_modules(modules: &Table, room: &mut [u8]) -> usize
+    ensures { IsWritten (encoded_all (pairs_at (table_view modules.now)))
+        room.old room.new result }
+{
+    let mut next = 0;
+    for (module_name, names) in modules {
+        next = put_names(room, next, module_name.as_str(), names);
+    }
+    next
+}
+
+/// Puts the pairs of a module behind what is written.
+fn put_names(room: &mut [u8], at: usize, module_name: &str, names: &Value) -> usize
+    ensures { (front before : List ℕ) → IsWritten front before room.old at
+        → IsWritten (front ++ encoded_all (pairs_of module_name.now (view names.now)))
+        before room.new result }
+{
+    match names {
+        Value::Array(values) => put_each(room, at, module_name, values),
+        _ => at,
+    }
+}
+
+/// Puts the pairs of a module and each of these names behind what is written.
+fn put_each(room: &mut [u8], at: usize, module_name: &str, names: &Vec<Value>) -> usize
+    ensures { (front before : List ℕ) → IsWritten front before room.old at
+        → IsWritten (front ++ encoded_all (pairs_among module_name.now (array_view names.now)))
+        before room.new result }
+{
+    let mut next = at;
+    for name in names {
+        next = put_name(room, next, module_name, name);
+    }
+    next
+}
+
+/// Puts the pair of a module and a name behind what is written.
+fn put_name(room: &mut [u8], at: usize, module_name: &str, name: &Value) -> usize
+    ensures { (front before : List ℕ) → IsWritten front before room.old at
+        → IsWritten (front ++ encoded_all (pair_in module_name.now (view name.now)))
+        before room.new result }
+{
+    match name {
+        Value::String(name) => {
+            let pair = Import::Pair {
+                module: module_name,
+                name: name.as_str(),
+            };
+            put_import(room, at, pair)
+        }
+        _ => at,
     }
 }

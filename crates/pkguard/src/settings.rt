@@ -1,9 +1,11 @@
 //! Settings of a check.
-ghost use Rattle.std.specs.Prelude.{◌≡◌};
+ghost use Rattle.std.specs.Prelude.{◌≡◌, ◌==◌, Some};
+ghost use Rattle.pkcheck.specs.Import.{policy_of};
+ghost use Rattle.pkguard.specs.Listed.{settings_with};
 ghost use Rattle.pkguard.specs.Settings.{is_served, limits_within, old_strings_in};
-ghost use Rattle.pkguard.specs.Settings.{old_strings_of};
+ghost use Rattle.pkguard.specs.Settings.{listed_by, old_strings_of};
 
-use pkcheck::OldStrings;
+use pkcheck::{OldStrings, Pair, Policy};
 use pkops::Limits;
 use std::cmp;
 
@@ -41,11 +43,36 @@ const SETTINGS_SIZE: u64 = 64;
 fn is_served(settings: &Settings) -> bool
     ensures { result ≡ is_served settings.now }
 {
-    settings.size == SETTINGS_SIZE
+    has_size(settings)
         && settings.numbers >= u64::from(u32::MAX)
         && settings.row_memo == 0
         && settings.large == 0
         && settings.sorted <= 1
+}
+
+/// Whether the settings have the size of those of this version.
+pub fn has_size(settings: &Settings) -> bool
+    ensures { result ≡ (settings.now.size == 64) }
+{
+    settings.size == SETTINGS_SIZE
+}
+
+/// The settings that have these limits, and are standard but for them.
+pub fn with_limits(limits: &Limits) -> Settings
+    ensures { result ≡ settings_with limits.now }
+{
+    Settings {
+        size: SETTINGS_SIZE,
+        counted: limits.counted(),
+        stack: limits.stack(),
+        memo: limits.memo(),
+        passed: limits.passed(),
+        numbers: u64::from(u32::MAX),
+        old_strings: 0,
+        row_memo: 0,
+        large: 0,
+        sorted: 0,
+    }
 }
 
 /// What old strings become, where the settings are served.
@@ -68,6 +95,17 @@ fn old_strings_of(number: u32) -> Option<OldStrings>
         1 => Some(OldStrings::Ascii),
         2 => Some(OldStrings::Bytes),
         _ => None,
+    }
+}
+
+/// Which of the pairs are permitted.
+pub fn policy_by<'a>(settings: &Settings, pairs: &'a [Pair<'a>]) -> Policy<'a>
+    ensures { policy_of result ≡ Some (listed_by settings.now pairs.entry.now) }
+{
+    if settings.sorted == 1 {
+        Policy::Sorted(pairs)
+    } else {
+        Policy::Pairs(pairs)
     }
 }
 

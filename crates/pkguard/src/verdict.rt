@@ -2,7 +2,7 @@
 ghost use Rattle.std.specs.Prelude.{◌≡◌, ◌++◌, length, option_map};
 ghost use Rattle.pkcheck.specs.Import.{asked_shown};
 ghost use Rattle.pkguard.specs.Guard.{placed, verdict_of_fault, verdict_of_no, verdict_of_yes};
-ghost use Rattle.pkguard.specs.Guard.{names_placed, verdict_of_usage};
+ghost use Rattle.pkguard.specs.Guard.{names_placed, nothing_told, verdict_of_usage};
 
 use crate::codes::{fault_code, reason_code, reason_number};
 use pkcheck::{AllowError, Asked, Imports, No};
@@ -46,6 +46,13 @@ const NOTHING: Verdict = Verdict {
     name_length: 0,
     pickles: 0,
 };
+
+/// The verdict where a list was read.
+pub fn of_list() -> Verdict
+    ensures { result ≡ nothing_told }
+{
+    NOTHING
+}
 
 /// The verdict where a list can't be read.
 pub fn of_fault(error: AllowError) -> Verdict

@@ -1,0 +1,80 @@
+-- What is written, piece by piece.
+use Rattle.std.proofs.Common.{◌≡◌, ℕ, ◌+◌, ◌<◌, ◌≤◌, List, [], ◌∷◌, ◌++◌, ◌∙◌, Some, refl, sym, ap, subst, take, drop, length, get_or, arith, add-one, append-nil, append_assoc, drop-cons, zero, suc}
+use Rattle.std.specs.List.{flat_map, slice_get}
+use Rattle.std.proofs.lemmas.Grind.{flat_map-append}
+use Rattle.toml.specs.View.{view, items_view}
+use Rattle.toml.specs.declared.Value.{Value}
+use Rattle.pkcheck.specs.Knowledge.{Asked}
+use Rattle.pkguard.specs.Encoding.{encoded, encoded_all}
+use Rattle.pkguard.specs.Listed.{pair_in, pairs_among}
+use Rattle.pkguard.specs.Private.Written.{IsWritten}
+
+-- two pieces are one
+pub written_both :
+    (front xs ys before after : List ℕ) (next : ℕ)
+    → IsWritten ((front ++ xs) ++ ys) before after next
+    → IsWritten (front ++ (xs ++ ys)) before after next
+written_both front xs ys before after next h =
+    subst (λ bytes. IsWritten bytes before after next) (append_assoc front xs ys) h
+
+-- one element more
+pub flat_map_next :
+    {A : Type 0} (f : A → List ℕ) (xs : List A) (n : ℕ) (x : A)
+    → Some x ≡ slice_get xs n → flat_map f (take (n + 1) xs) ≡ flat_map f (take n xs) ++ f x
+flat_map_next {A = A} f xs n x e = rw add-one (go xs n e)
+  where
+    go :
+        (xs : List A) (n : ℕ)
+        → Some x ≡ slice_get xs n → flat_map f (take (suc n) xs) ≡ flat_map f (take n xs) ++ f x
+    go [] n e = cc
+    go (y ∷ ys) zero e = let same : x ≡ y = cc in rw (same, append-nil (f y)) refl
+    go (y ∷ ys) (suc n) e =
+        ap (λ l. f y ++ l) (go ys n e) ∙ sym (append_assoc (f y) (flat_map f (take n ys)) (f x))
+
+-- nothing more
+pub written_none :
+    (front before after : List ℕ) (next : ℕ)
+    → IsWritten front before after next → IsWritten (front ++ []) before after next
+written_none front before after next h =
+    subst (λ bytes. IsWritten bytes before after next) (sym (append-nil front)) h
+
+-- nothing at all
+pub written_nothing : (room : List ℕ) → IsWritten [] room room 0
+written_nothing room = record { same = refl; place = refl; there = λ _. refl }
+
+-- one part of the pairs is written, and the others are left
+pub encoded_more :
+    (done all : List ℕ) (xs ys : List Asked)
+    → done ++ encoded_all (xs ++ ys) ≡ all → (done ++ encoded_all xs) ++ encoded_all ys ≡ all
+encoded_more done all xs ys h =
+    append_assoc done (encoded_all xs) (encoded_all ys)
+    ∙ ap (λ l. done ++ l) (sym (flat_map-append encoded xs ys)) ∙ h
+
+-- none are left
+pub encoded_end : (done all : List ℕ) (left : List Asked) → left ≡ [] → done ++ encoded_all left ≡ all → done ≡ all
+encoded_end done all left none h = sym (append-nil done) ∙ (rw none at h)
+
+-- one value more of an array
+pub pairs_step :
+    (m : List ℕ) (values : List Value) (i : ℕ) (d : Value) → i < length values
+    → pairs_among m (items_view (drop i values)) ≡ pair_in m (view (get_or values i d)) ++ pairs_among m (items_view (drop (i + 1) values))
+pairs_step m values i d inside = rw (add-one, drop-cons values i d) refl
+
+-- no value more
+pub pairs_end : (m : List ℕ) (values : List Value) (i : ℕ) → length values ≤ i → pairs_among m (items_view (drop i values)) ≡ []
+pairs_end m values i h = rw (drop_all i values h) refl
+  where
+    drop_all : (i : ℕ) (xs : List Value) → length xs ≤ i → drop i xs ≡ []
+    drop_all zero [] h = refl
+    drop_all (suc i) [] h = refl
+    drop_all zero (x ∷ xs) h = absurd (omega (arith, h))
+    drop_all (suc i) (x ∷ xs) h = drop_all i xs (omega (arith, h))
+
+pub each_step :
+    (m : List ℕ) (values : List Value) (i : ℕ) (d x : Value) (done all : List ℕ)
+    → i < length values → get_or values i d ≡ x
+    → done ++ encoded_all (pairs_among m (items_view (drop i values))) ≡ all
+    → (done ++ encoded_all (pair_in m (view x))) ++ encoded_all (pairs_among m (items_view (drop (i + 1) values))) ≡ all
+each_step m values i d x done all inside is h =
+    encoded_more done all (pair_in m (view x)) (pairs_among m (items_view (drop (i + 1) values)))
+    (rw is at (rw (pairs_step m values i d inside) at h))

@@ -1,0 +1,46 @@
+-- The pairs of a list file, and its limits, as they are told to C.
+use Rattle.std.specs.Prelude.{◌++◌, List, [], ◌∷◌, ℕ, codes, Option, Some}
+use Rattle.toml.specs.Data.{Data, string, table, array, Items, no_items, item, Members, no_members, member, get_member}
+use Rattle.pkops.specs.Limits.{Bounds}
+use Rattle.pkcheck.specs.Knowledge.{Asked, AskedPair}
+use Rattle.pkguard.specs.declared.settings.Settings.{Settings}
+
+-- the pair of a module and one of its names
+abbrev pub pair_in : List ℕ → Data → List Asked
+pair_in module_name (string name) = AskedPair module_name name ∷ []
+pair_in module_name _ = []
+
+-- the pairs of a module, in the order of its array
+abbrev pub pairs_among : List ℕ → Items → List Asked
+pairs_among module_name no_items = []
+pairs_among module_name (item value rest) = pair_in module_name value ++ pairs_among module_name rest
+
+-- the pairs of a module
+abbrev pub pairs_of : List ℕ → Data → List Asked
+pairs_of module_name (array names) = pairs_among module_name names
+pairs_of module_name _ = []
+
+-- the pairs of each module, in the order of the modules
+abbrev pub pairs_at : Members → List Asked
+pairs_at no_members = []
+pairs_at (member module_name names rest) = pairs_of module_name names ++ pairs_at rest
+
+-- the pairs of a table `imports`
+abbrev pub pairs_in : Option Data → List Asked
+pairs_in (Some (table modules)) = pairs_at modules
+pairs_in _ = []
+
+-- the settings that have these limits, and are standard but for them
+abbrev pub settings_with : Bounds → Settings
+settings_with limits = record {
+  size = 64;
+  counted = limits.counted;
+  stack = limits.stack;
+  memo = limits.memo;
+  passed = limits.passed;
+  numbers = 4_294_967_295;
+  old_strings = 0;
+  row_memo = 0;
+  large = 0;
+  sorted = 0;
+}

@@ -1,0 +1,2 @@
+-- What private functions tell one another.
+pub mod Written

@@ -1,0 +1,10 @@
+-- How far the caller's room is written.
+use Rattle.std.specs.Prelude.{◌≡◌, ◌≤◌, ◌++◌, ℕ, List, length, drop, min}
+use Rattle.pkguard.specs.Encoding.{greatest_number}
+
+-- these bytes were written to the front of the room, if it has room for all of them; `next` is the
+-- place behind them
+pub record IsWritten (bytes before after : List ℕ) (next : ℕ) : Type 0 where
+  pub same : length after ≡ length before
+  pub place : next ≡ min (length bytes) greatest_number
+  pub there : length bytes ≤ length before → after ≡ bytes ++ drop (length bytes) before

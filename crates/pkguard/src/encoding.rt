@@ -1,0 +1,84 @@
+//! Pairs in the caller's room. They are written twice: first to no room at all, which tells how
+//! many bytes they want, and then to the caller's, if it has as many.
+ghost use Rattle.std.specs.Prelude.{◌≡◌, ◌++◌, ℕ, List};
+ghost use Rattle.pkcheck.specs.Import.{import_shown};
+ghost use Rattle.pkguard.specs.Encoding.{eight_bytes, encoded, encoded_all};
+ghost use Rattle.pkguard.specs.Encoding.{encoded_text, wanted_by};
+ghost use Rattle.pkguard.specs.Guard.{placed};
+ghost use Rattle.pkguard.specs.Private.Written.{IsWritten};
+
+use pkcheck::{Import, Imports};
+
+/// Puts imports into the room, if it has room for all of them, and tells how many bytes they want.
+pub fn give_imports(imports: &Imports, room: &mut [u8]) -> u64
+    ensures wanted { result ≡ wanted_by imports.now }
+    ensures room { room.new ≡ placed (encoded_all imports.now) room.old }
+{
+    let wanted = put_imports(imports, &mut []);
+    if wanted <= room.len() {
+        put_imports(imports, room);
+    }
+    wanted as u64
+}
+
+/// Puts imports at the front of the room.
+fn put_imports(imports: &Imports, room: &mut [u8]) -> usize
+    ensures { IsWritten (encoded_all imports.now) room.old room.new result }
+{
+    let mut next = 0;
+    for number in 0..imports.len() {
+        let Some(import) = imports.get(number) else {
+            unreachable!()
+        };
+        next = put_import(room, next, import);
+    }
+    next
+}
+
+/// Puts an import behind what is written.
+pub fn put_import(room: &mut [u8], at: usize, import: Import<'_>) -> usize
+    ensures { (front before : List ℕ) → IsWritten front before room.old at
+        → IsWritten (front ++ encoded (import_shown import.entry)) before room.new result }
+{
+    match import {
+        Import::Pair { module, name } => {
+            let next = put_text(room, at, module);
+            put_text(room, next, name)
+        }
+        Import::Unknown => {
+            let next = put_number(room, at, usize::MAX);
+            put_number(room, next, usize::MAX)
+        }
+    }
+}
+
+/// Puts a text behind what is written.
+fn put_text(room: &mut [u8], at: usize, text: &str) -> usize
+    ensures { (front before : List ℕ) → IsWritten front before room.old at
+        → IsWritten (front ++ encoded_text text.now) before room.new result }
+{
+    let next = put_number(room, at, text.len());
+    put(room, next, text.as_bytes())
+}
+
+/// Puts a number behind what is written.
+fn put_number(room: &mut [u8], at: usize, number: usize) -> usize
+    ensures { (front before : List ℕ) → IsWritten front before room.old at
+        → IsWritten (front ++ eight_bytes number) before room.new result }
+{
+    let digits = number.to_le_bytes();
+    put(room, at, &digits)
+}
+
+/// Puts bytes behind what is written, where they fit. The place behind them is the greatest number
+/// where it would be more.
+fn put(room: &mut [u8], at: usize, bytes: &[u8]) -> usize
+    ensures { (front before : List ℕ) → IsWritten front before room.old at
+        → IsWritten (front ++ bytes.now) before room.new result }
+{
+    let next = at.saturating_add(bytes.len());
+    if next <= room.len() {
+        room[at..next].copy_from_slice(bytes);
+    }
+    next
+}
