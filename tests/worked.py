@@ -3,6 +3,7 @@
 import ast
 import doctest
 import os
+import signal
 import subprocess
 import sys
 from pathlib import Path
@@ -55,21 +56,24 @@ def environment() -> Dict[str, str]:
 
 def run(command: List[str], given: str = "") -> str:
     """What a command at the top of the repository prints."""
+    started = subprocess.Popen(
+        command,
+        cwd=ROOT,
+        env=environment(),
+        stdin=subprocess.PIPE,
+        stdout=subprocess.PIPE,
+        stderr=subprocess.STDOUT,
+        encoding="utf-8",
+        errors="replace",
+        start_new_session=True,
+    )
     try:
-        ended = subprocess.run(
-            command,
-            cwd=ROOT,
-            env=environment(),
-            input=given,
-            stdout=subprocess.PIPE,
-            stderr=subprocess.STDOUT,
-            encoding="utf-8",
-            errors="replace",
-            timeout=SECONDS,
-        )
+        return started.communicate(given, timeout=SECONDS)[0].rstrip("\n")
     except subprocess.TimeoutExpired:
+        # with all that it has started
+        os.killpg(started.pid, signal.SIGKILL)
+        started.communicate()
         return f"nothing within {SECONDS} seconds"
-    return ended.stdout.rstrip("\n")
 
 
 def faults_of_shell(block: Block) -> Iterator[Tuple[int, str]]:
