@@ -153,10 +153,11 @@ def wrong_versions(document: Document) -> Iterator[Fault]:
 
 
 def too_many_words(found: List[Document]) -> Iterator[Fault]:
-    """More words than a reader reads to the end: of the prose, which is not all that is printed."""
+    """More words than a reader reads to the end: of the prose, which no code and no table is."""
     papers = [document for document in found if COUNTED.fullmatch(document.name)]
     counted = [document for document in papers if document.name not in UNCOUNTED]
-    words = sum(len(re.findall(r"\S*\w\S*", prose_of(document))) for document in counted)
+    texts = [re.sub(r"(?m)^\|.*$", "", prose_of(document)) for document in counted]
+    words = sum(len(re.findall(r"\S*\w\S*", text)) for text in texts)
     print(f"{words} words in {len(counted)} documents")
     if words > MOST_WORDS:
         yield Fault("all documents", 0, f"{words} words, and {MOST_WORDS} are the most")
