@@ -13,7 +13,7 @@ use Rattle.pkops.specs.declared.op.Op.TheVariants as op
 use Rattle.pkread.specs.Sequence.{IsSequence}
 use Rattle.pkcheck.specs.Covers.{IsObject, Pointwise}
 use Rattle.pkcheck.specs.Covers.{imports_of as imported}
-use Rattle.pkcheck.specs.Effects.{Effect, Operates, Moves, Stops, Raises, effect_as}
+use Rattle.pkcheck.specs.Effects.{Effect, Operates, Moves, Stops, Raises, effect_as, number_stored}
 use Rattle.pkcheck.specs.Knowledge.{Knowledge, Policy, Asked, Progress, advance, learn}
 use Rattle.pkcheck.specs.Listing.{StandsFor, ImportsAreListed, imports_among, permitted_by}
 use Rattle.pkcheck.specs.RowRuns.{Behind, Pickle, imports_of, next_from, run_row, sequences_of}
@@ -159,7 +159,7 @@ module _ (setting : OldStrings) (policy : Policy) (limits : Bounds) where
       let o = new_text v.text s in
       let st = step_as setting i s o in
       record {
-        goes = going limits v.text (effect_as setting i) k s st q (learn policy (effect_as setting i) i k) (learn_exactly v.text policy (effect_as setting i) i k s (length s.objects) (Text v.text) c) e;
+        goes = going limits (number_stored (effect_as setting i) i) v.text (effect_as setting i) k s st q (learn policy (effect_as setting i) i k) (learn_exactly v.text policy (effect_as setting i) i k s (length s.objects) (Text v.text) c) e;
         follows = subst (λ x. FollowsIfOk (Answered v.text) x s st) e (step_follows (Answered v.text) (grows v.text) setting policy limits i k s o c (new_text_holds v.text s));
       }
 
