@@ -68,6 +68,7 @@ optimize_app = app_with (codes "optimize") (file_rule ∷ out_rule ∷ [])
 abbrev pub bare_app : App
 bare_app = record {
   top = record (new_shape (codes "pktool")) {
+    has_version = true;
     subcommand_required = true;
     disable_help_subcommand = true;
   };
@@ -78,6 +79,7 @@ abbrev pub reading_app : ValueParser → App
 reading_app parser = record {
   top = record (new_shape (codes "pktool")) {
     is_leaf = false;
+    has_version = true;
     subcommand_required = true;
     disable_help_subcommand = true;
   };
@@ -90,6 +92,7 @@ abbrev pub program_app : ValueParser → App
 program_app parser = record {
   top = record (new_shape (codes "pktool")) {
     is_leaf = false;
+    has_version = true;
     subcommand_required = true;
     disable_help_subcommand = true;
   };

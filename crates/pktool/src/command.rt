@@ -9,35 +9,11 @@ ghost use Rattle.pktool.specs.Command.{IsReading, bare_app};
 ghost use Rattle.pktool.specs.Command.{all_rule, allow_rule, file_app, file_rule, flag_text};
 ghost use Rattle.pktool.specs.Command.{name_of, old_word, optimize_app};
 
+use crate::help::{IMPORTS, JSON, LINES, OPTIMIZED, STATUSES, VERSION};
 use clap::error::ErrorKind;
 use clap::{Arg, ArgAction, ArgMatches, Command};
 use pkcheck::OldStrings;
 use std::alloc::{AllocError, Global};
-
-/// What the help of `dis` says of its lines.
-const LINES: &str = "\
-Each line is one instruction: the offset of its first byte, its code in hexadecimal, its name \
-behind two spaces for each mark that is open, and its argument. Lines and payloads stand between \
-double quotes, floats and long integers as their bytes in hexadecimal between < and >. The last \
-line names the highest protocol that an instruction needs, or says where and why the pickle is \
-refused.";
-
-/// What the help of `imports` says of its lines.
-const IMPORTS: &str = "\
-Each line is one import, in order: its module and its name between double quotes, or `unknown` \
-where the pickle does not show them. The last line says how many there are, or where and why the \
-pickle is refused.";
-
-/// What the help of `optimize` says of the result.
-const OPTIMIZED: &str = "\
-OUT becomes the same pickle without the memo writes that nothing reads, with numbers from 0 and in \
-one frame if it had any. The line says how many bytes it had and has, or where and why the pickle \
-is refused; OUT is then left as it was. FILE and OUT may be the same.";
-
-/// What the help of `json` says of its line.
-const JSON: &str = "\
-The line is the data of a pickle of None, booleans, integers of 64 bits, texts, lists, tuples and \
-dicts with texts as keys, or says where and why it has none.";
 
 /// What old strings may become, the default first.
 static OLD_WORDS: [&str; 3] = ["unknown", "ascii", "bytes"];
@@ -81,10 +57,10 @@ pub enum Job {
     },
 }
 
-/// Why words are no command, or that their help was asked for.
+/// Why words are no command, or that the help or the version was asked for.
 #[derive(Debug, Drop)]
 pub enum Usage {
-    /// What `clap` says of the words: a fault, or the help that they ask for.
+    /// What `clap` says of the words: a fault, or the help or the version that they ask for.
     Clap(clap::Error),
     /// There was no memory to read them.
     OutOfMemory,
@@ -106,7 +82,8 @@ impl From<AllocError> for Usage {
 ///
 /// # Errors
 ///
-/// `Clap` where the words are no command or ask for help, `OutOfMemory` where memory ran out.
+/// `Clap` where the words are no command or ask for help or for the version, `OutOfMemory` where
+/// memory ran out.
 pub fn command_of(alloc: Global, words: &[&str]) -> Result<Job, Usage>
     ensures { IfOk result (Asks (map (λ word. word.now) words.now)) }
 {
@@ -142,6 +119,8 @@ fn bare_program<'a>(alloc: Global) -> Command<'a>
 {
     Command::new(alloc, "pktool")
         .about("Says which names a pickle would import, before anything opens it")
+        .version(VERSION)
+        .after_help(STATUSES)
         .subcommand_required(true)
         .disable_help_subcommand(true)
 }

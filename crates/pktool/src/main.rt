@@ -13,6 +13,7 @@ mod exporting;
 mod fault;
 mod files;
 mod gathering;
+mod help;
 mod importing;
 mod listing;
 mod optimizing;

@@ -117,6 +117,7 @@ fn opens_files(rt: HostRuntime) -> Result<(), Fail> {
 fn reads_words(rt: HostRuntime) {
     for (words, status) in [
         (["pktool", "--help"].as_slice(), 0),
+        (["pktool", "--version"].as_slice(), 0),
         (["pktool", "check", "--help"].as_slice(), 0),
         (["pktool", "dis", "--help"].as_slice(), 0),
         (["pktool", "imports", "--help"].as_slice(), 0),
