@@ -1,27 +1,32 @@
-"""Runs the built program, often and at little cost: its two streams go to memory, and no shell stands between."""
+"""Runs the built program, often and at little cost.
+
+Its two streams go to memory, and no shell stands between.
+"""
 import contextlib
 import dataclasses
 import os
 import pathlib
 import signal
 import sys
+from typing import Any, Mapping, Optional, Sequence
 
 ROOT = pathlib.Path(__file__).resolve().parent.parent
 PROGRAM = ROOT / "crates" / "pktool" / "out" / "pktool"
 
 
-def require(path):
+def require(path: pathlib.Path) -> None:
     """Ends the script where the gate has not built what it runs."""
     if not os.access(path, os.X_OK):
-        print(f"{path} is not built: rt ci builds it, and ./pktool builds the program", file=sys.stderr)
+        told = f"{path} is not built: rt ci builds it, and ./pktool builds the program"
+        print(told, file=sys.stderr)
         print("0 passed, 1 failed")
         sys.exit(1)
 
 
 @dataclasses.dataclass(frozen=True)
 class Ran:
-    """How a run ended: its status (below zero the signal that ended it), its two streams, the processor time in seconds and the
-    peak memory in bytes."""
+    """How a run ended: its status (below zero the signal that ended it), its two streams, the
+    processor time in seconds and the peak memory in bytes."""
 
     status: int
     out: bytes
@@ -33,43 +38,46 @@ class Ran:
 class Stream:
     """What a program writes, kept in memory."""
 
-    def __init__(self, name):
+    def __init__(self, name: str) -> None:
         self.file = os.memfd_create(name)
 
-    def empty(self):
+    def empty(self) -> None:
         os.ftruncate(self.file, 0)
         os.lseek(self.file, 0, os.SEEK_SET)
 
-    def read(self):
+    def read(self) -> bytes:
         return os.pread(self.file, os.fstat(self.file).st_size, 0)
 
 
 class Runner:
-    """Runs a program again and again in one process. A run that takes longer than the bound is ended by SIGKILL."""
+    """Runs a program again and again in one process. A run that takes longer than the bound, in
+    seconds, is ended by SIGKILL."""
 
-    def __init__(self, program, bound):
+    def __init__(self, program: pathlib.Path, bound: float) -> None:
         self.program = str(program)
         self.bound = bound
         self.out, self.err = Stream("out"), Stream("err")
-        self.running = None
+        self.running: Optional[int] = None
         signal.signal(signal.SIGALRM, self._end)
 
-    def _end(self, *_):
+    def _end(self, *_: Any) -> None:
         with contextlib.suppress(ProcessLookupError):
             if self.running:
                 os.kill(self.running, signal.SIGKILL)
 
-    def run(self, words, environment=None):
+    def run(self, words: Sequence[str], environment: Optional[Mapping[str, str]] = None) -> Ran:
         for stream in (self.out, self.err):
             stream.empty()
         actions = [(os.POSIX_SPAWN_DUP2, self.out.file, 1), (os.POSIX_SPAWN_DUP2, self.err.file, 2)]
-        self.running = os.posix_spawn(self.program, [self.program, *words], environment or {}, file_actions=actions)
+        line = [self.program, *words]
+        spawned = os.posix_spawn(self.program, line, environment or {}, file_actions=actions)
+        self.running = spawned
         signal.setitimer(signal.ITIMER_REAL, self.bound)
-        _, ended, used = os.wait4(self.running, 0)
+        _, ended, used = os.wait4(spawned, 0)
         signal.setitimer(signal.ITIMER_REAL, 0)
         self.running = None
         return Ran(
-            os.waitstatus_to_exitcode(ended),
+            -os.WTERMSIG(ended) if os.WIFSIGNALED(ended) else os.WEXITSTATUS(ended),
             self.out.read(),
             self.err.read(),
             used.ru_utime + used.ru_stime,

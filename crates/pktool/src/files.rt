@@ -9,7 +9,10 @@ use std::{fs, io, str};
 
 /// The list in a file.
 pub fn read_list<'a, R: Files>(rt: &R, alloc: Global, path: &'a str) -> Result<Allow, Fault<'a>> {
-    let Some(bytes) = read_whole(rt, alloc, path)? else {
+    let Ok(mut file) = fs::open(rt, path) else {
+        return Err(Fault::Unread(path));
+    };
+    let Some(bytes) = read_rest(alloc, &mut file, path)? else {
         return Err(Fault::List(AllowError::OutOfMemory));
     };
     let Ok(text) = str::from_utf8(bytes.as_slice()) else {
@@ -21,15 +24,13 @@ pub fn read_list<'a, R: Files>(rt: &R, alloc: Global, path: &'a str) -> Result<A
     }
 }
 
-/// All bytes of a file, and nothing where there is no memory for them.
-pub fn read_whole<'a, R: Files>(
-    rt: &R,
+/// All bytes that an open file has left, and nothing where there is no memory for them. The path
+/// names it in a fault.
+pub fn read_rest<'a, F: Read>(
     alloc: Global,
+    file: &mut F,
     path: &'a str,
 ) -> Result<Option<Vec<u8>>, Fault<'a>> {
-    let Ok(mut file) = fs::open(rt, path) else {
-        return Err(Fault::Unread(path));
-    };
     let mut bytes = Vec::new(alloc);
     match file.read_to_end(&mut bytes) {
         Ok(_) => Ok(Some(bytes)),

@@ -16,6 +16,7 @@ mod gathering;
 mod help;
 mod importing;
 mod listing;
+mod naming;
 mod optimizing;
 mod printing;
 mod replacing;

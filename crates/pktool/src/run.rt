@@ -6,7 +6,7 @@ use crate::checking_row::check_all_to;
 use crate::command::{Job, Usage, command_of};
 use crate::exporting::json_to;
 use crate::fault::{Fault, unwritten, write_fault};
-use crate::files::{open_source, read_list, read_whole};
+use crate::files::{open_source, read_list, read_rest};
 use crate::importing::imports_to;
 use crate::listing::dis_to;
 use crate::optimizing::{Unoptimized, optimize_to, write_refusal};
@@ -15,6 +15,8 @@ use pkcheck::{OldStrings, Policy};
 use pkops::Limits;
 use pkread::{Reason, Refusal};
 use std::alloc::Global;
+use std::fs;
+use std::fs::File;
 use std::io::Write;
 use std::rt::Files;
 
@@ -38,7 +40,7 @@ const NO_MEMORY: Refusal = Refusal {
 /// words, the list, the file that is read, the answer and the file that is written, in this order.
 /// An answer that `out` doesn't take is a fault, of which nothing is told where `out` is a pipe
 /// that was closed; a fault that `err` doesn't take changes nothing.
-pub fn run<R: Files, O: Write, E: Write>(
+pub fn run<R: Files<File = File>, O: Write, E: Write>(
     rt: &R,
     alloc: Global,
     words: &[&str],
@@ -54,7 +56,7 @@ pub fn run<R: Files, O: Write, E: Write>(
 }
 
 /// Does a job over the files of the host.
-fn done<'a, R: Files, O: Write>(
+fn done<'a, R: Files<File = File>, O: Write>(
     rt: &R,
     alloc: Global,
     job: &'a Job,
@@ -152,17 +154,20 @@ fn json_file<'a, R: Files, O: Write>(
 }
 
 /// `optimize FILE OUT`.
-fn optimize_file<'a, R: Files, O: Write>(
+fn optimize_file<'a, R: Files<File = File>, O: Write>(
     rt: &R,
     alloc: Global,
     file: &'a str,
     to: &'a str,
     out: &mut O,
 ) -> Result<Outcome, Fault<'a>> {
-    let Some(bytes) = read_whole(rt, alloc, file)? else {
+    let Ok(mut input) = fs::open(rt, file) else {
+        return Err(Fault::Unread(file));
+    };
+    let Some(bytes) = read_rest(alloc, &mut input, file)? else {
         return refused(NO_MEMORY, out);
     };
-    let mut place = NewFile::new(rt, alloc, to);
+    let mut place = NewFile::new(rt, alloc, to, &input);
     match optimize_to(alloc, bytes.as_slice(), &Limits::STANDARD, &mut place, out) {
         Ok(outcome) => Ok(outcome),
         Err(Unoptimized::Unmade) => Err(Fault::Unmade(to)),

@@ -9,6 +9,7 @@ use crate::fault::write_fault;
 use crate::run::run;
 use crate::words::words_of;
 use std::env::FillError;
+use std::fs::File;
 use std::io::{ErrorKind, Write};
 use std::process::Abort;
 use std::rt::{Env, Files};
@@ -65,7 +66,7 @@ static NO_LISTS: [(&[u8], &str); 12] = [
 
 /// Runs a command, and compares its status and its outputs.
 fn expect(
-    rt: &(impl Abort + AllocGlobal + Files),
+    rt: &(impl Abort + AllocGlobal + Files<File = File>),
     words: &[&str],
     status: u8,
     out: &str,

@@ -89,7 +89,7 @@ fn leaves_what_it_cannot_replace(rt: HostRuntime) -> Result<(), Fail> {
         fs::read(&rt, "out.pickle")?.as_slice(),
         b"before".as_slice()
     );
-    // What stands in the way of the new file is left, and the old one written directly.
+    // A name that is taken is left, and the next one is used.
     fs::write(&rt, "out.pickle.partial", b"mine".as_slice())?;
     let words = ["pktool", "optimize", "file.pickle", "out.pickle"];
     expect(&rt, words.as_slice(), 0, "2 bytes to 2 bytes\n", "");
@@ -98,5 +98,6 @@ fn leaves_what_it_cannot_replace(rt: HostRuntime) -> Result<(), Fail> {
         fs::read(&rt, "out.pickle.partial")?.as_slice(),
         b"mine".as_slice()
     );
+    assert!(rt; !exists(&rt, "out.pickle.1.partial")?);
     Ok(())
 }
