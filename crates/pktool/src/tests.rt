@@ -3,6 +3,7 @@ mod checking;
 mod exporting;
 mod listing;
 mod optimizing;
+mod placing;
 mod writing;
 
 use crate::fault::write_fault;
@@ -14,7 +15,7 @@ use std::io::{ErrorKind, Write};
 use std::process::Abort;
 use std::rt::{Env, Files};
 use std::test::Fail;
-use std::{fs, io};
+use std::{env, fs, io};
 
 const LISTED: &str = "version = 1\n[imports]\ncollections = [\"OrderedDict\"]\n";
 
@@ -64,6 +65,12 @@ static NO_LISTS: [(&[u8], &str); 12] = [
     ),
 ];
 
+/// Goes to the folder where a test's files lie: among what is built, which nothing keeps.
+fn enter_folder(rt: &(impl Env + Files)) -> io::Result<()> {
+    fs::create_dir_all(rt, "out/files")?;
+    env::set_current_dir(rt, "out/files")
+}
+
 /// Runs a command, and compares its status and its outputs.
 fn expect(
     rt: &(impl Abort + AllocGlobal + Files<File = File>),
@@ -85,6 +92,7 @@ fn expect(
 
 #[test]
 fn checks_files(rt: HostRuntime) -> Result<(), Fail> {
+    enter_folder(&rt)?;
     let words = ["pktool", "check", "--allow", "list.toml", "file.pickle"];
     for (list, pickle, status, line) in ANSWERS.as_slice() {
         fs::write(&rt, "list.toml", *list)?;
@@ -100,6 +108,7 @@ fn checks_files(rt: HostRuntime) -> Result<(), Fail> {
 
 #[test]
 fn opens_files(rt: HostRuntime) -> Result<(), Fail> {
+    enter_folder(&rt)?;
     fs::write(&rt, "list.toml", NOTHING)?;
     // A folder can be opened, and not read.
     for (list, file, status, out, err) in [
@@ -234,6 +243,7 @@ impl Write for Failing {
 
 #[test]
 fn tells_a_failed_write(rt: HostRuntime) -> Result<(), Fail> {
+    enter_folder(&rt)?;
     fs::write(&rt, "list.toml", NOTHING)?;
     let check = ["pktool", "check", "--allow", "list.toml", "."];
     let help = ["pktool", "--help"];

@@ -1,7 +1,7 @@
 //! Checks with options, to the byte.
 use crate::checking::Outcome;
 use crate::checking_row::check_all_to;
-use crate::tests::{NOTHING, expect};
+use crate::tests::{NOTHING, enter_folder, expect};
 use pkcheck::{OldStrings, Policy};
 use pkops::Limits;
 use pkread::Input;
@@ -69,6 +69,7 @@ static ROWS: [(&[u8], u8, &str); 6] = [
 
 #[test]
 fn says_what_old_strings_become(rt: HostRuntime) -> Result<(), Fail> {
+    enter_folder(&rt)?;
     fs::write(&rt, "list.toml", ONE_PAIR)?;
     for (pickle, lines) in OLD_STRINGS.as_slice() {
         fs::write(&rt, "file.pickle", *pickle)?;
@@ -91,6 +92,7 @@ fn says_what_old_strings_become(rt: HostRuntime) -> Result<(), Fail> {
 
 #[test]
 fn checks_rows_of_pickles(rt: HostRuntime) -> Result<(), Fail> {
+    enter_folder(&rt)?;
     fs::write(&rt, "list.toml", ONE_PAIR)?;
     let words = ["pktool", "check", "--allow", "list.toml", "--all", "row"];
     for (row, status, line) in ROWS.as_slice() {
@@ -102,6 +104,7 @@ fn checks_rows_of_pickles(rt: HostRuntime) -> Result<(), Fail> {
 
 #[test]
 fn checks_what_has_both_options(rt: HostRuntime) -> Result<(), Fail> {
+    enter_folder(&rt)?;
     fs::write(&rt, "list.toml", NOTHING)?;
     fs::write(&rt, "row", b"N.U\x01\xe9.".as_slice())?;
     for (word, status, line) in [

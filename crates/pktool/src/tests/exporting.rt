@@ -1,7 +1,7 @@
 //! Plain data as JSON, to the byte.
 use crate::checking::Outcome;
 use crate::exporting::json_to;
-use crate::tests::expect;
+use crate::tests::{enter_folder, expect};
 use pkops::Limits;
 use pkread::Input;
 use std::io::{ErrorKind, Read};
@@ -31,6 +31,7 @@ static LINES: [(&[u8], u8, &str); 13] = [
 
 #[test]
 fn exports_files(rt: HostRuntime) -> Result<(), Fail> {
+    enter_folder(&rt)?;
     let words = ["pktool", "json", "file.pickle"];
     for (pickle, status, line) in LINES.as_slice() {
         fs::write(&rt, "file.pickle", *pickle)?;

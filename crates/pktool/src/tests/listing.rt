@@ -1,6 +1,6 @@
 //! Listings and imports, to the byte.
 use crate::run::run;
-use crate::tests::expect;
+use crate::tests::{enter_folder, expect};
 use std::io::{ErrorKind, Write};
 use std::test::Fail;
 use std::{fs, io};
@@ -60,6 +60,7 @@ static LISTINGS: [(&[u8], u8, &str); 7] = [
 
 #[test]
 fn lists_instructions(rt: HostRuntime) -> Result<(), Fail> {
+    enter_folder(&rt)?;
     let words = ["pktool", "dis", "file.pickle"];
     for (pickle, status, lines) in LISTINGS.as_slice() {
         fs::write(&rt, "file.pickle", *pickle)?;
@@ -85,6 +86,7 @@ static IMPORTS: [(&[u8], u8, &str); 2] = [
 
 #[test]
 fn lists_imports(rt: HostRuntime) -> Result<(), Fail> {
+    enter_folder(&rt)?;
     let words = ["pktool", "imports", "file.pickle"];
     for (pickle, status, lines) in IMPORTS.as_slice() {
         fs::write(&rt, "file.pickle", *pickle)?;
@@ -116,6 +118,7 @@ impl Write for Closed {
 
 #[test]
 fn ends_quietly_at_a_closed_pipe(rt: HostRuntime) -> Result<(), Fail> {
+    enter_folder(&rt)?;
     fs::write(&rt, "file.pickle", b"N.".as_slice())?;
     for words in [
         ["pktool", "dis", "file.pickle"].as_slice(),

@@ -1,5 +1,5 @@
 //! Optimized files, to the byte.
-use crate::tests::expect;
+use crate::tests::{enter_folder, expect};
 use std::fs;
 use std::fs::exists;
 use std::test::Fail;
@@ -47,6 +47,7 @@ static FORMS: [(&[u8], &[u8], &str); 9] = [
 
 #[test]
 fn optimizes_files(rt: HostRuntime) -> Result<(), Fail> {
+    enter_folder(&rt)?;
     let words = ["pktool", "optimize", "file.pickle", "small.pickle"];
     for (pickle, form, line) in FORMS.as_slice() {
         fs::write(&rt, "file.pickle", *pickle)?;
@@ -71,6 +72,7 @@ fn optimizes_files(rt: HostRuntime) -> Result<(), Fail> {
 
 #[test]
 fn leaves_what_it_cannot_replace(rt: HostRuntime) -> Result<(), Fail> {
+    enter_folder(&rt)?;
     fs::write(&rt, "file.pickle", b"N.".as_slice())?;
     fs::write(&rt, "broken.pickle", b"N".as_slice())?;
     fs::write(&rt, "out.pickle", b"before".as_slice())?;
