@@ -43,10 +43,12 @@ pub struct NoAll {
 /// [`check_as`](crate::check_as) does. It takes time in the number of bytes, however many pickles
 /// they are.
 ///
-/// With [`Memo::Fresh`] nothing is left of one pickle to the next, and the memory is for the largest
-/// of them and for what the imports name. With [`Memo::Kept`] each pickle begins with an empty stack
-/// and with the memo, the objects and the events that those before it left: what the answer says of
-/// a pickle, it says of every run of the row that comes to it. The memory is for all of them.
+/// With [`Memo::Fresh`] nothing is left of one pickle to the next. It takes memory for the largest
+/// of them and for what the imports name.
+///
+/// With [`Memo::Kept`] each pickle begins with an empty stack, and with the memo, the objects and
+/// the events of those before it. What the answer says of a pickle, it says of every run of the row
+/// that comes to it. It takes memory for all of the row.
 ///
 /// A `YesAll` holds of one pickle at least. A `NoAll` names the first pickle that is refused; where
 /// it is not known whether one more pickle begins, as where the source fails or 2^64 - 1 bytes were

@@ -1,5 +1,5 @@
-//! Answers of `check_all` on rows of pickles that are loaded with a memo that is fresh in each, and
-//! with one that is kept. CPython 3.11 reads each row as it says, `pickle.load` and one `Unpickler`.
+//! Answers of `check_all` on rows of pickles, for a memo that is fresh in each and for one that is
+//! kept. CPython 3.11 reads each so: by `pickle.load` for each pickle, and by one `Unpickler`.
 
 use crate::giving::Pieces;
 use pkcheck::{Allow, Loading, Memo, NoAll, OldStrings, Policy, YesAll, check_all};
