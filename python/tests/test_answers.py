@@ -32,7 +32,7 @@ class Cases(unittest.TestCase):
                 continue
             name, listed, options, _status, wanted = line.split("\t")
             options = options.split()
-            if not set(options) <= {"--all", "--old-strings", "unknown", "ascii", "bytes"}:
+            if not set(options) <= {"-", "--all", "--old-strings", "unknown", "ascii", "bytes"}:
                 continue
             call = storklocker.check_row if "--all" in options else storklocker.check
             old_strings = options[options.index("--old-strings") + 1] if "--old-strings" in options else "unknown"
@@ -206,7 +206,7 @@ class OldStrings(unittest.TestCase):
         with self.assertRaises(UnicodeDecodeError):
             storklocker.loads(b"U\x01\xe9.", BY_PAIRS)
         for old_strings in ("ascii", "bytes"):
-            for more in ({"encoding": "latin-1"}, {"encoding": "ASCII"}, {"errors": "replace"}):
+            for more in ({"encoding": "latin-1"}, {"encoding": "UTF-8"}, {"errors": "replace"}):
                 with self.assertRaises(ValueError):
                     storklocker.loads(b"U\x01a.", BY_PAIRS, old_strings=old_strings, **more)
 

@@ -293,9 +293,10 @@ class Rows(unittest.TestCase):
                         reader.load()
             file = io.BytesIO(out.getvalue())
             GUARD.load(file)
-            with self.assertRaises(Refused) as raised:
-                GUARD.load(file)
-            self.assertIs(raised.exception.reason, Reason.MissingMemo)
+            if protocol < 4:  # (else its entry 0 is what it memoized itself)
+                with self.assertRaises(Refused) as raised:
+                    GUARD.load(file)
+                self.assertIs(raised.exception.reason, Reason.MissingMemo)
 
     @wants(KEEPS_MEMO)
     def test_a_memo_that_is_kept_names_an_import(self):
@@ -589,24 +590,27 @@ class Together(unittest.TestCase):
         wrong = []
         large = pickle.dumps([{"n": k} for k in range(3_000)])
 
+        done = []
+
         def work():
             for _ in range(50):
-                for data in (large, b"N.", SEEDS[0]):
-                    GUARD.loads(data)
-                    GUARD.load(io.BytesIO(data))
+                for data in (large, b"N.", SEEDS[10]):
+                    if GUARD.loads(data) != GUARD.load(io.BytesIO(data)):
+                        wrong.append(data)
                 for call in (GUARD.loads, lambda it: GUARD.load(io.BytesIO(it))):
                     try:
                         call(HOSTILE)
                     except Refused:
                         continue
                     wrong.append(call)
+            done.append(True)
 
         threads = [threading.Thread(target=work) for _ in range(4)]
         for thread in threads:
             thread.start()
         for thread in threads:
             thread.join()
-        self.assertEqual(wrong, [])
+        self.assertEqual((wrong, len(done)), ([], 4))
 
     @unittest.skipIf(not hasattr(os, "fork"), "no fork")
     def test_a_forked_worker(self):
