@@ -38,16 +38,21 @@ class Refusal:
     enforced: whether the pickle was left unloaded.
     """
 
-    __slots__ = ("verdict", "size", "context", "enforced", "_data", "_allow", "_found")
+    __slots__ = ("verdict", "size", "context", "enforced", "_look", "_data", "_found")
 
     def __init__(
-        self, verdict: Verdict, data: bytes, allow: AllowList, context: Any, enforced: bool
+        self,
+        verdict: Verdict,
+        data: bytes,
+        look: Callable[[bytes], List[Import]],
+        context: Any,
+        enforced: bool,
     ) -> None:
         self.verdict = verdict
         self.size = len(data)
         self.context = context
         self.enforced = enforced
-        self._data, self._allow = data, allow
+        self._data, self._look = data, look
         self._found: Dict[str, Any] = {}
 
     @property
@@ -64,7 +69,7 @@ class Refusal:
     def missing(self) -> Tuple[Import, ...]:
         """The imports that the list doesn't permit."""
         if "missing" not in self._found:
-            self._found["missing"] = tuple(missing(self._data, self._allow))
+            self._found["missing"] = tuple(self._look(self._data))
         found: Tuple[Import, ...] = self._found["missing"]
         return found
 
@@ -79,7 +84,7 @@ class Refusal:
 def _refusal_of(
     verdict: Verdict, size: int, context: Any, enforced: bool, found: Dict[str, Any]
 ) -> Refusal:
-    made = Refusal(verdict, b"", _NOTHING, context, enforced)
+    made = Refusal(verdict, b"", lambda _: [], context, enforced)
     made.size = size
     made._found = found
     return made
@@ -227,8 +232,8 @@ class Guard:
         self._fix_imports = bool(fix_imports)
         self._on_refusal = on_refusal
         self._enforce = bool(enforce)
-        self._new = allow.for_loading()
-        self._old = allow.for_old_names() if fix_imports else self._new
+        self._new = allow._for_loading()
+        self._old = allow._for_old_names() if fix_imports else self._new
         self._unpickler: Optional[Type[GuardedUnpickler]] = None
 
     @property
@@ -317,9 +322,13 @@ class Guard:
             self._unpickler = type("Unpickler", (kind,), {"guard": self, "__module__": __name__})
         return self._unpickler
 
+    def _has_old_names(self, data: bytes) -> bool:
+        """Whether the names of a pickle are taken for those of Python 2: its first instruction says so."""
+        return self._fix_imports and has_old_names(data)
+
     def _listed_for(self, data: bytes) -> AllowList:
-        """The list that holds for a pickle: its first instruction says whether its names are those of Python 2."""
-        return self._old if self._fix_imports and has_old_names(data) else self._new
+        """The list that holds for a pickle."""
+        return self._old if self._has_old_names(data) else self._new
 
     def _decoding(self, encoding: Optional[str], errors: Optional[str]) -> Tuple[str, str]:
         """How old strings are read: as `old_strings` says, or else as the caller does."""
@@ -335,12 +344,17 @@ class Guard:
     def _refuse(self, verdict: Verdict, data: bytes) -> None:
         """Tells of a refusal, and raises it if it is enforced."""
         if self._on_refusal is not None:
-            self._on_refusal(Refusal(verdict, data, self._allow, _context.get(), self._enforce))
+            self._on_refusal(Refusal(verdict, data, self._missing, _context.get(), self._enforce))
         if not self._enforce:
             return
         if verdict:
             raise MoreBytes(verdict, len(data))
         raise Refused(verdict, _hint(verdict.pair, self._allow, self._fix_imports))
+
+    def _missing(self, data: bytes) -> List[Import]:
+        """The imports of a pickle that the list doesn't permit."""
+        limits = self._limits or self._allow.limits
+        return missing(data, self._listed_for(data), limits=limits, old_strings=self._old_strings)
 
     def _copied(self, data: Any) -> bytes:
         """What a buffer holds, as bytes. Of a long one the front is looked at first."""
@@ -447,8 +461,8 @@ class GuardedUnpickler(pickle.Unpickler):
         self._bytes = b""  # of all pickles that were loaded, and what was read ahead
         self._taken = 0  # how many of these were loaded
         self._pickles = 0  # how many pickles these are
-        self._accepted: Dict[AllowList, int] = {}  # how many are accepted under a list
-        self._lists: Set[AllowList] = set()  # the lists under which the pickles must be
+        self._accepted: Dict[bool, int] = {}  # how many are accepted with and without old names
+        self._kinds: Set[bool] = set()  # of which of the two the pickles are
         self._shift: Optional[int] = None  # from a place in these bytes to the file's
 
     def load(self) -> Any:
@@ -490,11 +504,10 @@ class GuardedUnpickler(pickle.Unpickler):
             self._walk()
         if len(self._bytes) == self._taken:
             raise EOFError("Ran out of input")
-        front = self._bytes[self._taken : self._taken + 2]
-        self._lists.add(self.guard._listed_for(front))
-        verdict = self._refused_or_end()
+        self._kinds.add(self.guard._has_old_names(self._bytes[self._taken : self._taken + 2]))
+        verdict = self._judged()
         while not verdict and verdict.reason is Reason.Truncated and self._read_on():
-            verdict = self._refused_or_end()
+            verdict = self._judged()
         if verdict:
             return verdict.taken if self._pickles == 0 else self._taken
         self._put_back()
@@ -503,25 +516,26 @@ class GuardedUnpickler(pickle.Unpickler):
             pass
         return self._taken
 
-    def _refused_or_end(self) -> Verdict:
-        """A verdict that is true where the next pickle is accepted under each list."""
-        for allow in self._lists:
-            if self._accepted.get(allow, 0) > self._pickles:
-                continue
-            verdict = self._asked(allow, self._bytes)
-            self._accepted[allow] = verdict.pickles
-            if verdict.pickles <= self._pickles:
-                return verdict
-            if self._pickles == 0:
-                return verdict
-        return Verdict(True)
+    def _judged(self) -> Verdict:
+        """A yes where the next pickle is accepted under each list under which it must be, else a no."""
+        verdict = Verdict(True)
+        for is_old in self._kinds:
+            if self._accepted.get(is_old, 0) <= self._pickles:
+                verdict = self._asked(self._bytes, is_old)
+                self._accepted[is_old] = verdict.pickles
+                if verdict.pickles <= self._pickles:
+                    return verdict
+        return verdict if self._pickles == 0 else Verdict(True)
 
-    def _asked(self, allow: AllowList, data: bytes) -> Verdict:
+    def _asked(self, data: bytes, is_old: bool) -> Verdict:
         """A check of the pickles that were loaded and what is behind them."""
-        limits, old_strings = self.guard._limits, self.guard._old_strings
+        guard = self.guard
+        allow = guard._old if is_old else guard._new
         if self._pickles == 0:
-            return check(data, allow, limits=limits, old_strings=old_strings)
-        return check_row(data, allow, one_unpickler=True, limits=limits, old_strings=old_strings)
+            return check(data, allow, limits=guard._limits, old_strings=guard._old_strings)
+        return check_row(
+            data, allow, one_unpickler=True, limits=guard._limits, old_strings=guard._old_strings
+        )
 
     def _find_place(self) -> None:
         """What was read ahead counts where the file is still where the last pickle ended."""
@@ -552,7 +566,9 @@ class GuardedUnpickler(pickle.Unpickler):
         self._bytes += walk.taken()
 
     def _is_hopeless(self, data: bytes) -> bool:
-        verdict = self._asked(self.guard._listed_for(data), self._bytes + data)
+        if not self.guard._enforce:
+            return False
+        verdict = self._asked(self._bytes + data, self.guard._has_old_names(data))
         return not verdict and verdict.reason is not Reason.Truncated
 
 

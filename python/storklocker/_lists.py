@@ -121,14 +121,14 @@ class AllowList(_Pairs):
     def __reduce__(self) -> Tuple[Any, ...]:
         return (_list_of, (type(self), self._pairs, self._limits))
 
-    def for_loading(self) -> "AllowList":
+    def _for_loading(self) -> "AllowList":
         """The pairs that can be imported as they are: without those whose module only Python 2 has."""
         if self._loaded is None:
             lost = [pair for pair in self if _names.is_lost(pair)]
             self._loaded = _AS_IT_IS if not lost else self._without(lost)
         return self if self._loaded is _AS_IT_IS else self._loaded
 
-    def for_old_names(self) -> "AllowList":
+    def _for_old_names(self) -> "AllowList":
         """The pairs for which CPython takes a pair of this list, under `fix_imports`."""
         if self._fixed is None:
             pairs = (_bytes_of_pair(old) for pair in self for old in _names.old_names(pair))

@@ -11,10 +11,6 @@ FIRST_BLOCK = 4096
 _PIECE = 1 << 16
 
 
-class TextFile(TypeError):
-    """A file gave something else than bytes."""
-
-
 def block_of(read: Callable[..., Any], count: int) -> bytes:
     """What a file gives where `count` bytes are asked for; nothing at its end."""
     given = read(count)
@@ -22,7 +18,7 @@ def block_of(read: Callable[..., Any], count: int) -> bytes:
         raise BlockingIOError("the file has no bytes yet: a pickle is read from one that blocks")
     if isinstance(given, (bytes, bytearray, memoryview)):
         return bytes(given)
-    raise TextFile(f"a file opened for bytes is wanted: this one gave {type(given)!r}")
+    raise TypeError(f"a file opened for bytes is wanted: this one gave {type(given)!r}")
 
 
 def can_step_back(file: Any) -> bool:
@@ -115,5 +111,5 @@ class Walk:
     def _line(self) -> bool:
         line = self._readline()
         if not isinstance(line, bytes):
-            raise TextFile(f"a file opened for bytes is wanted: this one gave {type(line)!r}")
+            raise TypeError(f"a file opened for bytes is wanted: this one gave {type(line)!r}")
         return self._keep(line).endswith(b"\n")
