@@ -111,6 +111,7 @@ COUNTS: Dict[str, Callable[[], int]] = {
     "crates": lambda: lines_of("crates.txt", r"^\w.*:"),
     "recipes": lambda: files_like("examples/recipes/*.stdout"),
     "edits that must fail": lambda: files_like("crates/*/must-fail/*.edit"),
+    "rows of the program": lambda: lines_of("examples/cases.tsv", r"^[^#\n]"),
 }
 WORDS = "one two three four five six seven eight nine ten eleven twelve".split()
 
@@ -126,6 +127,16 @@ def wrong_counts(document: Document) -> Iterator[Fault]:
         few = word in WORDS[:3]  # of some of them, as in "three reasons come last"
         if not few and (told > actual if match[1] else told != actual):
             yield Fault(document.name, line, f"{match[0]!r}, and there are {actual}")
+
+
+def wrong_crates(document: Document) -> Iterator[Fault]:
+    """A list of ported crates that isn't the one of the crates."""
+    rows = re.findall(r"(?m)^(\w+).*?: (.*)$", (ROOT / "crates.txt").read_text(encoding="utf-8"))
+    ported = {name for _, names in rows for name in names.split()} - {own for own, _ in rows}
+    for line, match in found_in(document, r"ported crates((?:[\s,]+(?:and\s+)?`\w+`)+)"):
+        told = set(re.findall(r"\w+", match[1])) - {"and"}
+        if told != ported:
+            yield Fault(document.name, line, f"ported crates: {sorted(told ^ ported)} are amiss")
 
 
 def wrong_rows(document: Document) -> Iterator[Fault]:
@@ -145,11 +156,10 @@ def wrong_rows(document: Document) -> Iterator[Fault]:
 
 def wrong_versions(document: Document) -> Iterator[Fault]:
     """Versions of the project other than that of the package."""
-    package = (ROOT / "python/pyproject.toml").read_text(encoding="utf-8")
-    version = re.search(r'(?m)^version = "(.*)"$', package)
+    version = (ROOT / "VERSION").read_text(encoding="utf-8").strip()
     for line, match in found_in(document, r"\b0\.\d+\.\d+\b"):
-        if version and document.name != "CHANGELOG.md" and match[0] != version[1]:
-            yield Fault(document.name, line, f"version {match[0]}, and the package is {version[1]}")
+        if document.name != "CHANGELOG.md" and match[0] != version:
+            yield Fault(document.name, line, f"version {match[0]}, and the project's is {version}")
 
 
 def too_many_words(found: List[Document]) -> Iterator[Fault]:
@@ -163,7 +173,15 @@ def too_many_words(found: List[Document]) -> Iterator[Fault]:
         yield Fault("all documents", 0, f"{words} words, and {MOST_WORDS} are the most")
 
 
-CHECKS = [long_lines, dead_links, missing_files, wrong_counts, wrong_rows, wrong_versions]
+CHECKS = [
+    long_lines,
+    dead_links,
+    missing_files,
+    wrong_counts,
+    wrong_crates,
+    wrong_rows,
+    wrong_versions,
+]
 
 
 PATHS = [path.as_posix() for path in files()]
