@@ -1,5 +1,5 @@
 #!/usr/bin/env python3
-"""Checks the documents: length, links, files that they name, counts, and the examples in them.
+"""Checks the documents: lines, links, files and counts that they name, and the examples in them.
 
 Every example runs: blocks of `console` in a shell, blocks of `pycon` in one session for each
 document. What they print has to stand below them. Blocks of `python` are parsed. The last line
@@ -18,9 +18,9 @@ import worked
 ROOT = Path(__file__).resolve().parent.parent
 LONGEST_LINE = 100
 MOST_WORDS = 12_000
-# The papers that a reader is to read to the end, and those that are none of them.
-COUNTED = re.compile(r"(README|docs/.*|bench/README|tests/README)\.md")
-UNCOUNTED = {"docs/THEOREM.md"}
+# The papers that a reader is to read to the end; the other documents are none of them.
+PAPERS = re.compile(r"(README|docs/(?!THEOREM).*|bench/README|tests/README)\.md")
+# Folders that a run makes.
 MADE = {"out", "target", "__pycache__"}
 
 
@@ -38,14 +38,23 @@ class Fault(NamedTuple):
         return f"{self.document}:{self.line}: {self.what}"
 
 
-def files() -> List[Path]:
-    """The files of the repository, without those that a run made."""
-    found = (path for path in ROOT.rglob("*") if path.is_file())
-    return [path for path in found if not is_made(path.relative_to(ROOT))]
+def is_kept(path: Path) -> bool:
+    """Whether it is a file of the repository, and none that a run made."""
+    parts = path.relative_to(ROOT).parts
+    return path.is_file() and not any(part in MADE or part.startswith(".") for part in parts)
 
 
-def is_made(name: Path) -> bool:
-    return any(part in MADE or part.startswith(".") for part in name.parts)
+FILES = sorted(path for path in ROOT.rglob("*") if is_kept(path))
+
+
+def text_of(file: str) -> str:
+    return (ROOT / file).read_text(encoding="utf-8")
+
+
+def documents() -> List[Document]:
+    """Every document of the repository."""
+    names = (path.relative_to(ROOT).as_posix() for path in FILES if path.suffix == ".md")
+    return [Document(name, text_of(name)) for name in names]
 
 
 def prose_of(document: Document) -> str:
@@ -90,13 +99,13 @@ def dead_links(document: Document) -> Iterator[Fault]:
 def missing_files(document: Document) -> Iterator[Fault]:
     """Files that a document names, whole or by the end of their paths, and that aren't there."""
     for line, match in found_in(document, r"`([\w./-]+\.(?:antt|rt|py|edit|toml|pickle|stdout))`"):
-        if not any(path.endswith("/" + match[1]) for path in PATHS):
+        if not any(path.as_posix().endswith("/" + match[1]) for path in FILES):
             yield Fault(document.name, line, f"there is no file {match[1]}")
 
 
 def lines_of(file: str, pattern: str) -> int:
     """How many lines of a file match."""
-    return len(re.findall(pattern, (ROOT / file).read_text(encoding="utf-8"), re.MULTILINE))
+    return len(re.findall(pattern, text_of(file), re.MULTILINE))
 
 
 def files_like(pattern: str) -> int:
@@ -131,10 +140,10 @@ def wrong_counts(document: Document) -> Iterator[Fault]:
 
 def wrong_crates(document: Document) -> Iterator[Fault]:
     """A list of ported crates that isn't the one of the crates."""
-    rows = re.findall(r"(?m)^(\w+).*?: (.*)$", (ROOT / "crates.txt").read_text(encoding="utf-8"))
+    rows = re.findall(r"(?m)^(\w+).*?: (.*)$", text_of("crates.txt"))
     ported = {name for _, names in rows for name in names.split()} - {own for own, _ in rows}
     for line, match in found_in(document, r"ported crates((?:[\s,]+(?:and\s+)?`\w+`)+)"):
-        told = set(re.findall(r"\w+", match[1])) - {"and"}
+        told = set(re.findall(r"`(\w+)`", match[1]))
         if told != ported:
             yield Fault(document.name, line, f"ported crates: {sorted(told ^ ported)} are amiss")
 
@@ -155,8 +164,8 @@ def wrong_rows(document: Document) -> Iterator[Fault]:
 
 
 def wrong_versions(document: Document) -> Iterator[Fault]:
-    """Versions of the project other than that of the package."""
-    version = (ROOT / "VERSION").read_text(encoding="utf-8").strip()
+    """Versions of the project other than that of the file VERSION."""
+    version = text_of("VERSION").strip()
     for line, match in found_in(document, r"\b0\.\d+\.\d+\b"):
         if document.name != "CHANGELOG.md" and match[0] != version:
             yield Fault(document.name, line, f"version {match[0]}, and the project's is {version}")
@@ -164,13 +173,12 @@ def wrong_versions(document: Document) -> Iterator[Fault]:
 
 def too_many_words(found: List[Document]) -> Iterator[Fault]:
     """More words than a reader reads to the end: of the prose, which no code and no table is."""
-    papers = [document for document in found if COUNTED.fullmatch(document.name)]
-    counted = [document for document in papers if document.name not in UNCOUNTED]
-    texts = [re.sub(r"(?m)^\|.*$", "", prose_of(document)) for document in counted]
-    words = sum(len(re.findall(r"\S*\w\S*", text)) for text in texts)
-    print(f"{words} words in {len(counted)} documents")
+    texts = [prose_of(document) for document in found if PAPERS.fullmatch(document.name)]
+    prose = re.sub(r"(?m)^\|.*$", "", "\n".join(texts))
+    words = len(re.findall(r"\S*\w\S*", prose))
+    print(f"{words} words in {len(texts)} papers")
     if words > MOST_WORDS:
-        yield Fault("all documents", 0, f"{words} words, and {MOST_WORDS} are the most")
+        yield Fault("all papers", 0, f"{words} words, and {MOST_WORDS} are the most")
 
 
 CHECKS = [
@@ -184,28 +192,19 @@ CHECKS = [
 ]
 
 
-PATHS = [path.as_posix() for path in files()]
-
-
-def documents() -> List[Document]:
-    """Every document of the repository."""
-    names = sorted(Path(path).relative_to(ROOT).as_posix() for path in PATHS if path.endswith(".md"))
-    return [Document(name, (ROOT / name).read_text(encoding="utf-8")) for name in names]
-
-
 def main() -> int:
     parser = argparse.ArgumentParser(description=(__doc__ or "").splitlines()[0])
     parser.add_argument("--text", action="store_true", help="run no examples")
-    words = parser.parse_args()
+    asked = parser.parse_args()
     found = documents()
-    passed = 0
     faults = list(too_many_words(found))
+    passed = int(not faults)
     for document in found:
         for check in CHECKS:
             wrong = list(check(document))
             passed += not wrong
             faults += wrong
-        if not words.text:
+        if not asked.text:
             ran, mistaken = worked.examples(document.text)
             passed += max(0, ran - len(mistaken))
             faults += [Fault(document.name, line, what) for line, what in mistaken]
