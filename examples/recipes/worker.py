@@ -8,7 +8,8 @@ from typing import Any, Callable
 
 import storklocker
 
-PERMITTED = storklocker.AllowList([("collections", "OrderedDict"), ("datetime", "datetime")])
+PERMITTED = storklocker.AllowList({"collections": ["OrderedDict"], "datetime": ["datetime"]})
+GUARD = storklocker.Guard(PERMITTED)
 
 
 def work(jobs: "queue.Queue[bytes]", do: Callable[[Any], None]) -> None:
@@ -16,7 +17,7 @@ def work(jobs: "queue.Queue[bytes]", do: Callable[[Any], None]) -> None:
     while not jobs.empty():
         data = jobs.get()
         try:
-            job = storklocker.loads(data, PERMITTED)
+            job = GUARD.loads(data)
         except storklocker.Refused as refusal:
             logging.warning("a job was refused: %s", refusal)
         except Exception as error:  # an accepted pickle may raise whatever what it calls raises
