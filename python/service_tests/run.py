@@ -6,6 +6,7 @@ import ast
 import importlib
 import importlib.util
 import os
+import shutil
 import subprocess
 import sys
 import tempfile
@@ -16,9 +17,12 @@ HERE = Path(__file__).resolve().parent
 SECONDS = 300
 
 
-def is_missing(module):
+def is_missing(name):
+    """Whether a module is missing, or a program, whose name begins with `$`."""
+    if name.startswith("$"):
+        return shutil.which(name[1:]) is None
     try:
-        return importlib.util.find_spec(module) is None
+        return importlib.util.find_spec(name) is None
     except ModuleNotFoundError:
         return True
 

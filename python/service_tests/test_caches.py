@@ -5,7 +5,7 @@ from pathlib import Path
 
 import common
 
-NEEDS = ("cachelib", "diskcache", "dogpile.cache", "redis")
+NEEDS = ("cachelib", "diskcache", "dogpile.cache", "redis", "$redis-server")
 
 
 def run():

@@ -7,7 +7,7 @@ from pathlib import Path
 
 import common
 
-NEEDS = ("celery", "redis")
+NEEDS = ("celery", "redis", "$redis-server")
 
 
 def publish(app, body):

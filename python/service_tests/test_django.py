@@ -7,7 +7,7 @@ import zlib
 
 import common
 
-NEEDS = ("django", "django_redis", "redis")
+NEEDS = ("django", "django_redis", "redis", "$redis-server")
 
 
 def run():

@@ -6,7 +6,7 @@ from pathlib import Path
 
 import common
 
-NEEDS = ("rq", "redis")
+NEEDS = ("rq", "redis", "$redis-server")
 WORKER = """
 import sys, redis, rq, common
 from storklocker.contrib import rq as guarded

@@ -1,0 +1,30 @@
+"""The lists to begin with, tried against the libraries themselves."""
+
+import pickle
+import warnings
+
+import storklocker
+import values
+from storklocker import lists
+
+NEEDS = ("numpy", "pandas", "sklearn")
+
+
+def run():
+    """Every object, in each protocol, is accepted under its list and loads as it was."""
+    warnings.simplefilter("ignore")
+    for name, make in values.LISTS.items():
+        guard = storklocker.Guard(getattr(lists, name), fix_imports=True)
+        bare = storklocker.Guard(getattr(lists, name))
+        for number, value in enumerate(make()):
+            for protocol in range(6):
+                data = pickle.dumps(value, protocol)
+                told = (name, number, protocol)
+                assert bare.check(data), (told, str(bare.check(data)), bare.check(data).missing)
+                loaded = guard.loads(data)
+                assert type(loaded) is type(value), told
+                # (one more way round writes the same bytes, where two of Python's readers do)
+                again = pickle.dumps(pickle.loads(data), protocol)
+                assert len(pickle.dumps(loaded, protocol)) == len(again), told
+    together = lists.STANDARD_TYPES | lists.DATETIME | lists.COLLECTIONS
+    assert len(together) > len(lists.STANDARD_TYPES)

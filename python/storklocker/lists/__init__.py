@@ -1,0 +1,51 @@
+"""Allow lists to begin with. They add up: `lists.STANDARD_TYPES | lists.DATETIME`.
+
+    STANDARD_TYPES   values of builtins, array, decimal, fractions, ipaddress and uuid
+    DATETIME         datetimes, dates, times and fixed time zones
+    COLLECTIONS      the containers of collections
+    NUMPY            arrays, scalars and types of NumPy
+    PANDAS           frames, series, indexes, arrays and scalars of pandas
+    SCIKIT_LEARN     fitted estimators of scikit-learn
+    TORCH_TENSORS    state dicts of PyTorch
+
+Each is a TOML file in this folder, which says with which versions it was made and tried. A list
+permits what these libraries write, and says nothing of what the objects do when they are used.
+"""
+
+from __future__ import annotations
+
+from pathlib import Path
+from typing import List
+
+from .._lists import AllowList
+
+__all__ = [
+    "COLLECTIONS",
+    "DATETIME",
+    "NUMPY",
+    "PANDAS",
+    "SCIKIT_LEARN",
+    "STANDARD_TYPES",
+    "TORCH_TENSORS",
+]
+
+COLLECTIONS: AllowList
+DATETIME: AllowList
+NUMPY: AllowList
+PANDAS: AllowList
+SCIKIT_LEARN: AllowList
+STANDARD_TYPES: AllowList
+TORCH_TENSORS: AllowList
+
+
+def __getattr__(name: str) -> AllowList:
+    """A list, read when it is asked for first."""
+    if name not in __all__:
+        raise AttributeError(f"module {__name__!r} has no attribute {name!r}")
+    made = AllowList.from_file(Path(__file__).with_name(f"{name.lower()}.toml"))
+    globals()[name] = made
+    return made
+
+
+def __dir__() -> List[str]:
+    return __all__

@@ -1,0 +1,208 @@
+"""The command `storklocker`."""
+
+from __future__ import annotations
+
+import argparse
+import os
+import sys
+from typing import Iterable, Iterator, Optional, Sequence, Tuple
+
+from .. import __version__
+from .._answers import ListFault
+from .._lists import AllowList
+from . import formats, html
+from .dangers import dangers_in
+from .learning import Learned, quoted
+from .report import REFUSED, UNREADABLE, Report, shown
+from .scan import scan
+
+YES, NO, FAULT = 0, 1, 2
+
+_STATUSES = """status:
+  0  nothing is refused
+  1  something is refused, or dangerous where --fail-on says so
+  2  a file can't be read, or the words, the list or the output are at fault
+"""
+
+
+def main(words: Optional[Sequence[str]] = None) -> int:
+    """Runs the command with these words, and gives its status."""
+    asked = _parser().parse_args(words)
+    try:
+        status: int = asked.run(asked)
+        sys.stdout.flush()
+        return status
+    except BrokenPipeError:
+        os.dup2(os.open(os.devnull, os.O_WRONLY), sys.stdout.fileno())
+        return FAULT
+    except KeyboardInterrupt:
+        return 130
+    except (ListFault, OSError, UnicodeDecodeError) as error:
+        print(f"storklocker: {shown(str(error))}", file=sys.stderr)
+        return FAULT
+
+
+def _parser() -> argparse.ArgumentParser:
+    parser = argparse.ArgumentParser(
+        "storklocker",
+        description="Says what pickles would import, before anything opens them.",
+        epilog=_STATUSES,
+        formatter_class=argparse.RawDescriptionHelpFormatter,
+    )
+    parser.add_argument("--version", action="version", version=f"storklocker {__version__}")
+    commands = parser.add_subparsers(required=True, metavar="COMMAND")
+    _add_scan(commands)
+    _add_check(commands)
+    _add_imports(commands)
+    _add_learn(commands)
+    _add_lint(commands)
+    return parser
+
+
+def _add_scan(commands: "argparse._SubParsersAction[argparse.ArgumentParser]") -> None:
+    it = commands.add_parser("scan", help="what files are, and what they would import")
+    it.add_argument("paths", nargs="+", metavar="PATH", help="a file, a folder, or - for a pipe")
+    it.add_argument("--allow", metavar="LIST", help="the list file of permitted names")
+    it.add_argument("--recursive", action="store_true", help="folders below folders too")
+    it.add_argument("--jobs", type=_jobs, default=1, metavar="N", help="processes; 1")
+    it.add_argument("--format", choices=("table", "json", "sarif", "html"), default="table")
+    it.add_argument(
+        "--fail-on",
+        choices=("refused", "danger", "never"),
+        default="refused",
+        help="what gives status 1; danger is refused and dangerous names",
+    )
+    it.set_defaults(run=_scan)
+
+
+def _add_check(commands: "argparse._SubParsersAction[argparse.ArgumentParser]") -> None:
+    it = commands.add_parser("check", help="whether files import listed names alone")
+    it.add_argument("paths", nargs="+", metavar="FILE")
+    it.add_argument("--allow", metavar="LIST", required=True)
+    it.set_defaults(run=_check)
+
+
+def _add_imports(commands: "argparse._SubParsersAction[argparse.ArgumentParser]") -> None:
+    it = commands.add_parser("imports", help="the names that files would import")
+    it.add_argument("paths", nargs="+", metavar="FILE")
+    it.set_defaults(run=_imports)
+
+
+def _add_learn(commands: "argparse._SubParsersAction[argparse.ArgumentParser]") -> None:
+    it = commands.add_parser("learn", help="writes a list file from trusted files")
+    it.add_argument("paths", nargs="+", metavar="PATH")
+    it.add_argument("--recursive", action="store_true", help="folders below folders too")
+    it.set_defaults(run=_learn)
+
+
+def _add_lint(commands: "argparse._SubParsersAction[argparse.ArgumentParser]") -> None:
+    it = commands.add_parser("lint", help="the names of a list that are known to permit everything")
+    it.add_argument("list", metavar="LIST")
+    it.set_defaults(run=_lint)
+
+
+def _jobs(word: str) -> int:
+    count = int(word)
+    if not 1 <= count <= 256:
+        raise argparse.ArgumentTypeError("from 1 to 256")
+    return count
+
+
+def _scan(asked: argparse.Namespace) -> int:
+    allow = None if asked.allow is None else AllowList.from_file(asked.allow)
+    told = _Told(asked.fail_on)
+    reports = told.heard(
+        scan(
+            asked.paths,
+            allow,
+            recursive=asked.recursive,
+            jobs=asked.jobs,
+            progress=sys.stderr,
+        )
+    )
+    if asked.format == "table":
+        lines = formats.table(reports)
+    elif asked.format == "json":
+        lines = formats.as_json(reports)
+    elif asked.format == "sarif":
+        lines = formats.as_sarif(reports, __version__)
+    else:
+        lines = html.page(reports, __version__)
+    for line in lines:
+        print(line)
+    return told.status()
+
+
+class _Told:
+    """What the status of a scan depends on."""
+
+    def __init__(self, fail_on: str) -> None:
+        self._fail_on = fail_on
+        self._refused = self._unreadable = False
+
+    def heard(self, reports: Iterable[Report]) -> Iterator[Report]:
+        """The reports, looked at as they pass."""
+        for report in reports:
+            self._unreadable |= report.status == UNREADABLE
+            self._refused |= report.status == REFUSED
+            self._refused |= self._fail_on == "danger" and bool(report.dangers)
+            yield report
+
+    def status(self) -> int:
+        """The status, once all have passed."""
+        if self._refused and self._fail_on != "never":
+            return NO
+        return FAULT if self._unreadable else YES
+
+
+def _check(asked: argparse.Namespace) -> int:
+    told = _Told("refused")
+    several = len(asked.paths) > 1
+    for report in told.heard(scan(asked.paths, AllowList.from_file(asked.allow))):
+        front = f"{shown(report.path)}: " if several or "!" in report.path else ""
+        print(front + (shown(report.why, 1000) or report.status))
+    return told.status()
+
+
+def _imports(asked: argparse.Namespace) -> int:
+    told = _Told("refused")
+    for report in told.heard(scan(asked.paths, None)):
+        for module, name in report.imports:
+            if module is None or name is None:
+                print("unknown")
+            else:
+                print(quoted(module), quoted(name))
+        print(f"{shown(report.path)}: {shown(report.why, 1000) or report.status}")
+    return told.status()
+
+
+def _learn(asked: argparse.Namespace) -> int:
+    learned = Learned()
+    learned.add(scan(asked.paths, None, recursive=asked.recursive, progress=sys.stderr))
+    for line in learned.lines():
+        print(line)
+    for report in learned.left_out:
+        print(f"# left out: {shown(report.path)}: {shown(report.why)}")
+    for line in _lint_lines(learned.pairs):
+        print(f"# {line}")
+    return FAULT if learned.left_out else YES
+
+
+def _lint(asked: argparse.Namespace) -> int:
+    lines = list(_lint_lines(AllowList.from_file(asked.list)))
+    for line in lines:
+        print(line)
+    return NO if len(lines) > 1 else YES
+
+
+def _lint_lines(pairs: Iterable[Tuple[str, str]]) -> Iterator[str]:
+    dangers = dangers_in(pairs)
+    for danger in dangers:
+        yield f"{shown(danger.name)}: {danger.why} Example: {danger.example}"
+    yield (
+        f"{len(dangers)} names are known to be dangerous; no other name is thereby harmless"
+    )
+
+
+if __name__ == "__main__":
+    sys.exit(main())

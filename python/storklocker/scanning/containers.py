@@ -1,0 +1,308 @@
+"""What a file is, by its content, and the pieces that it holds. Nothing is written to disk."""
+
+from __future__ import annotations
+
+import ast
+import bz2
+import contextlib
+import gzip
+import io
+import lzma
+import struct
+import tarfile
+import zipfile
+import zlib
+from typing import Any, BinaryIO, Callable, Dict, Iterator, NamedTuple, Optional, Union
+
+DEPTH = 4
+"""How deep containers may stand in one another."""
+MEMBERS = 20_000
+"""How many members of a file are looked at."""
+UNPACKED = 1 << 30
+"""How many bytes of a file are unpacked, over all of its members."""
+
+RATIO, PROBED = 200, 1 << 26
+"""What unpacks to so many bytes, and so many times its size, is a finding, whatever it holds."""
+
+_FRONT = 1 << 16
+_TAR_MAGIC = slice(257, 262)
+
+
+class Piece(NamedTuple):
+    """Something that may be a pickle: where it is, what is around it, and its bytes as they come."""
+
+    path: str
+    kind: str
+    stream: "Stream"
+
+
+class Finding(NamedTuple):
+    """Something that could not be looked at, and why."""
+
+    path: str
+    kind: str
+    why: str
+
+
+class TooMuch(Exception):
+    """A file unpacks to more than may be unpacked."""
+
+
+class Budget:
+    """What may still be unpacked of a file."""
+
+    def __init__(self) -> None:
+        self.bytes, self.members = UNPACKED, MEMBERS
+
+    def spend(self, count: int) -> None:
+        """Counts bytes that were unpacked."""
+        self.bytes -= count
+        if self.bytes < 0:
+            raise TooMuch(f"it unpacks to more than {UNPACKED:,} bytes")
+
+
+class Stream:
+    """Bytes as they come, of which the first can be looked at before they are taken."""
+
+    def __init__(self, file: Any, budget: Optional[Budget] = None) -> None:
+        self._file, self._budget, self._front = file, budget, b""
+        self.taken = 0
+
+    def front(self) -> bytes:
+        """The first bytes, some 65,536 of them, which stay to be read."""
+        if not self._front:
+            self._front = self._take(_FRONT)
+        return self._front
+
+    def read(self, count: int = -1) -> bytes:
+        """The next bytes, fewer only at the end."""
+        front, self._front = self._front, b""
+        if 0 <= count <= len(front):
+            self._front = front[count:]
+            return front[:count]
+        parts, wanted = [front], count - len(front)
+        while count < 0 or wanted > 0:
+            part = self._take(_FRONT if count < 0 else min(wanted, 1 << 20))
+            if not part:
+                break
+            parts.append(part)
+            wanted -= len(part)
+        return b"".join(parts)
+
+    def _take(self, count: int) -> bytes:
+        data: bytes = self._file.read(count)
+        self.taken += len(data)
+        if self._budget is not None:
+            self._budget.spend(len(data))
+        return data
+
+
+Found = Iterator[Union[Piece, Finding]]
+
+
+def pieces_of(path: str, file: BinaryIO) -> Found:
+    """The pieces of a file, containers opened."""
+    yield from _opened(path, "", Stream(file), file, Budget(), DEPTH)
+
+
+def _opened(
+    path: str, around: str, stream: Stream, seekable: Optional[BinaryIO], budget: Budget, depth: int
+) -> Found:
+    kind = _kind_of(stream.front())
+    if kind is None:
+        yield Piece(path, around or "pickle", stream)
+    elif depth == 0:
+        yield Finding(path, kind, f"containers stand more than {DEPTH} deep in one another")
+    else:
+        try:
+            yield from _OPENERS[kind](path, stream, seekable, budget, depth - 1)
+        except TooMuch as error:
+            yield Finding(path, kind, str(error))
+        except _BROKEN as error:
+            yield Finding(path, kind, f"it is broken: {type(error).__name__}: {error}")
+
+
+_BROKEN = (
+    OSError, EOFError, ValueError, RuntimeError, NotImplementedError, struct.error, SyntaxError,
+    zipfile.BadZipFile, tarfile.TarError, lzma.LZMAError, zlib.error, MemoryError, RecursionError,
+)
+
+
+def _kind_of(front: bytes) -> Optional[str]:
+    for kind, magic in _MAGIC.items():
+        if front.startswith(magic):
+            return kind
+    if front[_TAR_MAGIC] == b"ustar":
+        return "tar"
+    if front[:1] == b"x" and len(front) > 2 and int.from_bytes(front[:2], "big") % 31 == 0:
+        return "zlib"
+    return None
+
+
+_MAGIC = {
+    "zip": b"PK\x03\x04",
+    "gzip": b"\x1f\x8b",
+    "bzip2": b"BZh",
+    "xz": b"\xfd7zXZ\x00",
+    "npy": b"\x93NUMPY",
+}
+
+
+def _inside(path: str, name: str) -> str:
+    return f"{path}!{name}"
+
+
+def _open_zip(
+    path: str, stream: Stream, seekable: Optional[BinaryIO], budget: Budget, depth: int
+) -> Found:
+    if seekable is None:
+        seekable = io.BytesIO(stream.read())
+    seekable.seek(0)
+    with zipfile.ZipFile(seekable) as archive:
+        entries = archive.infolist()
+        yield from _twice(path, entries)
+        for entry in entries:
+            if entry.is_dir():
+                continue
+            if entry.file_size > max(PROBED, RATIO * entry.compress_size):
+                why = f"it unpacks to {entry.file_size:,} bytes, {RATIO} times its size and more"
+                yield Finding(_inside(path, entry.filename), "zip", why)
+            yield from _member(path, "zip", entry.filename, budget, depth, _zip_opener(archive, entry))
+            if budget.members < 0:
+                return
+
+
+def _zip_opener(archive: zipfile.ZipFile, entry: zipfile.ZipInfo) -> Callable[[], Any]:
+    def opened() -> Any:
+        if entry.flag_bits & 1:
+            raise RuntimeError("it is encrypted")
+        return archive.open(entry)
+
+    return opened
+
+
+def _twice(path: str, entries: Any) -> Found:
+    names = [entry.filename for entry in entries]
+    pickles = [name for name in names if name.rpartition("/")[2].lower() == "data.pkl"]
+    if len(pickles) > 1:
+        yield Finding(path, "zip", f"{len(pickles)} members are called data.pkl: readers differ")
+    seen = set()
+    for name in names:
+        if name in seen:
+            yield Finding(_inside(path, name), "zip", "two members have this name: readers differ")
+        seen.add(name)
+
+
+def _member(
+    path: str, kind: str, name: str, budget: Budget, depth: int, opened: Callable[[], Any]
+) -> Found:
+    """A member of an archive: what goes wrong with it is its own finding."""
+    budget.members -= 1
+    if budget.members < 0:
+        yield Finding(path, kind, f"it has more than {MEMBERS:,} members: the rest was not read")
+        return
+    inside = _inside(path, name)
+    try:
+        with contextlib.closing(opened()) as member:
+            yield from _opened(inside, f"{kind} member", Stream(member, budget), None, budget, depth)
+    except TooMuch:
+        raise
+    except _BROKEN as error:
+        yield Finding(inside, kind, f"it can't be read: {error}")
+
+
+def _open_tar(
+    path: str, stream: Stream, seekable: Optional[BinaryIO], budget: Budget, depth: int
+) -> Found:
+    file: Any = stream
+    with tarfile.open(fileobj=file, mode="r|") as archive:
+        for entry in archive:
+            if entry.isfile():
+                yield from _member(
+                    path, "tar", entry.name, budget, depth, lambda: archive.extractfile(entry)
+                )
+            if budget.members < 0:
+                return
+
+
+def _unpacker(wrap: Callable[[Any], Any], kind: str) -> Callable[..., Found]:
+    def opened(
+        path: str, stream: Stream, seekable: Optional[BinaryIO], budget: Budget, depth: int
+    ) -> Found:
+        unpacked = Stream(wrap(stream), budget)
+        yield from _opened(path, kind, unpacked, None, budget, depth)
+        yield from _bomb(path, kind, stream, unpacked)
+
+    return opened
+
+
+def _bomb(path: str, kind: str, packed: Stream, unpacked: Stream) -> Found:
+    """The finding where a stream unpacks to very many times its size."""
+    while unpacked.taken < PROBED and unpacked.read(_FRONT):
+        pass
+    if unpacked.taken >= PROBED and unpacked.taken > RATIO * packed.taken:
+        yield Finding(path, kind, f"it unpacks to more than {RATIO} times its size")
+
+
+class _Zlib:
+    """A stream of zlib, as a file."""
+
+    def __init__(self, stream: Stream) -> None:
+        self._stream, self._unpacked = stream, zlib.decompressobj()
+
+    def read(self, count: int) -> bytes:
+        while not self._unpacked.eof:
+            packed = self._unpacked.unconsumed_tail or self._stream.read(1 << 14)
+            part = self._unpacked.decompress(packed, count)
+            if part:
+                return part
+            if not packed:
+                raise EOFError("it ends before it is whole")
+        return b""
+
+
+def _open_zlib(
+    path: str, stream: Stream, seekable: Optional[BinaryIO], budget: Budget, depth: int
+) -> Found:
+    # (two bytes make no zlib: what does not unpack at all is looked at as it is)
+    try:
+        zlib.decompressobj().decompress(stream.front(), 1)
+    except zlib.error:
+        yield Piece(path, "pickle", stream)
+        return
+    unpacked = Stream(_Zlib(stream), budget)
+    yield from _opened(path, "zlib", unpacked, None, budget, depth)
+    yield from _bomb(path, "zlib", stream, unpacked)
+
+
+def _open_npy(
+    path: str, stream: Stream, seekable: Optional[BinaryIO], budget: Budget, depth: int
+) -> Found:
+    front = stream.read(8)
+    width = 2 if front[6:7] == b"\x01" else 4
+    length = int.from_bytes(stream.read(width), "little")
+    if length > _FRONT:
+        raise ValueError("its header is too long")
+    header: Dict[str, Any] = ast.literal_eval(stream.read(length).decode("latin-1"))
+    if _has_objects(header["descr"]):
+        yield Piece(path, "npy", stream)
+
+
+def _has_objects(kind: Any) -> bool:
+    """Whether the type of an array's items has objects, which are pickled."""
+    if isinstance(kind, str):
+        return "O" in kind
+    if isinstance(kind, (list, tuple)):
+        return any(_has_objects(it) for it in kind)
+    return False
+
+
+_OPENERS: Dict[str, Callable[..., Found]] = {
+    "zip": _open_zip,
+    "tar": _open_tar,
+    "gzip": _unpacker(lambda stream: gzip.GzipFile(fileobj=stream), "gzip"),
+    "bzip2": _unpacker(bz2.BZ2File, "bzip2"),
+    "xz": _unpacker(lzma.LZMAFile, "xz"),
+    "zlib": _open_zlib,
+    "npy": _open_npy,
+}

@@ -1,0 +1,182 @@
+"""The report of a piece: whether it is a pickle, what it would import, whether a list permits it."""
+
+from __future__ import annotations
+
+import hashlib
+import itertools
+import pickletools
+from typing import Any, BinaryIO, Deque, Dict, Iterator, List, Optional, Tuple
+
+from .._answers import Reason, Verdict
+from .._limits import Limits
+from .._lists import AllowList, imports_in, with_room
+from .._storklocker import check, imports
+from .containers import Finding, Piece, Stream, pieces_of
+from .dangers import dangers_in
+from .report import ACCEPTED, NO_PICKLE, REFUSED, UNREADABLE, UNVOUCHED, Listed, Pair, Report
+
+AROUND = 10
+"""How many instructions of a listing stand before the place of a refusal, and from it on."""
+
+_NOTHING = AllowList(())
+_FIRST = 512
+_LISTED = 1 << 22
+_IMPORTING = (Reason.ImportOffList, Reason.UnknownImport, Reason.ExtensionCode)
+_JOBLIB = "joblib.numpy_pickle"
+_LARGE = Limits(passed=1 << 40)
+
+
+def reports_of(path: str, file: BinaryIO, allow: Optional[AllowList]) -> Iterator[Report]:
+    """The reports of a file: one for each piece of it that may be a pickle, one for each finding."""
+    for found in pieces_of(path, file):
+        if isinstance(found, Finding):
+            yield Report(found.path, found.kind, UNREADABLE, found.why)
+        else:
+            yield _judged(found, allow)
+
+
+def _judged(piece: Piece, allow: Optional[AllowList]) -> Report:
+    front = piece.stream.front()
+    if piece.kind != "npy" and not _may_be_pickle(front):
+        return Report(piece.path, piece.kind, NO_PICKLE, size=len(front))
+    row = Row(piece.stream, allow)
+    verdict, why = row.refusal, f"yes: {row.taken} bytes, {len(row.imports)} names"
+    if verdict is not None:
+        why = verdict.line(64)
+        if row.number:
+            why = why.replace("no at", f"no in pickle {row.number} at", 1)
+        elif not _is_claimed(front) and not row.imports:
+            return Report(piece.path, piece.kind, NO_PICKLE, size=row.size)
+    report = Report(
+        piece.path,
+        "row of pickles" if row.pickles > 1 else piece.kind,
+        ACCEPTED if verdict is None else REFUSED,
+        why,
+        row.size,
+        row.sha256,
+        row.pickles,
+        tuple(row.imports),
+        tuple(pair for pair in row.imports if allow is not None and pair not in allow),
+        tuple(dangers_in(row.imports)),
+        tuple(row.listing),
+        0 if verdict is None else verdict.at,
+    )
+    if any((pair[0] or "").endswith(_JOBLIB) for pair in row.imports):
+        raw = "joblib writes arrays raw between instructions: no check vouches for them"
+        return report._replace(kind="joblib", status=UNVOUCHED, why=f"{raw}; what was read: {why}")
+    return report
+
+
+def _is_claimed(front: bytes) -> bool:
+    """Whether the first bytes say that it is a pickle: PROTO, with a protocol that there is."""
+    return len(front) > 1 and front[0] == 0x80 and front[1] <= 5
+
+
+def _may_be_pickle(front: bytes) -> bool:
+    """Whether these first bytes claim to be a pickle, or a reader would get to an import or on."""
+    verdict = check(front, _NOTHING)
+    return (
+        _is_claimed(front)
+        or verdict.accepted
+        or verdict.reason in _IMPORTING
+        or verdict.reason is Reason.Truncated
+    )
+
+
+class Row:
+    """The pickles that stand one after the other in a stream, up to the first that is refused.
+
+    imports: what they would import, each pair once; of the refused one what it imports up to there.
+    refusal: the verdict of the first that is refused, with its place in the stream.
+    number: which one that is, counted from 0.
+    pickles, taken: how many are accepted, and of how many bytes.
+    size, sha256: of all bytes that were read.
+    """
+
+    def __init__(self, stream: Stream, allow: Optional[AllowList]) -> None:
+        self._stream, self._allow, self._digest = stream, allow, hashlib.sha256()
+        self.imports: Dict[Pair, None] = {}
+        self.refusal: Optional[Verdict] = None
+        self.listing: List[Listed] = []
+        self.number = self.pickles = self.taken = self.size = 0
+        self._read_all()
+        self.sha256 = self._digest.hexdigest()
+
+    def _read_all(self) -> None:
+        data, at, window = b"", 0, _FIRST
+        while True:
+            if len(data) - at < window:
+                data, at = self._grown(data[at:], window), 0
+            piece: bytes = data[at : at + window]
+            if not piece and self.pickles:
+                return
+            verdict, room = _imports_of(piece)
+            if verdict.reason is Reason.Truncated and len(piece) == window:
+                window *= 2
+                continue
+            self._judge(piece, verdict)
+            if not verdict:
+                return
+            self.imports.update((it, None) for it in imports_in(room))
+            self.pickles += 1
+            at, self.taken, window = at + verdict.taken, self.taken + verdict.taken, _FIRST
+
+    def _grown(self, data: bytes, wanted: int) -> bytes:
+        more = self._stream.read(max(wanted - len(data), _FIRST))
+        self._digest.update(more)
+        self.size += len(more)
+        return data + more
+
+    def _judge(self, piece: bytes, found: Verdict) -> None:
+        """Keeps the refusal of a pickle, where it is the first: by the list, or by any."""
+        if not found:
+            # (a reader runs what stands before the place: what it imports first is told)
+            first = check(piece, _NOTHING, limits=_LARGE)
+            if first.pair is not None:
+                self.imports[first.pair] = None
+        if self.refusal is not None:
+            return
+        under = found if self._allow is None else check(piece, self._allow, limits=_LARGE)
+        if not under:
+            self.number = self.pickles
+            self.refusal = under._replace(at=self.taken + under.at)
+            self.listing = list(_listing(piece, under.at, self.taken))
+
+
+def _imports_of(data: bytes) -> Tuple[Verdict, bytes]:
+    (verdict,), room = with_room(lambda size: imports(data, _NOTHING, _LARGE, "unknown", size))
+    return verdict, room
+
+
+def _listing(data: bytes, at: int, offset: int) -> Iterator[Listed]:
+    """The instructions around a place, in the words of `pktool dis`, as `pickletools` reads them."""
+    if at > _LISTED:
+        return
+    before: Deque[Listed] = Deque(maxlen=AROUND)
+    found = _lines(data, offset)
+    for line in found:
+        if line.at >= offset + at:
+            yield from before
+            yield line
+            yield from itertools.islice(found, AROUND - 1)
+            return
+        before.append(line)
+    yield from before
+
+
+def _lines(data: bytes, offset: int) -> Iterator[Listed]:
+    try:
+        for opcode, argument, place in pickletools.genops(data):
+            at = (place or 0) + offset
+            code = ord(opcode.code)
+            yield Listed(at, f"{at}: {code:02x} {opcode.name}{_shown(argument)}")
+    except Exception:
+        # (pickletools raises what it meets: the verdict has said what is wrong there)
+        return
+
+
+def _shown(argument: Any) -> str:
+    if argument is None:
+        return ""
+    text = repr(argument)
+    return f" {text}" if len(text) <= 80 else f" {text[:80]}..."

@@ -1,0 +1,63 @@
+"""List files written from what trusted files import."""
+
+from __future__ import annotations
+
+from typing import Dict, Iterable, Iterator, List, Tuple
+
+from .report import ACCEPTED, UNVOUCHED, Report, shown
+
+_SHOWN = 5
+
+
+class Learned:
+    """What trusted files import: the pairs, each with the files that want it."""
+
+    def __init__(self) -> None:
+        self.pairs: Dict[Tuple[str, str], List[str]] = {}
+        self.left_out: List[Report] = []
+
+    def add(self, reports: Iterable[Report]) -> None:
+        """Takes what the files import. What can't be read, and what is unknown, is left out."""
+        for report in reports:
+            if report.status == ACCEPTED:
+                for module, name in report.imports:
+                    if module is not None and name is not None:
+                        self.pairs.setdefault((module, name), []).append(report.path)
+            if report.status not in (ACCEPTED, UNVOUCHED) and report.is_finding:
+                self.left_out.append(report)
+            elif report.status == UNVOUCHED or (None, None) in report.imports:
+                self.left_out.append(report)
+
+    def lines(self) -> Iterator[str]:
+        """The list file: sorted, each pair with the files that want it."""
+        yield "# Learned from trusted files: look through it before it is used."
+        yield "version = 1"
+        yield ""
+        yield "[imports]"
+        modules: Dict[str, List[str]] = {}
+        for module, name in sorted(self.pairs):
+            modules.setdefault(module, []).append(name)
+        for module, names in modules.items():
+            yield f"{quoted(module)} = ["
+            for name in names:
+                yield f"  {quoted(name)},  # {_wanted_by(self.pairs[module, name])}"
+            yield "]"
+
+
+def quoted(text: str) -> str:
+    """A text as TOML quotes it, in ASCII but for letters and digits of any script."""
+    return '"' + "".join(map(_quoted_character, text)) + '"'
+
+
+def _quoted_character(character: str) -> str:
+    if character in '"\\':
+        return "\\" + character
+    if character.isprintable():
+        return character
+    number = ord(character)
+    return f"\\u{number:04x}" if number < 0x10000 else f"\\U{number:08x}"
+
+
+def _wanted_by(files: List[str]) -> str:
+    named = ", ".join(shown(file, 80) for file in files[:_SHOWN])
+    return named if len(files) <= _SHOWN else f"{named} and {len(files) - _SHOWN} more"
