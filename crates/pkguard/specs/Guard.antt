@@ -13,6 +13,7 @@ use Rattle.pkcheck.specs.Refused.{Refused}
 use Rattle.pkcheck.specs.RowOfPickles.{AcceptedRow, RefusedInRow}
 use Rattle.pkcheck.specs.declared.allow.error.AllowError.{AllowError}
 use Rattle.pkcheck.specs.declared.allow.error.AllowError.TheVariants.{Syntax, OutOfMemory}
+use Rattle.pkcheck.specs.declared.loading.Loading.{Loading}
 use Rattle.pkcheck.specs.declared.old_strings.OldStrings.{OldStrings}
 use Rattle.pkguard.specs.declared.settings.Settings.{Settings}
 use Rattle.pkguard.specs.declared.verdict.Verdict.{Verdict}
@@ -107,22 +108,22 @@ pub record IsNo (old : OldStrings) (policy : Policy) (limits : Bounds)
   pub room : after ≡ names_placed pair before
 
 -- all bytes are one pickle or more, one after the other, and each is accepted
-pub record IsYesOfRow (old : OldStrings) (policy : Policy) (limits : Bounds)
+pub record IsYesOfRow (loading : Loading) (policy : Policy) (limits : Bounds)
     (pickles before after : List ℕ) (verdict : Verdict) : Type 0 where
   pub rest : List ℕ
   pub imports : List Asked
-  pub accepted : AcceptedRow old policy limits (memory pickles) (memory rest) verdict.taken
+  pub accepted : AcceptedRow loading policy limits (memory pickles) (memory rest) verdict.taken
       verdict.pickles imports
   pub told : verdict ≡ verdict_of_yes verdict.taken (length imports) verdict.pickles
   pub room : after ≡ before
 
 -- a pickle of the row is refused, at a place and for a reason, and those before it are accepted
-pub record IsNoOfRow (old : OldStrings) (policy : Policy) (limits : Bounds)
+pub record IsNoOfRow (loading : Loading) (policy : Policy) (limits : Bounds)
     (pickles before after : List ℕ) (verdict : Verdict) : Type 0 where
   pub rest : List ℕ
   pub why : Reason
   pub pair : Option Asked
-  pub refused : RefusedInRow old policy limits (memory pickles) (memory rest) verdict.pickles
+  pub refused : RefusedInRow loading policy limits (memory pickles) (memory rest) verdict.pickles
       verdict.at why pair
   pub told : verdict ≡ verdict_of_no verdict.at why pair verdict.pickles
   pub room : after ≡ names_placed pair before

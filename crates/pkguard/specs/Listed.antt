@@ -1,7 +1,7 @@
 -- The pairs of a list file, and its limits, as they are told to C.
-use Rattle.std.specs.Prelude.{◌++◌, List, [], ◌∷◌, ℕ, codes, Option, Some}
+use Rattle.std.specs.Prelude.{◌++◌, ◌&&◌, nat_le, Bool, if◌then◌else◌, List, [], ◌∷◌, ℕ, codes, Option, Some}
 use Rattle.toml.specs.Data.{Data, string, table, array, Items, no_items, item, Members, no_members, member, get_member}
-use Rattle.pkops.specs.Limits.{Bounds}
+use Rattle.pkops.specs.Limits.{Bounds, greatest}
 use Rattle.pkcheck.specs.Knowledge.{Asked, AskedPair}
 use Rattle.pkguard.specs.declared.settings.Settings.{Settings}
 
@@ -13,7 +13,8 @@ pair_in module_name _ = []
 -- the pairs of a module, in the order of its array
 abbrev pub pairs_among : List ℕ → Items → List Asked
 pairs_among module_name no_items = []
-pairs_among module_name (item value rest) = pair_in module_name value ++ pairs_among module_name rest
+pairs_among module_name (item value rest) =
+    pair_in module_name value ++ pairs_among module_name rest
 
 -- the pairs of a module
 abbrev pub pairs_of : List ℕ → Data → List Asked
@@ -30,6 +31,12 @@ abbrev pub pairs_in : Option Data → List Asked
 pairs_in (Some (table modules)) = pairs_at modules
 pairs_in _ = []
 
+-- the limits are no larger than they may be where nothing is said of large data
+abbrev pub are_usual : Bounds → Bool
+are_usual limits =
+    nat_le limits.counted greatest.counted && nat_le limits.stack greatest.stack
+    && nat_le limits.memo greatest.memo
+
 -- the settings that have these limits, and are standard but for them
 abbrev pub settings_with : Bounds → Settings
 settings_with limits = record {
@@ -38,9 +45,9 @@ settings_with limits = record {
   stack = limits.stack;
   memo = limits.memo;
   passed = limits.passed;
-  numbers = 4_294_967_295;
+  numbers = limits.numbers;
   old_strings = 0;
   row_memo = 0;
-  large = 0;
+  large = if are_usual limits then 0 else 1;
   sorted = 0;
 }

@@ -1,6 +1,8 @@
 -- What the settings of a check say.
 use Rattle.std.specs.Prelude.{◌≡◌, ◌==◌, ◌&&◌, ℕ, Bool, true, List, nat_le, if◌then◌else◌, min, Option, Some, None}
-use Rattle.pkops.specs.Limits.{Bounds, bounds}
+use Rattle.pkops.specs.Limits.{Bounds, bounds, greatest, greatest_large}
+use Rattle.pkcheck.specs.declared.loading.Loading.{Loading}
+use Rattle.pkcheck.specs.declared.loading.Memo.TheVariants.{Fresh, Kept}
 use Rattle.pkcheck.specs.declared.old_strings.OldStrings.{OldStrings}
 use Rattle.pkcheck.specs.declared.old_strings.OldStrings.TheVariants.{Unknown, Ascii, Bytes}
 use Rattle.pkcheck.specs.declared.pairs.Pair.{Pair}
@@ -12,7 +14,19 @@ abbrev pub limits_within : Bounds → Settings → Bounds
 limits_within most settings =
     bounds (min settings.counted most.counted) (min settings.stack most.stack)
     (min settings.memo most.memo) most.depth most.values (min settings.passed most.passed)
-    most.numbers
+    (min settings.numbers most.numbers)
+
+-- the limits of a check under pairs: each at most the greatest, of large data or not
+abbrev pub limits_by : Settings → Bounds
+limits_by settings =
+    limits_within (if settings.large == 1 then greatest_large else greatest) settings
+
+-- how the pickles of a row are loaded, where this becomes of old strings
+abbrev pub loading_by : Settings → OldStrings → Loading
+loading_by settings old = record {
+  memo = if settings.row_memo == 1 then Kept else Fresh;
+  old_strings = old;
+}
 
 -- what old strings become by their number, which is frozen
 abbrev pub old_strings_of : ℕ → Option OldStrings
@@ -22,12 +36,11 @@ old_strings_of number =
     else if number == 2 then Some Bytes
     else None
 
--- the settings have the size of this version, and ask for nothing that it can't do: no memo number
--- is too great, each pickle of a row begins with an empty memo, and limits are no larger than usual
+-- the settings have the size of this version, and what is said by 0 or 1 is said so
 abbrev pub is_served : Settings → Bool
 is_served settings =
-    settings.size == 64 && nat_le 4_294_967_295 settings.numbers && settings.row_memo == 0
-    && settings.large == 0 && nat_le settings.sorted 1
+    settings.size == 64 && nat_le settings.row_memo 1 && nat_le settings.large 1
+    && nat_le settings.sorted 1
 
 -- what old strings become, where the settings are served
 abbrev pub old_strings_in : Settings → Option OldStrings

@@ -13,14 +13,14 @@ mod settings;
 mod verdict;
 
 ghost use Rattle.std.specs.Prelude.{◌≡◌, ◌≢◌, ◌≤◌, None, Some};
-ghost use Rattle.pkops.specs.Limits.{greatest};
 ghost use Rattle.pkcheck.specs.Import.{policy_of};
 ghost use Rattle.pkguard.specs.Guard.{IsFault, IsImports, IsListRead, IsOfAnotherSize};
 ghost use Rattle.pkguard.specs.Guard.{IsNo, IsNoOfRow, IsUsage, IsYes, IsYesOfRow, Under};
-ghost use Rattle.pkguard.specs.Settings.{PermitsPairs, Sets, limits_within, listed_by};
+ghost use Rattle.pkguard.specs.Settings.{PermitsPairs, Sets, limits_by, limits_within};
+ghost use Rattle.pkguard.specs.Settings.{listed_by, loading_by};
 
 use pkcheck::laws::halving;
-use pkcheck::{OldStrings, Pair, Policy, check_all, check_as};
+use pkcheck::{Loading, OldStrings, Pair, Policy, check_all, check_as};
 use pkops::Limits;
 use pkread::Memory;
 pub use settings::Settings;
@@ -31,8 +31,8 @@ pub use verdict::Verdict;
 /// status, which also stands in the verdict.
 ///
 /// Of pairs in order, by module and then by name, a listed one is found in logarithmic time; in any
-/// other order the answer is the same. Where the caller vouches for their order, one that is missing
-/// is refused in logarithmic time too. `room` gets the two names of a refused pair, one behind the
+/// other order the answer is the same. Where the caller vouches for their order, one that is
+/// missing is refused in logarithmic time too. `room` gets the two names of a refused pair, one behind the
 /// other, where it has room for both, and stays as it is where it hasn't.
 #[unsafe(no_mangle)]
 pub extern "C" fn pkguard_check_pairs(
@@ -48,10 +48,10 @@ pub extern "C" fn pkguard_check_pairs(
     ensures list { out.new.status ≢ 2 }
     ensures pairs { PermitsPairs settings.now pairs.now }
     ensures yes { out.new.status ≡ 0 → Sets settings.now (λ old. IsYes old
-        (Some (listed_by settings.now pairs.now)) (limits_within greatest settings.now) pickle.now
+        (Some (listed_by settings.now pairs.now)) (limits_by settings.now) pickle.now
         room.old room.new out.new) }
     ensures no { out.new.status ≡ 1 → Sets settings.now (λ old. IsNo old
-        (Some (listed_by settings.now pairs.now)) (limits_within greatest settings.now) pickle.now
+        (Some (listed_by settings.now pairs.now)) (limits_by settings.now) pickle.now
         room.old room.new out.new) }
     ensures usage { out.new.status ≡ 3 → IsUsage settings.now room.old room.new out.new }
 {
@@ -59,43 +59,9 @@ pub extern "C" fn pkguard_check_pairs(
     *out = match settings::old_strings_in(settings) {
         None => verdict::of_usage(),
         Some(old) => {
-            let limits = settings::limits_of(settings, &Limits::GREATEST);
+            let limits = settings::limits_by(settings);
             let policy = settings::policy_by(settings, pairs);
             answered(alloc, &policy, &limits, old, pickle, room)
-        }
-    };
-    out.status
-}
-
-/// Checks pickles that stand one after the other, up to the end of the bytes, under pairs.
-#[unsafe(no_mangle)]
-pub extern "C" fn pkguard_check_row(
-    alloc: Global,
-    pairs: &[Pair<'_>],
-    settings: &Settings,
-    pickles: &[u8],
-    room: &mut [u8],
-    out: &mut Verdict,
-) -> u32
-    ensures status { result ≡ out.new.status }
-    ensures bound { out.new.status ≤ 3 }
-    ensures list { out.new.status ≢ 2 }
-    ensures pairs { PermitsPairs settings.now pairs.now }
-    ensures yes { out.new.status ≡ 0 → Sets settings.now (λ old. IsYesOfRow old
-        (Some (listed_by settings.now pairs.now)) (limits_within greatest settings.now) pickles.now
-        room.old room.new out.new) }
-    ensures no { out.new.status ≡ 1 → Sets settings.now (λ old. IsNoOfRow old
-        (Some (listed_by settings.now pairs.now)) (limits_within greatest settings.now) pickles.now
-        room.old room.new out.new) }
-    ensures usage { out.new.status ≡ 3 → IsUsage settings.now room.old room.new out.new }
-{
-    halving();
-    *out = match settings::old_strings_in(settings) {
-        None => verdict::of_usage(),
-        Some(old) => {
-            let limits = settings::limits_of(settings, &Limits::GREATEST);
-            let policy = settings::policy_by(settings, pairs);
-            answered_row(alloc, &policy, &limits, old, pickles, room)
         }
     };
     out.status
@@ -127,6 +93,42 @@ pub extern "C" fn pkguard_check_list(
     *out = match settings::old_strings_in(settings) {
         None => verdict::of_usage(),
         Some(old) => listed(alloc, list, settings, old, pickle, room),
+    };
+    out.status
+}
+
+/// Checks pickles that stand one after the other, up to the end of the bytes, under pairs. The
+/// settings say what the memo of one is to the next.
+#[unsafe(no_mangle)]
+pub extern "C" fn pkguard_check_row(
+    alloc: Global,
+    pairs: &[Pair<'_>],
+    settings: &Settings,
+    pickles: &[u8],
+    room: &mut [u8],
+    out: &mut Verdict,
+) -> u32
+    ensures status { result ≡ out.new.status }
+    ensures bound { out.new.status ≤ 3 }
+    ensures list { out.new.status ≢ 2 }
+    ensures pairs { PermitsPairs settings.now pairs.now }
+    ensures yes { out.new.status ≡ 0 → Sets settings.now (λ old. IsYesOfRow
+        (loading_by settings.now old) (Some (listed_by settings.now pairs.now))
+        (limits_by settings.now) pickles.now room.old room.new out.new) }
+    ensures no { out.new.status ≡ 1 → Sets settings.now (λ old. IsNoOfRow
+        (loading_by settings.now old) (Some (listed_by settings.now pairs.now))
+        (limits_by settings.now) pickles.now room.old room.new out.new) }
+    ensures usage { out.new.status ≡ 3 → IsUsage settings.now room.old room.new out.new }
+{
+    halving();
+    *out = match settings::old_strings_in(settings) {
+        None => verdict::of_usage(),
+        Some(old) => {
+            let limits = settings::limits_by(settings);
+            let policy = settings::policy_by(settings, pairs);
+            let loading = settings::loading_by(settings, old);
+            answered_row(alloc, &policy, &limits, loading, pickles, room)
+        }
     };
     out.status
 }
@@ -178,9 +180,9 @@ pub extern "C" fn pkguard_imports(
     ensures bound { out.new.status ≤ 3 }
     ensures list { out.new.status ≢ 2 }
     ensures yes { out.new.status ≡ 0 → Sets settings.now (λ old. IsImports old
-        (limits_within greatest settings.now) pickle.now room.old room.new wanted.new out.new) }
+        (limits_by settings.now) pickle.now room.old room.new wanted.new out.new) }
     ensures no { out.new.status ≡ 1 → Sets settings.now (λ old. IsNo old None
-        (limits_within greatest settings.now) pickle.now room.old room.new out.new) }
+        (limits_by settings.now) pickle.now room.old room.new out.new) }
     ensures usage { out.new.status ≡ 3 → IsUsage settings.now room.old room.new out.new }
     ensures nothing { out.new.status ≢ 0 → wanted.new ≡ 0 }
 {
@@ -188,7 +190,7 @@ pub extern "C" fn pkguard_imports(
     *out = match settings::old_strings_in(settings) {
         None => verdict::of_usage(),
         Some(old) => {
-            let limits = settings::limits_of(settings, &Limits::GREATEST);
+            let limits = settings::limits_by(settings);
             imported(alloc, &limits, old, pickle, room, wanted)
         }
     };
@@ -266,7 +268,7 @@ fn listed(
     match list::list_from(alloc, list) {
         Err(error) => verdict::of_fault(error),
         Ok(allow) => {
-            let limits = settings::limits_of(settings, &allow.limits());
+            let limits = settings::limits_within(settings, &allow.limits());
             answered(alloc, &Policy::Listed(&allow), &limits, old, pickle, room)
         }
     }
@@ -299,18 +301,18 @@ fn answered_row(
     alloc: Global,
     policy: &Policy<'_>,
     limits: &Limits,
-    old: OldStrings,
+    loading: Loading,
     pickles: &[u8],
     room: &mut [u8],
 ) -> Verdict
     ensures bound { result.status ≤ 1 }
-    ensures yes { result.status ≡ 0 → IsYesOfRow old (policy_of policy.now) limits.now pickles.now
-        room.old room.new result }
-    ensures no { result.status ≡ 1 → IsNoOfRow old (policy_of policy.now) limits.now pickles.now
-        room.old room.new result }
+    ensures yes { result.status ≡ 0 → IsYesOfRow loading (policy_of policy.now) limits.now
+        pickles.now room.old room.new result }
+    ensures no { result.status ≡ 1 → IsNoOfRow loading (policy_of policy.now) limits.now
+        pickles.now room.old room.new result }
 {
     let mut source = Memory::new(pickles);
-    match check_all(alloc, &mut source, policy, limits, old) {
+    match check_all(alloc, &mut source, policy, limits, loading) {
         Ok(yes) => verdict::of_yes(yes.taken, &yes.imports, yes.pickles),
         Err(all) => verdict::of_no(&all.no, all.pickle, room),
     }

@@ -1,11 +1,11 @@
 //! Settings of a check.
 ghost use Rattle.std.specs.Prelude.{◌≡◌, ◌==◌, Some};
 ghost use Rattle.pkcheck.specs.Import.{policy_of};
-ghost use Rattle.pkguard.specs.Listed.{settings_with};
+ghost use Rattle.pkguard.specs.Listed.{are_usual, settings_with};
 ghost use Rattle.pkguard.specs.Settings.{is_served, limits_within, old_strings_in};
-ghost use Rattle.pkguard.specs.Settings.{listed_by, old_strings_of};
+ghost use Rattle.pkguard.specs.Settings.{limits_by, listed_by, loading_by, old_strings_of};
 
-use pkcheck::{OldStrings, Pair, Policy};
+use pkcheck::{Loading, Memo, OldStrings, Pair, Policy};
 use pkops::Limits;
 use std::cmp;
 
@@ -27,9 +27,10 @@ pub struct Settings {
     pub numbers: u64,
     /// What old strings become: 0 for anything, 1 for a text where they are ASCII, 2 for bytes.
     pub old_strings: u32,
-    /// What the memo of a pickle is to the next one of a row: 0 for nothing.
+    /// What the memo of a pickle is to the next one of a row: 0 where each begins with an empty
+    /// one, 1 where it is kept.
     pub row_memo: u32,
-    /// Whether larger limits are allowed: 0 where they are not.
+    /// Whether the limits may be those of large data: 1 where they may, else 0.
     pub large: u32,
     /// Whether the caller vouches for the order of its pairs: 1 where it does, else 0.
     pub sorted: u32,
@@ -38,16 +39,12 @@ pub struct Settings {
 /// How many bytes the settings of this version have.
 const SETTINGS_SIZE: u64 = 64;
 
-/// Whether this library serves the settings: their size is its own, and it can do what each number
-/// but that of old strings asks for.
+/// Whether the settings have the size of those of this version, and each number but that of old
+/// strings stands for something.
 fn is_served(settings: &Settings) -> bool
     ensures { result ≡ is_served settings.now }
 {
-    has_size(settings)
-        && settings.numbers >= u64::from(u32::MAX)
-        && settings.row_memo == 0
-        && settings.large == 0
-        && settings.sorted <= 1
+    has_size(settings) && settings.row_memo <= 1 && settings.large <= 1 && settings.sorted <= 1
 }
 
 /// Whether the settings have the size of those of this version.
@@ -67,12 +64,21 @@ pub fn with_limits(limits: &Limits) -> Settings
         stack: limits.stack(),
         memo: limits.memo(),
         passed: limits.passed(),
-        numbers: u64::from(u32::MAX),
+        numbers: limits.numbers(),
         old_strings: 0,
         row_memo: 0,
-        large: 0,
+        large: if are_usual(limits) { 0 } else { 1 },
         sorted: 0,
     }
+}
+
+/// Whether limits are no larger than they may be where nothing is said of large data.
+fn are_usual(limits: &Limits) -> bool
+    ensures { result ≡ are_usual limits.now }
+{
+    limits.counted() <= Limits::GREATEST.counted()
+        && limits.stack() <= Limits::GREATEST.stack()
+        && limits.memo() <= Limits::GREATEST.memo()
 }
 
 /// What old strings become, where the settings are served.
@@ -109,8 +115,31 @@ pub fn policy_by<'a>(settings: &Settings, pairs: &'a [Pair<'a>]) -> Policy<'a>
     }
 }
 
+/// How the pickles of a row are loaded, where this becomes of old strings.
+pub fn loading_by(settings: &Settings, old_strings: OldStrings) -> Loading
+    ensures { result ≡ loading_by settings.now old_strings }
+{
+    let memo = if settings.row_memo == 1 {
+        Memo::Kept
+    } else {
+        Memo::Fresh
+    };
+    Loading { memo, old_strings }
+}
+
+/// The limits of a check under pairs.
+pub fn limits_by(settings: &Settings) -> Limits
+    ensures { result ≡ limits_by settings.now }
+{
+    if settings.large == 1 {
+        limits_within(settings, &Limits::GREATEST_LARGE)
+    } else {
+        limits_within(settings, &Limits::GREATEST)
+    }
+}
+
 /// The limits of a check with these settings, each at most that of the others.
-pub fn limits_of(settings: &Settings, most: &Limits) -> Limits
+pub fn limits_within(settings: &Settings, most: &Limits) -> Limits
     ensures { result ≡ limits_within most.now settings.now }
 {
     let limits = Limits::large(
@@ -126,7 +155,7 @@ pub fn limits_of(settings: &Settings, most: &Limits) -> Limits
     let Some(limits) = limits.with_passed(cmp::min(settings.passed, most.passed())) else {
         return *most;
     };
-    match limits.with_numbers(most.numbers()) {
+    match limits.with_numbers(cmp::min(settings.numbers, most.numbers())) {
         Some(limits) => limits,
         None => *most,
     }

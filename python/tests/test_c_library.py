@@ -1,0 +1,66 @@
+"""The C library: a C program that calls it, under sanitizers, and what the shared library shows."""
+
+import re
+import subprocess
+import tempfile
+import unittest
+from pathlib import Path
+
+from common import ARCHIVE, COMPILER, PACKAGE, PYTHON, compiled
+
+TESTS = PYTHON / "tests"
+SOURCES = [str(PYTHON / "storklocker.c"), str(PYTHON / "heap.c")]
+SANITIZED = "-O1 -g -fno-omit-frame-pointer -fsanitize=address,undefined -fno-sanitize-recover=all"
+WRAPPED = "-Wl,--wrap=malloc,--wrap=realloc,--wrap=free"
+STRICT = "-Wall -Wextra -Wpedantic -Wconversion -Wshadow -Wmissing-prototypes -Werror"
+CALLS = ["check_list", "check_pairs", "check_row", "imports", "read_list", "version"]
+
+
+class Library(unittest.TestCase):
+    def setUp(self):
+        folder = tempfile.TemporaryDirectory()
+        self.addCleanup(folder.cleanup)
+        self.folder = Path(folder.name)
+
+    def said(self, *words):
+        return subprocess.run(words, check=True, capture_output=True, text=True).stdout
+
+    def test_a_program_under_sanitizers(self):
+        words = [*SANITIZED.split(), WRAPPED, "-pthread", *SOURCES, ARCHIVE]
+        program = compiled(self.folder, TESTS / "c_library.c", str(TESTS / "refusing.c"), *words)
+        ran = subprocess.run([program], capture_output=True, text=True)
+        self.assertEqual((ran.returncode, ran.stdout, ran.stderr), (0, "", ""))
+
+    def test_the_shared_library(self):
+        library, visible = self.folder / "libstorklocker.so.0", self.folder / "visible"
+        visible.write_text("{ global: storklocker_*; local: *; };\n")
+        words = "-O2 -fPIC -shared -Wl,-soname,libstorklocker.so.0 -Wl,-z,defs"
+        subprocess.run(
+            [COMPILER, *words.split(), f"-I{PACKAGE}", *SOURCES, ARCHIVE,
+             f"-Wl,--version-script={visible}", "-o", str(library)],
+            check=True,
+        )
+        names = self.said("nm", "-D", "--defined-only", str(library))
+        head = self.said("objdump", "-p", str(library))
+        self.assertEqual(re.findall(r" T (\w+)", names), [f"storklocker_{call}" for call in CALLS])
+        self.assertRegex(head, r"SONAME +libstorklocker\.so\.0\n")
+
+    def test_header_and_code_without_warnings(self):
+        for standard in ("c99", "c11", "c17"):
+            subprocess.run(
+                [COMPILER, f"-std={standard}", *STRICT.split(), f"-I{PACKAGE}", "-c", SOURCES[0],
+                 "-o", str(self.folder / "code.o")],
+                check=True,
+            )
+        user = self.folder / "user.cc"
+        user.write_text(
+            '#include "storklocker.h"\n'
+            "static_assert(sizeof(storklocker_settings) == 64, \"\");\n"
+            "const storklocker_settings standard = STORKLOCKER_STANDARD;\n"
+        )
+        words = ["-x", "c++", "-std=c++11", "-Wall", "-Wextra", "-Werror", f"-I{PACKAGE}", "-c"]
+        subprocess.run([COMPILER, *words, str(user), "-o", str(self.folder / "user.o")], check=True)
+
+
+if __name__ == "__main__":
+    unittest.main()
