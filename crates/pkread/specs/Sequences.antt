@@ -1,5 +1,6 @@
 -- Two sequences of instructions in the same bytes.
 use Rattle.std.specs.Prelude.{◌≡◌, ℕ, List, ◌∷◌, ◌++◌, All}
+use Rattle.pkops.specs.Contents.{IsGood}
 use Rattle.pkops.specs.Spelling.{Instruction, spelling}
 use Rattle.pkops.specs.declared.op.Op.{Op}
 use Rattle.pkread.specs.Admission.{IsAllowedBy}
@@ -12,6 +13,12 @@ OneSequence =
     IsSequence limit instructions → IsSequence other others →
     spellings instructions ++ rest ≡ spellings others ++ more →
     (instructions ≡ others) × (rest ≡ more)
+
+-- bytes have one instruction at their front
+abbrev pub OneFront : Type 0
+OneFront =
+    (i j : Instruction) (rest more : List ℕ) → IsGood i → IsGood j →
+    spelling i ++ rest ≡ spelling j ++ more → (i ≡ j) × (rest ≡ more)
 
 -- a sequence begins with these instructions, and one more is spelled behind them
 pub record GoesOnBehind (sequence front : List Instruction) (rest more : List ℕ) : Type 0 where

@@ -6,7 +6,7 @@ ghost use Rattle.pkread.specs.Pieces.{FramesBreak, FramesGoOn, FramesHold};
 ghost use Rattle.pkread.specs.Run.{EndIsRead, EndOfHeads, HeadIsRead, NextIsRead, PassedIsRead};
 ghost use Rattle.pkread.specs.Run.{ReadingBegins, ReadingGoesOn, RefusalIsRead, RefusalOfHeads};
 ghost use Rattle.pkread.specs.Rows.{TakingLaws};
-ghost use Rattle.pkread.specs.Sequences.{OneSequence, SequenceGoesOn};
+ghost use Rattle.pkread.specs.Sequences.{OneFront, OneSequence, SequenceGoesOn};
 ghost use Rattle.pkread.specs.Walked.{EndIsWalked, ItemIsWalked, RefusalIsWalked, WalkBegins};
 
 use pkops::laws::{growth, one_answer, one_spelling};
@@ -68,10 +68,11 @@ pub fn frames()
     ensures refused { FramesBreak }
 {}
 
-/// Bytes have one sequence at their front, whatever the limits on payloads, and it begins with any
-/// instructions that they have there and of which none is STOP.
+/// Bytes have one instruction at their front, and one sequence, whatever the limits on payloads. It
+/// begins with any instructions that they have there and of which none is STOP.
 #[inline]
 pub fn one_sequence()
+    ensures front { OneFront }
     ensures one { OneSequence }
     ensures goes_on { SequenceGoesOn }
 {

@@ -1,5 +1,8 @@
-use Rattle.pkread.proofs.OneSequence.{one_sequence, sequence_goes_on}
+use Rattle.pkread.proofs.OneSequence.{one_front, one_sequence, sequence_goes_on}
 use Rattle.pkread.proofs.laws.one_sequence.Goals as goal
+
+pub returns-clause-front : goal.returns-clause-front
+returns-clause-front c = one_front c.one_spelling.ensures
 
 pub returns-clause-one : goal.returns-clause-one
 returns-clause-one c = one_sequence c.one_spelling.ensures
