@@ -11,5 +11,7 @@ pub mod Payloads
 pub mod Checked
 pub mod Hearing
 pub mod RowOfPickles
+pub mod Exclusive
+pub mod EachSetting
 mod AnswerExamples
 mod RowExamples

@@ -188,8 +188,9 @@ impl Machine {
     pub fn step_passed(&mut self, op: Op, policy: &Policy) -> Result<Moved, Reason>
         requires passed { IsTrue (is_passed op) }
         requires running { self.old.stopped ≡ false }
-        ensures { (instruction : Instruction) → instruction.op ≡ op
+        ensures step { (instruction : Instruction) → instruction.op ≡ op
             → IsStep (policy_of policy.now) instruction self.old self.new result }
+        ensures imports { self.new.imports ≡ self.old.imports }
     {
         if let Some(earlier) = self.refused {
             return Err(earlier);

@@ -30,13 +30,13 @@ step_unused : (names : Names) (gives : Gives) (i : Instruction) (o q : Outcome) 
 step_unused names gives i o q s (Ok t) e = operated_unused _ gives i t o q s e
 step_unused names gives i o q s (Err b) e = refl
 
-perform_unused : (e : Effect) (i : Instruction) (s : State) (o q : Outcome) → effect_asks e ≡ false → perform e i s o ≡ perform e i s q
+pub perform_unused : (e : Effect) (i : Instruction) (s : State) (o q : Outcome) → effect_asks e ≡ false → perform e i s o ≡ perform e i s q
 perform_unused (Operates takes names gives) i s o q h = step_unused names gives i o q s (operands takes s.shape.entries) h
 perform_unused (Moves m) i s o q h = refl
 perform_unused Stops i s o q h = refl
 perform_unused Raises i s o q h = refl
 
-kept : (os : List Outcome) → outcomes_after false os ≡ os
+pub kept : (os : List Outcome) → outcomes_after false os ≡ os
 kept [] = refl
 kept (o ∷ os) = refl
 

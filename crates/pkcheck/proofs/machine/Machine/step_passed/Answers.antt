@@ -11,8 +11,8 @@ use Rattle.pkcheck.proofs.Stepping.Longest.{longest}
 use Rattle.pkcheck.proofs.Stepping.Passing.{lacks_room, passed_admitted, passes}
 use Rattle.pkcheck.proofs.machine.Machine.step_passed.Goals as goal
 
-pub returns-in-Ok : goal.returns-in-Ok
-returns-in-Ok c i same =
+pub returns-in-Ok-clause-step : goal.returns-in-Ok-clause-step
+returns-in-Ok-clause-step c i same =
     let p = policy_of c.args.policy.now in
     let e = passed_effect c.args.self.now.old_strings i (subst (λ o. IsTrue (is_passed o)) (sym same) c.requires.passed) ∙ (ap effect_of same ∙ c.class_passed.ensures c.requires.passed) in
     let stack = subst (λ (k : Knowledge). length k.entries ≤ c.self.inside.limits.stack) c.in-Ok.ensures.ok c.in-Ok.ensures.room in
@@ -21,8 +21,8 @@ returns-in-Ok c i same =
     (rw (← c.self.view_is) (λ j. record { knowledge = c.in-Ok.ensures.ok j; limits = c.self.inside.limits; old_strings = c.self.inside.old_strings; imports = c.make.ensures.imports j; off = option_map asked_shown c.self.inside.off; refused = c.self.inside.refused; stopped = c.self.inside.stopped; texts = c.in-Ok.ensures.texts j })))
     (rw (← c.self.view_is) c.in_default.is)
 
-pub returns-in-Err : goal.returns-in-Err
-returns-in-Err c i same =
+pub returns-in-Err-clause-step : goal.returns-in-Err-clause-step
+returns-in-Err-clause-step c i same =
     let p = policy_of c.args.policy.now in
     let e = passed_effect c.args.self.now.old_strings i (subst (λ o. IsTrue (is_passed o)) (sym same) c.requires.passed) ∙ (ap effect_of same ∙ c.class_passed.ensures c.requires.passed) in
     let (v, long) = longest c.args.policy.now in

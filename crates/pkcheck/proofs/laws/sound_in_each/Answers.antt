@@ -1,0 +1,5 @@
+use Rattle.pkcheck.proofs.Wholes.EachSetting.{sound_in_each}
+use Rattle.pkcheck.proofs.laws.sound_in_each.Goals as goal
+
+pub returns : goal.returns
+returns c = sound_in_each

@@ -1,0 +1,13 @@
+-- What holds of the runs of a pickle whatever old strings become.
+use Rattle.std.specs.Prelude.{ℕ, Bool, List}
+use Rattle.pkops.specs.Spelling.{Instruction}
+use Rattle.pkcheck.specs.declared.old_strings.OldStrings.{OldStrings}
+use Rattle.pkcheck.specs.declared.old_strings.OldStrings.TheVariants.{Unknown}
+use Rattle.pkcheck.specs.WholeRuns.{Sound}
+
+-- where all runs end well in which nothing is said of old strings, so do those of each setting: what
+-- an old string becomes is one of the objects that it may have been
+abbrev pub SoundInEach : Type 0
+SoundInEach =
+    (setting : OldStrings) (instructions : List Instruction) (list : List ℕ → List ℕ → Bool) →
+    Sound Unknown instructions list → Sound setting instructions list
