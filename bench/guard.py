@@ -27,10 +27,14 @@ REFUSED = b"\x80\x04\x8c\x05posix\x94\x8c\x06system\x94\x93\x94."
 
 def arguments():
     parser = argparse.ArgumentParser(description=__doc__.splitlines()[0])
-    parser.add_argument("--rounds", type=int, default=15, help="the best of so many counts; %(default)s")
+    parser.add_argument(
+        "--rounds", type=int, default=15, help="the best of so many counts; %(default)s"
+    )
     parser.add_argument("--calls", type=int, default=2000, help="calls a round; %(default)s")
     parser.add_argument("--archive", help="a libpkguard.a, in place of proving and building it")
-    parser.add_argument("--process", action="store_true", help="also a process of the program for each pickle")
+    parser.add_argument(
+        "--process", action="store_true", help="also a process of the program for each pickle"
+    )
     return parser.parse_args()
 
 
@@ -97,9 +101,16 @@ def pickles(storklocker, asked):
     """A row for each size; answers how many bare loads a guarded one of a small pickle takes."""
     few = storklocker.AllowList(PAIRS)
     guard, ratios = storklocker.Guard(few), []
-    print("| Pickle | `pickle.loads` | `check` | `guard.loads` | beside `pickle.loads` | `storklocker.loads` |")
+    print(
+        "| Pickle | `pickle.loads` | `check` | `guard.loads` | beside `pickle.loads` | `storklocker.loads` |"
+    )
     print("|---|---|---|---|---|---|")
-    sizes = [(b"N.", asked.calls), (job(6), asked.calls), (records(350), asked.calls // 50), (records(10_000), 3)]
+    sizes = [
+        (b"N.", asked.calls),
+        (job(6), asked.calls),
+        (records(350), asked.calls // 50),
+        (records(10_000), 3),
+    ]
     for data, count in sizes:
         calls = [
             lambda: pickle.loads(data),
@@ -120,7 +131,9 @@ def pickles(storklocker, asked):
 
 def lists(storklocker, asked):
     """A yes and a no under lists of many lengths."""
-    print("\n| Pairs | `check`, accepted | `check`, refused | refused by `guard.loads` |\n|---|---|---|---|")
+    print(
+        "\n| Pairs | `check`, accepted | `check`, refused | refused by `guard.loads` |\n|---|---|---|---|"
+    )
     data = job(6)
     for count in (len(PAIRS), 1000, 100_000, 1_000_000):
         listed = storklocker.AllowList(many(count))
@@ -132,15 +145,25 @@ def lists(storklocker, asked):
             except storklocker.Refused:
                 return
 
-        calls = [lambda: storklocker.check(data, listed), lambda: storklocker.check(REFUSED, listed), refused]
+        calls = [
+            lambda: storklocker.check(data, listed),
+            lambda: storklocker.check(REFUSED, listed),
+            refused,
+        ]
         slow = 20 if count > 1000 else asked.calls
-        print(f"| {count:,} | " + " | ".join(f"{it:,.2f}" for it in in_turns(calls, asked.rounds, slow)) + " |")
+        print(
+            f"| {count:,} | "
+            + " | ".join(f"{it:,.2f}" for it in in_turns(calls, asked.rounds, slow))
+            + " |"
+        )
 
 
 def threads(storklocker, asked):
     """Checks of a megabyte by several threads, in checks a second."""
     listed, data = storklocker.AllowList([]), records(29_000)
-    print(f"\n| Threads that check {len(data):,} bytes | checks a second | beside one |\n|---|---|---|")
+    print(
+        f"\n| Threads that check {len(data):,} bytes | checks a second | beside one |\n|---|---|---|"
+    )
     one = None
 
     def work():
@@ -171,7 +194,11 @@ def imported(asked):
         named = {**os.environ, "PYTHONPATH": str(PYTHON), "PYTHONPYCACHEPREFIX": cache}
         named.pop("PYTHONDONTWRITEBYTECODE", None)
         took = [
-            float(subprocess.run([sys.executable, "-c", code], capture_output=True, text=True, env=named).stdout)
+            float(
+                subprocess.run(
+                    [sys.executable, "-c", code], capture_output=True, text=True, env=named
+                ).stdout
+            )
             for _ in range(asked.rounds + 1)
         ]
     print(f"\nimport: {1000 * min(took):.1f} ms beyond `pickle`")

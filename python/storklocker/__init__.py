@@ -5,8 +5,8 @@
     guard = storklocker.Guard(storklocker.AllowList({"collections": ["OrderedDict"]}))
     job = guard.loads(data)              # raises storklocker.Refused where the answer is a no
 
-A `Guard` stands wherever the module `pickle` stood: `load`, `loads`, `dump`, `dumps`, `Pickler`, `Unpickler`. What is
-checked is what is loaded: one immutable `bytes` object.
+A `Guard` stands wherever the module `pickle` stood: `load`, `loads`, `dump`, `dumps`, `Pickler`,
+`Unpickler`. What is checked is what is loaded: one immutable `bytes` object.
 
     check, check_row     the Verdict of a pickle, or of a row of pickles, of which nothing is loaded
     loads                a guarded load by one call
@@ -18,14 +18,16 @@ checked is what is loaded: one immutable `bytes` object.
     ListFault            what a text that is no list file raises; a ValueError
     Refusal, context     what on_refusal is told, and how a service says what it loads
 
-A yes covers every run of the pickle machine: each import is on the list, each step finds what it needs, and one object
-is left. It doesn't say that the listed names are harmless, nor that loading succeeds. docs/PYTHON.md has the rest.
+A yes covers every run of the pickle machine: each import is on the list, each step finds what it
+needs, and one object is left. It doesn't say that the listed names are harmless, nor that loading
+succeeds. docs/PYTHON.md has the rest.
 """
 
 from ._answers import Import, ListFault, MoreBytes, Reason, Refused, RowVerdict, Verdict
 from ._limits import Limits
 from ._lists import STANDARD, AllowList
-from ._guard import Guard, Refusal, context, imports, loads, missing
+from ._guard import Guard, imports, loads, missing
+from ._refusal import Refusal, context
 from ._storklocker import check, check_row
 from ._storklocker import version as __version__
 

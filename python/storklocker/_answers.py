@@ -68,7 +68,9 @@ class Verdict(NamedTuple):
     reason: Optional[Reason] = None
     """At a no: why."""
     number: Optional[int] = None
-    """The code byte of UnknownOpcode, the protocol of UnsupportedProtocol, the entry of MissingMemo."""
+    """The code byte of UnknownOpcode, the protocol of UnsupportedProtocol, the entry of
+    MissingMemo.
+    """
     pair: Optional[Tuple[str, str]] = None
     """The module and the name of ImportOffList."""
     pickles: int = 0
@@ -82,7 +84,8 @@ class Verdict(NamedTuple):
 
     @property
     def missing(self) -> Tuple[Tuple[str, str], ...]:
-        """The pair off the list at which the check ended; `storklocker.missing` gives all of them."""
+        """The pair off the list at which the check ended; `storklocker.missing` gives all of them.
+        """
         return () if self.pair is None else (self.pair,)
 
     def line(self, most: Optional[int] = None) -> str:
@@ -122,8 +125,9 @@ class Import(NamedTuple):
 class Refused(pickle.UnpicklingError):
     """A pickle was refused, and nothing of it was loaded.
 
-    Its text, made when it is asked for, is the program's line, with names shortened to 64 bytes and how many more,
-    and a hint where there is one. `verdict`, `at`, `reason`, `number` and `pair` are whole.
+    Its text, made when it is asked for, is the program's line, with names shortened to 64 bytes and
+    how many more, and a hint where there is one. `verdict`, `at`, `reason`, `number` and `pair` are
+    whole.
     """
 
     def __init__(self, verdict: Verdict, hint: str = "") -> None:
@@ -180,7 +184,8 @@ class MoreBytes(Refused):
 
 
 class ListFault(ValueError):
-    """A text is no list file. `fault` says why, in the program's words, such as `Shape(Imports)`."""
+    """A text is no list file. `fault` says why, in the program's words, such as `Shape(Imports)`.
+    """
 
     def __init__(self, fault: str) -> None:
         super().__init__(fault)

@@ -28,9 +28,9 @@ class AllowList(_Pairs):
         AllowList({"collections": ["OrderedDict", "deque"], "datetime": ["datetime"]})
         AllowList.from_file("list.toml")
 
-    It is iterated in order, and has `in`, `len`, `|`, `==` and a hash; it can be copied, pickled and shared by threads.
-    A pair is looked up in logarithmic time, so a long list costs little. `limits` are those of its list file, which hold
-    in each check under it; None of pairs.
+    It is iterated in order, and has `in`, `len`, `|`, `==` and a hash; it can be copied, pickled
+    and shared by threads. A pair is looked up in logarithmic time, so a long list costs little.
+    `limits` are those of its list file, which hold in each check under it; None of pairs.
 
     A name permits what it names alone: `("os", "path")` doesn't permit `("os", "path.join")`.
     """
@@ -45,9 +45,7 @@ class AllowList(_Pairs):
         return cls._of(_encoded(pairs), None)
 
     @classmethod
-    def _of(
-        cls, pairs: Iterable[Tuple[bytes, bytes]], limits: Optional[Limits]
-    ) -> "AllowList":
+    def _of(cls, pairs: Iterable[Tuple[bytes, bytes]], limits: Optional[Limits]) -> "AllowList":
         held = STANDARD if limits is None else limits
         made = super().__new__(cls, tuple(sorted(set(pairs))), held, limits is not None)
         made._limits = limits
@@ -74,7 +72,9 @@ class AllowList(_Pairs):
 
     @classmethod
     def from_file(cls, file: Union[str, "os.PathLike[str]"]) -> "AllowList":
-        """The list of a list file. Raises ListFault where it is none, and OSError where it can't be read."""
+        """The list of a list file. Raises ListFault where it is none, and OSError where it can't be
+        read.
+        """
         with open(file, "rb") as opened:
             return cls.from_text(opened.read())
 
@@ -122,7 +122,8 @@ class AllowList(_Pairs):
         return (_list_of, (type(self), self._pairs, self._limits))
 
     def _for_loading(self) -> "AllowList":
-        """The pairs that can be imported as they are: without those whose module only Python 2 has."""
+        """The pairs that can be imported as they are: without those whose module only Python 2 has.
+        """
         if self._loaded is None:
             lost = [pair for pair in self if _names.is_lost(pair)]
             self._loaded = _AS_IT_IS if not lost else self._without(lost)
@@ -178,7 +179,9 @@ def _pairs_in(given: Any) -> Iterator[Any]:
         return
     for module, names in given.items():
         if isinstance(names, (str, bytes)):
-            raise TypeError(f"the names of module {module!r} are a list of texts, not {names!r:.80}")
+            raise TypeError(
+                f"the names of module {module!r} are a list of texts, not {names!r:.80}"
+            )
         for name in names:
             yield (f"a name of module {module!r}", (module, name))
 
@@ -227,7 +230,9 @@ def records(room: bytes) -> Iterator[Tuple[Optional[bytes], Optional[bytes]]]:
 def imports_in(room: bytes) -> List[Import]:
     """The imports that the library gave in a room."""
     return [
-        Import(None, None) if module is None or name is None else Import(module.decode(), name.decode())
+        Import(None, None)
+        if module is None or name is None
+        else Import(module.decode(), name.decode())
         for module, name in records(room)
     ]
 

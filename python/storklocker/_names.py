@@ -9,7 +9,9 @@ Pair = Tuple[str, str]
 
 
 def renamed(pair: Pair) -> Pair:
-    """The pair that CPython imports for this one, in a pickle of protocol 0 to 2 under `fix_imports`."""
+    """The pair that CPython imports for this one, in a pickle of protocol 0 to 2 under
+    `fix_imports`.
+    """
     if pair in tables.NAME_MAPPING:
         new: Pair = tables.NAME_MAPPING[pair]
         return new
@@ -33,7 +35,8 @@ def old_names(pair: Pair) -> Iterator[Pair]:
 
 
 def is_lost(pair: Pair) -> bool:
-    """Whether Python 3 has another name for the pair, and this Python no module of the pair's name."""
+    """Whether Python 3 has another name for the pair, and this Python no module of the pair's name.
+    """
     if renamed(pair) == pair:
         return False
     from importlib.util import find_spec

@@ -43,10 +43,12 @@ def _arguments() -> Dict[bytes, Any]:
 
 
 class Walk:
-    """Takes just the instructions of one pickle from a file that can't step back, without judging them.
+    """Takes just the instructions of one pickle from a file that can't step back, without judging
+    them.
 
-    Where an instruction is none, or a file ends, it ends too, and a check of what was taken says why. So does it before
-    a payload that is longer than all before it where `is_refused` says so of that.
+    Where an instruction is none, or a file ends, it ends too, and a check of what was taken says
+    why. So does it before a payload that is longer than all before it where `is_refused` says so of
+    that.
     """
 
     def __init__(self, file: Any, is_refused: Callable[[bytes], bool]) -> None:

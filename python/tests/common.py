@@ -19,8 +19,7 @@ PROGRAM = os.environ.get("PKTOOL", str(ROOT / "pktool"))
 COMPILER = os.environ.get("CC", "cc")
 
 LIST_TEXT = (
-    b"version = 1\n[imports]\n"
-    b'collections = ["OrderedDict", "deque"]\ndatetime = ["datetime"]\n'
+    b"version = 1\n[imports]\n" b'collections = ["OrderedDict", "deque"]\ndatetime = ["datetime"]\n'
 )
 LISTED = [("collections", "OrderedDict"), ("collections", "deque"), ("datetime", "datetime")]
 BY_PAIRS = storklocker.AllowList(LISTED)
@@ -51,7 +50,9 @@ def python(code, *words, **environment):
     path = os.pathsep.join([str(PYTHON), str(pathlib.Path(__file__).parent)])
     ran = subprocess.run(
         [sys.executable, *words, "-c", code],
-        capture_output=True, text=True, env={**os.environ, "PYTHONPATH": path, **environment},
+        capture_output=True,
+        text=True,
+        env={**os.environ, "PYTHONPATH": path, **environment},
     )
     assert ran.returncode == 0, ran.stderr
     return ran.stdout

@@ -1,7 +1,9 @@
-"""CPython's own tests of `pickle`, through a guard that permits what they import. Run by test_cpython.py.
+"""CPython's own tests of `pickle`, through a guard that permits what they import. Run by
+test_cpython.py.
 
-The tests run twice: with the module `pickle`, where the pairs that they import are noted, and with a guard under these
-pairs. Each that passes with the one passes with the other, but for the ones below.
+The tests run twice: with the module `pickle`, where the pairs that they import are noted, and with
+a guard under these pairs. Each that passes with the one passes with the other, but for the ones
+below.
 """
 
 import io
@@ -84,7 +86,9 @@ def cases(module):
         def loads(self, data, **named):
             return module.Unpickler(io.BytesIO(data), **named).load()
 
-    class InMemory(pickletester.AbstractPickleTests, pickletester.AbstractUnpickleTests, unittest.TestCase):
+    class InMemory(
+        pickletester.AbstractPickleTests, pickletester.AbstractUnpickleTests, unittest.TestCase
+    ):
         bad_stack_errors = (pickle.UnpicklingError, IndexError)
         truncated_errors = (pickle.UnpicklingError, EOFError)
         truncated_data_error = (pickle.UnpicklingError, "[Tt]runcated")
@@ -162,7 +166,9 @@ def name_of(test):
 
 def main():
     count, plain, left = ran(Plain())
-    guard = storklocker.Guard(storklocker.AllowList(pair for pair in pairs if all(pair)), fix_imports=True)
+    guard = storklocker.Guard(
+        storklocker.AllowList(pair for pair in pairs if all(pair)), fix_imports=True
+    )
     _, guarded, _ = ran(guard)
     wrong = []
     for name in sorted(guarded):
@@ -174,7 +180,10 @@ def main():
             print(f"{name}\n{guarded[name]}")
         else:
             print(f"not covered: {name}: {reason}")
-    print(f"{count} tests, {len(left)} left out by CPython, {len(plain)} fail with pickle too, {len(wrong)} differ")
+    print(
+        f"{count} tests, {len(left)} left out by CPython, {len(plain)} fail with pickle too, "
+        f"{len(wrong)} differ"
+    )
     return 1 if wrong else 0
 
 

@@ -13,7 +13,16 @@ from common import BY_PAIRS, BY_TEXT, LIST_TEXT, PROGRAM, ROOT, SEEDS
 EXAMPLES = ROOT / "examples"
 # Too large to lie beside the others: examples/run-all makes it too.
 LARGE = {"large-payload": b"B\1\0\0\1" + bytes(16_777_217) + b"."}
-PIECES = (b"(", b".", b"0", b"h\x00", b"cos\nsystem\n", b"\x95\x03\0\0\0\0\0\0\0", b"U\x01a", b"U\x01\xe9")
+PIECES = (
+    b"(",
+    b".",
+    b"0",
+    b"h\x00",
+    b"cos\nsystem\n",
+    b"\x95\x03\0\0\0\0\0\0\0",
+    b"U\x01a",
+    b"U\x01\xe9",
+)
 
 
 def said_of(call, data, file, old_strings):
@@ -35,7 +44,11 @@ class Cases(unittest.TestCase):
             if not set(options) <= {"-", "--all", "--old-strings", "unknown", "ascii", "bytes"}:
                 continue
             call = storklocker.check_row if "--all" in options else storklocker.check
-            old_strings = options[options.index("--old-strings") + 1] if "--old-strings" in options else "unknown"
+            old_strings = (
+                options[options.index("--old-strings") + 1]
+                if "--old-strings" in options
+                else "unknown"
+            )
             data = LARGE.get(name) or (EXAMPLES / "pickles" / f"{name}.pickle").read_bytes()
             file = EXAMPLES / "lists" / f"{listed}.toml"
             with self.subTest(pickle=name, list=listed, old_strings=old_strings):
@@ -138,7 +151,9 @@ class Loads(unittest.TestCase):
         told = storklocker.check(b"NN.", BY_PAIRS, limits=few)
         self.assertEqual((told.at, told.reason), (1, storklocker.Reason.TooLarge))
         endless = storklocker.Limits(stack=2**64 - 1)
-        self.assertEqual(storklocker.check(b"N" * 1_000_001, BY_PAIRS, limits=endless).at, 1_000_000)
+        self.assertEqual(
+            storklocker.check(b"N" * 1_000_001, BY_PAIRS, limits=endless).at, 1_000_000
+        )
         with self.assertRaises(ValueError):
             storklocker.Limits(memo=-1)
 
@@ -159,11 +174,18 @@ class Loads(unittest.TestCase):
 
 OLD_STRINGS = [
     # a pickle, and what is said of it where old strings are unknown, texts and bytes
-    ("55 01 61 55 01 62 93 2e", "no at 6: UnknownImport", "yes: 8 bytes, 1 imports", "no at 6: NotText"),
+    (
+        "55 01 61 55 01 62 93 2e",
+        "no at 6: UnknownImport",
+        "yes: 8 bytes, 1 imports",
+        "no at 6: NotText",
+    ),
     ("55 01 e9 2e", "yes: 4 bytes, 0 imports", "no at 0: NotAscii", "yes: 4 bytes, 0 imports"),
     (
         "53 27 5c 78 36 31 27 0a 55 01 62 93 2e",
-        "no at 11: UnknownImport", "yes: 13 bytes, 1 imports", "no at 11: NotText",
+        "no at 11: UnknownImport",
+        "yes: 13 bytes, 1 imports",
+        "no at 11: NotText",
     ),
     ("55 00 4e 61 2e", "yes: 5 bytes, 0 imports", "no at 3: WrongClass", "no at 3: WrongClass"),
 ]
@@ -184,7 +206,9 @@ class OldStrings(unittest.TestCase):
     def test_what_was_checked_is_loaded(self):
         data = b"U\x03abcU\x02de\x86."
         for old_strings, loaded in (
-            ("unknown", ("abc", "de")), ("ascii", ("abc", "de")), ("bytes", (b"abc", b"de"))
+            ("unknown", ("abc", "de")),
+            ("ascii", ("abc", "de")),
+            ("bytes", (b"abc", b"de")),
         ):
             self.assertEqual(storklocker.loads(data, BY_PAIRS, old_strings=old_strings), loaded)
         self.assertEqual(storklocker.loads(b"U\x01\xe9.", BY_PAIRS, old_strings="bytes"), b"\xe9")
@@ -229,7 +253,7 @@ class Pairs(unittest.TestCase):
             self.assertEqual(told.pair, (module, name))
 
     def test_names_beyond_ascii(self):
-        module, name = "müll", "\u540d\x7f\""
+        module, name = "müll", '\u540d\x7f"'
         data = f"\x8c{chr(len(module.encode()))}".encode("latin-1") + module.encode()
         data += bytes([0x8C, len(name.encode())]) + name.encode() + b"\x93."
         self.assertTrue(storklocker.check(data, storklocker.AllowList([(module, name)])))

@@ -91,12 +91,21 @@ class Loads(unittest.TestCase):
             for file in files(data + b"rest"):
                 with self.subTest(file=file):
                     self.assertEqual(GUARD.load(file), pickle.loads(data))
-                    self.assertEqual(file.read(4)[:4], b"rest"[: 4])
+                    self.assertEqual(file.read(4)[:4], b"rest"[:4])
 
     def test_what_pickle_has(self):
         for name in (
-            "HIGHEST_PROTOCOL", "DEFAULT_PROTOCOL", "PickleError", "PicklingError", "UnpicklingError", "Pickler",
-            "PickleBuffer", "dump", "dumps", "format_version", "compatible_formats",
+            "HIGHEST_PROTOCOL",
+            "DEFAULT_PROTOCOL",
+            "PickleError",
+            "PicklingError",
+            "UnpicklingError",
+            "Pickler",
+            "PickleBuffer",
+            "dump",
+            "dumps",
+            "format_version",
+            "compatible_formats",
         ):
             self.assertIs(getattr(GUARD, name), getattr(pickle, name))
         for value in OBJECTS[:4]:
@@ -109,7 +118,12 @@ class Loads(unittest.TestCase):
 
     def test_nothing_of_a_hostile_pickle_is_run(self):
         for guard in (GUARD, NOTHING, Guard(BY_TEXT), Guard(BY_PAIRS, fix_imports=True)):
-            for given in (HOSTILE, bytearray(HOSTILE), HOSTILE + bytes(100_000), bytearray(HOSTILE + bytes(100_000))):
+            for given in (
+                HOSTILE,
+                bytearray(HOSTILE),
+                HOSTILE + bytes(100_000),
+                bytearray(HOSTILE + bytes(100_000)),
+            ):
                 with self.assertRaises(Refused) as raised:
                     guard.loads(given)
                 self.assertEqual(raised.exception.pair, ("posix", "system"))
@@ -138,7 +152,9 @@ class Loads(unittest.TestCase):
                 asyncio.run(GUARD.loads_async(given))
         for given in (None, [("a", "b")], "list.toml", {"a": ["b"]}, AllowList):
             for call in (
-                lambda: Guard(given), lambda: storklocker.loads(b"N.", given), lambda: storklocker.check(b"N.", given),
+                lambda: Guard(given),
+                lambda: storklocker.loads(b"N.", given),
+                lambda: storklocker.check(b"N.", given),
                 lambda: storklocker.check_row(b"N.", given),
             ):
                 with self.subTest(given=given), self.assertRaises(TypeError) as raised:
@@ -176,7 +192,10 @@ class Loads(unittest.TestCase):
         self.assertEqual(guard.loads(b"U\x01\xe9."), b"\xe9")
         self.assertEqual(guard.loads(b"U\x01\xe9.", encoding="bytes"), b"\xe9")
         self.assertEqual(guard.load(io.BytesIO(b"U\x01\xe9.")), b"\xe9")
-        for call in (lambda **it: guard.loads(b"N.", **it), lambda **it: guard.load(io.BytesIO(b"N."), **it)):
+        for call in (
+            lambda **it: guard.loads(b"N.", **it),
+            lambda **it: guard.load(io.BytesIO(b"N."), **it),
+        ):
             for more in ({"encoding": "latin-1"}, {"errors": "replace"}):
                 with self.assertRaises(ValueError):
                     call(**more)
@@ -212,7 +231,13 @@ class Files(unittest.TestCase):
                 self.assertIs(raised.exception.reason, Reason.Truncated)
 
     def test_every_protocol_and_size(self):
-        values = ["a" * 300_000, [*range(20_000)], {"k": ("b" * 70_000,)}, [{"n": k} for k in range(3000)], 1 << 2000]
+        values = [
+            "a" * 300_000,
+            [*range(20_000)],
+            {"k": ("b" * 70_000,)},
+            [{"n": k} for k in range(3000)],
+            1 << 2000,
+        ]
         for value in values:
             for protocol in range(1, 6):  # (a line of protocol 0 has a limit)
                 data = pickle.dumps(value, protocol)
@@ -222,13 +247,19 @@ class Files(unittest.TestCase):
                         self.assertEqual(file.read(4), b"more")
 
     def test_every_opcode_is_walked(self):
-        data = b"S'caf\\xe9\\''\nI5\nF1.5\nL7L\nV\\u00e9\np9\ng9\nT\x01\0\0\0aU\x01b(K\1M\1\0J\1\0\0\0\x8a\1\5\x8b\1\0\0\0\5tt."
+        data = b"S'caf\\xe9\\''\nI5\nF1.5\nL7L\nV\\u00e9\np9\ng9\nT\x01\0\0\0aU\x01b"
+        data += b"(K\1M\1\0J\1\0\0\0\x8a\1\5\x8b\1\0\0\0\5tt."
         data = b"(" + data
         wanted = pickle.loads(data, encoding="latin-1")
         self.assertEqual(NOTHING.load(Minimal(data + b"N."), encoding="latin-1"), wanted)
 
     def test_a_payload_that_is_announced(self):
-        for front in (b"B\xff\xff\xff\x7f", b"\x8e" + b"\xff" * 7 + b"\x7f", b"\x8d" + b"\xff" * 8, b"T\xff\xff\xff\xff"):
+        for front in (
+            b"B\xff\xff\xff\x7f",
+            b"\x8e" + b"\xff" * 7 + b"\x7f",
+            b"\x8d" + b"\xff" * 8,
+            b"T\xff\xff\xff\xff",
+        ):
             file = Piped(front + bytes(1 << 20), 1 << 16)
             with self.subTest(front=front), self.assertRaises(Refused):
                 NOTHING.load(file)
@@ -253,8 +284,12 @@ class Files(unittest.TestCase):
                 self.read = self.readline = lambda *_: None
 
         for file, error in (
-            (Failing(b"N."), OSError), (Silent(), BlockingIOError), (io.StringIO("N."), TypeError),
-            (open(os.devnull), TypeError), (open(os.devnull, "wb"), OSError), (Minimal, TypeError),
+            (Failing(b"N."), OSError),
+            (Silent(), BlockingIOError),
+            (io.StringIO("N."), TypeError),
+            (open(os.devnull), TypeError),
+            (open(os.devnull, "wb"), OSError),
+            (Minimal, TypeError),
         ):
             with self.subTest(file=file), self.assertRaises(error):
                 GUARD.load(file)
@@ -312,7 +347,11 @@ class Rows(unittest.TestCase):
 
     @wants(KEEPS_MEMO)
     def test_the_file_stands_behind_each(self):
-        datas = [pickle.dumps(value, protocol) for value in ("a" * 10_000, [1] * 500, 5) for protocol in range(6)]
+        datas = [
+            pickle.dumps(value, protocol)
+            for value in ("a" * 10_000, [1] * 500, 5)
+            for protocol in range(6)
+        ]
         file = io.BytesIO(b"".join(datas) + b"rest")
         reader, place = GUARD.Unpickler(file), 0
         for data in datas:
@@ -404,18 +443,27 @@ class Inherited(unittest.TestCase):
         self.assertIsNot(GUARD.Unpickler, NOTHING.Unpickler)
         with self.assertRaises(Refused):
             NOTHING.Unpickler(io.BytesIO(b"ccollections\ndeque\n.")).load()
-        self.assertIs(GUARD.Unpickler(io.BytesIO(b"ccollections\ndeque\n.")).load(), collections.deque)
+        self.assertIs(
+            GUARD.Unpickler(io.BytesIO(b"ccollections\ndeque\n.")).load(), collections.deque
+        )
 
 
 class OldNames(unittest.TestCase):
     LISTED = AllowList(
-        [("builtins", "list"), ("copyreg", "_reconstructor"), ("functools", "reduce"), ("__builtin__", "set")]
+        [
+            ("builtins", "list"),
+            ("copyreg", "_reconstructor"),
+            ("functools", "reduce"),
+            ("__builtin__", "set"),
+        ]
     )
 
     def test_a_pair_is_permitted_where_what_becomes_of_it_is(self):
         guard = Guard(self.LISTED, fix_imports=True)
         for pickled, wanted in (
-            (b"c__builtin__\nlist\n.", list), (b"cbuiltins\nlist\n.", list), (b"\x80\x02c__builtin__\nlist\n.", list),
+            (b"c__builtin__\nlist\n.", list),
+            (b"cbuiltins\nlist\n.", list),
+            (b"\x80\x02c__builtin__\nlist\n.", list),
             (b"\x80\x03cbuiltins\nlist\n.", list),
         ):
             with self.subTest(pickled=pickled):
@@ -424,7 +472,11 @@ class OldNames(unittest.TestCase):
                 self.assertTrue(guard.check(pickled))
         self.assertEqual(guard.loads(b"c__builtin__\nreduce\n.").__name__, "reduce")
         # set isn't listed by its name, and protocol 3 names what it means
-        for pickled in (b"c__builtin__\nset\n.", b"\x80\x03c__builtin__\nlist\n.", b"c__builtin__\neval\n."):
+        for pickled in (
+            b"c__builtin__\nset\n.",
+            b"\x80\x03c__builtin__\nlist\n.",
+            b"c__builtin__\neval\n.",
+        ):
             with self.subTest(pickled=pickled), self.assertRaises(Refused):
                 guard.loads(pickled)
             with self.subTest(pickled=pickled), self.assertRaises(Refused):
@@ -434,7 +486,10 @@ class OldNames(unittest.TestCase):
         guard = Guard(self.LISTED, fix_imports=True)
         self.assertIs(guard.loads(b"\x80\x02\x80\x04c__builtin__\nlist\n."), list)
         self.assertIs(guard.load(io.BytesIO(b"\x80\x02\x80\x04c__builtin__\nlist\n.")), list)
-        for pickled in (b"\x80\x04\x80\x02c__builtin__\nlist\n.", b"\x80\x04\x80\x02c__builtin__\nset\n."):
+        for pickled in (
+            b"\x80\x04\x80\x02c__builtin__\nlist\n.",
+            b"\x80\x04\x80\x02c__builtin__\nset\n.",
+        ):
             with self.subTest(pickled=pickled), self.assertRaises(Refused):
                 guard.loads(pickled)
             with self.subTest(pickled=pickled), self.assertRaises(Refused):
@@ -443,7 +498,9 @@ class OldNames(unittest.TestCase):
     @wants(KEEPS_MEMO)
     def test_a_row_of_both(self):
         guard = Guard(self.LISTED, fix_imports=True)
-        reader = guard.Unpickler(io.BytesIO(b"cbuiltins\nlist\n.\x80\x04cbuiltins\nlist\n.c__builtin__\nlist\n."))
+        reader = guard.Unpickler(
+            io.BytesIO(b"cbuiltins\nlist\n.\x80\x04cbuiltins\nlist\n.c__builtin__\nlist\n.")
+        )
         self.assertEqual([reader.load(), reader.load()], [list, list])
         with self.assertRaises(Refused):  # under both lists, since a row is checked as one
             reader.load()
@@ -456,7 +513,11 @@ class OldNames(unittest.TestCase):
             (b"c__builtin__\nlist\n.", "builtins.list, which is listed"),
             (b"c__builtin__\nset\n.", "builtins.set, which is to be listed"),
         ):
-            for call in (guard.loads, lambda it: guard.load(io.BytesIO(it)), lambda it: storklocker.loads(it, self.LISTED)):
+            for call in (
+                guard.loads,
+                lambda it: guard.load(io.BytesIO(it)),
+                lambda it: storklocker.loads(it, self.LISTED),
+            ):
                 with self.assertRaises(Refused) as raised:
                     call(data)
                 self.assertIn(words, str(raised.exception))
@@ -468,7 +529,10 @@ class OldNames(unittest.TestCase):
     def test_each_pair_of_the_tables(self):
         import _compat_pickle
 
-        for old in [*_compat_pickle.NAME_MAPPING, *((module, "name") for module in _compat_pickle.IMPORT_MAPPING)]:
+        for old in [
+            *_compat_pickle.NAME_MAPPING,
+            *((module, "name") for module in _compat_pickle.IMPORT_MAPPING),
+        ]:
             seen = []
 
             class Seen(pickle._Unpickler):
@@ -487,8 +551,15 @@ class OldNames(unittest.TestCase):
 
     def test_what_python_3_writes_in_old_protocols(self):
         allow = AllowList(
-            [("builtins", "range"), ("builtins", "set"), ("copyreg", "_reconstructor"), ("_codecs", "encode"),
-             ("builtins", "FileNotFoundError"), ("builtins", "OSError"), ("collections", "OrderedDict")]
+            [
+                ("builtins", "range"),
+                ("builtins", "set"),
+                ("copyreg", "_reconstructor"),
+                ("_codecs", "encode"),
+                ("builtins", "FileNotFoundError"),
+                ("builtins", "OSError"),
+                ("collections", "OrderedDict"),
+            ]
         )
         guard = Guard(allow, fix_imports=True)
         for value in ({1, 2}, range(3), b"\xff", collections.OrderedDict(a=1)):
@@ -511,13 +582,18 @@ class Told(unittest.TestCase):
         with self.assertRaises(Refused):
             guard.load(io.BytesIO(HOSTILE))
         first, second, third = told
-        self.assertEqual((first.verdict.pair, first.size, first.context), (("posix", "system"), len(HOSTILE), {"key": 7}))
+        self.assertEqual(
+            (first.verdict.pair, first.size, first.context),
+            (("posix", "system"), len(HOSTILE), {"key": 7}),
+        )
         self.assertEqual((bool(second.verdict), second.size, second.context), (True, 4, None))
         self.assertEqual(third.size, len(HOSTILE))
         self.assertEqual(len(first.sha256), 64)
         self.assertTrue(first.enforced)
         again = pickle.loads(pickle.dumps(first))
-        self.assertEqual((repr(again), again.sha256, again.missing), (repr(first), first.sha256, first.missing))
+        self.assertEqual(
+            (repr(again), again.sha256, again.missing), (repr(first), first.sha256, first.missing)
+        )
 
     @wants(HAS_IMPORTS)
     def test_what_is_missing(self):
@@ -569,7 +645,9 @@ class Together(unittest.TestCase):
 
         class Watched(Guard):
             def loads(self, data, /, **named):
-                seen.add((len(data) > 65_536, threading.current_thread() is threading.main_thread()))
+                seen.add(
+                    (len(data) > 65_536, threading.current_thread() is threading.main_thread())
+                )
                 return super().loads(data, **named)
 
         guard = Watched(BY_PAIRS)
@@ -577,8 +655,11 @@ class Together(unittest.TestCase):
         async def all_of_them():
             with guard.context("here"):
                 return await asyncio.gather(
-                    guard.loads_async(b"N."), guard.loads_async(large), guard.loads_async(HOSTILE),
-                    guard.loads_async(HOSTILE + bytes(70_000)), return_exceptions=True,
+                    guard.loads_async(b"N."),
+                    guard.loads_async(large),
+                    guard.loads_async(HOSTILE),
+                    guard.loads_async(HOSTILE + bytes(70_000)),
+                    return_exceptions=True,
                 )
 
         small, many, *refused = asyncio.run(all_of_them())

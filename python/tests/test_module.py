@@ -1,4 +1,6 @@
-"""The extension module: numbers and fields as the header and the crate have them, what it shows, and its memory."""
+"""The extension module: numbers and fields as the header and the crate have them, what it shows,
+and its memory.
+"""
 
 import os
 import re
@@ -13,13 +15,13 @@ from storklocker import Reason, __version__, _storklocker
 from storklocker._answers import LIST_FAULTS
 
 REASONS = (
-    "Source Truncated UnknownOpcode BadArgument TooLarge ExtensionCode UnsupportedProtocol BrokenFrame "
-    "MissingMark MissingItem MissingMemo OddItems WrongClass NotText UnknownImport ImportOffList LeftOver "
-    "OutOfMemory NotAscii"
+    "Source Truncated UnknownOpcode BadArgument TooLarge ExtensionCode UnsupportedProtocol "
+    "BrokenFrame MissingMark MissingItem MissingMemo OddItems WrongClass NotText UnknownImport "
+    "ImportOffList LeftOver OutOfMemory NotAscii"
 ).split()
 FAULTS = (
-    "Syntax Shape(Version) Shape(TopKey) Shape(Imports) Shape(Module) Shape(Name) Version OutOfMemory "
-    "Shape(Limits) Shape(LimitKey) Shape(Limit)"
+    "Syntax Shape(Version) Shape(TopKey) Shape(Imports) Shape(Module) Shape(Name) Version "
+    "OutOfMemory Shape(Limits) Shape(LimitKey) Shape(Limit)"
 ).split()
 OLD_STRINGS = ("unknown", "ascii", "bytes")
 HEADER = (PACKAGE / "storklocker.h").read_text()
@@ -27,7 +29,9 @@ MODULE = Path(_storklocker.__file__)
 
 
 def constant_of(name):
-    """The name as the header spells it: `UnknownOpcode` is UNKNOWN_OPCODE, `Shape(TopKey)` SHAPE_TOP_KEY."""
+    """The name as the header spells it: `UnknownOpcode` is UNKNOWN_OPCODE, `Shape(TopKey)`
+    SHAPE_TOP_KEY.
+    """
     return re.sub(r"(?<=[a-z])(?=[A-Z])", "_", name.replace("(", "_").rstrip(")")).upper()
 
 
@@ -40,7 +44,9 @@ def numbers_in(kind):
 def fields_of_crate(file, name):
     """Names and types of the fields of a structure of the crates."""
     text = (ROOT / "crates" / file).read_text()
-    body = re.search(rf"#\[repr\(C\)\]\n(?:#.*\n)*pub struct {name}\S* \{{(.*?)\n\}}", text, re.S)[1]
+    body = re.search(rf"#\[repr\(C\)\]\n(?:#.*\n)*pub struct {name}\S* \{{(.*?)\n\}}", text, re.S)[
+        1
+    ]
     return re.findall(r"pub (\w+): (.*),", body)
 
 
@@ -77,8 +83,13 @@ class Numbers(unittest.TestCase):
         )
 
     def test_readme_has_them(self):
-        rows = re.findall(r"^\| (\d+) \| ([A-Z]\w+)(?:\(\w+\))? \|", (ROOT / "README.md").read_text(), re.M)
-        self.assertEqual([(name, int(k)) for name, k in ((n, k) for k, n in rows)], list(zip(REASONS, range(1, 99))))
+        rows = re.findall(
+            r"^\| (\d+) \| ([A-Z]\w+)(?:\(\w+\))? \|", (ROOT / "README.md").read_text(), re.M
+        )
+        self.assertEqual(
+            [(name, int(k)) for name, k in ((n, k) for k, n in rows)],
+            list(zip(REASONS, range(1, 99))),
+        )
 
     def test_header_and_crate_have_the_same_fields(self):
         for file, name, header in (
@@ -95,11 +106,17 @@ class Numbers(unittest.TestCase):
 
 class Module(unittest.TestCase):
     def test_nothing_else_is_visible(self):
-        said = subprocess.run(["nm", "-D", "--defined-only", str(MODULE)], check=True, capture_output=True, text=True)
-        self.assertEqual([line.split()[-1] for line in said.stdout.splitlines()], ["PyInit__storklocker"])
+        said = subprocess.run(
+            ["nm", "-D", "--defined-only", str(MODULE)], check=True, capture_output=True, text=True
+        )
+        self.assertEqual(
+            [line.split()[-1] for line in said.stdout.splitlines()], ["PyInit__storklocker"]
+        )
 
     def test_an_old_c_library_suffices(self):
-        said = subprocess.run(["objdump", "-T", str(MODULE)], check=True, capture_output=True, text=True).stdout
+        said = subprocess.run(
+            ["objdump", "-T", str(MODULE)], check=True, capture_output=True, text=True
+        ).stdout
         versions = {tuple(map(int, it.split("."))) for it in re.findall(r"GLIBC_([\d.]+)", said)}
         self.assertLessEqual(max(versions), (2, 17))
         self.assertNotIn("PyUnstable", said)
@@ -126,8 +143,11 @@ class Module(unittest.TestCase):
 
     def test_what_make_says_of_bad_words(self):
         for words, said in (
-            (["--archive"], "wants a value"), (["--archive", "no/such.a"], "no/such.a"), (["--fast"], "--fast"),
-            (["--cc", "no-such-cc"], "no-such-cc"), (["--include", "/no/such"], "Python.h"),
+            (["--archive"], "wants a value"),
+            (["--archive", "no/such.a"], "no/such.a"),
+            (["--fast"], "--fast"),
+            (["--cc", "no-such-cc"], "no-such-cc"),
+            (["--include", "/no/such"], "Python.h"),
         ):
             ran = subprocess.run([str(PYTHON / "make"), *words], capture_output=True, text=True)
             self.assertEqual(ran.returncode, 2, words)
@@ -135,24 +155,48 @@ class Module(unittest.TestCase):
 
     def test_import_costs_little(self):
         code = (
-            "import pickle, sys, time; had = set(sys.modules); began = time.perf_counter();"
-            "import storklocker; print(time.perf_counter() - began, *sorted(set(sys.modules) - had))"
+            "import pickle, sys; had = set(sys.modules); import storklocker;"
+            "print(*sorted(set(sys.modules) - had))"
         )
         said = [python(code).split() for _ in range(5)]
-        for module in ("asyncio", "ctypes", "hashlib", "importlib.util", "pickletools", "json", "typing_extensions"):
+        for module in (
+            "asyncio",
+            "ctypes",
+            "hashlib",
+            "importlib.util",
+            "pickletools",
+            "json",
+            "typing_extensions",
+        ):
             self.assertNotIn(module, said[0][1:])
 
     def test_types(self):
-        found = subprocess.run(["mypy", "--version"], capture_output=True).returncode if _has("mypy") else 1
+        found = (
+            subprocess.run(["mypy", "--version"], capture_output=True).returncode
+            if _has("mypy")
+            else 1
+        )
         if found == 0:
             ran = subprocess.run(
-                ["mypy", "--strict", "--cache-dir", os.devnull, str(PACKAGE)], capture_output=True, text=True, cwd=PYTHON
+                ["mypy", "--strict", "--cache-dir", os.devnull, str(PACKAGE)],
+                capture_output=True,
+                text=True,
+                cwd=PYTHON,
             )
             self.assertEqual(ran.returncode, 0, ran.stdout)
 
     def test_help_is_a_page(self):
-        page = python("import pydoc, storklocker; print(pydoc.render_doc(storklocker, renderer=pydoc.plaintext))")
-        for word in ("class Guard", "class AllowList", "class Limits", "check(data, allow, *, limits=None", "loads("):
+        page = python(
+            "import pydoc, storklocker;"
+            "print(pydoc.render_doc(storklocker, renderer=pydoc.plaintext))"
+        )
+        for word in (
+            "class Guard",
+            "class AllowList",
+            "class Limits",
+            "check(data, allow, *, limits=None",
+            "loads(",
+        ):
             self.assertIn(word, page)
 
 
@@ -235,7 +279,9 @@ class Sanitized(unittest.TestCase):
         words = [str(PYTHON / "make"), "--debug", "--archive", ARCHIVE, "--out", str(cls.package)]
         subprocess.run(words, check=True)
         found = [
-            subprocess.run([*COMPILER.split(), f"-print-file-name={name}"], capture_output=True, text=True).stdout.strip()
+            subprocess.run(
+                [*COMPILER.split(), f"-print-file-name={name}"], capture_output=True, text=True
+            ).stdout.strip()
             for name in ("libasan.so", "libubsan.so")
         ]
         cls.environment = {
@@ -253,7 +299,11 @@ class Sanitized(unittest.TestCase):
 
     def ran(self, *words):
         ran = subprocess.run(
-            [sys.executable, *words], capture_output=True, text=True, env=self.environment, cwd=PYTHON / "tests"
+            [sys.executable, *words],
+            capture_output=True,
+            text=True,
+            env=self.environment,
+            cwd=PYTHON / "tests",
         )
         self.assertEqual(ran.returncode, 0, ran.stdout[-2000:] + ran.stderr[-4000:])
         return ran.stdout
@@ -263,7 +313,15 @@ class Sanitized(unittest.TestCase):
         self.assertGreaterEqual(said.count("answered MemoryError"), 6)
 
     def test_values_and_guards(self):
-        self.ran("-m", "unittest", "-q", "test_values.Lists", "test_values.Copies", "test_guard.Loads", "test_guard.Files")
+        self.ran(
+            "-m",
+            "unittest",
+            "-q",
+            "test_values.Lists",
+            "test_values.Copies",
+            "test_guard.Loads",
+            "test_guard.Files",
+        )
 
 
 if __name__ == "__main__":

@@ -1,4 +1,6 @@
-"""Lists, limits, verdicts and errors are values: compared, copied, pickled, and sent to other processes."""
+"""Lists, limits, verdicts and errors are values: compared, copied, pickled, and sent to other
+processes.
+"""
 
 import copy
 import multiprocessing
@@ -40,7 +42,14 @@ class Lists(unittest.TestCase):
         self.assertNotEqual(listed, LISTED)
         for pair in LISTED:
             self.assertIn(pair, listed)
-        for other in (("collections", "Ordered"), ("datetime",), "ab", None, ("a", 1), ("\ud800", "b")):
+        for other in (
+            ("collections", "Ordered"),
+            ("datetime",),
+            "ab",
+            None,
+            ("a", 1),
+            ("\ud800", "b"),
+        ):
             self.assertNotIn(other, listed)
         self.assertEqual([*AllowList([])], [])
         self.assertFalse(AllowList([]))
@@ -58,7 +67,9 @@ class Lists(unittest.TestCase):
         listed = AllowList.from_text(text)
         self.assertEqual(listed.limits, Limits(stack=7, passed=99))
         self.assertNotEqual(listed, AllowList([]))
-        other = AllowList.from_text("version = 2\n[imports]\na = ['b']\n[limits]\nmemo = 3\npassed = 5\n")
+        other = AllowList.from_text(
+            "version = 2\n[imports]\na = ['b']\n[limits]\nmemo = 3\npassed = 5\n"
+        )
         self.assertEqual((listed | other).limits, Limits(stack=7, memo=3, passed=5))
         self.assertEqual((listed | BY_PAIRS).limits, listed.limits)
 
@@ -70,10 +81,19 @@ class Lists(unittest.TestCase):
 
     def test_what_is_no_list(self):
         for given, words in (
-            (["ab"], "item 0 "), ([("a", "b"), ("c",)], "item 1 "), ([("a", "b", "c")], "item 0 "),
-            ([("a", 1)], "item 0 "), ([(b"a", b"b")], "item 0 "), ([None], "item 0 "), ("ab", "'ab'"),
-            (None, "None"), (5, "5"), ({"a": "b"}, "module 'a'"), ({"a": [1]}, "module 'a'"),
-            ({1: ["a"]}, "module 1"), (LISTED[0], "item 0 "),
+            (["ab"], "item 0 "),
+            ([("a", "b"), ("c",)], "item 1 "),
+            ([("a", "b", "c")], "item 0 "),
+            ([("a", 1)], "item 0 "),
+            ([(b"a", b"b")], "item 0 "),
+            ([None], "item 0 "),
+            ("ab", "'ab'"),
+            (None, "None"),
+            (5, "5"),
+            ({"a": "b"}, "module 'a'"),
+            ({"a": [1]}, "module 'a'"),
+            ({1: ["a"]}, "module 1"),
+            (LISTED[0], "item 0 "),
         ):
             with self.subTest(given=given), self.assertRaises(TypeError) as raised:
                 AllowList(given)
@@ -119,8 +139,10 @@ class Copies(unittest.TestCase):
     def test_verdicts_and_errors(self):
         refused = storklocker.check(b"cos\nsystem\n.", BY_PAIRS)
         errors = [
-            storklocker.Refused(refused), storklocker.Refused(refused, "a hint"),
-            storklocker.MoreBytes(storklocker.check(b"N.", BY_PAIRS), 7), storklocker.ListFault("Syntax"),
+            storklocker.Refused(refused),
+            storklocker.Refused(refused, "a hint"),
+            storklocker.MoreBytes(storklocker.check(b"N.", BY_PAIRS), 7),
+            storklocker.ListFault("Syntax"),
         ]
         for again in copies(refused):
             self.assertEqual(again, refused)
@@ -139,7 +161,8 @@ class Copies(unittest.TestCase):
         for way in ("spawn", "fork"):
             with multiprocessing.get_context(way).Pool(1) as pool:
                 for allow, limits, line in (
-                    (BY_PAIRS, FEW, "no at 1: TooLarge"), (BY_TEXT, None, "no at 2: LeftOver"),
+                    (BY_PAIRS, FEW, "no at 1: TooLarge"),
+                    (BY_TEXT, None, "no at 2: LeftOver"),
                 ):
                     said = pool.apply(told, (allow, limits))
                     self.assertEqual(said[:3], (line, allow, limits))
@@ -150,7 +173,12 @@ class Copies(unittest.TestCase):
                 self.assertEqual(raised.exception.pair, ("os", "system"))
 
     def test_nothing_changes(self):
-        for value, name in ((FEW, "stack"), (BY_PAIRS, "limits"), (BY_PAIRS, "_pairs"), (FEW, "other")):
+        for value, name in (
+            (FEW, "stack"),
+            (BY_PAIRS, "limits"),
+            (BY_PAIRS, "_pairs"),
+            (FEW, "other"),
+        ):
             with self.subTest(name=name), self.assertRaises(AttributeError):
                 setattr(value, name, 3)
 
@@ -194,7 +222,9 @@ class Texts(unittest.TestCase):
         shown = "\\x01" * 64
         self.assertEqual(str(error), f'no at 82: ImportOffList("m","{shown}" and 6 more bytes)')
         self.assertEqual(error.pair, ("m", "\x01" * 70))
-        self.assertEqual(str(error.verdict), f'no at 82: ImportOffList("m","{chr(92)}x01' + "\\x01" * 69 + '")')
+        self.assertEqual(
+            str(error.verdict), f'no at 82: ImportOffList("m","{chr(92)}x01' + "\\x01" * 69 + '")'
+        )
         self.assertLess(len(repr(error)), 600)
 
     def test_the_text_of_a_long_name_costs_nothing(self):
