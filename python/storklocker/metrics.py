@@ -12,7 +12,8 @@ import threading
 from typing import Any, Callable, Dict, Optional, Tuple
 
 from ._answers import Refused
-from ._guard import Guard, Refusal
+from ._guard import Guard
+from ._refusal import Refusal
 
 
 class Counts:
