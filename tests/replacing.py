@@ -8,11 +8,8 @@ they are left out. It prints a line a test, and last how many passed.
 """
 import argparse
 import contextlib
-import functools
-import io
 import os
 import pathlib
-import pickle
 import random
 import resource
 import shutil
@@ -20,131 +17,17 @@ import signal
 import stat
 import subprocess
 import sys
-import tempfile
 import threading
 import time
-from typing import Any, Callable, Dict, Iterator, List, Optional, Set, Tuple
+from typing import Callable, List, Set
 
 import program
+from disturbing import BENCH, NEW, NOBODY, OLD, SECONDS, Untried
+from disturbing import as_another, ending, expect, expect_done, expect_form, expect_names
+from disturbing import expect_unmade, large, lay, mode_of, names, require_root, room, run, start
+from disturbing import tally, test, value_of, words_of
 
-SECONDS = 20
-NOBODY = 65534
 MOST_NAMES = 100
-
-OLD = pickle.dumps("what stood there before", 4)
-NEW = pickle.dumps(["one", "two"], 4)
-
-Test = Callable[[pathlib.Path], None]
-TESTS: List[Test] = []
-
-
-class Untried(Exception):
-    """A test can't be tried on this machine."""
-
-
-def test(function: Test) -> Test:
-    TESTS.append(function)
-    return function
-
-
-def expect(holds: bool, otherwise: object) -> None:
-    if not holds:
-        raise AssertionError(otherwise)
-
-
-@functools.lru_cache(maxsize=None)
-def large(word: str) -> bytes:
-    """A pickle that takes the program some milliseconds, with memo writes that nothing reads."""
-    return pickle.dumps([f"{word} {number}" for number in range(60_000)], 4)
-
-
-@functools.lru_cache(maxsize=64)
-def value_of(content: bytes) -> Any:
-    """What the content is the pickle of, to its last byte, or None."""
-    file = io.BytesIO(content)
-    try:
-        value = pickle.load(file)
-    except (pickle.UnpicklingError, EOFError, ValueError, KeyError, IndexError):
-        return None
-    return value if file.tell() == len(content) else None
-
-
-def expect_form(content: bytes, source: bytes) -> None:
-    """The content is another pickle of the same value, in fewer bytes."""
-    same = value_of(content) == pickle.loads(source) and len(content) < len(source)
-    expect(same, f"{len(content)} bytes that are no optimized form")
-
-
-def words_of(file: pathlib.Path, out: pathlib.Path) -> List[str]:
-    return [str(PROGRAM), "optimize", str(file), str(out)]
-
-
-def start(file: pathlib.Path, out: pathlib.Path, **how: Any) -> "subprocess.Popen[str]":
-    pipes: Dict[str, Any] = {"stdin": subprocess.DEVNULL, "stdout": subprocess.DEVNULL}
-    pipes.update(stderr=subprocess.PIPE, universal_newlines=True, **how)
-    ran: "subprocess.Popen[str]" = subprocess.Popen(words_of(file, out), **pipes)
-    return ran
-
-
-def ending(ran: "subprocess.Popen[str]") -> Tuple[int, str]:
-    """The status, and what standard error says. A run that doesn't end is ended."""
-    try:
-        told = ran.communicate(timeout=SECONDS)[1]
-    except subprocess.TimeoutExpired:
-        ran.kill()
-        told = ran.communicate()[1] + f"not ended after {SECONDS} seconds"
-    return ran.returncode, told
-
-
-def run(file: pathlib.Path, out: pathlib.Path, **how: Any) -> Tuple[int, str]:
-    return ending(start(file, out, **how))
-
-
-def expect_done(file: pathlib.Path, out: pathlib.Path, **how: Any) -> None:
-    ended = run(file, out, **how)
-    expect(ended == (0, ""), f"{out.name}: {ended}")
-
-
-def expect_unmade(file: pathlib.Path, out: pathlib.Path, **how: Any) -> None:
-    ended = run(file, out, **how)
-    expect(ended == (2, f"cannot write {out}\n"), f"{out.name}: {ended}")
-
-
-def names(folder: pathlib.Path) -> Set[str]:
-    return set(os.listdir(str(folder)))
-
-
-def expect_names(folder: pathlib.Path, *wanted: str) -> None:
-    expect(names(folder) == set(wanted), f"in the folder: {sorted(names(folder))[:9]}")
-
-
-def mode_of(path: pathlib.Path) -> int:
-    return stat.S_IMODE(path.stat().st_mode)
-
-
-def lay(path: pathlib.Path, content: bytes, mode: int = 0o644) -> pathlib.Path:
-    path.write_bytes(content)
-    path.chmod(mode)
-    return path
-
-
-def become_nobody() -> None:
-    os.setgroups([])
-    os.setgid(NOBODY)
-    os.setuid(NOBODY)
-
-
-def as_another(folder: pathlib.Path) -> Dict[str, Any]:
-    """How a program runs whom permissions hold, with the folder as its own."""
-    if os.geteuid() != 0:
-        return {}
-    folder.chmod(0o777)
-    return {"preexec_fn": become_nobody}
-
-
-def require_root() -> None:
-    if os.geteuid() != 0:
-        raise Untried("needs root")
 
 
 # ---- runs side by side
@@ -282,7 +165,7 @@ def a_full_file_system(folder: pathlib.Path) -> None:
     (folder / "mount").mkdir()
     file, old = lay(folder / "file", large("left")), lay(folder / "old", OLD)
     words = ["unshare", "-m", "sh", "-c", FULL, "sh", str(folder / "mount"), str(file), str(old)]
-    ran = subprocess.run([*words, str(PROGRAM)], stderr=subprocess.PIPE, timeout=SECONDS)
+    ran = subprocess.run([*words, str(BENCH.program)], stderr=subprocess.PIPE, timeout=SECONDS)
     said = ran.stderr.decode()
     if ran.returncode == UNMOUNTED or said.startswith("unshare:"):
         raise Untried("needs to mount a file system")
@@ -568,41 +451,7 @@ def other_names_of_the_input(folder: pathlib.Path) -> None:
     expect_names(folder, "file", "hard", "soft")
 
 
-@contextlib.contextmanager
-def room() -> Iterator[pathlib.Path]:
-    with tempfile.TemporaryDirectory(prefix="replacing-") as folder:
-        os.chmod(folder, 0o711)
-        yield pathlib.Path(folder)
-
-
-def failure(tried: Test) -> Optional[str]:
-    with room() as folder:
-        try:
-            tried(folder)
-        except (AssertionError, OSError, subprocess.TimeoutExpired) as error:
-            return f"{type(error).__name__}: {error}"
-    return None
-
-
-def tally(only: str) -> Tuple[int, int]:
-    """Tries the tests with this in their names. Gives how many passed, and how many failed."""
-    passed = failed = 0
-    for tried in TESTS:
-        name = tried.__name__.replace("_", " ")
-        if only not in name:
-            continue
-        try:
-            wrong = failure(tried)
-        except Untried as why:
-            print(f"{name}: not tried: {why}", flush=True)
-            continue
-        print(f"{name}: {wrong or 'passed'}", flush=True)
-        passed, failed = passed + (wrong is None), failed + (wrong is not None)
-    return passed, failed
-
-
 def main() -> int:
-    global PROGRAM
     words = argparse.ArgumentParser(description=(__doc__ or "").splitlines()[0])
     words.add_argument("--program", type=pathlib.Path, default=program.PROGRAM)
     words.add_argument("--only", default="", metavar="WORD", help="the tests with this in the name")
@@ -612,15 +461,13 @@ def main() -> int:
     random.seed(asked.seed)
     with room() as folder:
         # where any user may run it
-        PROGRAM = folder / "pktool"
-        shutil.copy(str(asked.program), str(PROGRAM))
-        PROGRAM.chmod(0o755)
+        BENCH.program = folder / "pktool"
+        shutil.copy(str(asked.program), str(BENCH.program))
+        BENCH.program.chmod(0o755)
         passed, failed = tally(asked.only)
     print(f"{passed} passed, {failed} failed")
     return 1 if failed else 0
 
-
-PROGRAM = program.PROGRAM
 
 if __name__ == "__main__":
     sys.exit(main())

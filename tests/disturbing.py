@@ -1,0 +1,174 @@
+"""What the tests of a disturbed `optimize` share: pickles, runs of the program, and what they
+leave."""
+import contextlib
+import functools
+import io
+import os
+import pathlib
+import pickle
+import stat
+import subprocess
+import tempfile
+from typing import Any, Callable, Dict, Iterator, List, Optional, Set, Tuple
+
+import program
+
+SECONDS = 20
+NOBODY = 65534
+
+OLD = pickle.dumps("what stood there before", 4)
+NEW = pickle.dumps(["one", "two"], 4)
+
+Test = Callable[[pathlib.Path], None]
+TESTS: List[Test] = []
+
+
+class Bench:
+    """The program that is tried."""
+
+    program = program.PROGRAM
+
+
+BENCH = Bench()
+
+
+class Untried(Exception):
+    """A test can't be tried on this machine."""
+
+
+def test(function: Test) -> Test:
+    TESTS.append(function)
+    return function
+
+
+def expect(holds: bool, otherwise: object) -> None:
+    if not holds:
+        raise AssertionError(otherwise)
+
+
+@functools.lru_cache(maxsize=None)
+def large(word: str) -> bytes:
+    """A pickle that takes the program some milliseconds, with memo writes that nothing reads."""
+    return pickle.dumps([f"{word} {number}" for number in range(60_000)], 4)
+
+
+@functools.lru_cache(maxsize=64)
+def value_of(content: bytes) -> Any:
+    """What the content is the pickle of, to its last byte, or None."""
+    file = io.BytesIO(content)
+    try:
+        value = pickle.load(file)
+    except (pickle.UnpicklingError, EOFError, ValueError, KeyError, IndexError):
+        return None
+    return value if file.tell() == len(content) else None
+
+
+def expect_form(content: bytes, source: bytes) -> None:
+    """The content is another pickle of the same value, in fewer bytes."""
+    same = value_of(content) == pickle.loads(source) and len(content) < len(source)
+    expect(same, f"{len(content)} bytes that are no optimized form")
+
+
+def words_of(file: pathlib.Path, out: pathlib.Path) -> List[str]:
+    return [str(BENCH.program), "optimize", str(file), str(out)]
+
+
+def start(file: pathlib.Path, out: pathlib.Path, **how: Any) -> "subprocess.Popen[str]":
+    pipes: Dict[str, Any] = {"stdin": subprocess.DEVNULL, "stdout": subprocess.DEVNULL}
+    pipes.update(stderr=subprocess.PIPE, universal_newlines=True, **how)
+    ran: "subprocess.Popen[str]" = subprocess.Popen(words_of(file, out), **pipes)
+    return ran
+
+
+def ending(ran: "subprocess.Popen[str]") -> Tuple[int, str]:
+    """The status, and what standard error says. A run that doesn't end is ended."""
+    try:
+        told = ran.communicate(timeout=SECONDS)[1]
+    except subprocess.TimeoutExpired:
+        ran.kill()
+        told = ran.communicate()[1] + f"not ended after {SECONDS} seconds"
+    return ran.returncode, told
+
+
+def run(file: pathlib.Path, out: pathlib.Path, **how: Any) -> Tuple[int, str]:
+    return ending(start(file, out, **how))
+
+
+def expect_done(file: pathlib.Path, out: pathlib.Path, **how: Any) -> None:
+    ended = run(file, out, **how)
+    expect(ended == (0, ""), f"{out.name}: {ended}")
+
+
+def expect_unmade(file: pathlib.Path, out: pathlib.Path, **how: Any) -> None:
+    ended = run(file, out, **how)
+    expect(ended == (2, f"cannot write {out}\n"), f"{out.name}: {ended}")
+
+
+def names(folder: pathlib.Path) -> Set[str]:
+    return set(os.listdir(str(folder)))
+
+
+def expect_names(folder: pathlib.Path, *wanted: str) -> None:
+    expect(names(folder) == set(wanted), f"in the folder: {sorted(names(folder))[:9]}")
+
+
+def mode_of(path: pathlib.Path) -> int:
+    return stat.S_IMODE(path.stat().st_mode)
+
+
+def lay(path: pathlib.Path, content: bytes, mode: int = 0o644) -> pathlib.Path:
+    path.write_bytes(content)
+    path.chmod(mode)
+    return path
+
+
+def become_nobody() -> None:
+    os.setgroups([])
+    os.setgid(NOBODY)
+    os.setuid(NOBODY)
+
+
+def as_another(folder: pathlib.Path) -> Dict[str, Any]:
+    """How a program runs whom permissions hold, with the folder as its own."""
+    if os.geteuid() != 0:
+        return {}
+    folder.chmod(0o777)
+    return {"preexec_fn": become_nobody}
+
+
+def require_root() -> None:
+    if os.geteuid() != 0:
+        raise Untried("needs root")
+
+
+@contextlib.contextmanager
+def room() -> Iterator[pathlib.Path]:
+    with tempfile.TemporaryDirectory(prefix="replacing-") as folder:
+        os.chmod(folder, 0o711)
+        yield pathlib.Path(folder)
+
+
+def failure(tried: Test) -> Optional[str]:
+    with room() as folder:
+        try:
+            tried(folder)
+        except (AssertionError, OSError, subprocess.TimeoutExpired) as error:
+            return f"{type(error).__name__}: {error}"
+    return None
+
+
+def tally(only: str) -> Tuple[int, int]:
+    """Tries the tests with this in their names. Gives how many passed, and how many failed."""
+    passed = failed = 0
+    for tried in TESTS:
+        name = tried.__name__.replace("_", " ")
+        if only not in name:
+            continue
+        try:
+            wrong = failure(tried)
+        except Untried as why:
+            print(f"{name}: not tried: {why}", flush=True)
+            continue
+        print(f"{name}: {wrong or 'passed'}", flush=True)
+        passed, failed = passed + (wrong is None), failed + (wrong is not None)
+    return passed, failed
