@@ -1,8 +1,8 @@
 -- What a buffer holds, and the most that it has ever held.
 use Rattle.std.specs.Prelude.{ℕ, List, [], length, max}
 
--- what contracts see of a buffer: the bytes that it holds, and the most that it had held each time
--- when it let some of them go
+-- what contracts see of a buffer: the bytes that it holds, and the most that it held at any time
+-- when it forgot some
 pub record Held : Type 0 where
   pub bytes : List ℕ
   pub peak : ℕ

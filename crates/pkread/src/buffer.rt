@@ -11,8 +11,8 @@ use crate::source::{ReadFailed, Source};
 use std::alloc::{AllocError, Global};
 use std::marker::Model;
 
-/// Bytes that grow at the end, and know how many they have been at most. Only where some are
-/// forgotten has it to count them. The store never shrinks, so that no read clears memory first.
+/// Bytes that grow at the end, and know how many they have been at most: they are counted where
+/// some of them are forgotten. The store never shrinks, so that no read clears memory first.
 #[derive(Debug, Drop)]
 pub(crate) struct Buffer {
     store: Vec<u8>,
@@ -92,8 +92,7 @@ impl Buffer {
         self.held = count;
     }
 
-    /// Counts the bytes held, before some are forgotten. It seldom has to write, and does that
-    /// apart.
+    /// Counts the bytes held, before some are forgotten. It seldom writes, and does that apart.
     #[inline(always)]
     fn count(&mut self)
         ensures bytes { self.new.bytes ≡ self.old.bytes }
