@@ -20,7 +20,8 @@
  * call.
  *
  * Cost. A check takes time in the length of the pickle, and for each import in the logarithm of the
- * number of pairs. Its memory is bounded by the pickle's length and the limits.
+ * number of pairs, where they are in order. The pair of a refusal is looked for among all of them,
+ * unless `sorted` is set. Memory is bounded by the length of the pickle, and by the limits.
  */
 #ifndef STORKLOCKER_H
 #define STORKLOCKER_H
@@ -36,7 +37,8 @@ extern "C" {
 /* The version of the library that runs, as STORKLOCKER_VERSION is that of this header. */
 const char *storklocker_version(void);
 
-/* A pair of a module and a name, in UTF-8. The bytes stay the caller's. */
+/* A pair of a module and a name, in UTF-8: one that isn't permits nothing. The bytes stay the
+   caller's. */
 struct storklocker_pair {
     const uint8_t *module_name;
     size_t module_length;
@@ -159,7 +161,8 @@ uint32_t storklocker_check_pairs(
     struct storklocker_verdict *verdict);
 
 /* The same under the text of a list file, which is read anew at each call: storklocker_read_list
-   reads it once. Each limit is the smaller of the list's and the one of the settings. */
+   reads it once. Each limit is the smaller of the list's and the one of the settings, whose
+   `large` and `sorted` don't matter here. */
 uint32_t storklocker_check_list(
     const uint8_t *list, size_t list_length,
     const struct storklocker_settings *settings,

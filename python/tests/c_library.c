@@ -243,6 +243,7 @@ static void threads(void) {
 
 int main(void) {
     IS(strcmp(storklocker_version(), STORKLOCKER_VERSION) == 0);
+    refused(); /* first: refusing.c doesn't count what calloc takes */
     nulls();
     sizes();
     numbers();
@@ -252,7 +253,6 @@ int main(void) {
         lists(less);
         imports(less);
     }
-    refused();
     threads();
     return wrongs != 0;
 }
