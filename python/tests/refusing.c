@@ -11,8 +11,8 @@ void grant(long count);
 long are_left(void);
 
 /* how many allocations are still granted, or -1: all */
-static long granted = -1;
-static long blocks;
+static _Atomic long granted = -1;
+static _Atomic long blocks;
 
 __attribute__((visibility("default"))) void grant(long count) {
     granted = count;

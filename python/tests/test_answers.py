@@ -102,11 +102,15 @@ class Agreement(unittest.TestCase):
                 file.write_bytes(data)
                 old_strings = ("unknown", "ascii", "bytes")[number % 3]
                 ran = subprocess.run([*words, old_strings], capture_output=True, text=True)
-                verdict = storklocker.check(data, BY_PAIRS, old_strings=old_strings)
+                # (the program has no limit of memo numbers, the package has)
+                limits = storklocker.Limits(numbers=0xFFFFFFFF)
+                verdict = storklocker.check(data, BY_PAIRS, limits=limits, old_strings=old_strings)
                 self.assertEqual(f"{verdict}\n", ran.stdout, data)
                 self.assertEqual(ran.returncode, 0 if verdict else 1, data)
                 self.assertEqual(
-                    storklocker.check(data, BY_TEXT, old_strings=old_strings), verdict, data
+                    storklocker.check(data, BY_TEXT, old_strings=old_strings),
+                    storklocker.check(data, BY_PAIRS, old_strings=old_strings),
+                    data,
                 )
                 answers[ran.stdout.split()[0].rstrip(":")] += 1
         self.assertGreater(min(answers.values()), 100)

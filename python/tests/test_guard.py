@@ -603,7 +603,7 @@ class Told(unittest.TestCase):
             guard.loads(b"(ca\nb\nccollections\ndeque\ncc\nd\nca\nb\nl.")
         self.assertEqual(told[0].missing, (("a", "b"), ("c", "d")))
         self.assertEqual(
-            storklocker.imports(b"(ca\nb\nca\nb\nN)R(tV\\u00e9\n\x93l."),
+            storklocker.imports(b"(ca\nb\nca\nb\nPx\nVy\n\x93l."),
             [("a", "b"), ("a", "b"), (None, None)],
         )
         with self.assertRaises(Refused):

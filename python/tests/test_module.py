@@ -82,14 +82,10 @@ class Numbers(unittest.TestCase):
             [(name.lower(), int(k)) for k, name in old_strings], list(zip(OLD_STRINGS, range(9)))
         )
 
-    def test_readme_has_them(self):
-        rows = re.findall(
-            r"^\| (\d+) \| ([A-Z]\w+)(?:\(\w+\))? \|", (ROOT / "README.md").read_text(), re.M
-        )
-        self.assertEqual(
-            [(name, int(k)) for name, k in ((n, k) for k, n in rows)],
-            list(zip(REASONS, range(1, 99))),
-        )
+    def test_formats_have_them(self):
+        text = (ROOT / "docs" / "FORMATS.md").read_text()
+        rows = re.findall(r"^\| (\d+) \| ([A-Z]\w+)(?:\(\w+\))? \|", text, re.M)
+        self.assertEqual([(name, int(k)) for k, name in rows], list(zip(REASONS, range(1, 99))))
 
     def test_header_and_crate_have_the_same_fields(self):
         for file, name, header in (
