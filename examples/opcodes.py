@@ -1,5 +1,5 @@
 #!/usr/bin/env python3
-"""Compares the line of each of the 68 opcodes with the name, offset and argument that CPython's `pickletools` gives."""
+"""Compares the line of each opcode with the name, offset and argument of CPython's `pickletools`."""
 import ast
 import pathlib
 import pickle
@@ -29,9 +29,9 @@ SPELLINGS = {
     "unicodestringnl": b"a\\u00e9\xe9\n",
     "string1": b"\x03a\x00\xff",
     "string4": b"\x03\x00\x00\x00a\x00\xff",
-    "bytes1": b"\x03\"\\\xff",
-    "bytes4": b"\x03\x00\x00\x00\"\\\xff",
-    "bytes8": b"\x03" + bytes(7) + b"\"\\\xff",
+    "bytes1": b'\x03"\\\xff',
+    "bytes4": b'\x03\x00\x00\x00"\\\xff',
+    "bytes8": b"\x03" + bytes(7) + b'"\\\xff',
     "bytearray8": b"\x03" + bytes(7) + b"\x7f~\n",
     "unicodestring1": b"\x03a\xc3\xa9",
     "unicodestring4": b"\x03\x00\x00\x00a\xc3\xa9",
@@ -43,7 +43,9 @@ SPELLINGS = {
 
 def numeral(line):
     """An int, or a bool where it is spelled as one."""
-    return {b"00": False, b"01": True}.get(line) if line in (b"00", b"01") else int(line.rstrip(b"L"))
+    return (
+        {b"00": False, b"01": True}.get(line) if line in (b"00", b"01") else int(line.rstrip(b"L"))
+    )
 
 
 # What `pickletools` makes of the bytes of a line or a payload.
@@ -95,7 +97,12 @@ def listed(folder, data):
 
 def is_right(opcode, folder):
     """Whether the line of the opcode, behind a MARK and a NONE, says what `pickletools` says."""
-    data = b"(N" + opcode.code.encode("latin-1") + (SPELLINGS[opcode.arg.name] if opcode.arg else b"") + b"."
+    data = (
+        b"(N"
+        + opcode.code.encode("latin-1")
+        + (SPELLINGS[opcode.arg.name] if opcode.arg else b"")
+        + b"."
+    )
     their_opcode, argument, at = list(pickletools.genops(data))[2]
     line = listed(folder, data)[2]
     if opcode.name in ("EXT1", "EXT2", "EXT4"):
@@ -110,7 +117,11 @@ def is_right(opcode, folder):
 def main():
     subprocess.run([ROOT / "pktool", "--help"], stdout=subprocess.DEVNULL, check=True)
     with tempfile.TemporaryDirectory() as folder:
-        wrong = [opcode.name for opcode in pickletools.opcodes if not is_right(opcode, pathlib.Path(folder))]
+        wrong = [
+            opcode.name
+            for opcode in pickletools.opcodes
+            if not is_right(opcode, pathlib.Path(folder))
+        ]
     for name in wrong:
         print(f"{name}: the line is not what pickletools says")
     print(f"{len(pickletools.opcodes) - len(wrong)} passed, {len(wrong)} failed")

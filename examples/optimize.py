@@ -1,9 +1,10 @@
 #!/usr/bin/env python3
 """Optimizes pickles of the standard library's own objects, and loads both forms.
 
-Each object is pickled in every protocol. `pktool optimize` has to write a form that Python loads to an equal object,
-that `pktool imports` accepts to its last byte, and that is left as it is when it is optimized again. Each line has the
-bytes of the pickle, of that form, and of what `pickletools.optimize` gives; the last line counts.
+Each object is pickled in every protocol. `pktool optimize` has to write a form that Python loads to
+an equal object, that `pktool imports` accepts to its last byte, and that is left as it is when it
+is optimized again. Each line has the bytes of the pickle, of that form, and of what
+`pickletools.optimize` gives; the last line counts.
 """
 import os
 import pathlib
@@ -34,10 +35,15 @@ def optimized(folder, data):
 
 
 def is_same(data, form, protocol):
-    """Whether both load to equal objects. Few of them can be compared; so they are pickled anew, which tells what they
-    are made of, what is shared in them and what holds itself."""
+    """Whether both load to equal objects.
+
+    Few of them can be compared; so they are pickled anew, which tells what they are made of, what
+    is shared in them and what holds itself.
+    """
     value, other = pickle.loads(data), pickle.loads(form)
-    return type(value) is type(other) and pickle.dumps(value, protocol) == pickle.dumps(other, protocol)
+    return type(value) is type(other) and pickle.dumps(value, protocol) == pickle.dumps(
+        other, protocol
+    )
 
 
 def faults(folder, protocol, data, form, line):

@@ -1,8 +1,9 @@
 #!/usr/bin/env python3
 """Compares `pktool json` with Python's own `json` on plain data pickled in every protocol.
 
-What is plain has to come out as `json.loads(json.dumps(..))` has it, and to the byte as `json` writes it with sorted keys
-and without spaces. What isn't has to be refused, at the instruction that `pickletools` shows. The last line counts.
+What is plain has to come out as `json.loads(json.dumps(..))` has it, and to the byte as `json`
+writes it with sorted keys and without spaces. What isn't has to be refused, at the instruction that
+`pickletools` shows. The last line counts.
 """
 import json
 import os
@@ -58,19 +59,70 @@ def around(number):
     return [number - 1, number, number + 1]
 
 
-WORDS = [0, 1, -1, *(n for bits in (7, 8, 15, 16, 31, 32, 62) for sign in (1, -1) for n in around(sign * 2**bits))]
+WORDS = [
+    0,
+    1,
+    -1,
+    *(
+        n
+        for bits in (7, 8, 15, 16, 31, 32, 62)
+        for sign in (1, -1)
+        for n in around(sign * 2**bits)
+    ),
+]
 
 PLAIN = [
-    None, True, False, [True, 1, False, 0], WORDS, [LEAST, LEAST + 1, GREATEST - 1, GREATEST],
-    "", "text", "\"\\/\b\f\n\r\t\x00\x1f\x7f", [], (), {}, [[]], ((),), {"": {}}, [(), [], {}], {"a": ()},
-    (1,), (1, 2), (1, 2, 3), (1, 2, 3, 4), [1], {"one": 1}, list(range(3000)), tuple(range(3000)), {str(i): i for i in range(3000)},
-    nested(99, []), nested(100, "inner"), nested(100, None), {"a": nested(98, ())}, shared(), doubled(17),
-    {"b": 1, "a": 2, "": 3, "B": 4, "é": 5, "e\u0301": 6, "\U0001f600": 7, "\uffff": 8, "\x7f": 9}, ["text"] * 300, "x" * 300, "\u20ac" * 10_000,
-    [{"id": i, "name": f"record {i}", "tags": ["a", str(i % 7)], "place": (i, -i), "done": i % 2 == 0} for i in range(400)],
+    None,
+    True,
+    False,
+    [True, 1, False, 0],
+    WORDS,
+    [LEAST, LEAST + 1, GREATEST - 1, GREATEST],
+    "",
+    "text",
+    '"\\/\b\f\n\r\t\x00\x1f\x7f',
+    [],
+    (),
+    {},
+    [[]],
+    ((),),
+    {"": {}},
+    [(), [], {}],
+    {"a": ()},
+    (1,),
+    (1, 2),
+    (1, 2, 3),
+    (1, 2, 3, 4),
+    [1],
+    {"one": 1},
+    list(range(3000)),
+    tuple(range(3000)),
+    {str(i): i for i in range(3000)},
+    nested(99, []),
+    nested(100, "inner"),
+    nested(100, None),
+    {"a": nested(98, ())},
+    shared(),
+    doubled(17),
+    {"b": 1, "a": 2, "": 3, "B": 4, "é": 5, "e\u0301": 6, "\U0001f600": 7, "\uffff": 8, "\x7f": 9},
+    ["text"] * 300,
+    "x" * 300,
+    "\u20ac" * 10_000,
+    [
+        {
+            "id": i,
+            "name": f"record {i}",
+            "tags": ["a", str(i % 7)],
+            "place": (i, -i),
+            "done": i % 2 == 0,
+        }
+        for i in range(400)
+    ],
     *map(plane, range(17)),
 ]
 
-# What isn't plain: the word of the refusal, and the opcodes of the last instruction of which it can be told, if any.
+# What isn't plain: the word of the refusal, and the opcodes of the last instruction of which it can
+# be told, if any.
 NOT_PLAIN = [
     (1.5, "NotPlain", {"FLOAT", "BINFLOAT"}),
     ([1, {"a": -0.0}], "NotPlain", {"FLOAT", "BINFLOAT"}),
@@ -127,7 +179,9 @@ def refusal(data, word, opcodes):
     """The line that is right for what isn't plain."""
     if opcodes is None:
         return f"no: {word}\n"
-    at, name = [(at, opcode.name) for opcode, _, at in pickletools.genops(data) if opcode.name in opcodes][-1]
+    at, name = [
+        (at, opcode.name) for opcode, _, at in pickletools.genops(data) if opcode.name in opcodes
+    ][-1]
     return f"no at {at}: {word}({name})\n" if word == "NotPlain" else f"no at {at}: {word}\n"
 
 
@@ -146,16 +200,23 @@ def main():
             for place, value in enumerate(PLAIN):
                 if not is_exported(folder, value, protocol):
                     wrong += 1
-                    print(f"protocol {protocol}, value {place} of PLAIN: not what Python makes of it", file=sys.stderr)
+                    print(
+                        f"protocol {protocol}, value {place} of PLAIN: not what Python makes of it",
+                        file=sys.stderr,
+                    )
             for place, (value, *why) in enumerate(NOT_PLAIN):
                 if not is_refused(folder, value, protocol, *why):
                     wrong += 1
-                    print(f"protocol {protocol}, value {place} of NOT_PLAIN: not refused as it should be", file=sys.stderr)
+                    print(
+                        f"protocol {protocol}, value {place} of NOT_PLAIN: not refused so",
+                        file=sys.stderr,
+                    )
         for data, status, line in ROWS:
             if exported(folder, data) != (status, line + "\n", ""):
                 wrong += 1
                 print(f"{data!r:.60}: not {line:.60}", file=sys.stderr)
-    print(f"{len(protocols) * (len(PLAIN) + len(NOT_PLAIN)) + len(ROWS) - wrong} passed, {wrong} failed")
+    count = len(protocols) * (len(PLAIN) + len(NOT_PLAIN)) + len(ROWS)
+    print(f"{count - wrong} passed, {wrong} failed")
     return 1 if wrong else 0
 
 

@@ -1,9 +1,10 @@
 #!/usr/bin/env python3
 """Checks pickles of the standard library's own objects.
 
-Each object is pickled in every protocol. CPython's reader says which names it looks up; under a list of just these
-names `pktool check` has to say yes, with the length of the pickle and the number of its look-ups, and with any one
-of them left out it has to name that pair. The last line counts the checks.
+Each object is pickled in every protocol. CPython's reader says which names it looks up; under a
+list of just these names `pktool check` has to say yes, with the length of the pickle and the number
+of its look-ups, and with any one of them left out it has to name that pair. The last line counts
+the checks.
 """
 import io
 import json
@@ -31,7 +32,14 @@ class Names(pickle.Unpickler):
 
 
 def quoted(text):
-    return '"' + "".join(c if " " <= c <= "~" and c not in '"\\' else "".join(f"\\x{b:02x}" for b in c.encode()) for c in text) + '"'
+    return (
+        '"'
+        + "".join(
+            c if " " <= c <= "~" and c not in '"\\' else "".join(f"\\x{b:02x}" for b in c.encode())
+            for c in text
+        )
+        + '"'
+    )
 
 
 def list_file(pairs):
@@ -39,7 +47,10 @@ def list_file(pairs):
     for module, name in pairs:
         modules.setdefault(module, set()).add(name)
     lines = ["version = 1", "[imports]"]
-    lines += [f"{json.dumps(module)} = {json.dumps(sorted(names))}" for module, names in sorted(modules.items())]
+    lines += [
+        f"{json.dumps(module)} = {json.dumps(sorted(names))}"
+        for module, names in sorted(modules.items())
+    ]
     return "\n".join(lines) + "\n"
 
 
@@ -48,7 +59,12 @@ def check(folder, data, pairs):
         out.write(list_file(pairs))
     with open(os.path.join(folder, "pickle"), "wb") as out:
         out.write(data)
-    ended = subprocess.run([TOOL, "check", "--allow", "list.toml", "pickle"], cwd=folder, capture_output=True, text=True)
+    ended = subprocess.run(
+        [TOOL, "check", "--allow", "list.toml", "pickle"],
+        cwd=folder,
+        capture_output=True,
+        text=True,
+    )
     return ended.returncode, ended.stdout
 
 
@@ -61,14 +77,24 @@ def main():
             looked_up = reader.names
             wanted = [(set(looked_up), 0, f"yes: {len(data)} bytes, {len(looked_up)} imports\n")]
             for pair in sorted(set(looked_up)):
-                wanted.append((set(looked_up) - {pair}, 1, f"ImportOffList({quoted(pair[0])},{quoted(pair[1])})\n"))
+                wanted.append(
+                    (
+                        set(looked_up) - {pair},
+                        1,
+                        f"ImportOffList({quoted(pair[0])},{quoted(pair[1])})\n",
+                    )
+                )
             for pairs, status, ending in wanted:
                 got = check(folder, data, pairs)
                 if got[0] == status and got[1].endswith(ending):
                     passed += 1
                 else:
                     failed += 1
-                    print(f"{type(value).__name__} in protocol {protocol}: wanted {status} {ending!r}, got {got}", file=sys.stderr)
+                    print(
+                        f"{type(value).__name__} in protocol {protocol}: wanted {status} "
+                        f"{ending!r}, got {got}",
+                        file=sys.stderr,
+                    )
     print(f"{passed} passed, {failed} failed")
     return 1 if failed else 0
 
