@@ -16,9 +16,12 @@ static _Atomic long blocks;
 
 __attribute__((visibility("default"))) void grant(long count) {
     granted = count;
+    if (count >= 0)
+        blocks = 0;
 }
 
-/* How many blocks are held; -1 where an allocation was refused since `grant`. */
+/* How many blocks are held that were not at the last `grant` of a number; -1 where there are none and all that was
+   granted is used up. */
 __attribute__((visibility("default"))) long are_left(void) {
     return blocks == 0 && granted == 0 ? -1 : blocks;
 }
