@@ -6,10 +6,13 @@ use Rattle.clap.specs.Simple.{new_shape}
 use Rattle.clap.specs.declared.builder.action.ArgAction.TheVariants.{SetTrue}
 use Rattle.clap.specs.declared.builder.value_parser.ValueParser.{ValueParser}
 use Rattle.clap.specs.declared.builder.value_parser.ValueParser.TheVariants.{Names}
+use Rattle.pkcheck.specs.declared.loading.Memo.TheVariants.{Fresh, Kept}
 use Rattle.pkcheck.specs.declared.old_strings.OldStrings.{OldStrings}
 use Rattle.pkcheck.specs.declared.old_strings.OldStrings.TheVariants.{Unknown, Ascii, Bytes}
-use Rattle.pktool.specs.declared.command.Job.{Job}
-use Rattle.pktool.specs.declared.command.Job.TheVariants.{Dis, Check, Imports, Optimize, Json}
+use Rattle.pktool.specs.declared.job.Job.{Job}
+use Rattle.pktool.specs.declared.job.Job.TheVariants.{Dis, Check, Imports, Optimize, Json}
+use Rattle.pktool.specs.declared.job.Pickles.{Pickles}
+use Rattle.pktool.specs.declared.job.Pickles.TheVariants.{First, Row as RowOf}
 
 -- the required option `--allow LIST`
 abbrev pub allow_rule : Rule
@@ -39,6 +42,14 @@ TakesOldWords _ = ⊥
 abbrev pub all_rule : Rule
 all_rule = record (new_rule (codes "all")) { long = Some (codes "all"); action = Some SetTrue }
 
+-- the flag `--one-unpickler`, which needs `--all`
+abbrev pub one_rule : Rule
+one_rule = record (new_rule (codes "one-unpickler")) {
+  long = Some (codes "one-unpickler");
+  action = Some SetTrue;
+  is_free = false;
+}
+
 -- the required FILE
 abbrev pub file_rule : Rule
 file_rule = record (new_rule (codes "FILE")) { required = true }
@@ -55,10 +66,10 @@ app_with name rules = record { top = record (new_shape name) { rules = rules }; 
 abbrev pub file_app : Text → App
 file_app name = app_with name (file_rule ∷ [])
 
--- `check --allow LIST [--old-strings OBJECT] [--all] FILE`
+-- `check --allow LIST [--old-strings OBJECT] [--all [--one-unpickler]] FILE`
 abbrev pub check_app : ValueParser → App
 check_app parser =
-    app_with (codes "check") (allow_rule ∷ old_rule parser ∷ all_rule ∷ file_rule ∷ [])
+    app_with (codes "check") (allow_rule ∷ old_rule parser ∷ all_rule ∷ one_rule ∷ file_rule ∷ [])
 
 -- `optimize FILE OUT`
 abbrev pub optimize_app : App
@@ -123,6 +134,16 @@ abbrev pub flag_text : Bool → Text
 flag_text true = codes "true"
 flag_text false = codes "false"
 
+-- the values of `--all` and of `--one-unpickler`
+abbrev pub all_text : Pickles → Text
+all_text First = flag_text false
+all_text (RowOf memo) = flag_text true
+
+abbrev pub one_text : Pickles → Text
+one_text First = flag_text false
+one_text (RowOf Fresh) = flag_text false
+one_text (RowOf Kept) = flag_text true
+
 -- the values of a job are those of its arguments
 abbrev pub Gives : List Row → Job → Type 0
 Gives rows (Dis file) = Has rows (codes "FILE") (string_bytes file)
@@ -130,14 +151,16 @@ Gives rows (Imports file) = Has rows (codes "FILE") (string_bytes file)
 Gives rows (Json file) = Has rows (codes "FILE") (string_bytes file)
 Gives rows (Optimize file out) =
     Has rows (codes "FILE") (string_bytes file) × Has rows (codes "OUT") (string_bytes out)
-Gives rows (Check allow old all file) =
+Gives rows (Check allow old pickles file) =
     Has rows (codes "LIST") (string_bytes allow) × Has rows (codes "OBJECT") (old_word old)
-    × Has rows (codes "all") (flag_text all) × Has rows (codes "FILE") (string_bytes file)
+    × Has rows (codes "all") (all_text pickles)
+    × Has rows (codes "one-unpickler") (one_text pickles)
+    × Has rows (codes "FILE") (string_bytes file)
 
 -- the subcommand of a job
 abbrev pub name_of : Job → Text
 name_of (Dis file) = codes "dis"
-name_of (Check allow old all file) = codes "check"
+name_of (Check allow old pickles file) = codes "check"
 name_of (Imports file) = codes "imports"
 name_of (Optimize file out) = codes "optimize"
 name_of (Json file) = codes "json"

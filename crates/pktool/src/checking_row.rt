@@ -4,22 +4,21 @@ ghost use Rattle.std.specs.Io.KnownBytes.{Appends};
 ghost use Rattle.pkread.specs.Rows.{sight};
 ghost use Rattle.pkcheck.specs.Import.{policy_of};
 ghost use Rattle.pkcheck.specs.RowOfPickles.{CountsInRow, IsRightOfRow};
-ghost use Rattle.pkcheck.specs.declared.loading.Memo.TheVariants as Memo;
 ghost use Rattle.pkcheck.specs.declared.row_of_pickles.YesAll.{YesAll};
 ghost use Rattle.pkcheck.specs.declared.row_of_pickles.NoAll.{NoAll};
 ghost use Rattle.pktool.specs.Verdict.{outcome_of_row, row_line};
 
 use crate::checking::Outcome;
 use crate::printing::write_row;
-use pkcheck::{Loading, Memo, OldStrings, Policy, check_all};
+use pkcheck::{Loading, Policy, check_all};
 use pkops::Limits;
 use pkread::Source;
 use std::alloc::Global;
 use std::io;
 use std::io::Write;
 
-/// Checks the pickles that stand one after the other in a source, up to its end, where this becomes
-/// of old strings and each begins with an empty memo, and writes the line of the answer.
+/// Checks the pickles that stand one after the other in a source, up to its end, where they are
+/// loaded so, and writes the line of the answer.
 ///
 /// # Errors
 ///
@@ -30,20 +29,15 @@ pub fn check_all_to<R: Source, W: Write>(
     policy: &Policy<'_>,
     limits: &Limits,
     out: &mut W,
-    old: OldStrings,
+    loading: Loading,
 ) -> Result<Outcome, io::Error>
     ensures { IfOk result (λ outcome. (answer : Result YesAll NoAll)
-        × IsRightOfRow (record { memo = Memo.Fresh; old_strings = old })
-        (policy_of policy.now) limits.now
+        × IsRightOfRow loading (policy_of policy.now) limits.now
         (sight R.left R.failures source.old) (sight R.left R.failures source.new) answer
         × CountsInRow (R.failures source.old) (R.failures source.new) answer
         × Appends (W.contents out.old) (W.contents out.new) (row_line answer)
         × (outcome ≡ outcome_of_row answer)) }
 {
-    let loading = Loading {
-        memo: Memo::Fresh,
-        old_strings: old,
-    };
     let answer = check_all(alloc, source, policy, limits, loading);
     write_row(&answer, out)?;
     match answer {

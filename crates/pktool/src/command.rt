@@ -6,56 +6,19 @@ ghost use Rattle.clap.specs.Words.{subcommand_rows_of};
 ghost use Rattle.clap.specs.declared.Command.TheViews.{out-Command as fields_of};
 ghost use Rattle.pktool.specs.Command.{Asks, Gives, IsCheck, IsJob, IsOldRule, IsProgram};
 ghost use Rattle.pktool.specs.Command.{IsReading, bare_app};
-ghost use Rattle.pktool.specs.Command.{all_rule, allow_rule, file_app, file_rule, flag_text};
+ghost use Rattle.pktool.specs.Command.{all_rule, all_text, allow_rule, file_app, file_rule};
+ghost use Rattle.pktool.specs.Command.{flag_text, one_rule, one_text};
 ghost use Rattle.pktool.specs.Command.{name_of, old_word, optimize_app};
 
 use crate::help::{IMPORTS, JSON, LINES, OPTIMIZED, STATUSES, VERSION};
+use crate::job::{Job, Pickles};
 use clap::error::ErrorKind;
 use clap::{Arg, ArgAction, ArgMatches, Command};
-use pkcheck::OldStrings;
+use pkcheck::{Memo, OldStrings};
 use std::alloc::{AllocError, Global};
 
 /// What old strings may become, the default first.
 static OLD_WORDS: [&str; 3] = ["unknown", "ascii", "bytes"];
-
-/// What a command line asks for, its values as given.
-#[derive(Debug, Drop)]
-pub enum Job {
-    /// `dis FILE`: the instructions of the pickle in FILE.
-    Dis {
-        /// The path of the pickle.
-        file: String,
-    },
-    /// `check --allow LIST [--old-strings OBJECT] [--all] FILE`: whether the pickle in FILE imports
-    /// what LIST permits alone.
-    Check {
-        /// The path of the list file.
-        allow: String,
-        /// With `--old-strings`: what strings of Python 2 become.
-        old: OldStrings,
-        /// With `--all`: FILE holds pickles one after the other, and each is checked.
-        all: bool,
-        /// The path of the pickle.
-        file: String,
-    },
-    /// `imports FILE`: the imports of the pickle in FILE.
-    Imports {
-        /// The path of the pickle.
-        file: String,
-    },
-    /// `optimize FILE OUT`: the pickle in FILE, optimized into OUT.
-    Optimize {
-        /// The path of the pickle.
-        file: String,
-        /// The path of its optimized form.
-        out: String,
-    },
-    /// `json FILE`: the data of the plain pickle in FILE.
-    Json {
-        /// The path of the pickle.
-        file: String,
-    },
-}
 
 /// Why words are no command, or that the help or the version was asked for.
 #[derive(Debug, Drop)]
@@ -141,7 +104,7 @@ fn file_command<'a>(
         .arg(file_argument(alloc))
 }
 
-/// `check --allow LIST [--old-strings OBJECT] [--all] FILE`.
+/// `check --allow LIST [--old-strings OBJECT] [--all [--one-unpickler]] FILE`.
 fn check_command<'a>(alloc: Global) -> Result<Command<'a>, AllocError>
     ensures shape { IfOk result (λ command. IsCheck (app_of command)) }
     ensures local { IfOk result (λ command. (fields_of command).has_globals ≡ false) }
@@ -151,6 +114,7 @@ fn check_command<'a>(alloc: Global) -> Result<Command<'a>, AllocError>
         .arg(allow_option(alloc))?
         .arg(old_option(alloc))?
         .arg(all_flag(alloc))?
+        .arg(one_flag(alloc)?)?
         .arg(file_argument(alloc))
 }
 
@@ -186,6 +150,18 @@ fn all_flag<'a>(alloc: Global) -> Arg<'a>
         .long("all")
         .help("Checks each of the pickles that stand one after the other in FILE")
         .action(ArgAction::SetTrue)
+}
+
+/// `--one-unpickler`, which stands with `--all` alone.
+fn one_flag<'a>(alloc: Global) -> Result<Arg<'a>, AllocError>
+    ensures rule { IfOk result (λ flag. rule_of flag ≡ one_rule) }
+    ensures local { IfOk result (λ flag. flag.global ≡ false) }
+{
+    Arg::new(alloc, "one-unpickler")
+        .long("one-unpickler")
+        .help("Checks them as one pickle.Unpickler loads them, which keeps its memo")
+        .action(ArgAction::SetTrue)
+        .requires_arg("all")
 }
 
 /// `FILE`.
@@ -291,7 +267,7 @@ fn check_job(alloc: Global, values: &ArgMatches) -> Result<Option<Job>, AllocErr
     let Some(old) = old_of(values) else {
         return Ok(None);
     };
-    let Some(all) = flag_of(values, "all") else {
+    let Some(pickles) = pickles_of(values) else {
         return Ok(None);
     };
     let Some(file) = value_of(alloc, values, "FILE")? else {
@@ -300,7 +276,7 @@ fn check_job(alloc: Global, values: &ArgMatches) -> Result<Option<Job>, AllocErr
     Ok(Some(Job::Check {
         allow,
         old,
-        all,
+        pickles,
         file,
     }))
 }
@@ -326,6 +302,25 @@ fn old_named(word: &str) -> Option<OldStrings>
         return Some(OldStrings::Bytes);
     }
     None
+}
+
+/// Which pickles are checked.
+fn pickles_of(values: &ArgMatches) -> Option<Pickles>
+    ensures all { IfSome result (λ pickles.
+        first_of (codes "all") (rows_of (found_of values.now)) ≡ Some (all_text pickles)) }
+    ensures one { IfSome result (λ pickles.
+        first_of (codes "one-unpickler") (rows_of (found_of values.now))
+        ≡ Some (one_text pickles)) }
+{
+    let all = flag_of(values, "all")?;
+    let one = flag_of(values, "one-unpickler")?;
+    match (all, one) {
+        (false, false) => Some(Pickles::First),
+        (true, false) => Some(Pickles::Row(Memo::Fresh)),
+        (true, true) => Some(Pickles::Row(Memo::Kept)),
+        // clap refuses it
+        (false, true) => None,
+    }
 }
 
 /// The value of a flag.

@@ -15,6 +15,7 @@ mod files;
 mod gathering;
 mod help;
 mod importing;
+mod job;
 mod listing;
 mod naming;
 mod optimizing;

@@ -3,15 +3,16 @@ ghost use Rattle.std.specs.Prelude.{◌≤◌};
 
 use crate::checking::{Outcome, check_to};
 use crate::checking_row::check_all_to;
-use crate::command::{Job, Usage, command_of};
+use crate::command::{Usage, command_of};
 use crate::exporting::json_to;
 use crate::fault::{Fault, unwritten, write_fault};
 use crate::files::{open_source, read_list, read_rest};
 use crate::importing::imports_to;
+use crate::job::{Job, Pickles};
 use crate::listing::dis_to;
 use crate::optimizing::{Unoptimized, optimize_to, write_refusal};
 use crate::replacing::NewFile;
-use pkcheck::{OldStrings, Policy};
+use pkcheck::{Loading, OldStrings, Policy};
 use pkops::Limits;
 use pkread::{Reason, Refusal};
 use std::alloc::Global;
@@ -68,9 +69,17 @@ fn done<'a, R: Files<File = File>, O: Write>(
         Job::Check {
             allow,
             old,
-            all,
+            pickles,
             file,
-        } => check_file(rt, alloc, allow.as_str(), *old, *all, file.as_str(), out),
+        } => check_file(
+            rt,
+            alloc,
+            allow.as_str(),
+            *old,
+            *pickles,
+            file.as_str(),
+            out,
+        ),
         Job::Json { file } => json_file(rt, alloc, file.as_str(), out),
         Job::Optimize { file, out: to } => {
             optimize_file(rt, alloc, file.as_str(), to.as_str(), out)
@@ -78,13 +87,14 @@ fn done<'a, R: Files<File = File>, O: Write>(
     }
 }
 
-/// `check --allow LIST [--old-strings OBJECT] [--all] FILE`, under the limits of the list.
+/// `check --allow LIST [--old-strings OBJECT] [--all [--one-unpickler]] FILE`, under the limits of
+/// the list.
 fn check_file<'a, R: Files, O: Write>(
     rt: &R,
     alloc: Global,
     allow: &'a str,
     old: OldStrings,
-    all: bool,
+    pickles: Pickles,
     file: &'a str,
     out: &mut O,
 ) -> Result<Outcome, Fault<'a>> {
@@ -93,10 +103,15 @@ fn check_file<'a, R: Files, O: Write>(
         return Err(Fault::Unread(file));
     };
     let (policy, limits) = (Policy::Listed(&list), list.limits());
-    let written = if all {
-        check_all_to(alloc, &mut source, &policy, &limits, out, old)
-    } else {
-        check_to(alloc, &mut source, &policy, &limits, out, old)
+    let written = match pickles {
+        Pickles::First => check_to(alloc, &mut source, &policy, &limits, out, old),
+        Pickles::Row(memo) => {
+            let loading = Loading {
+                memo,
+                old_strings: old,
+            };
+            check_all_to(alloc, &mut source, &policy, &limits, out, loading)
+        }
     };
     match written {
         Ok(outcome) => Ok(outcome),

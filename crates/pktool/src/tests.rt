@@ -143,6 +143,10 @@ fn reads_words(rt: HostRuntime) {
         (["pktool", "check", "--all", "a"].as_slice(), 2),
         (["pktool", "dis", "--all", "a"].as_slice(), 2),
         (
+            ["pktool", "check", "--one-unpickler", "--allow", "a", "b"].as_slice(),
+            2,
+        ),
+        (
             ["pktool", "check", "--old-strings", "ascii", "a"].as_slice(),
             2,
         ),

@@ -2,7 +2,7 @@
 use crate::checking::Outcome;
 use crate::checking_row::check_all_to;
 use crate::tests::{NOTHING, enter_folder, expect};
-use pkcheck::{OldStrings, Policy};
+use pkcheck::{Loading, Memo, OldStrings, Policy};
 use pkops::Limits;
 use pkread::Input;
 use std::io::{ErrorKind, Read};
@@ -156,7 +156,10 @@ fn names_the_pickle_that_could_not_be_read(rt: HostRuntime) -> Result<(), Fail> 
         &Policy::AnyImport,
         &Limits::STANDARD,
         &mut out,
-        OldStrings::Unknown,
+        Loading {
+            memo: Memo::Fresh,
+            old_strings: OldStrings::Unknown,
+        },
     )?;
     assert_eq!(rt; ended, Outcome::Refused);
     assert_eq!(rt; out.as_slice(), b"no in pickle 1 at 2: Source\n".as_slice());

@@ -4,7 +4,7 @@ use crate::checking_row::check_all_to;
 use crate::exporting::json_to;
 use crate::importing::imports_to;
 use crate::listing::dis_to;
-use pkcheck::{OldStrings, Policy};
+use pkcheck::{Loading, Memo, OldStrings, Policy};
 use pkops::Limits;
 use pkread::Memory;
 use std::alloc::Global;
@@ -64,9 +64,13 @@ fn answer(
     let source = &mut Memory::new(pickle);
     let (policy, limits) = (&Policy::AnyImport, &Limits::STANDARD);
     let old = OldStrings::Unknown;
+    let loading = Loading {
+        memo: Memo::Kept,
+        old_strings: old,
+    };
     match call {
         Call::Check => check_to(alloc, source, policy, limits, out, old),
-        Call::CheckAll => check_all_to(alloc, source, policy, limits, out, old),
+        Call::CheckAll => check_all_to(alloc, source, policy, limits, out, loading),
         Call::Dis => dis_to(alloc, source, limits, out),
         Call::Imports => imports_to(alloc, source, limits, out),
         Call::Json => json_to(alloc, source, limits, out),

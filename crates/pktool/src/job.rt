@@ -1,0 +1,50 @@
+//! What a command line asks for.
+use pkcheck::{Memo, OldStrings};
+
+/// Which pickles of a file are checked.
+#[derive(Clone, Copy, Debug, PartialEq, Eq)]
+pub enum Pickles {
+    /// The first one.
+    First,
+    /// With `--all`: each of a row. With `--one-unpickler` the memo is kept.
+    Row(Memo),
+}
+
+/// What a command line asks for, its values as given.
+#[derive(Debug, Drop)]
+pub enum Job {
+    /// `dis FILE`: the instructions of the pickle in FILE.
+    Dis {
+        /// The path of the pickle.
+        file: String,
+    },
+    /// `check --allow LIST [--old-strings OBJECT] [--all [--one-unpickler]] FILE`: whether the
+    /// pickle in FILE imports what LIST permits alone.
+    Check {
+        /// The path of the list file.
+        allow: String,
+        /// With `--old-strings`: what strings of Python 2 become.
+        old: OldStrings,
+        /// Which pickles of FILE are checked.
+        pickles: Pickles,
+        /// The path of the pickle.
+        file: String,
+    },
+    /// `imports FILE`: the imports of the pickle in FILE.
+    Imports {
+        /// The path of the pickle.
+        file: String,
+    },
+    /// `optimize FILE OUT`: the pickle in FILE, optimized into OUT.
+    Optimize {
+        /// The path of the pickle.
+        file: String,
+        /// The path of its optimized form.
+        out: String,
+    },
+    /// `json FILE`: the data of the plain pickle in FILE.
+    Json {
+        /// The path of the pickle.
+        file: String,
+    },
+}
