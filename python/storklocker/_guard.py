@@ -261,7 +261,7 @@ class Guard:
         return await asyncio.get_running_loop().run_in_executor(None, call)
 
     def check(self, data: bytes) -> Verdict:
-        """The Verdict of the pickle at the front of `data`, a bytes object, as `loads` asks for it."""
+        """The Verdict of the pickle at the front of `data`, which is bytes, as `loads` asks for it."""
         return check(
             data, self._listed_for(data), limits=self._limits, old_strings=self._old_strings
         )

@@ -31,7 +31,7 @@ class Counts:
 
     @property
     def refused(self) -> Dict[str, int]:
-        """How many were refused, by the name of the reason; `MoreBytes` where bytes stood behind."""
+        """How many were refused, by the reason's name; `MoreBytes` where bytes stood behind."""
         with self._lock:
             return dict(self._refused)
 

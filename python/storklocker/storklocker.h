@@ -1,5 +1,5 @@
 /*
- * The checker of untrusted pickles, for C and for whatever calls C. Link libstorklocker.so.0.
+ * The checker of untrusted pickles, for C and for whatever calls C. Link it by -lstorklocker.
  *
  * Status 0 tells that the pickle is accepted: whatever its objects answer when it is read, it
  * imports listed pairs alone and leaves one object. Nothing of it is ever run.

@@ -29,7 +29,7 @@ _TAR_MAGIC = slice(257, 262)
 
 
 class Piece(NamedTuple):
-    """Something that may be a pickle: where it is, what is around it, and its bytes as they come."""
+    """Something that may be a pickle: where it is, what is around it, its bytes as they come."""
 
     path: str
     kind: str
@@ -167,7 +167,8 @@ def _open_zip(
             if entry.file_size > max(PROBED, RATIO * entry.compress_size):
                 why = f"it unpacks to {entry.file_size:,} bytes, {RATIO} times its size and more"
                 yield Finding(_inside(path, entry.filename), "zip", why)
-            yield from _member(path, "zip", entry.filename, budget, depth, _zip_opener(archive, entry))
+            opener = _zip_opener(archive, entry)
+            yield from _member(path, "zip", entry.filename, budget, depth, opener)
             if budget.members < 0:
                 return
 
@@ -204,7 +205,8 @@ def _member(
     inside = _inside(path, name)
     try:
         with contextlib.closing(opened()) as member:
-            yield from _opened(inside, f"{kind} member", Stream(member, budget), None, budget, depth)
+            stream = Stream(member, budget)
+            yield from _opened(inside, f"{kind} member", stream, None, budget, depth)
     except TooMuch:
         raise
     except _BROKEN as error:

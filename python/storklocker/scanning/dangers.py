@@ -6,7 +6,8 @@ The table says what is known, and no more: a name that is not in it may be as ha
 from __future__ import annotations
 
 import fnmatch
-from typing import Iterable, List, NamedTuple, Optional, Tuple
+import functools
+from typing import Dict, Iterable, List, NamedTuple, Optional, Tuple
 
 
 class Danger(NamedTuple):
@@ -47,7 +48,7 @@ _TABLE: Tuple[Tuple[str, str, str], ...] = (
     ("__builtin__.*", "Python 2's builtins have the same names.", "__builtin__.eval('..')"),
     ("operator.attrgetter", _REACHES, "attrgetter('sys.modules')(datetime)"),
     ("operator.methodcaller", _REACHES, "methodcaller('system', 'id')(os)"),
-    ("operator.itemgetter", "It reaches any item of a listed mapping.", "itemgetter('os')(modules)"),
+    ("operator.itemgetter", "It reaches any item of a mapping.", "itemgetter('os')(modules)"),
     ("operator.call", _CALLS, "operator.call(os.system, 'id')"),
     ("_operator.*", "It is the module operator.", "_operator.attrgetter('..')"),
     ("functools.partial", _CALLS, "partial(os.system, 'id')()"),
@@ -65,7 +66,7 @@ _TABLE: Tuple[Tuple[str, str, str], ...] = (
     ("platform.popen", _RUNS, "platform.popen('id')"),
     ("asyncio.*subprocess*", _RUNS, "create_subprocess_shell('id')"),
     ("multiprocessing.*", _RUNS, "multiprocessing.Process(target=f).start()"),
-    ("concurrent.futures*", _CALLS, "ThreadPoolExecutor().submit(f)"),
+    ("concurrent.futures.*", _CALLS, "ThreadPoolExecutor().submit(f)"),
     ("threading.*", _CALLS, "threading.Timer(0, f).start()"),
     ("_thread.*", _CALLS, "start_new_thread(f, ())"),
     ("sched.*", _CALLS, "scheduler().enter(0, 0, f)"),
@@ -143,12 +144,24 @@ _TABLE: Tuple[Tuple[str, str, str], ...] = (
 _CHANGED = ("os.path", "posixpath", "ntpath", "site", "linecache", "copyreg", "json", "ssl")
 
 
+def _by_top() -> Dict[str, List[Tuple[str, str, str]]]:
+    """The rows by the first word of their module, so that a name meets few of them."""
+    rows: Dict[str, List[Tuple[str, str, str]]] = {}
+    for row in _TABLE:
+        rows.setdefault(row[0].partition(".")[0], []).append(row)
+    return rows
+
+
+_ROWS = _by_top()
+
+
+@functools.lru_cache(maxsize=4096)
 def danger_of(module: Optional[str], name: Optional[str]) -> Optional[Danger]:
     """What is known of a name, if anything."""
     if module is None or name is None:
         return None
     word = f"{module}.{name}"
-    for pattern, why, example in _TABLE:
+    for pattern, why, example in _ROWS.get(module.partition(".")[0], ()):
         if fnmatch.fnmatchcase(word, pattern):
             return Danger(word, why, example)
     if module in _CHANGED:

@@ -56,7 +56,8 @@ def _results(report: Report) -> Iterator[Dict[str, Any]]:
     if report.status not in (ACCEPTED, NO_PICKLE):
         missing = ", ".join(dotted(pair) for pair in report.missing)
         text = f"{report.why}; off the list: {missing}" if missing else report.why
-        yield _result(report, report.status, "error" if report.status == REFUSED else "warning", text)
+        level = "error" if report.status == REFUSED else "warning"
+        yield _result(report, report.status, level, text)
     for danger in report.dangers:
         yield _result(report, "danger", "warning", f"{danger.name}: {danger.why}")
 

@@ -1,4 +1,4 @@
-"""The report of a piece: whether it is a pickle, what it would import, whether a list permits it."""
+"""The report of a piece: whether it is a pickle, what it would import, what a list says of it."""
 
 from __future__ import annotations
 
@@ -20,6 +20,7 @@ AROUND = 10
 
 _NOTHING = AllowList(())
 _FIRST = 512
+"""How many bytes are looked at first; eight times as many each time the pickle goes on behind."""
 _LISTED = 1 << 22
 _IMPORTING = (Reason.ImportOffList, Reason.UnknownImport, Reason.ExtensionCode)
 _JOBLIB = "joblib.numpy_pickle"
@@ -27,7 +28,7 @@ _LARGE = Limits(passed=1 << 40)
 
 
 def reports_of(path: str, file: BinaryIO, allow: Optional[AllowList]) -> Iterator[Report]:
-    """The reports of a file: one for each piece of it that may be a pickle, one for each finding."""
+    """The reports of a file: one for each piece that may be a pickle, one for each finding."""
     for found in pieces_of(path, file):
         if isinstance(found, Finding):
             yield Report(found.path, found.kind, UNREADABLE, found.why)
@@ -112,7 +113,7 @@ class Row:
                 return
             verdict, room = _imports_of(piece)
             if verdict.reason is Reason.Truncated and len(piece) == window:
-                window *= 2
+                window *= 8
                 continue
             self._judge(piece, verdict)
             if not verdict:
@@ -149,7 +150,7 @@ def _imports_of(data: bytes) -> Tuple[Verdict, bytes]:
 
 
 def _listing(data: bytes, at: int, offset: int) -> Iterator[Listed]:
-    """The instructions around a place, in the words of `pktool dis`, as `pickletools` reads them."""
+    """The instructions around a place, in `pktool dis`'s words, as `pickletools` reads them."""
     if at > _LISTED:
         return
     before: Deque[Listed] = Deque(maxlen=AROUND)

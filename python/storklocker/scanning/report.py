@@ -40,7 +40,7 @@ class Report(NamedTuple):
     pickles: int = 0
     """How many pickles stand in it, one after the other."""
     imports: Tuple[Pair, ...] = ()
-    """What they would import, each pair once; (None, None) is a name that the pickle doesn't show."""
+    """What they would import, each pair once; (None, None) is a name that isn't shown."""
     missing: Tuple[Pair, ...] = ()
     """Those that the list doesn't have."""
     dangers: Tuple[Danger, ...] = ()

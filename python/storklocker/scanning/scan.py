@@ -3,19 +3,21 @@
 from __future__ import annotations
 
 import concurrent.futures
-import functools
+import contextlib
 import os
 import sys
 import time
 from pathlib import Path
-from typing import Callable, Iterable, Iterator, List, Optional, TextIO
+from typing import Deque, Iterable, Iterator, List, Optional, TextIO
 
 from .._lists import AllowList
 from .judging import reports_of
 from .report import UNREADABLE, Report
 
-_AHEAD = 64
-"""How many files a process may have before it: bounded, so that a folder of millions costs no memory."""
+_FILES, _BYTES = 32, 1 << 18
+"""How many files a process gets at once, or of how many bytes: few large ones are spread."""
+_AHEAD = 4
+"""How many batches may wait for each process: bounded, so that millions of files cost no memory."""
 
 
 def files_in(paths: Iterable[str], recursive: bool) -> Iterator[str]:
@@ -61,26 +63,43 @@ def scan(
 ) -> Iterator[Report]:
     """The reports of all files, in the order of their names, as they come."""
     told = _Progress(progress)
-    work = functools.partial(scan_file, allow=allow)
     files = files_in(paths, recursive)
-    found = map(work, files) if jobs == 1 else _side_by_side(work, files, jobs)
-    for reports in found:
+    one_by_one = (scan_file(path, allow) for path in files)
+    for reports in one_by_one if jobs == 1 else _side_by_side(allow, files, jobs):
         told.add(reports)
         yield from reports
     told.end()
 
 
+def _scan_files(paths: List[str], allow: Optional[AllowList]) -> List[List[Report]]:
+    return [scan_file(path, allow) for path in paths]
+
+
+def _batches(files: Iterator[str]) -> Iterator[List[str]]:
+    batch: List[str] = []
+    size = 0
+    for path in files:
+        batch.append(path)
+        with contextlib.suppress(OSError):
+            size += os.stat(path).st_size
+        if len(batch) >= _FILES or size >= _BYTES:
+            yield batch
+            batch, size = [], 0
+    if batch:
+        yield batch
+
+
 def _side_by_side(
-    work: Callable[[str], List[Report]], files: Iterator[str], jobs: int
+    allow: Optional[AllowList], files: Iterator[str], jobs: int
 ) -> Iterator[List[Report]]:
     with concurrent.futures.ProcessPoolExecutor(jobs) as pool:
-        waiting: List["concurrent.futures.Future[List[Report]]"] = []
-        for file in files:
-            waiting.append(pool.submit(work, file))
+        waiting: Deque["concurrent.futures.Future[List[List[Report]]]"] = Deque()
+        for batch in _batches(files):
+            waiting.append(pool.submit(_scan_files, batch, allow))
             if len(waiting) >= _AHEAD * jobs:
-                yield waiting.pop(0).result()
+                yield from waiting.popleft().result()
         for future in waiting:
-            yield future.result()
+            yield from future.result()
 
 
 class _Progress:
@@ -108,5 +127,6 @@ class _Progress:
     def _write(self, front: str) -> None:
         if self._out is not None:
             pace = self._files / max(time.monotonic() - self._began, 0.001)
-            self._out.write(f"{front}{self._files} files, {self._bytes:,} bytes, {pace:.0f} a second ")
+            told = f"{self._files} files, {self._bytes:,} bytes, {pace:.0f} a second "
+            self._out.write(front + told)
             self._out.flush()

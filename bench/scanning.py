@@ -1,0 +1,99 @@
+#!/usr/bin/env python3
+"""Times `storklocker scan` over folders of pickles, beside `pickletools.genops`.
+
+It prints files and bytes a second with 1, 2 and 4 jobs, beside `genops` in as many processes, and
+the peak memory of the largest process.
+"""
+import argparse
+import concurrent.futures
+import datetime
+import os
+import pathlib
+import pickle
+import pickletools
+import resource
+import subprocess
+import sys
+import tempfile
+import time
+
+PYTHON = pathlib.Path(__file__).resolve().parent.parent / "python"
+TARGET, BOUND = 20, 5
+"""Times as fast as `pickletools.genops`: less than the bound is a regression."""
+LIST = 'version = 1\n[imports]\ndatetime = ["datetime"]\n'
+
+
+def rows(count):
+    """A value of so many records of some 70 bytes."""
+    noon = datetime.datetime(2026, 1, 2)
+    return [{"id": it, "name": f"row {it}", "when": noon, "price": it / 7} for it in range(count)]
+
+
+def fill(folder, count, data):
+    """Puts so many files of these bytes into a folder, and gives their size."""
+    folder.mkdir()
+    for number in range(count):
+        (folder / f"{number}.pickle").write_bytes(data)
+    return count * len(data)
+
+
+def scanned(folder, allow, jobs):
+    """Seconds of a scan, and the peak memory of its largest process in bytes."""
+    words = [sys.executable, "-m", "storklocker.scanning.command", "scan", str(folder)]
+    words += ["--allow", str(allow), "--jobs", str(jobs), "--format", "json"]
+    before = resource.getrusage(resource.RUSAGE_CHILDREN).ru_maxrss
+    began = time.perf_counter()
+    environment = {**os.environ, "PYTHONPATH": str(PYTHON)}
+    subprocess.run(words, env=environment, stdout=subprocess.DEVNULL, check=True)
+    took = time.perf_counter() - began
+    return took, max(before, resource.getrusage(resource.RUSAGE_CHILDREN).ru_maxrss) * 1024
+
+
+def listed(path):
+    """Goes over the instructions of a file."""
+    for _ in pickletools.genops(path.read_bytes()):
+        pass
+
+
+def beside(folder, jobs, most):
+    """Seconds a file of `pickletools.genops` in so many processes, over at most so many files."""
+    files = sorted(folder.iterdir())[:most]
+    with concurrent.futures.ProcessPoolExecutor(jobs) as pool:
+        began = time.perf_counter()
+        list(pool.map(listed, files))
+    return (time.perf_counter() - began) / len(files)
+
+
+def main():
+    words = argparse.ArgumentParser(description=__doc__.splitlines()[0])
+    words.add_argument("--small", type=int, default=10_000, help="files of 1 KB (10,000)")
+    words.add_argument("--large", type=int, default=100, help="files of 10 MB (100)")
+    asked = words.parse_args()
+    print("| Files | Jobs | Files a second | MB a second | Times `genops` | Peak MB |")
+    print("|---|---|---|---|---|---|")
+    least = 9e9
+    with tempfile.TemporaryDirectory() as name:
+        top = pathlib.Path(name)
+        allow = top / "list.toml"
+        allow.write_text(LIST)
+        for kind, count, records, most in (
+            ("1 KB", asked.small, 15, 400),
+            ("10 MB", asked.large, 190_000, 2),
+        ):
+            folder = top / kind.replace(" ", "")
+            size = fill(folder, count, pickle.dumps(rows(records), 4))
+            for jobs in (1, 2, 4):
+                took, peak = scanned(folder, allow, jobs)
+                ratio = beside(folder, jobs, most * jobs) * count / took
+                least = min(least, ratio) if kind == "10 MB" else least
+                print(
+                    f"| {count} of {kind} | {jobs} | {count / took:,.0f} | {size / took / 1e6:.0f} "
+                    f"| {ratio:.1f} | {peak / 1e6:.0f} |",
+                    flush=True,
+                )
+    print(f"\nThe target is {TARGET} times `genops`, the bound {BOUND} times, on files of 10 MB.")
+    return 0 if least >= BOUND else 1
+
+
+if __name__ == "__main__":
+    sys.exit(main())
