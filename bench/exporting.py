@@ -1,23 +1,25 @@
 #!/usr/bin/env python3
-"""Times the whole command `pktool json` beside `json.dumps(pickle.loads(..))` on plain data, in the same run.
+"""Times the whole command `pktool json` and `json.dumps(pickle.loads(..))` on plain data.
 
-What is measured is processor time, and the peak memory beside the size of the file. Python works on bytes in memory with
-the garbage collector off; the command starts, reads its file, writes its line into a pipe and ends.
+Both run side by side. It measures CPU time, and the peak memory relative to the size of the file.
+Python works on bytes in memory with the garbage collector off; the command starts, reads its file,
+writes its line into a pipe and ends.
 """
 import argparse
 import pathlib
 import sys
 import tempfile
+from typing import Tuple
 
 import program
 import shapes
 
 BOUND, TARGET = 1.25, 1.0
-"""Times what Python takes: more than the bound is a regression."""
+"""Relative to Python's time; above the bound it is a regression."""
 DUMPS = "json.dumps(pickle.loads(data))"
 
 
-def measure(path, rounds):
+def measure(path: pathlib.Path, rounds: int) -> Tuple[program.Run, program.Run]:
     """The best run of the command, and of Python."""
     ours = program.best_of(rounds, lambda: program.run("json", path))
     if ours.status != 0:
@@ -25,10 +27,14 @@ def measure(path, rounds):
     return ours, program.best_of(rounds, lambda: program.python(DUMPS, path))
 
 
-def main():
+def main() -> int:
     words = argparse.ArgumentParser(description=__doc__.splitlines()[0])
-    words.add_argument("--rounds", type=int, default=5, help="how often each runs (5); the best counts")
-    words.add_argument("--shape", choices=shapes.EXPORTED, action="append", help="this shape alone; may be given again")
+    words.add_argument(
+        "--rounds", type=int, default=5, help="how often each runs (5); the best counts"
+    )
+    words.add_argument(
+        "--shape", choices=shapes.EXPORTED, action="append", help="only this shape; may be repeated"
+    )
     asked = words.parse_args()
     program.build()
     print("| Shape | MB | Seconds | Times Python | Peak MB | Peak of Python, MB |")
@@ -40,12 +46,13 @@ def main():
             size = shapes.write_apart(path, shapes.EXPORTED[name])
             ours, theirs = measure(path, asked.rounds)
             kept = kept and ours.seconds <= BOUND * theirs.seconds
+            times = ours.seconds / theirs.seconds
             print(
-                f"| {name} | {size / 1e6:.1f} | {ours.seconds:.3f} | {ours.seconds / theirs.seconds:.2f} "
+                f"| {name} | {size / 1e6:.1f} | {ours.seconds:.3f} | {times:.2f} "
                 f"| {ours.peak / 1e6:.0f} | {theirs.peak / 1e6:.0f} |",
                 flush=True,
             )
-    print(f"\nThe target is {TARGET:.2f} times what Python takes, the bound {BOUND:.2f} times.")
+    print(f"\nThe target is {TARGET:.2f} times Python's time, the bound {BOUND:.2f} times.")
     return 0 if kept else 1
 
 

@@ -1,12 +1,13 @@
 #!/usr/bin/env python3
-"""Checks the same shapes at 1, 4 and 16 MB, and stops with status 1 where one grows faster than its file.
+"""Checks the same shapes at 1, 4 and 16 MB. The status is 1 if one grows faster than its file.
 
-What is printed is the time of a byte, the program's start and its list taken off.
+It prints the time per byte, without the program's start and its list.
 """
 import argparse
 import functools
 import sys
 import tempfile
+from typing import Iterator, Tuple
 
 import hostile
 import hostile_shapes
@@ -15,41 +16,48 @@ import shapes
 
 SIZES = [1, 4, 16]
 
-# A byte of the largest file may cost this many times what a byte of the middle one does. The rest is noise: caches,
-# and the first touch of memory.
+# A byte of the largest file may cost this many times as much as a byte of the middle one. The rest
+# is noise: caches, and the first touch of memory.
 NOISE = 1.5
 TRIES = 3
 
 
-def plain(protocol, megabytes):
-    """Records enough for the size, more or less."""
+def plain(protocol: int, megabytes: int) -> Iterator[bytes]:
+    """About as many records as fill the size."""
     sample = sum(map(len, shapes.plain(protocol, 1_000)))
     return shapes.plain(protocol, megabytes * 1_000_000 * 1_000 // sample)
 
 
-def growing():
+def growing() -> Iterator[Tuple[str, hostile_shapes.Hostile]]:
     for protocol in (0, 2, 4):
         make = functools.partial(plain, protocol)
         yield f"plain data, protocol {protocol}", hostile_shapes.Hostile(make, shapes.LIST)
     yield from hostile_shapes.GROWING.items()
 
 
-def grows_evenly(bench, name, shape):
-    """Prints the line of a shape, and gives whether a byte costs the same in the larger files. Where it seems not to, the
-    shape is measured again: what else runs on the machine isn't its fault."""
+def grows_evenly(bench: hostile.Bench, name: str, shape: hostile_shapes.Hostile) -> bool:
+    """Prints the line of a shape, and returns whether a byte costs the same in larger files. If it
+    seems not to, the shape is measured again: other work on the machine may be the cause.
+    """
     for _ in range(TRIES):
-        took = [bench.run(shape.allow, functools.partial(shape.make, megabytes))[0] for megabytes in SIZES]
+        makes = [functools.partial(shape.make, megabytes) for megabytes in SIZES]
+        took = [bench.run(shape.allow, make)[0] for make in makes]
         even = took[2] <= NOISE * took[1]
         if even:
             break
-    print(f"{name:40}", *(f"{ns:8.2f}" for ns in took), "ns a byte", "" if even else "GROWS FASTER", flush=True)
+    told = "" if even else "GROWS FASTER"
+    print(f"{name:40}", *(f"{ns:8.2f}" for ns in took), "ns a byte", told, flush=True)
     return even
 
 
-def main():
+def main() -> int:
     words = argparse.ArgumentParser(description=__doc__.splitlines()[0])
-    words.add_argument("--rounds", type=int, default=5, help="how often each file is checked (5); the best counts")
-    words.add_argument("--only", default="", metavar="WORD", help="the shapes with this word in their names")
+    words.add_argument(
+        "--rounds", type=int, default=5, help="how often each file is checked (5); the best counts"
+    )
+    words.add_argument(
+        "--only", default="", metavar="WORD", help="only shapes with this word in their names"
+    )
     asked = words.parse_args()
     program.build()
     print(f"{'at MB':40}", *(f"{size:8}" for size in SIZES))

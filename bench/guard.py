@@ -1,10 +1,12 @@
 #!/usr/bin/env python3
-"""Microseconds of processor time a call: the Python package beside pickle.loads, in one run.
+"""Compares the Python package with pickle.loads, in microseconds of CPU time per call.
 
-The status is 1 where a guarded load of a small pickle takes more than twice the bare one."""
+The status is 1 if a guarded load of a small pickle takes more than twice the bare one.
+"""
 import argparse
 import collections
 import datetime
+import math
 import os
 import pathlib
 import pickle
@@ -13,6 +15,8 @@ import sys
 import tempfile
 import threading
 import time
+from types import ModuleType
+from typing import Callable, List, Optional, Sequence, Tuple
 
 import program
 
@@ -25,21 +29,21 @@ LARGEST_RATIO = 2
 REFUSED = b"\x80\x04\x8c\x05posix\x94\x8c\x06system\x94\x93\x94."
 
 
-def arguments():
+def arguments() -> argparse.Namespace:
     parser = argparse.ArgumentParser(description=__doc__.splitlines()[0])
     parser.add_argument(
-        "--rounds", type=int, default=15, help="the best of so many counts; %(default)s"
+        "--rounds", type=int, default=15, help="number of rounds; the best counts; %(default)s"
     )
-    parser.add_argument("--calls", type=int, default=2000, help="calls a round; %(default)s")
-    parser.add_argument("--archive", help="a libpkguard.a, in place of proving and building it")
+    parser.add_argument("--calls", type=int, default=2000, help="calls per round; %(default)s")
+    parser.add_argument("--archive", help="use this libpkguard.a instead of building one")
     parser.add_argument(
-        "--process", action="store_true", help="also a process of the program for each pickle"
+        "--process", action="store_true", help="also time a process of the program for each pickle"
     )
     return parser.parse_args()
 
 
-def job(count):
-    """A small pickle, as a queue has them."""
+def job(count: int) -> bytes:
+    """A small pickle, like a queue's."""
     value = {
         "id": 17,
         "tags": ["one", "two", "three"],
@@ -49,60 +53,63 @@ def job(count):
     return pickle.dumps(value, 4)
 
 
-def records(count):
+def records(count: int) -> bytes:
     """A larger one."""
     return pickle.dumps([{"id": k, "name": f"user {k}", "score": k * 1.5} for k in range(count)], 4)
 
 
-def best(call, rounds, calls):
-    """The least processor time of a call, in microseconds."""
-    least = None
+def best(call: Callable[[], object], rounds: int, calls: int) -> float:
+    """The least CPU time of a call, in microseconds."""
+    least = math.inf
     for _ in range(rounds):
         started = time.process_time()
         for _ in range(calls):
             call()
         used = (time.process_time() - started) / calls
-        least = used if least is None else min(least, used)
+        least = min(least, used)
     return least * 1e6
 
 
-def in_turns(calls, rounds, count):
-    """The best of each call, where the calls take turns."""
-    least = [None] * len(calls)
+def in_turns(calls: Sequence[Callable[[], object]], rounds: int, count: int) -> List[float]:
+    """The best time of each call; the calls take turns."""
+    least = [math.inf] * len(calls)
     for _ in range(rounds):
         for k, call in enumerate(calls):
             used = best(call, 1, count)
-            least[k] = used if least[k] is None else min(least[k], used)
+            least[k] = min(least[k], used)
     return least
 
 
-def process(data, rounds):
+def process(data: bytes, rounds: int) -> float:
     """The least time of a process that checks the pickle, from start to end, in microseconds."""
     with tempfile.TemporaryDirectory() as folder:
         listed, file = pathlib.Path(folder, "list.toml"), pathlib.Path(folder, "job.pickle")
         names = "".join(f'{module} = ["{name}"]\n' for module, name in PAIRS)
         listed.write_text(f"version = 1\n[imports]\n{names}")
         file.write_bytes(data)
-        least = None
+        least = math.inf
         for _ in range(rounds * 10):
             started = time.perf_counter()
             subprocess.run(program.command(listed, file), stdout=subprocess.DEVNULL, check=True)
             used = time.perf_counter() - started
-            least = used if least is None else min(least, used)
+            least = min(least, used)
     return least * 1e6
 
 
-def many(count):
-    """The pairs among others."""
+def many(count: int) -> List[Tuple[str, str]]:
+    """The pairs, among others."""
     return PAIRS + [(f"package{k % 97}.module", f"Class{k}") for k in range(count - len(PAIRS))]
 
 
-def pickles(storklocker, asked):
-    """A row for each size; answers how many bare loads a guarded one of a small pickle takes."""
+def pickles(storklocker: ModuleType, asked: argparse.Namespace) -> float:
+    """Prints a row for each size, and returns the cost of a guarded load of a small pickle relative
+    to a bare one.
+    """
     few = storklocker.AllowList(PAIRS)
     guard, ratios = storklocker.Guard(few), []
     print(
-        "| Pickle | `pickle.loads` | `check` | `guard.loads` | beside `pickle.loads` | `storklocker.loads` |"
+        "| Pickle | `pickle.loads` | `check` | `guard.loads` | beside `pickle.loads` "
+        "| `storklocker.loads` |"
     )
     print("|---|---|---|---|---|---|")
     sizes = [
@@ -121,25 +128,26 @@ def pickles(storklocker, asked):
         bare, check, guarded, loaded = in_turns(calls, asked.rounds, max(1, count))
         ratios.append(guarded / bare)
         print(
-            f"| {len(data):,} bytes | {bare:,.2f} | {check:,.2f} | {guarded:,.2f} | {guarded / bare:.2f} "
-            f"| {loaded:,.2f} |"
+            f"| {len(data):,} bytes | {bare:,.2f} | {check:,.2f} | {guarded:,.2f} "
+            f"| {guarded / bare:.2f} | {loaded:,.2f} |"
         )
         if asked.process:
             print(f"| the same, a process | | {process(data, asked.rounds):,.0f} | | | |")
     return ratios[1]
 
 
-def lists(storklocker, asked):
-    """A yes and a no under lists of many lengths."""
+def lists(storklocker: ModuleType, asked: argparse.Namespace) -> None:
+    """Times a yes and a no under lists of many lengths."""
     print(
-        "\n| Pairs | `check`, accepted | `check`, refused | refused by `guard.loads` |\n|---|---|---|---|"
+        "\n| Pairs | `check`, accepted | `check`, refused | refused by `guard.loads` |"
+        "\n|---|---|---|---|"
     )
     data = job(6)
     for count in (len(PAIRS), 1000, 100_000, 1_000_000):
         listed = storklocker.AllowList(many(count))
         guard = storklocker.Guard(listed)
 
-        def refused():
+        def refused() -> None:
             try:
                 guard.loads(REFUSED)
             except storklocker.Refused:
@@ -158,15 +166,16 @@ def lists(storklocker, asked):
         )
 
 
-def threads(storklocker, asked):
-    """Checks of a megabyte by several threads, in checks a second."""
+def threads(storklocker: ModuleType, asked: argparse.Namespace) -> None:
+    """Times checks of a megabyte by several threads, in checks per second."""
     listed, data = storklocker.AllowList([]), records(29_000)
     print(
-        f"\n| Threads that check {len(data):,} bytes | checks a second | beside one |\n|---|---|---|"
+        f"\n| Threads that check {len(data):,} bytes | checks a second | beside one |"
+        "\n|---|---|---|"
     )
-    one = None
+    one: Optional[float] = None
 
-    def work():
+    def work() -> None:
         for _ in range(10):
             storklocker.check(data, listed)
 
@@ -184,8 +193,8 @@ def threads(storklocker, asked):
         print(f"| {count} | {most:,.0f} | {most / one:.2f} |")
 
 
-def imported(asked):
-    """What importing the package takes beyond pickle, in milliseconds."""
+def imported(asked: argparse.Namespace) -> None:
+    """The import time of the package beyond pickle's, in milliseconds."""
     code = (
         "import pickle, time; began = time.process_time(); import storklocker;"
         "print(time.process_time() - began)"
@@ -204,20 +213,22 @@ def imported(asked):
     print(f"\nimport: {1000 * min(took):.1f} ms beyond `pickle`")
 
 
-def main():
+def main() -> int:
     asked = arguments()
     words = ["--archive", asked.archive] if asked.archive else []
     subprocess.run([PYTHON / "make", *words], stdout=subprocess.DEVNULL, check=True)
     if asked.process:
         program.build()
-    import storklocker
+    import storklocker  # type: ignore[import]
 
     ratio = pickles(storklocker, asked)
     lists(storklocker, asked)
     threads(storklocker, asked)
     imported(asked)
     if ratio > LARGEST_RATIO:
-        print(f"\na guarded load takes {ratio:.2f} times the bare one: {LARGEST_RATIO} is the most")
+        print(
+            f"\na guarded load takes {ratio:.2f} times the bare one; the bound is {LARGEST_RATIO}"
+        )
     return 1 if ratio > LARGEST_RATIO else 0
 
 

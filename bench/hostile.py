@@ -1,15 +1,17 @@
 #!/usr/bin/env python3
-"""Checks files that are made to cost a reader time or memory, and stops with status 1 where one costs too much.
+"""Checks files that are designed to cost time or memory. The status is 1 if one costs too much.
 
-The time of a byte is what the file adds, its list and the program's start taken off. It may be at most five times that
-of a byte of plain data, and the peak memory at most 96 MB plus three times the size of the file; under the limits of
-large data plus 64 times, since an entry of the stack or of the memo costs more than the byte that makes it.
+The time per byte excludes the list and the program's start. It may be at most five times that of a
+byte of plain data. The peak memory may be at most 96 MB plus three times the size of the file, or
+64 times under the limits for large data, because a stack or memo entry takes more than the byte
+that creates it.
 """
 import argparse
 import functools
 import pathlib
 import sys
 import tempfile
+from typing import Dict, Tuple
 
 import hostile_shapes
 import program
@@ -25,14 +27,14 @@ PER_BYTE_LARGE = 64
 class Bench:
     """A folder with one list and one pickle at a time."""
 
-    def __init__(self, folder, rounds):
+    def __init__(self, folder: str, rounds: int) -> None:
         self.allow = pathlib.Path(folder, "list.toml")
         self.pickle = pathlib.Path(folder, "pickle")
         self.rounds = rounds
-        self.idle = {}
+        self.idle: Dict[str, float] = {}
 
-    def run(self, allow, make):
-        """The nanoseconds that a byte adds, the peak memory, the size, and the line."""
+    def run(self, allow: str, make: shapes.Make) -> Tuple[float, int, int, str]:
+        """The time per byte in nanoseconds, the peak memory, the size, and the line."""
         self.allow.write_text(allow)
         if allow not in self.idle:
             shapes.write(self.pickle, [b"N."])
@@ -42,33 +44,51 @@ class Bench:
         return (run.seconds - self.idle[allow]) / size * 1e9, run.peak, size, run.line
 
 
-def shortened(line):
+def shortened(line: str) -> str:
     return line.strip() if len(line) <= 40 else line[:37] + ".."
 
 
-def judged(bench, name, hostile, megabytes, plain, per_byte):
-    """Prints the line of a shape, and gives whether it keeps both bounds. One that seems too slow is measured again: what
-    else runs on the machine isn't its fault."""
+def judged(
+    bench: Bench,
+    name: str,
+    hostile: hostile_shapes.Hostile,
+    megabytes: int,
+    plain: float,
+    per_byte: int,
+) -> bool:
+    """Prints the line of a shape, and returns whether it keeps both bounds. If it seems too slow,
+    it is measured again: other work on the machine may be the cause.
+    """
     for _ in range(TRIES):
-        took, peak, size, line = bench.run(hostile.allow, functools.partial(hostile.make, megabytes))
+        make = functools.partial(hostile.make, megabytes)
+        took, peak, size, line = bench.run(hostile.allow, make)
         if took <= TIMES * plain:
             break
     bound = BASE + per_byte * size
     faults = ["TOO SLOW"] * (took > TIMES * plain) + ["TOO LARGE"] * (peak > bound)
     print(
-        f"{name:40} {size / 1e6:6.1f} MB {took:7.2f} ns a byte, {took / plain:5.2f} times plain data, "
-        f"{peak / 1e6:6.1f} of {bound / 1e6:.0f} MB  {shortened(line)} {', '.join(faults)}",
+        f"{name:40} {size / 1e6:6.1f} MB {took:7.2f} ns a byte, "
+        f"{took / plain:5.2f} times plain data, {peak / 1e6:6.1f} of {bound / 1e6:.0f} MB  "
+        f"{shortened(line)} {', '.join(faults)}",
         flush=True,
     )
     return not faults
 
 
-def main():
+def main() -> int:
     words = argparse.ArgumentParser(description=__doc__.splitlines()[0])
-    words.add_argument("--megabytes", type=int, default=16, help="the size of the shapes that grow (16)")
-    words.add_argument("--rounds", type=int, default=3, help="how often each file is checked (3); the best counts")
-    words.add_argument("--only", default="", metavar="WORD", help="the shapes with this word in their names")
-    words.add_argument("--large", action="store_true", help="what grows under the limits of large data")
+    words.add_argument(
+        "--megabytes", type=int, default=16, help="size of the scalable shapes in MB (16)"
+    )
+    words.add_argument(
+        "--rounds", type=int, default=3, help="how often each file is checked (3); the best counts"
+    )
+    words.add_argument(
+        "--only", default="", metavar="WORD", help="only shapes with this word in their names"
+    )
+    words.add_argument(
+        "--large", action="store_true", help="the scalable shapes under the limits for large data"
+    )
     asked = words.parse_args()
     program.build()
     with tempfile.TemporaryDirectory() as folder:
@@ -80,7 +100,10 @@ def main():
             every = hostile_shapes.AT_NO_LIMIT
         per_byte = PER_BYTE_LARGE if asked.large else PER_BYTE
         wanted = {name: hostile for name, hostile in every.items() if asked.only in name}
-        kept = [judged(bench, name, hostile, asked.megabytes, plain, per_byte) for name, hostile in wanted.items()]
+        kept = [
+            judged(bench, name, hostile, asked.megabytes, plain, per_byte)
+            for name, hostile in wanted.items()
+        ]
     print(f"{kept.count(True)} within both bounds, {kept.count(False)} not")
     return 0 if all(kept) else 1
 

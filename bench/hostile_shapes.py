@@ -1,11 +1,12 @@
-"""Files that are made to cost a reader time or memory, and the lists that they are checked under.
+"""Files that are designed to cost time or memory, and the lists they are checked under.
 
-Most of them are a head, a piece again and again, and a tail, and nearly all end in a yes, so that the whole file is
-read. Some grow as large as one likes; the others stand at a limit of the reader.
+Most are a head, a repeated piece and a tail, and nearly all get a yes, so that the whole file is
+read. Some scale to any size; the others reach a limit of the reader.
 """
 import dataclasses
+import json
 import struct
-from collections.abc import Callable, Iterable
+from typing import Callable, Iterable, Iterator, Sequence, Tuple
 
 MEGABYTE = 10**6
 LINE = 65_536
@@ -15,27 +16,31 @@ ENTRIES = 1_000_000
 NOTHING = "version = 1\n[imports]\n"
 LARGE = "version = 2\n[imports]\n[limits]\nlarge = true\n"
 
+# Makes the chunks of a file of this many megabytes.
+Make = Callable[[int], Iterable[bytes]]
+
 
 @dataclasses.dataclass(frozen=True)
 class Hostile:
-    """A shape: the chunks of the file for a wanted number of megabytes, and the list that it is checked under."""
+    """A shape: the chunks of the file for a number of megabytes, and the list it is checked under.
+    """
 
-    make: Callable[[int], Iterable[bytes]]
+    make: Make
     allow: str = NOTHING
 
 
-def times(piece, count):
-    """A piece so many times, in chunks."""
+def times(piece: bytes, count: int) -> Iterator[bytes]:
+    """A piece repeated this many times, in chunks."""
     most = max(1, 2**16 // len(piece))
     for _ in range(count // most):
         yield piece * most
     yield piece * (count % most)
 
 
-def repeated(piece, head=b"", tail=b"N."):
-    """As many pieces as make the size."""
+def repeated(piece: bytes, head: bytes = b"", tail: bytes = b"N.") -> Make:
+    """As many pieces as fill the size."""
 
-    def make(megabytes):
+    def make(megabytes: int) -> Iterator[bytes]:
         yield head
         yield from times(piece, megabytes * MEGABYTE // len(piece))
         yield tail
@@ -43,20 +48,20 @@ def repeated(piece, head=b"", tail=b"N."):
     return make
 
 
-def runs(*pieces):
-    """Pieces and their counts, whatever size is wanted."""
+def runs(*pieces: Tuple[bytes, int]) -> Make:
+    """Pieces and their counts, for any size."""
 
-    def make(_):
+    def make(_: int) -> Iterator[bytes]:
         for piece, count in pieces:
             yield from times(piece, count)
 
     return make
 
 
-def numbered(numbers):
-    """The object on the top stored under each of the numbers."""
+def numbered(numbers: Callable[[], Iterable[int]]) -> Make:
+    """The top object, stored under each of the numbers."""
 
-    def make(_):
+    def make(_: int) -> Iterator[bytes]:
         yield b"N"
         for number in numbers():
             yield b"r" + struct.pack("<I", number)
@@ -65,28 +70,28 @@ def numbered(numbers):
     return make
 
 
-def scattered():
-    """The numbers below 2^20 with their bits turned round, but the last."""
+def scattered() -> Iterator[int]:
+    """The numbers below 2^20 with reversed bits, except the last."""
     return (int(f"{i:020b}"[::-1], 2) << 8 for i in range(ENTRIES))
 
 
-def with_line(code, line):
+def with_line(code: bytes, line: bytes) -> bytes:
     return code + line + b"\n0"
 
 
-def text(size):
-    """A text that is kept under number 0."""
+def text(size: int) -> bytes:
+    """A text that is stored under number 0."""
     return b"X" + struct.pack("<I", size) + b"a" * size + b"q\0"
 
 
-def list_of(modules):
-    """A list file of these modules with their names."""
-    lines = [f'"{module}" = [{", ".join(chr(34) + name + chr(34) for name in names)}]' for module, names in modules]
+def list_of(modules: Iterable[Tuple[str, Sequence[str]]]) -> str:
+    """A list file with these modules and their names."""
+    lines = [f'"{module}" = {json.dumps(names)}' for module, names in modules]
     return "version = 1\n[imports]\n" + "\n".join(lines) + "\n"
 
 
-def imports(pairs):
-    """The imports again and again, their objects dropped."""
+def imports(pairs: Iterable[Tuple[str, str]]) -> Make:
+    """The imports, repeated, with their objects dropped."""
     return repeated(b"".join(f"c{module}\n{name}\n0".encode() for module, name in pairs))
 
 
@@ -94,7 +99,7 @@ LONG = "a" * LINE
 MODULES = [f"package{i}.module" for i in range(50_000)]
 SPREAD = range(0, 50_000, 37)
 
-# Lines of the greatest length of every opcode that has lines, and lines with nothing but escapes.
+# Lines of the greatest length for every opcode that has lines, and lines of nothing but escapes.
 LINES = {
     "FLOAT": with_line(b"F", b"1" * LINE),
     "INT": with_line(b"I", b"1" * NUMERAL),
@@ -110,7 +115,7 @@ LINES = {
     "UNICODE, one byte": with_line(b"V", b"a"),
 }
 
-# Pieces behind which neither stack nor memo has grown.
+# Pieces that leave the stack and the memo as they were.
 PIECES = {
     **{f"lines: {name}": line for name, line in LINES.items()},
     "empty texts": b"\x8c\x000",
@@ -125,7 +130,7 @@ PIECES = {
     "persistent objects": b"NQ0",
 }
 
-# What is done with one text of a megabyte.
+# Uses of one text of a megabyte.
 TEXT = b"X" + struct.pack("<I", MEGABYTE) + b"a" * MEGABYTE + b"q\0"
 OF_A_TEXT = {
     "a long text fetched": b"h\x000",
@@ -133,29 +138,34 @@ OF_A_TEXT = {
     "a long text stored": b"q\0",
 }
 
-# Imports that the list permits, so that each is looked up and kept.
+# Imports that the list permits, so that each is looked up and recorded.
 IMPORTS = {
     "one import again and again": Hostile(
         repeated(b"h\0h\x01\x930", head=b"Vm\nq\x000Vf\nq\x010"), list_of([("m", ["f"])])
     ),
-    "one GLOBAL of short names again and again": Hostile(imports([("m", "f")]), list_of([("m", ["f"])])),
+    "one GLOBAL of short names again and again": Hostile(
+        imports([("m", "f")]), list_of([("m", ["f"])])
+    ),
     "two GLOBALs of short names in turns": Hostile(
         imports([("m", "f"), ("m", "g")]), list_of([("m", ["f", "g"])])
     ),
-    "one INST of short names again and again": Hostile(repeated(b"(im\nf\n0"), list_of([("m", ["f"])])),
+    "one INST of short names again and again": Hostile(
+        repeated(b"(im\nf\n0"), list_of([("m", ["f"])])
+    ),
     "lines: GLOBAL, two of them": Hostile(imports([(LONG, LONG)]), list_of([(LONG, [LONG])])),
     "lines: INST, two of them": Hostile(
         repeated(b"(i" + with_line(f"{LONG}\n".encode(), LONG.encode())), list_of([(LONG, [LONG])])
     ),
     "50,000 modules listed": Hostile(
-        imports([(MODULES[i], "name") for i in SPREAD]), list_of([(module, ["name"]) for module in MODULES])
+        imports([(MODULES[i], "name") for i in SPREAD]),
+        list_of([(module, ["name"]) for module in MODULES]),
     ),
     "50,000 names of a module listed": Hostile(
         imports([("module", MODULES[i]) for i in SPREAD]), list_of([("module", MODULES)])
     ),
 }
 
-# As many entries as the limits leave.
+# As many entries as the limits allow.
 ENTRIES_OF = {
     "marks": runs((b"(", ENTRIES), (b"N.", 1)),
     "objects": runs((b"N", ENTRIES), (b".", 1)),
@@ -171,7 +181,7 @@ ENTRIES_OF = {
     "lists in lists": runs((b"]", ENTRIES), (b"a", ENTRIES - 1), (b".", 1)),
 }
 
-# Payloads as long as the limit lets them be, whole and with the last byte cut off.
+# Payloads as long as the limit allows, complete and without their last byte.
 COUNTED = {
     "BINBYTES": b"B" + struct.pack("<I", PAYLOAD),
     "BINBYTES8": b"\x8e" + struct.pack("<Q", PAYLOAD),
@@ -191,33 +201,39 @@ GROWING = {
 
 AT_LIMITS = {
     **{name: Hostile(make) for name, make in ENTRIES_OF.items()},
-    **{f"payload of {name}": Hostile(runs((head, 1), (b"a", PAYLOAD), (b".", 1))) for name, head in COUNTED.items()},
-    **{f"payload of {name}, cut": Hostile(runs((head, 1), (b"a", PAYLOAD - 1))) for name, head in COUNTED.items()},
+    **{
+        f"payload of {name}": Hostile(runs((head, 1), (b"a", PAYLOAD), (b".", 1)))
+        for name, head in COUNTED.items()
+    },
+    **{
+        f"payload of {name}, cut": Hostile(runs((head, 1), (b"a", PAYLOAD - 1)))
+        for name, head in COUNTED.items()
+    },
 }
 
 
-def numbered_over(numbers):
-    """The object on the top stored under as many numbers as make the size."""
+def numbered_over(numbers: Callable[[int], Iterable[int]]) -> Make:
+    """The top object, stored under as many numbers as fill the size."""
 
-    def make(megabytes):
+    def make(megabytes: int) -> Iterable[bytes]:
         return numbered(lambda: numbers(megabytes * MEGABYTE // 5))(megabytes)
 
     return make
 
 
-def falling(count):
+def falling(count: int) -> range:
     return range(count - 1, -1, -1)
 
 
-def far_apart(count):
-    """Numbers of 32 bits, no two of them near each other."""
+def far_apart(count: int) -> Iterator[int]:
+    """Numbers of 32 bits that are far from one another."""
     return ((i * 2_654_435_761) % 2**32 for i in range(count))
 
 
-def text_of(share):
-    """A text whose count is that share of the size, and bytes up to the size."""
+def text_of(share: int) -> Make:
+    """A text whose count is this share of the size, and bytes up to the size."""
 
-    def make(megabytes):
+    def make(megabytes: int) -> Iterator[bytes]:
         size = megabytes * MEGABYTE
         yield b"X" + struct.pack("<I", int(size * share))
         yield from times(b"a", size)
@@ -226,7 +242,8 @@ def text_of(share):
     return make
 
 
-# What grows without an end under the limits of large data: entries of the stack and of the memo, and payloads.
+# What grows without bound under the limits for large data: stack entries, memo entries and
+# payloads.
 AT_NO_LIMIT = {
     name: Hostile(make, LARGE)
     for name, make in {

@@ -1,9 +1,9 @@
 #!/usr/bin/env python3
-"""Counts the processor's instructions for each pickle instruction, over the whole command, and shows where they go.
+"""Counts processor instructions per pickle instruction, over the whole command, and profiles them.
 
-`valgrind --tool=callgrind` counts them, so no load of the machine moves the figure. The pickle is plain data of
-protocol 4. With `--python` the same is counted for `pickle.loads`: a Python that loads the pickle less one that only
-reads it.
+`valgrind --tool=callgrind` counts them, so the load of the machine doesn't matter. The pickle is
+plain data in protocol 4. With `--python` it also counts `pickle.loads`, as a Python that loads the
+pickle less one that only reads it.
 """
 import argparse
 import pathlib
@@ -13,26 +13,34 @@ import shutil
 import subprocess
 import sys
 import tempfile
+from typing import Iterator, List
 
 import program
 import shapes
 
-# What Python runs, without and with the load; it ends at once, and takes nothing down.
-READ = "import gc, os, pickle; gc.disable(); data = open({path!r}, 'rb').read(); {load}; os._exit(0)"
+# What Python runs, with and without the load. It exits at once, without teardown.
+READ = """
+import gc, os, pickle
+gc.disable()
+data = open({path!r}, "rb").read()
+{load}
+os._exit(0)
+"""
 LOADS = ["pass", "kept = pickle.loads(data)"]
 
 
-def counted(command, profile):
-    """The instructions that a command takes, its profile left in a file."""
+def counted(command: List[str], profile: pathlib.Path) -> int:
+    """The instructions that a command executes. Its profile is left in a file."""
     words = ["valgrind", "--tool=callgrind", f"--callgrind-out-file={profile}"]
     ended = subprocess.run(words + command, capture_output=True, text=True)
     if ended.returncode != 0:
         sys.exit(ended.stdout + ended.stderr)
-    return int(re.search(r"Collected : (\d+)", ended.stderr).group(1))
+    return int(re.findall(r"Collected : (\d+)", ended.stderr)[0])
 
 
-def functions(profile, count):
-    """The functions that take most, with their share and their instructions for each pickle instruction."""
+def functions(profile: pathlib.Path, count: int) -> Iterator[str]:
+    """The most expensive functions, with their share and their instructions per pickle instruction.
+    """
     words = ["callgrind_annotate", "--threshold=100", str(profile)]
     listed = subprocess.run(words, capture_output=True, text=True, check=True).stdout
     for line in listed.splitlines():
@@ -43,18 +51,20 @@ def functions(profile, count):
             yield f"{taken / count:8.1f} {float(found.group(2)):6.2f}%  {name}"
 
 
-def of_python(path, folder):
-    """What `pickle.loads` takes beside a Python that does all but that."""
+def of_python(path: pathlib.Path, folder: pathlib.Path) -> int:
+    """The instructions of `pickle.loads`, beyond those of a Python that does all the rest."""
     profile = folder / "python"
     texts = [READ.format(path=str(path), load=load) for load in LOADS]
     without, loaded = (counted([sys.executable, "-S", "-E", "-c", text], profile) for text in texts)
     return loaded - without
 
 
-def main():
+def main() -> None:
     words = argparse.ArgumentParser(description=__doc__.splitlines()[0])
-    words.add_argument("--records", type=int, default=shapes.RECORDS // 5, help="the size of the pickle")
-    words.add_argument("--top", type=int, default=20, help="how many functions are listed (20)")
+    words.add_argument(
+        "--records", type=int, default=shapes.RECORDS // 5, help="number of records in the pickle"
+    )
+    words.add_argument("--top", type=int, default=20, help="how many functions to list (20)")
     words.add_argument("--python", action="store_true", help="count for pickle.loads too")
     asked = words.parse_args()
     if shutil.which("valgrind") is None:

@@ -1,23 +1,28 @@
 #!/usr/bin/env python3
-"""Times the whole command `pktool optimize` beside `pickletools.optimize` and beside `pktool check`, in the same run.
+"""Times the whole command `pktool optimize`, `pickletools.optimize` and `pktool check`.
 
-What is measured is processor time, and the peak memory beside the size of the file. `pickletools.optimize` works on
-bytes in memory with the garbage collector off; the command starts, reads its file, writes the other and ends.
+It measures CPU time, and the peak memory relative to the size of the file. `pickletools.optimize`
+works on bytes in memory with the garbage collector off; the command starts, reads its file, writes
+the other and ends.
 """
 import argparse
 import pathlib
 import sys
 import tempfile
+from typing import Tuple
 
 import program
 import shapes
 
 BOUND, TARGET = 15, 100
-"""Times as fast as `pickletools.optimize`: less than the bound is a regression."""
+"""Speedup over `pickletools.optimize`; below the bound it is a regression."""
 
 
-def measure(folder, make, rounds):
-    """The best run of the command, a run of Python, the best run of the check, and the size of the file."""
+def measure(
+    folder: pathlib.Path, make: shapes.Make, rounds: int
+) -> Tuple[program.Run, program.Run, program.Run, int]:
+    """The best run of the command, a run of Python, the best run of the check, and the file's size.
+    """
     path, out, allow = folder / "file.pickle", folder / "out.pickle", folder / "list.toml"
     allow.write_text(shapes.LIST)
     size = shapes.write_apart(path, make)
@@ -29,22 +34,30 @@ def measure(folder, make, rounds):
     return ours, theirs, check, size
 
 
-def main():
+def main() -> int:
     words = argparse.ArgumentParser(description=__doc__.splitlines()[0])
-    words.add_argument("--rounds", type=int, default=3, help="how often each command runs (3); the best counts")
-    words.add_argument("--shape", choices=shapes.SHAPES, action="append", help="this shape alone; may be given again")
+    words.add_argument(
+        "--rounds", type=int, default=3, help="how often each command runs (3); the best counts"
+    )
+    words.add_argument(
+        "--shape", choices=shapes.SHAPES, action="append", help="only this shape; may be repeated"
+    )
     asked = words.parse_args()
     program.build()
-    print("| Shape | MB | Seconds | Times `pktool check` | Times faster than `pickletools.optimize` | Peak MB | Its peak MB |")
+    print(
+        "| Shape | MB | Seconds | Times `pktool check` "
+        "| Times faster than `pickletools.optimize` | Peak MB | Its peak MB |"
+    )
     print("|---|---|---|---|---|---|---|")
     kept = True
     for name in asked.shape or shapes.SHAPES:
         with tempfile.TemporaryDirectory() as folder:
-            ours, theirs, check, size = measure(pathlib.Path(folder), shapes.SHAPES[name], asked.rounds)
-        ratio = theirs.seconds / ours.seconds
+            place, shape = pathlib.Path(folder), shapes.SHAPES[name]
+            ours, theirs, check, size = measure(place, shape, asked.rounds)
+        ratio, times = theirs.seconds / ours.seconds, ours.seconds / check.seconds
         kept = kept and ratio >= BOUND
         print(
-            f"| {name} | {size / 1e6:.1f} | {ours.seconds:.3f} | {ours.seconds / check.seconds:.2f} | {ratio:.1f} "
+            f"| {name} | {size / 1e6:.1f} | {ours.seconds:.3f} | {times:.2f} | {ratio:.1f} "
             f"| {ours.peak / 1e6:.0f} | {theirs.peak / 1e6:.0f} |",
             flush=True,
         )

@@ -1,8 +1,8 @@
 #!/usr/bin/env python3
-"""Times `storklocker scan` over folders of pickles, beside `pickletools.genops`.
+"""Times `storklocker scan` over folders of pickles, and `pickletools.genops`.
 
-It prints files and bytes a second with 1, 2 and 4 jobs, beside `genops` in as many processes, and
-the peak memory of the largest process.
+It prints files and bytes per second with 1, 2 and 4 jobs, compares them with `genops` in as many
+processes, and gives the peak memory of the largest process.
 """
 import argparse
 import concurrent.futures
@@ -16,28 +16,29 @@ import subprocess
 import sys
 import tempfile
 import time
+from typing import Dict, List, Tuple
 
 PYTHON = pathlib.Path(__file__).resolve().parent.parent / "python"
 TARGET, BOUND = 20, 5
-"""Times as fast as `pickletools.genops`: less than the bound is a regression."""
+"""Speedup over `pickletools.genops`; below the bound it is a regression."""
 LIST = 'version = 1\n[imports]\ndatetime = ["datetime"]\n'
 
 
-def rows(count):
-    """A value of so many records of some 70 bytes."""
+def rows(count: int) -> List[Dict[str, object]]:
+    """A value of this many records of some 70 bytes."""
     noon = datetime.datetime(2026, 1, 2)
     return [{"id": it, "name": f"row {it}", "when": noon, "price": it / 7} for it in range(count)]
 
 
-def fill(folder, count, data):
-    """Puts so many files of these bytes into a folder, and gives their size."""
+def fill(folder: pathlib.Path, count: int, data: bytes) -> int:
+    """Writes this many files with these bytes into a folder, and returns their total size."""
     folder.mkdir()
     for number in range(count):
         (folder / f"{number}.pickle").write_bytes(data)
     return count * len(data)
 
 
-def scanned(folder, allow, jobs):
+def scanned(folder: pathlib.Path, allow: pathlib.Path, jobs: int) -> Tuple[float, int]:
     """Seconds of a scan, and the peak memory of its largest process in bytes."""
     words = [sys.executable, "-m", "storklocker.scanning.command", "scan", str(folder)]
     words += ["--allow", str(allow), "--jobs", str(jobs), "--format", "json"]
@@ -49,14 +50,16 @@ def scanned(folder, allow, jobs):
     return took, max(before, resource.getrusage(resource.RUSAGE_CHILDREN).ru_maxrss) * 1024
 
 
-def listed(path):
-    """Goes over the instructions of a file."""
+def listed(path: pathlib.Path) -> None:
+    """Iterates over the instructions of a file."""
     for _ in pickletools.genops(path.read_bytes()):
         pass
 
 
-def beside(folder, jobs, most):
-    """Seconds a file of `pickletools.genops` in so many processes, over at most so many files."""
+def beside(folder: pathlib.Path, jobs: int, most: int) -> float:
+    """Seconds per file of `pickletools.genops` in this many processes, over at most this many
+    files.
+    """
     files = sorted(folder.iterdir())[:most]
     with concurrent.futures.ProcessPoolExecutor(jobs) as pool:
         began = time.perf_counter()
@@ -64,10 +67,10 @@ def beside(folder, jobs, most):
     return (time.perf_counter() - began) / len(files)
 
 
-def main():
+def main() -> int:
     words = argparse.ArgumentParser(description=__doc__.splitlines()[0])
-    words.add_argument("--small", type=int, default=10_000, help="files of 1 KB (10,000)")
-    words.add_argument("--large", type=int, default=100, help="files of 10 MB (100)")
+    words.add_argument("--small", type=int, default=10_000, help="number of files of 1 KB (10,000)")
+    words.add_argument("--large", type=int, default=100, help="number of files of 10 MB (100)")
     asked = words.parse_args()
     print("| Files | Jobs | Files a second | MB a second | Times `genops` | Peak MB |")
     print("|---|---|---|---|---|---|")

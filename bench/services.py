@@ -1,16 +1,19 @@
 #!/usr/bin/env python3
-"""Times Celery, Django's caches and Dask with bare pickles and behind the guard, in the same run.
+"""Times Celery, Django's caches and Dask with bare pickles and behind the guard.
 
-It wants Debian's python3 and its packages, which python/services installs, and the package built.
+It needs Debian's python3 with the packages that python/services installs, and the built package.
 """
 import argparse
 import datetime
+import gc
+import importlib
 import os
 import pathlib
 import pickle
 import sys
 import tempfile
 import time
+from typing import Any, Dict, List, Tuple
 
 HERE = pathlib.Path(__file__).resolve().parent
 TESTS = HERE.parent / "python" / "service_tests"
@@ -18,32 +21,32 @@ os.environ.setdefault("STORKLOCKER_MARKS", tempfile.gettempdir())
 sys.path[:0] = [str(TESTS), str(HERE.parent / "python"), str(HERE)]
 os.environ["PYTHONPATH"] = os.pathsep.join(sys.path[:3])
 
-import common  # noqa: E402
-import storklocker  # noqa: E402
+import common  # type: ignore[import]  # noqa: E402
+import storklocker  # type: ignore[import]  # noqa: E402
 from storklocker import lists  # noqa: E402
 
 CELERY_TARGET, DJANGO_TARGET, DASK_TARGET = 1.05, 1.5, 1.8
 BOUND = 1.5
-"""How many times its target a figure may be before it counts as a regression."""
+"""How many times its target a figure may reach before it counts as a regression."""
 
 
-def small():
+def small() -> Dict[str, object]:
     """A job's payload of some 195 bytes."""
     return {"id": 7, "when": datetime.datetime(2026, 1, 2), "name": "report", "to": ["a", "b"]}
 
 
-def large(count):
-    """A value of so many rows, 50 bytes each and more."""
+def large(count: int) -> List[Dict[str, object]]:
+    """A value of this many rows, of 50 bytes and more each."""
     return [
         {"id": it, "name": f"row {it}", "price": it / 7, "tags": ["a", str(it)]}
         for it in range(count)
     ]
 
 
-def celery(jobs):
-    """Processor seconds of a worker for each job, bare and behind the guard, by payload."""
-    payloads = {"195 bytes": small(), "12 KB": large(220)}
-    took = {}
+def celery(jobs: int) -> float:
+    """A worker's CPU time per job, bare and behind the guard, by payload."""
+    payloads: Dict[str, object] = {"195 bytes": small(), "12 KB": large(220)}
+    took: Dict[Tuple[str, str], List[Tuple[int, float, float]]] = {}
     with tempfile.TemporaryDirectory() as folder, common.redis_server(folder) as port:
         os.environ["REDIS_PORT"] = str(port)
         for turn in range(3):
@@ -66,21 +69,23 @@ def celery(jobs):
     return worst
 
 
-def worked(payload, jobs):
-    """What a worker says of so many jobs."""
+def worked(payload: object, jobs: int) -> Any:
+    """What a worker reports about this many jobs."""
     import celery_jobs
 
     for _ in range(jobs):
         celery_jobs.work.delay(payload)
-    return celery_jobs.finish.delay().get(timeout=300)
+    told = celery_jobs.finish.delay().get(timeout=300)
+    gc.collect()  # a result that is freed later asks a Redis that has ended
+    return told
 
 
-def django(rounds):
-    """Processor time of a get on three backends, bare and guarded."""
+def django(rounds: int) -> float:
+    """The CPU time of a get on three backends, bare and guarded."""
     with tempfile.TemporaryDirectory() as folder, common.redis_server(folder) as port:
         caches = configured(folder, port)
-        values = {"195 bytes": small(), "24 KB": large(440)}
-        best = {}
+        values: Dict[str, object] = {"195-bytes": small(), "24-KB": large(440)}
+        best: Dict[Tuple[str, str, str], float] = {}
         for kind in ("memory", "files", "redis"):
             for size, value in values.items():
                 for guard in ("bare", "guarded"):
@@ -97,26 +102,27 @@ def django(rounds):
     for kind in ("memory", "files", "redis"):
         for size in values:
             bare, kept = best[kind, size, "bare"], best[kind, size, "guarded"]
-            print(f"| {kind}, {size} | {bare * 1e6:.1f} | {kept * 1e6:.1f} | {kept / bare:.2f} |")
-            worst = max(worst, kept / bare) if size == "24 KB" else worst
+            name = f"{kind}, {size.replace('-', ' ')}"
+            print(f"| {name} | {bare * 1e6:.1f} | {kept * 1e6:.1f} | {kept / bare:.2f} |")
+            worst = max(worst, kept / bare) if size == "24-KB" else worst
     return worst
 
 
-def got(cache, key):
-    """Processor seconds of a get."""
+def got(cache: Any, key: str) -> float:
+    """The CPU time of a get in seconds."""
     began = time.process_time()
     for _ in range(50):
         cache.get(key)
     return (time.process_time() - began) / 50
 
 
-def configured(folder, port):
+def configured(folder: str, port: int) -> Any:
     """The caches, each bare and guarded."""
-    import django as framework
-    from django.conf import settings
+    import django as framework  # type: ignore[import]
+    from django.conf import settings  # type: ignore[import]
 
     back, remote = "django.core.cache.backends.", f"redis://127.0.0.1:{port}/"
-    kept = {"GUARD": storklocker.Guard(lists.DATETIME | lists.STANDARD_TYPES)}
+    kept: Any = {"GUARD": storklocker.Guard(lists.DATETIME | lists.STANDARD_TYPES)}
     settings.configure(
         CACHES={
             "default": {"BACKEND": back + "locmem.LocMemCache"},
@@ -138,27 +144,30 @@ def configured(folder, port):
         }
     )
     framework.setup()
-    from django.core.cache import caches
+    from django.core.cache import caches  # type: ignore[import]
 
     return caches
 
 
-def entry(number):
+def entry(number: int) -> Tuple[int, bytes]:
     """A key and a pickle of some 900 bytes."""
     return number, pickle.dumps(large(15), 4)
 
 
-def dask(count):
-    """How many times as fast two processes check a bag as one."""
-    import dask.bag as bags
-    from distributed import Client, LocalCluster
-    from storklocker.contrib.dask import check_bag
+def dask(count: int) -> float:
+    """The speedup of two processes over one when they check a bag."""
+    from storklocker.contrib.dask import check_bag  # type: ignore[import]
+
+    # No import statement: mypy would follow it, and Dask's sources are of a later Python than 3.8.
+    bags, distributed = map(importlib.import_module, ("dask.bag", "distributed"))
 
     guard = storklocker.Guard(storklocker.AllowList(()))
-    paces = {}
+    paces: Dict[int, float] = {}
     for workers in (1, 2, 4):
         words = {"n_workers": workers, "threads_per_worker": 1, "dashboard_address": None}
-        with LocalCluster(host="127.0.0.1", **words) as cluster, Client(cluster):
+        with distributed.LocalCluster(
+            host="127.0.0.1", **words
+        ) as cluster, distributed.Client(cluster):
             bag = bags.from_sequence(range(count), npartitions=40).map(entry).persist()
             bag.count().compute()
             times = []
@@ -174,11 +183,11 @@ def dask(count):
     return paces[2] / paces[1]
 
 
-def main():
+def main() -> int:
     words = argparse.ArgumentParser(description=__doc__.splitlines()[0])
     words.add_argument("--jobs", type=int, default=2000, help="Celery jobs of each kind (2000)")
     words.add_argument("--count", type=int, default=100_000, help="pickles in the bag (100,000)")
-    words.add_argument("--only", choices=("celery", "django", "dask"), help="this service alone")
+    words.add_argument("--only", choices=("celery", "django", "dask"), help="only this service")
     asked = words.parse_args()
     kept = []
     if asked.only in (None, "celery"):
@@ -191,8 +200,8 @@ def main():
     return 0 if all(kept) else 1
 
 
-def told(what, ratio, target):
-    """Prints a figure beside its target, and gives whether it keeps the bound."""
+def told(what: str, ratio: float, target: float) -> bool:
+    """Prints a figure beside its target, and returns whether it keeps the bound."""
     print(f"\n{what}: {ratio:.2f} times the bare one; the target is {target:.2f}")
     return ratio <= BOUND * target
 

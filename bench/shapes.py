@@ -1,18 +1,23 @@
-"""The pickles that the benchmark is measured on, and how they are written to a file.
+"""The pickles that the benchmark measures, and how they are written to a file.
 
-A shape gives its bytes in chunks, so that whoever writes one never holds it whole: on Linux the peak memory of a
-child that was just started is at least that of its parent.
+A shape yields its bytes in chunks, so that its writer never holds it whole: on Linux the peak
+memory of a new child is at least that of its parent.
 """
 import datetime
 import functools
 import os
+import pathlib
 import pickle
+from typing import Callable, Dict, Iterable, Iterator
 
 RECORDS = 125_000
 
+# Makes the chunks of a file.
+Make = Callable[[], Iterable[bytes]]
 
-def record(i):
-    """A record as a job queue would hold it: texts, numbers, a list, a tuple."""
+
+def record(i: int) -> Dict[str, object]:
+    """A record like a job queue's: texts, numbers, a list, a tuple."""
     return {
         "id": i,
         "name": f"record {i}",
@@ -24,42 +29,44 @@ def record(i):
     }
 
 
-def plain(protocol, records=RECORDS):
+def plain(protocol: int, records: int = RECORDS) -> Iterator[bytes]:
     """Dicts and lists of texts and numbers."""
     yield pickle.dumps([record(i) for i in range(records)], protocol)
 
 
-def exported(protocol, records=60_000):
-    """The same without their floats, as many as may be exported: some 720,000 values."""
+def exported(protocol: int, records: int = 60_000) -> Iterator[bytes]:
+    """Such records without their floats, as many as may be exported: some 720,000 values."""
     rows = [record(i) for i in range(records)]
     for row in rows:
         del row["score"]
     yield pickle.dumps(rows, protocol)
 
 
-def texts(count=200_000):
-    """A list of texts of a line each."""
-    yield pickle.dumps([f"line {i} of a text, which is as long as lines are" for i in range(count)], 4)
+def texts(count: int = 200_000) -> Iterator[bytes]:
+    """A list of texts, each as long as a line."""
+    lines = [f"line {i} of a text, which is as long as lines are" for i in range(count)]
+    yield pickle.dumps(lines, 4)
 
 
-def integers(count=900_000):
+def integers(count: int = 900_000) -> Iterator[bytes]:
     """A list of integers of all lengths."""
-    yield pickle.dumps([(i * 0x9E3779B97F4A7C15) % 2**64 - 2**63 >> i % 64 for i in range(count)], 4)
+    spread = (i * 0x9E3779B97F4A7C15 % 2**64 for i in range(count))
+    yield pickle.dumps([number - 2**63 >> i % 64 for i, number in enumerate(spread)], 4)
 
 
-def datetimes(count=300_000):
-    """Objects that a class makes: each is a name fetched, ten bytes, a call."""
+def datetimes(count: int = 300_000) -> Iterator[bytes]:
+    """Objects that a class makes: each fetches a name, has ten bytes, and is a call."""
     first = datetime.datetime(2001, 2, 3)
     yield pickle.dumps([first + datetime.timedelta(minutes=i) for i in range(count)], 4)
 
 
-def byte_strings(count=16, size=4 * 2**20):
+def byte_strings(count: int = 16, size: int = 4 * 2**20) -> Iterator[bytes]:
     """Payloads that nothing looks into."""
     yield pickle.dumps([bytes([i]) * size for i in range(count)], 4)
 
 
-# What a user's pickles look like. `pktool check` is to take half the time of `pickle.loads` on each.
-SHAPES = {
+# Pickles like a user's. The target of `pktool check` is half the time of `pickle.loads` on each.
+SHAPES: Dict[str, Make] = {
     "plain data, protocol 0": functools.partial(plain, 0),
     "plain data, protocol 2": functools.partial(plain, 2),
     "plain data, protocol 4": functools.partial(plain, 4),
@@ -67,8 +74,9 @@ SHAPES = {
     "byte strings, protocol 4": byte_strings,
 }
 
-# Plain data within the limits of JSON. `pktool json` is to take no longer than `json.dumps(pickle.loads(..))` on each.
-EXPORTED = {
+# Plain data within the limits of JSON. The target of `pktool json` is the time of
+# `json.dumps(pickle.loads(..))` on each.
+EXPORTED: Dict[str, Make] = {
     "records, protocol 0": functools.partial(exported, 0),
     "records, protocol 2": functools.partial(exported, 2),
     "records, protocol 4": functools.partial(exported, 4),
@@ -80,16 +88,16 @@ EXPORTED = {
 LIST = 'version = 1\n[imports]\ndatetime = ["datetime"]\n'
 
 
-def write(path, chunks):
-    """Writes a file, and gives its size."""
+def write(path: pathlib.Path, chunks: Iterable[bytes]) -> int:
+    """Writes a file, and returns its size."""
     with open(path, "wb") as out:
         for chunk in chunks:
             out.write(chunk)
     return os.path.getsize(path)
 
 
-def write_apart(path, make):
-    """The same in a process of its own, whose memory goes with it."""
+def write_apart(path: pathlib.Path, make: Make) -> int:
+    """Writes a file in a separate process, whose memory is then freed."""
     child = os.fork()
     if child == 0:
         try:
@@ -98,5 +106,5 @@ def write_apart(path, make):
             os._exit(1)
         os._exit(0)
     if os.waitpid(child, 0)[1] != 0:
-        raise RuntimeError(f"{path} wasn't written")
+        raise RuntimeError(f"{path} could not be written")
     return os.path.getsize(path)

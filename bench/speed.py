@@ -1,10 +1,10 @@
 #!/usr/bin/env python3
-"""Times the whole command `pktool check` beside CPython's own readers, in the same run, and prints ratios.
+"""Times the whole command `pktool check` and CPython's own readers, and prints ratios.
 
-The readers take their turns, and each counts with its best round. What is measured is processor time, so that other
-work on the machine moves it less than the clock; nothing here waits for anything, so on a quiet machine the two
-agree. `pickle.loads` works on bytes in memory with the garbage collector off; the command starts, reads its list and
-its file, and ends.
+The readers take turns, and each counts with its best round. It measures CPU time, which other work
+on the machine affects less than wall time; nothing here waits, so on a quiet machine the two agree.
+`pickle.loads` works on bytes in memory with the garbage collector off; the command starts, reads
+its list and its file, and ends.
 """
 import argparse
 import gc
@@ -15,30 +15,35 @@ import pickletools
 import sys
 import tempfile
 import time
+from typing import Callable, Dict, List, Mapping, Tuple
 
 import program
 import shapes
 
 
-def timed(action):
+def timed(action: Callable[[], object]) -> float:
     start = time.process_time()
     action()
     return time.process_time() - start
 
 
-def load(data):
+def load(data: bytes) -> None:
     pickle.loads(data)
 
 
-def walk(data):
+def walk(data: bytes) -> None:
     for _ in pickletools.genops(data):
         pass
 
 
-def measure(name, path, allow, rounds):
-    """The best seconds of the command, of `pickle.loads` and of `pickletools.genops`, and the instructions."""
+def measure(
+    name: str, path: pathlib.Path, allow: pathlib.Path, rounds: int
+) -> Tuple[Dict[str, float], int, int]:
+    """The best times of the command, of `pickle.loads` and of `pickletools.genops`, and the number
+    of instructions.
+    """
     data = path.read_bytes()
-    took = {"check": [], "loads": [], "genops": []}
+    took: Dict[str, List[float]] = {"check": [], "loads": [], "genops": []}
     for _ in range(rounds):
         run = program.check(allow, path)
         if run.status != 0:
@@ -50,7 +55,7 @@ def measure(name, path, allow, rounds):
     return {reader: min(times) for reader, times in took.items()}, len(data), count
 
 
-def row(name, took, size, count):
+def row(name: str, took: Mapping[str, float], size: int, count: int) -> str:
     check, loads, genops = took["check"], took["loads"], took["genops"]
     return (
         f"| {name} | {size / 1e6:.1f} | {count:,} | {check:.3f} | {check / count * 1e9:.1f} "
@@ -58,14 +63,19 @@ def row(name, took, size, count):
     )
 
 
-def main():
+def main() -> None:
     words = argparse.ArgumentParser(description=__doc__.splitlines()[0])
     words.add_argument("--rounds", type=int, default=5, help="how often each reader runs (5)")
-    words.add_argument("--shape", choices=shapes.SHAPES, action="append", help="this shape alone; may be given again")
+    words.add_argument(
+        "--shape", choices=shapes.SHAPES, action="append", help="only this shape; may be repeated"
+    )
     asked = words.parse_args()
     program.build()
     gc.disable()
-    print("| Shape | MB | Instructions | Seconds | ns an instruction | Times `pickle.loads` | Faster than `genops` |")
+    print(
+        "| Shape | MB | Instructions | Seconds | ns an instruction "
+        "| Times `pickle.loads` | Faster than `genops` |"
+    )
     print("|---|---|---|---|---|---|---|")
     with tempfile.TemporaryDirectory() as folder:
         allow = pathlib.Path(folder, "list.toml")

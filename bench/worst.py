@@ -1,10 +1,10 @@
 #!/usr/bin/env python3
-"""Runs `pktool optimize` and `pktool json` on files that are made to cost them time or memory, and stops with status 1
-where one costs too much.
+"""Runs `pktool optimize` and `pktool json` on files designed to cost them time or memory.
 
-The time of a byte is that of the command, its start taken off. It may be at most five times that of a byte of plain
-data, and the peak memory at most 96 MB plus so many times the size of the file. A file of less than a megabyte counts as
-one. Files that cost a check much are among them; many of these aren't plain, and `json` refuses them.
+The status is 1 if one costs too much. The time per byte excludes the command's start. It may be at
+most five times that of a byte of plain data; the peak memory may be at most 96 MB plus a multiple
+of the file size. A file below a megabyte counts as one. The files include those that cost a check
+much; many of these aren't plain, and `json` refuses them.
 """
 import argparse
 import dataclasses
@@ -12,7 +12,7 @@ import functools
 import pathlib
 import sys
 import tempfile
-from collections.abc import Callable, Iterable
+from typing import List, Mapping, Tuple
 
 import hostile_shapes
 import program
@@ -27,41 +27,49 @@ LEAST = 10**6
 
 @dataclasses.dataclass(frozen=True)
 class Command:
-    """A command, the plain data and the files that it is tried on, and its greatest memory for each byte of a file."""
+    """A command, the plain data and the files it is tried on, and its memory bound per byte of a
+    file.
+    """
 
     word: str
-    plain: Callable[[], Iterable[bytes]]
-    files: dict
+    plain: shapes.Make
+    files: Mapping[str, hostile_shapes.Make]
     per_byte: int
 
 
-CHECKED = {name: shape.make for name, shape in {**hostile_shapes.GROWING, **hostile_shapes.AT_LIMITS}.items()}
+HOSTILE = {**hostile_shapes.GROWING, **hostile_shapes.AT_LIMITS}
+CHECKED = {name: shape.make for name, shape in HOSTILE.items()}
+OPTIMIZED = {**CHECKED, **worst_shapes.OPTIMIZED}
+EXPORTED = {**CHECKED, **worst_shapes.EXPORTED}
 
 COMMANDS = [
-    Command("optimize", functools.partial(shapes.plain, 4), {**CHECKED, **worst_shapes.OPTIMIZED}, 12),
-    Command("json", functools.partial(shapes.exported, 4), {**CHECKED, **worst_shapes.EXPORTED}, 60),
+    Command("optimize", functools.partial(shapes.plain, 4), OPTIMIZED, 12),
+    Command("json", functools.partial(shapes.exported, 4), EXPORTED, 60),
 ]
 
 
 class Bench:
     """A folder with one pickle at a time."""
 
-    def __init__(self, folder, word, rounds):
+    def __init__(self, folder: str, word: str, rounds: int) -> None:
         self.pickle = pathlib.Path(folder, "pickle")
-        self.words = [word, self.pickle, *([pathlib.Path(folder, "out")] if word == "optimize" else [])]
+        out = [pathlib.Path(folder, "out")] if word == "optimize" else []
+        self.words: List[program.Word] = [word, self.pickle, *out]
         self.rounds = rounds
-        self.idle = 0
+        self.idle: float = 0
         self.idle = self.run(lambda: [b"N."])[0].seconds
 
-    def run(self, make):
-        """The best run, the nanoseconds that a byte adds, and the size."""
+    def run(self, make: shapes.Make) -> Tuple[program.Run, float, int]:
+        """The best run, the time per byte in nanoseconds, and the size."""
         size = shapes.write_apart(self.pickle, make)
         run = program.best_of(self.rounds, lambda: program.run(*self.words))
         return run, (run.seconds - self.idle) / max(size, LEAST) * 1e9, size
 
 
-def judged(bench, name, make, plain, per_byte):
-    """Prints the line of a shape, and gives whether it keeps both bounds. One that seems too slow is measured again."""
+def judged(bench: Bench, name: str, make: shapes.Make, plain: float, per_byte: int) -> bool:
+    """Prints the line of a shape, and returns whether it keeps both bounds. If it seems too slow,
+    it is measured again.
+    """
     for _ in range(TRIES):
         run, took, size = bench.run(make)
         if took <= TIMES * plain:
@@ -69,19 +77,28 @@ def judged(bench, name, make, plain, per_byte):
     bound = BASE + per_byte * size
     faults = ["TOO SLOW"] * (took > TIMES * plain) + ["TOO LARGE"] * (run.peak > bound)
     print(
-        f"{name:40} {size / 1e6:6.1f} MB {took:7.2f} ns a byte, {took / plain:5.2f} times plain data, "
-        f"{run.peak / 1e6:6.1f} of {bound / 1e6:.0f} MB  {run.line.strip()[:40]} {', '.join(faults)}",
+        f"{name:40} {size / 1e6:6.1f} MB {took:7.2f} ns a byte, "
+        f"{took / plain:5.2f} times plain data, {run.peak / 1e6:6.1f} of {bound / 1e6:.0f} MB  "
+        f"{run.line.strip()[:40]} {', '.join(faults)}",
         flush=True,
     )
     return not faults
 
 
-def main():
+def main() -> int:
     words = argparse.ArgumentParser(description=__doc__.splitlines()[0])
-    words.add_argument("--megabytes", type=int, default=16, help="the size of the shapes that grow (16)")
-    words.add_argument("--rounds", type=int, default=2, help="how often each command runs (2); the best counts")
-    words.add_argument("--only", default="", metavar="WORD", help="the shapes with this word in their names")
-    words.add_argument("--command", choices=[command.word for command in COMMANDS], help="this command alone")
+    words.add_argument(
+        "--megabytes", type=int, default=16, help="size of the scalable shapes in MB (16)"
+    )
+    words.add_argument(
+        "--rounds", type=int, default=2, help="how often each command runs (2); the best counts"
+    )
+    words.add_argument(
+        "--only", default="", metavar="WORD", help="only shapes with this word in their names"
+    )
+    words.add_argument(
+        "--command", choices=[command.word for command in COMMANDS], help="only this command"
+    )
     asked = words.parse_args()
     program.build()
     kept = []
@@ -94,8 +111,8 @@ def main():
             print(f"\n{command.word}: {plain:.2f} ns a byte of plain data of protocol 4")
             for name, make in command.files.items():
                 if asked.only in name:
-                    make = functools.partial(make, asked.megabytes)
-                    kept.append(judged(bench, name, make, plain, command.per_byte))
+                    sized = functools.partial(make, asked.megabytes)
+                    kept.append(judged(bench, name, sized, plain, command.per_byte))
     print(f"{kept.count(True)} within both bounds, {kept.count(False)} not")
     return 0 if all(kept) else 1
 

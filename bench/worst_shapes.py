@@ -1,15 +1,18 @@
-"""Files that are made to cost `pktool optimize` or `pktool json` time or memory, beside those that cost a check much."""
+"""Files designed to cost `pktool optimize` or `pktool json` time or memory, beside those that cost
+a check much.
+"""
 import struct
+from typing import Callable, Dict, Iterable, Iterator
 
-from hostile_shapes import ENTRIES, MEGABYTE, repeated, runs, times
+from hostile_shapes import ENTRIES, MEGABYTE, Make, repeated, runs, times
 
 KEY = 2 * MEGABYTE
 
 
-def fetched(numbers):
+def fetched(numbers: Callable[[], Iterable[int]]) -> Make:
     """An object stored under each of the numbers, and fetched from there at once."""
 
-    def make(_):
+    def make(_: int) -> Iterator[bytes]:
         yield b"N"
         for number in numbers():
             yield b"r" + struct.pack("<I", number) + b"j" + struct.pack("<I", number) + b"0"
@@ -18,7 +21,7 @@ def fetched(numbers):
     return make
 
 
-def memoized(_):
+def memoized(_: int) -> Iterator[bytes]:
     """A million objects memoized, and each of them fetched."""
     yield b"N"
     yield from times(b"\x94", ENTRIES)
@@ -27,23 +30,24 @@ def memoized(_):
     yield b"."
 
 
-def key(number, last=b"a"):
-    """A long text that is kept under a number; all with the same last byte are equal."""
+def key(number: int, last: bytes = b"a") -> bytes:
+    """A long text, stored under a number; texts with the same last byte are equal."""
     return b"X" + struct.pack("<I", KEY) + b"a" * (KEY - 1) + last + b"q" + bytes([number]) + b"0"
 
 
-def keyed(sets, *numbers):
-    """A dict of long keys, set so many times."""
-    return runs(*((key(number), 1) for number in numbers), (b"}", 1), (sets, 200_000 // len(numbers)), (b".", 1))
+def keyed(sets: bytes, *numbers: int) -> Make:
+    """A dict of long keys, set this many times."""
+    keys = [(key(number), 1) for number in numbers]
+    return runs(*keys, (b"}", 1), (sets, 200_000 // len(numbers)), (b".", 1))
 
 
-def dropped_dicts(last):
-    """Dicts of the same two long keys, each dropped at once."""
+def dropped_dicts(last: bytes) -> Make:
+    """Dicts with the same two long keys, each dropped at once."""
     return runs((key(0), 1), (key(1, last), 1), (b"}h\0Nsh\1Ns0", 100_000), (b"N.", 1))
 
 
-def layered(_):
-    """Ninety layers of lists, each list of all lists of the layer before."""
+def layered(_: int) -> Iterator[bytes]:
+    """Ninety layers of lists: each list holds all lists of the layer before."""
     width = 240
     yield b"]q\x00"
     for layer in range(90):
@@ -55,15 +59,15 @@ def layered(_):
     yield b"."
 
 
-def branching(_):
-    """Two hundred thousand dicts of one key."""
+def branching(_: int) -> Iterator[bytes]:
+    """Two hundred thousand dicts with one key."""
     yield b"]X\x01\0\0\0aq\x000"
     yield from times(b"}h\0Nsa", 200_000)
     yield b"."
 
 
-def wide(_):
-    """A dict of as many keys as a file of some megabytes has."""
+def wide(_: int) -> Iterator[bytes]:
+    """A dict with as many keys as a file of some megabytes has."""
     yield b"}("
     for number in range(300_000):
         yield b"\x8c\x06" + f"{number * 7919 % 1_000_000:06}".encode() + b"N"
@@ -71,7 +75,7 @@ def wide(_):
 
 
 # Those for each command.
-OPTIMIZED = {
+OPTIMIZED: Dict[str, Make] = {
     "one number stored and fetched": repeated(b"q\0h\x000", head=b"N", tail=b"."),
     "one number stored": repeated(b"q\0", head=b"N", tail=b"."),
     "one number fetched": repeated(b"h\x000", head=b"Nq\0", tail=b"."),
@@ -82,7 +86,7 @@ OPTIMIZED = {
     "empty frames between": repeated(b"\x95" + bytes(8) + b"N0"),
 }
 
-EXPORTED = {
+EXPORTED: Dict[str, Make] = {
     "scalars dropped": repeated(b"N0"),
     "lists dropped": repeated(b"]0"),
     "dicts dropped": repeated(b"}0"),

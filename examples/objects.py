@@ -18,21 +18,22 @@ import re
 import time
 import types
 import uuid
-import zoneinfo
+import zoneinfo  # type: ignore[import]
+from typing import Dict, Iterator, List, Tuple
 
 
-def shared():
+def shared() -> Dict[str, object]:
     inner = ["shared"]
     return {"one": inner, "other": inner, "pair": (inner, inner)}
 
 
-def cyclic():
-    outer = []
+def cyclic() -> List[object]:
+    outer: List[object] = []
     outer.append({"outer": outer})
     return outer
 
 
-OBJECTS = [
+OBJECTS: List[object] = [
     None,
     True,
     -1,
@@ -94,8 +95,8 @@ OBJECTS = [
 ]
 
 
-def pickles():
-    """Each object that the protocol can pickle, the protocol and the pickle."""
+def pickles() -> Iterator[Tuple[object, int, bytes]]:
+    """Each object that a protocol can pickle, with the protocol and the pickle."""
     for value in OBJECTS:
         for protocol in range(pickle.HIGHEST_PROTOCOL + 1):
             try:

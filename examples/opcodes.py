@@ -1,5 +1,6 @@
 #!/usr/bin/env python3
-"""Compares the line of each opcode with the name, offset and argument of CPython's `pickletools`."""
+"""Compares the line of each opcode with the name, offset and argument in CPython's `pickletools`.
+"""
 import ast
 import pathlib
 import pickle
@@ -8,6 +9,7 @@ import struct
 import subprocess
 import sys
 import tempfile
+from typing import Any, Callable, Dict, List, Optional
 
 ROOT = pathlib.Path(__file__).resolve().parent.parent
 PROGRAM = ROOT / "crates" / "pktool" / "out" / "pktool"
@@ -41,15 +43,15 @@ SPELLINGS = {
 }
 
 
-def numeral(line):
-    """An int, or a bool where it is spelled as one."""
+def numeral(line: bytes) -> Optional[int]:
+    """An int, or a bool if it is spelled as one."""
     return (
         {b"00": False, b"01": True}.get(line) if line in (b"00", b"01") else int(line.rstrip(b"L"))
     )
 
 
-# What `pickletools` makes of the bytes of a line or a payload.
-VALUES = {
+# How `pickletools` reads the bytes of a line or a payload.
+VALUES: Dict[str, Callable[[bytes], object]] = {
     "decimalnl_short": numeral,
     "decimalnl_long": numeral,
     "float8": lambda payload: struct.unpack(">d", payload)[0],
@@ -71,13 +73,13 @@ VALUES = {
 }
 
 
-def quoted(text):
-    """The bytes that stand between double quotes."""
+def quoted(text: str) -> Any:
+    """The bytes between double quotes."""
     return ast.literal_eval("b" + text)
 
 
-def value(kind, text):
-    """The value of an argument as it is printed."""
+def value(kind: str, text: str) -> object:
+    """The value of a printed argument."""
     if kind == "stringnl_noescape_pair":
         return " ".join(quoted(part).decode("ascii") for part in text.split(" "))
     if text.startswith("<"):
@@ -87,16 +89,16 @@ def value(kind, text):
     return int(text)
 
 
-def listed(folder, data):
-    """The lines of `pktool dis` over these bytes."""
+def listed(folder: pathlib.Path, data: bytes) -> List[str]:
+    """The lines of `pktool dis` for these bytes."""
     path = folder / "file.pickle"
     path.write_bytes(data)
     said = subprocess.run([PROGRAM, "dis", path], capture_output=True, text=True)
     return said.stdout.splitlines()
 
 
-def is_right(opcode, folder):
-    """Whether the line of the opcode, behind a MARK and a NONE, says what `pickletools` says."""
+def is_right(opcode: pickletools.OpcodeInfo, folder: pathlib.Path) -> bool:
+    """Whether the line of the opcode, after a MARK and a NONE, says what `pickletools` says."""
     data = (
         b"(N"
         + opcode.code.encode("latin-1")
@@ -108,13 +110,13 @@ def is_right(opcode, folder):
     if opcode.name in ("EXT1", "EXT2", "EXT4"):
         return line == "no at 2: ExtensionCode"
     front = f"{at:5}: {ord(their_opcode.code):02x}   {their_opcode.name}"
-    if argument is None:
+    if opcode.arg is None:
         return line == front
     printed = value(opcode.arg.name, line[len(front) + 1 :])
     return line.startswith(front + " ") and type(printed) is type(argument) and printed == argument
 
 
-def main():
+def main() -> None:
     subprocess.run([ROOT / "pktool", "--help"], stdout=subprocess.DEVNULL, check=True)
     with tempfile.TemporaryDirectory() as folder:
         wrong = [

@@ -1,10 +1,10 @@
 #!/usr/bin/env python3
 """Optimizes pickles of the standard library's own objects, and loads both forms.
 
-Each object is pickled in every protocol. `pktool optimize` has to write a form that Python loads to
-an equal object, that `pktool imports` accepts to its last byte, and that is left as it is when it
-is optimized again. Each line has the bytes of the pickle, of that form, and of what
-`pickletools.optimize` gives; the last line counts.
+Each object is pickled in every protocol. `pktool optimize` must write a form that Python loads to
+an equal object, that `pktool imports` accepts to its last byte, and that another `optimize` leaves
+unchanged. Each line has the sizes of the pickle, of that form, and of the result of
+`pickletools.optimize`; the last line counts.
 """
 import os
 import pathlib
@@ -13,20 +13,21 @@ import pickletools
 import subprocess
 import sys
 import tempfile
+from typing import Iterator, Optional, Tuple, Union
 
 import objects
 
 TOOL = os.path.join(os.path.dirname(os.path.realpath(__file__)), "..", "pktool")
 
 
-def told(*words):
-    """The status of a command, and what it says."""
+def told(*words: Union[str, pathlib.Path]) -> Tuple[int, str]:
+    """The status and the output of a command."""
     ended = subprocess.run([TOOL, *words], capture_output=True, text=True)
     return ended.returncode, ended.stdout + ended.stderr
 
 
-def optimized(folder, data):
-    """The optimized form of a pickle, and the line that tells of it."""
+def optimized(folder: pathlib.Path, data: bytes) -> Tuple[Optional[bytes], Tuple[int, str]]:
+    """The optimized form of a pickle, and the line that reports it."""
     before, after = folder / "before.pickle", folder / "after.pickle"
     before.write_bytes(data)
     after.unlink(missing_ok=True)
@@ -34,11 +35,11 @@ def optimized(folder, data):
     return after.read_bytes() if after.exists() else None, line
 
 
-def is_same(data, form, protocol):
+def is_same(data: bytes, form: bytes, protocol: int) -> bool:
     """Whether both load to equal objects.
 
-    Few of them can be compared; so they are pickled anew, which tells what they are made of, what
-    is shared in them and what holds itself.
+    Few objects can be compared, so they are pickled again, which shows their parts, what is shared
+    in them and what contains itself.
     """
     value, other = pickle.loads(data), pickle.loads(form)
     return type(value) is type(other) and pickle.dumps(value, protocol) == pickle.dumps(
@@ -46,9 +47,11 @@ def is_same(data, form, protocol):
     )
 
 
-def faults(folder, protocol, data, form, line):
+def faults(
+    folder: pathlib.Path, protocol: int, data: bytes, form: Optional[bytes], line: Tuple[int, str]
+) -> Iterator[str]:
     """What is wrong with the optimized form of a pickle."""
-    if line != (0, f"{len(data)} bytes to {len(form or b'')} bytes\n"):
+    if form is None or line != (0, f"{len(data)} bytes to {len(form)} bytes\n"):
         yield f"optimize said {line}"
         return
     if not is_same(data, form, protocol):
@@ -57,10 +60,10 @@ def faults(folder, protocol, data, form, line):
     if status != 0 or not said.splitlines()[-1].startswith(f"yes: {len(form)} bytes, "):
         yield f"imports said {said!r}"
     if optimized(folder, form)[0] != form:
-        yield "another form when it is optimized again"
+        yield "optimizing it again changes it"
 
 
-def main():
+def main() -> int:
     right = wrong = 0
     sums = [0, 0, 0]
     with tempfile.TemporaryDirectory() as name:

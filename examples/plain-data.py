@@ -1,8 +1,8 @@
 #!/usr/bin/env python3
 """Compares `pktool json` with Python's own `json` on plain data pickled in every protocol.
 
-What is plain has to come out as `json.loads(json.dumps(..))` has it, and to the byte as `json`
-writes it with sorted keys and without spaces. What isn't has to be refused, at the instruction that
+Plain data must give the same value as `json.loads(json.dumps(..))`, and the same bytes as `json`
+with sorted keys and without spaces. Anything else must be refused, at the instruction that
 `pickletools` shows. The last line counts.
 """
 import json
@@ -13,6 +13,7 @@ import pickletools
 import subprocess
 import sys
 import tempfile
+from typing import List, Optional, Set, Tuple
 
 TOOL = os.path.join(os.path.dirname(os.path.realpath(__file__)), "..", "pktool")
 
@@ -20,42 +21,42 @@ LEAST, GREATEST = -(2**63), 2**63 - 1
 SURROGATES = range(0xD800, 0xE000)
 
 
-def nested(depth, inner):
-    """A value in so many lists."""
+def nested(depth: int, inner: object) -> object:
+    """A value inside this many lists."""
     for _ in range(depth):
         inner = [inner]
     return inner
 
 
-def shared():
-    """One list and one dict, reached in many ways."""
+def shared() -> List[object]:
+    """One list and one dict with many references."""
     items = ["shared", {}]
     members = {"items": items, "again": items}
     return [items, members, (items, members), {"items": items, "members": members}]
 
 
-def cyclic():
-    """A list that holds itself."""
-    value = []
+def cyclic() -> List[object]:
+    """A list that contains itself."""
+    value: List[object] = []
     value.append({"itself": value})
     return value
 
 
-def doubled(times):
-    """A small pickle of two to that power values."""
-    value = ()
+def doubled(times: int) -> Tuple[object, ...]:
+    """A small pickle of two to this power values."""
+    value: Tuple[object, ...] = ()
     for _ in range(times):
         value = (value, value)
     return value
 
 
-def plane(number):
+def plane(number: int) -> List[str]:
     """All texts of a plane, some thousands of characters each."""
     points = [point for point in range(number << 16, (number + 1) << 16) if point not in SURROGATES]
     return ["".join(map(chr, points[at : at + 4096])) for at in range(0, len(points), 4096)]
 
 
-def around(number):
+def around(number: int) -> List[int]:
     return [number - 1, number, number + 1]
 
 
@@ -71,7 +72,7 @@ WORDS = [
     ),
 ]
 
-PLAIN = [
+PLAIN: List[object] = [
     None,
     True,
     False,
@@ -121,9 +122,9 @@ PLAIN = [
     *map(plane, range(17)),
 ]
 
-# What isn't plain: the word of the refusal, and the opcodes of the last instruction of which it can
-# be told, if any.
-NOT_PLAIN = [
+# What isn't plain: the word of the refusal, and the opcodes of the last instruction where it can be
+# reported, if any.
+NOT_PLAIN: List[Tuple[object, str, Optional[Set[str]]]] = [
     (1.5, "NotPlain", {"FLOAT", "BINFLOAT"}),
     ([1, {"a": -0.0}], "NotPlain", {"FLOAT", "BINFLOAT"}),
     ({"a": 1, 2: 3}, "Key", {"SETITEM", "SETITEMS"}),
@@ -158,16 +159,16 @@ ROWS = [
 ]
 
 
-def exported(folder, data):
-    """What `pktool json` says of a pickle."""
+def exported(folder: pathlib.Path, data: bytes) -> Tuple[int, str, str]:
+    """The output of `pktool json` for a pickle."""
     path = folder / "file.pickle"
     path.write_bytes(data)
     ended = subprocess.run([TOOL, "json", path], capture_output=True, text=True, encoding="utf-8")
     return ended.returncode, ended.stdout, ended.stderr
 
 
-def is_exported(folder, value, protocol):
-    """Whether the JSON of a value is that which Python makes of it."""
+def is_exported(folder: pathlib.Path, value: object, protocol: int) -> bool:
+    """Whether the JSON of a value is what Python makes of it."""
     status, text, told = exported(folder, pickle.dumps(value, protocol))
     if status != 0 or told:
         return False
@@ -175,8 +176,8 @@ def is_exported(folder, value, protocol):
     return json.loads(text) == json.loads(json.dumps(value)) and text == wanted + "\n"
 
 
-def refusal(data, word, opcodes):
-    """The line that is right for what isn't plain."""
+def refusal(data: bytes, word: str, opcodes: Optional[Set[str]]) -> str:
+    """The right line for what isn't plain."""
     if opcodes is None:
         return f"no: {word}\n"
     at, name = [
@@ -185,13 +186,15 @@ def refusal(data, word, opcodes):
     return f"no at {at}: {word}({name})\n" if word == "NotPlain" else f"no at {at}: {word}\n"
 
 
-def is_refused(folder, value, protocol, word, opcodes):
-    """Whether a value is refused as it has to be."""
+def is_refused(
+    folder: pathlib.Path, value: object, protocol: int, word: str, opcodes: Optional[Set[str]]
+) -> bool:
+    """Whether a value is refused as it should be."""
     data = pickle.dumps(value, protocol)
     return exported(folder, data) == (1, refusal(data, word, opcodes), "")
 
 
-def main():
+def main() -> int:
     wrong = 0
     protocols = range(pickle.HIGHEST_PROTOCOL + 1)
     with tempfile.TemporaryDirectory() as name:
@@ -204,8 +207,8 @@ def main():
                         f"protocol {protocol}, value {place} of PLAIN: not what Python makes of it",
                         file=sys.stderr,
                     )
-            for place, (value, *why) in enumerate(NOT_PLAIN):
-                if not is_refused(folder, value, protocol, *why):
+            for place, (value, word, opcodes) in enumerate(NOT_PLAIN):
+                if not is_refused(folder, value, protocol, word, opcodes):
                     wrong += 1
                     print(
                         f"protocol {protocol}, value {place} of NOT_PLAIN: not refused so",

@@ -1,9 +1,9 @@
 #!/usr/bin/env python3
 """Checks pickles of the standard library's own objects.
 
-Each object is pickled in every protocol. CPython's reader says which names it looks up; under a
-list of just these names `pktool check` has to say yes, with the length of the pickle and the number
-of its look-ups, and with any one of them left out it has to name that pair. The last line counts
+Each object is pickled in every protocol. CPython's reader says which names it looks up. Under a
+list of exactly these names `pktool check` must say yes, with the length of the pickle and the
+number of its look-ups; with any one of them left out it must name that pair. The last line counts
 the checks.
 """
 import io
@@ -13,6 +13,7 @@ import pickle
 import subprocess
 import sys
 import tempfile
+from typing import Any, Dict, Iterable, List, Set, Tuple
 
 import objects
 
@@ -20,18 +21,18 @@ TOOL = os.path.join(os.path.dirname(os.path.realpath(__file__)), "..", "pktool")
 
 
 class Names(pickle.Unpickler):
-    """Reads a pickle and keeps the names that are looked up, as they are written."""
+    """Reads a pickle and records the names that it looks up, as spelled."""
 
-    def __init__(self, data):
+    def __init__(self, data: bytes) -> None:
         super().__init__(io.BytesIO(data), buffers=None)
-        self.names = []
+        self.names: List[Tuple[str, str]] = []
 
-    def find_class(self, module, name):
+    def find_class(self, module: str, name: str) -> Any:
         self.names.append((module, name))
         return super().find_class(module, name)
 
 
-def quoted(text):
+def quoted(text: str) -> str:
     return (
         '"'
         + "".join(
@@ -42,8 +43,8 @@ def quoted(text):
     )
 
 
-def list_file(pairs):
-    modules = {}
+def list_file(pairs: Iterable[Tuple[str, str]]) -> str:
+    modules: Dict[str, Set[str]] = {}
     for module, name in pairs:
         modules.setdefault(module, set()).add(name)
     lines = ["version = 1", "[imports]"]
@@ -54,7 +55,7 @@ def list_file(pairs):
     return "\n".join(lines) + "\n"
 
 
-def check(folder, data, pairs):
+def check(folder: str, data: bytes, pairs: Iterable[Tuple[str, str]]) -> Tuple[int, str]:
     with open(os.path.join(folder, "list.toml"), "w", encoding="utf-8") as out:
         out.write(list_file(pairs))
     with open(os.path.join(folder, "pickle"), "wb") as out:
@@ -68,7 +69,7 @@ def check(folder, data, pairs):
     return ended.returncode, ended.stdout
 
 
-def main():
+def main() -> int:
     passed = failed = 0
     with tempfile.TemporaryDirectory() as folder:
         for value, protocol, data in objects.pickles():
@@ -91,7 +92,7 @@ def main():
                 else:
                     failed += 1
                     print(
-                        f"{type(value).__name__} in protocol {protocol}: wanted {status} "
+                        f"{type(value).__name__} in protocol {protocol}: expected {status} "
                         f"{ending!r}, got {got}",
                         file=sys.stderr,
                     )

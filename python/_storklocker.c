@@ -11,7 +11,7 @@
 #define ROOM 512              /* names up to this length need no second call */
 
 /* What `HELD` of storklocker._held has at each place. */
-enum { VERDICT, ROW_VERDICT, LIMITS, REASONS, TUPLE_NEW, UNKNOWN };
+enum { VERDICT, ROW_VERDICT, LIMITS, REASONS, TUPLE_NEW, ASKED, UNKNOWN };
 #define HELD(state, place) PyTuple_GetItem((state)->held, place)
 struct state {
     PyObject *held, *pairs;
@@ -26,7 +26,7 @@ typedef struct {
     int is_bound; /* whether these settings hold beside others */
 } Pairs;
 
-/* A call: what it was given, the caller's references or null, and what became of that. */
+/* A call: what it was given, the caller's references, and what became of that. */
 struct request {
     PyObject *data, *allow, *limits, *old_strings;
     const Pairs *list;
@@ -99,17 +99,13 @@ static int is_wrong(const char *wanted, PyObject *given) {
 static int has_limits(const struct state *state, struct request *r) {
     const struct storklocker_settings *own = &r->list->settings;
     r->settings = *own;
-    if (r->limits == NULL || r->limits == Py_None)
+    if (r->limits == Py_None)
         return 1;
     if (PyObject_IsInstance(r->limits, HELD(state, LIMITS)) != 1)
         return is_wrong("limits is a storklocker.Limits or None", r->limits);
     if (!has_settings(r->limits, &r->settings) || !r->list->is_bound)
         return !PyErr_Occurred();
-    NARROW(counted);
-    NARROW(stack);
-    NARROW(memo);
-    NARROW(passed);
-    NARROW(numbers);
+    NARROW(counted), NARROW(stack), NARROW(memo), NARROW(passed), NARROW(numbers);
     r->settings.large &= own->large;
     return 1;
 }
@@ -126,7 +122,7 @@ static int is_ready(const struct state *state, struct request *r) {
     r->list = (const Pairs *)r->allow;
     if (!has_limits(state, r))
         return 0;
-    while (r->old_strings != NULL && code <= STORKLOCKER_OLD_BYTES
+    while (code <= STORKLOCKER_OLD_BYTES
            && PyObject_RichCompareBool(r->old_strings, HELD(state, UNKNOWN + code), Py_EQ) != 1)
         code++;
     if (code > STORKLOCKER_OLD_BYTES && !PyErr_Occurred())
@@ -135,9 +131,7 @@ static int is_ready(const struct state *state, struct request *r) {
     return !PyErr_Occurred();
 }
 
-typedef uint32_t call_of_pairs(
-    const struct storklocker_pair *, size_t, const struct storklocker_settings *, const uint8_t *, size_t, uint8_t *,
-    size_t, struct storklocker_verdict *);
+typedef __typeof__(storklocker_check_pairs) call_of_pairs;
 
 static void ask(
     call_of_pairs *call, const struct request *r, uint8_t *room, size_t size, struct storklocker_verdict *v) {
@@ -152,11 +146,9 @@ static PyObject *verdict_of(
     const struct state *state, int kind, const struct storklocker_verdict *v, PyObject *pair) {
     int is_numbered = v->reason == STORKLOCKER_UNKNOWN_OPCODE || v->reason == STORKLOCKER_UNSUPPORTED_PROTOCOL
         || v->reason == STORKLOCKER_MISSING_MEMO;
-    if (v->status == STORKLOCKER_NO_LIST || v->reason == STORKLOCKER_OUT_OF_MEMORY)
+    if (v->reason == STORKLOCKER_OUT_OF_MEMORY)
         return PyErr_NoMemory();
-    if (v->status == STORKLOCKER_USAGE)
-        PyErr_SetString(PyExc_NotImplementedError, "this build has no one_unpickler, numbers or large");
-    PyObject *fields = v->status == STORKLOCKER_USAGE ? NULL : Py_BuildValue(
+    PyObject *fields = Py_BuildValue(
         "OKKKONOK", v->status == STORKLOCKER_YES ? Py_True : Py_False, v->taken, v->imports, v->at,
         PyTuple_GetItem(HELD(state, REASONS), (Py_ssize_t)v->reason),
         is_numbered ? PyLong_FromUnsignedLong(v->number) : Py_BuildValue(""), pair ? pair : Py_None, v->pickles);
@@ -167,14 +159,14 @@ static PyObject *verdict_of(
 }
 
 /* The answer of a call; none where `is_short` and the pickle is accepted and all of the bytes. Names that want more
-   room than there was are asked for once more. */
+   room than there was are asked for once more. A verdict keeps what was asked where `missing` may ask for more. */
 static PyObject *answered(
     const struct state *state, call_of_pairs *call, const struct request *r, int kind, int is_short) {
     struct storklocker_verdict v;
     uint8_t few[ROOM], *room = few;
     ask(call, r, room, ROOM, &v);
     if (is_short && v.status == STORKLOCKER_YES && v.taken == r->length)
-        return Py_BuildValue("");
+        Py_RETURN_NONE;
     if (v.has_pair && v.module_length + v.name_length > ROOM) {
         if ((room = PyMem_Malloc((size_t)(v.module_length + v.name_length))) == NULL)
             return PyErr_NoMemory();
@@ -187,13 +179,20 @@ static PyObject *answered(
         PyMem_Free(room);
     PyObject *made = v.has_pair && pair == NULL ? NULL : verdict_of(state, kind, &v, pair);
     Py_XDECREF(pair);
+    int is_import = v.reason == STORKLOCKER_IMPORT_OFF_LIST || v.reason == STORKLOCKER_UNKNOWN_IMPORT;
+    if (made == NULL || kind != VERDICT || !is_import)
+        return made;
+    PyObject *asked = PyTuple_Pack(4, r->data, r->allow, r->limits, r->old_strings);
+    if (asked == NULL || PyObject_SetAttr(made, HELD(state, ASKED), asked) < 0)
+        Py_CLEAR(made);
+    Py_XDECREF(asked);
     return made;
 }
 
 static PyObject *check(PyObject *module, PyObject *args, PyObject *kwargs) {
     static char *words[] = {"data", "allow", "limits", "old_strings", NULL};
     const struct state *state = PyModule_GetState(module);
-    struct request r = {0};
+    struct request r = {.limits = Py_None, .old_strings = HELD(state, UNKNOWN)};
     if (!PyArg_ParseTupleAndKeywords(
             args, kwargs, "OO|$OO:check", words, &r.data, &r.allow, &r.limits, &r.old_strings)
         || !is_ready(state, &r))
@@ -204,7 +203,7 @@ static PyObject *check(PyObject *module, PyObject *args, PyObject *kwargs) {
 static PyObject *check_row(PyObject *module, PyObject *args, PyObject *kwargs) {
     static char *words[] = {"data", "allow", "one_unpickler", "limits", "old_strings", NULL};
     const struct state *state = PyModule_GetState(module);
-    struct request r = {0};
+    struct request r = {.limits = Py_None, .old_strings = HELD(state, UNKNOWN)};
     int is_kept = 0;
     if (!PyArg_ParseTupleAndKeywords(
             args, kwargs, "OO|$pOO:check_row", words, &r.data, &r.allow, &is_kept, &r.limits, &r.old_strings)
@@ -217,7 +216,8 @@ static PyObject *check_row(PyObject *module, PyObject *args, PyObject *kwargs) {
 static PyObject *verdict_unless_whole(PyObject *module, PyObject *args) {
     const struct state *state = PyModule_GetState(module);
     struct request r = {0};
-    if (!PyArg_ParseTuple(args, "OOOO", &r.data, &r.allow, &r.limits, &r.old_strings) || !is_ready(state, &r))
+    if (!PyArg_UnpackTuple(args, "verdict_unless_whole", 4, 4, &r.data, &r.allow, &r.limits, &r.old_strings)
+        || !is_ready(state, &r))
         return NULL;
     return answered(state, storklocker_check_pairs, &r, VERDICT, 1);
 }

@@ -1,5 +1,6 @@
-/* The memory of a Rattle archive, which leaves it to these three calls. No block has fewer than LEAST bytes, so that the
-   small vectors of a short pickle seldom grow. Where memory is refused `block` points to a byte that nobody owns. */
+/* The memory of a Rattle archive, which leaves it to these three calls. No block has fewer than
+   LEAST bytes, so that the small vectors of a short pickle seldom grow. Where memory is refused
+   `block` points to a byte that nobody owns. */
 #include <stdbool.h>
 #include <stddef.h>
 #include <stdlib.h>

@@ -14,7 +14,7 @@ ARCHIVE = HERE.parent / "crates" / "pkguard" / "out" / "libpkguard.a"
 
 
 def words():
-    """How `make` comes to the archive of the checker."""
+    """The archive of the checker, for `make`."""
     named = os.environ.get("STORKLOCKER_ARCHIVE")
     if named:
         return ["--archive", named]
@@ -29,7 +29,7 @@ def words():
 
 
 class Make(build_ext):
-    """Compiles by `make`, whose flags are those of the released wheels."""
+    """Compiles with `make`, with the flags of the released wheels."""
 
     def build_extension(self, ext):
         out = pathlib.Path(self.get_ext_fullpath(ext.name)).parent

@@ -1,23 +1,23 @@
-/* The calls of storklocker.h over those that are proved, which take no null pointer: a null becomes
-   the address of something, and settings become those of this library. Nothing is decided here. */
+/* The calls of storklocker.h, over proved ones that take no null pointer: a null becomes some
+   address, and settings are converted to this library's. Nothing is decided here. */
 #include "storklocker.h"
 
 #include <string.h>
 
-/* what the crate pkguard exports */
+/* exported by the crate pkguard */
 extern __typeof__(storklocker_check_pairs) pkguard_check_pairs;
 extern __typeof__(storklocker_check_list) pkguard_check_list;
 extern __typeof__(storklocker_check_row) pkguard_check_row;
 extern __typeof__(storklocker_read_list) pkguard_read_list;
 extern __typeof__(storklocker_imports) pkguard_imports;
 
-/* A null is of no length, so nothing is read or written there. */
+/* A null pointer has length 0, so nothing is read or written there. */
 static void *or_nothing(const void *given) {
     static uint64_t nothing;
     return given != NULL ? (void *)given : &nothing;
 }
 
-/* The fields that the caller's header has, and the standard ones for the others. */
+/* The fields that the caller's header has, and standard values for the others. */
 static struct storklocker_settings settings_of(const struct storklocker_settings *given) {
     struct storklocker_settings settings = STORKLOCKER_STANDARD;
     if (given != NULL) {

@@ -1,6 +1,9 @@
-"""Which answers a command may give where one thing that it asks of its host is refused."""
+"""The answers that a command may give if one request to its host fails."""
 import dataclasses
 import re
+from typing import Set
+
+import rows
 
 FILE, LIST, OUT = "file.pickle", "list.toml", "out.pickle"
 BEFORE = b"what stood there before"
@@ -8,28 +11,28 @@ BEFORE = b"what stood there before"
 
 @dataclasses.dataclass(frozen=True)
 class Answer:
-    """The status, what stands on standard output and on standard error, and what OUT holds."""
+    """The status, the content of standard output and standard error, and the content of OUT."""
 
     status: int
     out: str
     err: str
     result: bytes
 
-    def brief(self):
-        """The line that says how it ended, without its numbers."""
+    def brief(self) -> str:
+        """How the command ended, as a line without its numbers."""
         lines = (self.err or self.out).splitlines()
         said = re.sub(r"\b(at|pickle) \d+", r"\1 N", lines[-1]) if lines else "nothing"
         return f"{said[:60]} (status {self.status})"
 
 
-def is_fault(answer, words):
-    """Whether the answer is one of these faults, told on standard error alone, with OUT as it was."""
-    told = answer.err.removesuffix("\n")
+def is_fault(answer: Answer, words: Set[str]) -> bool:
+    """Whether the answer is one of these faults, on standard error alone, with OUT unchanged."""
+    told = answer.err[:-1] if answer.err.endswith("\n") else answer.err
     return answer.status == 2 and answer.out == "" and told in words and answer.result == BEFORE
 
 
-def is_refusal(row, own, answer, reason):
-    """Whether the command refused the pickle for this reason, where an instruction begins."""
+def is_refusal(row: rows.Row, own: Answer, answer: Answer, reason: str) -> bool:
+    """Whether the command refused the pickle for this reason, at the offset of an instruction."""
     if answer.status != 1 or answer.err or answer.result != BEFORE:
         return False
     *before, last = answer.out.splitlines(keepends=True) or [""]
@@ -39,7 +42,8 @@ def is_refusal(row, own, answer, reason):
         return False
     if row.command != "dis":
         return not before
-    # the lines are those of its own listing, and the place is that of the last of them or just behind it
+    # the lines are those of its own listing, and the offset is that of the last one or just after
+    # it
     listed = own.out.splitlines(keepends=True)
     places = [int(it) for it in re.findall(r"(?m)^ *(\d+): ", "".join(listed[: len(before) + 1]))]
     ended = re.match(r"no at (\d+): ", listed[len(before)]) if len(before) < len(listed) else None
@@ -47,34 +51,40 @@ def is_refusal(row, own, answer, reason):
     return before == listed[: len(before)] and int(place[1]) in places[-2:]
 
 
-def wants_memory(row, own, answer):
-    """Want of memory: a reason, a fault, or that a file cannot be opened."""
+def wants_memory(row: rows.Row, own: Answer, answer: Answer) -> bool:
+    """A refused allocation: a reason, a fault, or a file that cannot be opened."""
     words = {"out of memory", "error: out of memory", f"cannot read {FILE}"}
     if row.command == "check":
         words |= {f"cannot read {LIST}", "list: OutOfMemory"}
     if row.command == "optimize":
         words |= {f"cannot write {OUT}"}
-    if row.command == "json" and (answer.status, answer.out, answer.err) == (1, "no: OutOfMemory\n", ""):
-        return True
-    return is_fault(answer, words) or row.command != "json" and is_refusal(row, own, answer, "OutOfMemory")
+    if row.command == "json":
+        told = answer.status, answer.out, answer.err
+        return told == (1, "no: OutOfMemory\n", "") or is_fault(answer, words)
+    return is_fault(answer, words) or is_refusal(row, own, answer, "OutOfMemory")
 
 
-def failed_read(row, own, answer):
-    """A read that failed: of the list and of a file that is read whole a fault, else a reason."""
+def failed_read(row: rows.Row, own: Answer, answer: Answer) -> bool:
+    """A failed read: a fault for the list and for a file that is read whole, otherwise a reason."""
     words = {f"cannot read {LIST if row.command == 'check' else FILE}"}
     if row.command in ("optimize", "json"):
         return is_fault(answer, words)
-    return is_refusal(row, own, answer, "Source") or row.command == "check" and is_fault(answer, words)
+    is_of_list = row.command == "check" and is_fault(answer, words)
+    return is_of_list or is_refusal(row, own, answer, "Source")
 
 
-def failed_write(row, own, answer):
-    """A write that failed: of standard output or OUT a fault; of standard error none is told."""
-    told = {"cannot write standard output\n"} | ({f"cannot write {OUT}\n"} if row.command == "optimize" else set())
+def failed_write(row: rows.Row, own: Answer, answer: Answer) -> bool:
+    """A failed write: a fault for standard output or OUT; for standard error nothing is reported.
+    """
+    told = {"cannot write standard output\n"}
+    if row.command == "optimize":
+        told.add(f"cannot write {OUT}\n")
     if answer.status != 2 or not own.out.startswith(answer.out):
         return False
     return answer.err in told or own.status == 2 and own.err.startswith(answer.err)
 
 
-def failed_writes(row, own, answer):
-    """All writes from one on failed: the same, and nothing is told of it."""
-    return failed_write(row, own, answer) or answer.status == 2 and own.out.startswith(answer.out) and not answer.err
+def failed_writes(row: rows.Row, own: Answer, answer: Answer) -> bool:
+    """All writes from one on failed: as for one, and nothing is reported."""
+    is_untold = answer.status == 2 and own.out.startswith(answer.out) and not answer.err
+    return is_untold or failed_write(row, own, answer)

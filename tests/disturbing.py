@@ -1,5 +1,6 @@
-"""What the tests of a disturbed `optimize` share: pickles, runs of the program, and what they
-leave."""
+"""What the tests of a disturbed `optimize` share: pickles, runs of the program, and their
+leftovers.
+"""
 import contextlib
 import functools
 import io
@@ -24,7 +25,7 @@ TESTS: List[Test] = []
 
 
 class Bench:
-    """The program that is tried."""
+    """The program under test."""
 
     program = program.PROGRAM
 
@@ -33,7 +34,7 @@ BENCH = Bench()
 
 
 class Untried(Exception):
-    """A test can't be tried on this machine."""
+    """A test cannot run on this machine."""
 
 
 def test(function: Test) -> Test:
@@ -54,7 +55,7 @@ def large(word: str) -> bytes:
 
 @functools.lru_cache(maxsize=64)
 def value_of(content: bytes) -> Any:
-    """What the content is the pickle of, to its last byte, or None."""
+    """The value of the pickle that is the whole content, or None."""
     file = io.BytesIO(content)
     try:
         value = pickle.load(file)
@@ -64,7 +65,7 @@ def value_of(content: bytes) -> Any:
 
 
 def expect_form(content: bytes, source: bytes) -> None:
-    """The content is another pickle of the same value, in fewer bytes."""
+    """Checks that the content is a smaller pickle of the same value."""
     same = value_of(content) == pickle.loads(source) and len(content) < len(source)
     expect(same, f"{len(content)} bytes that are no optimized form")
 
@@ -81,7 +82,7 @@ def start(file: pathlib.Path, out: pathlib.Path, **how: Any) -> "subprocess.Pope
 
 
 def ending(ran: "subprocess.Popen[str]") -> Tuple[int, str]:
-    """The status, and what standard error says. A run that doesn't end is ended."""
+    """The status, and the text on standard error. A run that doesn't end is killed."""
     try:
         told = ran.communicate(timeout=SECONDS)[1]
     except subprocess.TimeoutExpired:
@@ -129,7 +130,7 @@ def become_nobody() -> None:
 
 
 def as_another(folder: pathlib.Path) -> Dict[str, Any]:
-    """How a program runs whom permissions hold, with the folder as its own."""
+    """How to run a program that permissions apply to, in the folder."""
     if os.geteuid() != 0:
         return {}
     folder.chmod(0o777)
@@ -158,7 +159,8 @@ def failure(tried: Test) -> Optional[str]:
 
 
 def tally(only: str) -> Tuple[int, int]:
-    """Tries the tests with this in their names. Gives how many passed, and how many failed."""
+    """Runs the tests with this word in their names. Returns how many passed, and how many failed.
+    """
     passed = failed = 0
     for tried in TESTS:
         name = tried.__name__.replace("_", " ")
@@ -167,7 +169,7 @@ def tally(only: str) -> Tuple[int, int]:
         try:
             wrong = failure(tried)
         except Untried as why:
-            print(f"{name}: not tried: {why}", flush=True)
+            print(f"{name}: skipped: {why}", flush=True)
             continue
         print(f"{name}: {wrong or 'passed'}", flush=True)
         passed, failed = passed + (wrong is None), failed + (wrong is not None)

@@ -1,10 +1,11 @@
 #!/usr/bin/env python3
-"""Has everything fail once: each allocation, each read and each write of each worked row is refused in turn.
+"""Makes everything fail once: each allocation, each read and each write of each worked row.
 
-A library that refuses is built from refuse.c with the system's C compiler, and loaded before the program. Each call
-is refused alone, and then with all after it. The answer must be the row's own or say what was refused, in the
-words of the command; the first that is neither ends the script with status 1. With each read and each write of one byte
-the answer must be the row's own. It prints a line a row, and last how many cases passed.
+The system's C compiler builds refuse.c, which is preloaded into the program. Each call is refused
+alone, and then with all later ones. The answer must be the row's usual one or report the failure in
+the command's words; the first that does neither ends the script with status 1. With short reads and
+writes of one byte the answer must be the usual one. It prints a line per row, and finally how many
+cases passed.
 """
 import argparse
 import collections
@@ -13,6 +14,7 @@ import os
 import pathlib
 import sys
 import tempfile
+from typing import Callable, Counter, List, Optional, Tuple
 
 import answers
 import program
@@ -21,11 +23,12 @@ import rows
 
 SECONDS = 10
 
-# The longest pickle that is read a byte at a time.
+# The longest pickle that is read one byte at a time.
 MOST_BY_BYTES = 1 << 20
 
-# What is refused, whether all after it too, and which answers may come.
-KINDS = [
+# What is refused, whether with all later calls, and which answers are allowed.
+Kind = Tuple[str, bool, Callable[[rows.Row, answers.Answer, answers.Answer], bool]]
+KINDS: List[Kind] = [
     ("memory", False, answers.wants_memory),
     ("memory", True, answers.wants_memory),
     ("read", False, answers.failed_read),
@@ -33,20 +36,27 @@ KINDS = [
     ("write", False, answers.failed_write),
     ("write", True, answers.failed_writes),
 ]
+
+# A row, how often each answer came, and the first answer that is not allowed.
+Tried = Tuple[rows.Row, Counter[str], Optional[str]]
+
+
 class Bench:
     """A folder with the files of a row, where the program runs."""
 
-    def __init__(self, library):
+    def __init__(self, library: pathlib.Path) -> None:
         self.refuser = refusing.Refuser(library)
         self.runner = program.Runner(program.PROGRAM, SECONDS)
         self.folder = tempfile.TemporaryDirectory(prefix="failures-")
         os.chdir(self.folder.name)
 
-    def lay(self, row):
+    def lay(self, row: rows.Row) -> None:
         pathlib.Path(answers.FILE).write_bytes(row.pickle)
         pathlib.Path(answers.LIST).write_text(row.allow or "")
 
-    def run(self, row, kind="", first=0, every=False):
+    def run(
+        self, row: rows.Row, kind: str = "", first: int = 0, every: bool = False
+    ) -> Tuple[answers.Answer, bool]:
         """The answer, and whether anything was refused."""
         pathlib.Path(answers.OUT).write_bytes(answers.BEFORE)
         pathlib.Path(f"{answers.OUT}.partial").unlink(missing_ok=True)
@@ -56,26 +66,31 @@ class Bench:
         return answer, self.refuser.has_refused()
 
 
-def words_of(row):
+BENCH: Bench
+
+
+def words_of(row: rows.Row) -> List[str]:
     if row.command == "check":
         return ["check", "--allow", answers.LIST, *row.options, answers.FILE]
     return [row.command, answers.FILE, *[answers.OUT] * (row.command == "optimize")]
 
 
-def own_answer(bench, row):
-    """The row's own answer, and what is wrong with it."""
+def own_answer(bench: Bench, row: rows.Row) -> Tuple[answers.Answer, Optional[str]]:
+    """The row's usual answer, and what is wrong with it."""
     own, _ = bench.run(row)
     said = own.err if row.status == 2 else own.out
     wanted = (row.status, row.said, row.result or own.result)
     is_right = row.status is None or (own.status, said, own.result) == wanted
-    return own, None if is_right else f"with nothing refused: {own}, and not {wanted}"
+    return own, None if is_right else f"with nothing refused: {own}, not {wanted}"
 
 
-def tried(row):
-    """Refuses each call of a row in turn. Gives how often each answer came, and the first that may not come."""
+def tried(row: rows.Row) -> Tried:
+    """Refuses each call of a row in turn. Counts the answers, and returns the first that is not
+    allowed.
+    """
     BENCH.lay(row)
     own, wrong = own_answer(BENCH, row)
-    counts = collections.Counter()
+    counts: Counter[str] = collections.Counter()
     for kind, every, is_said in KINDS:
         first, was_refused = 1, True
         while was_refused and not wrong:
@@ -93,21 +108,24 @@ def tried(row):
     if not wrong and len(row.pickle) <= MOST_BY_BYTES:
         answer, _ = BENCH.run(row, "length")
         counts["its own answer"] += answer == own
-        wrong = None if answer == own else f"a byte a read and a write: {answer}, and its own is {own}"
+        if answer != own:
+            wrong = f"a byte a read and a write: {answer}, and its own is {own}"
     return row, counts, wrong
 
 
-def begin(library):
+def begin(library: pathlib.Path) -> None:
     global BENCH
     BENCH = Bench(library)
 
 
-def tries(library, wanted, jobs):
-    """Tries the rows side by side, and prints a line for each as it comes, up to the first wrong answer."""
+def tries(library: pathlib.Path, wanted: List[rows.Row], jobs: int) -> Tuple[int, int]:
+    """Runs the rows in parallel, and prints a line for each as it ends, up to the first wrong
+    answer.
+    """
     passed = 0
     with multiprocessing.Pool(jobs, begin, (library,)) as pool:
         for row, counts, wrong in pool.imap(tried, wanted):
-            total = counts.total()
+            total = sum(counts.values())
             passed += total
             told = "; ".join(f"{count} {said}" for said, count in counts.most_common())
             print(f"{row.command} {row.name}: {total} cases: {told}", flush=True)
@@ -117,10 +135,14 @@ def tries(library, wanted, jobs):
     return passed, 0
 
 
-def main():
+def main() -> int:
     words = argparse.ArgumentParser(description=__doc__.splitlines()[0])
-    words.add_argument("--jobs", type=int, default=len(os.sched_getaffinity(0)), help="processes side by side")
-    words.add_argument("--only", default="", metavar="WORD", help="the rows with this word in command or name")
+    words.add_argument(
+        "--jobs", type=int, default=len(os.sched_getaffinity(0)), help="parallel processes"
+    )
+    words.add_argument(
+        "--only", default="", metavar="WORD", help="only rows with this word in command or name"
+    )
     asked = words.parse_args()
     program.require(program.PROGRAM)
     with tempfile.TemporaryDirectory(prefix="refuse-") as folder:

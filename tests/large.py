@@ -1,8 +1,8 @@
 #!/usr/bin/env python3
-"""Checks large data under the limits of large data, and under the standard ones, which refuse it.
+"""Checks large data under the limits for large data, and under the standard ones, which refuse it.
 
-CPython makes the pickles. Each has to be accepted whole under `large = true`, within the bounds on
-time and memory, and refused as TooLarge without. The last line says how many pickles passed.
+CPython makes the pickles. Each must be accepted completely under `large = true`, within the bounds
+on time and memory, and refused as TooLarge without it. The last line says how many pickles passed.
 """
 import argparse
 import dataclasses
@@ -15,7 +15,7 @@ from typing import Callable, Iterator, List
 
 import program
 
-# What a byte may cost, and what a run may take besides.
+# The cost allowed per byte, and per run.
 NANOSECONDS = 100
 SECONDS = 1.0
 PEAK = 96 * 10**6
@@ -51,7 +51,7 @@ def text() -> object:
 
 
 def array() -> object:
-    """What an array of numpy holds. Protocol 2 has no bytes: they are a text that is encoded."""
+    """The content of a numpy array. Protocol 2 has no bytes: they are a text that is encoded."""
     return bytes(range(256)) * (24_000_000 // 256)
 
 
@@ -69,21 +69,21 @@ def check(runner: "program.Runner", allow: str, name: str) -> "program.Ran":
 
 
 def faults(size: int, without: "program.Ran", large: "program.Ran") -> Iterator[str]:
-    """What is wrong with the two answers on a pickle of this size."""
+    """What is wrong with the two answers for a pickle of this size."""
     if without.status != 1 or not without.out.endswith(b": TooLarge\n"):
         yield f"without: {without.out!r}"
     if large.status != 0 or not large.out.startswith(b"yes: %d bytes, " % size):
         yield f"large: {large.out!r}"
     if large.seconds > SECONDS + size * NANOSECONDS / 1e9:
-        yield f"{large.seconds:.2f} s of a processor"
+        yield f"{large.seconds:.2f} s of CPU time"
     if large.peak > PEAK + size * PER_BYTE:
         yield f"{large.peak / 1e6:.0f} MB"
 
 
 def write_apart(data: Data, path: pathlib.Path) -> int:
-    """Writes a pickle in a process of its own, and gives its size.
+    """Writes a pickle in a separate process, and returns its size.
 
-    A program's peak memory is at least that of the process that starts it, so this one stays small.
+    A program's peak memory is at least that of its parent process, so this one stays small.
     """
     child = os.fork()
     if child == 0:
@@ -95,7 +95,7 @@ def write_apart(data: Data, path: pathlib.Path) -> int:
 
 
 def passes(runner: "program.Runner", data: Data) -> bool:
-    """Prints the line of a pickle, and gives whether both answers are right."""
+    """Prints the line of a pickle, and returns whether both answers are right."""
     size = write_apart(data, pathlib.Path("pickle"))
     without, large = (check(runner, allow, "pickle") for allow in (IMPORTS, LARGE))
     wrong = list(faults(size, without, large))

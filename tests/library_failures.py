@@ -1,25 +1,28 @@
 #!/usr/bin/env python3
-"""Refuses each allocation of the library's own tests in turn, over the tests as the gate has built them.
+"""Refuses each allocation of the library's own tests in turn, using the tests that the gate has
+built.
 
-A test must pass, or fail and name want of memory: as the error that it hands on, or as the answer that it compares with
-the row's own. The first that ends otherwise ends the script with status 1. It prints a line a test, and last how many
-cases passed.
+A test must pass, or fail and name the refused allocation: as the error that it returns, or as the
+answer that it compares with the row's own. The first that ends otherwise ends the script with
+status 1. It prints a line per test, and finally how many cases passed.
 """
 import argparse
 import collections
 import itertools
 import multiprocessing
 import os
+import pathlib
 import re
 import sys
 import tempfile
+from typing import Counter, Optional, Tuple
 
 import program
 import refusing
 
 SECONDS = 60
 
-# The program of the tests, and those whose failure shows what was answered.
+# The program of the tests, and those whose failure shows the answer.
 PROGRAM = program.ROOT / "crates" / "pkrows" / "out" / "pkrows_tests"
 TESTS = [
     "exported::refusals",
@@ -38,49 +41,59 @@ TESTS = [
 ]
 WANT = re.compile(rb"\b(OutOfMemory|AllocError)\b")
 
+# A test, how often it ended in each way, and its first bad end.
+Tried = Tuple[str, Counter[str], Optional[str]]
 
-def ending(ran):
-    """How a test ended, or None where it may not end so."""
+
+def ending(ran: program.Ran) -> Optional[str]:
+    """How a test ended, or None if that is not allowed."""
     if ran.status == 0:
         return "passed"
     found = WANT.search(ran.out + ran.err)
     return found[0].decode() if found else None
 
 
-def tried(task):
-    """Refuses each allocation of a test in turn. Gives how often it ended how, and the first that may not be."""
+def tried(task: Tuple[pathlib.Path, str]) -> Tried:
+    """Refuses each allocation of a test in turn. Counts how it ended, and returns the first bad
+    end.
+    """
     library, test = task
     refuser = refusing.Refuser(library)
     runner = program.Runner(PROGRAM, SECONDS)
-    counts = collections.Counter()
+    counts: Counter[str] = collections.Counter()
     for first in itertools.count(1):
         ran = runner.run([test], refuser.environment("memory", first))
         said = ending(ran)
         if not refuser.has_refused():
-            return test, counts, None if counts and ran.status == 0 else f"nothing refused: {ran}"
+            break
         if not said:
             return test, counts, f"allocation {first} refused: {ran}"
         counts[said] += 1
+    return test, counts, None if counts and ran.status == 0 else f"nothing refused: {ran}"
 
 
-def tries(library, jobs):
-    """Tries the tests side by side, and prints a line for each as it comes, up to the first that ends as it may not."""
+def tries(library: pathlib.Path, jobs: int) -> Tuple[int, int]:
+    """Runs the tests in parallel, and prints a line for each as it ends, up to the first bad one.
+    """
     passed = 0
     tasks = [(library, test) for test in TESTS]
     with multiprocessing.Pool(jobs) as pool:
         for test, counts, wrong in pool.imap(tried, tasks):
-            passed += counts.total()
+            total = sum(counts.values())
+            passed += total
             told = "; ".join(f"{count} {said}" for said, count in counts.most_common())
-            print(f"{test}: {counts.total()} cases: {told}", flush=True)
+            print(f"{test}: {total} cases: {told}", flush=True)
             if wrong:
                 print(f"FAILED: {test}, {wrong}")
                 return passed, 1
     return passed, 0
 
 
-def main():
+def main() -> int:
     words = argparse.ArgumentParser(description=__doc__.splitlines()[0])
-    words.add_argument("--jobs", type=int, default=len(os.sched_getaffinity(0)), help="processes side by side")
+    words.add_argument(
+        "--jobs", type=int, default=len(os.sched_getaffinity(0)), help="parallel processes"
+    )
     asked = words.parse_args()
     program.require(PROGRAM)
     with tempfile.TemporaryDirectory(prefix="refuse-") as folder:

@@ -1,6 +1,6 @@
-"""Runs the built program, often and at little cost.
+"""Runs the built program, often and cheaply.
 
-Its two streams go to memory, and no shell stands between.
+Its output goes to memory, and no shell is involved.
 """
 import contextlib
 import dataclasses
@@ -15,7 +15,7 @@ PROGRAM = ROOT / "crates" / "pktool" / "out" / "pktool"
 
 
 def require(path: pathlib.Path) -> None:
-    """Ends the script where the gate has not built what it runs."""
+    """Ends the script if the gate has not built what it runs."""
     if not os.access(path, os.X_OK):
         told = f"{path} is not built: rt ci builds it, and ./pktool builds the program"
         print(told, file=sys.stderr)
@@ -25,8 +25,9 @@ def require(path: pathlib.Path) -> None:
 
 @dataclasses.dataclass(frozen=True)
 class Ran:
-    """How a run ended: its status (below zero the signal that ended it), its two streams, the
-    processor time in seconds and the peak memory in bytes."""
+    """How a run ended: its status (below zero the signal that ended it), its output, the CPU time
+    in seconds and the peak memory in bytes.
+    """
 
     status: int
     out: bytes
@@ -36,7 +37,7 @@ class Ran:
 
 
 class Stream:
-    """What a program writes, kept in memory."""
+    """A program's output, kept in memory."""
 
     def __init__(self, name: str) -> None:
         self.file = os.memfd_create(name)
@@ -50,8 +51,9 @@ class Stream:
 
 
 class Runner:
-    """Runs a program again and again in one process. A run that takes longer than the bound, in
-    seconds, is ended by SIGKILL."""
+    """Runs a program repeatedly in one process. A run that takes longer than the bound, in seconds,
+    is killed.
+    """
 
     def __init__(self, program: pathlib.Path, bound: float) -> None:
         self.program = str(program)

@@ -1,12 +1,14 @@
 /*
- * Refuses a program what it asks of the C library. It is loaded before that by LD_PRELOAD, and told by the environment:
+ * Refuses a program what it asks of the C library. LD_PRELOAD loads it before that, and the
+ * environment tells it what to refuse:
  *
  *   REFUSE_WHAT   memory, read or write; or length: each read and each write is of one byte at most
- *   REFUSE_FIRST  the call that is refused, counted from 1 as the program begins; with none, none is
+ *   REFUSE_FIRST  the call that is refused, counted from 1 as the program begins; without it, none
  *   REFUSE_ALL    set where every later call is refused too
  *   REFUSE_TELLS  a descriptor that is written a byte at the first refusal
  *
- * The GNU C library's own calls for memory stand behind these, so nothing is looked up, and nothing runs before them.
+ * The GNU C library's own calls for memory stand behind these, so nothing is looked up, and nothing
+ * runs before them.
  */
 #define _GNU_SOURCE
 #include <errno.h>

@@ -1,23 +1,24 @@
-"""Has the C library refuse what a program asks of it: refuse.c, built and told what to refuse."""
+"""Makes the C library refuse a program's requests: builds refuse.c, and tells it what to refuse."""
 import os
 import pathlib
 import subprocess
+from typing import Dict, Optional
 
 SOURCE = pathlib.Path(__file__).resolve().parent / "refuse.c"
 
 
-def built(folder):
-    """The library that refuses, or None where the system has no C compiler that builds it."""
+def built(folder: str) -> Optional[pathlib.Path]:
+    """The library that refuses, or None if no C compiler builds it."""
     library = pathlib.Path(folder, "refuse.so")
     compiler = os.environ.get("CC", "cc")
-    words = [compiler, "-O2", "-Wall", "-Wextra", "-shared", "-fPIC", "-o", str(library), str(SOURCE)]
+    words = [compiler, "-O2", "-Wall", "-Wextra", "-shared", "-fPIC", "-o", str(library)]
     try:
-        made = subprocess.run(words, stderr=subprocess.PIPE, text=True)
+        made = subprocess.run([*words, str(SOURCE)], stderr=subprocess.PIPE, text=True)
     except OSError as error:
-        print(f"{compiler} doesn't start, and nothing was tried: a C compiler is wanted ({error.strerror})")
+        print(f"cannot start {compiler} ({error.strerror}): these tests need a C compiler")
         return None
     if made.returncode:
-        print(f"{compiler} did not build {SOURCE.name}, and nothing was tried:\n{made.stderr}")
+        print(f"{compiler} cannot build {SOURCE.name}, so nothing was tested:\n{made.stderr}")
         return None
     return library
 
@@ -25,15 +26,15 @@ def built(folder):
 class Refuser:
     """Tells the library what to refuse in the next run, and knows whether it did."""
 
-    def __init__(self, library):
+    def __init__(self, library: pathlib.Path) -> None:
         self.library = str(library)
         self.told = os.memfd_create("told")
         os.set_inheritable(self.told, True)
 
-    def environment(self, kind, first, every=False):
+    def environment(self, kind: str, first: int, every: bool = False) -> Dict[str, str]:
         os.ftruncate(self.told, 0)
         words = {"LD_PRELOAD": self.library, "REFUSE_WHAT": kind, "REFUSE_FIRST": str(first)}
-        return words | {"REFUSE_TELLS": str(self.told)} | ({"REFUSE_ALL": "1"} if every else {})
+        return {**words, "REFUSE_TELLS": str(self.told), **({"REFUSE_ALL": "1"} if every else {})}
 
-    def has_refused(self):
+    def has_refused(self) -> bool:
         return os.fstat(self.told).st_size > 0

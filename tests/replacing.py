@@ -1,10 +1,10 @@
 #!/usr/bin/env python3
-"""Disturbs `optimize` while it replaces OUT: nothing is torn, lost or shown to others.
+"""Disturbs `optimize` while it replaces OUT: nothing is torn, lost or exposed.
 
-Runs write one OUT side by side while it is read, are interrupted, find the file system full, and
+Runs write one OUT in parallel while it is read, are interrupted, find the file system full, and
 find their names taken; OUT is each kind of file, in folders and with permissions of each kind, and
-FILE by another name. Some tests want root, or to be able to become another user, and say so where
-they are left out. It prints a line a test, and last how many passed.
+FILE under another name. Some tests need root, or permission to become another user, and say so when
+they are skipped. It prints a line per test, and finally how many passed.
 """
 import argparse
 import contextlib
@@ -34,7 +34,7 @@ MOST_NAMES = 100
 
 
 def watch(folder: pathlib.Path, still: Callable[[], bool], look: Callable[[str], None]) -> None:
-    """Looks at each file of a folder, again and again."""
+    """Reads each file of a folder, again and again."""
     while still():
         for name in names(folder):
             with contextlib.suppress(FileNotFoundError):
@@ -42,7 +42,7 @@ def watch(folder: pathlib.Path, still: Callable[[], bool], look: Callable[[str],
 
 
 def read_beside(folder: pathlib.Path, files: List[pathlib.Path], out: pathlib.Path) -> Set[bytes]:
-    """Starts a run from each file, and gives all that OUT held meanwhile."""
+    """Starts a run for each file, and returns everything that OUT held meanwhile."""
     runs = [start(file, out) for file in files]
     seen = set()
     while any(ran.poll() is None for ran in runs):
@@ -62,7 +62,7 @@ def two_runs_and_a_reader(folder: pathlib.Path) -> None:
         chosen = files if number % 4 else [files[0], files[0], files[1], files[1]]
         for content in read_beside(folder, chosen, out):
             expect(value_of(content) in values, f"round {number}: {len(content)} bytes are torn")
-        expect(value_of(out.read_bytes()) in values[:2], "OUT is no new form")
+        expect(value_of(out.read_bytes()) in values[:2], "OUT is not a new form")
     expect_names(folder, "left", "right", "out")
 
 
@@ -80,7 +80,7 @@ def runs_beside_one_that_replaces_its_input(folder: pathlib.Path) -> None:
 
 
 def interrupt(folder: pathlib.Path, file: pathlib.Path, out: pathlib.Path, number: int) -> None:
-    """Ends a run: at some moment, or as soon as there is a new file."""
+    """Kills a run: at some moment, or as soon as there is a new file."""
     before = names(folder)
     ran = start(file, out)
     end = time.monotonic() + random.uniform(0, 0.03)
@@ -92,7 +92,7 @@ def interrupt(folder: pathlib.Path, file: pathlib.Path, out: pathlib.Path, numbe
 
 
 def interrupted(folder: pathlib.Path, is_input: bool) -> int:
-    """Interrupts runs over what earlier ones left. Gives how many left something."""
+    """Interrupts runs that find what earlier ones left. Returns how many left something."""
     source, most = large("left"), 60
     value = value_of(source)
     file = folder / ("out" if is_input else "file")
@@ -146,7 +146,7 @@ def a_limit_on_the_size_of_files(folder: pathlib.Path) -> None:
     expect(file.read_bytes() == large("left"), "FILE is not as it was")
 
 
-# Optimizes into a file system that has room for less than the form, and looks at what is left.
+# Optimizes into a file system without room for the result, and looks at what is left.
 UNMOUNTED = 77
 FULL = f"""
 mount -t tmpfs -o size=128k none "$1" || exit {UNMOUNTED}
@@ -454,7 +454,9 @@ def other_names_of_the_input(folder: pathlib.Path) -> None:
 def main() -> int:
     words = argparse.ArgumentParser(description=(__doc__ or "").splitlines()[0])
     words.add_argument("--program", type=pathlib.Path, default=program.PROGRAM)
-    words.add_argument("--only", default="", metavar="WORD", help="the tests with this in the name")
+    words.add_argument(
+        "--only", default="", metavar="WORD", help="only tests with this word in the name"
+    )
     words.add_argument("--seed", type=int, default=1, help="of the moments of the interrupts")
     asked = words.parse_args()
     program.require(asked.program)

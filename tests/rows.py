@@ -1,26 +1,28 @@
-"""Worked rows: a command, what it is run on, and the answer that the format's description gives."""
+"""Worked rows: a command, its input, and the answer that the format's description gives."""
 import dataclasses
 import pathlib
+from typing import List, Optional, Tuple
 
 EXAMPLES = pathlib.Path(__file__).resolve().parent.parent / "examples"
 
-# Too large to lie beside the others: examples/run-all makes it too.
+# Too large to keep with the others: examples/run-all makes it too.
 LARGE = {"large-payload": b"B\1\0\0\1" + bytes(16_777_217) + b"."}
 
 
 @dataclasses.dataclass(frozen=True)
 class Row:
-    """A command on a pickle, under the text of a list where it wants one. Where no answer is written down, that with
-    nothing refused stands for it."""
+    """A command on a pickle, with the text of its list if it needs one. If no answer is recorded,
+    the answer with nothing refused counts.
+    """
 
     name: str
     command: str
     pickle: bytes
-    allow: str | None = None
-    status: int | None = None
-    said: str | None = None
-    result: bytes | None = None
-    options: tuple[str, ...] = ()
+    allow: Optional[str] = None
+    status: Optional[int] = None
+    said: Optional[str] = None
+    result: Optional[bytes] = None
+    options: Tuple[str, ...] = ()
 
 
 MARKED = """\
@@ -62,7 +64,11 @@ IMPORTS = [
 OPTIMIZE = [
     ("5d 71 00 4e 71 01 61 68 00 30 2e", "5d 71 00 4e 61 68 00 30 2e", "11 bytes to 9 bytes\n"),
     ("5d 94 4e 94 61 68 01 30 2e", "5d 4e 94 61 68 00 30 2e", "9 bytes to 8 bytes\n"),
-    ("5d 72 2c 01 00 00 4e 61 6a 2c 01 00 00 30 2e", "5d 71 00 4e 61 68 00 30 2e", "15 bytes to 9 bytes\n"),
+    (
+        "5d 72 2c 01 00 00 4e 61 6a 2c 01 00 00 30 2e",
+        "5d 71 00 4e 61 68 00 30 2e",
+        "15 bytes to 9 bytes\n",
+    ),
     ("4e 70 37 0a 67 37 0a 30 2e", "4e 70 30 0a 67 30 0a 30 2e", "9 bytes to 9 bytes\n"),
     ("4e 71 00 5d 71 00 30 68 00 30 2e", "4e 5d 71 00 30 68 00 30 2e", "11 bytes to 9 bytes\n"),
     (
@@ -70,7 +76,11 @@ OPTIMIZE = [
         "80 04 95 02 00 00 00 00 00 00 00 4e 2e",
         "22 bytes to 13 bytes\n",
     ),
-    ("4e 95 01 00 00 00 00 00 00 00 2e", "95 02 00 00 00 00 00 00 00 4e 2e", "11 bytes to 11 bytes\n"),
+    (
+        "4e 95 01 00 00 00 00 00 00 00 2e",
+        "95 02 00 00 00 00 00 00 00 4e 2e",
+        "11 bytes to 11 bytes\n",
+    ),
 ]
 
 JSON = [
@@ -91,7 +101,7 @@ JSON = [
 ]
 
 
-def checks():
+def checks() -> List[Row]:
     """The table of checks."""
     rows = []
     for line in (EXAMPLES / "cases.tsv").read_text().splitlines():
@@ -106,18 +116,20 @@ def checks():
     return rows
 
 
-def others():
+def others() -> List[Row]:
     """Rows of the other commands with known answers."""
-    rows = [Row(given, "dis", bytes.fromhex(given), None, status, said) for given, status, said in DIS]
-    rows += [Row(given, "imports", bytes.fromhex(given), None, status, said) for given, status, said in IMPORTS]
+    rows = []
+    for command, answers in [("dis", DIS), ("imports", IMPORTS), ("json", JSON)]:
+        for given, status, said in answers:
+            rows.append(Row(given[:40], command, bytes.fromhex(given), None, status, said))
     for given, result, said in OPTIMIZE:
-        rows.append(Row(given, "optimize", bytes.fromhex(given), None, 0, said, bytes.fromhex(result)))
-    rows += [Row(given[:40], "json", bytes.fromhex(given), None, status, said) for given, status, said in JSON]
+        pickle, form = bytes.fromhex(given), bytes.fromhex(result)
+        rows.append(Row(given, "optimize", pickle, None, 0, said, form))
     return rows
 
 
-def unknown():
-    """Each pickle of the examples through the commands whose answer on it isn't written down."""
+def unknown() -> List[Row]:
+    """Each pickle of the examples, with the commands whose answer for it is not recorded."""
     rows = []
     for file in sorted((EXAMPLES / "pickles").glob("*.pickle")):
         for command in ("dis", "imports", "optimize", "json"):
@@ -125,5 +137,5 @@ def unknown():
     return rows
 
 
-def every():
+def every() -> List[Row]:
     return checks() + others() + unknown()

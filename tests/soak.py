@@ -1,10 +1,11 @@
 #!/usr/bin/env python3
 """Runs the program on mutated pickles: 100,000 of them, made from a seed.
 
-Each goes through the five commands. Half the checks have options, in turn: what old strings become, and a row of the
-pickle and itself. It fails at a signal, at a status above 1, at want of memory where there is plenty, at a processor
-time or a peak memory above the bound, and where commands that rest on the same check don't answer the same. A pickle
-that fails is named by its number and kept in the folder --keep. The last line says how many runs passed.
+Each goes through the five commands. Half the checks have options, in turn: how Python 2 strings are
+decoded, and a row of the pickle and itself. It fails at a signal, a status above 1, a refused
+allocation although memory is plentiful, a CPU time or peak memory above the bound, and if commands
+that use the same check disagree. A pickle that fails is named by its number and kept in the folder
+--keep. The last line says how many runs passed.
 """
 import argparse
 import collections
@@ -15,6 +16,7 @@ import re
 import sys
 import tempfile
 import time
+from typing import Counter, Iterator, List, Optional, Set, Tuple
 
 import mutations
 import program
@@ -25,8 +27,10 @@ WALL = 20
 PEAK = 256 * 10**6
 CHUNK = 250
 COMMANDS = ("check", "dis", "imports", "optimize", "json")
-ROW = ("--all",)
-OPTIONS = [(), (), (), ("--old-strings", "ascii"), ("--old-strings", "bytes"), ROW]
+
+Options = Tuple[str, ...]
+ROW: Options = ("--all",)
+OPTIONS: List[Options] = [(), (), (), ("--old-strings", "ascii"), ("--old-strings", "bytes"), ROW]
 LIST = """\
 version = 1
 [imports]
@@ -35,21 +39,28 @@ datetime = ["datetime", "timezone", "timedelta"]
 m = ["f"]
 """
 
+# How often a command ended with a status.
+Ended = Counter[Tuple[str, int]]
+# The number of a pickle, the command, what is wrong, and the pickle.
+Failure = Tuple[int, str, str, bytes]
 
-def faults(ran):
-    """What is wrong with a run by itself."""
+
+def faults(ran: program.Ran) -> Iterator[str]:
+    """What is wrong with a single run."""
     if ran.status not in (0, 1):
         yield f"status {ran.status}"
     if b"OutOfMemory" in ran.out + ran.err:
-        yield "want of memory"
+        yield "out of memory"
     if ran.seconds > SECONDS:
-        yield f"{ran.seconds:.2f} s of a processor"
+        yield f"{ran.seconds:.2f} s of CPU time"
     if ran.peak > PEAK:
         yield f"{ran.peak / 1e6:.0f} MB"
 
 
-def verdict(command, options, ran):
-    """What the check under any import said of the pickle, or None where the command's answer doesn't tell."""
+def verdict(command: str, options: Options, ran: program.Ran) -> Optional[str]:
+    """What the check under any import said about the pickle, or None if the command doesn't show
+    it.
+    """
     if command == "check" and "--old-strings" in options:
         return None
     if ran.status == 0:
@@ -67,16 +78,16 @@ def verdict(command, options, ran):
 class Bench:
     """A folder with one pickle at a time, where the program runs."""
 
-    def __init__(self):
+    def __init__(self) -> None:
         self.runner = program.Runner(program.PROGRAM, WALL)
-        # out of the way of a disk, where there is one in memory
-        memory = "/dev/shm"
-        self.folder = tempfile.TemporaryDirectory(prefix="soak-", dir=memory if os.access(memory, os.W_OK) else None)
+        # not on a disk, if there is a file system in memory
+        memory = "/dev/shm" if os.access("/dev/shm", os.W_OK) else None
+        self.folder = tempfile.TemporaryDirectory(prefix="soak-", dir=memory)
         os.chdir(self.folder.name)
         pathlib.Path("list.toml").write_text(LIST)
 
-    def run(self, command, options):
-        """A run. One that seems slow is measured again: among so many the machine stalls some."""
+    def run(self, command: str, options: Options) -> program.Ran:
+        """A run. One that seems slow is measured again: among so many, some stall."""
         words = [command, "pickle", *["out"] * (command == "optimize")]
         if command == "check":
             words = ["check", "--allow", "list.toml", *options, "pickle"]
@@ -87,22 +98,29 @@ class Bench:
         return ran
 
 
-def soaked(task):
-    """Runs a chunk of pickles. Gives the statuses of each command, the greatest time and peak, and what failed."""
+BENCH: Bench
+
+
+def soaked(task: Tuple[int, range]) -> Tuple[Ended, float, int, List[Failure]]:
+    """Runs a chunk of pickles. Returns the statuses of each command, the greatest time and peak,
+    and the failures.
+    """
     seed, numbers = task
+    ended: Ended
     ended, slowest, peak, failed = collections.Counter(), 0.0, 0, []
     for number in numbers:
         options = OPTIONS[number % len(OPTIONS)]
         pickle = mutations.mutated(seed, number) * (2 if options == ROW else 1)
         with open("pickle", "wb") as file:
             file.write(pickle)
-        said = set()
+        said: Set[str] = set()
         for command in COMMANDS:
             ran = BENCH.run(command, options)
             ended[command, ran.status] += 1
             slowest, peak = max(slowest, ran.seconds), max(peak, ran.peak)
             wrong = [*faults(ran)]
-            said |= {verdict(command, options, ran)} - {None} if not wrong else set()
+            told = verdict(command, options, ran) if not wrong else None
+            said |= {told} if told is not None else set()
             if len(said) > 1:
                 wrong.append(f"the check said {' and '.join(sorted(said))}")
             if wrong:
@@ -110,13 +128,14 @@ def soaked(task):
     return ended, slowest, peak, failed
 
 
-def begin():
+def begin() -> None:
     global BENCH
     BENCH = Bench()
 
 
-def soak(asked):
-    """Soaks all pickles side by side. Gives the statuses, and how many runs failed."""
+def soak(asked: argparse.Namespace) -> Tuple[Ended, int]:
+    """Soaks all pickles in parallel. Returns the statuses, and how many runs failed."""
+    ended: Ended
     ended, slowest, peak, wrong = collections.Counter(), 0.0, 0, 0
     chunks = [range(at, min(at + CHUNK, asked.pickles)) for at in range(0, asked.pickles, CHUNK)]
     tasks = [(asked.seed, chunk) for chunk in chunks]
@@ -128,25 +147,27 @@ def soak(asked):
                 kept = pathlib.Path(asked.keep, f"soak-{asked.seed}-{number}.pickle")
                 kept.write_bytes(pickle)
                 print(f"FAILED: {command} of pickle {number}, in {kept}: {why}", flush=True)
-    print(f"slowest run {slowest:.2f} s of a processor, of {SECONDS}; peak {peak / 1e6:.0f} MB, of {PEAK / 1e6:.0f}")
+    print(f"slowest run {slowest:.2f} of {SECONDS} s; peak {peak / 1e6:.0f} of {PEAK / 1e6:.0f} MB")
     return ended, wrong
 
 
-def main():
+def main() -> int:
     words = argparse.ArgumentParser(description=__doc__.splitlines()[0])
-    words.add_argument("--pickles", type=int, default=100_000, help="how many pickles (100,000)")
-    words.add_argument("--seed", type=int, default=1, help="what they are made from (1)")
-    words.add_argument("--jobs", type=int, default=len(os.sched_getaffinity(0)), help="processes side by side")
-    words.add_argument("--keep", default=tempfile.gettempdir(), help="the folder for pickles that fail")
+    words.add_argument("--pickles", type=int, default=100_000, help="number of pickles (100,000)")
+    words.add_argument("--seed", type=int, default=1, help="seed of the pickles (1)")
+    words.add_argument(
+        "--jobs", type=int, default=len(os.sched_getaffinity(0)), help="parallel processes"
+    )
+    words.add_argument("--keep", default=tempfile.gettempdir(), help="folder for pickles that fail")
     asked = words.parse_args()
     program.require(program.PROGRAM)
     started = time.monotonic()
     ended, failed = soak(asked)
     for command in COMMANDS:
-        told = ", ".join(f"{count} status {status}" for (it, status), count in sorted(ended.items()) if it == command)
-        print(f"{command}: {told}")
+        counts = [(status, count) for (it, status), count in sorted(ended.items()) if it == command]
+        print(f"{command}:", ", ".join(f"{count} status {status}" for status, count in counts))
     print(f"{asked.pickles} pickles of seed {asked.seed}, {time.monotonic() - started:.0f} s")
-    print(f"{ended.total() - failed} passed, {failed} failed")
+    print(f"{sum(ended.values()) - failed} passed, {failed} failed")
     return 1 if failed else 0
 
 

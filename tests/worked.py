@@ -1,4 +1,4 @@
-"""Runs the examples of a document, and compares what they print with what stands below them."""
+"""Runs the examples of a document, and compares their output with the document."""
 
 import ast
 import doctest
@@ -22,7 +22,7 @@ class Block(NamedTuple):
 
 
 def blocks_of(text: str) -> Iterator[Block]:
-    """The fenced blocks of a document, without the margin in which they stand."""
+    """The fenced blocks of a document, without their margin."""
     inside: List[str] = []
     start, margin, language = 0, 0, ""
     for number, line in enumerate(text.splitlines(), 1):
@@ -37,7 +37,7 @@ def blocks_of(text: str) -> Iterator[Block]:
 
 
 def commands_of(block: Block) -> Iterator[Tuple[int, str, str]]:
-    """The commands of a block for the shell: the line of each, the command, and what it prints."""
+    """The commands of a shell block: the line of each, the command, and its output."""
     parts = ("\n" + block.text).split("\n$ ")
     line = block.line + parts[0].count("\n")
     for part in parts[1:]:
@@ -50,12 +50,12 @@ def commands_of(block: Block) -> Iterator[Tuple[int, str, str]]:
 
 
 def environment() -> Dict[str, str]:
-    """That of an example: the package is on Python's path."""
+    """The environment of an example: the package is on Python's path."""
     return {**os.environ, "PYTHONPATH": str(ROOT / "python"), "PYTHONDONTWRITEBYTECODE": "1"}
 
 
 def run(command: List[str], given: str = "") -> str:
-    """What a command at the top of the repository prints."""
+    """The output of a command at the top of the repository."""
     started = subprocess.Popen(
         command,
         cwd=ROOT,
@@ -70,14 +70,14 @@ def run(command: List[str], given: str = "") -> str:
     try:
         return started.communicate(given, timeout=SECONDS)[0].rstrip("\n")
     except subprocess.TimeoutExpired:
-        # with all that it has started
+        # with all its children
         os.killpg(started.pid, signal.SIGKILL)
         started.communicate()
-        return f"nothing within {SECONDS} seconds"
+        return f"no answer within {SECONDS} seconds"
 
 
 def faults_of_shell(block: Block) -> Iterator[Tuple[int, str]]:
-    """The commands whose output is another."""
+    """The commands with another output."""
     for line, command, printed in commands_of(block):
         told = run(["sh", "-c", command])
         if told != printed:
@@ -85,7 +85,7 @@ def faults_of_shell(block: Block) -> Iterator[Tuple[int, str]]:
 
 
 def session_of(blocks: List[Block]) -> str:
-    """One session of all blocks for Python, whose lines have the numbers of the document."""
+    """One session with all Python blocks, with the line numbers of the document."""
     lines: List[str] = []
     for block in blocks:
         lines += [""] * (block.line - 1 - len(lines)) + block.text.splitlines()
@@ -100,7 +100,7 @@ def run_session() -> int:
 
 
 def faults_of_python(blocks: List[Block]) -> Iterator[Tuple[int, str]]:
-    """What a session of a document's examples reports."""
+    """The report of a session of a document's examples."""
     if blocks:
         told = run([sys.executable, __file__], session_of(blocks))
         if told:
@@ -108,7 +108,7 @@ def faults_of_python(blocks: List[Block]) -> Iterator[Tuple[int, str]]:
 
 
 def faults_of_program(block: Block) -> Iterator[Tuple[int, str]]:
-    """What Python says of the form of a program."""
+    """Python's errors about the syntax of a program."""
     try:
         ast.parse(block.text)
     except SyntaxError as error:

@@ -1,11 +1,11 @@
-"""Checks a PyTorch checkpoint with pktool, and copies what was checked for torch.load to open.
+"""Checks a PyTorch checkpoint with pktool, and copies it for torch.load to open.
 
 Readers of zip files disagree about crafted ones: what one takes for the pickle, another may not
-see. So torch never opens MODEL. CHECKED is written anew, with the pickle that was checked and every
-other member once.
+see. So torch never opens MODEL. CHECKED is written from scratch, with the pickle that was checked
+and every other member once.
 
-Prints the verdict. The status is 0 where CHECKED was written, 1 where MODEL is refused, 2 where a
-file could not be read or written. PKTOOL names the program, else it is on the path.
+Prints the verdict. The status is 0 if CHECKED was written, 1 if MODEL is refused, 2 if a file could
+not be read or written. PKTOOL names the program; otherwise it is on the path.
 """
 
 import argparse
@@ -23,15 +23,15 @@ class Refused(Exception):
 
 
 def pickle_of(members: List[zipfile.ZipInfo], size: int) -> zipfile.ZipInfo:
-    """The one pickle of a checkpoint, whose file has this size."""
+    """The only pickle of a checkpoint whose file has this size."""
     names = {member.filename.casefold() for member in members}
     pickles = [member for member in members if member.filename.casefold().endswith(".pkl")]
     if len(names) != len(members):
-        raise Refused("two members have one name")
+        raise Refused("two members have the same name")
     if len(pickles) != 1:
-        raise Refused(f"one pickle is wanted, and there are {len(pickles)}")
+        raise Refused(f"expected one pickle, found {len(pickles)}")
     if pickles[0].filename != members[0].filename.split("/")[0] + "/data.pkl":
-        raise Refused("the pickle is not data.pkl of the checkpoint's folder")
+        raise Refused("the pickle is not data.pkl in the checkpoint's folder")
     if any(member.compress_type != zipfile.ZIP_STORED for member in members):
         raise Refused("a member is compressed")
     if sum(member.file_size for member in members) > size:
@@ -40,7 +40,7 @@ def pickle_of(members: List[zipfile.ZipInfo], size: int) -> zipfile.ZipInfo:
 
 
 def check(allow: Path, data: bytes) -> None:
-    """Has pktool check a pickle, and prints what it says."""
+    """Runs pktool on a pickle, and prints its answer."""
     command = [os.environ.get("PKTOOL", "pktool"), "check", "--allow", str(allow), "/dev/stdin"]
     ended = subprocess.run(command, input=data, stdout=subprocess.PIPE)
     verdict = ended.stdout.decode().rstrip("\n")
@@ -52,7 +52,7 @@ def check(allow: Path, data: bytes) -> None:
 
 
 def copy_checked(allow: Path, model: Path, checked: Path) -> None:
-    """Writes `checked`, which must not be there, where the pickle of `model` is accepted."""
+    """Writes `checked`, which must not exist, if the pickle of `model` is accepted."""
     with model.open("rb") as file, zipfile.ZipFile(file) as source:
         members = source.infolist()
         pickle = pickle_of(members, os.fstat(file.fileno()).st_size)

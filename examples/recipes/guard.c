@@ -1,4 +1,4 @@
-/* Checks a file from C, and prints as pktool does: guard FILE. The file `guard` compiles it. */
+/* Checks a file from C, and prints a verdict like pktool's: guard FILE. `guard` compiles it. */
 #include <inttypes.h>
 #include <stdio.h>
 #include <stdlib.h>
@@ -7,13 +7,13 @@
 
 #define BYTES(text) (const uint8_t *)(text), sizeof(text) - 1
 
-/* in order, by module and then by name */
+/* sorted by module, then by name */
 static const struct storklocker_pair permitted[] = {
     {BYTES("collections"), BYTES("OrderedDict")},
     {BYTES("datetime"), BYTES("datetime")},
 };
 
-/* All bytes of a file, to be freed, or null where it can't be read or memory is short. */
+/* All bytes of a file, for the caller to free, or null if a read or an allocation failed. */
 static uint8_t *read_all(FILE *file, size_t *length) {
     size_t room = 1 << 16;
     uint8_t *bytes = malloc(room);
@@ -39,7 +39,7 @@ static uint32_t check(const uint8_t *pickle, size_t length, uint8_t *room, size_
     return storklocker_check_pairs(permitted, count, NULL, pickle, length, room, size, verdict);
 }
 
-/* A name is the stranger's: what isn't printable ASCII must not reach a terminal or a log. */
+/* A stranger chooses the names: only printable ASCII may reach a terminal or a log. */
 static void print_quoted(const uint8_t *name, uint64_t length) {
     putchar('"');
     for (uint64_t i = 0; i < length; i++)
@@ -50,7 +50,7 @@ static void print_quoted(const uint8_t *name, uint64_t length) {
     putchar('"');
 }
 
-/* The pair of a refusal. Its lengths are known from the first call, and a second one writes it. */
+/* The pair of a refusal. The first call gave its lengths, and a second one writes it. */
 static void print_pair(
     const uint8_t *pickle, size_t length, const struct storklocker_verdict *verdict) {
     size_t size = verdict->module_length + verdict->name_length;

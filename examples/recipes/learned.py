@@ -1,4 +1,4 @@
-"""Turns lines of `pktool imports`, on standard input, into a list file of what they name."""
+"""Turns the lines of `pktool imports` on standard input into a list file of the names in them."""
 
 import re
 import sys
@@ -14,7 +14,7 @@ def text_of(quoted: bytes) -> str:
 
 
 def toml_string(text: str) -> str:
-    """The text as a string of TOML, in which whatever a reader of the list can't see is escaped."""
+    """The text as a TOML string, with the characters escaped that a reader can't see."""
     return '"' + "".join(map(toml_character, text)) + '"'
 
 
@@ -25,14 +25,14 @@ def toml_character(character: str) -> str:
 
 
 def learn(lines: Iterable[bytes]) -> Dict[str, Set[str]]:
-    """The names of each module that the lines tell of."""
+    """The names of each module in the lines."""
     learned: Dict[str, Set[str]] = {}
     for line in lines:
         found = LINE.fullmatch(line)
         if found:
             module, name = map(text_of, found.groups())
             if not module or not name:
-                sys.exit(f"a list file names no empty module and no empty name: {line!r}")
+                sys.exit(f"a list file can't name an empty module or name: {line!r}")
             learned.setdefault(module, set()).add(name)
         elif not line.startswith(b"yes: "):
             sys.exit(f"not all imports are known: {line!r}")

@@ -1,6 +1,6 @@
-"""Writes a log of events to standard output, a pickle each: log.py [tampered]
+"""Writes a log of events to standard output, one pickle each: log.py [tampered]
 
-With the word, the second event is a pickle that runs a command.
+With `tampered`, the second event is a pickle that runs a command.
 """
 
 import datetime

@@ -1,4 +1,4 @@
-"""Writes files as PyTorch lays them out, without PyTorch, and crafted ones: models.py FOLDER"""
+"""Writes checkpoints in PyTorch's layout, without PyTorch, and crafted ones: models.py FOLDER"""
 
 import io
 import pickle
@@ -12,7 +12,7 @@ from typing import Any, Optional, Tuple
 
 
 def named(module: str, name: str) -> Any:
-    """Something that is pickled by these names."""
+    """A function that is pickled under these names."""
     made = types.FunctionType((lambda *_: None).__code__, {}, name)
     made.__module__, made.__qualname__ = module, name
     for part in (module.partition(".")[0], module):
@@ -39,14 +39,14 @@ class Pickler(pickle.Pickler):
 
 
 def weights() -> bytes:
-    """The pickle of a model of one tensor."""
+    """The pickle of a model with one tensor."""
     data = io.BytesIO()
     Pickler(data, 2).dump(OrderedDict(weight=Tensor()))
     return data.getvalue()
 
 
 def archive(*members: Tuple[str, bytes], compression: int = zipfile.ZIP_STORED) -> bytes:
-    """A zip file of these members; the same name may stand in it twice."""
+    """A zip file of these members; a name may appear twice."""
     data = io.BytesIO()
     with warnings.catch_warnings(), zipfile.ZipFile(data, "w", compression) as made:
         warnings.simplefilter("ignore")

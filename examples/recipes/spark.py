@@ -1,4 +1,4 @@
-"""A column of pickles in Spark. It is tried here on a partition, without a cluster.
+"""A column of pickles in Spark, tried here on a partition, without a cluster.
 
 On a cluster: ship the package with `--py-files`, then `rows.rdd.mapPartitions(loaded)`.
 """
@@ -11,8 +11,8 @@ PAIRS = [("collections", "OrderedDict"), ("datetime", "date")]
 
 
 def loaded(partition: Iterable[Tuple[Any, Any]]) -> Iterator[Tuple[Any, Any, Optional[str]]]:
-    """Each row's pickle, loaded or with the reason why not. The list is made once a partition."""
-    import storklocker  # on the executor
+    """Each row's pickle, loaded, or the reason why not. One list serves the whole partition."""
+    import storklocker  # type: ignore[import]  # on the executor
 
     allow = storklocker.AllowList(PAIRS)
     for key, data in partition:
@@ -20,7 +20,7 @@ def loaded(partition: Iterable[Tuple[Any, Any]]) -> Iterator[Tuple[Any, Any, Opt
             yield key, storklocker.loads(data, allow), None
         except storklocker.Refused as refusal:
             yield key, None, str(refusal)
-        except Exception as error:  # no bytes at all, or what an accepted pickle calls raises
+        except Exception as error:  # data isn't bytes, or a call of an accepted pickle raises
             yield key, None, type(error).__name__
 
 

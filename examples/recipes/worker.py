@@ -6,7 +6,7 @@ import queue
 import sys
 from typing import Any, Callable
 
-import storklocker
+import storklocker  # type: ignore[import]
 
 PERMITTED = storklocker.AllowList({"collections": ["OrderedDict"], "datetime": ["datetime"]})
 GUARD = storklocker.Guard(PERMITTED)
@@ -20,7 +20,7 @@ def work(jobs: "queue.Queue[bytes]", do: Callable[[Any], None]) -> None:
             job = GUARD.loads(data)
         except storklocker.Refused as refusal:
             logging.warning("a job was refused: %s", refusal)
-        except Exception as error:  # an accepted pickle may raise whatever what it calls raises
+        except Exception as error:  # a call of an accepted pickle may raise anything
             logging.warning("a job was not loaded: %s", type(error).__name__)
         else:
             do(job)

@@ -15,7 +15,9 @@ REFUSED = os.environ["REFUSED_LOG"]
 def told(refusal):
     """The hook: a line for each refusal."""
     about = refusal.context or {}
-    line = f"{about.get('task')} {about.get('id')} {refusal.verdict}\n"
+    reason = refusal.verdict.reason
+    why = "MoreBytes" if reason is None else reason.name
+    line = f"{about.get('task')} {about.get('id')} {why}\n"
     with open(REFUSED, "a", encoding="utf-8") as log:
         log.write(line)
 

@@ -11,6 +11,7 @@ import time
 from pathlib import Path
 
 import storklocker
+from storklocker.metrics import CountingGuard
 
 HERE = Path(__file__).resolve().parent
 GOOD, HOSTILE = 1000, 50
@@ -23,9 +24,9 @@ LISTED = [
 MARKS = Path(os.environ["STORKLOCKER_MARKS"])
 
 
-def guard(on_refusal=None):
-    """The guard that every adapter is tried with."""
-    return storklocker.Guard(storklocker.AllowList(LISTED), on_refusal=on_refusal)
+def guard(on_refusal=None, more=()):
+    """The guard that every adapter is tried with, which counts."""
+    return CountingGuard(storklocker.AllowList([*LISTED, *more]), on_refusal=on_refusal)
 
 
 def good(number):
@@ -53,12 +54,25 @@ def hostile(number):
     return shapes[number % len(shapes)]
 
 
-def counts(reasons):
-    """How often each reason comes among HOSTILE pickles: ten of each shape."""
-    found = {}
-    for reason in reasons:
-        found[reason] = found.get(reason, 0) + 1
-    return found
+SAID = ("ImportOffList", "ImportOffList", "Truncated", "stand behind", "load raised TypeError")
+"""What is said of each of the five, in their order."""
+
+
+def refused(times=1, row="MoreBytes"):
+    """How often each reason comes where HOSTILE pickles are met so many times. A reader that stops
+    at the end of the first pickle never meets the second of a row: `row` is None.
+    """
+    each = times * HOSTILE // len(SAID)
+    return {"ImportOffList": 2 * each, "Truncated": each, **({row: each} if row else {})}
+
+
+def raises(call, *kinds):
+    """The error of a call, which is an UnpicklingError or one of these."""
+    try:
+        call()
+    except (pickle.UnpicklingError, *kinds) as error:
+        return str(error)
+    raise AssertionError("what is hostile was loaded")
 
 
 def nothing_ran():

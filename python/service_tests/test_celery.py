@@ -1,5 +1,6 @@
 """Celery: a worker behind the guard, hostile messages in its queue, a hostile result."""
 
+import collections
 import os
 import tempfile
 import uuid
@@ -56,22 +57,56 @@ def run():
         wanted = {name for at, name in enumerate(names) if at % 5 != 4}
         assert told == wanted, (len(told), lines[:3])
         assert all(line.startswith("jobs.add ") for line in lines)
+        reasons = collections.Counter(line.split()[2] for line in lines)
+        assert reasons == common.refused(), reasons
         assert b"touch" not in log.read_bytes(), "the log has a body"
         common.nothing_ran()
-        hostile_result(celery_app.app)
+        for number in range(common.HOSTILE):
+            hostile_result(celery_app.app, number)
+        common.nothing_ran()
+        try_kombu(port)
         common.nothing_ran()
         results.clear()  # (a result asks Redis when it goes)
 
 
-def hostile_result(app):
+def hostile_result(app, number):
     """A result that a stranger wrote is refused where a client asks for it."""
+    from kombu.exceptions import DecodeError
+
     name = str(uuid.uuid4())
-    app.backend.client.set(f"celery-task-meta-{name}", common.hostile(0))
+    app.backend.client.set(f"celery-task-meta-{name}", common.hostile(number))
     result = app.AsyncResult(name)
-    try:
-        result.get(timeout=5)
-    except Exception as error:
-        assert "ImportOffList" in str(error), error
-    else:
-        raise AssertionError("a hostile result was loaded")
+    said = common.raises(lambda: result.get(timeout=5), DecodeError)
+    assert common.SAID[number % 5] in said, said
     app.backend.remove_pending_result(result)
+
+
+def try_kombu(port):
+    """Kombu alone: messages of a queue in Redis."""
+    from kombu import Connection
+
+    from storklocker.contrib.kombu import CONTENT_TYPE, register
+
+    guard, said = common.guard(), []
+    register(guard)
+
+    def refuse(message, error):
+        said.append(str(error))
+        message.reject()
+
+    with Connection(f"redis://127.0.0.1:{port}/3") as connection:
+        queue = connection.SimpleQueue("plain", serializer="pickle", accept=["pickle"])
+        words = {"content_type": CONTENT_TYPE, "content_encoding": "binary", "serializer": None}
+        for number in range(common.HOSTILE):
+            queue.put(common.hostile(number), **words)
+        for number in range(common.GOOD):
+            queue.put(common.good(number))
+        queue.consumer.on_decode_error = refuse
+        for number in range(common.GOOD):
+            message = queue.get(timeout=5)
+            assert message.payload == common.good(number)
+            message.ack()
+        queue.close()
+    assert len(said) == common.HOSTILE
+    assert all(common.SAID[at % 5] in line for at, line in enumerate(said)), said
+    assert guard.counts.refused == common.refused(), guard.counts.refused

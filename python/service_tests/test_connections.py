@@ -6,6 +6,8 @@ from pathlib import Path
 
 import common
 
+from storklocker.contrib import multiprocessing as guarded
+
 NEEDS = ()
 SERVER = """
 import sys, common, storklocker
@@ -25,27 +27,69 @@ while True:
 """
 
 
+MANAGER = """
+import sys, common, jobs
+from multiprocessing.managers import BaseManager
+from storklocker.contrib import multiprocessing as guarded
+guarded.register(common.guard(more=[("multiprocessing.managers", "Token")]), "guarded")
+class Manager(BaseManager):
+    pass
+Manager.register("jobs", lambda: jobs)
+Manager(("127.0.0.1", int(sys.argv[1])), b"key", "guarded").get_server().serve_forever()
+"""
+
+
 def run():
     """The test."""
-    from storklocker.contrib import multiprocessing as guarded
-
-    port = common.free_port()
     with tempfile.TemporaryDirectory() as folder:
-        with common.process("-c", SERVER, str(port), log=Path(folder, "log")) as server:
-            client = connected(guarded, port)
-            for number in range(common.GOOD):
-                client.send(common.good(number))
-                assert client.recv() == ("got", common.good(number))
-            answers = []
-            for number in range(common.HOSTILE):
-                client.send_bytes(common.hostile(number))
-                answers.append(client.recv())
-            assert [it[0] for it in answers] == (["refused"] * 4 + ["raised"]) * 10, answers[:5]
-            assert server.poll() is None
+        for code, attempt in ((SERVER, try_connection), (MANAGER, try_manager)):
+            port = common.free_port()
+            with common.process("-c", code, str(port), log=Path(folder, "log")) as server:
+                attempt(port)
+                assert server.poll() is None
     common.nothing_ran()
 
 
-def connected(guarded, port):
+def try_connection(port):
+    """Each side loads what the other sends."""
+    client = connected(port)
+    for number in range(common.GOOD):
+        client.send(common.good(number))
+        assert client.recv() == ("got", common.good(number))
+    for number in range(common.HOSTILE):
+        client.send_bytes(common.hostile(number))
+        kind, said = client.recv()
+        assert kind == ("raised" if number % 5 == 4 else "refused"), (number, kind)
+        assert said in common.SAID[4] if number % 5 == 4 else common.SAID[number % 5] in said, said
+
+
+def try_manager(port):
+    """Calls of a manager's object, and what a stranger sends in their place."""
+    from multiprocessing.managers import BaseManager
+
+    guarded.register(common.guard(more=[("multiprocessing.managers", "Token")]), "guarded")
+    connected(port).close()
+
+    class Manager(BaseManager):
+        pass
+
+    Manager.register("jobs")
+    manager = Manager(("127.0.0.1", port), b"key", "guarded")
+    manager.connect()
+    proxy = manager.jobs()
+    for number in range(common.GOOD):
+        assert proxy.add(number, 1) == number + 1
+    for number in range(common.HOSTILE):
+        client = connected(port)
+        client.send_bytes(common.hostile(number))
+        kind, said = client.recv()
+        words = "TypeError" if number % 5 == 4 else common.SAID[number % 5]
+        assert kind == "#TRACEBACK" and words in said, (kind, said)
+        client.close()
+    assert proxy.add(1, 1) == 2
+
+
+def connected(port):
     """The client, once the server listens."""
     for _ in range(200):
         try:

@@ -1,5 +1,6 @@
-"""Django's caches in memory, in files and in Redis behind the guard."""
+"""Django's caches in memory, in files, in a database and in Redis behind the guard."""
 
+import base64
 import pickle
 import tempfile
 import time
@@ -8,15 +9,25 @@ import zlib
 import common
 
 NEEDS = ("django", "django_redis", "redis", "$redis-server")
+KINDS = {
+    "memory": "LocMemCache",
+    "files": "FileBasedCache",
+    "database": "DatabaseCache",
+    "redis": "RedisCache",
+}
+GUARDS = {kind: common.guard() for kind in KINDS}
+GUARD = common.guard()
 
 
 def run():
     """The test."""
     with tempfile.TemporaryDirectory() as folder, common.redis_server(folder) as port:
         caches = configured(folder, port)
-        for name in ("memory", "files", "redis"):
-            try_cache(caches[name], WRITERS[name](caches[name]))
+        for kind, guard in GUARDS.items():
+            try_cache(caches[kind], WRITERS[kind](caches[kind]), guard)
         expiry_is_guarded(caches["files"])
+        caches["default"].set("good", common.good(1))
+        assert caches["default"].get("good") == common.good(1) and GUARD.counts.accepted == 1
         common.nothing_ran()
 
 
@@ -24,28 +35,25 @@ def configured(folder, port):
     """The caches, as a project configures them."""
     import django
     from django.conf import settings
+    from django.core.management import call_command
 
-    options = {"GUARD": "test_django.GUARD", "FORGET": True, "MAX_ENTRIES": 10**6}
-    back = "storklocker.contrib.django."
-    settings.configure(
-        CACHES={
-            "default": {"BACKEND": back + "LocMemCache", "LOCATION": "d", "OPTIONS": options},
-            "memory": {"BACKEND": back + "LocMemCache", "LOCATION": "m", "OPTIONS": options},
-            "files": {"BACKEND": back + "FileBasedCache", "LOCATION": folder, "OPTIONS": options},
-            "redis": {
-                "BACKEND": back + "RedisCache",
-                "LOCATION": f"redis://127.0.0.1:{port}/3",
-                "OPTIONS": options,
-            },
+    places = {"files": folder, "redis": f"redis://127.0.0.1:{port}/3"}
+    made = {
+        kind: {
+            "BACKEND": f"storklocker.contrib.django.{name}",
+            "LOCATION": places.get(kind, kind),
+            "OPTIONS": {"GUARD": GUARDS[kind], "FORGET": True, "MAX_ENTRIES": 10**6},
         }
-    )
+        for kind, name in KINDS.items()
+    }
+    named = {**made["memory"], "OPTIONS": {"GUARD": "test_django.GUARD"}}
+    database = {"ENGINE": "django.db.backends.sqlite3", "NAME": ":memory:"}
+    settings.configure(CACHES={"default": named, **made}, DATABASES={"default": database})
     django.setup()
     from django.core.cache import caches
 
+    call_command("createcachetable", verbosity=0)
     return caches
-
-
-GUARD = common.guard()
 
 
 def write_memory(cache):
@@ -76,15 +84,32 @@ def write_redis(cache):
     return write
 
 
-WRITERS = {"memory": write_memory, "files": write_files, "redis": write_redis}
+def write_database(cache):
+    """The same in a database that others can write to."""
+
+    def write(key, data):
+        from django.db import connection
+
+        words = [base64.b64encode(data).decode(), cache.make_key(key)]
+        with connection.cursor() as cursor:
+            cursor.execute("UPDATE database SET value = %s WHERE cache_key = %s", words)
+
+    return write
 
 
-def try_cache(cache, write):
+WRITERS = {
+    "memory": write_memory,
+    "files": write_files,
+    "database": write_database,
+    "redis": write_redis,
+}
+
+
+def try_cache(cache, write, guard):
     """Good entries come back, hostile ones are misses."""
-    count = common.GOOD if "File" not in type(cache).__name__ else 200
-    for number in range(count):
+    for number in range(common.GOOD):
         cache.set(f"good{number}", common.good(number))
-    for number in range(count):
+    for number in range(common.GOOD):
         assert cache.get(f"good{number}") == common.good(number)
     hostile = [f"bad{number}" for number in range(common.HOSTILE)]
     for number, key in enumerate(hostile):
@@ -92,10 +117,13 @@ def try_cache(cache, write):
         write(key, common.hostile(number))
     found = cache.get_many([*hostile, "good1"])
     assert found == {"good1": common.good(1)}, found
+    guard.counts = type(guard.counts)()
     for number, key in enumerate(hostile):
+        cache.set(key, 1)
         write(key, common.hostile(number))
         assert cache.get(key, "miss") == "miss"
         assert cache.get(key) is None  # it is forgotten
+    assert guard.counts.refused == common.refused(), guard.counts.refused
     cache.set("bad", 1)
     write("bad", common.hostile(0))
     try:
@@ -111,7 +139,7 @@ def try_cache(cache, write):
 
 def expiry_is_guarded(cache):
     """The pickle in front of a file's value."""
-    for number in range(5):
+    for number in range(common.HOSTILE):
         cache.set("x", 1)
         with open(cache._key_to_file("x"), "wb") as file:
             file.write(common.hostile(number) + zlib.compress(pickle.dumps(1)))

@@ -42,6 +42,9 @@ def work(kind, count, port, log):
     half = count // 2
     assert [it.result for it in done] == [*range(1, half + 1), *map(common.good, range(half))]
     assert [job.get_status() for job in bad] == ["failed"] * len(bad)
+    for number, job in enumerate(bad[: common.HOSTILE]):
+        job.refresh()
+        assert common.SAID[number % 5] in job.exc_info, job.exc_info
 
 
 def hostile_jobs(queue, connection):

@@ -16,9 +16,9 @@ def standard_types():
     return [
         {1, 2}, frozenset("ab"), 1 + 2j, range(3), slice(1, 5, 2), bytearray(b"ab"), b"\xff", 2**70,
         decimal.Decimal("1.50"), fractions.Fraction(1, 3), uuid.UUID(int=7),
-        array.array("d", [1.5]), ipaddress.ip_address("10.0.0.1"), ipaddress.ip_network("10.0.0.0/8"),
-        ipaddress.ip_address("::1"), ipaddress.ip_network("fe80::/10"), True, None, "text", [1], (2,),
-        uuid.uuid4(), object,
+        array.array("d", [1.5]), True, None, "text", [1], (2,), uuid.uuid4(), object,
+        ipaddress.ip_address("10.0.0.1"), ipaddress.ip_network("10.0.0.0/8"),
+        ipaddress.ip_address("::1"), ipaddress.ip_network("fe80::/10"),
     ]
 
 

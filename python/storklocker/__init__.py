@@ -23,13 +23,20 @@ needs, and one object is left. It doesn't say that the listed names are harmless
 succeeds. docs/PYTHON.md has the rest.
 """
 
+from __future__ import annotations
+
 from ._answers import Import, ListFault, MoreBytes, Reason, Refused, RowVerdict, Verdict
 from ._limits import Limits
 from ._lists import STANDARD, AllowList
 from ._guard import Guard, imports, loads, missing
-from ._refusal import Refusal, context
 from ._storklocker import check, check_row
 from ._storklocker import version as __version__
+
+TYPE_CHECKING = False
+if TYPE_CHECKING:
+    from typing import Any
+
+    from ._refusal import Refusal, context
 
 __all__ = [
     "AllowList",
@@ -52,3 +59,12 @@ __all__ = [
     "loads",
     "missing",
 ]
+
+
+def __getattr__(name: str) -> Any:
+    """What few services ask for is imported when they do."""
+    if name not in ("Refusal", "context"):
+        raise AttributeError(f"module {__name__!r} has no attribute {name!r}")
+    from . import _refusal
+
+    return getattr(_refusal, name)

@@ -3,8 +3,13 @@
 from __future__ import annotations
 
 import enum
+import functools
 import pickle
-from typing import NamedTuple, Optional, Tuple
+from collections import namedtuple
+
+TYPE_CHECKING = False  # (`typing` would cost half of what importing the package costs)
+if TYPE_CHECKING:
+    from typing import Any, Dict, Optional, Tuple
 
 
 class Reason(enum.IntEnum):
@@ -52,29 +57,47 @@ SHOWN = 64
 """How many bytes of a name the text of a refusal shows."""
 
 
-class Verdict(NamedTuple):
+class Import(namedtuple("Import", "module name")):
+    """An import that a pickle makes. Both are None where the pickle doesn't show what."""
+
+    __slots__ = ()
+
+    module: Optional[str]
+    name: Optional[str]
+
+
+class Verdict(
+    namedtuple(
+        "Verdict",
+        "accepted taken imports at reason number pair pickles",
+        defaults=(0, 0, 0, None, None, None, 0),
+    )
+):
     """What the checker answers. It is true where the pickle is accepted.
 
     Its text is the line that the program prints.
     """
 
     accepted: bool
-    taken: int = 0
+    taken: int
     """At a yes: how many bytes were accepted, up to and with STOP."""
-    imports: int = 0
+    imports: int
     """At a yes: how many imports they make."""
-    at: int = 0
+    at: int
     """At a no: the offset of the refused instruction."""
-    reason: Optional[Reason] = None
+    reason: Optional[Reason]
     """At a no: why."""
-    number: Optional[int] = None
+    number: Optional[int]
     """The code byte of UnknownOpcode, the protocol of UnsupportedProtocol, the entry of
     MissingMemo.
     """
-    pair: Optional[Tuple[str, str]] = None
-    """The module and the name of ImportOffList."""
-    pickles: int = 0
+    pair: Optional[Tuple[str, str]]
+    """The module and the name of ImportOffList, at which the check ended."""
+    pickles: int
     """How many pickles are accepted: of a row at a no too."""
+    _asked: Tuple[Any, ...] = ()
+    """What the checker was asked, where the refusal is of an import."""
+    _missing: Optional[Tuple[Import, ...]] = None
 
     def __bool__(self) -> bool:
         return self.accepted
@@ -83,10 +106,27 @@ class Verdict(NamedTuple):
         return self.line()
 
     @property
-    def missing(self) -> Tuple[Tuple[str, str], ...]:
-        """The pair off the list at which the check ended; `storklocker.missing` gives all of them.
+    def missing(self) -> Tuple[Import, ...]:
+        """Each import off the list, once, in order: looked for when it is asked for, in one pass.
+
+        It is `pair` alone where the pickle is no good under any list, of a row, and in a copy that
+        was made before it was asked for.
         """
-        return () if self.pair is None else (self.pair,)
+        asked = self._asked
+        if self._missing is None:
+            found: Tuple[Import, ...] = ()
+            if asked:
+                from ._guard import missing
+
+                data, allow, limits, old_strings = asked
+                found = tuple(missing(data, allow, limits=limits, old_strings=old_strings))
+            self._missing = found or (() if self.pair is None else (Import(*self.pair),))
+            self._asked = ()
+        return self._missing
+
+    def __getstate__(self) -> Optional[Dict[str, Any]]:
+        # (a copy has what was found, and not the bytes)
+        return {"_missing": self._missing} if self._missing else None
 
     def line(self, most: Optional[int] = None) -> str:
         """The program's line. With `most` a name shows so many bytes, and how many more it has."""
@@ -106,20 +146,11 @@ class Verdict(NamedTuple):
 class RowVerdict(Verdict):
     """What the checker answers of a row of pickles."""
 
-    __slots__ = ()
-
     def line(self, most: Optional[int] = None) -> str:
         """The program's line of a row."""
         if self.accepted:
             return f"yes: {self.taken} bytes, {self.pickles} pickles, {self.imports} imports"
         return f"no in pickle {self.pickles} at {self.at}: {self._reason(most)}"
-
-
-class Import(NamedTuple):
-    """An import that a pickle makes. Both are None where the pickle doesn't show what."""
-
-    module: Optional[str]
-    name: Optional[str]
 
 
 class Refused(pickle.UnpicklingError):
@@ -130,10 +161,21 @@ class Refused(pickle.UnpicklingError):
     whole.
     """
 
-    def __init__(self, verdict: Verdict, hint: str = "") -> None:
-        super().__init__(verdict, hint)
-        self.verdict = verdict
-        self.hint = hint
+    if TYPE_CHECKING:  # (none of its own makes one that is raised in less time)
+
+        def __init__(self, verdict: Verdict, hint: str = "") -> None: ...
+
+    @property
+    def verdict(self) -> Verdict:
+        """What the checker answered."""
+        verdict: Verdict = self.args[0]
+        return verdict
+
+    @property
+    def hint(self) -> str:
+        """What to do about it, or nothing."""
+        hint: str = self.args[1] if len(self.args) > 1 else ""
+        return hint
 
     def __str__(self) -> str:
         return self.verdict.line(SHOWN) + (f" ({self.hint})" if self.hint else "")
@@ -168,14 +210,21 @@ class MoreBytes(Refused):
     `taken` is how many bytes the pickle has, `length` how many there are.
     """
 
-    def __init__(self, verdict: Verdict, length: int) -> None:
-        super().__init__(verdict)
-        self.args = (verdict, length)
-        self.length = length
+    if TYPE_CHECKING:
+
+        def __init__(self, verdict: Verdict, length: int) -> None: ...
+
+    hint = ""
 
     def __str__(self) -> str:
         more = self.length - self.taken
         return f"{more} bytes stand behind the pickle, which has {self.taken}"
+
+    @property
+    def length(self) -> int:
+        """How many bytes there are."""
+        length: int = self.args[1]
+        return length
 
     @property
     def taken(self) -> int:
@@ -195,10 +244,13 @@ class ListFault(ValueError):
         return f"list: {self.fault}"
 
 
-_SHOWN_AS = {
-    byte: chr(byte) if 32 <= byte <= 126 and byte not in b'"\\' else f"\\x{byte:02x}"
-    for byte in range(256)
-}
+@functools.lru_cache(maxsize=None)
+def _shown_as() -> Dict[int, str]:
+    """How the program quotes each byte."""
+    return {
+        byte: chr(byte) if 32 <= byte <= 126 and byte not in b'"\\' else f"\\x{byte:02x}"
+        for byte in range(256)
+    }
 
 
 def _quoted(text: str, most: Optional[int]) -> str:
@@ -206,4 +258,4 @@ def _quoted(text: str, most: Optional[int]) -> str:
     data = text.encode()
     shown = data if most is None else data[:most]
     more = f" and {len(data) - len(shown)} more bytes" if len(shown) < len(data) else ""
-    return '"' + shown.decode("latin-1").translate(_SHOWN_AS) + '"' + more
+    return '"' + shown.decode("latin-1").translate(_shown_as()) + '"' + more

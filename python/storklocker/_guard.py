@@ -2,19 +2,20 @@
 
 from __future__ import annotations
 
-import contextvars
-import io
 import pickle
-from typing import Any, Callable, Iterable, List, Optional, Tuple, Type
 
 from . import _names
 from ._answers import Import, MoreBytes, Reason, Refused, Verdict
 from ._limits import Limits
-from ._lists import AllowList, imports_in, with_room
-from ._refusal import Refusal, context, context_now
+from ._lists import AllowList, imports_in, imports_of, records
 from ._storklocker import check, verdict_unless_whole
-from ._storklocker import imports as _imports
-from ._unpickler import GuardedUnpickler, OldUnpickler, Renaming, has_old_names
+
+TYPE_CHECKING = False
+if TYPE_CHECKING:
+    from typing import Any, Callable, ContextManager, Iterable, List, Optional, Tuple, Type
+
+    from ._refusal import Refusal
+    from ._unpickler import GuardedUnpickler
 
 ASYNC_FROM = 1 << 16
 """From so many bytes on `loads_async` loads in a thread."""
@@ -32,10 +33,10 @@ def imports(
     One that the pickle doesn't show is `Import(None, None)`. Raises Refused where the pickle is no
     good under any list.
     """
-    (verdict,), room = with_room(lambda size: _imports(data, _NOTHING, limits, old_strings, size))
+    verdict, room = imports_of(data, _NOTHING, limits, old_strings)
     if not verdict:
         raise Refused(verdict)
-    return imports_in(room)
+    return imports_in(records(room))
 
 
 def missing(
@@ -45,14 +46,11 @@ def missing(
     limits: Optional[Limits] = None,
     old_strings: str = "unknown",
 ) -> List[Import]:
-    """The imports of `imports` that the list doesn't permit, each once. Empty where the pickle is
-    no good at all.
+    """The imports of `imports` that the list doesn't permit, each once, within the limits of the
+    list too. Empty where the pickle is no good under any list.
     """
-    try:
-        found = imports(data, limits=limits, old_strings=old_strings)
-    except Refused:
-        return []
-    return [it for it in dict.fromkeys(found) if it not in allow]
+    _, room = imports_of(data, allow, limits, old_strings)
+    return imports_in(it for it in dict.fromkeys(records(room)) if not allow._has(it))
 
 
 def loads(
@@ -91,7 +89,7 @@ def _plain_guard(allow: AllowList) -> "Guard":
 
 def _hint(pair: Optional[Tuple[str, str]], allow: AllowList, fix_imports: bool) -> str:
     """What to do where a pair has another name in Python 3."""
-    if pair is None or fix_imports:
+    if pair is None or fix_imports or pair[0] not in _names.RENAMED:
         return ""
     new = _names.renamed(pair)
     if new == pair or not (new in allow or pair in allow):
@@ -138,7 +136,6 @@ class Guard:
     compatible_formats = pickle.compatible_formats  # type: ignore[attr-defined]
     dump = staticmethod(pickle.dump)
     dumps = staticmethod(pickle.dumps)
-    context = staticmethod(context)
     __name__ = "storklocker.Guard"
     __slots__ = (
         "_allow",
@@ -163,9 +160,8 @@ class Guard:
         on_refusal: Optional[Callable[[Refusal], Any]] = None,
         enforce: bool = True,
     ) -> None:
-        check(
-            b"N.", allow, limits=limits, old_strings=old_strings
-        )  # whether each is what it must be
+        # whether each is what it must be
+        check(b"N.", allow, limits=limits, old_strings=old_strings)
         if on_refusal is not None and not callable(on_refusal):
             raise TypeError(f"on_refusal is called with a Refusal: {on_refusal!r} can't be")
         self._allow = allow
@@ -226,7 +222,9 @@ class Guard:
             return self._loads_old(data, encoding, errors, buffers)
         verdict = verdict_unless_whole(data, self._new, self._limits, self._old_strings)
         if verdict is not None:
-            self._refuse(verdict, data)
+            refused = self._told(verdict, data)
+            if self._enforce:
+                raise refused
         if encoding is None and errors is None and buffers is None and self._old_strings != "bytes":
             return _loads(data, fix_imports=False)
         encoding, errors = self._decoding(encoding, errors)
@@ -255,13 +253,14 @@ class Guard:
         if memoryview(data).nbytes < ASYNC_FROM:
             return self.loads(data, **named)
         import asyncio
+        import contextvars
         import functools
 
         call = functools.partial(contextvars.copy_context().run, self.loads, data, **named)
         return await asyncio.get_running_loop().run_in_executor(None, call)
 
     def check(self, data: bytes) -> Verdict:
-        """The Verdict of the pickle at the front of `data`, which is bytes, as `loads` asks for it."""
+        """The Verdict of the pickle at the front of `data`, which is bytes, as `loads` asks."""
         return check(
             data, self._listed_for(data), limits=self._limits, old_strings=self._old_strings
         )
@@ -270,15 +269,24 @@ class Guard:
     def Unpickler(self) -> "Type[GuardedUnpickler]":
         """The class that stands where `pickle.Unpickler` stood. It can be inherited from."""
         if self._unpickler is None:
+            from ._unpickler import GuardedUnpickler, OldUnpickler
+
             kind = OldUnpickler if self._fix_imports else GuardedUnpickler
             self._unpickler = type("Unpickler", (kind,), {"guard": self, "__module__": __name__})
         return self._unpickler
+
+    @staticmethod
+    def context(value: Any) -> ContextManager[None]:
+        """`storklocker.context`."""
+        from ._refusal import context
+
+        return context(value)
 
     def _has_old_names(self, data: bytes) -> bool:
         """Whether the names of a pickle are taken for those of Python 2: its first instruction says
         so.
         """
-        return self._fix_imports and has_old_names(data)
+        return self._fix_imports and _names.are_old(data)
 
     def _listed_for(self, data: bytes) -> AllowList:
         """The list that holds for a pickle."""
@@ -296,20 +304,27 @@ class Guard:
             )
         return (held, "strict")
 
+    def _told(self, verdict: Verdict, data: bytes) -> Refused:
+        """The error of a refusal, which `on_refusal` has heard of."""
+        if self._on_refusal is not None:
+            from ._refusal import Refusal, context_now
+
+            self._on_refusal(Refusal(verdict, data, context_now(), self._enforce))
+        if verdict.accepted:
+            return MoreBytes(verdict, len(data))
+        return Refused(verdict, _hint(verdict.pair, self._allow, self._fix_imports))
+
     def _refuse(self, verdict: Verdict, data: bytes) -> None:
         """Tells of a refusal, and raises it if it is enforced."""
-        if self._on_refusal is not None:
-            self._on_refusal(Refusal(verdict, data, self._missing, context_now(), self._enforce))
-        if not self._enforce:
-            return
-        if verdict:
-            raise MoreBytes(verdict, len(data))
-        raise Refused(verdict, _hint(verdict.pair, self._allow, self._fix_imports))
+        refused = self._told(verdict, data)
+        if self._enforce:
+            raise refused
 
-    def _missing(self, data: bytes) -> List[Import]:
-        """The imports of a pickle that the list doesn't permit."""
-        limits = self._limits or self._allow.limits
-        return missing(data, self._listed_for(data), limits=limits, old_strings=self._old_strings)
+    def _refusal_of(self, data: bytes) -> Optional[Refused]:
+        """The error, which `on_refusal` has heard of, unless `data` is one accepted pickle."""
+        listed = self._listed_for(data)
+        verdict = verdict_unless_whole(data, listed, self._limits, self._old_strings)
+        return None if verdict is None else self._told(verdict, data)
 
     def _copied(self, data: Any) -> bytes:
         """What a buffer holds, as bytes. Of a long one the front is looked at first."""
@@ -329,20 +344,14 @@ class Guard:
         buffers: Optional[Iterable[Any]],
     ) -> Any:
         """`loads` under `fix_imports`."""
-        verdict = verdict_unless_whole(
-            data, self._listed_for(data), self._limits, self._old_strings
-        )
-        if verdict is not None:
-            self._refuse(verdict, data)
+        refused = self._refusal_of(data)
+        if refused is not None and self._enforce:
+            raise refused
         encoding, errors = self._decoding(encoding, errors)
-        if not has_old_names(data):
-            return _loads(
-                data, fix_imports=False, encoding=encoding, errors=errors, buffers=buffers
-            )
-        reader = Renaming(
-            io.BytesIO(data), fix_imports=False, encoding=encoding, errors=errors, buffers=buffers
-        )
-        return reader.load()
+        read: Any = _loads
+        if _names.are_old(data):
+            from ._unpickler import loads_renaming as read
+        return read(data, fix_imports=False, encoding=encoding, errors=errors, buffers=buffers)
 
 
 def _guard_of(

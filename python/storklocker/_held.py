@@ -3,4 +3,7 @@
 from ._answers import REASONS, RowVerdict, Verdict
 from ._limits import Limits
 
-HELD = (Verdict, RowVerdict, Limits, REASONS, tuple.__new__, "unknown", "ascii", "bytes")
+HELD = (
+    *(Verdict, RowVerdict, Limits, REASONS, tuple.__new__, "_asked"),
+    *("unknown", "ascii", "bytes"),
+)

@@ -2,24 +2,18 @@
 
 from __future__ import annotations
 
-import functools
 import operator
-from typing import Any, NamedTuple, Optional, Tuple
+from collections import namedtuple
+
+TYPE_CHECKING = False
+if TYPE_CHECKING:
+    from typing import Any, Tuple
 
 UNBOUND = (1 << 32) - 1
 """The greatest number of a memo entry."""
 
 
-class _Numbers(NamedTuple):
-    counted: int
-    stack: int
-    memo: int
-    passed: int
-    numbers: int
-    large: bool
-
-
-class Limits(_Numbers):
+class Limits(namedtuple("Limits", "counted stack memo passed numbers large")):
     """The limits of a check: a value that doesn't change.
 
     A number above the greatest that a limit may be stands for that.
@@ -37,6 +31,13 @@ class Limits(_Numbers):
 
     __slots__ = ()
 
+    counted: int
+    stack: int
+    memo: int
+    passed: int
+    numbers: int
+    large: bool
+
     def __new__(
         cls,
         *,
@@ -44,11 +45,9 @@ class Limits(_Numbers):
         stack: int = 1_000_000,
         memo: int = 1_000_000,
         passed: int = 16_777_216,
-        numbers: Optional[int] = None,
+        numbers: int = 1_000_000,
         large: bool = False,
     ) -> "Limits":
-        if numbers is None:
-            numbers = standard_numbers()
         return super().__new__(
             cls,
             _limit(counted),
@@ -74,17 +73,3 @@ def limits_of(counted: int, stack: int, memo: int, passed: int, numbers: int, la
     return Limits(
         counted=counted, stack=stack, memo=memo, passed=passed, numbers=numbers, large=bool(large)
     )
-
-
-@functools.lru_cache(maxsize=None)
-def standard_numbers() -> int:
-    """The standard limit of memo numbers: 1,000,000, or none where this build of the checker has
-    none.
-    """
-    from ._storklocker import Pairs, check
-
-    try:
-        check(b"N.", Pairs((), (0, 2, 0, 0, 1_000_000, 0), False))
-    except NotImplementedError:
-        return UNBOUND
-    return 1_000_000

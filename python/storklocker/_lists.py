@@ -5,15 +5,20 @@ from __future__ import annotations
 import bisect
 import os
 from collections.abc import Mapping
-from typing import Any, Callable, Iterable, Iterator, List, Optional, Tuple, Union
 
 from . import _names
-from ._answers import LIST_FAULTS, Import, ListFault
+from ._answers import LIST_FAULTS, Import, ListFault, Verdict
 from ._limits import UNBOUND, Limits, limits_of
 from ._storklocker import Pairs as _Pairs
+from ._storklocker import imports as _imports
 from ._storklocker import read_list
 
-Pair = Tuple[str, str]
+TYPE_CHECKING = False
+if TYPE_CHECKING:
+    from typing import Any, Callable, Iterable, Iterator, List, Optional, Tuple, Union
+
+    Pair = Tuple[str, str]
+    Names = Tuple[Optional[bytes], Optional[bytes]]
 
 _MOST = 1 << 30
 """The most bytes that the names of a list or of the imports of a pickle may have."""
@@ -93,9 +98,14 @@ class AllowList(_Pairs):
     def __contains__(self, pair: Any) -> bool:
         if not _is_pair(pair):
             return False
-        wanted = _bytes_of_pair(pair)
-        place = bisect.bisect_left(self._pairs, wanted)
-        return place < len(self._pairs) and self._pairs[place] == wanted
+        return self._has(_bytes_of_pair(pair))
+
+    def _has(self, names: Names) -> bool:
+        """Whether it has a pair, as bytes. No list has the names of an import that isn't shown."""
+        if names[0] is None:
+            return False
+        place = bisect.bisect_left(self._pairs, names)
+        return place < len(self._pairs) and self._pairs[place] == names
 
     def __or__(self, other: object) -> "AllowList":
         """What either permits, within the limits of both."""
@@ -211,7 +221,16 @@ def with_room(call: Callable[[int], Tuple[Any, ...]]) -> Tuple[Any, bytes]:
         size = wanted
 
 
-def records(room: bytes) -> Iterator[Tuple[Optional[bytes], Optional[bytes]]]:
+def imports_of(
+    data: bytes, allow: AllowList, limits: Optional[Limits], old_strings: str
+) -> Tuple[Verdict, bytes]:
+    """The Verdict under any import, within the limits of the list too, and room with the imports.
+    """
+    (verdict,), room = with_room(lambda size: _imports(data, allow, limits, old_strings, size))
+    return verdict, room
+
+
+def records(room: bytes) -> Iterator[Names]:
     """The pairs that the library gave in a room; None of an import that it can't tell."""
     at = 0
     while at < len(room):
@@ -227,13 +246,13 @@ def records(room: bytes) -> Iterator[Tuple[Optional[bytes], Optional[bytes]]]:
         yield (texts[0], texts[1])
 
 
-def imports_in(room: bytes) -> List[Import]:
-    """The imports that the library gave in a room."""
+def imports_in(names: Iterable[Names]) -> List[Import]:
+    """The imports of these names."""
     return [
         Import(None, None)
         if module is None or name is None
         else Import(module.decode(), name.decode())
-        for module, name in records(room)
+        for module, name in names
     ]
 
 

@@ -3,9 +3,21 @@
 from __future__ import annotations
 
 import _compat_pickle as tables
-from typing import Dict, Iterator, List, Tuple
+import functools
 
-Pair = Tuple[str, str]
+TYPE_CHECKING = False
+if TYPE_CHECKING:
+    from typing import Dict, Iterator, List, Tuple
+
+    Pair = Tuple[str, str]
+
+RENAMED = frozenset(module for module, _ in tables.NAME_MAPPING).union(tables.IMPORT_MAPPING)
+"""The modules of Python 2 of which Python 3 has some name elsewhere."""
+
+
+def are_old(data: bytes) -> bool:
+    """Whether a pickle is of protocol 0 to 2, by its first instruction."""
+    return data[:1] != b"\x80" or data[1:2] < b"\x03"
 
 
 def renamed(pair: Pair) -> Pair:
@@ -18,18 +30,23 @@ def renamed(pair: Pair) -> Pair:
     return (tables.IMPORT_MAPPING.get(pair[0], pair[0]), pair[1])
 
 
-_OLD_PAIRS: Dict[Pair, List[Pair]] = {}
-for _old, _new in tables.NAME_MAPPING.items():
-    _OLD_PAIRS.setdefault(_new, []).append(_old)
-_OLD_MODULES: Dict[str, List[str]] = {}
-for _module, _become in tables.IMPORT_MAPPING.items():
-    _OLD_MODULES.setdefault(_become, []).append(_module)
+@functools.lru_cache(maxsize=None)
+def _backwards() -> Tuple[Dict[Pair, List[Pair]], Dict[str, List[str]]]:
+    """The two tables, from new to old."""
+    pairs: Dict[Pair, List[Pair]] = {}
+    for old, new in tables.NAME_MAPPING.items():
+        pairs.setdefault(new, []).append(old)
+    modules: Dict[str, List[str]] = {}
+    for module, become in tables.IMPORT_MAPPING.items():
+        modules.setdefault(become, []).append(module)
+    return pairs, modules
 
 
 def old_names(pair: Pair) -> Iterator[Pair]:
     """Each pair of which `renamed` makes this one."""
-    yield from _OLD_PAIRS.get(pair, ())
-    for module in (pair[0], *_OLD_MODULES.get(pair[0], ())):
+    pairs, modules = _backwards()
+    yield from pairs.get(pair, ())
+    for module in (pair[0], *modules.get(pair[0], ())):
         if renamed((module, pair[1])) == pair and (module, pair[1]) not in tables.NAME_MAPPING:
             yield (module, pair[1])
 

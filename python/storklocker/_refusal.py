@@ -4,7 +4,7 @@ from __future__ import annotations
 
 import contextlib
 import contextvars
-from typing import Any, Callable, Dict, Iterator, List, Tuple
+from typing import Any, Iterator, Tuple
 
 from ._answers import Import, Verdict
 
@@ -19,61 +19,48 @@ class Refusal:
     verdict: the checker's answer; accepted where bytes stood behind the pickle.
     size: how many bytes of the pickle were read.
     sha256: the SHA-256 of these bytes, in hexadecimal; computed when it is asked for.
-    missing: each pair off the list that the pickle would import, once, in order; looked for when it
-        is asked for. Empty where the pickle is refused under any list.
+    missing: `missing` of the verdict.
     context: what `context` says around the call.
     enforced: whether the pickle was left unloaded.
     """
 
-    __slots__ = ("verdict", "size", "context", "enforced", "_look", "_data", "_found")
+    __slots__ = ("verdict", "size", "context", "enforced", "_data", "_sha256")
 
-    def __init__(
-        self,
-        verdict: Verdict,
-        data: bytes,
-        look: Callable[[bytes], List[Import]],
-        context: Any,
-        enforced: bool,
-    ) -> None:
+    def __init__(self, verdict: Verdict, data: bytes, context: Any, enforced: bool) -> None:
         self.verdict = verdict
         self.size = len(data)
         self.context = context
         self.enforced = enforced
-        self._data, self._look = data, look
-        self._found: Dict[str, Any] = {}
+        self._data, self._sha256 = data, ""
 
     @property
     def sha256(self) -> str:
         """The SHA-256 of the bytes, in hexadecimal."""
-        import hashlib
+        if not self._sha256:
+            import hashlib
 
-        if "sha256" not in self._found:
-            self._found["sha256"] = hashlib.sha256(self._data).hexdigest()
-        digest: str = self._found["sha256"]
-        return digest
+            self._sha256 = hashlib.sha256(self._data).hexdigest()
+        return self._sha256
 
     @property
     def missing(self) -> Tuple[Import, ...]:
         """The imports that the list doesn't permit."""
-        if "missing" not in self._found:
-            self._found["missing"] = tuple(self._look(self._data))
-        found: Tuple[Import, ...] = self._found["missing"]
-        return found
+        return self.verdict.missing
 
     def __repr__(self) -> str:
         return f"Refusal({self.verdict.line(64)!r}, size={self.size}, context={self.context!r})"
 
     def __reduce__(self) -> Tuple[Any, ...]:
-        found = {"sha256": self.sha256, "missing": self.missing}
-        return (_refusal_of, (self.verdict, self.size, self.context, self.enforced, found))
+        self.missing  # (the verdict keeps it)
+        words = (self.verdict, self.size, self.sha256, self.context, self.enforced)
+        return (_refusal_of, words)
 
 
 def _refusal_of(
-    verdict: Verdict, size: int, context: Any, enforced: bool, found: Dict[str, Any]
+    verdict: Verdict, size: int, sha256: str, context: Any, enforced: bool
 ) -> Refusal:
-    made = Refusal(verdict, b"", lambda _: [], context, enforced)
-    made.size = size
-    made._found = found
+    made = Refusal(verdict, b"", context, enforced)
+    made.size, made._sha256 = size, sha256
     return made
 
 

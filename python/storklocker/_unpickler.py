@@ -16,12 +16,7 @@ if TYPE_CHECKING:
     from ._guard import Guard
 
 
-def has_old_names(data: bytes) -> bool:
-    """Whether a pickle is of protocol 0 to 2, by its first instruction."""
-    return data[:1] != b"\x80" or data[1:2] < b"\x03"
-
-
-class Renaming(pickle.Unpickler):
+class _Renaming(pickle.Unpickler):
     """Imports each pair by the name that Python 3 has for it.
 
     `pickle` would do so by the protocol at that place, which a pickle may change, and then the list
@@ -30,6 +25,11 @@ class Renaming(pickle.Unpickler):
 
     def find_class(self, module: str, name: str, /) -> Any:
         return super().find_class(*_names.renamed((module, name)))
+
+
+def loads_renaming(data: bytes, **named: Any) -> Any:
+    """`pickle.loads`, where each pair is imported by the name that Python 3 has for it."""
+    return _Renaming(io.BytesIO(data), **named).load()
 
 
 class _Feed(io.BytesIO):
@@ -130,7 +130,11 @@ class GuardedUnpickler(pickle.Unpickler):
         if verdict:
             return verdict.taken if self._pickles == 0 else self._taken
         self._put_back()
-        self.guard._refuse(verdict, self._bytes[self._taken :])
+        guard, data = self.guard, self._bytes[self._taken :]
+        if self._pickles:  # (by itself, it has more to say than as one of a row)
+            asked = (data, guard._listed_for(data), guard._limits, guard._old_strings)
+            verdict._asked = asked
+        guard._refuse(verdict, data)
         while self._read_on():  # (not enforced: whatever is there is loaded)
             pass
         return self._taken
@@ -197,6 +201,6 @@ class OldUnpickler(GuardedUnpickler):
     """Under `fix_imports`."""
 
     def find_class(self, module: str, name: str, /) -> Any:
-        if has_old_names(self._bytes[self._taken : self._taken + 2]):
+        if _names.are_old(self._bytes[self._taken : self._taken + 2]):
             module, name = _names.renamed((module, name))
         return super().find_class(module, name)

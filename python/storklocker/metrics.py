@@ -9,11 +9,14 @@
 from __future__ import annotations
 
 import threading
-from typing import Any, Callable, Dict, Optional, Tuple
+from typing import TYPE_CHECKING, Any, Callable, Dict, Optional, Tuple, Type, cast
 
 from ._answers import Refused
 from ._guard import Guard
 from ._refusal import Refusal
+
+if TYPE_CHECKING:
+    from ._unpickler import GuardedUnpickler
 
 
 class Counts:
@@ -80,26 +83,35 @@ class CountingGuard(Guard):
 
     def loads(self, data: Any, /, **named: Any) -> Any:
         """`Guard.loads`, counted."""
-        return self._counted(super().loads, data, named)
-
-    def load(self, file: Any, **named: Any) -> Any:
-        """`Guard.load`, counted."""
-        return self._counted(super().load, file, named)
-
-    def _counted(self, call: Callable[..., Any], data: Any, named: Dict[str, Any]) -> Any:
+        if type(data) is not bytes:
+            data = self._copied(data)
         self._here.refused = False
         try:
-            value = call(data, **named)
-        except (Refused, EOFError):
+            return super().loads(data, **named)
+        except Refused:
+            self._here.refused = True
             raise
-        except Exception:
-            self._accept()
-            raise
-        self._accept()
-        return value
+        finally:
+            self._count()
 
-    def _accept(self) -> None:
-        # (with enforce=False what was refused is loaded all the same)
+    @property
+    def Unpickler(self) -> "Type[GuardedUnpickler]":
+        """`Guard.Unpickler`, of which each `load` is counted."""
+        if self._unpickler is None:
+            plain: Any = super().Unpickler
+
+            class Counting(plain):  # type: ignore[misc]
+                def _admitted(self) -> int:
+                    self.guard._here.refused = False
+                    end: int = super()._admitted()
+                    self.guard._count()
+                    return end
+
+            self._unpickler = cast("Type[GuardedUnpickler]", Counting)
+        return self._unpickler
+
+    def _count(self) -> None:
+        """Counts what was accepted. (With enforce=False what was refused is loaded too.)"""
         if not self._here.refused:
             self.counts.accept()
 

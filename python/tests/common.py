@@ -56,23 +56,3 @@ def python(code, *words, **environment):
     )
     assert ran.returncode == 0, ran.stderr
     return ran.stdout
-
-
-def is_served(call=storklocker.check_row, *words, **named):
-    """Whether this build of the checker can do what a call asks for."""
-    try:
-        call(b"N.", *(words or (BY_PAIRS,)), **named)
-    except NotImplementedError:
-        return False
-    return True
-
-
-def wants(served):
-    """Leaves a test out where the checker can't do what it asks for yet."""
-    return (lambda test: test) if served else (lambda test: None)
-
-
-KEEPS_MEMO = is_served(one_unpickler=True)
-HAS_NUMBERS = is_served(limits=storklocker.Limits(numbers=5))
-HAS_IMPORTS = is_served(lambda data, _: storklocker.imports(data))
-IS_LARGE = is_served(limits=storklocker.Limits(large=True))

@@ -11,7 +11,6 @@ import pickle
 import sys
 import unittest
 
-import common
 import storklocker
 from storklocker import _names
 from test import pickletester
@@ -32,19 +31,6 @@ NOT_COVERED = {
     "test_truncated_data": "what is cut is a Refused, which is an UnpicklingError, and no EOFError",
     "test_unicode": "a text with a lone surrogate is refused",
 }
-if not common.KEEPS_MEMO:
-    NOT_COVERED.update(
-        dict.fromkeys(
-            (
-                "test_multiple_unpicklings_minimal",
-                "test_multiple_unpicklings_seekable",
-                "test_multiple_unpicklings_unseekable",
-                "test_reusing_unpickler_objects",
-            ),
-            "this build of the checker keeps no memo from pickle to pickle",
-        )
-    )
-
 pairs = set()
 
 

@@ -16,7 +16,7 @@ import unittest
 from pathlib import Path
 
 import storklocker
-from common import BY_PAIRS, BY_TEXT, HAS_IMPORTS, KEEPS_MEMO, OBJECTS, SEEDS, wants
+from common import BY_PAIRS, BY_TEXT, OBJECTS, SEEDS
 from storklocker import AllowList, Guard, Reason, Refused
 
 GUARD = Guard(BY_PAIRS)
@@ -303,14 +303,6 @@ class Files(unittest.TestCase):
 
 
 class Rows(unittest.TestCase):
-    @wants(not KEEPS_MEMO)
-    def test_a_second_load_is_never_unchecked(self):
-        reader = GUARD.Unpickler(io.BytesIO(b"N.N."))
-        reader.load()
-        with self.assertRaises(NotImplementedError):
-            reader.load()
-
-    @wants(KEEPS_MEMO)
     def test_one_pickler_one_unpickler(self):
         shared = {"a": 1}
         for protocol in range(6):
@@ -333,7 +325,6 @@ class Rows(unittest.TestCase):
                     GUARD.load(file)
                 self.assertIs(raised.exception.reason, Reason.MissingMemo)
 
-    @wants(KEEPS_MEMO)
     def test_a_memo_that_is_kept_names_an_import(self):
         for file in files(b"".join(ROW)):
             reader = GUARD.Unpickler(file)
@@ -345,7 +336,6 @@ class Rows(unittest.TestCase):
         self.assertTrue(storklocker.check_row(b"".join(ROW), BY_PAIRS))
         self.assertFalse(storklocker.check_row(b"".join(ROW), BY_PAIRS, one_unpickler=True))
 
-    @wants(KEEPS_MEMO)
     def test_the_file_stands_behind_each(self):
         datas = [
             pickle.dumps(value, protocol)
@@ -360,7 +350,6 @@ class Rows(unittest.TestCase):
             self.assertEqual(file.tell(), place)
         self.assertEqual(file.read(), b"rest")
 
-    @wants(KEEPS_MEMO)
     def test_a_file_that_is_moved_or_grows(self):
         file = io.BytesIO(b"N.raw bytesI5\n.")
         reader = GUARD.Unpickler(file)
@@ -375,7 +364,6 @@ class Rows(unittest.TestCase):
         file.seek(0)
         self.assertIsNone(reader.load())
 
-    @wants(KEEPS_MEMO)
     def test_a_long_row(self):
         count = 30_000
         file = io.BytesIO(pickle.dumps({"k": 1}) * count)
@@ -406,7 +394,6 @@ class Rows(unittest.TestCase):
 
 
 class Inherited(unittest.TestCase):
-    @wants(KEEPS_MEMO)
     def test_persistent_load_and_find_class(self):
         class Reader(GUARD.Unpickler):
             def persistent_load(self, number):
@@ -495,7 +482,6 @@ class OldNames(unittest.TestCase):
             with self.subTest(pickled=pickled), self.assertRaises(Refused):
                 guard.load(io.BytesIO(pickled))
 
-    @wants(KEEPS_MEMO)
     def test_a_row_of_both(self):
         guard = Guard(self.LISTED, fix_imports=True)
         reader = guard.Unpickler(
@@ -571,7 +557,6 @@ class OldNames(unittest.TestCase):
 
 
 class Told(unittest.TestCase):
-    @wants(HAS_IMPORTS)
     def test_a_refusal_is_told(self):
         told = []
         guard = Guard(BY_PAIRS, on_refusal=told.append)
@@ -595,7 +580,6 @@ class Told(unittest.TestCase):
             (repr(again), again.sha256, again.missing), (repr(first), first.sha256, first.missing)
         )
 
-    @wants(HAS_IMPORTS)
     def test_what_is_missing(self):
         told = []
         guard = Guard(BY_PAIRS, on_refusal=told.append)
@@ -609,6 +593,42 @@ class Told(unittest.TestCase):
         with self.assertRaises(Refused):
             storklocker.imports(b"0.")
         self.assertEqual(storklocker.missing(b"0.", BY_PAIRS), [])
+
+    def test_a_verdict_finds_all_that_is_missing(self):
+        data = b"(ca\nb\nccollections\ndeque\ncc\nd\nca\nb\nPx\nVy\n\x93l."
+        wanted = (("a", "b"), ("c", "d"), (None, None))
+        for verdict in (
+            storklocker.check(data, BY_PAIRS),
+            storklocker.check(data, BY_TEXT, limits=storklocker.Limits(stack=9)),
+            GUARD.check(data + b"more"),
+        ):
+            self.assertEqual((verdict.pair, verdict.missing), (("a", "b"), wanted))
+            self.assertEqual(pickle.loads(pickle.dumps(verdict)).missing, wanted)
+        with self.assertRaises(Refused) as raised:
+            GUARD.loads(data)
+        again = pickle.loads(pickle.dumps(raised.exception))
+        self.assertEqual(again.verdict.missing, (("a", "b"),))  # the bytes stayed behind
+        self.assertEqual(raised.exception.verdict.missing, wanted)
+        unknown = storklocker.check(b"(Px\nVy\n\x93ca\nb\nl.", BY_PAIRS)
+        self.assertEqual((unknown.pair, unknown.missing), (None, ((None, None), ("a", "b"))))
+        for refused, missing in (
+            (b"ca\nb\ncc\nd\n.", (("a", "b"),)),  # no good under any list
+            (b"N0.", ()),
+            (b"N.", ()),
+        ):
+            self.assertEqual(storklocker.check(refused, BY_PAIRS).missing, missing)
+        row = storklocker.check_row(b"N." + data, BY_PAIRS)
+        self.assertEqual(row.missing, (("a", "b"),))
+
+    def test_what_a_pickle_of_a_row_lacks(self):
+        told = []
+        reader = Guard(BY_PAIRS, on_refusal=told.append).Unpickler(
+            io.BytesIO(b"N.(ca\nb\ncc\nd\nl.")
+        )
+        self.assertIsNone(reader.load())
+        with self.assertRaises(Refused):
+            reader.load()
+        self.assertEqual(told[0].missing, (("a", "b"), ("c", "d")))
 
     def test_a_hook_that_fails(self):
         def failing(_):
@@ -627,9 +647,8 @@ class Told(unittest.TestCase):
         for file in files(data + b"rest"):
             self.assertIs(guard.load(file), collections.deque)
             self.assertEqual(file.read(4), b"rest")
-        if KEEPS_MEMO:
-            reader = guard.Unpickler(io.BytesIO(2 * data))
-            self.assertEqual([reader.load(), reader.load()], 2 * [collections.deque])
+        reader = guard.Unpickler(io.BytesIO(2 * data))
+        self.assertEqual([reader.load(), reader.load()], 2 * [collections.deque])
         self.assertIsNone(guard.loads(b"N.N."))
         self.assertGreater(len(told), 6)
         self.assertFalse(any(it.enforced for it in told))

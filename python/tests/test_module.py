@@ -139,7 +139,7 @@ class Module(unittest.TestCase):
 
     def test_what_make_says_of_bad_words(self):
         for words, said in (
-            (["--archive"], "wants a value"),
+            (["--archive"], "needs a value"),
             (["--archive", "no/such.a"], "no/such.a"),
             (["--fast"], "--fast"),
             (["--cc", "no-such-cc"], "no-such-cc"),
@@ -157,11 +157,14 @@ class Module(unittest.TestCase):
         said = [python(code).split() for _ in range(5)]
         for module in (
             "asyncio",
+            "contextvars",
             "ctypes",
             "hashlib",
             "importlib.util",
             "pickletools",
             "json",
+            "threading",
+            "typing",
             "typing_extensions",
         ):
             self.assertNotIn(module, said[0][1:])
@@ -218,9 +221,9 @@ CALLS = {
     "row": lambda: storklocker.check_row(common.SEEDS[10] * 3 + b"0", common.BY_PAIRS),
     "list": lambda: storklocker.AllowList.from_text(common.LIST_TEXT),
     "load": lambda: storklocker.loads(common.SEEDS[10], common.BY_PAIRS),
+    "imports": lambda: storklocker.imports(common.SEEDS[10]),
+    "missing": lambda: storklocker.check(b"cos\nsystem\n.", common.BY_PAIRS).missing,
 }
-if common.HAS_IMPORTS:
-    CALLS["imports"] = lambda: storklocker.imports(common.SEEDS[10])
 
 def answer(call):
     try:

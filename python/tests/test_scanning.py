@@ -87,7 +87,8 @@ class Scanning(unittest.TestCase):
 
     def scanned(self, name, data, *words):
         path = self.put(name, data)
-        status, out = self.run_command("scan", path, "--allow", self.list, "--format", "json", *words)
+        words = ("--allow", self.list, "--format", "json", *words)
+        status, out = self.run_command("scan", path, *words)
         return status, {it["path"][len(path) :]: it for it in json.loads(out)}
 
     def test_plain_files(self):
@@ -140,7 +141,8 @@ class Scanning(unittest.TestCase):
                 self.assertEqual(found, status, (name, reports))
 
     def test_checkpoints(self):
-        status, reports = self.scanned("model.pt", zipped(("m/data.pkl", GOOD), ("m/data/0", b"\0")))
+        made = zipped(("m/data.pkl", GOOD), ("m/data/0", b"\0"))
+        status, reports = self.scanned("model.pt", made)
         self.assertEqual(status, 0, reports)
         status, reports = self.scanned("model.pt", zipped(("m/data.pkl", GOOD), ("m/x.bin", BAD)))
         self.assertEqual(status, 1)

@@ -4,7 +4,7 @@ use Rattle.std.proofs.Math.ListN.{set}
 use Rattle.std.proofs.Math.Seq.{get_or-append_seam, take-suc}
 use Rattle.std.proofs.lemmas.List.{map-append}
 use Rattle.pkcheck.specs.Private.Noted.{AreCopies, AreEntries, IsEntry, entry_asked}
-use Rattle.pkcheck.specs.Private.Slots.{Grows}
+use Rattle.pkcheck.specs.Private.Slots.{HasMoreTexts}
 use Rattle.pkcheck.specs.declared.machine.ledger.Entry.{Entry}
 use Rattle.pkcheck.proofs.Noting.{are_grown, are_more, asked_grown, longer, map_more, text_grown}
 use Rattle.pkcheck.proofs.Resolving.{same_table}
@@ -29,7 +29,7 @@ Names written number name = (number < length written) × (get_or written number 
 pub names_last : (ws : List (List ℕ)) (name : List ℕ) → Names (ws ++ name ∷ []) (length ws) name
 names_last ws name = (omega (arith, length-append ws (name ∷ [])), get_or-append_seam ws name [] [])
 
-module _ (ws vs : List (List ℕ)) (g : Grows ws vs) where
+module _ (ws vs : List (List ℕ)) (g : HasMoreTexts ws vs) where
   -- it stands there for good
   pub names_grown : (number : ℕ) (name : List ℕ) → Names ws number name → Names vs number name
   names_grown number name h =
@@ -57,12 +57,12 @@ entry_at made written k [] d h lt = absurd (omega (arith, lt))
 entry_at made written zero (e ∷ es) d h lt = h.0
 entry_at made written (suc k) (e ∷ es) d h lt = entry_at made written k es d h.1 (omega (arith, lt))
 
-pub grows_more : (a b c : List (List ℕ)) → Grows a b → Grows b c → Grows a c
+pub grows_more : (a b c : List (List ℕ)) → HasMoreTexts a b → HasMoreTexts b c → HasMoreTexts a c
 grows_more a b c g h = record { more = g.more ++ h.more; is = h.is ∙ (ap (λ l. l ++ h.more) g.is ∙ append_assoc a g.more h.more) }
 
 -- the first so many of the entries of another ledger were copied
 pub record CopiedSoFar (ts ws : List (List ℕ)) (es : List Entry) (before now : List (List ℕ)) (copies : List (Option ℕ)) (copied : List Entry) (count : ℕ) : Type 0 where
-  pub grows : Grows before now
+  pub grows : HasMoreTexts before now
   pub size : length copies ≡ length ts
   pub stand : AreCopies copies ts now
   pub named : AreEntries 0 (length now) copied
@@ -70,9 +70,13 @@ pub record CopiedSoFar (ts ws : List (List ℕ)) (es : List Entry) (before now :
 
 module _ (ts ws : List (List ℕ)) (es : List Entry) (before : List (List ℕ)) where
   -- one more
-  pub copied_more : (now new : List (List ℕ)) (copies next : List (Option ℕ)) (copied : List Entry) (count : ℕ) (d e : Entry) → CopiedSoFar ts ws es before now copies copied count → count < length es → Grows now new → length next ≡ length copies → AreCopies next ts new → IsEntry 0 (length new) e × (entry_asked [] new e ≡ entry_asked ts ws (get_or es count d)) → CopiedSoFar ts ws es before new next (copied ++ e ∷ []) (count + 1)
+  pub copied_more : (now new : List (List ℕ)) (copies next : List (Option ℕ)) (copied : List Entry)
+      (count : ℕ) (d e : Entry) → CopiedSoFar ts ws es before now copies copied count
+      → count < length es → HasMoreTexts now new → length next ≡ length copies
+      → AreCopies next ts new → IsEntry 0 (length new) e × (entry_asked [] new e ≡ entry_asked ts ws
+      (get_or es count d)) → CopiedSoFar ts ws es before new next (copied ++ e ∷ []) (count + 1)
   copied_more now new copies next copied count d e h lt grows size stand ok =
-      let none : Grows [] [] = same_table [] in
+      let none : HasMoreTexts [] [] = same_table [] in
       let here = asked_grown [] [] now new none grows copied h.named in
       let last = take-suc es count d lt in
       record {
@@ -84,8 +88,8 @@ module _ (ts ws : List (List ℕ)) (es : List Entry) (before : List (List ℕ)) 
       }
 
 -- what names no text of a table
-module _ (ts ws vs : List (List ℕ)) (old more : List Entry) (g : Grows ws vs) (h : AreEntries (length ts) (length ws) old) (k : AreEntries 0 (length vs) more) where
-  any : Grows [] ts
+module _ (ts ws vs : List (List ℕ)) (old more : List Entry) (g : HasMoreTexts ws vs) (h : AreEntries (length ts) (length ws) old) (k : AreEntries 0 (length vs) more) where
+  any : HasMoreTexts [] ts
   any = record { more = ts; is = refl }
 
   both : (xs ys : List Entry) → AreEntries (length ts) (length vs) xs → AreEntries (length ts) (length vs) ys → AreEntries (length ts) (length vs) (xs ++ ys)

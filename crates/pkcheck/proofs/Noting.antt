@@ -9,9 +9,9 @@ use Rattle.pkcheck.specs.Covers.{Pointwise}
 use Rattle.pkcheck.specs.Import.{asks_more}
 use Rattle.pkcheck.specs.Knowledge.{Asked, AskedPair, Known}
 use Rattle.pkcheck.specs.Private.Noted.{AreEntries, AreNumbered, IsEntry, entry_asked}
-use Rattle.pkcheck.specs.Private.Slots.{Grows, Stands}
+use Rattle.pkcheck.specs.Private.Slots.{HasMoreTexts, StandsAs}
 
-module _ (ts us : List (List ℕ)) (g : Grows ts us) where
+module _ (ts us : List (List ℕ)) (g : HasMoreTexts ts us) where
   pub longer : length ts ≤ length us
   longer = rw g.is (omega (arith, length-append ts g.more))
 
@@ -20,7 +20,7 @@ module _ (ts us : List (List ℕ)) (g : Grows ts us) where
 
 -- ---- a table that grew
 
-module _ (ts us ws vs : List (List ℕ)) (g : Grows ts us) (h : Grows ws vs) where
+module _ (ts us ws vs : List (List ℕ)) (g : HasMoreTexts ts us) (h : HasMoreTexts ws vs) where
   entry_grown : (e : Entry) → IsEntry (length ts) (length ws) e → entry_asked us vs e ≡ entry_asked ts ws e
   entry_grown entry.Unknown k = refl
   entry_grown (entry.Made m n) k = λ i. AskedPair (text_grown ts us g m k.0 i) (text_grown ts us g n k.1 i)
@@ -61,7 +61,7 @@ map_more f (y ∷ xs) x = ap (λ l. f y ∷ l) (map_more f xs x)
 
 -- ---- operands
 
-pub are_numbered : (ts : List (List ℕ)) (vs : List Value) (ks : List Known) → Pointwise (Stands ts) vs ks → AreNumbered (length ts) vs
+pub are_numbered : (ts : List (List ℕ)) (vs : List Value) (ks : List Known) → Pointwise (StandsAs ts) vs ks → AreNumbered (length ts) vs
 are_numbered ts [] ks h = tt
 are_numbered ts (v ∷ vs) (k ∷ ks) h = (h.0.numbered, are_numbered ts vs ks h.1)
 are_numbered ts (v ∷ vs) [] h = absurd h

@@ -5,9 +5,9 @@ use Rattle.std.proofs.Math.Seq.{get_or-append_seam}
 use Rattle.pkcheck.specs.declared.machine.value.Value.{Value}
 use Rattle.pkcheck.specs.declared.machine.value.Value.TheVariants.{Unknown, Made}
 use Rattle.pkcheck.specs.declared.machine.value.Value.TheVariants as value
-use Rattle.pkcheck.specs.declared.machine.effects.Move.{Move}
-use Rattle.pkcheck.specs.declared.machine.effects.Takes.{Takes}
-use Rattle.pkread.specs.declared.refusal.Reason.{Reason}
+use Rattle.pkcheck.specs.declared.effect.Move.{Move}
+use Rattle.pkcheck.specs.declared.effect.Takes.{Takes}
+use Rattle.pkread.specs.declared.Reason.{Reason}
 use Rattle.pkcheck.specs.Shape.{Breach, Entry, Mark, Item, Shape, Taken, operands, put, moved, marks_of, top}
 use Rattle.pkcheck.specs.Covers.{Pointwise, AlikeEntry, AlikeCell, Alike}
 use Rattle.pkcheck.specs.Private.Denials.{IsLack, IsFaultOf, with_item}
@@ -15,7 +15,7 @@ use Rattle.pkops.specs.Limits.{Bounds}
 use Rattle.pkcheck.specs.Runs.{Text}
 use Rattle.pkcheck.specs.Knowledge.{Known, Knowledge}
 use Rattle.pkcheck.specs.Private.Noted.{Noted}
-use Rattle.pkcheck.specs.Private.Slots.{IsNumbered, known, seen, remembered, resolved, Stands, StandsIf, Sees, Resolves, Grows}
+use Rattle.pkcheck.specs.Private.Slots.{IsNumbered, known, seen, remembered, resolved, StandsAs, StandsIf, Sees, Resolves, HasMoreTexts}
 use Rattle.pkcheck.proofs.Covering.Alike.{SameResult, Pointwise-map, Pointwise-append, AlikeEntry-map, AlikeTaken, operands_alike, front_alike, moved_alike}
 
 abbrev first : Result (Value × List (Entry Value)) Breach → Option Value
@@ -37,19 +37,19 @@ module _ (ts : List (List ℕ)) where
   pub sees_seen : (es : List (Entry Value)) (ks : List (Entry Known)) → Sees ts es ks → Sees ts es (seen ts es)
   sees_seen es ks h = subst (λ l. Sees ts es l) (sees_is es ks h) h
 
-  recalls_is : (cs : List (ℕ × Value)) (ks : List (ℕ × Known)) → Pointwise (AlikeCell (Stands ts)) cs ks → ks ≡ remembered ts cs
+  recalls_is : (cs : List (ℕ × Value)) (ks : List (ℕ × Known)) → Pointwise (AlikeCell (StandsAs ts)) cs ks → ks ≡ remembered ts cs
   recalls_is [] [] h = refl
   recalls_is (c ∷ cs) (k ∷ ks) h = λ i. (sym h.0.0 i, sym h.0.1.is i) ∷ recalls_is cs ks h.1 i
   recalls_is [] (k ∷ ks) h = absurd h
   recalls_is (c ∷ cs) [] h = absurd h
 
-  pub values_are : (vs : List Value) (ks : List Known) → Pointwise (Stands ts) vs ks → ks ≡ map (known ts) vs
+  pub values_are : (vs : List Value) (ks : List Known) → Pointwise (StandsAs ts) vs ks → ks ≡ map (known ts) vs
   values_are [] [] h = refl
   values_are (v ∷ vs) (k ∷ ks) h = λ i. sym h.0.is i ∷ values_are vs ks h.1 i
   values_are [] (k ∷ ks) h = absurd h
   values_are (v ∷ vs) [] h = absurd h
 
-  resolves_is : (h : Shape Value) (k : Knowledge) → Alike (Stands ts) h k → k ≡ resolved ts h
+  resolves_is : (h : Shape Value) (k : Knowledge) → Alike (StandsAs ts) h k → k ≡ resolved ts h
   resolves_is h k a = λ i. record { entries = sees_is h.entries k.entries a.entries i; memo = recalls_is h.memo k.memo a.memo i }
 
   pub length_seen : (es : List (Entry Value)) → length (seen ts es) ≡ length es
@@ -68,19 +68,19 @@ module _ (ts : List (List ℕ)) where
   -- ---- moves
 
   module _ (m : Move) (n : ℕ) (h : Shape Value) (r : Resolves ts h) where
-    same : SameResult (Alike (Stands ts)) (moved m n h) (moved m n (resolved ts h))
-    same = moved_alike (Stands ts) m n h (resolved ts h) r
+    same : SameResult (Alike (StandsAs ts)) (moved m n h) (moved m n (resolved ts h))
+    same = moved_alike (StandsAs ts) m n h (resolved ts h) r
 
-    ok_same : (x : Result (Shape Value) Breach) (y : Result Knowledge Breach) (h' : Shape Value) → SameResult (Alike (Stands ts)) x y → x ≡ Ok h' → (y ≡ Ok (resolved ts h')) × Resolves ts h'
+    ok_same : (x : Result (Shape Value) Breach) (y : Result Knowledge Breach) (h' : Shape Value) → SameResult (Alike (StandsAs ts)) x y → x ≡ Ok h' → (y ≡ Ok (resolved ts h')) × Resolves ts h'
     ok_same (Ok a) (Ok b) h' s e =
         let e' : a ≡ h' = cc in
-        let s' = subst (λ z. Alike (Stands ts) z b) e' s in
+        let s' = subst (λ z. Alike (StandsAs ts) z b) e' s in
         let is = resolves_is h' b s' in
-        (ap Ok is, subst (λ z. Alike (Stands ts) h' z) is s')
+        (ap Ok is, subst (λ z. Alike (StandsAs ts) h' z) is s')
     ok_same (Err a) y h' s e = cc
     ok_same (Ok a) (Err b) h' s e = absurd s
 
-    err_same : (x : Result (Shape Value) Breach) (y : Result Knowledge Breach) (b : Breach) → SameResult (Alike (Stands ts)) x y → x ≡ Err b → y ≡ Err b
+    err_same : (x : Result (Shape Value) Breach) (y : Result Knowledge Breach) (b : Breach) → SameResult (Alike (StandsAs ts)) x y → x ≡ Err b → y ≡ Err b
     err_same (Err a) (Err c) b s e = let e' : a ≡ b = cc in ap Err (sym s ∙ e')
     err_same (Ok a) y b s e = cc
     err_same (Err a) (Ok c) b s e = absurd s
@@ -112,35 +112,35 @@ module _ (ts : List (List ℕ)) where
 
   -- what was taken, as it stands
   pub record IsTaken (t : Taken Value) : Type 0 where
-    pub operands : Pointwise (Stands ts) t.operands (map (known ts) t.operands)
+    pub operands : Pointwise (StandsAs ts) t.operands (map (known ts) t.operands)
     pub below : Sees ts t.below (seen ts t.below)
 
-  taken_same : (x : Result (Taken Value) Breach) (y : Result (Taken Known) Breach) (t : Taken Value) → SameResult (AlikeTaken (Stands ts)) x y → x ≡ Ok t → (y ≡ Ok (taken_seen t)) × IsTaken t
+  taken_same : (x : Result (Taken Value) Breach) (y : Result (Taken Known) Breach) (t : Taken Value) → SameResult (AlikeTaken (StandsAs ts)) x y → x ≡ Ok t → (y ≡ Ok (taken_seen t)) × IsTaken t
   taken_same (Ok a) (Ok b) t s e =
       let e' : a ≡ t = cc in
-      let s' = subst (λ z. AlikeTaken (Stands ts) z b) e' s in
+      let s' = subst (λ z. AlikeTaken (StandsAs ts) z b) e' s in
       let is = values_are t.operands b.operands s'.operands in
       let at = sees_is t.below b.below s'.below in (
         λ i. Ok (record { operands = is i; below = at i }),
-        record { operands = subst (λ z. Pointwise (Stands ts) t.operands z) is s'.operands; below = subst (λ z. Sees ts t.below z) at s'.below },
+        record { operands = subst (λ z. Pointwise (StandsAs ts) t.operands z) is s'.operands; below = subst (λ z. Sees ts t.below z) at s'.below },
       )
   taken_same (Err a) y t s e = cc
   taken_same (Ok a) (Err b) t s e = absurd s
 
-  taken_lack : (x : Result (Taken Value) Breach) (y : Result (Taken Known) Breach) (b : Breach) → SameResult (AlikeTaken (Stands ts)) x y → x ≡ Err b → y ≡ Err b
+  taken_lack : (x : Result (Taken Value) Breach) (y : Result (Taken Known) Breach) (b : Breach) → SameResult (AlikeTaken (StandsAs ts)) x y → x ≡ Err b → y ≡ Err b
   taken_lack (Err a) (Err c) b s e = let e' : a ≡ b = cc in ap Err (sym s ∙ e')
   taken_lack (Ok a) y b s e = cc
   taken_lack (Err a) (Ok c) b s e = absurd s
 
   module _ (takes : Takes) (es : List (Entry Value)) (h : Sees ts es (seen ts es)) where
     pub found_seen : (t : Taken Value) → operands takes es ≡ Ok t → operands takes (seen ts es) ≡ Ok (taken_seen t)
-    found_seen t e = (taken_same (operands takes es) (operands takes (seen ts es)) t (operands_alike (Stands ts) takes es (seen ts es) h) e).0
+    found_seen t e = (taken_same (operands takes es) (operands takes (seen ts es)) t (operands_alike (StandsAs ts) takes es (seen ts es) h) e).0
 
     pub found_is : (t : Taken Value) → operands takes es ≡ Ok t → IsTaken t
-    found_is t e = (taken_same (operands takes es) (operands takes (seen ts es)) t (operands_alike (Stands ts) takes es (seen ts es) h) e).1
+    found_is t e = (taken_same (operands takes es) (operands takes (seen ts es)) t (operands_alike (StandsAs ts) takes es (seen ts es) h) e).1
 
     pub found_lacks : (r : Reason) → IsLack (operands takes es) r → IsLack (operands takes (seen ts es)) r
-    found_lacks r (b, e, g) = (b, taken_lack (operands takes es) (operands takes (seen ts es)) b (operands_alike (Stands ts) takes es (seen ts es) h) e, g)
+    found_lacks r (b, e, g) = (b, taken_lack (operands takes es) (operands takes (seen ts es)) b (operands_alike (StandsAs ts) takes es (seen ts es) h) e, g)
 
   -- ---- the top
 
@@ -167,13 +167,13 @@ known_more ts more Unknown h = refl
 known_more ts more (Made c) h = refl
 known_more ts more (value.Text n) h = ap (λ t. Some (Text t)) (get_or-append ts more [] n h)
 
-stands_more : (ts more : List (List ℕ)) (v : Value) (k : Known) → Stands ts v k → Stands (ts ++ more) v k
+stands_more : (ts more : List (List ℕ)) (v : Value) (k : Known) → StandsAs ts v k → StandsAs (ts ++ more) v k
 stands_more ts more v k h = record {
   is = known_more ts more v h.numbered ∙ h.is;
   numbered = numbered_more (length ts) (length (ts ++ more)) v (omega (arith, length-append ts more)) h.numbered;
 }
 
-pub stands_new : (ts : List (List ℕ)) (t : List ℕ) → Stands (ts ++ t ∷ []) (value.Text (length ts)) (Some (Text t))
+pub stands_new : (ts : List (List ℕ)) (t : List ℕ) → StandsAs (ts ++ t ∷ []) (value.Text (length ts)) (Some (Text t))
 stands_new ts t = record {
   is = ap (λ u. Some (Text u)) (get_or-append_seam ts t [] []);
   numbered = omega (arith, length-append ts (t ∷ []));
@@ -181,33 +181,33 @@ stands_new ts t = record {
 
 -- ---- a table that grew
 
-module _ (ts us : List (List ℕ)) (g : Grows ts us) where
-  stands_grown : (v : Value) (k : Known) → Stands ts v k → Stands us v k
-  stands_grown v k h = subst (λ l. Stands l v k) (sym g.is) (stands_more ts g.more v k h)
+module _ (ts us : List (List ℕ)) (g : HasMoreTexts ts us) where
+  stands_grown : (v : Value) (k : Known) → StandsAs ts v k → StandsAs us v k
+  stands_grown v k h = subst (λ l. StandsAs l v k) (sym g.is) (stands_more ts g.more v k h)
 
   pub sees_grown : (es : List (Entry Value)) (ks : List (Entry Known)) → Sees ts es ks → Sees us es ks
-  sees_grown es ks h = Pointwise-map (AlikeEntry (Stands ts)) (AlikeEntry (Stands us)) es ks (AlikeEntry-map (Stands ts) (Stands us) stands_grown) h
+  sees_grown es ks h = Pointwise-map (AlikeEntry (StandsAs ts)) (AlikeEntry (StandsAs us)) es ks (AlikeEntry-map (StandsAs ts) (StandsAs us) stands_grown) h
 
-  module _ (cs : List (ℕ × Value)) (h : Pointwise (AlikeCell (Stands ts)) cs (remembered ts cs)) where
-    grown : Pointwise (AlikeCell (Stands us)) cs (remembered ts cs)
-    grown = Pointwise-map (AlikeCell (Stands ts)) (AlikeCell (Stands us)) cs (remembered ts cs) (λ c k e. (e.0, stands_grown c.1 k.1 e.1)) h
+  module _ (cs : List (ℕ × Value)) (h : Pointwise (AlikeCell (StandsAs ts)) cs (remembered ts cs)) where
+    grown : Pointwise (AlikeCell (StandsAs us)) cs (remembered ts cs)
+    grown = Pointwise-map (AlikeCell (StandsAs ts)) (AlikeCell (StandsAs us)) cs (remembered ts cs) (λ c k e. (e.0, stands_grown c.1 k.1 e.1)) h
 
     pub recalls_same : remembered ts cs ≡ remembered us cs
     recalls_same = recalls_is us cs (remembered ts cs) grown
 
-    pub recalls_grown : Pointwise (AlikeCell (Stands us)) cs (remembered us cs)
-    recalls_grown = subst (λ z. Pointwise (AlikeCell (Stands us)) cs z) recalls_same grown
+    pub recalls_grown : Pointwise (AlikeCell (StandsAs us)) cs (remembered us cs)
+    recalls_grown = subst (λ z. Pointwise (AlikeCell (StandsAs us)) cs z) recalls_same grown
 
   -- what an operation puts
   module _ (v : Option Value) (o : Option Known) (given : StandsIf us v o) (t : Taken Value) (is : IsTaken ts t) where
     put_by : (v : Option Value) (o : Option Known) → StandsIf us v o → Sees us (put v t.operands) (put o (map (known ts) t.operands))
-    put_by None None h = sees_grown _ _ (front_alike (Stands ts) t.operands (map (known ts) t.operands) is.operands)
+    put_by None None h = sees_grown _ _ (front_alike (StandsAs ts) t.operands (map (known ts) t.operands) is.operands)
     put_by (Some v) (Some k) h = (h, tt)
     put_by None (Some k) h = absurd h
     put_by (Some v) None h = absurd h
 
     puts : Sees us (put v t.operands ++ t.below) (put o (map (known ts) t.operands) ++ seen ts t.below)
-    puts = Pointwise-append (AlikeEntry (Stands us)) (put v t.operands) (put o (map (known ts) t.operands)) t.below (seen ts t.below) (put_by v o given) (sees_grown t.below (seen ts t.below) is.below)
+    puts = Pointwise-append (AlikeEntry (StandsAs us)) (put v t.operands) (put o (map (known ts) t.operands)) t.below (seen ts t.below) (put_by v o given) (sees_grown t.below (seen ts t.below) is.below)
 
     pub put_seen : seen us (put v t.operands ++ t.below) ≡ put o (map (known ts) t.operands) ++ seen ts t.below
     put_seen = sym (sees_is us (put v t.operands ++ t.below) (put o (map (known ts) t.operands) ++ seen ts t.below) puts)
@@ -227,7 +227,7 @@ module _ (ts : List (List ℕ)) (t : List ℕ) (es : List (Entry Value)) (h : Se
   pub text_sees : Sees (ts ++ t ∷ []) (Item (value.Text (length ts)) ∷ es) (seen (ts ++ t ∷ []) (Item (value.Text (length ts)) ∷ es))
   text_sees = sees_seen (ts ++ t ∷ []) (Item (value.Text (length ts)) ∷ es) (Item (Some (Text t)) ∷ seen ts es) text_on
 
-pub same_table : (ts : List (List ℕ)) → Grows ts ts
+pub same_table : (ts : List (List ℕ)) → HasMoreTexts ts ts
 same_table ts = record { more = []; is = sym (append-nil ts) }
 
 -- ---- an object on top
@@ -242,14 +242,24 @@ given_sees ts v None es h s = absurd h
 
 -- ---- an operation
 
-pub operate_resolves : {A E : Type 0} (x : Result A E) (l m : Noted) (es fs : List (Entry Value)) (cs : List (ℕ × Value)) → Resolves l.texts (record { entries = es; memo = cs }) → OnOk x (Sees m.texts fs (seen m.texts fs)) → OnOk x (Grows l.texts m.texts) → OnErr x ((fs ≡ es) × (m ≡ l)) → Resolves m.texts (record { entries = fs; memo = cs })
+pub operate_resolves : {A E : Type 0} (x : Result A E) (l m : Noted) (es fs : List (Entry Value))
+    (cs : List (ℕ × Value)) → Resolves l.texts (record { entries = es; memo = cs })
+    → OnOk x (Sees m.texts fs (seen m.texts fs)) → OnOk x (HasMoreTexts l.texts m.texts)
+    → OnErr x ((fs ≡ es) × (m ≡ l)) → Resolves m.texts (record { entries = fs; memo = cs })
 operate_resolves (Ok a) l m es fs cs r s g k = record { entries = s; memo = recalls_grown l.texts m.texts g cs r.memo }
 operate_resolves (Err e) l m es fs cs r s g k = rw (k.0, k.1) r
 
-pub remembered_on : {A E : Type 0} (x : Result A E) (ts us : List (List ℕ)) (cs : List (ℕ × Value)) (P : A → List (ℕ × Known) → Type 0) → Pointwise (AlikeCell (Stands ts)) cs (remembered ts cs) → OnOk x (Grows ts us) → IfOk x (λ a. P a (remembered ts cs)) → IfOk x (λ a. P a (remembered us cs))
+pub remembered_on : {A E : Type 0} (x : Result A E) (ts us : List (List ℕ)) (cs : List (ℕ × Value))
+    (P : A → List (ℕ × Known) → Type 0) → Pointwise (AlikeCell (StandsAs ts)) cs (remembered ts cs)
+    → OnOk x (HasMoreTexts ts us) → IfOk x (λ a. P a (remembered ts cs))
+    → IfOk x (λ a. P a (remembered us cs))
 remembered_on (Ok a) ts us cs P r g h = subst (λ m. P a m) (recalls_same ts us g cs r) h
 remembered_on (Err e) ts us cs P r g h = h
 
-pub item_learned : {A E : Type 0} (x : Result A E) (ts us : List (List ℕ)) (cs : List (ℕ × Value)) (es fs : List (Entry Value)) (v : Known) → Pointwise (AlikeCell (Stands ts)) cs (remembered ts cs) → OnOk x (Grows ts us) → OnOk x (seen us fs ≡ Item v ∷ seen ts es) → OnOk x (resolved us (record { entries = fs; memo = cs }) ≡ with_item v (resolved ts (record { entries = es; memo = cs })))
+pub item_learned : {A E : Type 0} (x : Result A E) (ts us : List (List ℕ)) (cs : List (ℕ × Value))
+    (es fs : List (Entry Value)) (v : Known) → Pointwise (AlikeCell (StandsAs ts)) cs
+    (remembered ts cs) → OnOk x (HasMoreTexts ts us) → OnOk x (seen us fs ≡ Item v ∷ seen ts es)
+    → OnOk x (resolved us (record { entries = fs; memo = cs }) ≡ with_item v
+    (resolved ts (record { entries = es; memo = cs })))
 item_learned (Ok a) ts us cs es fs v r g h = λ i. record { entries = h i; memo = sym (recalls_same ts us g cs r) i }
 item_learned (Err e) ts us cs es fs v r g h = h

@@ -1,6 +1,7 @@
 -- Whole runs, and a check.
 pub mod RunSteps
 pub mod Walk
+pub mod Ends
 pub mod Origins
 pub mod NextPickle
 pub mod Listed

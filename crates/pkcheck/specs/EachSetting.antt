@@ -5,8 +5,8 @@ use Rattle.pkcheck.specs.declared.old_strings.OldStrings.{OldStrings}
 use Rattle.pkcheck.specs.declared.old_strings.OldStrings.TheVariants.{Unknown}
 use Rattle.pkcheck.specs.WholeRuns.{Sound}
 
--- where all runs end well in which nothing is said of old strings, so do those of each setting: what
--- an old string becomes is one of the objects that it may have been
+-- if all runs end well while old strings may decode as anything, so do those of each setting: it
+-- picks one of the objects that an old string may have become
 abbrev pub SoundInEach : Type 0
 SoundInEach =
     (setting : OldStrings) (instructions : List Instruction) (list : List ℕ → List ℕ → Bool) →

@@ -1,19 +1,24 @@
 -- What is heard of a check: each instruction that was read whole and admitted, with its place and
 -- the marks that are open before it.
-use Rattle.std.specs.Prelude.{◌≡◌, ⊤, ℕ, List, [], ◌∷◌, ◌++◌, length, Result, Ok, Err, Option}
+use Rattle.std.specs.Prelude.{◌≡◌, ⊤, ℕ, List, [], ◌∷◌, ◌++◌, length, map, All}
+use Rattle.std.specs.Prelude.{Result, Ok, Err, Option}
 use Rattle.pkops.specs.Limits.{Bounds}
+use Rattle.pkops.specs.Payloads.{payload_limit}
 use Rattle.pkops.specs.Spelling.{Instruction}
-use Rattle.pkread.specs.Rows.{Sight}
-use Rattle.pkread.specs.Sequence.{spellings}
-use Rattle.pkread.specs.declared.refusal.Reason.{Reason}
+use Rattle.pkread.specs.Admission.{IsAllowedBy}
+use Rattle.pkread.specs.Framing.{Framed}
+use Rattle.pkread.specs.Pieces.{piece_of}
+use Rattle.pkread.specs.Rows.{Sight, Takes}
+use Rattle.pkread.specs.Sequence.{NoStop, spellings}
+use Rattle.pkread.specs.declared.Reason.{Reason}
 use Rattle.pkcheck.specs.Answered.{IsRightAnswer}
 use Rattle.pkcheck.specs.Faults.{InEachRun}
 use Rattle.pkcheck.specs.declared.old_strings.OldStrings.{OldStrings}
 use Rattle.pkcheck.specs.declared.old_strings.OldStrings.TheVariants.{Unknown}
 use Rattle.pkcheck.specs.Knowledge.{Policy, Asked}
 use Rattle.pkcheck.specs.Refused.{Why, reading, judging, growing}
-use Rattle.pkcheck.specs.RowRuns.{Beginning}
-use Rattle.pkcheck.specs.RunFaults.{RunsBehind}
+use Rattle.pkcheck.specs.RowRuns.{Afresh, Beginning}
+use Rattle.pkcheck.specs.RunFaults.{IsFaultless, RunsBehind}
 use Rattle.pkcheck.specs.Shape.{marks_of}
 use Rattle.pkcheck.specs.declared.checking.Yes.{Yes}
 use Rattle.pkcheck.specs.declared.checking.No.{No}
@@ -66,3 +71,21 @@ pub record IsRightAndHeard (policy : Policy) (limits : Bounds) (old new : Sight)
     (answer : Result Yes No) (hs : List Heard) : Type 0 where
   pub right : IsRightAnswer Unknown policy limits old new answer
   pub each : AreHeardBehind [] (instructions_of policy limits old new answer right) hs
+
+-- the listener's own error ended the check: these were heard, and the listener failed at one more
+-- instruction, which was read whole and is admitted
+pub record IsCutShort (policy : Policy) (limits : Bounds) (old new : Sight) (hs : List Heard)
+    : Type 0 where
+  -- there are instructions before it, none of which is STOP: each is good, admitted and within the
+  -- limit of its opcode, and so is the one at which the listener failed
+  pub before : List Instruction
+  pub instruction : Instruction
+  pub goes_on : NoStop before
+  pub admitted : All (IsAllowedBy (payload_limit limits)) (before ++ instruction ∷ [])
+  -- exactly the bytes that spell them were taken
+  pub bytes : Takes old new (spellings (before ++ instruction ∷ []))
+  -- each of those before lies whole within its frame, and none has a fault
+  pub framed : Framed (map piece_of before)
+  pub faultless : IsFaultless Unknown Afresh policy limits before
+  -- those before were heard, in order, and nothing else
+  pub each : AreHeardBehind [] before hs

@@ -1,14 +1,15 @@
 -- What an answer of `check_all` says of pickles that stand one after the other in a source.
-use Rattle.std.specs.Prelude.{◌≡◌, ◌≢◌, ◌<◌, ℕ, List, [], ◌∷◌, ◌++◌, length, flat_map, All, Option, Some, Result, MatchResult, option_map}
+use Rattle.std.specs.Prelude.{◌≡◌, ◌≢◌, ◌<◌, ℕ, List, [], ◌∷◌, ◌++◌, length, flat_map, All, Option}
+use Rattle.std.specs.Prelude.{Some, Result, MatchResult, option_map}
 use Rattle.std.specs.Io.KnownBytes.{IsAtEnd}
 use Rattle.pkops.specs.Limits.{Bounds}
 use Rattle.pkops.specs.Payloads.{payload_limit}
 use Rattle.pkops.specs.Spelling.{Instruction}
-use Rattle.pkops.specs.declared.op.Op.{Op}
+use Rattle.pkops.specs.declared.Op.{Op}
 use Rattle.pkread.specs.Rows.{Sight, Takes, all_bytes}
 use Rattle.pkread.specs.Sequence.{CountsAt, IsSequence, spellings}
-use Rattle.pkread.specs.declared.refusal.Reason.{Reason}
-use Rattle.pkread.specs.declared.refusal.Reason.TheVariants.{Truncated}
+use Rattle.pkread.specs.declared.Reason.{Reason}
+use Rattle.pkread.specs.declared.Reason.TheVariants.{Truncated}
 use Rattle.pkcheck.specs.declared.loading.Loading.{Loading}
 use Rattle.pkcheck.specs.declared.loading.Memo.{Memo}
 use Rattle.pkcheck.specs.declared.loading.Memo.TheVariants.{Fresh, Kept}
@@ -16,7 +17,7 @@ use Rattle.pkcheck.specs.Accepted.{AcceptedFrom}
 use Rattle.pkcheck.specs.Import.{asked_shown}
 use Rattle.pkcheck.specs.Knowledge.{Policy, Asked}
 use Rattle.pkcheck.specs.Refused.{RefusedFrom}
-use Rattle.pkcheck.specs.RowRuns.{Beginning, Afresh, Behind, Pickle, imports_of, sequences_of}
+use Rattle.pkcheck.specs.RowRuns.{Beginning, Afresh, Behind, Pickle, imports_of_all, sequences_of}
 use Rattle.pkcheck.specs.declared.row_of_pickles.YesAll.{YesAll}
 use Rattle.pkcheck.specs.declared.row_of_pickles.NoAll.{NoAll}
 
@@ -28,8 +29,8 @@ pub record IsRow (limit : Op → ℕ) (sequences : List (List Instruction)) (byt
   pub spelled : bytes ≡ flat_map spellings sequences
 
 -- the bytes of all
-abbrev pub bytes_of : List Pickle → List ℕ
-bytes_of pickles = flat_map spellings (sequences_of pickles)
+abbrev pub bytes_of_all : List Pickle → List ℕ
+bytes_of_all pickles = flat_map spellings (sequences_of pickles)
 
 -- where the runs of the pickle behind these begin
 abbrev pub begins : Memo → List Pickle → Beginning
@@ -38,8 +39,9 @@ begins Kept before = Behind before
 
 -- what `check` says of an accepted pickle holds of this one behind those before it, with these
 -- instructions and imports
-abbrev pub IsAccepted : Loading → Policy → Bounds → Sight → Sight → List Pickle → Pickle → Type 0
-IsAccepted loading policy limits old new before pickle =
+abbrev pub IsAcceptedBehind : Loading → Policy → Bounds → Sight → Sight → List Pickle → Pickle
+    → Type 0
+IsAcceptedBehind loading policy limits old new before pickle =
     (accepted : AcceptedFrom loading.old_strings (begins loading.memo before) policy limits old new
     (length (spellings pickle.instructions)) pickle.imports)
     × (accepted.instructions ≡ pickle.instructions)
@@ -49,7 +51,7 @@ abbrev pub AreAccepted :
     Loading → Policy → Bounds → Sight → Sight → List Pickle → List Pickle → Type 0
 AreAccepted loading policy limits old new before [] = Takes old new []
 AreAccepted loading policy limits old new before (pickle ∷ pickles) =
-    (between : Sight) × IsAccepted loading policy limits old between before pickle
+    (between : Sight) × IsAcceptedBehind loading policy limits old between before pickle
     × AreAccepted loading policy limits between new (before ++ pickle ∷ []) pickles
 
 -- a row was accepted, of `taken` bytes and so many pickles, with these imports
@@ -58,15 +60,15 @@ pub record AcceptedRow (loading : Loading) (policy : Policy) (limits : Bounds) (
   pub row : List Pickle
   -- the source has come to its end, and a row is all that it had
   pub ends : IsAtEnd new.left
-  pub is_row : IsRow (payload_limit limits) (sequences_of row) (bytes_of row)
-  pub bytes : Takes old new (bytes_of row)
-  pub count : taken ≡ length (bytes_of row)
+  pub is_row : IsRow (payload_limit limits) (sequences_of row) (bytes_of_all row)
+  pub bytes : Takes old new (bytes_of_all row)
+  pub count : taken ≡ length (bytes_of_all row)
   -- a further byte could still be asked for: where none can be, the answer is TooLarge
   pub within : taken < all_bytes
   pub number : pickles ≡ length row
   -- each pickle of it is accepted, and the imports are theirs, in order
   pub each : AreAccepted loading policy limits old new [] row
-  pub listed : imports ≡ imports_of row
+  pub listed : imports ≡ imports_of_all row
 
 -- a byte is left, where the source tells what is left
 abbrev pub HasMore : Sight → Type 0
@@ -80,7 +82,7 @@ pub record RefusedInRow (loading : Loading) (policy : Policy) (limits : Bounds) 
   -- where the source was as it is seen here, they had been taken
   pub here : Sight
   pub each : AreAccepted loading policy limits old here [] before
-  pub refused : RefusedFrom (length (bytes_of before)) loading.old_strings
+  pub refused : RefusedFrom (length (bytes_of_all before)) loading.old_strings
       (begins loading.memo before) policy limits here new at reason pair
   -- where the source ended, a further byte stands behind those before: a row that ends there is
   -- accepted

@@ -17,8 +17,8 @@ abbrev pub sequences_of : List Pickle → List (List Instruction)
 sequences_of pickles = map (λ pickle. pickle.instructions) pickles
 
 -- the imports of all, in order
-abbrev pub imports_of : List Pickle → List Asked
-imports_of pickles = flat_map (λ pickle. pickle.imports) pickles
+abbrev pub imports_of_all : List Pickle → List Asked
+imports_of_all pickles = flat_map (λ pickle. pickle.imports) pickles
 
 -- where a pickle stopped, the next begins with the stack empty, and with the memo, the objects and
 -- the events as they are. One that raised or was stuck ends the row
@@ -78,4 +78,4 @@ InEachRunFrom setting (Behind pickles) instructions Holds =
 -- the imports that were listed before
 abbrev pub listed_before : Beginning → List Asked
 listed_before Afresh = []
-listed_before (Behind pickles) = imports_of pickles
+listed_before (Behind pickles) = imports_of_all pickles

@@ -1,13 +1,15 @@
 -- What one step of the machine does.
-use Rattle.std.specs.Prelude.{◌≡◌, ◌≢◌, ◌++◌, [], ◌∷◌, ◌⊎◌, ⊤, true, List, Option, Some, None, Result, Ok, Err, IfOk, IfErr, IfSome, OnOk}
+use Rattle.std.specs.Prelude.{◌≡◌, ◌≢◌, ◌++◌, [], ◌∷◌, ◌⊎◌, ⊤, true, List, Option, Some, None}
+use Rattle.std.specs.Prelude.{Result, Ok, Err, IfOk, IfErr, IfSome, OnOk}
 use Rattle.pkops.specs.Spelling.{Instruction}
-use Rattle.pkread.specs.declared.refusal.Reason.{Reason}
-use Rattle.pkread.specs.declared.refusal.Reason.TheVariants.{OutOfMemory}
+use Rattle.pkread.specs.declared.Reason.{Reason}
+use Rattle.pkread.specs.declared.Reason.TheVariants.{OutOfMemory}
 use Rattle.pkcheck.specs.declared.machine.stepping.Moved.{Moved}
 use Rattle.pkcheck.specs.declared.old_strings.OldStrings.{OldStrings}
 use Rattle.pkcheck.specs.Effects.{effect_as}
 use Rattle.pkcheck.specs.Runs.{State, Outcome, AnswersCanBe, CanCome, step_as}
-use Rattle.pkcheck.specs.Knowledge.{Policy, Asked, AskedPair, AskedUnknown, Knowledge, Progress, Refusal, reason_of, advance}
+use Rattle.pkcheck.specs.Knowledge.{Policy, Asked, AskedPair, AskedUnknown, Knowledge, Progress}
+use Rattle.pkcheck.specs.Knowledge.{Refusal, reason_of, advance}
 use Rattle.pkcheck.specs.Covers.{Covers, Follows}
 use Rattle.pkcheck.specs.Faults.{Arrivals, AsksForTwo, HasNoFault, IsFirstFault}
 use Rattle.pkcheck.specs.Import.{asks_more}
@@ -15,8 +17,8 @@ use Rattle.pkcheck.specs.Memory.{WantsNoMemory}
 use Rattle.pkcheck.specs.View.{View, moved_as, stopped_by, texts_after, off_pair}
 
 -- a machine that refused before answers the same reason, and stays as it is
-abbrev pub AnswersAgain : View → View → Result Moved Reason → Type 0
-AnswersAgain before after answer =
+abbrev pub AnswersAsBefore : View → View → Result Moved Reason → Type 0
+AnswersAsBefore before after answer =
     IfSome before.refused (λ reason. (answer ≡ Err reason) × (after ≡ before))
 
 -- this holds of the reason where a machine refuses that had not refused before
@@ -67,8 +69,8 @@ module _ (policy : Policy) (instruction : Instruction) (before after : View) whe
       × (moved ≡ moved_as (effect_as before.old_strings instruction) progress.import)
 
   -- the instruction is refused for this reason, which changes nothing else
-  abbrev pub Refuses : Reason → Type 0
-  Refuses reason =
+  abbrev pub RefusesStep : Reason → Type 0
+  RefusesStep reason =
       (refusal : Refusal)
       × (advance before.old_strings policy before.limits instruction before.knowledge ≡ Err refusal)
       × (reason ≡ reason_of refusal)
@@ -76,15 +78,15 @@ module _ (policy : Policy) (instruction : Instruction) (before after : View) whe
 
   -- there is no memory for the step, which changes nothing else. Of some opcodes the step wants
   -- none
-  abbrev pub LacksMemory : Reason → Type 0
-  LacksMemory reason =
+  abbrev pub StepWantsMemory : Reason → Type 0
+  StepWantsMemory reason =
       (¬ WantsNoMemory instruction.op)
       × (reason ≡ OutOfMemory)
       × (after ≡ record before { refused = Some reason; off = None })
 
   -- the one or the other
-  abbrev pub Fails : Reason → Type 0
-  Fails reason = Refuses reason ⊎ LacksMemory reason
+  abbrev pub FailsStep : Reason → Type 0
+  FailsStep reason = RefusesStep reason ⊎ StepWantsMemory reason
 
   -- what going on means in a state that is covered: the step finds what it needs, an import there
   -- is the one appended, STOP takes the one object that is there, and the state after is covered
@@ -127,13 +129,13 @@ module _ (policy : Policy) (instruction : Instruction) (before after : View) whe
 -- all that is said of a step over an instruction: what each of these means stands beside it
 pub record IsStep (policy : Policy) (instruction : Instruction) (before after : View)
     (answer : Result Moved Reason) : Type 0 where
-  pub again : AnswersAgain before after answer
+  pub again : AnswersAsBefore before after answer
   pub goes_on : IfOk answer (GoesOn policy instruction before after)
   pub covered : OnOk answer (MeansInEachRun policy instruction before after)
   pub permitted : OnOk answer (AppendsPermitted policy before.imports after.imports)
   pub no_fault : OnOk answer (PassesNoFault policy instruction before after)
   pub unknown : OnOk answer (UnknownIsNeeded policy instruction before after)
-  pub fails : IfFirst before answer (Fails policy instruction before after)
+  pub fails : IfFirst before answer (FailsStep policy instruction before after)
   pub alarm : IfFirst before answer (IsNoFalseAlarm policy instruction before after)
   pub memory : IfFirst before answer (MayLackMemory policy instruction before after)
   pub kept : IfErr answer (RefusesForGood before after)

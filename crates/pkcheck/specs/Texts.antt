@@ -1,10 +1,10 @@
 -- The texts that the machine keeps, one for each instruction that made one.
 use Rattle.std.specs.Prelude.{ℕ, suc, Bool, true, false, ◌||◌, if◌then◌else◌}
-use Rattle.pkops.specs.declared.op.Op.{Op}
+use Rattle.pkops.specs.declared.Op.{Op}
 use Rattle.pkcheck.specs.Effects.{is_old_string}
 use Rattle.pkcheck.specs.declared.old_strings.OldStrings.{OldStrings}
 use Rattle.pkcheck.specs.declared.old_strings.OldStrings.TheVariants.{Ascii}
-use Rattle.pkops.specs.declared.op.Op.TheVariants as op
+use Rattle.pkops.specs.declared.Op.TheVariants as op
 
 -- whether the opcode makes a text (the notes of `UNICODE` and its binary forms in CPython's
 -- `pickletools`)

@@ -1,11 +1,11 @@
 -- The machine as contracts see it.
 use Rattle.std.specs.Prelude.{ℕ, suc, Bool, true, false, List, [], Option, Some, None}
 use Rattle.pkops.specs.Limits.{Bounds}
-use Rattle.pkread.specs.declared.refusal.Reason.{Reason}
-use Rattle.pkread.specs.declared.refusal.Reason.TheVariants.{ImportOffList}
+use Rattle.pkread.specs.declared.Reason.{Reason}
+use Rattle.pkread.specs.declared.Reason.TheVariants.{ImportOffList}
 use Rattle.pkcheck.specs.Effects.{Effect, Operates, Stops}
-use Rattle.pkcheck.specs.declared.machine.effects.Gives.{Gives}
-use Rattle.pkcheck.specs.declared.machine.effects.Gives.TheVariants.{MakesText}
+use Rattle.pkcheck.specs.declared.effect.Gives.{Gives}
+use Rattle.pkcheck.specs.declared.effect.Gives.TheVariants.{MakesText}
 use Rattle.pkcheck.specs.declared.old_strings.OldStrings.{OldStrings}
 use Rattle.pkcheck.specs.declared.machine.stepping.Moved.{Moved}
 use Rattle.pkcheck.specs.declared.machine.stepping.Moved.TheVariants.{On, Import, Stopped}

@@ -5,15 +5,15 @@ ghost use Rattle.pkcheck.specs.Private.Noted.{AreNumbered, IsNamed, IsNamedIf, n
 ghost use Rattle.pkcheck.specs.Knowledge.{AskedPair, asked_of, operands_asked, NotText};
 ghost use Rattle.pkops.specs.Operands.{pair_named};
 ghost use Rattle.pkops.specs.Spelling.{Instruction};
-ghost use Rattle.pkcheck.specs.Import.{asked_shown};
+ghost use Rattle.pkcheck.specs.Import.{asked_shown, import_shown};
 
-use crate::machine::effects::Names;
+use crate::effect::Names;
 use crate::machine::stack::Operands;
 use crate::machine::value::Value;
 use pkread::Reason;
-use std::alloc::Global;
+use std::alloc::{AllocError, Global};
 
-/// The pair of an import, or that it is not known.
+/// An import that owns its names.
 #[derive(Debug, Drop, PartialEq, Eq)]
 pub enum Asked {
     /// A pair, as the pickle writes it.
@@ -27,7 +27,7 @@ pub enum Asked {
     Unknown,
 }
 
-/// The same, lent by what lists the import.
+/// An import that borrows its names.
 #[derive(Clone, Copy, Debug, PartialEq, Eq)]
 pub enum Import<'a> {
     /// A pair, as the pickle writes it.
@@ -39,6 +39,22 @@ pub enum Import<'a> {
     },
     /// A pair that the pickle does not show.
     Unknown,
+}
+
+impl<'a> Import<'a> {
+    /// Copies the names.
+    ///
+    /// # Errors
+    ///
+    /// An allocation was refused.
+    pub fn to_asked(self, alloc: Global) -> Result<Asked, AllocError>
+        ensures { IfOk result (λ asked. asked_shown asked ≡ import_shown self.entry) }
+    {
+        match self {
+            Import::Pair { module, name } => pair_of(alloc, module, name),
+            Import::Unknown => Ok(Asked::Unknown),
+        }
+    }
 }
 
 /// What a step names.
@@ -53,9 +69,8 @@ pub enum Named<'a> {
 }
 
 /// A pair of these names.
-pub fn pair_of(alloc: Global, module_name: &str, name: &str) -> Result<Asked, Reason>
-    ensures ok { IfOk result (λ a. asked_shown a ≡ AskedPair module_name.now name.now) }
-    ensures err { IfErr result (λ r. r ≡ Reason.OutOfMemory) }
+pub fn pair_of(alloc: Global, module_name: &str, name: &str) -> Result<Asked, AllocError>
+    ensures { IfOk result (λ a. asked_shown a ≡ AskedPair module_name.now name.now) }
 {
     let first = String::from_str(alloc, module_name)?;
     let second = String::from_str(alloc, name)?;

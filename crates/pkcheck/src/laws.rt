@@ -1,19 +1,23 @@
-//! Laws of the definitions. Nothing is computed: each function is proved to keep what it says.
+//! Laws of the definitions. Each is the contract of a function that does nothing.
 
+ghost use Rattle.pkcheck.specs.ButForLimits.{RefusedForLimits};
 ghost use Rattle.pkcheck.specs.EachSetting.{SoundInEach};
+ghost use Rattle.pkcheck.specs.Ends.{ListedCarriesOver, SameAcross, SameAsItself, SameEitherWay};
+ghost use Rattle.pkcheck.specs.Ends.{SameEvents, WellCarriesOver, WellIsFree};
 ghost use Rattle.pkcheck.specs.Exclusive.{YesExcludesNo};
 ghost use Rattle.pkcheck.specs.Pairs.{HalvingIsRight};
 
 use pkops::laws::{growth, one_answer};
 use pkread::laws::one_sequence;
 
-/// Halving finds no pair that an array hasn't, and where the pairs are in order each that it has.
+/// A binary search finds only pairs that the array has, and finds all of them if the array is
+/// sorted.
 pub fn halving()
     ensures { HalvingIsRight }
 {}
 
-/// A pickle that is accepted isn't refused under the same policy, limits and setting, but for want
-/// of memory or for a read that failed.
+/// An accepted pickle is not refused under the same policy, limits and setting, except for a
+/// refused allocation or a failed read.
 #[inline]
 pub fn yes_excludes_no()
     ensures { YesExcludesNo }
@@ -23,9 +27,34 @@ pub fn yes_excludes_no()
     one_sequence();
 }
 
-/// A pickle all of whose runs end well where nothing is said of old strings ends well under each
-/// setting of them.
+/// Bytes that begin with a sequence whose only faults are passed limits are refused for nothing but
+/// a passed limit, a refused allocation or a failed read.
+#[inline]
+pub fn refused_for_limits()
+    ensures { RefusedForLimits }
+{
+    growth();
+    one_answer();
+    one_sequence();
+}
+
+/// If all runs of a pickle end well when Python 2 strings may decode as anything, they end well
+/// under each setting of `old_strings`.
 #[inline]
 pub fn sound_in_each()
     ensures { SoundInEach }
+{}
+
+/// `SameEnd` is an equivalence on ends that aren't stuck. Runs with the same end have equal events;
+/// if one ends well, or has all its imports listed, so does the other. A run that ends well isn't
+/// stuck.
+#[inline]
+pub fn same_ends()
+    ensures itself { SameAsItself }
+    ensures either_way { SameEitherWay }
+    ensures across { SameAcross }
+    ensures events { SameEvents }
+    ensures free { WellIsFree }
+    ensures well { WellCarriesOver }
+    ensures listed { ListedCarriesOver }
 {}

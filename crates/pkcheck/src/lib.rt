@@ -1,10 +1,12 @@
-//! Which imports a pickle makes, and whether a pickle can go wrong, over all that its operations
-//! may answer.
+//! Decides which imports a pickle makes, and whether it can go wrong, whatever its operations may
+//! answer.
 #![tactic(auto)]
 
 mod allow;
 mod checking;
+pub mod effect;
 mod import;
+mod import_list;
 mod imports;
 pub mod laws;
 mod listening;
@@ -14,10 +16,13 @@ mod old_strings;
 mod pairs;
 mod policy;
 mod row_of_pickles;
+mod same;
+mod session;
 
 pub use allow::{Allow, AllowError, Where};
 pub use checking::{No, Yes, check, check_as};
 pub use import::{Asked, Import};
+pub use import_list::{ImportIter, ImportList};
 pub use imports::Imports;
 pub use listening::{Listener, check_heard};
 pub use loading::{Loading, Memo};

@@ -1,33 +1,34 @@
-//! A check with a listener, which hears of each instruction on the way to the answer.
+//! A check with a listener, which hears each instruction on the way to the answer.
 
-ghost use Rattle.std.specs.Prelude.{◌≡◌, ◌∷◌, ◌++◌, [], List, IfOk, MatchResult, OnOk, Result};
+ghost use Rattle.std.specs.Prelude.{◌≡◌, ◌∷◌, ◌++◌, [], List, Result};
+ghost use Rattle.std.specs.Prelude.{IfErr, IfOk, MatchResult, OnOk};
 ghost use Rattle.pkops.specs.Inst.{instruction_of};
 ghost use Rattle.pkops.specs.Limits.{holding_all};
 ghost use Rattle.pkread.specs.Rows.{sight};
 ghost use Rattle.pkcheck.specs.Answered.{CountsFailures};
-ghost use Rattle.pkcheck.specs.Heard.{Heard, IsRightAndHeard, heard};
+ghost use Rattle.pkcheck.specs.Heard.{Heard, IsCutShort, IsRightAndHeard, heard};
 ghost use Rattle.pkcheck.specs.Import.{policy_of};
 
 use crate::checking::{No, Yes};
-use crate::machine::Machine;
-use crate::machine::in_frames::judge;
+use crate::old_strings::OldStrings;
 use crate::policy::Policy;
+use crate::session::Session;
 use pkops::{Inst, Limits};
 use pkread::laws::{frames, nexts};
-use pkread::{Frames, Next, Reader, Source};
+use pkread::{Next, Reader, Source};
 use std::alloc::Global;
 
-/// Hears of the instructions of a pickle while it is checked.
+/// Hears the instructions of a pickle while it is checked.
 pub trait Listener {
-    /// Why it hears no further.
+    /// Why the listener stops.
     type Error;
 
     // From the first of the two to the second, exactly these were heard, in order.
     ghost hears: { Self → Self → List Heard → Type 0 };
 
-    /// Hears of an instruction that was read whole and is admitted, before it is judged: the
-    /// offset of its first byte, counted from the first byte taken, and the number of marks that
-    /// are open before it, which is the same in every run.
+    /// Hears an admitted instruction before it is judged: the offset of its first byte, counted
+    /// from the first byte taken, and the number of marks open before it, which is the same in
+    /// every run.
     fn hear(&mut self, at: u64, inst: &Inst<'_>, marks: usize) -> Result<(), Self::Error>
         ensures { OnOk result (hears self.old self.new
             (heard at (instruction_of inst.now) marks ∷ [])) };
@@ -39,13 +40,13 @@ pub trait Listener {
 }
 
 /// Checks the pickle at the front of a source, as [`check`](crate::check) does, while a listener
-/// hears of each of its instructions, in order: of those that are accepted, and of the one that is
-/// refused where it was read whole and is admitted. It holds each payload, so `counted` is the
-/// limit on all of them.
+/// hears its instructions in order: those that are accepted, and the refused one if it was read
+/// completely and is admitted. It holds each payload, so `counted` is the limit on all of them.
 ///
 /// # Errors
 ///
-/// The listener's own, which ends the check.
+/// The listener's, which ends the check. It had heard every earlier instruction, none of which is
+/// refused, and exactly the bytes of these and of the one at which it failed were taken.
 pub fn check_heard<R: Source, L: Listener>(
     alloc: Global,
     source: &mut R,
@@ -57,6 +58,10 @@ pub fn check_heard<R: Source, L: Listener>(
         × IsRightAndHeard (policy_of policy.now) (holding_all limits.now)
         (sight R.left R.failures source.old) (sight R.left R.failures source.new) answer hs
         × L.hears listener.old listener.new hs) }
+    ensures cut_short { IfErr result (λ _. (hs : List Heard) × (between : L)
+        × IsCutShort (policy_of policy.now) (holding_all limits.now)
+        (sight R.left R.failures source.old) (sight R.left R.failures source.new) hs
+        × L.hears listener.old between hs) }
     ensures count { MatchResult result
         (CountsFailures (R.failures source.old) (R.failures source.new))
         (λ _. R.failures source.new ≡ R.failures source.old) }
@@ -65,31 +70,20 @@ pub fn check_heard<R: Source, L: Listener>(
     frames();
     let limits = limits.holding_all();
     let mut reader = Reader::new(alloc, source, &limits);
-    let mut frames = Frames::new();
-    let mut machine = Machine::new(alloc, &limits);
+    let mut session = Session::new(alloc, &limits, OldStrings::Unknown);
     'instructions: loop {
         match reader.next() {
-            Err(refusal) => {
-                return Ok(Err(No {
-                    at: refusal.at,
-                    reason: refusal.reason,
-                    pair: None,
-                }));
-            }
+            Err(refusal) => return Ok(Err(session.refuse(refusal.at, refusal.reason))),
             Ok(Next::Ended) => {
                 return Ok(Ok(Yes {
                     taken: reader.taken(),
-                    imports: machine.into_imports(),
+                    imports: session.into_imports(),
                 }));
             }
             Ok(Next::Inst { at, inst }) => {
-                listener.hear(at, &inst, machine.marks())?;
-                if let Err(reason) = judge(&mut frames, &mut machine, &inst, policy) {
-                    return Ok(Err(No {
-                        at,
-                        reason,
-                        pair: machine.into_off_list(),
-                    }));
+                listener.hear(at, &inst, session.marks())?;
+                if let Err(reason) = session.judge(&inst, policy) {
+                    return Ok(Err(session.refuse(at, reason)));
                 }
             }
         }

@@ -1,8 +1,7 @@
-//! The machine that knows what every run knows, and runs nothing.
+//! The symbolic machine, which knows what holds in every run and executes nothing.
 
 pub(crate) mod effects;
 mod held;
-pub(crate) mod in_frames;
 pub(crate) mod ledger;
 mod memo;
 mod moves;
@@ -16,8 +15,7 @@ pub(crate) mod texts;
 pub(crate) mod value;
 
 ghost use Rattle.std.specs.Prelude.{◌≡◌, option_map, is_some, IfOk, IfErr, IsTrue};
-ghost use Rattle.std.specs.Prelude.{None, false, true, OnOk};
-ghost use Rattle.std.specs.List.{slice_get};
+ghost use Rattle.std.specs.Prelude.{None, false, true, OnErr, OnOk};
 ghost use Rattle.pkcheck.specs.declared.old_strings.OldStrings.TheVariants as OldStrings;
 ghost use Rattle.pkops.specs.Inst.{instruction_of};
 ghost use Rattle.pkops.specs.Admitted.{is_admitted};
@@ -25,16 +23,18 @@ ghost use Rattle.pkops.specs.Spelling.{Instruction};
 ghost use Rattle.pkcheck.specs.Shape.{marks_of};
 ghost use Rattle.pkcheck.specs.Runs.{State, start};
 ghost use Rattle.pkcheck.specs.Covers.{Covers};
-ghost use Rattle.pkcheck.specs.Import.{asked_shown, import_shown, policy_of, pair_shown};
+ghost use Rattle.pkcheck.specs.Import.{asked_shown, policy_of, pair_shown};
 ghost use Rattle.pkcheck.specs.Private.NextPickle.{moved_apart, restarted};
 ghost use Rattle.pkops.specs.Payloads.{is_passed};
-ghost use Rattle.pkcheck.specs.Stepping.{AnswersAgain, AppendsPermitted, Fails, GoesOn, IfFirst};
+ghost use Rattle.pkcheck.specs.Stepping.{AnswersAsBefore, AppendsPermitted, FailsStep, GoesOn};
+ghost use Rattle.pkcheck.specs.Stepping.{IfFirst};
 ghost use Rattle.pkcheck.specs.Stepping.{IsNoFalseAlarm, IsStep, MayLackMemory, MeansInEachRun};
 ghost use Rattle.pkcheck.specs.Stepping.{PassesNoFault, RefusesForGood, UnknownIsNeeded};
 ghost use Rattle.pkcheck.specs.Texts.{texts_then};
 ghost use Rattle.pkcheck.specs.View.{fresh, has_off_list, stopped_by};
 
-use crate::import::{Asked, Import};
+use crate::import::Asked;
+use crate::import_list::ImportList;
 use crate::imports::Imports;
 use crate::loading::Memo;
 use crate::machine::effects::class_passed;
@@ -49,9 +49,9 @@ use std::alloc::{AllocError, Global};
 use std::marker::Model;
 pub use stepping::Moved;
 
-/// A machine that goes over the instructions of a pickle and knows what is true in every run of it,
-/// whatever the operations in it answer. It runs nothing: of an object that an operation answers it
-/// knows nothing, of every other the class, and of a text its characters.
+/// A machine that follows the instructions of a pickle and knows what is true in every run of it,
+/// whatever its operations answer. It executes nothing. It knows nothing about objects that
+/// operations answer, the class of every other object, and the characters of a text.
 #[derive(Drop)]
 pub struct Machine {
     alloc: Global,
@@ -70,7 +70,7 @@ impl Model for Machine {
 
     ghost use Rattle.std.specs.Prelude.{◌≡◌, None, is_some, length, option_map};
     ghost use Rattle.pkcheck.specs.Import.{asked_shown, pair_shown};
-    ghost use Rattle.pkcheck.specs.Private.Denials.{IsWithin};
+    ghost use Rattle.pkcheck.specs.Private.Denials.{FitsLimits};
     ghost use Rattle.pkcheck.specs.View.{has_off_list};
 
     ghost view = { λ m. record {
@@ -84,16 +84,16 @@ impl Model for Machine {
       texts = m.held.texts;
     } };
 
-    // a machine that has not refused is within its limits and puts no pair aside, and one names a
-    // pair exactly where it was off the list
-    ghost invariant = { λ m. (m.refused ≡ None → IsWithin m.limits m.held.knowledge)
+    // a machine that has not refused is within its limits and holds no pair back; one that has
+    // refused holds a pair exactly if it was off the list
+    ghost invariant = { λ m. (m.refused ≡ None → FitsLimits m.limits m.held.knowledge)
         × (m.refused ≡ None → m.off ≡ None)
         × (is_some (pair_shown (option_map asked_shown m.off)) ≡ has_off_list m.refused) };
 }
 
 impl Machine {
-    /// A machine at the first instruction, where nothing is said of old strings: nothing is known,
-    /// and nothing is there. It takes no memory.
+    /// A machine at the first instruction, with an empty stack and memo, under which Python 2
+    /// strings may decode as anything. It allocates nothing.
     pub fn new(alloc: Global, limits: &Limits) -> Machine
         ensures fresh { result ≡ fresh OldStrings.Unknown limits.now }
         ensures covers { Covers result.knowledge start }
@@ -101,7 +101,7 @@ impl Machine {
         Machine::new_as(alloc, limits, OldStrings::Unknown)
     }
 
-    /// The same, where this becomes of old strings.
+    /// Like `new`, for a reader that decodes Python 2 strings as `old_strings` says.
     pub fn new_as(alloc: Global, limits: &Limits, old_strings: OldStrings) -> Machine
         ensures fresh { result ≡ fresh old_strings limits.now }
         ensures covers { Covers result.knowledge start }
@@ -117,24 +117,24 @@ impl Machine {
         }
     }
 
-    /// One step over an instruction that is admitted, where STOP was not yet: what it needs is
-    /// looked for, its import is listed, and what is known changes.
+    /// Steps over an admitted instruction, before STOP: checks what it needs, lists its import, and
+    /// updates what is known.
     ///
     /// # Errors
     ///
-    /// The first of these that is no false alarm: `MissingMark`, `MissingItem`, `MissingMemo`,
+    /// The first of these that is not a false alarm: `MissingMark`, `MissingItem`, `MissingMemo`,
     /// `OddItems`, `WrongClass`, `NotText`, `UnknownImport`, `ImportOffList`, `LeftOver`,
-    /// `NotAscii`, and `TooLarge` where the stack or the memo would be past its limit; or
-    /// `OutOfMemory`, where a growth was refused. A refused step leaves the imports and the marks,
-    /// and after it the same reason is answered for ever.
+    /// `NotAscii`, and `TooLarge` if the stack or the memo would exceed its limit. `OutOfMemory` if
+    /// an allocation was refused. A refused step changes neither the imports nor the marks, and
+    /// later steps return the same reason.
     #[inline(always)]
     pub fn step(&mut self, inst: &Inst, policy: &Policy) -> Result<Moved, Reason>
         requires admitted { is_admitted (instruction_of inst.now) ≡ true }
         requires running { self.old.stopped ≡ false }
-        ensures again { AnswersAgain self.old self.new result }
+        ensures again { AnswersAsBefore self.old self.new result }
         ensures goes_on { IfOk result (GoesOn (policy_of policy.now) (instruction_of inst.now)
             self.old self.new) }
-        // what going on means in each state of a run that is covered, for each outcome
+        // for each outcome, what this step means in every run that is covered
         ensures covered { OnOk result (MeansInEachRun (policy_of policy.now)
             (instruction_of inst.now) self.old self.new) }
         ensures permitted { OnOk result (AppendsPermitted (policy_of policy.now)
@@ -145,7 +145,7 @@ impl Machine {
             (instruction_of inst.now) self.old self.new) }
         ensures texts { OnOk result (self.new.texts
             ≡ texts_then self.old.old_strings (instruction_of inst.now).op self.old.texts) }
-        ensures fails { IfFirst self.old result (Fails (policy_of policy.now)
+        ensures fails { IfFirst self.old result (FailsStep (policy_of policy.now)
             (instruction_of inst.now) self.old self.new) }
         // no refusal is a false alarm
         ensures alarm { IfFirst self.old result (IsNoFalseAlarm (policy_of policy.now)
@@ -177,14 +177,12 @@ impl Machine {
         }
     }
 
-    /// One step over an instruction of this opcode, which makes bytes of its payload: what
-    /// [`Machine::step`] answers for any such instruction, whose payload need not be there. Where
-    /// STOP was not yet.
+    /// Steps over an instruction with a passed opcode, before STOP: returns what [`Machine::step`]
+    /// returns for any such instruction, without needing its payload.
     ///
     /// # Errors
     ///
-    /// `TooLarge` where the stack would be past its limit; or `OutOfMemory`, where a growth was
-    /// refused.
+    /// `TooLarge` if the stack would exceed its limit; `OutOfMemory` if an allocation was refused.
     pub fn step_passed(&mut self, op: Op, policy: &Policy) -> Result<Moved, Reason>
         requires passed { IsTrue (is_passed op) }
         requires running { self.old.stopped ≡ false }
@@ -214,25 +212,23 @@ impl Machine {
         self.held.marks()
     }
 
-    /// The number of texts in the table: a step that goes on raises it by one for UNICODE,
-    /// SHORT_BINUNICODE, BINUNICODE and BINUNICODE8, and for an old string that is read as ASCII,
-    /// and leaves it for the others.
+    /// The number of texts in the table. A step that goes on raises it by one for UNICODE,
+    /// SHORT_BINUNICODE, BINUNICODE, BINUNICODE8, and a Python 2 string decoded as ASCII; other
+    /// steps leave it unchanged.
     pub fn texts(&self) -> usize
         ensures { result ≡ self.now.texts }
     {
         self.held.texts()
     }
 
-    /// The import of a number among those so far, which are counted from 0, in order. `None` past
-    /// the last.
-    pub fn import(&self, number: usize) -> Option<Import<'_>>
-        ensures { option_map import_shown result ≡ slice_get self.now.imports number }
+    /// The imports so far, in order.
+    pub fn imports(&self) -> ImportList<'_>
+        ensures { result ≡ self.now.imports }
     {
-        self.held.import(number)
+        self.held.imports()
     }
 
-    /// The pair that was off the list: the module and the name, after a refusal for this reason
-    /// alone.
+    /// The pair that was off the list, a module and a name; only after `ImportOffList`.
     pub fn off_list(&self) -> Option<(&str, &str)>
         ensures pair { option_map (λ p. (p.0.now, p.1.now)) result ≡ pair_shown self.now.off }
         ensures present { is_some result ≡ has_off_list self.now.refused }
@@ -248,14 +244,15 @@ impl Machine {
         }
     }
 
-    /// Goes on to the first instruction of a further pickle. With a fresh memo it lists the imports
-    /// apart, behind others, and forgets all. With a memo that is kept it takes the stack away
-    /// alone, in no time: what the memo holds may name any of the texts.
+    /// Continues at the first instruction of another pickle. With a fresh memo it moves the imports
+    /// to `apart`, after those already there, and forgets everything else. With a kept memo it only
+    /// clears the stack, in constant time, because the memo may refer to any text.
     pub(crate) fn restart(&mut self, memo: Memo, apart: &mut Ledger) -> Result<(), AllocError>
         requires { self.old.refused ≡ None }
         ensures next { OnOk result (self.new ≡ restarted memo self.old) }
         ensures apart { OnOk result (apart.new.asked
             ≡ moved_apart memo apart.old.asked self.old.imports) }
+        ensures kept { OnErr result (self.new ≡ self.old) }
     {
         match memo {
             Memo::Fresh => {
@@ -268,7 +265,7 @@ impl Machine {
         Ok(())
     }
 
-    /// The imports, without the rest of the machine.
+    /// The imports, consuming the machine.
     pub(crate) fn into_imports(self) -> Imports
         ensures { result ≡ self.imports }
     {
@@ -276,7 +273,7 @@ impl Machine {
         held.into_imports()
     }
 
-    /// The pair that was off the list, without the rest of the machine.
+    /// The pair that was off the list, consuming the machine.
     pub(crate) fn into_off_list(self) -> Option<Asked>
         ensures { option_map asked_shown result ≡ self.off }
     {

@@ -1,13 +1,13 @@
-//! What old strings become.
+//! How Python 2 strings are decoded.
 
-/// What the reader makes of an old string, Python 2's `str`: STRING, BINSTRING and SHORT_BINSTRING.
-/// It is the setting that a reader of Python 3 has as its `encoding`.
+/// How the reader decodes a Python 2 string (type `str`): STRING, BINSTRING and SHORT_BINSTRING. In
+/// Python 3 it is the `encoding` of an `Unpickler`.
 #[derive(Clone, Copy, Debug, PartialEq, Eq)]
 pub enum OldStrings {
-    /// Nothing is said of it: it may become any object, or raise.
+    /// Unspecified: it may become any object, or raise.
     Unknown,
-    /// A text of the same characters, where all its bytes are ASCII, and a raise otherwise.
+    /// As a text, if all its bytes are ASCII; otherwise it raises.
     Ascii,
-    /// Bytes.
+    /// As bytes.
     Bytes,
 }

@@ -1,4 +1,4 @@
-//! A list as an array of pairs, which lies with its owner.
+//! A list as an array of pairs, which the caller owns.
 
 ghost use Rattle.std.specs.Prelude.{◌≡◌};
 ghost use Rattle.pkcheck.specs.Pairs.{found, have};
@@ -15,10 +15,9 @@ pub struct Pair<'a> {
     pub name: &'a [u8],
 }
 
-/// Whether one of the pairs is of this module and this name, both compared byte for byte.
+/// Whether one of the pairs has this module and this name, both compared byte for byte.
 ///
-/// Pairs in order, by module and then by name, are looked through in logarithmic time but for one
-/// that is missing.
+/// If the pairs are sorted by module and then by name, a listed pair is found in logarithmic time.
 pub fn have(pairs: &[Pair<'_>], module_name: &[u8], name: &[u8]) -> bool
     ensures { result ≡ have pairs.now module_name.now name.now }
 {
@@ -26,7 +25,7 @@ pub fn have(pairs: &[Pair<'_>], module_name: &[u8], name: &[u8]) -> bool
         || pairs.iter().any(|pair| pair.module_name == module_name && pair.name == name)
 }
 
-/// Whether halving finds the pair, as it does where the pairs are in order.
+/// Whether a binary search finds the pair, as it does if the pairs are sorted.
 pub fn found(pairs: &[Pair<'_>], module_name: &[u8], name: &[u8]) -> bool
     ensures { result ≡ found pairs.now module_name.now name.now }
 {

@@ -1,12 +1,12 @@
--- Numbers for C, which are frozen.
+-- Numbers for C, which never change.
 use Rattle.std.specs.Prelude.{ℕ}
-use Rattle.pkread.specs.declared.refusal.Reason.{Reason}
-use Rattle.pkread.specs.declared.refusal.Reason.TheVariants as reason
-use Rattle.pkcheck.specs.declared.allow.error.AllowError.{AllowError}
-use Rattle.pkcheck.specs.declared.allow.error.AllowError.TheVariants as fault
-use Rattle.pkcheck.specs.declared.allow.error.Where.TheVariants as part
+use Rattle.pkread.specs.declared.Reason.{Reason}
+use Rattle.pkread.specs.declared.Reason.TheVariants as reason
+use Rattle.pkcheck.specs.declared.AllowError.{AllowError}
+use Rattle.pkcheck.specs.declared.AllowError.TheVariants as fault
+use Rattle.pkcheck.specs.declared.Where.TheVariants as part
 
--- each reason has a number of its own, from 1 on
+-- the number of each reason, from 1 on
 abbrev pub reason_code : Reason → ℕ
 reason_code reason.Source = 1
 reason_code reason.Truncated = 2
@@ -28,14 +28,14 @@ reason_code reason.LeftOver = 17
 reason_code reason.OutOfMemory = 18
 reason_code reason.NotAscii = 19
 
--- its number: a code byte, a protocol or a memo number, and else 0
+-- the number that a reason carries: a code byte, a protocol or a memo number; otherwise 0
 abbrev pub reason_number : Reason → ℕ
 reason_number (reason.UnknownOpcode code) = code
 reason_number (reason.UnsupportedProtocol version) = version
 reason_number (reason.MissingMemo number) = number
 reason_number _ = 0
 
--- each error of a list has a number of its own, from 1 on
+-- the number of each error in a list file, from 1 on
 abbrev pub fault_code : AllowError → ℕ
 fault_code fault.Syntax = 1
 fault_code (fault.Shape part.Version) = 2

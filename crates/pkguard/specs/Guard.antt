@@ -1,20 +1,21 @@
--- What a verdict for C says.
-use Rattle.std.specs.Prelude.{◌≡◌, ◌≢◌, ◌++◌, ◌⊎◌, ℕ, List, length, drop, leb, if◌then◌else◌, codes, Option, Some, None, Ok, Err}
+-- What the verdicts for C mean.
+use Rattle.std.specs.Prelude.{◌≡◌, ◌≢◌, ◌++◌, ◌⊎◌, ℕ, List, length, drop, leb, if◌then◌else◌, codes}
+use Rattle.std.specs.Prelude.{Option, Some, None, Ok, Err}
 use Rattle.std.specs.Str.{IsUtf8}
 use Rattle.toml.specs.Data.{Members, get_member}
 use Rattle.toml.specs.Errors.{IsBlank}
 use Rattle.pkops.specs.Limits.{Bounds}
 use Rattle.pkread.specs.Rows.{Sight}
-use Rattle.pkread.specs.declared.refusal.Reason.{Reason}
+use Rattle.pkread.specs.declared.Reason.{Reason}
 use Rattle.pkcheck.specs.Knowledge.{Policy, Asked, AskedPair}
 use Rattle.pkcheck.specs.ListFile.{limits_in, list_of, lists_in}
 use Rattle.pkcheck.specs.Accepted.{Accepted}
 use Rattle.pkcheck.specs.Refused.{Refused}
 use Rattle.pkcheck.specs.RowOfPickles.{AcceptedRow, RefusedInRow}
-use Rattle.pkcheck.specs.declared.allow.error.AllowError.{AllowError}
-use Rattle.pkcheck.specs.declared.allow.error.AllowError.TheVariants.{Syntax, OutOfMemory}
-use Rattle.pkcheck.specs.declared.loading.Loading.{Loading}
-use Rattle.pkcheck.specs.declared.old_strings.OldStrings.{OldStrings}
+use Rattle.pkcheck.specs.declared.AllowError.{AllowError}
+use Rattle.pkcheck.specs.declared.AllowError.TheVariants.{Syntax, OutOfMemory}
+use Rattle.pkcheck.specs.declared.Loading.{Loading}
+use Rattle.pkcheck.specs.declared.OldStrings.{OldStrings}
 use Rattle.pkguard.specs.declared.settings.Settings.{Settings}
 use Rattle.pkguard.specs.declared.verdict.Verdict.{Verdict}
 use Rattle.pkguard.specs.Codes.{reason_code, reason_number, fault_code}
@@ -22,11 +23,11 @@ use Rattle.pkguard.specs.Encoding.{encoded_all, wanted_by}
 use Rattle.pkguard.specs.Listed.{pairs_in, settings_with}
 use Rattle.pkguard.specs.Settings.{old_strings_in}
 
--- bytes in memory, as a source
+-- a source of these bytes
 abbrev pub memory : List ℕ → Sight
 memory bytes = record { left = Some bytes; failures = 0 }
 
--- a verdict that tells nothing
+-- a verdict without information
 abbrev pub nothing_told : Verdict
 nothing_told = record {
   status = 0;
@@ -41,7 +42,7 @@ nothing_told = record {
   pickles = 0;
 }
 
--- the verdict of a yes, to so many pickles
+-- the verdict for a yes to this many pickles
 abbrev pub verdict_of_yes : (taken imports pickles : ℕ) → Verdict
 verdict_of_yes taken imports pickles = record nothing_told {
   taken = taken;
@@ -49,7 +50,7 @@ verdict_of_yes taken imports pickles = record nothing_told {
   pickles = pickles;
 }
 
--- the verdict of a no behind so many pickles
+-- the verdict for a no after this many accepted pickles
 abbrev no_alone : ℕ → Reason → ℕ → Verdict
 no_alone at reason pickles = record nothing_told {
   status = 1;
@@ -59,7 +60,7 @@ no_alone at reason pickles = record nothing_told {
   pickles = pickles;
 }
 
--- the same with the lengths of the names of its pair, where it has one
+-- the verdict for a no, with the lengths of the names in its pair, if it has one
 abbrev pub verdict_of_no : ℕ → Reason → Option Asked → ℕ → Verdict
 verdict_of_no at reason (Some (AskedPair module_name name)) pickles =
     record (no_alone at reason pickles) {
@@ -69,25 +70,25 @@ verdict_of_no at reason (Some (AskedPair module_name name)) pickles =
     }
 verdict_of_no at reason _ pickles = no_alone at reason pickles
 
--- the verdict where the list can't be read
+-- the verdict for a list file that cannot be read
 abbrev pub verdict_of_fault : AllowError → Verdict
 verdict_of_fault error = record nothing_told { status = 2; reason = fault_code error }
 
--- the verdict where the settings are not served
+-- the verdict for unsupported settings
 abbrev pub verdict_of_usage : Verdict
 verdict_of_usage = record nothing_told { status = 3 }
 
--- bytes at the front of the room, if they fit, and else the room as it was
+-- the bytes at the front of the buffer if they fit, otherwise the buffer unchanged
 abbrev pub placed : List ℕ → List ℕ → List ℕ
 placed bytes room =
     if leb (length bytes) (length room) then bytes ++ drop (length bytes) room else room
 
--- the names of a pair at the front of the room, one behind the other
+-- the module and name of a pair at the front of the buffer, one after the other
 abbrev pub names_placed : Option Asked → List ℕ → List ℕ
 names_placed (Some (AskedPair module_name name)) room = placed (module_name ++ name) room
 names_placed _ room = room
 
--- the pickle at the front of the bytes is accepted, where this becomes of old strings
+-- the pickle at the front of the bytes is accepted, when Python 2 strings are decoded as `old` says
 pub record IsYes (old : OldStrings) (policy : Policy) (limits : Bounds)
     (pickle before after : List ℕ) (verdict : Verdict) : Type 0 where
   pub rest : List ℕ
@@ -96,8 +97,8 @@ pub record IsYes (old : OldStrings) (policy : Policy) (limits : Bounds)
   pub told : verdict ≡ verdict_of_yes verdict.taken (length imports) 1
   pub room : after ≡ before
 
--- the pickle at the front of the bytes is refused, at a place and for a reason; the names of the
--- pair that is off the list are in the room
+-- the pickle at the front of the bytes is refused, at an offset and for a reason; the buffer holds
+-- the names of the pair that is off the list
 pub record IsNo (old : OldStrings) (policy : Policy) (limits : Bounds)
     (pickle before after : List ℕ) (verdict : Verdict) : Type 0 where
   pub rest : List ℕ
@@ -107,7 +108,7 @@ pub record IsNo (old : OldStrings) (policy : Policy) (limits : Bounds)
   pub told : verdict ≡ verdict_of_no verdict.at why pair 0
   pub room : after ≡ names_placed pair before
 
--- all bytes are one pickle or more, one after the other, and each is accepted
+-- the bytes are one or more pickles, one after the other, and each is accepted
 pub record IsYesOfRow (loading : Loading) (policy : Policy) (limits : Bounds)
     (pickles before after : List ℕ) (verdict : Verdict) : Type 0 where
   pub rest : List ℕ
@@ -117,7 +118,7 @@ pub record IsYesOfRow (loading : Loading) (policy : Policy) (limits : Bounds)
   pub told : verdict ≡ verdict_of_yes verdict.taken (length imports) verdict.pickles
   pub room : after ≡ before
 
--- a pickle of the row is refused, at a place and for a reason, and those before it are accepted
+-- a pickle of the row is refused, at an offset and for a reason, and those before it are accepted
 pub record IsNoOfRow (loading : Loading) (policy : Policy) (limits : Bounds)
     (pickles before after : List ℕ) (verdict : Verdict) : Type 0 where
   pub rest : List ℕ
@@ -128,31 +129,31 @@ pub record IsNoOfRow (loading : Loading) (policy : Policy) (limits : Bounds)
   pub told : verdict ≡ verdict_of_no verdict.at why pair verdict.pickles
   pub room : after ≡ names_placed pair before
 
--- the text is no list, for this error: it breaks a rule; or memory ran out, which a text of nothing
--- but spaces, line ends and comments does not want
+-- why the text is no list file: it breaks a rule; or an allocation was refused, which cannot happen
+-- for a text of spaces, line ends and comments
 abbrev pub IsNoListText : List ℕ → AllowError → Type 0
 IsNoListText text error = (list_of text ≡ Err error) ⊎ ((error ≡ OutOfMemory) × (¬ IsBlank text))
 
--- the bytes are no list, for this error: they are not UTF-8, and else by their text
+-- why the bytes are no list file: they are not UTF-8, or their text is none
 abbrev pub IsNoList : List ℕ → AllowError → Type 0
 IsNoList bytes error =
     ((¬ IsUtf8 bytes) × (error ≡ Syntax)) ⊎ (IsUtf8 bytes × IsNoListText bytes error)
 
--- the list can't be read
-pub record IsFault (list before after : List ℕ) (verdict : Verdict) : Type 0 where
+-- the list file cannot be read
+pub record IsListFault (list before after : List ℕ) (verdict : Verdict) : Type 0 where
   pub error : AllowError
   pub fault : IsNoList list error
   pub told : verdict ≡ verdict_of_fault error
   pub room : after ≡ before
 
--- the settings are not served
+-- the settings are not supported
 pub record IsUsage (settings : Settings) (before after : List ℕ) (verdict : Verdict) : Type 0 where
   pub unserved : old_strings_in settings ≡ None
   pub told : verdict ≡ verdict_of_usage
   pub room : after ≡ before
 
--- the pickle at the front of the bytes is accepted, whatever it imports, and its imports are in the
--- room, if it has room for all of them
+-- the pickle at the front of the bytes is accepted under any import, and its imports are in the
+-- buffer if it has room for all of them
 pub record IsImports (old : OldStrings) (limits : Bounds) (pickle before after : List ℕ)
     (wanted : ℕ) (verdict : Verdict) : Type 0 where
   pub rest : List ℕ
@@ -162,8 +163,8 @@ pub record IsImports (old : OldStrings) (limits : Bounds) (pickle before after :
   pub asks : wanted ≡ wanted_by imports
   pub room : after ≡ placed (encoded_all imports) before
 
--- the bytes are a list in UTF-8; its limits are told, and its pairs are in the room, if it has room
--- for all of them
+-- the bytes are a list file; its limits are reported, and its pairs are in the buffer if it has
+-- room for all of them
 pub record IsListRead (list before after : List ℕ) (limits : Settings) (wanted : ℕ)
     (verdict : Verdict) : Type 0 where
   pub document : Members
@@ -174,18 +175,18 @@ pub record IsListRead (list before after : List ℕ) (limits : Settings) (wanted
   pub room : after ≡ placed (encoded_all (pairs_in (get_member (codes "imports") document))) before
   pub told : verdict ≡ nothing_told
 
--- the settings have another size than those of this version
+-- the settings do not have the size of this version
 pub record IsOfAnotherSize (settings : Settings) (before after : List ℕ) (verdict : Verdict)
     : Type 0 where
   pub size : settings.size ≢ 64
   pub told : verdict ≡ verdict_of_usage
   pub room : after ≡ before
 
--- a list permits its pairs
+-- the policy of a list file's pairs
 abbrev pub policy_in : Members → Policy
 policy_in document = Some (lists_in (get_member (codes "imports") document))
 
--- the bytes are a list in UTF-8, and this holds under its pairs and its limits
+-- the bytes are a list file in UTF-8, and P holds for its pairs and limits
 abbrev pub Under : List ℕ → (Policy → Bounds → Type 0) → Type 0
 Under list P =
     (document : Members) × IsUtf8 list × (list_of list ≡ Ok document)

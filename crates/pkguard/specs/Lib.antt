@@ -3,5 +3,5 @@ pub mod Settings
 pub mod Encoding
 pub mod Listed
 pub mod Guard
--- what nobody has to believe
+-- internal definitions, which need not be trusted
 pub mod Private

@@ -1,6 +1,8 @@
--- The pairs of a list file, and its limits, as they are told to C.
-use Rattle.std.specs.Prelude.{◌++◌, ◌&&◌, nat_le, Bool, if◌then◌else◌, List, [], ◌∷◌, ℕ, codes, Option, Some}
-use Rattle.toml.specs.Data.{Data, string, table, array, Items, no_items, item, Members, no_members, member, get_member}
+-- The pairs and limits of a list file, as they are reported to C.
+use Rattle.std.specs.Prelude.{◌++◌, ◌&&◌, nat_le, Bool, if◌then◌else◌, List, [], ◌∷◌, ℕ, codes}
+use Rattle.std.specs.Prelude.{Option, Some}
+use Rattle.toml.specs.Data.{Data, string, table, array, Items, no_items, item, Members, no_members}
+use Rattle.toml.specs.Data.{member, get_member}
 use Rattle.pkops.specs.Limits.{Bounds, greatest}
 use Rattle.pkcheck.specs.Knowledge.{Asked, AskedPair}
 use Rattle.pkguard.specs.declared.settings.Settings.{Settings}
@@ -31,13 +33,13 @@ abbrev pub pairs_in : Option Data → List Asked
 pairs_in (Some (table modules)) = pairs_at modules
 pairs_in _ = []
 
--- the limits are no larger than they may be where nothing is said of large data
+-- the limits are within the greatest ones without large data
 abbrev pub are_usual : Bounds → Bool
 are_usual limits =
     nat_le limits.counted greatest.counted && nat_le limits.stack greatest.stack
     && nat_le limits.memo greatest.memo
 
--- the settings that have these limits, and are standard but for them
+-- the settings with these limits, and defaults otherwise
 abbrev pub settings_with : Bounds → Settings
 settings_with limits = record {
   size = 64;

@@ -1,2 +1,2 @@
--- What private functions tell one another.
+-- Internal definitions, cited by private functions alone.
 pub mod Written

@@ -1,5 +1,5 @@
-//! Numbers for C. They are frozen: a program in C was compiled with them. A new reason or fault
-//! gets the next number, whatever its place in the order.
+//! Numbers for C. They never change, because C programs are compiled with them. A new reason or
+//! error gets the next number, whatever its place in the order.
 ghost use Rattle.std.specs.Prelude.{◌≡◌};
 ghost use Rattle.pkguard.specs.Codes.{fault_code, reason_code, reason_number};
 
@@ -33,7 +33,7 @@ pub fn reason_code(reason: Reason) -> u32
     }
 }
 
-/// The code byte, the protocol or the memo number that a reason holds, and else 0.
+/// The code byte, protocol or memo number that a reason carries; otherwise 0.
 pub fn reason_number(reason: Reason) -> u32
     ensures { result ≡ reason_number reason }
 {
@@ -45,7 +45,7 @@ pub fn reason_number(reason: Reason) -> u32
     }
 }
 
-/// The number of a list's fault.
+/// The number of an error in a list file.
 pub fn fault_code(error: AllowError) -> u32
     ensures { result ≡ fault_code error }
 {

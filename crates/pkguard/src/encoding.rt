@@ -1,5 +1,5 @@
-//! Pairs in the caller's room. They are written twice: first to no room at all, which tells how
-//! many bytes they want, and then to the caller's, if it has as many.
+//! Writes pairs to the caller's buffer. They are written twice: first to an empty buffer, which
+//! gives the number of bytes they need, and then to the caller's, if it has room for them.
 ghost use Rattle.std.specs.Prelude.{◌≡◌, ◌++◌, ℕ, List};
 ghost use Rattle.pkcheck.specs.Import.{import_shown};
 ghost use Rattle.pkguard.specs.Encoding.{eight_bytes, encoded, encoded_all};
@@ -9,7 +9,8 @@ ghost use Rattle.pkguard.specs.Private.Written.{IsWritten};
 
 use pkcheck::{Import, Imports};
 
-/// Puts imports into the room, if it has room for all of them, and tells how many bytes they want.
+/// Writes imports to the buffer if it has room for all of them, and returns the number of bytes
+/// they need.
 pub fn give_imports(imports: &Imports, room: &mut [u8]) -> u64
     ensures wanted { result ≡ wanted_by imports.now }
     ensures room { room.new ≡ placed (encoded_all imports.now) room.old }
@@ -21,7 +22,7 @@ pub fn give_imports(imports: &Imports, room: &mut [u8]) -> u64
     wanted as u64
 }
 
-/// Puts imports at the front of the room.
+/// Writes imports to the front of the buffer.
 fn put_imports(imports: &Imports, room: &mut [u8]) -> usize
     ensures { IsWritten (encoded_all imports.now) room.old room.new result }
 {
@@ -35,7 +36,7 @@ fn put_imports(imports: &Imports, room: &mut [u8]) -> usize
     next
 }
 
-/// Puts an import behind what is written.
+/// Appends an import at offset `at`.
 pub fn put_import(room: &mut [u8], at: usize, import: Import<'_>) -> usize
     ensures { (front before : List ℕ) → IsWritten front before room.old at
         → IsWritten (front ++ encoded (import_shown import.entry)) before room.new result }
@@ -52,7 +53,7 @@ pub fn put_import(room: &mut [u8], at: usize, import: Import<'_>) -> usize
     }
 }
 
-/// Puts a text behind what is written.
+/// Appends a text at offset `at`.
 fn put_text(room: &mut [u8], at: usize, text: &str) -> usize
     ensures { (front before : List ℕ) → IsWritten front before room.old at
         → IsWritten (front ++ encoded_text text.now) before room.new result }
@@ -61,7 +62,7 @@ fn put_text(room: &mut [u8], at: usize, text: &str) -> usize
     put(room, next, text.as_bytes())
 }
 
-/// Puts a number behind what is written.
+/// Appends a number at offset `at`.
 fn put_number(room: &mut [u8], at: usize, number: usize) -> usize
     ensures { (front before : List ℕ) → IsWritten front before room.old at
         → IsWritten (front ++ eight_bytes number) before room.new result }
@@ -70,8 +71,8 @@ fn put_number(room: &mut [u8], at: usize, number: usize) -> usize
     put(room, at, &digits)
 }
 
-/// Puts bytes behind what is written, where they fit. The place behind them is the greatest number
-/// where it would be more.
+/// Appends bytes at offset `at`, if they fit. Returns the offset after them, at most the greatest
+/// number.
 fn put(room: &mut [u8], at: usize, bytes: &[u8]) -> usize
     ensures { (front before : List ℕ) → IsWritten front before room.old at
         → IsWritten (front ++ bytes.now) before room.new result }

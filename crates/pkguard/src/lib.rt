@@ -1,9 +1,9 @@
-//! The checker for C: a static library, whose functions check a pickle that lies in memory.
+//! The checker for C: a static library whose functions check pickles in memory.
 //!
-//! `python/storklocker.c` calls them with no null pointer, and `python/storklocker/storklocker.h`
-//! declares for C what it makes of them. None wants anything of its arguments that C's types don't
-//! say, so none has a `requires`. Nothing is kept between calls and nothing is to be freed, so any
-//! number of threads may call, and share pairs, lists and settings.
+//! `python/storklocker.c` calls them without null pointers, and `python/storklocker/storklocker.h`
+//! declares the functions that it makes of them for C. They need nothing from their arguments
+//! beyond their C types, so none has a `requires`. They keep no state and leave nothing to free, so
+//! any number of threads may call them and share pairs, lists and settings.
 #![tactic(auto)]
 
 mod codes;
@@ -14,7 +14,7 @@ mod verdict;
 
 ghost use Rattle.std.specs.Prelude.{◌≡◌, ◌≢◌, ◌≤◌, None, Some};
 ghost use Rattle.pkcheck.specs.Import.{policy_of};
-ghost use Rattle.pkguard.specs.Guard.{IsFault, IsImports, IsListRead, IsOfAnotherSize};
+ghost use Rattle.pkguard.specs.Guard.{IsListFault, IsImports, IsListRead, IsOfAnotherSize};
 ghost use Rattle.pkguard.specs.Guard.{IsNo, IsNoOfRow, IsUsage, IsYes, IsYesOfRow, Under};
 ghost use Rattle.pkguard.specs.Settings.{PermitsPairs, Sets, limits_by, limits_within};
 ghost use Rattle.pkguard.specs.Settings.{listed_by, loading_by};
@@ -27,13 +27,13 @@ pub use settings::Settings;
 use std::alloc::Global;
 pub use verdict::Verdict;
 
-/// Checks the pickle at the front of some bytes under pairs of a module and a name, and gives the
-/// status, which also stands in the verdict.
+/// Checks the pickle at the front of `pickle` under pairs of a module and a name. Returns the
+/// status, which is also in the verdict.
 ///
-/// Of pairs in order, by module and then by name, a listed one is found in logarithmic time; in any
-/// other order the answer is the same. Where the caller vouches for their order, one that is
-/// missing is refused in logarithmic time too. `room` gets the two names of a refused pair, one behind the
-/// other, where it has room for both, and stays as it is where it hasn't.
+/// If the pairs are sorted by module and then by name, a listed pair is found in logarithmic time;
+/// any other order gives the same answer. If the caller vouches for the order, an unlisted pair is
+/// also refused in logarithmic time. `room` receives the module and the name of a refused pair, one
+/// after the other, if both fit, and otherwise stays unchanged.
 #[unsafe(no_mangle)]
 pub extern "C" fn pkguard_check_pairs(
     alloc: Global,
@@ -67,8 +67,8 @@ pub extern "C" fn pkguard_check_pairs(
     out.status
 }
 
-/// The same under the text of a list file, which is read anew at each call. Its limits hold as well
-/// as the settings: each limit is the smaller of the two.
+/// Like `pkguard_check_pairs`, under the text of a list file, which is parsed at each call. The
+/// limits of the list and of the settings both apply: each limit is the smaller of the two.
 #[unsafe(no_mangle)]
 pub extern "C" fn pkguard_check_list(
     alloc: Global,
@@ -87,7 +87,7 @@ pub extern "C" fn pkguard_check_list(
         Under list.now (λ policy limits. IsNo old policy
         (limits_within limits settings.now) pickle.now room.old room.new out.new)) }
     ensures fault { out.new.status ≡ 2 → Sets settings.now (λ _.
-        IsFault list.now room.old room.new out.new) }
+        IsListFault list.now room.old room.new out.new) }
     ensures usage { out.new.status ≡ 3 → IsUsage settings.now room.old room.new out.new }
 {
     *out = match settings::old_strings_in(settings) {
@@ -97,8 +97,8 @@ pub extern "C" fn pkguard_check_list(
     out.status
 }
 
-/// Checks pickles that stand one after the other, up to the end of the bytes, under pairs. The
-/// settings say what the memo of one is to the next.
+/// Checks the pickles in `pickles`, which follow one another up to its end, under pairs. The
+/// settings say whether the memo of a pickle is kept for the next.
 #[unsafe(no_mangle)]
 pub extern "C" fn pkguard_check_row(
     alloc: Global,
@@ -133,9 +133,8 @@ pub extern "C" fn pkguard_check_row(
     out.status
 }
 
-/// Reads the text of a list file: its limits, and its pairs, which go to the room if it has room
-/// for all of them. They stand by module in the byte order of the modules, and those of a module in
-/// the order of its array.
+/// Reads a list file: its limits, and its pairs, which go to `room` if all of them fit. They are in
+/// the byte order of their modules, and within a module in the order of its array.
 #[unsafe(no_mangle)]
 pub extern "C" fn pkguard_read_list(
     alloc: Global,
@@ -151,7 +150,7 @@ pub extern "C" fn pkguard_read_list(
     ensures read { out.new.status ≡ 0
         → IsListRead list.now room.old room.new limits.new wanted.new out.new }
     ensures size { out.new.status ≢ 3 → limits.old.size ≡ 64 }
-    ensures fault { out.new.status ≡ 2 → IsFault list.now room.old room.new out.new }
+    ensures fault { out.new.status ≡ 2 → IsListFault list.now room.old room.new out.new }
     ensures usage { out.new.status ≡ 3 → IsOfAnotherSize limits.old room.old room.new out.new }
     ensures nothing { out.new.status ≢ 0 → wanted.new ≡ 0 }
     ensures same { out.new.status ≢ 0 → limits.new ≡ limits.old }
@@ -165,8 +164,8 @@ pub extern "C" fn pkguard_read_list(
     out.status
 }
 
-/// Checks the pickle at the front of some bytes, whatever it imports. Its imports go to the room in
-/// order, if it has room for all of them.
+/// Checks the pickle at the front of `pickle` under any import. Its imports go to `room`, in order,
+/// if all of them fit.
 #[unsafe(no_mangle)]
 pub extern "C" fn pkguard_imports(
     alloc: Global,
@@ -197,7 +196,7 @@ pub extern "C" fn pkguard_imports(
     out.status
 }
 
-/// What a list file says.
+/// The verdict for a list file.
 fn read(
     alloc: Global,
     list: &[u8],
@@ -209,7 +208,7 @@ fn read(
     ensures most { result.status ≤ 2 }
     ensures read { result.status ≡ 0
         → IsListRead list.now room.old room.new limits.new wanted.new result }
-    ensures fault { result.status ≡ 2 → IsFault list.now room.old room.new result }
+    ensures fault { result.status ≡ 2 → IsListFault list.now room.old room.new result }
     ensures nothing { result.status ≢ 0 → wanted.new ≡ wanted.old }
     ensures same { result.status ≢ 0 → limits.new ≡ limits.old }
 {
@@ -223,7 +222,7 @@ fn read(
     }
 }
 
-/// What `check` answers under any import, and the imports of a yes.
+/// The verdict of `check` under any import, and the imports of a yes.
 fn imported(
     alloc: Global,
     limits: &Limits,
@@ -249,7 +248,7 @@ fn imported(
     }
 }
 
-/// What `check` answers under the text of a list file.
+/// The verdict of `check` under a list file.
 fn listed(
     alloc: Global,
     list: &[u8],
@@ -263,7 +262,7 @@ fn listed(
         (limits_within limits settings.now) pickle.now room.old room.new result) }
     ensures no { result.status ≡ 1 → Under list.now (λ policy limits. IsNo old policy
         (limits_within limits settings.now) pickle.now room.old room.new result) }
-    ensures fault { result.status ≡ 2 → IsFault list.now room.old room.new result }
+    ensures fault { result.status ≡ 2 → IsListFault list.now room.old room.new result }
 {
     match list::list_from(alloc, list) {
         Err(error) => verdict::of_fault(error),
@@ -274,7 +273,7 @@ fn listed(
     }
 }
 
-/// What `check` answers.
+/// The verdict of `check`.
 fn answered(
     alloc: Global,
     policy: &Policy<'_>,
@@ -296,7 +295,7 @@ fn answered(
     }
 }
 
-/// What `check_all` answers.
+/// The verdict of `check_all`.
 fn answered_row(
     alloc: Global,
     policy: &Policy<'_>,

@@ -1,4 +1,4 @@
-//! The list that a text is, and its pairs in the caller's room.
+//! Reads a list file, and writes its pairs to the caller's buffer.
 ghost use Rattle.std.specs.Prelude.{◌≡◌, ◌++◌, ℕ, List, IfOk, IfErr, Ok, OnOk, codes, option_map};
 ghost use Rattle.std.specs.Str.{IsUtf8};
 ghost use Rattle.pkcheck.specs.Allow.{document_of};
@@ -16,7 +16,7 @@ use std::alloc::Global;
 use std::str;
 use toml::{Table, Value};
 
-/// Reads a list from the bytes of a list file. Bytes that are not UTF-8 are no TOML.
+/// Reads a list from the bytes of a list file. Bytes that are not UTF-8 are not TOML.
 pub fn list_from(alloc: Global, bytes: &[u8]) -> Result<Allow, AllowError>
     ensures text { OnOk result (IsUtf8 bytes.now) }
     ensures list { IfOk result (λ list. list_of bytes.now ≡ Ok (document_of list)) }
@@ -31,8 +31,8 @@ pub fn list_from(alloc: Global, bytes: &[u8]) -> Result<Allow, AllowError>
     }
 }
 
-/// Puts the pairs of a list into the room, if it has room for all of them, and tells how many bytes
-/// they want.
+/// Writes the pairs of a list to the buffer if it has room for all of them, and returns the number
+/// of bytes they need.
 pub fn give_pairs(list: &Allow, room: &mut [u8]) -> u64
     ensures wanted { result
         ≡ wanted_by (pairs_in (get_member (codes "imports") (document_of list.now))) }
@@ -47,7 +47,7 @@ pub fn give_pairs(list: &Allow, room: &mut [u8]) -> u64
     wanted as u64
 }
 
-/// Puts the pairs of a table `imports` at the front of the room.
+/// Writes the pairs of a table `imports` to the front of the buffer.
 fn put_pairs(imports: Option<&Value>, room: &mut [u8]) -> usize
     ensures { IsWritten (encoded_all (pairs_in (option_map (λ v. view v.now) imports.entry)))
         room.old room.new result }
@@ -58,7 +58,7 @@ fn put_pairs(imports: Option<&Value>, room: &mut [u8]) -> usize
     }
 }
 
-/// Puts the pairs of each module at the front of the room.
+/// Writes the pairs of each module to the front of the buffer.
 fn put_modules(modules: &Table, room: &mut [u8]) -> usize
     ensures { IsWritten (encoded_all (pairs_at (table_view modules.now)))
         room.old room.new result }
@@ -70,7 +70,7 @@ fn put_modules(modules: &Table, room: &mut [u8]) -> usize
     next
 }
 
-/// Puts the pairs of a module behind what is written.
+/// Appends the pairs of a module at offset `at`.
 fn put_names(room: &mut [u8], at: usize, module_name: &str, names: &Value) -> usize
     ensures { (front before : List ℕ) → IsWritten front before room.old at
         → IsWritten (front ++ encoded_all (pairs_of module_name.now (view names.now)))
@@ -82,7 +82,7 @@ fn put_names(room: &mut [u8], at: usize, module_name: &str, names: &Value) -> us
     }
 }
 
-/// Puts the pairs of a module and each of these names behind what is written.
+/// Appends the pairs of a module and each of these names at offset `at`.
 fn put_each(room: &mut [u8], at: usize, module_name: &str, names: &Vec<Value>) -> usize
     ensures { (front before : List ℕ) → IsWritten front before room.old at
         → IsWritten (front ++ encoded_all (pairs_among module_name.now (array_view names.now)))
@@ -95,7 +95,7 @@ fn put_each(room: &mut [u8], at: usize, module_name: &str, names: &Vec<Value>) -
     next
 }
 
-/// Puts the pair of a module and a name behind what is written.
+/// Appends the pair of a module and a name at offset `at`.
 fn put_name(room: &mut [u8], at: usize, module_name: &str, name: &Value) -> usize
     ensures { (front before : List ℕ) → IsWritten front before room.old at
         → IsWritten (front ++ encoded_all (pair_in module_name.now (view name.now)))

@@ -9,52 +9,52 @@ use pkcheck::{Loading, Memo, OldStrings, Pair, Policy};
 use pkops::Limits;
 use std::cmp;
 
-/// Settings of a check, for C. A limit above the greatest that it may be stands for that.
+/// Settings of a check, for C. A limit above its greatest value means that value.
 #[repr(C)]
 #[derive(Clone, Copy, Debug)]
 pub struct Settings {
-    /// How many bytes the settings have: the fields of a later version stand behind these.
+    /// The size of the settings in bytes. Later versions add fields at the end.
     pub size: u64,
-    /// The most bytes that the payload of a counted argument may have.
+    /// The most bytes in the payload of a counted argument.
     pub counted: u64,
-    /// The most entries that the stack may have, marks included.
+    /// The most stack entries, marks included.
     pub stack: u64,
-    /// The most entries that the memo may have.
+    /// The most memo entries.
     pub memo: u64,
-    /// The most bytes that a payload of bytes may have, which is passed over.
+    /// The most bytes in a payload of bytes, which is passed over.
     pub passed: u64,
-    /// The greatest number at which an instruction may write to the memo.
+    /// The greatest memo number that an instruction may write to.
     pub numbers: u64,
-    /// What old strings become: 0 for anything, 1 for a text where they are ASCII, 2 for bytes.
+    /// How Python 2 strings are decoded: 0 as anything, 1 as text if they are ASCII, 2 as bytes.
     pub old_strings: u32,
-    /// What the memo of a pickle is to the next one of a row: 0 where each begins with an empty
-    /// one, 1 where it is kept.
+    /// Whether a row of pickles shares its memo: 0 if each pickle starts with an empty one, 1 if it
+    /// is kept.
     pub row_memo: u32,
-    /// Whether the limits may be those of large data: 1 where they may, else 0.
+    /// Whether the limits may be those for large data: 1 if they may, else 0.
     pub large: u32,
-    /// Whether the caller vouches for the order of its pairs: 1 where it does, else 0.
+    /// Whether the caller vouches for the order of its pairs: 1 if it does, else 0.
     pub sorted: u32,
 }
 
-/// How many bytes the settings of this version have.
+/// The size of this version's settings in bytes.
 const SETTINGS_SIZE: u64 = 64;
 
-/// Whether the settings have the size of those of this version, and each number but that of old
-/// strings stands for something.
+/// Whether the settings have the size of this version, and each flag is 0 or 1. How Python 2
+/// strings are decoded is checked elsewhere.
 fn is_served(settings: &Settings) -> bool
     ensures { result ≡ is_served settings.now }
 {
     has_size(settings) && settings.row_memo <= 1 && settings.large <= 1 && settings.sorted <= 1
 }
 
-/// Whether the settings have the size of those of this version.
+/// Whether the settings have the size of this version.
 pub fn has_size(settings: &Settings) -> bool
     ensures { result ≡ (settings.now.size == 64) }
 {
     settings.size == SETTINGS_SIZE
 }
 
-/// The settings that have these limits, and are standard but for them.
+/// The settings with these limits, and defaults otherwise.
 pub fn with_limits(limits: &Limits) -> Settings
     ensures { result ≡ settings_with limits.now }
 {
@@ -72,7 +72,7 @@ pub fn with_limits(limits: &Limits) -> Settings
     }
 }
 
-/// Whether limits are no larger than they may be where nothing is said of large data.
+/// Whether the limits are within the greatest ones without large data.
 fn are_usual(limits: &Limits) -> bool
     ensures { result ≡ are_usual limits.now }
 {
@@ -81,7 +81,7 @@ fn are_usual(limits: &Limits) -> bool
         && limits.memo() <= Limits::GREATEST.memo()
 }
 
-/// What old strings become, where the settings are served.
+/// How Python 2 strings are decoded; `None` if the settings are not supported.
 pub fn old_strings_in(settings: &Settings) -> Option<OldStrings>
     ensures { result ≡ old_strings_in settings.now }
 {
@@ -92,7 +92,7 @@ pub fn old_strings_in(settings: &Settings) -> Option<OldStrings>
     }
 }
 
-/// What old strings become by their number, which is frozen.
+/// How Python 2 strings are decoded, by a number that never changes.
 fn old_strings_of(number: u32) -> Option<OldStrings>
     ensures { result ≡ old_strings_of number }
 {
@@ -104,7 +104,7 @@ fn old_strings_of(number: u32) -> Option<OldStrings>
     }
 }
 
-/// Which of the pairs are permitted.
+/// The permitted pairs.
 pub fn policy_by<'a>(settings: &Settings, pairs: &'a [Pair<'a>]) -> Policy<'a>
     ensures { policy_of result ≡ Some (listed_by settings.now pairs.entry.now) }
 {
@@ -115,7 +115,7 @@ pub fn policy_by<'a>(settings: &Settings, pairs: &'a [Pair<'a>]) -> Policy<'a>
     }
 }
 
-/// How the pickles of a row are loaded, where this becomes of old strings.
+/// How the pickles of a row are loaded, when Python 2 strings are decoded as `old_strings` says.
 pub fn loading_by(settings: &Settings, old_strings: OldStrings) -> Loading
     ensures { result ≡ loading_by settings.now old_strings }
 {
@@ -138,7 +138,7 @@ pub fn limits_by(settings: &Settings) -> Limits
     }
 }
 
-/// The limits of a check with these settings, each at most that of the others.
+/// The limits of a check with these settings, each at most that in `most`.
 pub fn limits_within(settings: &Settings, most: &Limits) -> Limits
     ensures { result ≡ limits_within most.now settings.now }
 {

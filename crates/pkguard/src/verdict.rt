@@ -1,4 +1,4 @@
-//! What is told to C.
+//! Verdicts for C.
 ghost use Rattle.std.specs.Prelude.{◌≡◌, ◌++◌, length, option_map};
 ghost use Rattle.pkcheck.specs.Import.{asked_shown};
 ghost use Rattle.pkguard.specs.Guard.{placed, verdict_of_fault, verdict_of_no, verdict_of_yes};
@@ -7,33 +7,33 @@ ghost use Rattle.pkguard.specs.Guard.{names_placed, nothing_told, verdict_of_usa
 use crate::codes::{fault_code, reason_code, reason_number};
 use pkcheck::{AllowError, Asked, Imports, No};
 
-/// A verdict for C. What a status doesn't speak of is 0.
+/// A verdict for C. Fields that do not apply to its status are 0.
 #[repr(C)]
 #[derive(Clone, Copy, Debug, Drop)]
 pub struct Verdict {
-    /// 0 at a yes, 1 at a no, 2 where the list can't be read, 3 where the settings are not served.
+    /// 0 for a yes, 1 for a no, 2 for a list file that cannot be read, 3 for unsupported settings.
     pub status: u32,
-    /// The number of the reason at status 1, of the list's fault at status 2.
+    /// The number of the reason at status 1, or of the list's error at status 2.
     pub reason: u32,
-    /// The code byte, protocol or memo number that the reason has.
+    /// The code byte, protocol or memo number that the reason carries.
     pub number: u32,
-    /// 1 where a pair is told.
+    /// 1 if the verdict has a pair.
     pub has_pair: u32,
-    /// The offset of the refused instruction, at status 1.
+    /// At status 1, the offset of the refused instruction in bytes.
     pub at: u64,
-    /// How many bytes were accepted, at status 0.
+    /// At status 0, the number of accepted bytes.
     pub taken: u64,
-    /// How many imports they make, at status 0.
+    /// At status 0, the number of imports in those bytes.
     pub imports: u64,
-    /// How many bytes the module of the pair has.
+    /// The length of the pair's module in bytes.
     pub module_length: u64,
-    /// How many bytes its name has.
+    /// The length of the pair's name in bytes.
     pub name_length: u64,
-    /// How many pickles are accepted.
+    /// The number of accepted pickles.
     pub pickles: u64,
 }
 
-/// A verdict that tells nothing.
+/// A verdict without information.
 const NOTHING: Verdict = Verdict {
     status: 0,
     reason: 0,
@@ -47,14 +47,14 @@ const NOTHING: Verdict = Verdict {
     pickles: 0,
 };
 
-/// The verdict where a list was read.
+/// The verdict for a list that was read.
 pub fn of_list() -> Verdict
     ensures { result ≡ nothing_told }
 {
     NOTHING
 }
 
-/// The verdict where a list can't be read.
+/// The verdict for a list file that cannot be read.
 pub fn of_fault(error: AllowError) -> Verdict
     ensures { result ≡ verdict_of_fault error }
 {
@@ -65,7 +65,7 @@ pub fn of_fault(error: AllowError) -> Verdict
     }
 }
 
-/// The verdict where the settings are not served.
+/// The verdict for unsupported settings.
 pub fn of_usage() -> Verdict
     ensures { result ≡ verdict_of_usage }
 {
@@ -75,7 +75,7 @@ pub fn of_usage() -> Verdict
     }
 }
 
-/// The verdict of a yes, to so many pickles.
+/// The verdict for a yes to this many pickles.
 pub fn of_yes(taken: u64, imports: &Imports, pickles: u64) -> Verdict
     ensures { result ≡ verdict_of_yes taken (length imports.now) pickles }
 {
@@ -87,8 +87,8 @@ pub fn of_yes(taken: u64, imports: &Imports, pickles: u64) -> Verdict
     }
 }
 
-/// The verdict of a no behind so many pickles. The names of its pair go to the front of `room`, if
-/// both fit.
+/// The verdict for a no after this many accepted pickles. The names of its pair go to the front of
+/// `room`, if both fit.
 pub fn of_no(no: &No, pickles: u64, room: &mut [u8]) -> Verdict
     ensures told { result
         ≡ verdict_of_no no.now.at no.now.reason (option_map asked_shown no.now.pair) pickles }
@@ -116,7 +116,7 @@ pub fn of_no(no: &No, pickles: u64, room: &mut [u8]) -> Verdict
     }
 }
 
-/// Puts bytes and others behind them at the front of `room`, if both fit.
+/// Writes two byte strings to the front of `room`, one after the other, if both fit.
 fn place_both(room: &mut [u8], first: &[u8], second: &[u8])
     ensures { room.new ≡ placed (first.now ++ second.now) room.old }
 {

@@ -16,39 +16,46 @@ use Rattle.pkjson.specs.declared.node.Node.{Node}
 use Rattle.pkjson.specs.Private.Acting.{ActsAs}
 use Rattle.pkjson.specs.Private.Arena.{Kept, holds}
 use Rattle.pkjson.specs.Contents.{contents}
-use Rattle.pkjson.specs.Export.{AcceptedAs, Results, IsValueOf, IsTextOf, IsRefused}
-use Rattle.pkjson.specs.Private.Held.{seen}
+use Rattle.pkjson.specs.Export.{AcceptedAs, Results, IsValueOf, IsTextOf, IsNotExported}
+use Rattle.pkjson.specs.Private.Held.{parts}
 use Rattle.pkjson.specs.Private.Nodes.{heap}
-use Rattle.pkjson.specs.Plain.{is_plain}
+use Rattle.pkjson.specs.Plain.{is_plain_data}
 use Rattle.pkjson.specs.Private.Replayed.{Replays}
 use Rattle.pkjson.specs.Private.Result.{IsValue, IsText, IsTooLarge}
 use Rattle.pkjson.specs.Private.Settled.{AreSettled}
 use Rattle.pkjson.specs.Private.Standing.{StandsAt}
+use Rattle.pkjson.proofs.Floatless.{floatless}
 use Rattle.pkjson.proofs.Mirroring.{mirrors_contents}
 use Rattle.pkjson.proofs.Running.{stops_here}
 use Rattle.pkjson.proofs.Settling.{settled_heap, all_given_below}
 use Rattle.pkjson.proofs.Taking.{ok_same, top_below}
 use Rattle.pkjson.proofs.Unfolded.{unfolds_same}
 
-pub replays : (limits : Bounds) (bytes : List ℕ) (p : List Instruction) (rest : List ℕ) (at : ℕ) (a : Held) (i : Instruction) → AcceptedAs limits bytes p → StandsAt limits.counted p rest at (seen a) i → is_plain i.op ≡ true → ActsAs Stops (effect_of i.op) → (x : ℕ) (es : List (Entry ℕ)) → top (seen a).shape.entries ≡ Ok (x, es) → Replays limits bytes a x
+pub replays : (limits : Bounds) (bytes : List ℕ) (p : List Instruction) (rest : List ℕ) (at : ℕ)
+    (a : Held) (i : Instruction) → AcceptedAs limits bytes p
+    → StandsAt limits.counted p rest at (parts a) i → is_plain_data i.op ≡ true
+    → ActsAs Stops (effect_of i.op) → (x : ℕ) (es : List (Entry ℕ))
+    → top (parts a).shape.entries ≡ Ok (x, es) → Replays limits bytes a x
 replays limits bytes p rest at a i w h plain acts x es t =
-    let r = stops_here limits.counted p rest at (seen a) i h plain acts in
+    let r = stops_here limits.counted p rest at (parts a) i h plain acts in
     let q : r.0.0 ≡ x = ap (λ z. z.0) (ok_same r.0 (x, es) (sym r.1 ∙ t)) in
     record {
       events = h.state.events;
       results = subst (λ z. Results limits bytes z h.state.events) q (record { instructions = p; accepted = w; plain = r.3; state = _; run = r.2; seen = refl });
-      holds = mirrors_contents (seen a).kept h.state.events h.mirrors.objects;
-      within = top_below (length (seen a).kept) (seen a).shape.entries (x, es) h.mirrors.held.entries t;
-      closed = all_given_below (length (seen a).kept) (seen a).kept h.mirrors.closed;
+      holds = mirrors_contents (parts a).kept h.state.events h.mirrors.objects;
+      within = top_below (length (parts a).kept) (parts a).shape.entries (x, es) h.mirrors.held.entries t;
+      closed = all_given_below (length (parts a).kept) (parts a).kept h.mirrors.closed;
     }
 
 module _ (limits : Bounds) (bytes : List ℕ) (a : Held) (x : ℕ) (r : Replays limits bytes a x) where
-  pub is_value_of : (v : Data) → IsValue (holds (seen a).kept) limits.depth limits.values x v → IsValueOf limits bytes v
-  is_value_of v h = record { object = x; events = r.events; results = r.results; unfolds = unfolds_same (holds (seen a).kept) (contents r.events) r.holds x v h.0; shallow = h.1; few = h.2 }
+  pub is_value_of : (v : Data) → IsValue (holds (parts a).kept) limits.depth limits.values x v → IsValueOf limits bytes v
+  is_value_of v h =
+      let u = unfolds_same (holds (parts a).kept) (contents r.events) r.holds x v h.0 in
+      record { object = x; events = r.events; results = r.results; unfolds = u; shallow = h.1; few = h.2; floatless = floatless r.events x v u }
 
-  pub is_refused : (e : ExportError) → IsTooLarge (holds (seen a).kept) limits.depth limits.values x e → IsRefused limits bytes e
-  is_refused TooDeep h = record { object = x; events = r.events; results = r.results; deep = λ v u. h v (unfolds_same (contents r.events) (holds (seen a).kept) (λ n. sym (r.holds n)) x v u) }
-  is_refused TooMany h = record { object = x; events = r.events; results = r.results; value = h.0; unfolds = unfolds_same (holds (seen a).kept) (contents r.events) r.holds x h.0 h.1; shallow = h.2; many = h.3 }
+  pub is_refused : (e : ExportError) → IsTooLarge (holds (parts a).kept) limits.depth limits.values x e → IsNotExported limits bytes e
+  is_refused TooDeep h = record { object = x; events = r.events; results = r.results; deep = λ v u. h v (unfolds_same (contents r.events) (holds (parts a).kept) (λ n. sym (r.holds n)) x v u) }
+  is_refused TooMany h = record { object = x; events = r.events; results = r.results; value = h.0; unfolds = unfolds_same (holds (parts a).kept) (contents r.events) r.holds x h.0 h.1; shallow = h.2; many = h.3 }
   is_refused OutOfMemory h = tt
   is_refused e h = absurd h
 
@@ -91,14 +98,14 @@ module _ (ks : List Kept) (ns : List Node) (s : AreSettled ks ks ns) (d m deepes
 
 -- it is that of the bytes
 module _ (limits : Bounds) (bytes : List ℕ) (a : Held) (x : ℕ) (p : Replays limits bytes a x) where
-  pub value_answered : (r : Result Value ExportError) → IfOk r (λ w. IsValue (holds (seen a).kept) limits.depth limits.values x (view w)) → IfOk r (λ w. IsValueOf limits bytes (view w))
+  pub value_answered : (r : Result Value ExportError) → IfOk r (λ w. IsValue (holds (parts a).kept) limits.depth limits.values x (view w)) → IfOk r (λ w. IsValueOf limits bytes (view w))
   value_answered (Ok w) h = is_value_of limits bytes a x p (view w) h
   value_answered (Err e) h = h
 
-  pub text_answered : (r : Result (Vec ℕ Global) ExportError) → IfOk r (λ t. IsText (holds (seen a).kept) limits.depth limits.values x t.items) → IfOk r (λ t. IsTextOf limits bytes t.items)
+  pub text_answered : (r : Result (Vec ℕ Global) ExportError) → IfOk r (λ t. IsText (holds (parts a).kept) limits.depth limits.values x t.items) → IfOk r (λ t. IsTextOf limits bytes t.items)
   text_answered (Ok t) h = (h.0, is_value_of limits bytes a x p h.0 h.1, h.2)
   text_answered (Err e) h = h
 
-  pub refusal_answered : {A : Type 0} (r : Result A ExportError) → IfErr r (IsTooLarge (holds (seen a).kept) limits.depth limits.values x) → IfErr r (IsRefused limits bytes)
+  pub refusal_answered : {A : Type 0} (r : Result A ExportError) → IfErr r (IsTooLarge (holds (parts a).kept) limits.depth limits.values x) → IfErr r (IsNotExported limits bytes)
   refusal_answered (Ok w) h = h
   refusal_answered (Err e) h = is_refused limits bytes a x p e h

@@ -1,9 +1,9 @@
 -- Instructions whose opcode has no argument.
 use Rattle.std.proofs.Common.{◌≡◌, ℕ, List, ◌∷◌, ◌++◌, length, get_or, refl, sym, ap, subst, ◌∙◌}
 use Rattle.pkops.specs.Contents.{IsGood, Keeps, rule_of}
-use Rattle.pkops.specs.declared.layout.Layout.TheVariants as layout
-use Rattle.pkops.specs.declared.op.Op.{Op}
-use Rattle.pkops.specs.declared.op.Op.TheVariants as op
+use Rattle.pkops.specs.declared.Layout.TheVariants as layout
+use Rattle.pkops.specs.declared.Op.{Op}
+use Rattle.pkops.specs.declared.Op.TheVariants as op
 use Rattle.pkops.specs.Spelling.{Argument, Nothing, Instruction, Suits, bytes_of, instruction, layout_at, spelling}
 use Rattle.pkops.specs.Table.{code_of}
 use Rattle.pkread.specs.Admission.{IsAllowed}
@@ -33,7 +33,11 @@ no_argument Nothing s = refl
 no_argument arg s = absurd s
 
 -- the code tells the instruction
-pub bare_front : ((a b : Op) → code_of a ≡ code_of b → a ≡ b) → (bytes : List ℕ) (o : Op) (made : Instruction) → code_of o ≡ get_or bytes 0 0 → layout_at o ≡ layout.Nothing → made ≡ instruction o Nothing → (limit : ℕ) (i : Instruction) (more : List ℕ) → bytes ≡ spelling i ++ more → IsAllowed limit i → (made ≡ i) × (1 ≡ length (spelling i))
+pub bare_front : ((a b : Op) → code_of a ≡ code_of b → a ≡ b)
+    → (bytes : List ℕ) (o : Op) (made : Instruction) → code_of o ≡ get_or bytes 0 0
+    → layout_at o ≡ layout.Nothing → made ≡ instruction o Nothing
+    → (limit : ℕ) (i : Instruction) (more : List ℕ) → bytes ≡ spelling i ++ more → IsAllowed limit i
+    → (made ≡ i) × (1 ≡ length (spelling i))
 bare_front one bytes o made first none is limit i more e h =
     let same : o ≡ i.op = one o i.op (first ∙ ap (λ (l : List ℕ). get_or l 0 0) e) in
     let bare : i.arg ≡ Nothing = no_argument i.arg (subst (λ l. Suits l i.arg) (ap layout_at (sym same) ∙ none) h.good.suits) in (

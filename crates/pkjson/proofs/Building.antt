@@ -11,7 +11,7 @@ use Rattle.serde_json.specs.declared.value.Value.TheVariants as value
 use Rattle.pkjson.specs.declared.node.Node.{Node}
 use Rattle.pkjson.specs.Unfolds.{Sequence, Pairs, Heap, Unfolds, UnfoldItems, UnfoldMembers}
 use Rattle.std.specs.Borrow.{Bor}
-use Rattle.pkjson.specs.Private.Nodes.{named, AllAbove, Ascending, AreOrdered, IsOrdered}
+use Rattle.pkjson.specs.Private.Nodes.{named_members, AllAbove, Ascending, AreOrdered, IsOrdered}
 use Rattle.pkjson.specs.Private.Fits.{Fits, ItemsFit, MembersFit}
 use Rattle.pkjson.proofs.Unfolding.{as_sequence, as_pairs}
 use Rattle.pkjson.proofs.Weighing.{snoc, snoc_member, unfold_snoc, member_snoc, at_seam, member_seam}
@@ -38,9 +38,9 @@ module _ (h : Heap) (fuel : ℕ) where
   unfolding Fits ItemsFit
   item_fits xs n l f = let i = at_seam h (take n xs) (get_or xs n 0) (drop (suc n) xs) f.0 (subst (λ l. UnfoldItems h l f.0) (sym (seam xs n 0 l)) f.1) in (i.0, i.1, omega (arith, i.2, f.2))
 
-  pub member_fits : (ps : List (Bor (List ℕ) × ℕ)) (n : ℕ) (d : Bor (List ℕ) × ℕ) → n < length ps → MembersFit h fuel (named ps) → Fits h fuel (get_or ps n d).1
+  pub member_fits : (ps : List (Bor (List ℕ) × ℕ)) (n : ℕ) (d : Bor (List ℕ) × ℕ) → n < length ps → MembersFit h fuel (named_members ps) → Fits h fuel (get_or ps n d).1
   unfolding Fits MembersFit
-  member_fits ps n d l f = let i = member_seam h (named (take n ps)) _ (named (drop (suc n) ps)) f.0 (subst (λ l. UnfoldMembers h l f.0) (sym (named_seam ps n d l)) f.1) in (i.0, i.1, omega (arith, i.2, f.2))
+  member_fits ps n d l f = let i = member_seam h (named_members (take n ps)) _ (named_members (drop (suc n) ps)) f.0 (subst (λ l. UnfoldMembers h l f.0) (sym (named_seam ps n d l)) f.1) in (i.0, i.1, omega (arith, i.2, f.2))
 
 pub view_null : view value.Null ≡ null
 view_null = search (rules, the_lemmas)
@@ -70,8 +70,11 @@ put_last h (x ∷ xs) p ys (member k w ms) v a u = rw (← u.0, above x.0 xs p y
 put_last h [] p ys (member k w ms) v a u = absurd u
 put_last h (x ∷ xs) p ys no_members v a u = absurd u
 
-pub member_built : (h : Heap) (ps : List (Bor (List ℕ) × ℕ)) (n : ℕ) (d : Bor (List ℕ) × ℕ) (ms : Members) (v : Data) → n < length ps → Ascending (named ps) → UnfoldMembers h (named (take n ps)) ms → Unfolds h (get_or ps n d).1 v → UnfoldMembers h (named (take (n + 1) ps)) (put (get_or ps n d).0.now v ms)
-member_built h ps n d ms v l a u w = rw (named_more ps n d l, put_last h (named (take n ps)) _ (named (drop (suc n) ps)) ms v (subst Ascending (sym (named_seam ps n d l)) a) u) (member_snoc h (named (take n ps)) _ _ ms v u w)
+pub member_built : (h : Heap) (ps : List (Bor (List ℕ) × ℕ)) (n : ℕ) (d : Bor (List ℕ) × ℕ)
+    (ms : Members) (v : Data) → n < length ps → Ascending (named_members ps)
+    → UnfoldMembers h (named_members (take n ps)) ms → Unfolds h (get_or ps n d).1 v
+    → UnfoldMembers h (named_members (take (n + 1) ps)) (put (get_or ps n d).0.now v ms)
+member_built h ps n d ms v l a u w = rw (named_more ps n d l, put_last h (named_members (take n ps)) _ (named_members (drop (suc n) ps)) ms v (subst Ascending (sym (named_seam ps n d l)) a) u) (member_snoc h (named_members (take n ps)) _ _ ms v u w)
 
 pub ordered : (ns : List Node) (x : ℕ) (n m : Node) → AreOrdered ns → x < length ns → n ≡ get_or ns x n → n ≡ m → IsOrdered m
 unfolding AreOrdered

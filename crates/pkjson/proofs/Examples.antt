@@ -2,8 +2,8 @@
 use Rattle.std.proofs.Common.{◌≡◌, ℕ, List, [], ◌∷◌, Option, Some, None, refl}
 use Rattle.std.specs.Prelude.{true, negsuc}
 use Rattle.serde_json.specs.Data.{Data, unsigned, negative, null, boolean, number, array, object, no_items, item, no_members, member}
-use Rattle.pkops.specs.declared.op.Op.{Op}
-use Rattle.pkops.specs.declared.op.Op.TheVariants as op
+use Rattle.pkops.specs.declared.Op.{Op}
+use Rattle.pkops.specs.declared.Op.TheVariants as op
 use Rattle.pkops.specs.Spelling.{Instruction, instruction, Nothing, Number, Counted, Line}
 use Rattle.pkcheck.specs.Runs.{Event, Stopped, start}
 use Rattle.pkcheck.specs.WholeRuns.{Ended, EndedBy}

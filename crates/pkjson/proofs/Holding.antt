@@ -10,7 +10,7 @@ use Rattle.std.proofs.Math.ListN.{set, length-set}
 use Rattle.pkjson.specs.declared.node.Node.{Node}
 use Rattle.pkjson.specs.declared.judge.Weight.{Weight}
 use Rattle.pkjson.specs.Unfolds.{Heap}
-use Rattle.pkjson.specs.Private.Nodes.{heap, content, IsBelow, IsClosed, named}
+use Rattle.pkjson.specs.Private.Nodes.{heap, content, IsBelow, IsClosed, named_members}
 use Rattle.pkjson.specs.Private.Weighs.{Weighs, IsTrusted}
 
 pub held : (ns : List Node) (x : ℕ) (n m : Node) → x < length ns → n ≡ get_or ns x n → n ≡ m → heap ns x ≡ Some (content m)
@@ -35,7 +35,16 @@ some_same w v e = ap (λ o. unwrap_or o w) e
 
 pub trusted_set : (h : Heap) (cap : ℕ) (done : List (Option Weight)) (x : ℕ) (w : Weight) → x < length done → IsTrusted h cap done → Weighs h cap x w → IsTrusted h cap (set done x (Some w))
 unfolding IsTrusted
-trusted_set h cap done x w l t d y v e = elim (nat_apart y x) [ inl q ↦ subst (λ z. Weighs h cap z v) (sym q) (subst (λ u. Weighs h cap x u) (some_same w v (sym (get_or-set_same done x (Some w) None l) ∙ ap (λ z. get_or (set done x (Some w)) z None) (sym q) ∙ get_or_from_slice_get (set done x (Some w)) y (Some v) None e)) d) | inr q ↦ t y v (slice_get-get_or done y None (subst (λ n. y < n) (length-set done x (Some w)) (slice_get_within (set done x (Some w)) y (Some v) e)) ∙ ap Some (sym (get_or-set_other done x y (Some w) None q) ∙ get_or_from_slice_get (set done x (Some w)) y (Some v) None e)) ]
+trusted_set h cap done x w l t d y v e = elim (nat_apart y x) [
+  | inl q ↦ subst (λ z. Weighs h cap z v) (sym q) (subst (λ u. Weighs h cap x u)
+      (some_same w v (sym (get_or-set_same done x (Some w) None l) ∙ ap
+      (λ z. get_or (set done x (Some w)) z None) (sym q) ∙ get_or_from_slice_get (set done x (Some w))
+      y (Some v) None e)) d)
+  | inr q ↦ t y v (slice_get-get_or done y None
+      (subst (λ n. y < n) (length-set done x (Some w)) (slice_get_within (set done x (Some w)) y
+      (Some v) e)) ∙ ap Some (sym (get_or-set_other done x y (Some w) None q) ∙ get_or_from_slice_get
+      (set done x (Some w)) y (Some v) None e))
+]
 
 pub found : (done : List (Option Weight)) (x : ℕ) (w : Weight) → x < length done → get_or done x None ≡ Some w → slice_get done x ≡ Some (Some w)
 found done x w l e = slice_get-get_or done x None l ∙ ap Some e
@@ -47,8 +56,8 @@ Member = Bor (List ℕ) × ℕ
 abbrev pub no_member : Member
 no_member = (record { ref_ptr = (0, 0); now = [] }, 0)
 
-pub named_more : (ps : List Member) (i : ℕ) (d : Member) → i < length ps → named (take (i + 1) ps) ≡ named (take i ps) ++ ((get_or ps i d).0.now, (get_or ps i d).1) ∷ []
+pub named_more : (ps : List Member) (i : ℕ) (d : Member) → i < length ps → named_members (take (i + 1) ps) ≡ named_members (take i ps) ++ ((get_or ps i d).0.now, (get_or ps i d).1) ∷ []
 named_more ps i d h = rw (take_more ps i d h) (map-append _ (take i ps) _)
 
-pub named_seam : (ps : List Member) (i : ℕ) (d : Member) → i < length ps → named (take i ps) ++ ((get_or ps i d).0.now, (get_or ps i d).1) ∷ named (drop (suc i) ps) ≡ named ps
-named_seam ps i d h = sym (map-append _ (take i ps) _) ∙ ap named (seam ps i d h)
+pub named_seam : (ps : List Member) (i : ℕ) (d : Member) → i < length ps → named_members (take i ps) ++ ((get_or ps i d).0.now, (get_or ps i d).1) ∷ named_members (drop (suc i) ps) ≡ named_members ps
+named_seam ps i d h = sym (map-append _ (take i ps) _) ∙ ap named_members (seam ps i d h)

@@ -4,6 +4,7 @@ pub mod Weighing
 pub mod Holding
 pub mod Bare
 pub mod Building
+pub mod Floatless
 pub mod Sending
 pub mod Answering
 pub mod Mirroring

@@ -3,7 +3,7 @@ use Rattle.std.proofs.Common.{◌≡◌, ℕ, suc, zero, ◌<◌, Bool, true, fa
 use Rattle.std.specs.Prelude.{option_map}
 use Rattle.pkops.specs.Spelling.{Instruction}
 use Rattle.pkcheck.specs.Runs.{Event, Import, Did}
-use Rattle.pkjson.specs.Contents.{Kind, same, kind_of, kinds, maker, given_to, all_given, held_by, contents, paired, standing, characters, OfItems, OfPairs, OfValue}
+use Rattle.pkjson.specs.Contents.{Kind, same, kind_by_effect, kinds, maker, given_to, all_given, held_by, contents, paired, standing, characters, OfItems, OfPairs, OfValue}
 use Rattle.pkjson.specs.Unfolds.{Pairs}
 use Rattle.pkjson.specs.Private.Arena.{Kept, kept_by, kept_in, kind_at, given_at, holds, more_given, update}
 use Rattle.pkjson.specs.Private.Mirrors.{Mirrors}
@@ -40,16 +40,24 @@ kind_snoc [] k (suc n) = refl
 kind_snoc (j ∷ ks) k zero = refl
 kind_snoc (j ∷ ks) k (suc n) = kind_snoc ks k n
 
-given_snoc : (ks : List Kept) (kind : Kind) (xs gs : List ℕ) (n : ℕ) → given_at ks n ≡ kept_in (kind_at ks n) gs → given_at (ks ++ record { kind = kind; given = kept_by kind xs } ∷ []) n ≡ kept_in (kind_at (ks ++ record { kind = kind; given = kept_by kind xs } ∷ []) n) (gs ++ cond (same (length ks) n) xs [])
+given_snoc : (ks : List Kept) (kind : Kind) (xs gs : List ℕ) (n : ℕ)
+    → given_at ks n ≡ kept_in (kind_at ks n) gs → given_at (ks ++ record
+    { kind = kind; given = kept_by kind xs } ∷ []) n ≡ kept_in
+    (kind_at (ks ++ record { kind = kind; given = kept_by kind xs } ∷ []) n)
+    (gs ++ cond (same (length ks) n) xs [])
 given_snoc [] kind xs gs zero h = ap (λ l. kept_by kind (l ++ xs)) h
 given_snoc [] kind xs gs (suc n) h = h ∙ sym (append-nil gs)
 given_snoc (j ∷ ks) kind xs gs zero h = h ∙ ap (kept_by j.kind) (sym (append-nil gs))
 given_snoc (j ∷ ks) kind xs gs (suc n) h = given_snoc ks kind xs gs n h
 
-pub mirrors_made : (ks : List Kept) (es : List Event) (i : Instruction) (xs : List ℕ) (m : ℕ) → m ≡ length ks → Mirrors ks es → Mirrors (ks ++ record { kind = kind_of i; given = kept_by (kind_of i) xs } ∷ []) (es ++ Did i xs (Some m) ∷ [])
+pub mirrors_made : (ks : List Kept) (es : List Event) (i : Instruction) (xs : List ℕ) (m : ℕ) → m ≡ length ks → Mirrors ks es → Mirrors (ks ++ record { kind = kind_by_effect i; given = kept_by (kind_by_effect i) xs } ∷ []) (es ++ Did i xs (Some m) ∷ [])
 mirrors_made ks es i xs m e h = rw e (record {
-  kinds = λ n. kind_snoc ks _ n ∙ ap (λ o. first o (cond (same (length ks) n) (Some (kind_of i)) None)) (h.kinds n) ∙ ap (first (kinds es n)) (sym (map_cond kind_of (same (length ks) n) i)) ∙ sym (map_first kind_of (maker n es) _) ∙ ap (option_map kind_of) (sym (maker_append n es _));
-  given = λ n. given_snoc ks (kind_of i) xs (all_given n es) n (h.given n) ∙ ap (kept_in _) (ap (λ l. all_given n es ++ l) (sym (append-nil _)) ∙ sym (given_append n es _));
+  kinds = λ n. kind_snoc ks _ n ∙ ap (λ o. first o (cond (same (length ks) n)
+      (Some (kind_by_effect i)) None)) (h.kinds n) ∙ ap (first (kinds es n))
+      (sym (map_cond kind_by_effect (same (length ks) n) i)) ∙ sym
+      (map_first kind_by_effect (maker n es) _) ∙ ap (option_map kind_by_effect)
+      (sym (maker_append n es _));
+  given = λ n. given_snoc ks (kind_by_effect i) xs (all_given n es) n (h.given n) ∙ ap (kept_in _) (ap (λ l. all_given n es ++ l) (sym (append-nil _)) ∙ sym (given_append n es _));
 })
 
 kind_update : (ks : List Kept) (r : ℕ) (xs : List ℕ) (n : ℕ) → kind_at (update ks r (more_given xs)) n ≡ kind_at ks n
@@ -77,13 +85,13 @@ first_none (Some x) = refl
 
 pub mirrors_received : (ks : List Kept) (es : List Event) (i : Instruction) (r : ℕ) (xs : List ℕ) → r < length ks → Mirrors ks es → Mirrors (update ks r (more_given xs)) (es ++ Did i (r ∷ xs) None ∷ [])
 mirrors_received ks es i r xs l h = record {
-  kinds = λ n. kind_update ks r xs n ∙ h.kinds n ∙ ap (option_map kind_of) (sym (first_none (maker n es)) ∙ sym (maker_append n es _));
+  kinds = λ n. kind_update ks r xs n ∙ h.kinds n ∙ ap (option_map kind_by_effect) (sym (first_none (maker n es)) ∙ sym (maker_append n es _));
   given = λ n. given_update ks r xs (all_given n es) n l (h.given n) ∙ ap (kept_in _) (ap (λ l. all_given n es ++ l) (sym (append-nil _)) ∙ sym (given_append n es _));
 }
 
 pub mirrors_nothing : (ks : List Kept) (es : List Event) (i : Instruction) → Mirrors ks es → Mirrors ks (es ++ Did i [] None ∷ [])
 mirrors_nothing ks es i h = record {
-  kinds = λ n. h.kinds n ∙ ap (option_map kind_of) (sym (first_none (maker n es)) ∙ sym (maker_append n es _));
+  kinds = λ n. h.kinds n ∙ ap (option_map kind_by_effect) (sym (first_none (maker n es)) ∙ sym (maker_append n es _));
   given = λ n. h.given n ∙ ap (kept_in (kind_at ks n)) (sym (append-nil _) ∙ sym (given_append n es _));
 }
 

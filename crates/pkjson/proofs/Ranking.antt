@@ -14,7 +14,7 @@ use Rattle.std.proofs.lemmas.Map.Text.{is_eq-slice_cmp}
 use Rattle.std.proofs.lemmas.Slice.Eq.{bytes_eq-Decides}
 use Rattle.pkjson.specs.Private.Arena.{Kept, kind_at}
 use Rattle.pkjson.specs.Contents.{characters, paired, standing}
-use Rattle.pkjson.specs.Private.Nodes.{named, AllAbove, Ascending}
+use Rattle.pkjson.specs.Private.Nodes.{named_members, AllAbove, Ascending}
 use Rattle.pkjson.specs.Private.Ranks.{text_in, StandsIn, ArePlaces, AreMembers}
 use Rattle.pkjson.proofs.Holding.{Member}
 use Rattle.pkjson.proofs.Settling.{two_more, none_left}
@@ -44,12 +44,12 @@ places_more ts [] (q ∷ ps) p h l s = absurd h
 places_more ts (k ∷ ks) (q ∷ ps) p h l s = (h.0, places_more ts ks ps p h.1 (omega arith) s)
 
 -- the order of places is that of the texts there
-above_at : (k : List ℕ) (ts : List Member) (j : ℕ) → AllAbove k (named ts) → j < length ts → slice_cmp nat_cmp (text_in ts j) k ≡ Greater
+above_at : (k : List ℕ) (ts : List Member) (j : ℕ) → AllAbove k (named_members ts) → j < length ts → slice_cmp nat_cmp (text_in ts j) k ≡ Greater
 above_at k [] j h l = absurd (omega arith)
 above_at k (t ∷ ts) zero h l = h.0
 above_at k (t ∷ ts) (suc j) h l = above_at k ts j h.1 (omega arith)
 
-greater_at : (ts : List Member) (i j : ℕ) → Ascending (named ts) → i < j → j < length ts → slice_cmp nat_cmp (text_in ts j) (text_in ts i) ≡ Greater
+greater_at : (ts : List Member) (i j : ℕ) → Ascending (named_members ts) → i < j → j < length ts → slice_cmp nat_cmp (text_in ts j) (text_in ts i) ≡ Greater
 greater_at [] i j h l m = absurd (omega arith)
 greater_at (t ∷ ts) zero zero h l m = absurd (omega arith)
 greater_at (t ∷ ts) zero (suc j) h l m = above_at t.0.now ts j h.0 (omega arith)
@@ -61,7 +61,7 @@ own_reverse Less e = cc
 own_reverse Equal e = refl
 own_reverse Greater e = cc
 
-cmp_at : (ts : List Member) (i j : ℕ) → Ascending (named ts) → i < length ts → j < length ts → slice_cmp nat_cmp (text_in ts i) (text_in ts j) ≡ nat_cmp i j
+cmp_at : (ts : List Member) (i j : ℕ) → Ascending (named_members ts) → i < length ts → j < length ts → slice_cmp nat_cmp (text_in ts i) (text_in ts j) ≡ nat_cmp i j
 cmp_at ts i j h l m = elim (cases_lt i j) [
   | inl p ↦ nat_list_cmp_total.antisymm (text_in ts i) (text_in ts j) ∙ ap ordering_reverse (greater_at ts i j h p m) ∙ nat_cmp_is i j Less p
   | inr p ↦ elim (cases_lt j i) [
@@ -81,7 +81,7 @@ nat_equal a b e = elim (cases_lt a b) [
   ]
 ]
 
-values_match : (o : Ordering) (a b c : List (ℕ × Member)) → named (values_of (match_ordering o a b c)) ≡ match_ordering o (named (values_of a)) (named (values_of b)) (named (values_of c))
+values_match : (o : Ordering) (a b c : List (ℕ × Member)) → named_members (values_of (match_ordering o a b c)) ≡ match_ordering o (named_members (values_of a)) (named_members (values_of b)) (named_members (values_of c))
 values_match Less a b c = refl
 values_match Equal a b c = refl
 values_match Greater a b c = refl
@@ -96,15 +96,15 @@ module _ (ts : List Member) where
   abbrev ByPlace : ℕ × Member → Type 0
   ByPlace e = StandsIn ts e.1.0.now e.0
 
-  insert_valued : Ascending (named ts) → (es : List (ℕ × Member)) (i : ℕ) (m : Member) → StandsIn ts m.0.now i → All ByPlace es → named (values_of (insert_entry nat_cmp es i m)) ≡ insert_entry (slice_cmp nat_cmp) (named (values_of es)) m.0.now m.1
+  insert_valued : Ascending (named_members ts) → (es : List (ℕ × Member)) (i : ℕ) (m : Member) → StandsIn ts m.0.now i → All ByPlace es → named_members (values_of (insert_entry nat_cmp es i m)) ≡ insert_entry (slice_cmp nat_cmp) (named_members (values_of es)) m.0.now m.1
   insert_valued a [] i m s h = refl
   insert_valued a (e ∷ es) i m s h =
       let g = All-head ByPlace e es h in
       let q : nat_cmp i e.0 ≡ slice_cmp nat_cmp m.0.now e.1.0.now = sym (cmp_at ts i e.0 a s.0 g.0) ∙ ap (λ z. slice_cmp nat_cmp z (text_in ts e.0)) s.1 ∙ ap (λ z. slice_cmp nat_cmp m.0.now z) g.1 in
       values_match (nat_cmp i e.0) ((i, m) ∷ e ∷ es) ((e.0, m) ∷ es) (e ∷ insert_entry nat_cmp es i m)
-      ∙ equal_key (nat_cmp i e.0) m.0.now e.1.0.now q ((m.0.now, m.1) ∷ named (values_of (e ∷ es))) (named (values_of (e ∷ insert_entry nat_cmp es i m))) (named (values_of es)) m.1
-      ∙ ap (λ o. match_ordering o ((m.0.now, m.1) ∷ named (values_of (e ∷ es))) ((e.1.0.now, m.1) ∷ named (values_of es)) (named (values_of (e ∷ insert_entry nat_cmp es i m)))) q
-      ∙ ap (λ l. match_ordering (slice_cmp nat_cmp m.0.now e.1.0.now) ((m.0.now, m.1) ∷ named (values_of (e ∷ es))) ((e.1.0.now, m.1) ∷ named (values_of es)) ((e.1.0.now, e.1.1) ∷ l)) (insert_valued a es i m s (All-tail ByPlace e es h))
+      ∙ equal_key (nat_cmp i e.0) m.0.now e.1.0.now q ((m.0.now, m.1) ∷ named_members (values_of (e ∷ es))) (named_members (values_of (e ∷ insert_entry nat_cmp es i m))) (named_members (values_of es)) m.1
+      ∙ ap (λ o. match_ordering o ((m.0.now, m.1) ∷ named_members (values_of (e ∷ es))) ((e.1.0.now, m.1) ∷ named_members (values_of es)) (named_members (values_of (e ∷ insert_entry nat_cmp es i m)))) q
+      ∙ ap (λ l. match_ordering (slice_cmp nat_cmp m.0.now e.1.0.now) ((m.0.now, m.1) ∷ named_members (values_of (e ∷ es))) ((e.1.0.now, m.1) ∷ named_members (values_of es)) ((e.1.0.now, e.1.1) ∷ l)) (insert_valued a es i m s (All-tail ByPlace e es h))
 
   put_stands : (o : Ordering) (es fs : List (ℕ × Member)) (e : ℕ × Member) (i : ℕ) (m : Member) → nat_cmp i e.0 ≡ o → StandsIn ts m.0.now i → All ByPlace (e ∷ es) → All ByPlace fs → All ByPlace (match_ordering o ((i, m) ∷ e ∷ es) ((e.0, m) ∷ es) (e ∷ fs))
   put_stands Less es fs e i m q s h g = All-cons ByPlace (i, m) (e ∷ es) s h
@@ -115,7 +115,7 @@ module _ (ts : List Member) where
   insert_stands [] i m s h = All-cons ByPlace (i, m) [] s h
   insert_stands (e ∷ es) i m s h = put_stands (nat_cmp i e.0) es (insert_entry nat_cmp es i m) e i m refl s h (insert_stands es i m s (All-tail ByPlace e es h))
 
-  above_stands : Ascending (named ts) → (e : ℕ × Member) (es : List (ℕ × Member)) → AllByRecursion (λ y. nat_cmp e.0 y ≡ Less) (keys_of es) → ByPlace e → All ByPlace es → AllAbove e.1.0.now (named (values_of es))
+  above_stands : Ascending (named_members ts) → (e : ℕ × Member) (es : List (ℕ × Member)) → AllByRecursion (λ y. nat_cmp e.0 y ≡ Less) (keys_of es) → ByPlace e → All ByPlace es → AllAbove e.1.0.now (named_members (values_of es))
   above_stands a e [] l s h = tt
   above_stands a e (f ∷ es) l s h =
       let g = All-head ByPlace f es h in (
@@ -123,7 +123,7 @@ module _ (ts : List Member) where
         above_stands a e es l.1 s (All-tail ByPlace f es h),
       )
 
-  ascending_stands : Ascending (named ts) → (es : List (ℕ × Member)) → IsStrictlySortedBy nat_cmp (keys_of es) → All ByPlace es → Ascending (named (values_of es))
+  ascending_stands : Ascending (named_members ts) → (es : List (ℕ × Member)) → IsStrictlySortedBy nat_cmp (keys_of es) → All ByPlace es → Ascending (named_members (values_of es))
   unfolding IsStrictlySortedBy
   ascending_stands a [] o h = tt
   ascending_stands a (e ∷ es) o h = (above_stands a e es o.0 (All-head ByPlace e es h) (All-tail ByPlace e es h), ascending_stands a es o.1 (All-tail ByPlace e es h))
@@ -144,7 +144,7 @@ module _ (n : ℕ) where
 -- the pairs up to a place are among these entries
 pub record Pairing (ts : List Member) (ks : List Kept) (n : ℕ) (given : List ℕ) (i : ℕ) (es : List (ℕ × Member)) : Type 0 where
   pub within : i ≤ length given
-  pub rest : standing [] (paired (kind_at ks) given) ≡ standing (named (values_of es)) (paired (kind_at ks) (drop i given))
+  pub rest : standing [] (paired (kind_at ks) given) ≡ standing (named_members (values_of es)) (paired (kind_at ks) (drop i given))
   pub keys : IsStrictlySortedBy nat_cmp (keys_of es)
   pub stands : All (λ e. StandsIn ts e.1.0.now e.0) es
   pub below : All (λ m. m.1 < n) (values_of es)
@@ -154,25 +154,30 @@ module _ (ts : List Member) (ks : List Kept) (n : ℕ) (given : List ℕ) where
   unfolding IsStrictlySortedBy
   pairing_begins = record { within = omega arith; rest = refl; keys = tt; stands = All-nil _; below = All-nil _ }
 
-  pub pairing_goes_on : (i : ℕ) (es fs : List (ℕ × Member)) (place : ℕ) (m : Member) → Ascending (named ts) → Pairing ts ks n given i es → i + 1 < length given → All (λ x. x < n) given → StandsIn ts (characters (kind_at ks (get_or given i 0))) place → m.0.now ≡ text_in ts place → m.1 ≡ get_or given (i + 1) 0 → fs ≡ insert_entry nat_cmp es place m → IsStrictlySortedBy nat_cmp (keys_of fs) → Pairing ts ks n given (i + 2) fs
+  pub pairing_goes_on : (i : ℕ) (es fs : List (ℕ × Member)) (place : ℕ) (m : Member)
+      → Ascending (named_members ts) → Pairing ts ks n given i es → i + 1 < length given
+      → All (λ x. x < n) given → StandsIn ts (characters (kind_at ks (get_or given i 0))) place
+      → m.0.now ≡ text_in ts place → m.1 ≡ get_or given (i + 1) 0
+      → fs ≡ insert_entry nat_cmp es place m → IsStrictlySortedBy nat_cmp (keys_of fs)
+      → Pairing ts ks n given (i + 2) fs
   pairing_goes_on i es fs place m a p l g s t w f o = record {
     within = omega arith;
     rest =
         p.rest
-        ∙ ap (standing (named (values_of es))) (two_more (kind_at ks) given i l)
+        ∙ ap (standing (named_members (values_of es))) (two_more (kind_at ks) given i l)
         ∙ ap (λ b. standing b (paired (kind_at ks) (drop (i + 2) given)))
-        (sym (ap (λ z. named (values_of z)) f
+        (sym (ap (λ z. named_members (values_of z)) f
         ∙ insert_valued ts a es place m (s.0, sym t) p.stands
-        ∙ ap (λ z. insert_entry (slice_cmp nat_cmp) (named (values_of es)) z m.1) (t ∙ s.1)
-        ∙ ap (λ z. insert_entry (slice_cmp nat_cmp) (named (values_of es)) (characters (kind_at ks (get_or given i 0))) z) w));
+        ∙ ap (λ z. insert_entry (slice_cmp nat_cmp) (named_members (values_of es)) z m.1) (t ∙ s.1)
+        ∙ ap (λ z. insert_entry (slice_cmp nat_cmp) (named_members (values_of es)) (characters (kind_at ks (get_or given i 0))) z) w));
     keys = o;
     stands = subst (λ z. All (λ e. StandsIn ts e.1.0.now e.0) z) (sym f) (insert_stands ts es place m (s.0, sym t) p.stands);
     below = subst (λ z. All (λ v. v.1 < n) (values_of z)) (sym f) (insert_low n es place m (subst (λ z. z < n) (sym w) (All-get_or (λ x. x < n) given (i + 1) 0 l g)) p.below);
   }
 
-  pub pairing_ends : (i : ℕ) (es : List (ℕ × Member)) → Ascending (named ts) → Pairing ts ks n given i es → length given ≤ i + 1 → AreMembers ks n given (values_of es)
+  pub pairing_ends : (i : ℕ) (es : List (ℕ × Member)) → Ascending (named_members ts) → Pairing ts ks n given i es → length given ≤ i + 1 → AreMembers ks n given (values_of es)
   pairing_ends i es a p l = record {
     ascending = ascending_stands ts a es p.keys p.stands;
     below = p.below;
-    pairs = sym (p.rest ∙ ap (standing (named (values_of es))) (none_left (kind_at ks) given i l));
+    pairs = sym (p.rest ∙ ap (standing (named_members (values_of es))) (none_left (kind_at ks) given i l));
   }

@@ -4,15 +4,15 @@ use Rattle.std.proofs.lemmas.Bool.{cond_both}
 use Rattle.std.specs.Prelude.{slice_index_or}
 use Rattle.std.proofs.Math.Seq.{take-append_seam, drop-append_seam}
 use Rattle.std.specs.Io.KnownBytes.{Consumes}
-use Rattle.pkops.specs.declared.op.Op.TheVariants as op
+use Rattle.pkops.specs.declared.Op.TheVariants as op
 use Rattle.pkops.specs.Limits.{Bounds, holding_all}
 use Rattle.pkops.specs.Payloads.{is_passed, payload_limit}
 use Rattle.pkops.specs.Spelling.{Instruction, spelling}
 use Rattle.pkops.specs.Answer.{Answer, Whole, More, Bad, Answers}
-use Rattle.pkops.specs.declared.fault.Fault.{Fault}
-use Rattle.pkread.specs.Rows.{Sight}
-use Rattle.pkread.specs.declared.refusal.Reason.{Reason}
-use Rattle.pkcheck.specs.declared.old_strings.OldStrings.TheVariants.{Unknown}
+use Rattle.pkops.specs.declared.Fault.{Fault}
+use Rattle.pkread.specs.Rows.{Sight, in_memory}
+use Rattle.pkread.specs.declared.Reason.{Reason}
+use Rattle.pkcheck.specs.declared.OldStrings.TheVariants.{Unknown}
 use Rattle.pkcheck.specs.Knowledge.{Asked}
 use Rattle.pkcheck.specs.Refused.{Refused}
 use Rattle.pkjson.specs.declared.error.ExportError.{ExportError}
@@ -25,7 +25,7 @@ use Rattle.pkcheck.specs.Accepted.{Accepted}
 use Rattle.pkjson.specs.Plain.{goes_on}
 use Rattle.pkjson.specs.Private.Arena.{no_object}
 use Rattle.pkjson.specs.Private.Mirrors.{MirrorsState}
-use Rattle.pkjson.specs.Export.{AcceptedAs, IsAccepted, IsRefused, in_memory}
+use Rattle.pkjson.specs.Export.{AcceptedAs, IsAccepted, IsNotExported}
 use Rattle.pkjson.specs.Private.Result.{TellsRefusal}
 use Rattle.pkjson.specs.Private.Standing.{HasStop, Stands}
 use Rattle.pkjson.proofs.Running.{run_is}
@@ -101,6 +101,9 @@ accepted_as limits held bytes old new taken imports l e a =
     (b.instructions, record { new = new; taken = taken; imports = imports; accepted = b; is = refl })
 
 -- and what it refuses
-pub refused_as : (limits held : Bounds) (bytes rest : List ℕ) (old : Sight) (at : ℕ) (why : Reason) (pair : Option Asked) (e : ExportError) → held ≡ holding_all limits → old ≡ in_memory bytes → Refused Unknown None held old (in_memory rest) at why pair → TellsRefusal at why e → IsRefused limits bytes e
+pub refused_as : (limits held : Bounds) (bytes rest : List ℕ) (old : Sight) (at : ℕ) (why : Reason)
+    (pair : Option Asked) (e : ExportError) → held ≡ holding_all limits → old ≡ in_memory bytes
+    → Refused Unknown None held old (in_memory rest) at why pair → TellsRefusal at why e
+    → IsNotExported limits bytes e
 refused_as limits held bytes rest old at why pair e l s r (inl q) = rw q tt
 refused_as limits held bytes rest old at why pair e l s r (inr q) = rw q.1 ((rest, pair, subst (λ o. Refused Unknown None (holding_all limits) o (in_memory rest) at why pair) s (subst (λ h. Refused Unknown None h old (in_memory rest) at why pair) l r)), q.0)

@@ -1,16 +1,16 @@
 -- Along a plain run.
 use Rattle.std.proofs.Common.{◌≡◌, ◌≢◌, inl, inr, ℕ, zero, suc, ◌+◌, ◌≤◌, Bool, true, false, cond, List, [], ◌∷◌, ◌++◌, length, replicate, refl, sym, ap, ◌∙◌, subst, arith, append_assoc, Some, None, Result, Ok, Err, All}
 use Rattle.std.proofs.lemmas.List.Elements.{All-head, All-tail}
-use Rattle.pkops.specs.declared.op.Op.TheVariants as op
+use Rattle.pkops.specs.declared.Op.TheVariants as op
 use Rattle.pkops.specs.Spelling.{Instruction, spelling}
 use Rattle.pkread.specs.Admission.{IsAllowed}
 use Rattle.pkread.specs.Sequence.{spellings}
-use Rattle.pkcheck.specs.declared.machine.effects.Class.TheVariants as class
+use Rattle.pkcheck.specs.declared.effect.Class.TheVariants as class
 use Rattle.pkcheck.specs.Effects as effect
-use Rattle.pkcheck.specs.declared.machine.effects.Gives.{Gives}
-use Rattle.pkcheck.specs.declared.machine.effects.Gives.TheVariants as gives
-use Rattle.pkcheck.specs.declared.machine.effects.Names.TheVariants.{NoName}
-use Rattle.pkcheck.specs.declared.machine.effects.Wanted.TheVariants.{WantsList, WantsDict}
+use Rattle.pkcheck.specs.declared.effect.Gives.{Gives}
+use Rattle.pkcheck.specs.declared.effect.Gives.TheVariants as gives
+use Rattle.pkcheck.specs.declared.effect.Names.TheVariants.{NoName}
+use Rattle.pkcheck.specs.declared.effect.Wanted.TheVariants.{WantsList, WantsDict}
 use Rattle.pkcheck.specs.Effects.{Effect, effect_of}
 use Rattle.pkcheck.specs.Shape.{Breach, Entry, Taken, operands, top}
 use Rattle.pkcheck.specs.Runs.{Object, State, Stepped, WentOn, Raised, Stopped, Stuck, step, perform, operate_step, effect_asks, class_at, start}
@@ -19,8 +19,8 @@ use Rattle.pkjson.specs.declared.action.Action.{Action}
 use Rattle.pkjson.specs.declared.action.Action.TheVariants.{Makes, Fills, Moves, Stops}
 use Rattle.pkjson.specs.declared.action.Made.TheVariants as made
 use Rattle.pkjson.specs.declared.action.Filled.TheVariants as filled
-use Rattle.pkjson.specs.Contents.{gives_of, kind_of}
-use Rattle.pkjson.specs.Plain.{Fault, OtherKey, LargeNumber, OtherOpcode, is_plain, goes_on, plain_run, first_fault, fault_of, fault_here, fault_after, keys_by, are_texts, number_fits, is_text, every_other, rest_of, taken}
+use Rattle.pkjson.specs.Contents.{gives_of, kind_by_effect}
+use Rattle.pkjson.specs.Plain.{Fault, OtherKey, LargeNumber, OtherOpcode, is_plain_data, goes_on, plain_run, first_fault, fault_of, fault_here, fault_after, keys_by, are_texts, number_fits, is_known_text, every_other, rest_of, taken}
 use Rattle.pkjson.specs.Private.Arena.{Kept, Arena, kind_at, is_text_kind, are_text_kinds}
 use Rattle.pkjson.specs.Private.Acting.{acted, keys_acted, number_acted, fault_acted, ActsAs, KindsAgree}
 use Rattle.pkjson.specs.Private.Mirrors.{MirrorsState}
@@ -49,7 +49,7 @@ not_stuck listed (Stopped r t) f h = tt
 not_stuck listed (Stuck b) f h = absurd h
 
 -- the keys and the numbers of both
-texts_same : (ks : List Kept) (rs : List Object) → ((n : ℕ) → is_text_kind (kind_at ks n) ≡ is_text (class_at rs n)) → (ns : List ℕ) → are_texts rs ns ≡ are_text_kinds ks ns
+texts_same : (ks : List Kept) (rs : List Object) → ((n : ℕ) → is_text_kind (kind_at ks n) ≡ is_known_text (class_at rs n)) → (ns : List ℕ) → are_texts rs ns ≡ are_text_kinds ks ns
 texts_same ks rs h [] = refl
 texts_same ks rs h (n ∷ ns) = ap (λ b. cond b (are_texts rs ns) false) (sym (h n)) ∙ ap (λ b. cond (is_text_kind (kind_at ks n)) b false) (texts_same ks rs h ns)
 
@@ -98,7 +98,7 @@ numbers_same (Moves m) (effect.Moves p) i w = refl
 numbers_same Stops effect.Stops i w = refl
 numbers_same action e i w = absurd w
 
-fault_same : (action : Action) (i : Instruction) (a : Arena) (s : State) → is_plain i.op ≡ true → ActsAs action (effect_of i.op) → MirrorsState a s → IsNotStuck (step i s goes_on) → fault_of i s ≡ fault_acted action i a
+fault_same : (action : Action) (i : Instruction) (a : Arena) (s : State) → is_plain_data i.op ≡ true → ActsAs action (effect_of i.op) → MirrorsState a s → IsNotStuck (step i s goes_on) → fault_of i s ≡ fault_acted action i a
 fault_same action i a s p w h n =
     let k : are_texts s.objects (keys_by (effect_of i.op) s.shape.entries) ≡ are_text_kinds a.kept (keys_acted action a.shape.entries) =
     ap (are_texts s.objects) (keys_same action (effect_of i.op) i s w n ∙ ap (λ y. keys_acted action y.entries) (sym h.shape)) ∙ texts_same a.kept s.objects h.texts (keys_acted action a.shape.entries) in
@@ -136,10 +136,14 @@ module _ (limit : ℕ) (p : List Instruction) (rest : List ℕ) (at : ℕ) (a : 
   finds = not_stuck h.listed (step i h.state goes_on) (plain_run h.after) h.well
 
   -- it isn't plain
-  pub other_opcode : is_plain i.op ≡ false → first_fault 0 p start ≡ Some (at, OtherOpcode i.op)
-  other_opcode e = h.fault ∙ ap (λ b. fault_here (cond b (cond (are_texts h.state.objects (keys_by (effect_of i.op) h.state.shape.entries)) (cond (number_fits (gives_of (effect_of i.op)) i) None (Some LargeNumber)) (Some OtherKey)) (Some (OtherOpcode i.op))) at (fault_after (step i h.state goes_on) (first_fault (at + length (spelling i)) h.after))) e
+  pub other_opcode : is_plain_data i.op ≡ false → first_fault 0 p start ≡ Some (at, OtherOpcode i.op)
+  other_opcode e = h.fault ∙ ap (λ b. fault_here
+      (cond b (cond (are_texts h.state.objects (keys_by (effect_of i.op) h.state.shape.entries))
+      (cond (number_fits (gives_of (effect_of i.op)) i) None (Some LargeNumber)) (Some OtherKey))
+      (Some (OtherOpcode i.op))) at (fault_after (step i h.state goes_on)
+      (first_fault (at + length (spelling i)) h.after))) e
 
-  module _ (action : Action) (plain : is_plain i.op ≡ true) (acts : ActsAs action (effect_of i.op)) where
+  module _ (action : Action) (plain : is_plain_data i.op ≡ true) (acts : ActsAs action (effect_of i.op)) where
     fault_is : fault_of i h.state ≡ fault_acted action i a
     fault_is = fault_same action i a h.state plain acts h.mirrors finds
 
@@ -151,7 +155,7 @@ module _ (limit : ℕ) (p : List Instruction) (rest : List ℕ) (at : ℕ) (a : 
     goes_by : fault_acted action i a ≡ None → first_fault 0 p start ≡ fault_after (step i h.state goes_on) (first_fault (at + length (spelling i)) h.after)
     goes_by e = h.fault ∙ ap (λ o. fault_here o at (fault_after (step i h.state goes_on) (first_fault (at + length (spelling i)) h.after))) (fault_is ∙ e)
 
-    module _ (kinds : KindsAgree action i (kind_of i)) (goes : action ≢ Stops) where
+    module _ (kinds : KindsAgree action i (kind_by_effect i)) (goes : action ≢ Stops) where
       -- nothing lacks
       pub lacks_nothing : (b : Breach) → acted action i a ≡ Err b → ⊥
       lacks_nothing b e = let r = mirrors_step i a h.state h.mirrors action acts kinds goes finds in err_ok b r.0 (sym e ∙ r.1)
@@ -175,7 +179,7 @@ module _ (limit : ℕ) (p : List Instruction) (rest : List ℕ) (at : ℕ) (a : 
           }
 
   -- STOP
-  pub stops_here : is_plain i.op ≡ true → ActsAs Stops (effect_of i.op) → (q : ℕ × List (Entry ℕ)) × (top a.shape.entries ≡ Ok q) × (plain_run p start ≡ EndedBy (Stopped q.0 (record h.state { shape = record h.state.shape { entries = q.1 } }))) × (first_fault 0 p start ≡ None)
+  pub stops_here : is_plain_data i.op ≡ true → ActsAs Stops (effect_of i.op) → (q : ℕ × List (Entry ℕ)) × (top a.shape.entries ≡ Ok q) × (plain_run p start ≡ EndedBy (Stopped q.0 (record h.state { shape = record h.state.shape { entries = q.1 } }))) × (first_fault 0 p start ≡ None)
   stops_here plain acts =
       let r = stops_at i h.state acts finds in
       (r.0, ap (λ y. top y.entries) h.mirrors.shape ∙ r.1, h.run ∙ ap (λ st. go_on st (plain_run h.after)) r.2, goes_by Stops plain acts (no_stop_fault (effect_of i.op) acts) ∙ ap (λ st. fault_after st (first_fault (at + length (spelling i)) h.after)) r.2)

@@ -1,5 +1,5 @@
 -- What is sent of the parts makes what is sent of the whole.
-use Rattle.std.proofs.Common.{◌≡◌, ℕ, suc, ◌+◌, ◌<◌, ◌≤◌, ℤ, pos, negsuc, Bool, false, List, [], ◌∷◌, length, drop, get_or, refl, ap, subst, Option, Some, None, add-one, drop-cons}
+use Rattle.std.proofs.Common.{◌≡◌, ℕ, suc, ◌+◌, ◌<◌, ◌≤◌, ℤ, Bool, false, List, [], ◌∷◌, length, drop, get_or, refl, ap, subst, Option, Some, None, add-one, drop-cons}
 use Rattle.std.specs.Prelude.{option_map, slice_get}
 use Rattle.std.specs.Borrow.{Bor}
 use Rattle.std.proofs.Props.{props}
@@ -10,15 +10,16 @@ use Rattle.serde.specs.Event.{Log, Logs}
 use Rattle.serde.specs.declared.name.Case.TheVariants.{AsIs}
 use Rattle.serde_json.specs.Data.{Num, Data, null, boolean, number, string, array, object, Items, no_items, item, Members, no_members, member}
 use Rattle.serde_json.specs.Events.{SendsItems, SendsMembers, items_len, members_len, number_event}
-use Rattle.serde_json.specs.Find.{is_float, of_integer}
+use Rattle.serde_json.specs.Find.{of_integer}
 use Rattle.serde_json.specs.Sent.{IsTextOf}
-use Rattle.serde_json.specs.Written.{has_float, items_have_float, members_have_float}
+use Rattle.serde_json.specs.Written.{has_float}
 use Rattle.serde_json.proofs.FreeTexts.{text_of_value}
 use Rattle.pkjson.specs.declared.node.Node.{Node}
 use Rattle.pkjson.specs.declared.node.Node.TheVariants as node
-use Rattle.pkjson.specs.Unfolds.{Scalar, Sequence, Pairs, Heap, Unfolds, UnfoldItems, UnfoldMembers}
-use Rattle.pkjson.specs.Private.Nodes.{IsBelow, IsClosed, content, heap, named}
+use Rattle.pkjson.specs.Unfolds.{Scalar, Sequence, Pairs, Heap, UnfoldItems, UnfoldMembers}
+use Rattle.pkjson.specs.Private.Nodes.{IsBelow, IsClosed, content, heap, named_members}
 use Rattle.pkjson.specs.Private.Sends.{IsCompact, Sends, SendsArray, SendsObject}
+use Rattle.pkjson.proofs.Floatless.{floatless_in, integer_floatless}
 
 module _ (h : Heap) (x : ℕ) (old new : Log) where
   pub sends_null : h x ≡ Some (Scalar null) → Logs old new event.nothing → Sends h x old new
@@ -45,7 +46,7 @@ module _ (h : Heap) (x : ℕ) (old new : Log) where
   unfolding Sends SendsObject
   sends_object ps e w = (object w.0, (ps, e, w.1), w.2)
 
-named_length : (ps : List (Bor (List ℕ) × ℕ)) → length (named ps) ≡ length ps
+named_length : (ps : List (Bor (List ℕ) × ℕ)) → length (named_members ps) ≡ length ps
 named_length [] = refl
 named_length (p ∷ ps) = ap suc (named_length ps)
 
@@ -81,7 +82,7 @@ module _ (h : Heap) where
 
   -- the same of an object and its members
   abbrev pub MembersSoFar : List (Bor (List ℕ) × ℕ) → ℕ → Log → Log → Type 0
-  MembersSoFar ps n first here = (end : Log) (ms : Members) → UnfoldMembers h (named (drop n ps)) ms → SendsMembers ms here end → (ws : Members) × UnfoldMembers h (named ps) ws × SendsMembers ws first end
+  MembersSoFar ps n first here = (end : Log) (ms : Members) → UnfoldMembers h (named_members (drop n ps)) ms → SendsMembers ms here end → (ws : Members) × UnfoldMembers h (named_members ps) ws × SendsMembers ws first end
 
   pub no_members_sent : (ps : List (Bor (List ℕ) × ℕ)) (first : Log) → MembersSoFar ps 0 first first
   no_members_sent ps first = λ end ms u s. (ms, u, s)
@@ -90,11 +91,11 @@ module _ (h : Heap) where
   unfolding Sends
   member_sent ps n d first here keyed mid l far key w = λ end ms u s. far end (member (get_or ps n d).0.now w.0 ms) (rw (drop-cons ps n d l) (refl, w.1, rw add-one at u)) (keyed, mid, key, w.2, s)
 
-  pub object_sent : (ps : List (Bor (List ℕ) × ℕ)) (n : ℕ) (old first here end : Log) → length ps ≤ n → Logs old first (event.map_begins (Some (length ps))) → MembersSoFar ps n first here → Logs here end event.map_ends → SendsObject h (named ps) old end
+  pub object_sent : (ps : List (Bor (List ℕ) × ℕ)) (n : ℕ) (old first here end : Log) → length ps ≤ n → Logs old first (event.map_begins (Some (length ps))) → MembersSoFar ps n first here → Logs here end event.map_ends → SendsObject h (named_members ps) old end
   unfolding SendsObject
   object_sent ps n old first here end all begins far ends =
       let w = far end no_members (rw (drop_all n ps all) tt) ends in
-      (w.0, w.1, (first, rw (members_length (named ps) w.0 w.1, named_length ps) begins, w.2))
+      (w.0, w.1, (first, rw (members_length (named_members ps) w.0 w.1, named_length ps) begins, w.2))
 
 -- whether each object names only objects that there are is a proposition
 below_prop : (n : ℕ) (m : Node) → IsProp (IsBelow n m)
@@ -106,43 +107,21 @@ pub closed_prop : (ns : List Node) → IsProp (IsClosed ns)
 unfolding IsClosed
 closed_prop ns = Π_prop (λ x. Π_prop (λ m. Π_prop (λ e. below_prop (length ns) m)))
 
--- no object is a float
-whole_integer : (z : ℤ) → is_float (of_integer z) ≡ false
-whole_integer (pos n) = refl
-whole_integer (negsuc n) = refl
+-- no node is a float
+node_floatless : (n : Node) (d : Data) → content n ≡ Scalar d → has_float d ≡ false
+node_floatless node.Null d e = let is : null ≡ d = cc in subst (λ v. has_float v ≡ false) is refl
+node_floatless (node.Bool b) d e = let is : boolean b ≡ d = cc in subst (λ v. has_float v ≡ false) is refl
+node_floatless (node.Int z) d e = let is : number (of_integer z) ≡ d = cc in subst (λ v. has_float v ≡ false) is (integer_floatless z)
+node_floatless (node.Text t) d e = let is : string t.now ≡ d = cc in subst (λ v. has_float v ≡ false) is refl
+node_floatless (node.List v) d e = absurd cc
+node_floatless (node.Dict v) d e = absurd cc
 
-whole_node : (o : Option Node) (n : Num) → option_map content o ≡ Some (Scalar (number n)) → is_float n ≡ false
-whole_node None n e = absurd cc
-whole_node (Some node.Null) n e = absurd cc
-whole_node (Some (node.Bool b)) n e = absurd cc
-whole_node (Some (node.Int z)) n e = let is : of_integer z ≡ n = cc in subst (λ m. is_float m ≡ false) is (whole_integer z)
-whole_node (Some (node.Text t)) n e = absurd cc
-whole_node (Some (node.List v)) n e = absurd cc
-whole_node (Some (node.Dict v)) n e = absurd cc
+heap_floatless : (o : Option Node) (d : Data) → option_map content o ≡ Some (Scalar d) → has_float d ≡ false
+heap_floatless None d e = absurd cc
+heap_floatless (Some n) d e = node_floatless n d cc
 
 module _ (ns : List Node) where
-  mutual
-    no_float : (x : ℕ) (v : Data) → Unfolds (heap ns) x v → has_float v ≡ false
-    no_float x null u = refl
-    no_float x (boolean b) u = refl
-    no_float x (number n) u = whole_node (slice_get ns x) n u
-    no_float x (string t) u = refl
-    no_float x (array vs) u = no_floats u.0 vs u.2
-    no_float x (object ms) u = no_member_floats u.0 ms u.2
-
-    no_floats : (xs : List ℕ) (vs : Items) → UnfoldItems (heap ns) xs vs → items_have_float vs ≡ false
-    no_floats [] no_items u = refl
-    no_floats (x ∷ xs) (item v vs) u = rw (no_float x v u.0) (no_floats xs vs u.1)
-    no_floats [] (item v vs) u = absurd u
-    no_floats (x ∷ xs) no_items u = absurd u
-
-    no_member_floats : (ps : List (List ℕ × ℕ)) (ms : Members) → UnfoldMembers (heap ns) ps ms → members_have_float ms ≡ false
-    no_member_floats [] no_members u = refl
-    no_member_floats (p ∷ ps) (member k v ms) u = rw (no_float p.1 v u.1) (no_member_floats ps ms u.2)
-    no_member_floats [] (member k v ms) u = absurd u
-    no_member_floats (p ∷ ps) no_members u = absurd u
-
   -- what is printed of the events of a value is its text
   pub compact : (x : ℕ) (text : List ℕ) → ((log : Log) × Sends (heap ns) x (Some []) log × IsTextOf log text) → IsCompact (heap ns) x text
   unfolding Sends IsCompact
-  compact x text w = (w.1.0, w.1.1, text_of_value w.1.0 w.0 text w.1.2 w.2 (no_float x w.1.0 w.1.1))
+  compact x text w = (w.1.0, w.1.1, text_of_value w.1.0 w.0 text w.1.2 w.2 (floatless_in (heap ns) (λ n. heap_floatless (slice_get ns n)) x w.1.0 w.1.1))

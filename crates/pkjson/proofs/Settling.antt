@@ -14,7 +14,7 @@ use Rattle.pkjson.specs.declared.node.Node.{Node}
 use Rattle.pkjson.specs.Contents.{Kind, paired, characters, held_by}
 use Rattle.pkjson.specs.Private.Arena.{Kept, kind_at, given_in, holds}
 use Rattle.pkjson.specs.Private.Mirrors.{AreBelow, GivenBelow}
-use Rattle.pkjson.specs.Private.Nodes.{named, content, heap, IsBelow, IsClosed, AllAbove, Ascending, IsOrdered, AreOrdered}
+use Rattle.pkjson.specs.Private.Nodes.{named_members, content, heap, IsBelow, IsClosed, AllAbove, Ascending, IsOrdered, AreOrdered}
 use Rattle.pkjson.specs.Private.Settled.{AreGivenBelow, Settles, AreSettled}
 use Rattle.pkjson.specs.declared.objects.Object.{Object}
 use Rattle.pkjson.specs.Private.Seen.{kept_of, kept_all}
@@ -24,14 +24,14 @@ use Rattle.pkjson.proofs.Holding.{Member, take_more}
 abbrev by_text : Bor (List ℕ) → Bor (List ℕ) → Ordering
 by_text x y = slice_cmp nat_cmp x.now y.now
 
-named_match : (o : Ordering) (a b c : List Member) → named (match_ordering o a b c) ≡ match_ordering o (named a) (named b) (named c)
+named_match : (o : Ordering) (a b c : List Member) → named_members (match_ordering o a b c) ≡ match_ordering o (named_members a) (named_members b) (named_members c)
 named_match Less a b c = refl
 named_match Equal a b c = refl
 named_match Greater a b c = refl
 
-pub insert_named : (es : List Member) (k : Bor (List ℕ)) (w : ℕ) → named (insert_entry by_text es k w) ≡ insert_entry (slice_cmp nat_cmp) (named es) k.now w
+pub insert_named : (es : List Member) (k : Bor (List ℕ)) (w : ℕ) → named_members (insert_entry by_text es k w) ≡ insert_entry (slice_cmp nat_cmp) (named_members es) k.now w
 insert_named [] k w = refl
-insert_named (e ∷ es) k w = named_match (by_text k e.0) _ _ _ ∙ ap (λ l. match_ordering (by_text k e.0) ((k.now, w) ∷ named (e ∷ es)) ((e.0.now, w) ∷ named es) ((e.0.now, e.1) ∷ l)) (insert_named es k w)
+insert_named (e ∷ es) k w = named_match (by_text k e.0) _ _ _ ∙ ap (λ l. match_ordering (by_text k e.0) ((k.now, w) ∷ named_members (e ∷ es)) ((e.0.now, w) ∷ named_members es) ((e.0.now, e.1) ∷ l)) (insert_named es k w)
 
 put_below : (n : ℕ) (o : Ordering) (es fs : List Member) (e : Member) (k : Bor (List ℕ)) (w : ℕ) → w < n → All (λ p. p.1 < n) (e ∷ es) → All (λ p. p.1 < n) fs → All (λ p. p.1 < n) (match_ordering o ((k, w) ∷ e ∷ es) ((e.0, w) ∷ es) (e ∷ fs))
 put_below n Less es fs e k w l h g = All-cons (λ p. p.1 < n) (k, w) (e ∷ es) l h
@@ -59,11 +59,11 @@ module _ (kinds : ℕ → Option Kind) where
   pub none_left : (xs : List ℕ) (i : ℕ) → length xs ≤ i + 1 → paired kinds (drop i xs) ≡ []
   none_left xs i h = short (drop i xs) (omega (arith, h, length-drop i xs))
 
-all_above : (k : Bor (List ℕ)) (es : List Member) → AllByRecursion (λ y. by_text k y ≡ Less) (keys_of es) → AllAbove k.now (named es)
+all_above : (k : Bor (List ℕ)) (es : List Member) → AllByRecursion (λ y. by_text k y ≡ Less) (keys_of es) → AllAbove k.now (named_members es)
 all_above k [] h = tt
 all_above k (e ∷ es) h = (nat_list_cmp_total.antisymm e.0.now k.now ∙ ap ordering_reverse h.0, all_above k es h.1)
 
-pub ascending_found : (es : List Member) → IsStrictlySortedBy by_text (keys_of es) → Ascending (named es)
+pub ascending_found : (es : List Member) → IsStrictlySortedBy by_text (keys_of es) → Ascending (named_members es)
 unfolding IsStrictlySortedBy
 ascending_found [] h = tt
 ascending_found (e ∷ es) h = (all_above e.0 es h.0, ascending_found es h.1)

@@ -3,12 +3,12 @@ use Rattle.std.proofs.Common.{◌≡◌, ◌≢◌, ℕ, suc, zero, ◌+◌, Boo
 use Rattle.serde_json.specs.Data.{Data, boolean}
 use Rattle.pkops.specs.Spelling.{Instruction}
 use Rattle.pkops.specs.Operands.{names_bool, memo_number}
-use Rattle.pkcheck.specs.declared.machine.effects.Class.TheVariants as class
+use Rattle.pkcheck.specs.declared.effect.Class.TheVariants as class
 use Rattle.pkcheck.specs.Effects as effect
-use Rattle.pkcheck.specs.declared.machine.effects.Gives.{Gives}
-use Rattle.pkcheck.specs.declared.machine.effects.Gives.TheVariants as gives
-use Rattle.pkcheck.specs.declared.machine.effects.Names.TheVariants.{NoName}
-use Rattle.pkcheck.specs.declared.machine.effects.Wanted.TheVariants.{WantsList, WantsDict}
+use Rattle.pkcheck.specs.declared.effect.Gives.{Gives}
+use Rattle.pkcheck.specs.declared.effect.Gives.TheVariants as gives
+use Rattle.pkcheck.specs.declared.effect.Names.TheVariants.{NoName}
+use Rattle.pkcheck.specs.declared.effect.Wanted.TheVariants.{WantsList, WantsDict}
 use Rattle.pkcheck.specs.Effects.{Effect, effect_of}
 use Rattle.pkcheck.specs.Shape.{Breach, Entry, Mark, Item, Shape, Taken, and_then, operands, moved, front, top}
 use Rattle.pkcheck.specs.Runs.{ObjectClass, Text, Plain, Object, Did, State, Stepped, WentOn, Raised, Stopped, Stuck, step, perform, operate_step, move_step, stop_step, class_at, text, int_or_bool}
@@ -18,10 +18,10 @@ use Rattle.pkjson.specs.declared.action.Made.{Made}
 use Rattle.pkjson.specs.declared.action.Made.TheVariants as made
 use Rattle.pkjson.specs.declared.action.Filled.{Filled}
 use Rattle.pkjson.specs.declared.action.Filled.TheVariants as filled
-use Rattle.pkjson.specs.Contents.{Kind, OfItems, OfPairs, OfValue, kind_of}
-use Rattle.pkjson.specs.Plain.{goes_on, is_text}
+use Rattle.pkjson.specs.Contents.{Kind, OfItems, OfPairs, OfValue, kind_by_effect}
+use Rattle.pkjson.specs.Plain.{goes_on, is_known_text}
 use Rattle.pkjson.specs.Private.Arena.{Kept, Arena, kept_by, kind_at, update, more_given, is_text_kind}
-use Rattle.pkjson.specs.Private.Acting.{found, found_above, made_of, filled_of, kind_made, move_of, acted, MakesSame, FillsSame, ActsAs, KindsAgree}
+use Rattle.pkjson.specs.Private.Acting.{picked, found_above, made_of, filled_of, kind_made, move_of, acted, MakesSame, FillsSame, ActsAs, KindsAgree}
 use Rattle.pkjson.specs.Private.Mirrors.{Mirrors, AreBelow, EntriesBelow, CellsBelow, IsHeld, GivenBelow, MirrorsState}
 use Rattle.pkjson.proofs.Mirroring.{mirrors_made, mirrors_received}
 use Rattle.pkjson.proofs.Taking.{found_of, above_of, found_below, above_below, above_first, moved_below, TakenBelow}
@@ -68,7 +68,10 @@ length_update (x ∷ xs) zero f = refl
 length_update (x ∷ xs) (suc n) f = ap suc (length_update xs n f)
 
 -- which are texts
-texts_snoc : (ks : List Kept) (rs : List Object) (k : Kept) (r : Object) → length ks ≡ length rs → ((n : ℕ) → is_text_kind (kind_at ks n) ≡ is_text (class_at rs n)) → is_text_kind (Some k.kind) ≡ is_text (Some r.class_of) → (n : ℕ) → is_text_kind (kind_at (ks ++ k ∷ []) n) ≡ is_text (class_at (rs ++ r ∷ []) n)
+texts_snoc : (ks : List Kept) (rs : List Object) (k : Kept) (r : Object) → length ks ≡ length rs
+    → ((n : ℕ) → is_text_kind (kind_at ks n) ≡ is_known_text (class_at rs n))
+    → is_text_kind (Some k.kind) ≡ is_known_text (Some r.class_of) → (n : ℕ)
+    → is_text_kind (kind_at (ks ++ k ∷ []) n) ≡ is_known_text (class_at (rs ++ r ∷ []) n)
 texts_snoc [] [] k r l h e zero = e
 texts_snoc [] [] k r l h e (suc n) = refl
 texts_snoc (j ∷ ks) (q ∷ rs) k r l h e zero = h 0
@@ -98,7 +101,7 @@ after_filling i v s = record {
   events = s.events ++ Did i v.operands None ∷ [];
 }
 
-making : (i : Instruction) (a : Arena) (s : State) (v : Taken ℕ) (k : Kind) (c : ObjectClass) → kind_of i ≡ k → is_text_kind (Some k) ≡ is_text (Some c) → MirrorsState a s → TakenBelow (length a.kept) v → MirrorsState (made_of k v a) (after_making i v c s)
+making : (i : Instruction) (a : Arena) (s : State) (v : Taken ℕ) (k : Kind) (c : ObjectClass) → kind_by_effect i ≡ k → is_text_kind (Some k) ≡ is_known_text (Some c) → MirrorsState a s → TakenBelow (length a.kept) v → MirrorsState (made_of k v a) (after_making i v c s)
 making i a s v k c q e h b =
     let n : length (a.kept ++ record { kind = k; given = kept_by k v.operands } ∷ []) ≡ length a.kept + 1 = length-append a.kept _ in
     record {
@@ -110,7 +113,10 @@ making i a s v k c q e h b =
       objects = subst (λ z. Mirrors (a.kept ++ record { kind = z; given = kept_by z v.operands } ∷ []) (s.events ++ Did i v.operands (Some (length s.objects)) ∷ [])) q (mirrors_made a.kept s.events i v.operands (length s.objects) (sym h.numbers) h.objects);
     }
 
-filling : (i : Instruction) (a : Arena) (s : State) (r : ℕ) (xs : List ℕ) (es : List (Entry ℕ)) → MirrorsState a s → TakenBelow (length a.kept) (record { operands = r ∷ xs; below = es }) → MirrorsState (filled_of (record { operands = r ∷ xs; below = es }) a) (after_filling i (record { operands = r ∷ xs; below = es }) s)
+filling : (i : Instruction) (a : Arena) (s : State) (r : ℕ) (xs : List ℕ) (es : List (Entry ℕ))
+    → MirrorsState a s → TakenBelow (length a.kept) (record { operands = r ∷ xs; below = es })
+    → MirrorsState (filled_of (record { operands = r ∷ xs; below = es }) a)
+    (after_filling i (record { operands = r ∷ xs; below = es }) s)
 filling i a s r xs es h b =
     let n = length_update a.kept r (more_given xs) in
     record {
@@ -138,7 +144,11 @@ abbrev pub WentAlike : Arena → Stepped → Type 0
 WentAlike b st = (t : State) × (st ≡ WentOn t) × MirrorsState b t
 
 module _ (i : Instruction) (a : Arena) (s : State) (h : MirrorsState a s) where
-  made_alike : (m : Made) (g : Gives) → MakesSame m g → kind_of i ≡ kind_made m i → (x : Result (Taken ℕ) Breach) → ((v : Taken ℕ) → x ≡ Ok v → TakenBelow (length a.kept) v) → IsNotStuck (operate_step NoName g i goes_on s x) → (v : Taken ℕ) × (x ≡ Ok v) × WentAlike (made_of (kind_made m i) v a) (operate_step NoName g i goes_on s x)
+  made_alike : (m : Made) (g : Gives) → MakesSame m g → kind_by_effect i ≡ kind_made m i
+      → (x : Result (Taken ℕ) Breach) → ((v : Taken ℕ) → x ≡ Ok v → TakenBelow (length a.kept) v)
+      → IsNotStuck (operate_step NoName g i goes_on s x)
+      → (v : Taken ℕ) × (x ≡ Ok v) × WentAlike (made_of (kind_made m i) v a)
+      (operate_step NoName g i goes_on s x)
   made_alike made.Items (gives.Makes class.List) w q (Ok v) b n = (v, refl, (_, refl, making i a s v OfItems (Plain class.List) q refl h (b v refl)))
   made_alike made.Items (gives.Makes class.Tuple) w q (Ok v) b n = (v, refl, (_, refl, making i a s v OfItems (Plain class.Tuple) q refl h (b v refl)))
   made_alike made.NoPairs (gives.Makes class.Dict) w q (Ok v) b n = (v, refl, (_, refl, making i a s v OfPairs (Plain class.Dict) q refl h (b v refl)))
@@ -151,7 +161,11 @@ module _ (i : Instruction) (a : Arena) (s : State) (h : MirrorsState a s) where
   made_alike m g w q (Err r) b n = absurd n
   made_alike m g w q (Ok v) b n = absurd w
 
-  filled_alike : (f : Filled) (g : Gives) → FillsSame f g → (x : Result (Taken ℕ) Breach) → ((v : Taken ℕ) → x ≡ Ok v → TakenBelow (length a.kept) v × ((r : ℕ) × (xs : List ℕ) × (fs : List (Entry ℕ)) × (v ≡ record { operands = r ∷ xs; below = fs }))) → IsNotStuck (operate_step NoName g i goes_on s x) → (v : Taken ℕ) × (x ≡ Ok v) × WentAlike (filled_of v a) (operate_step NoName g i goes_on s x)
+  filled_alike : (f : Filled) (g : Gives) → FillsSame f g → (x : Result (Taken ℕ) Breach)
+      → ((v : Taken ℕ) → x ≡ Ok v → TakenBelow (length a.kept) v ×
+      ((r : ℕ) × (xs : List ℕ) × (fs : List (Entry ℕ)) × (v ≡ record
+      { operands = r ∷ xs; below = fs }))) → IsNotStuck (operate_step NoName g i goes_on s x)
+      → (v : Taken ℕ) × (x ≡ Ok v) × WentAlike (filled_of v a) (operate_step NoName g i goes_on s x)
   filled_alike filled.Items (gives.Leaves WantsList) w (Ok v) b n = let j = b v refl in (v, refl, (_, refl, rw j.1.3 (filling i a s j.1.0 j.1.1 j.1.2 h (subst (TakenBelow (length a.kept)) j.1.3 j.0))))
   filled_alike filled.Pairs (gives.Leaves WantsDict) w (Ok v) b n = let j = b v refl in (v, refl, (_, refl, rw j.1.3 (filling i a s j.1.0 j.1.1 j.1.2 h (subst (TakenBelow (length a.kept)) j.1.3 j.0))))
   filled_alike f g w (Err r) b n = absurd n
@@ -165,9 +179,9 @@ module _ (i : Instruction) (a : Arena) (s : State) (h : MirrorsState a s) where
   abbrev ActsAlike : Action → Stepped → Type 0
   ActsAlike action st = (b : Arena) × (acted action i a ≡ Ok b) × WentAlike b st
 
-  by_effect : (action : Action) (e : Effect) → ActsAs action e → KindsAgree action i (kind_of i) → (action ≢ Stops) → IsNotStuck (perform e i s goes_on) → ActsAlike action (perform e i s goes_on)
+  by_effect : (action : Action) (e : Effect) → ActsAs action e → KindsAgree action i (kind_by_effect i) → (action ≢ Stops) → IsNotStuck (perform e i s goes_on) → ActsAlike action (perform e i s goes_on)
   by_effect (Makes tk m) (effect.Operates u NoName g) w q z n =
-      let found_here : (v : Taken ℕ) → operands u s.shape.entries ≡ Ok v → found tk a.shape.entries ≡ Ok v = λ v e. ap (λ y. found tk y.entries) h.shape ∙ found_of tk u s.shape.entries v w.0 e in
+      let found_here : (v : Taken ℕ) → operands u s.shape.entries ≡ Ok v → picked tk a.shape.entries ≡ Ok v = λ v e. ap (λ y. picked tk y.entries) h.shape ∙ found_of tk u s.shape.entries v w.0 e in
       let r = made_alike m g w.1 q (operands u s.shape.entries) (λ v e. found_below (length a.kept) tk a.shape.entries v h.held.entries (found_here v e)) n in
       (made_of (kind_made m i) r.0 a, ap (λ y. and_then y (λ u. Ok (made_of (kind_made m i) u a))) (found_here r.0 r.1), r.2)
   by_effect (Fills tk f) (effect.Operates u NoName g) w q z n =
@@ -181,7 +195,7 @@ module _ (i : Instruction) (a : Arena) (s : State) (h : MirrorsState a s) where
   by_effect Stops e w q z n = absurd (z refl)
   by_effect action e w q z n = absurd w
 
-  pub mirrors_step : (action : Action) → ActsAs action (effect_of i.op) → KindsAgree action i (kind_of i) → (action ≢ Stops) → IsNotStuck (step i s goes_on) → (b : Arena) × (acted action i a ≡ Ok b) × WentAlike b (step i s goes_on)
+  pub mirrors_step : (action : Action) → ActsAs action (effect_of i.op) → KindsAgree action i (kind_by_effect i) → (action ≢ Stops) → IsNotStuck (step i s goes_on) → (b : Arena) × (acted action i a ≡ Ok b) × WentAlike b (step i s goes_on)
   mirrors_step action w q z n = by_effect action (effect_of i.op) w q z n
 
 stopped_at : (s : State) (x : Result (ℕ × List (Entry ℕ)) Breach) → IsNotStuck (stop_step s x) → (p : ℕ × List (Entry ℕ)) × (x ≡ Ok p) × (stop_step s x ≡ Stopped p.0 (record s { shape = record s.shape { entries = p.1 } }))

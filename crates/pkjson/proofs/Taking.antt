@@ -3,14 +3,14 @@ use Rattle.std.proofs.Common.{◌≡◌, ℕ, zero, suc, ◌<◌, Bool, true, fa
 use Rattle.std.specs.Ordering.{nat_cmp, match_ordering, is_eq}
 use Rattle.std.specs.declared.cmp.Ordering.{Ordering}
 use Rattle.std.specs.declared.cmp.Ordering.TheVariants.{Less, Equal, Greater}
-use Rattle.pkcheck.specs.declared.machine.effects.Takes.{Takes as TakesOf}
-use Rattle.pkcheck.specs.declared.machine.effects.Takes.TheVariants as takes
+use Rattle.pkcheck.specs.declared.effect.Takes.{Takes as TakesOf}
+use Rattle.pkcheck.specs.declared.effect.Takes.TheVariants as takes
 use Rattle.pkcheck.specs.Shape.{Breach, Entry, Mark, Item, Shape, Taken, and_then, unless, breaks, items, slice, operands, top, stored, recalled, fetched, popped, moved}
 use Rattle.pkjson.specs.declared.action.Move.{Move}
 use Rattle.pkjson.specs.declared.action.Move.TheVariants as move
 use Rattle.pkjson.specs.declared.action.Takes.{Takes}
 use Rattle.pkjson.specs.declared.action.Takes.TheVariants.{Objects, Slice}
-use Rattle.pkjson.specs.Private.Acting.{found, found_above, move_of, TakesSame, TakesAbove}
+use Rattle.pkjson.specs.Private.Acting.{picked, found_above, move_of, TakesSame, TakesAbove}
 use Rattle.pkjson.specs.Plain.{rest_of}
 use Rattle.pkjson.specs.Private.Mirrors.{AreBelow, EntriesBelow, CellsBelow, IsHeld}
 
@@ -34,7 +34,7 @@ unless_ok : {A : Type 0} (o : Option Breach) (x : Result A Breach) (v : A) → u
 unless_ok None x v e = e
 unless_ok (Some b) x v e = err_ok b v e
 
-pub found_of : (t : Takes) (u : TakesOf) (es : List (Entry ℕ)) (v : Taken ℕ) → TakesSame t u → operands u es ≡ Ok v → found t es ≡ Ok v
+pub found_of : (t : Takes) (u : TakesOf) (es : List (Entry ℕ)) (v : Taken ℕ) → TakesSame t u → operands u es ≡ Ok v → picked t es ≡ Ok v
 found_of (Objects k) (takes.Objects n) es v h e = subst (λ z. items z es [] ≡ Ok v) h e
 found_of Slice (takes.Slice rule) es v h e = let i = then_ok (slice es []) (λ t. unless (breaks rule t.operands) (Ok t)) v e in i.1 ∙ unless_ok (breaks rule i.0.operands) (Ok i.0) v i.2
 found_of t u es v h e = absurd h
@@ -68,13 +68,13 @@ slice_below n (Item x ∷ es) above v h g e = slice_below n es (x ∷ above) v h
 slice_below n (Mark ∷ es) above v h g e = subst (TakenBelow n) (ok_same _ v e) (g, h)
 slice_below n [] above v h g e = err_ok _ v e
 
-pub found_below : (n : ℕ) (t : Takes) (es : List (Entry ℕ)) (v : Taken ℕ) → EntriesBelow n es → found t es ≡ Ok v → TakenBelow n v
+pub found_below : (n : ℕ) (t : Takes) (es : List (Entry ℕ)) (v : Taken ℕ) → EntriesBelow n es → picked t es ≡ Ok v → TakenBelow n v
 found_below n (Objects k) es v h e = items_below n k es [] v h tt e
 found_below n Slice es v h e = slice_below n es [] v h tt e
 
 pub above_below : (n : ℕ) (t : Takes) (es : List (Entry ℕ)) (v : Taken ℕ) → EntriesBelow n es → found_above t es ≡ Ok v → TakenBelow n v
 above_below n t es v h e =
-    let i = then_ok (found t es) (λ t. items 1 t.below t.operands) v e in
+    let i = then_ok (picked t es) (λ t. items 1 t.below t.operands) v e in
     let b = found_below n t es i.0 h i.1 in
     items_below n 1 i.0.below i.0.operands v b.1 b.0 i.2
 
@@ -143,13 +143,13 @@ items_one [] above v e = err_ok _ v e
 -- what receives the rest stands first
 pub above_first : (t : Takes) (es : List (Entry ℕ)) (v : Taken ℕ) → found_above t es ≡ Ok v → (r : ℕ) × (xs : List ℕ) × (fs : List (Entry ℕ)) × (v ≡ record { operands = r ∷ xs; below = fs })
 above_first t es v e =
-    let i = then_ok (found t es) (λ t. items 1 t.below t.operands) v e in
+    let i = then_ok (picked t es) (λ t. items 1 t.below t.operands) v e in
     let j = items_one i.0.below i.0.operands v i.2 in
     (j.0, i.0.operands, j.1, j.2)
 
 -- and behind it what is taken without it
-pub above_rest : (t : Takes) (es : List (Entry ℕ)) (v : Taken ℕ) → found_above t es ≡ Ok v → (w : Taken ℕ) × (found t es ≡ Ok w) × (rest_of v.operands ≡ w.operands)
+pub above_rest : (t : Takes) (es : List (Entry ℕ)) (v : Taken ℕ) → found_above t es ≡ Ok v → (w : Taken ℕ) × (picked t es ≡ Ok w) × (rest_of v.operands ≡ w.operands)
 above_rest t es v e =
-    let i = then_ok (found t es) (λ t. items 1 t.below t.operands) v e in
+    let i = then_ok (picked t es) (λ t. items 1 t.below t.operands) v e in
     let j = items_one i.0.below i.0.operands v i.2 in
     (i.0, i.1, ap (λ u. rest_of u.operands) j.2)

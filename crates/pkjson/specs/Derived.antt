@@ -1,6 +1,7 @@
--- What an object unfolds to, by derivations.
+-- What an object unfolds to, by derivation.
 use Rattle.std.specs.Prelude.{◌≡◌, ℕ, suc, ◌+◌, max, List, [], ◌∷◌, Some}
-use Rattle.serde_json.specs.Data.{Data, array, object, Items, no_items, item, Members, no_members, member}
+use Rattle.serde_json.specs.Data.{Data, array, object, Items, no_items, item, Members, no_members}
+use Rattle.serde_json.specs.Data.{member}
 use Rattle.pkjson.specs.Unfolds.{Scalar, Sequence, Pairs, Heap}
 
 abbrev pub IsFlat : Data → Type 0
@@ -8,7 +9,7 @@ IsFlat (array vs) = ⊥
 IsFlat (object ms) = ⊥
 IsFlat v = Unit {0}
 
--- an object, its value, how deep it is and of how many values
+-- an object, its value, the depth of the value and its number of values
 mutual
   pub data Derives (h : Heap) : ℕ → Data → ℕ → ℕ → Type 0 where
     scalar : (x : ℕ) (v : Data) → h x ≡ Some (Scalar v) → IsFlat v → Derives h x v 0 1

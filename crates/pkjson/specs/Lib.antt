@@ -6,5 +6,7 @@ pub mod Contents
 pub mod Plain
 pub mod Export
 pub mod Laws
--- what nobody has to believe
+-- internal definitions, which need not be trusted
+-- what a check sees of bytes in memory
+pub use Rattle.pkread.specs.Rows
 pub mod Private

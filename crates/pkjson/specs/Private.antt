@@ -1,5 +1,5 @@
--- Nobody has to believe these: what the functions that export tell one another. Only private
--- functions cite them, and the contract of `export` follows from them.
+-- Internal definitions, cited by private functions alone; they need not be trusted. The contract of
+-- `export` follows from them.
 pub mod Arena
 pub mod Acting
 pub mod Mirrors

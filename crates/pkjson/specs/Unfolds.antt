@@ -1,18 +1,20 @@
 -- What an object unfolds to.
 use Rattle.std.specs.Prelude.{◌≡◌, ℕ, suc, ◌+◌, List, [], ◌∷◌, Option, Some}
-use Rattle.serde_json.specs.Data.{Data, null, boolean, number, string, array, object, Items, no_items, item, Members, no_members, member}
+use Rattle.serde_json.specs.Data.{Data, null, boolean, number, string, array, object, Items}
+use Rattle.serde_json.specs.Data.{no_items, item, Members, no_members, member}
 
--- what an object holds at the end
+-- the contents of an object at the end
 pub data Content : Type 0 where
   Scalar : Data → Content
   Sequence : List ℕ → Content
   Pairs : List (List ℕ × ℕ) → Content
 
--- of each object's number
+-- the contents of each object, by number
 abbrev pub Heap : Type 0
 Heap = ℕ → Option Content
 
--- a value is finite, so what reaches itself unfolds to none
+-- the value that an object unfolds to. Values are finite, so an object that contains itself has
+-- none
 abbrev mutual
   pub Unfolds : Heap → ℕ → Data → Type 0
   Unfolds h x (array vs) = (xs : List ℕ) × (h x ≡ Some (Sequence xs)) × UnfoldItems h xs vs
@@ -35,7 +37,7 @@ abbrev mutual
   UnfoldMembers h [] (member k v ms) = ⊥
   UnfoldMembers h (p ∷ ps) no_members = ⊥
 
--- how many values it is, keys not counted
+-- the number of values in a value, without keys
 abbrev mutual
   pub count : Data → ℕ
   count (array vs) = suc (items_count vs)

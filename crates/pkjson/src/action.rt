@@ -1,46 +1,47 @@
-//! What each plain opcode does to the objects.
+//! The effect of each plain opcode on the objects.
 
 ghost use Rattle.std.specs.Prelude.{◌≡◌, IfSome, is_some};
 ghost use Rattle.pkops.specs.Spelling.{Argument, instruction};
 ghost use Rattle.pkcheck.specs.Effects.{effect_of};
-ghost use Rattle.pkjson.specs.Contents.{kind_of};
-ghost use Rattle.pkjson.specs.Plain.{is_plain};
+ghost use Rattle.pkjson.specs.Contents.{kind_by_effect};
+ghost use Rattle.pkjson.specs.Plain.{is_plain_data};
 ghost use Rattle.pkjson.specs.Private.Acting.{ActsAs, KindsAgree};
 
 use pkops::Op;
 
-/// What is taken from the stack: so many objects, or all above the topmost mark and the mark.
+/// What an action takes from the stack: a number of objects, or the topmost mark and everything
+/// above it.
 #[derive(Clone, Copy)]
 pub enum Takes {
     Objects(u8),
     Slice,
 }
 
-/// What is made of it.
+/// What an action makes of its operands.
 #[derive(Clone, Copy)]
 pub enum Made {
     /// A list or a tuple.
     Items,
-    /// A dict of nothing.
+    /// An empty dict.
     NoPairs,
-    /// A dict of keys and values in turn.
+    /// A dict of alternating keys and values.
     Pairs,
     Null,
     Truth(bool),
     Int,
-    /// What a line of INT says: a truth value or an integer.
+    /// A bool or an integer, from a line of INT.
     IntOrTruth,
     Text,
 }
 
-/// What receives it: the object below it, a list or a dict.
+/// What receives the operands: the list or dict below them.
 #[derive(Clone, Copy)]
 pub enum Filled {
     Items,
     Pairs,
 }
 
-/// What looks at no object.
+/// An action that looks at no object.
 #[derive(Clone, Copy)]
 pub enum Move {
     PushesMark,
@@ -53,7 +54,7 @@ pub enum Move {
     Passes,
 }
 
-/// What an instruction does.
+/// The effect of an instruction.
 #[derive(Clone, Copy)]
 pub enum Action {
     Makes(Takes, Made),
@@ -62,12 +63,12 @@ pub enum Action {
     Stops,
 }
 
-/// What a plain opcode does, and `None` for all others.
-pub fn action_of(op: Op) -> Option<Action>
-    ensures plain { is_some result ≡ is_plain op }
+/// The effect of a plain opcode; `None` for any other opcode.
+pub fn plain_action(op: Op) -> Option<Action>
+    ensures plain { is_some result ≡ is_plain_data op }
     ensures acts { IfSome result (λ action. ActsAs action (effect_of op)) }
     ensures kinds { (arg : Argument) → IfSome result (λ action.
-        KindsAgree action (instruction op arg) (kind_of (instruction op arg))) }
+        KindsAgree action (instruction op arg) (kind_by_effect (instruction op arg))) }
 {
     match op {
         Op::None => Some(Action::Makes(Takes::Objects(0), Made::Null)),

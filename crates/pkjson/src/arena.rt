@@ -5,14 +5,14 @@ ghost use Rattle.std.specs.Prelude.{Ok, None};
 ghost use Rattle.pkops.specs.Inst.{instruction_of};
 ghost use Rattle.pkcheck.specs.Shape.{and_then, top};
 ghost use Rattle.pkjson.specs.Private.Arena.{no_object, are_text_kinds};
-ghost use Rattle.pkjson.specs.Private.Acting.{found, found_above, made_of, filled_of, acted};
+ghost use Rattle.pkjson.specs.Private.Acting.{picked, found_above, made_of, filled_of, acted};
 ghost use Rattle.pkjson.specs.Private.Acting.{keys_acted};
 ghost use Rattle.pkjson.specs.Private.Acting.{fault_acted, IsLacking};
 ghost use Rattle.pkjson.specs.Private.Halts.{IsWant, IsHalted};
 ghost use Rattle.pkjson.specs.Plain.{every_other, taken};
 ghost use Rattle.pkjson.specs.Private.Kinds.{kind_seen};
 ghost use Rattle.pkjson.specs.Private.Mirrors.{EntriesBelow};
-ghost use Rattle.pkjson.specs.Private.Held.{seen};
+ghost use Rattle.pkjson.specs.Private.Held.{parts};
 
 use crate::action::{Action, Filled, Made, Takes};
 use crate::halt::Halt;
@@ -25,7 +25,7 @@ use crate::texts::keys_are_texts;
 use pkops::Inst;
 use std::alloc::Global;
 
-/// The stack and the memo, which name objects by their numbers, and the objects.
+/// The stack and the memo, which refer to objects by number, and the objects.
 pub struct Arena<'a> {
     pub stack: Vec<Slot>,
     pub memo: Memo,
@@ -43,9 +43,9 @@ impl Drop for Arena<'_> {
 }
 
 impl<'a> Arena<'a> {
-    /// Nothing is there.
+    /// An empty arena.
     pub fn new(alloc: Global) -> Arena<'a>
-        ensures { seen result ≡ no_object }
+        ensures { parts result ≡ no_object }
     {
         Arena {
             stack: Vec::new(alloc),
@@ -54,19 +54,19 @@ impl<'a> Arena<'a> {
         }
     }
 
-    /// The number of the object on top.
+    /// The number of the object on top, or `None` if the top is no object.
     pub fn top(&self) -> Option<usize>
-        ensures { MatchOption result (IsLacking (top (seen self.now).shape.entries))
-            (λ n. top (seen self.now).shape.entries
-            ≡ Ok (n, drop 1 (seen self.now).shape.entries)) }
+        ensures { MatchOption result (IsLacking (top (parts self.now).shape.entries))
+            (λ n. top (parts self.now).shape.entries
+            ≡ Ok (n, drop 1 (parts self.now).shape.entries)) }
     {
         top(&self.stack)
     }
 
     /// Whether the keys that an action sets are texts.
     fn sets_texts(&self, action: Action) -> bool
-        ensures { result ≡ are_text_kinds (seen self.now).kept
-            (keys_acted action (seen self.now).shape.entries) }
+        ensures { result ≡ are_text_kinds (parts self.now).kept
+            (keys_acted action (parts self.now).shape.entries) }
     {
         match action {
             Action::Makes(takes, Made::Pairs) => self.texts_above(takes),
@@ -75,10 +75,10 @@ impl<'a> Arena<'a> {
         }
     }
 
-    /// Whether the keys among what is taken are texts.
+    /// Whether the keys among the operands are texts.
     fn texts_above(&self, takes: Takes) -> bool
-        ensures { result ≡ are_text_kinds (seen self.now).kept
-            (every_other true (taken (found takes (seen self.now).shape.entries))) }
+        ensures { result ≡ are_text_kinds (parts self.now).kept
+            (every_other true (taken (picked takes (parts self.now).shape.entries))) }
     {
         match place_of(&self.stack, takes) {
             Some(place) => keys_are_texts(&self.objects, &self.stack[place..]),
@@ -86,11 +86,11 @@ impl<'a> Arena<'a> {
         }
     }
 
-    /// Makes an object of what is taken.
+    /// Makes an object from the operands.
     fn make(&mut self, alloc: Global, takes: Takes, kind: Kind<'a>) -> Result<(), Halt>
-        ensures ok { OnOk result (and_then (found takes (seen self.old).shape.entries)
-            (λ t. Ok (made_of (kind_seen kind.entry) t (seen self.old))) ≡ Ok (seen self.new)) }
-        ensures err { IfErr result (IsWant (found takes (seen self.old).shape.entries)) }
+        ensures ok { OnOk result (and_then (picked takes (parts self.old).shape.entries)
+            (λ t. Ok (made_of (kind_seen kind.entry) t (parts self.old))) ≡ Ok (parts self.new)) }
+        ensures err { IfErr result (IsWant (picked takes (parts self.old).shape.entries)) }
     {
         let Some(place) = place_of(&self.stack, takes) else {
             return Err(Halt::Lacks);
@@ -101,12 +101,12 @@ impl<'a> Arena<'a> {
         }
     }
 
-    /// Gives what is taken to the object below it.
+    /// Gives the operands to the object below them.
     fn fill(&mut self, takes: Takes) -> Result<(), Halt>
-        requires { EntriesBelow (length (seen self.old).kept) (seen self.old).shape.entries }
-        ensures ok { OnOk result (and_then (found_above takes (seen self.old).shape.entries)
-            (λ t. Ok (filled_of t (seen self.old))) ≡ Ok (seen self.new)) }
-        ensures err { IfErr result (IsWant (found_above takes (seen self.old).shape.entries)) }
+        requires { EntriesBelow (length (parts self.old).kept) (parts self.old).shape.entries }
+        ensures ok { OnOk result (and_then (found_above takes (parts self.old).shape.entries)
+            (λ t. Ok (filled_of t (parts self.old))) ≡ Ok (parts self.new)) }
+        ensures err { IfErr result (IsWant (found_above takes (parts self.old).shape.entries)) }
     {
         let Some((place, receiver)) = receiver_of(&self.stack, takes) else {
             return Err(Halt::Lacks);
@@ -117,13 +117,13 @@ impl<'a> Arena<'a> {
         }
     }
 
-    /// Does what a plain instruction does that isn't STOP.
+    /// Applies a plain instruction other than STOP.
     pub fn act(&mut self, alloc: Global, action: Action, inst: &Inst<'a>) -> Result<(), Halt>
-        requires { EntriesBelow (length (seen self.old).kept) (seen self.old).shape.entries }
+        requires { EntriesBelow (length (parts self.old).kept) (parts self.old).shape.entries }
         ensures ok { OnOk result
-            ((fault_acted action (instruction_of inst.now) (seen self.old) ≡ None)
-            × (acted action (instruction_of inst.now) (seen self.old) ≡ Ok (seen self.new))) }
-        ensures err { IfErr result (IsHalted action (instruction_of inst.now) (seen self.old)) }
+            ((fault_acted action (instruction_of inst.now) (parts self.old) ≡ None)
+            × (acted action (instruction_of inst.now) (parts self.old) ≡ Ok (parts self.new))) }
+        ensures err { IfErr result (IsHalted action (instruction_of inst.now) (parts self.old)) }
     {
         if !self.sets_texts(action) {
             return Err(Halt::OtherKey);

@@ -1,16 +1,16 @@
-//! The value that an object unfolds to.
+//! Builds the value that an object unfolds to.
 
 ghost use Rattle.std.specs.Prelude.{◌<◌, length, All, IfOk};
 ghost use Rattle.serde_json.specs.View.{view, items_view, members_view};
 ghost use Rattle.pkjson.specs.Unfolds.{Unfolds, UnfoldItems, UnfoldMembers};
-ghost use Rattle.pkjson.specs.Private.Nodes.{heap, named, IsClosed, Ascending, AreOrdered};
+ghost use Rattle.pkjson.specs.Private.Nodes.{heap, named_members, IsClosed, Ascending, AreOrdered};
 ghost use Rattle.pkjson.specs.Private.Fits.{Fits, ItemsFit, MembersFit};
 
 use crate::node::Node;
 use serde_json::{Map, Value};
 use std::alloc::{AllocError, Global};
 
-/// The value of an object, which has one of at most so many levels.
+/// The value of an object. The object must have one of at most this many levels.
 #[cycle(building)]
 pub fn build(
     alloc: Global,
@@ -34,7 +34,7 @@ pub fn build(
     }
 }
 
-/// Their values, in order.
+/// The values of these objects, in order.
 #[cycle(building)]
 fn build_items(
     alloc: Global,
@@ -56,7 +56,7 @@ fn build_items(
     Ok(values)
 }
 
-/// Their members.
+/// The members of a dict, in order.
 #[cycle(building)]
 fn build_members(
     alloc: Global,
@@ -67,10 +67,10 @@ fn build_members(
     requires closed { IsClosed nodes.now }
     requires ordered { AreOrdered nodes.now }
     requires places { All (λ p. p.1 < length nodes.now) members.now }
-    requires fits { MembersFit (heap nodes.now) levels (named members.now) }
-    requires ascending { Ascending (named members.now) }
+    requires fits { MembersFit (heap nodes.now) levels (named_members members.now) }
+    requires ascending { Ascending (named_members members.now) }
     ensures { IfOk result (λ m.
-        UnfoldMembers (heap nodes.now) (named members.now) (members_view m.entries)) }
+        UnfoldMembers (heap nodes.now) (named_members members.now) (members_view m.entries)) }
 {
     let mut built = Map::new(alloc);
     for (key, value) in members {

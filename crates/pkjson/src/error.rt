@@ -1,32 +1,32 @@
-//! Why a pickle has no value.
+//! Why a pickle cannot be exported.
 
 use pkops::Op;
 use pkread::Refusal;
 use thiserror::Error;
 
-/// Why a pickle is not exported, in the order in which the causes are tried. Places are offsets of
-/// the first byte of an instruction, counted from the first byte of the pickle.
+/// Why a pickle cannot be exported, in the order in which the causes are checked. Offsets are those
+/// of an instruction's first byte, counted from the first byte of the pickle.
 #[derive(Clone, Copy, Debug, PartialEq, Eq, Error)]
 pub enum ExportError {
-    /// `check` refuses the pickle, whatever it imports.
+    /// `check` refuses the pickle, even under any import.
     #[error("the pickle is refused")]
     Check(Refusal),
-    /// The instruction there, of this opcode, is no part of plain data.
+    /// The instruction at this offset, with this opcode, is not plain data.
     #[error("the instruction at {0} is not plain")]
     NotPlain(u64, Op),
-    /// The instruction there sets a dict key that is not text.
+    /// The instruction at this offset sets a dict key that is not text.
     #[error("the instruction at {0} sets a key that is not text")]
     Key(u64),
-    /// The instruction there names an integer that 64 bits with a sign do not hold.
+    /// The instruction at this offset names an integer that does not fit 64 signed bits.
     #[error("the instruction at {0} names an integer outside 64 bits")]
     Number(u64),
-    /// The result holds itself, or nests deeper than the limit.
+    /// The result contains itself, or nests deeper than the limit.
     #[error("the value is too deep")]
     TooDeep,
-    /// The result is of more values than the limit.
+    /// The result has more values than the limit.
     #[error("the value is of too many values")]
     TooMany,
-    /// There was no memory.
+    /// An allocation was refused.
     #[error("out of memory")]
     OutOfMemory,
 }

@@ -1,12 +1,12 @@
-//! The value of a plain pickle.
+//! Exports a plain pickle.
 
 ghost use Rattle.std.specs.Prelude.{◌≡◌, ◌<◌, ◌≤◌, length, replicate, IfOk, IfErr, OnOk};
 ghost use Rattle.std.specs.Prelude.{None};
 ghost use Rattle.serde_json.specs.View.{view};
 ghost use Rattle.pkread.specs.Rows.{sight};
-ghost use Rattle.pkjson.specs.Export.{IsValueOf, IsTextOf, IsRefused, IsAccepted};
+ghost use Rattle.pkjson.specs.Export.{IsValueOf, IsTextOf, IsNotExported, IsAccepted};
 ghost use Rattle.pkjson.specs.Private.Arena.{holds};
-ghost use Rattle.pkjson.specs.Private.Held.{seen};
+ghost use Rattle.pkjson.specs.Private.Held.{parts};
 ghost use Rattle.pkjson.specs.Private.Settled.{AreGivenBelow};
 ghost use Rattle.pkjson.specs.Private.Nodes.{heap, IsClosed, AreOrdered};
 ghost use Rattle.pkjson.specs.Private.Result.{HasValue, IsValue, IsText, IsTooLarge};
@@ -15,7 +15,7 @@ ghost use Rattle.pkjson.specs.Private.Result.{TellsRefusal};
 use crate::arena::Arena;
 use crate::build::build;
 use crate::error::ExportError;
-use crate::judge::{Weight, judge};
+use crate::judge::{Weight, weigh};
 use crate::node::Node;
 use crate::replay::replay;
 use crate::settle::settle;
@@ -26,57 +26,57 @@ use pkread::{Memory, Reason, Refusal};
 use serde_json::Value;
 use std::alloc::{AllocError, Global};
 
-/// The value of the plain pickle at the front of the bytes: of its lists and tuples as arrays, of
-/// its dicts as objects with their members in the byte order of the keys. Nothing is run, and bytes
-/// behind the pickle's STOP are not looked at.
+/// The value of the plain pickle at the front of the bytes. Lists and tuples become arrays; dicts
+/// become objects with members in the byte order of their keys. Nothing is executed, and bytes
+/// after the pickle's STOP are ignored.
 ///
-/// A list or a dict that is reached in many ways is copied wherever it is reached, as it stands at
-/// the end. The last value of a key stands.
+/// A list or dict with several references is copied at each of them, in its final state. The last
+/// value of a key wins. No number is a float, so `to_string` of the value is the text of
+/// `export_text`.
 ///
 /// # Errors
 ///
-/// The first of these: `Check`, where the pickle isn't accepted; `NotPlain`, `Key` and `Number`,
-/// for the first instruction that is no part of plain data, also where its object is dropped
-/// later; `TooDeep`, where the result has no value within the limit on depth, as one that holds
-/// itself; `TooMany`, where it is of more values than the limit. `OutOfMemory` may stand in place
-/// of any answer, where memory was refused.
+/// The first of these that applies: `Check`, if the pickle is not accepted; `NotPlain`, `Key` or
+/// `Number`, for the first instruction that is not plain data, even if its object is dropped later;
+/// `TooDeep`, if the result nests deeper than the limit or contains itself; `TooMany`, if it has
+/// more values than the limit. `OutOfMemory` may replace any answer if an allocation was refused.
 pub fn export(alloc: Global, bytes: &[u8], limits: &Limits) -> Result<Value, ExportError>
     ensures value { IfOk result (λ value. IsValueOf limits.now bytes.now (view value)) }
-    ensures error { IfErr result (IsRefused limits.now bytes.now) }
+    ensures error { IfErr result (IsNotExported limits.now bytes.now) }
 {
     accept(alloc, bytes, limits)?;
     let (arena, place) = replay(alloc, bytes, limits)?;
     settled_value(alloc, &arena, place, limits)
 }
 
-/// The JSON text, with no space, of the value that `export` gives. It is UTF-8, and is written
-/// without that value, which takes several times the memory.
+/// The JSON text of the value that `export` gives, in UTF-8 and without spaces. It is written
+/// without building that value, which needs several times the memory.
 ///
 /// # Errors
 ///
 /// Those of `export`.
 pub fn export_text(alloc: Global, bytes: &[u8], limits: &Limits) -> Result<Vec<u8>, ExportError>
     ensures text { IfOk result (λ text. IsTextOf limits.now bytes.now text.items) }
-    ensures error { IfErr result (IsRefused limits.now bytes.now) }
+    ensures error { IfErr result (IsNotExported limits.now bytes.now) }
 {
     accept(alloc, bytes, limits)?;
     let (arena, place) = replay(alloc, bytes, limits)?;
     settled_text(alloc, &arena, place, limits)
 }
 
-/// The value of an object as it stands, within the limits.
+/// The value of an object in its final state, within the limits.
 fn settled_value(
     alloc: Global,
     arena: &Arena<'_>,
     place: usize,
     limits: &Limits,
 ) -> Result<Value, ExportError>
-    requires within { place < length (seen arena.now).kept }
-    requires closed { AreGivenBelow (length (seen arena.now).kept) (seen arena.now).kept }
+    requires within { place < length (parts arena.now).kept }
+    requires closed { AreGivenBelow (length (parts arena.now).kept) (parts arena.now).kept }
     ensures ok { IfOk result (λ w. IsValue
-        (holds (seen arena.now).kept) limits.now.depth limits.now.values place (view w)) }
+        (holds (parts arena.now).kept) limits.now.depth limits.now.values place (view w)) }
     ensures err { IfErr result (IsTooLarge
-        (holds (seen arena.now).kept) limits.now.depth limits.now.values place) }
+        (holds (parts arena.now).kept) limits.now.depth limits.now.values place) }
 {
     let Ok(nodes) = settle(alloc, &arena.objects) else {
         return Err(ExportError::OutOfMemory);
@@ -84,19 +84,19 @@ fn settled_value(
     value_of(alloc, &nodes, place, deepest(limits), most(limits))
 }
 
-/// The text of the value of an object as it stands, within the limits.
+/// The text of the value of an object in its final state, within the limits.
 fn settled_text(
     alloc: Global,
     arena: &Arena<'_>,
     place: usize,
     limits: &Limits,
 ) -> Result<Vec<u8>, ExportError>
-    requires within { place < length (seen arena.now).kept }
-    requires closed { AreGivenBelow (length (seen arena.now).kept) (seen arena.now).kept }
+    requires within { place < length (parts arena.now).kept }
+    requires closed { AreGivenBelow (length (parts arena.now).kept) (parts arena.now).kept }
     ensures ok { IfOk result (λ text. IsText
-        (holds (seen arena.now).kept) limits.now.depth limits.now.values place text.items) }
+        (holds (parts arena.now).kept) limits.now.depth limits.now.values place text.items) }
     ensures err { IfErr result (IsTooLarge
-        (holds (seen arena.now).kept) limits.now.depth limits.now.values place) }
+        (holds (parts arena.now).kept) limits.now.depth limits.now.values place) }
 {
     let Ok(nodes) = settle(alloc, &arena.objects) else {
         return Err(ExportError::OutOfMemory);
@@ -104,7 +104,7 @@ fn settled_text(
     written(alloc, &nodes, place, deepest(limits), most(limits))
 }
 
-/// How deep the value may be.
+/// The limit on depth.
 fn deepest(limits: &Limits) -> u32
     ensures value { result ≡ limits.now.depth }
     ensures small { result ≤ 1_000_000 }
@@ -112,7 +112,7 @@ fn deepest(limits: &Limits) -> u32
     limits.depth() as u32
 }
 
-/// Of how many values it may be.
+/// The limit on the number of values.
 fn most(limits: &Limits) -> u32
     ensures value { result ≡ limits.now.values }
     ensures small { result ≤ 1_000_000 }
@@ -120,10 +120,10 @@ fn most(limits: &Limits) -> u32
     limits.values() as u32
 }
 
-/// Checks the pickle, whatever it imports. Its payloads are all held, and have one limit.
+/// Checks the pickle under any import. All its payloads are held, under one limit.
 fn accept(alloc: Global, bytes: &[u8], limits: &Limits) -> Result<(), ExportError>
     ensures ok { IfOk result (λ _. IsAccepted limits.now bytes.now) }
-    ensures err { IfErr result (IsRefused limits.now bytes.now) }
+    ensures err { IfErr result (IsNotExported limits.now bytes.now) }
 {
     let mut source = Memory::new(bytes);
     match check(
@@ -147,7 +147,7 @@ fn refusal_of(at: u64, reason: Reason) -> ExportError
     }
 }
 
-/// A weight for none of so many objects.
+/// No weight yet, for each of `count` objects.
 fn no_weights(alloc: Global, count: usize) -> Result<Vec<Option<Weight>>, AllocError>
     ensures { IfOk result (λ v. v.items ≡ replicate count None) }
 {
@@ -158,7 +158,7 @@ fn no_weights(alloc: Global, count: usize) -> Result<Vec<Option<Weight>>, AllocE
     Ok(weights)
 }
 
-/// Whether an object has a value within the limits.
+/// Checks that an object has a value within the limits.
 fn judged(
     alloc: Global,
     nodes: &[Node<'_>],
@@ -176,7 +176,7 @@ fn judged(
     let Ok(mut done) = no_weights(alloc, nodes.len()) else {
         return Err(ExportError::OutOfMemory);
     };
-    let Some(weight) = judge(nodes, &mut done, place, deepest, most + 1) else {
+    let Some(weight) = weigh(nodes, &mut done, place, deepest, most + 1) else {
         return Err(ExportError::TooDeep);
     };
     if weight.count > most {

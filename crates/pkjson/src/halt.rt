@@ -1,14 +1,14 @@
-//! Why a step is not taken.
+//! Why an instruction is not applied.
 
-/// Why a step is not taken.
+/// Why an instruction is not applied.
 #[derive(Clone, Copy)]
 pub enum Halt {
     /// A dict key is not text.
     OtherKey,
-    /// 64 bits with a sign don't hold the integer.
+    /// The integer does not fit 64 signed bits.
     LargeNumber,
     /// The stack or the memo lacks something, which `check` rules out.
     Lacks,
-    /// There was no memory.
+    /// An allocation was refused.
     OutOfMemory,
 }

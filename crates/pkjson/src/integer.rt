@@ -1,4 +1,4 @@
-//! The integers that arguments name, where 64 bits with a sign hold them.
+//! The integers that arguments name, if they fit 64 signed bits.
 
 ghost use Rattle.std.specs.Prelude.{◌≡◌, ◌<◌, ◌≤◌, ◌^◌, ◌-◌, cond, ltb, nat_eq, pos, negsuc, neg_ℤ};
 ghost use Rattle.std.specs.Prelude.{Some, None};
@@ -9,7 +9,7 @@ ghost use Rattle.pkjson.specs.Integers.{twos_complement, integer_named, word_of}
 
 use pkops::Arg;
 
-/// The integer that an argument names.
+/// The integer that an argument names; `None` if it does not fit.
 pub fn integer(arg: Arg<'_>) -> Option<i64>
     ensures { result ≡ word_of (integer_named (shown_arg arg.entry)) }
 {
@@ -25,7 +25,7 @@ pub fn integer(arg: Arg<'_>) -> Option<i64>
     }
 }
 
-/// The number itself.
+/// The number as it is.
 fn positive(number: u64) -> Option<i64>
     ensures { result ≡ word_of (pos number) }
 {
@@ -36,7 +36,7 @@ fn positive(number: u64) -> Option<i64>
     }
 }
 
-/// The number's complement, which is one less than its negative.
+/// The bitwise complement of the number: -1 minus the number.
 fn complement(number: u64) -> Option<i64>
     ensures { result ≡ word_of (negsuc number) }
 {
@@ -47,7 +47,7 @@ fn complement(number: u64) -> Option<i64>
     }
 }
 
-/// The number's negative.
+/// The negative of the number.
 fn negative(number: u64) -> Option<i64>
     ensures { result ≡ word_of (neg_ℤ (pos number)) }
 {
@@ -57,7 +57,7 @@ fn negative(number: u64) -> Option<i64>
     complement(number - 1)
 }
 
-/// The integer of a line of digits.
+/// The integer in a line of digits.
 fn of_line(line: &[u8]) -> Option<i64>
     ensures { result ≡ word_of (line_integer line.now) }
 {
@@ -71,7 +71,7 @@ fn of_line(line: &[u8]) -> Option<i64>
     }
 }
 
-/// The number of the digits, up to an L; a number above 2^63 stands for each above it.
+/// The number in the digits, up to an L: exact up to 2^63, and above 2^63 if the number is.
 fn decimal(digits: &[u8]) -> u64
     ensures { IsCapped (2 ^ 63) (decimal_after 0 digits.now) result }
 {
@@ -88,7 +88,7 @@ fn decimal(digits: &[u8]) -> u64
     value
 }
 
-/// The integer of bytes in two's complement, the lowest byte first.
+/// The integer in little-endian two's complement bytes.
 fn of_bytes(bytes: &[u8]) -> Option<i64>
     ensures { result ≡ word_of (twos_complement bytes.now) }
 {
@@ -99,7 +99,7 @@ fn of_bytes(bytes: &[u8]) -> Option<i64>
     }
 }
 
-/// The highest bit.
+/// Whether the sign bit is set.
 fn has_sign(bytes: &[u8]) -> bool
     ensures { result ≡ has_sign bytes.now }
 {
@@ -109,8 +109,8 @@ fn has_sign(bytes: &[u8]) -> bool
     }
 }
 
-/// The natural number of the bytes, or of their complements; a number from 2^63 on stands for each
-/// other.
+/// The natural number of the bytes, or of their complements if `flip` is set: exact below 2^63, and
+/// at least 2^63 if the number is.
 fn natural(bytes: &[u8], flip: bool) -> u64
     ensures { IsCapped (2 ^ 63 - 1) (natural flip bytes.now) result }
 {

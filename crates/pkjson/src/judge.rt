@@ -1,22 +1,22 @@
-//! How deep each object is and of how many values, before any value is made.
+//! Finds the depth and the number of values of each object, before any value is built.
 
 ghost use Rattle.std.specs.Prelude.{◌≡◌, ◌<◌, ◌≤◌, ◌+◌, ◌^◌, min, max, length, All, MatchOption};
 ghost use Rattle.std.specs.Prelude.{IfSome};
-ghost use Rattle.pkjson.specs.Private.Nodes.{heap, named, IsClosed};
+ghost use Rattle.pkjson.specs.Private.Nodes.{heap, named_members, IsClosed};
 ghost use Rattle.pkjson.specs.Private.Weighs.{Weighs, IsDeeper, ItemsWeigh, AreDeeper};
 ghost use Rattle.pkjson.specs.Private.Weighs.{MembersWeigh};
 ghost use Rattle.pkjson.specs.Private.Weighs.{MembersDeeper, IsTrusted, IsBounded, HaveRoom};
 
 use crate::node::Node;
 
-/// A depth, and a number of values that stops at a cap.
+/// A depth, and a count of values that stops at a cap.
 #[derive(Clone, Copy)]
 pub struct Weight {
     pub depth: u32,
     pub count: u32,
 }
 
-/// The weight of both.
+/// The weight of both together.
 fn joined(one: Weight, other: Weight, cap: u32) -> Weight
     requires one { one.count ≤ cap }
     requires other { other.count ≤ cap }
@@ -32,7 +32,7 @@ fn joined(one: Weight, other: Weight, cap: u32) -> Weight
     }
 }
 
-/// The weight of what has these parts.
+/// The weight of an object with these parts.
 fn raised(inner: Weight, cap: u32) -> Weight
     requires depth { inner.depth < 2 ^ 31 }
     requires count { inner.count ≤ cap }
@@ -45,10 +45,10 @@ fn raised(inner: Weight, cap: u32) -> Weight
     }
 }
 
-/// The object's weight, where it has at most so many levels. Each object is weighed once: `done`
-/// keeps what was found.
+/// The object's weight, if it has at most this many levels. Each object is weighed once; `done`
+/// keeps the results.
 #[cycle(judging)]
-pub fn judge(
+pub fn weigh(
     nodes: &[Node<'_>],
     done: &mut [Option<Weight>],
     place: usize,
@@ -72,7 +72,7 @@ pub fn judge(
             None
         }
     } else {
-        match judge_node(nodes, done, place, levels, cap) {
+        match weigh_node(nodes, done, place, levels, cap) {
             Some(weight) => {
                 done[place] = Some(weight);
                 Some(weight)
@@ -82,9 +82,9 @@ pub fn judge(
     }
 }
 
-/// The same, where nothing was found of it yet.
+/// The weight of an object that `done` has no result for.
 #[cycle(judging)]
-fn judge_node(
+fn weigh_node(
     nodes: &[Node<'_>],
     done: &mut [Option<Weight>],
     place: usize,
@@ -106,7 +106,7 @@ fn judge_node(
             if levels == 0 {
                 return None;
             }
-            match judge_items(nodes, done, items, levels - 1, cap) {
+            match weigh_items(nodes, done, items, levels - 1, cap) {
                 Some(inner) => Some(raised(inner, cap)),
                 None => None,
             }
@@ -115,7 +115,7 @@ fn judge_node(
             if levels == 0 {
                 return None;
             }
-            match judge_members(nodes, done, members, levels - 1, cap) {
+            match weigh_members(nodes, done, members, levels - 1, cap) {
                 Some(inner) => Some(raised(inner, cap)),
                 None => None,
             }
@@ -127,9 +127,9 @@ fn judge_node(
     }
 }
 
-/// The greatest depth and the sum of the counts, where none has more levels.
+/// The greatest depth and the sum of the counts of these objects, if none has more levels.
 #[cycle(judging)]
-fn judge_items(
+fn weigh_items(
     nodes: &[Node<'_>],
     done: &mut [Option<Weight>],
     items: &[usize],
@@ -148,7 +148,7 @@ fn judge_items(
 {
     let mut sum = Weight { depth: 0, count: 0 };
     for item in items {
-        match judge(nodes, done, *item, levels, cap) {
+        match weigh(nodes, done, *item, levels, cap) {
             Some(weight) => {
                 sum = joined(sum, weight, cap);
             }
@@ -160,9 +160,9 @@ fn judge_items(
     Some(sum)
 }
 
-/// The greatest depth of their values and the sum of the counts, where none has more levels.
+/// The greatest depth and the sum of the counts of the members' values, if none has more levels.
 #[cycle(judging)]
-fn judge_members(
+fn weigh_members(
     nodes: &[Node<'_>],
     done: &mut [Option<Weight>],
     members: &[(&str, usize)],
@@ -177,12 +177,12 @@ fn judge_members(
     ensures trusted { IsTrusted (heap nodes.now) cap done.new }
     ensures bounds { IfSome result (IsBounded levels cap) }
     ensures weight { MatchOption result
-        (MembersDeeper (heap nodes.now) levels (named members.now))
-        (MembersWeigh (heap nodes.now) cap (named members.now)) }
+        (MembersDeeper (heap nodes.now) levels (named_members members.now))
+        (MembersWeigh (heap nodes.now) cap (named_members members.now)) }
 {
     let mut sum = Weight { depth: 0, count: 0 };
     for (_key, value) in members {
-        match judge(nodes, done, *value, levels, cap) {
+        match weigh(nodes, done, *value, levels, cap) {
             Some(weight) => {
                 sum = joined(sum, weight, cap);
             }

@@ -1,4 +1,4 @@
-//! What an object is.
+//! The kind of an object.
 
 ghost use Rattle.std.specs.Prelude.{◌≡◌, IfOk, IfErr, IfSome, true, false};
 ghost use Rattle.pkops.specs.Inst.{instruction_of};
@@ -14,7 +14,7 @@ use crate::integer::integer;
 use pkops::{Arg, Inst, Rule, text_of};
 use std::alloc::Global;
 
-/// What an object is, and the value of a scalar.
+/// The kind of an object, with the value of a scalar.
 #[derive(Drop)]
 pub enum Kind<'a> {
     /// A list or a tuple.
@@ -24,13 +24,13 @@ pub enum Kind<'a> {
     Null,
     Bool(bool),
     Int(i64),
-    /// A text that the pickle has as it is.
+    /// A text that the pickle contains verbatim.
     Lent(&'a str),
     /// A text that the pickle spells with escapes.
     Decoded(String),
 }
 
-/// What an instruction makes.
+/// The kind of object that an instruction makes.
 pub fn kind_of<'a>(alloc: Global, made: Made, inst: &Inst<'a>) -> Result<Kind<'a>, Halt>
     ensures fits { IfOk result (λ _. number_made made (instruction_of inst.now) ≡ true) }
     ensures kind { IfOk result (λ kind. kind_seen kind ≡ kind_made made (instruction_of inst.now)) }
@@ -70,7 +70,7 @@ fn text<'a>(alloc: Global, inst: &Inst<'a>) -> Result<Kind<'a>, Halt>
     }
 }
 
-/// The payload, where it is the text itself.
+/// The payload, if it is the text itself.
 fn lent<'a>(inst: &Inst<'a>) -> Option<&'a str>
     ensures { IfSome result (λ text. text.now ≡ text_named (instruction_of inst.now)) }
 {
@@ -97,7 +97,7 @@ fn number<'a>(inst: &Inst<'a>) -> Result<Kind<'a>, Halt>
     }
 }
 
-/// What INT says: 01 is True, and 00 False.
+/// Whether INT says True: 01 does, 00 says False.
 fn says_true(arg: Arg<'_>) -> bool
     ensures { result ≡ says_true (shown_arg arg.entry) }
 {

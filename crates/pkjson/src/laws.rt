@@ -1,14 +1,14 @@
-//! Laws of the definitions. Nothing is computed: each function is proved to keep what it says.
+//! Laws of the definitions. Each is the contract of a function that does nothing.
 
 ghost use Rattle.pkjson.specs.Laws.{OneValue, AreDerivations, PlainRunsAreRuns};
 
-/// An object unfolds to one value at most, by a finite derivation.
+/// An object unfolds to at most one value, by a finite derivation.
 pub fn unfolding()
     ensures one { OneValue }
     ensures derivations { AreDerivations }
 {}
 
-/// The plain run of a pickle is its run in which every ask goes on.
+/// The plain run of a pickle is its run whose outcomes are all `goes_on`.
 pub fn plain_runs()
     ensures { PlainRunsAreRuns }
 {}

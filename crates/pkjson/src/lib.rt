@@ -1,4 +1,4 @@
-//! The data of a plain pickle as a JSON value, without running it.
+//! Exports a plain pickle as JSON, without executing it.
 #![tactic(auto)]
 
 mod action;

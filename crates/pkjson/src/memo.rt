@@ -1,4 +1,4 @@
-//! The memo: the numbers of the objects that were stored under numbers.
+//! The memo: object numbers stored under memo numbers.
 
 ghost use Rattle.std.specs.Prelude.{◌≡◌, [], length, OnOk};
 ghost use Rattle.pkcheck.specs.Shape.{recalled, stored};
@@ -7,19 +7,19 @@ use std::alloc::{AllocError, Global};
 use std::collections::BTreeMap;
 use std::marker::Model;
 
-/// The numbers of the objects that were stored, by theirs in the memo. Most pickles number them in
-/// order, from 0 on, and these are found at once.
+/// Object numbers, by memo number. Most pickles store under 0, 1, 2 and so on, and these entries
+/// are found by index.
 pub struct Memo {
-    /// Those from number 0 on, as long as they came in order.
-    row: Vec<usize>,
-    /// The others.
+    /// The entries from number 0 on that were stored in order.
+    ordered: Vec<usize>,
+    /// The other entries.
     rest: BTreeMap<u64, usize>,
 }
 
 impl Drop for Memo {
     fn drop(self) {
         let Memo {
-            row: _row,
+            ordered: _ordered,
             rest: _rest,
         } = self;
     }
@@ -27,37 +27,37 @@ impl Drop for Memo {
 
 impl Model for Memo {
     ghost use Rattle.std.specs.Prelude.{ℕ, List, ◌++◌};
-    ghost use Rattle.pkjson.specs.Private.Cells.{numbered};
+    ghost use Rattle.pkjson.specs.Private.Cells.{numbered_cells};
 
     ghost Value = { List (ℕ × ℕ) };
 
-    ghost view = { λ m. numbered 0 m.row.items ++ m.rest.entries };
+    ghost view = { λ m. numbered_cells 0 m.ordered.items ++ m.rest.entries };
 }
 
 impl Memo {
-    /// A memo of nothing.
+    /// An empty memo.
     pub fn new(alloc: Global) -> Memo
         ensures { result ≡ [] }
     {
         Memo {
-            row: Vec::new(alloc),
+            ordered: Vec::new(alloc),
             rest: BTreeMap::new(alloc),
         }
     }
 
-    /// How many objects are stored.
+    /// The number of entries.
     pub fn len(&self) -> u64
         ensures { result ≡ length self.now }
     {
-        self.row.len() as u64 + self.rest.len() as u64
+        self.ordered.len() as u64 + self.rest.len() as u64
     }
 
-    /// The object under a number.
+    /// The object stored under a number.
     pub fn get(&self, number: u64) -> Option<usize>
         ensures { result ≡ recalled number self.now }
     {
-        if number < self.row.len() as u64 {
-            return Some(self.row[number as usize]);
+        if number < self.ordered.len() as u64 {
+            return Some(self.ordered[number as usize]);
         }
         found(&self.rest, number)
     }
@@ -66,13 +66,13 @@ impl Memo {
     pub fn store(&mut self, number: u64, object: usize) -> Result<(), AllocError>
         ensures { OnOk result (self.new ≡ stored number object self.old) }
     {
-        let count = self.row.len() as u64;
+        let count = self.ordered.len() as u64;
         if number < count {
-            self.row[number as usize] = object;
+            self.ordered[number as usize] = object;
             return Ok(());
         }
         if number == count && self.rest.is_empty() {
-            self.row.push(object)?;
+            self.ordered.push(object)?;
             return Ok(());
         }
         self.rest.insert(number, object)?;
@@ -80,7 +80,7 @@ impl Memo {
     }
 }
 
-/// What stands under a number there.
+/// The entry of a number in the tree.
 fn found(rest: &BTreeMap<u64, usize>, number: u64) -> Option<usize>
     ensures { result ≡ recalled number rest.now.entries }
 {

@@ -1,20 +1,21 @@
-//! The moves, which look at no object.
+//! Actions that look at no object.
 
 ghost use Rattle.std.specs.Prelude.{◌≡◌, [], ◌∷◌, IfErr, OnOk, Ok};
 ghost use Rattle.pkcheck.specs.Shape.{moved};
 ghost use Rattle.pkjson.specs.Private.Acting.{move_of};
 ghost use Rattle.pkjson.specs.Private.Halts.{IsWant};
-ghost use Rattle.pkjson.specs.Private.Seen.{entry_of, shown, shape_seen};
+ghost use Rattle.pkjson.specs.Private.Seen.{seen_entry, seen_entries, shape_seen};
 
 use crate::action::Move;
 use crate::halt::Halt;
 use crate::memo::Memo;
 use crate::slots::{Slot, mark_place, top};
 
-/// Puts an entry on top.
+/// Pushes an entry.
 #[tactic(auto, using(crate::proofs::Entries::shown_append))]
 fn push(stack: &mut Vec<Slot>, slot: Slot) -> Result<(), Halt>
-    ensures ok { OnOk result (shown stack.new.items [] ≡ entry_of slot ∷ shown stack.old.items []) }
+    ensures ok { OnOk result
+        (seen_entries stack.new.items [] ≡ seen_entry slot ∷ seen_entries stack.old.items []) }
     ensures err { IfErr result (λ halt. halt ≡ Halt.OutOfMemory) }
 {
     match stack.push(slot) {
@@ -23,7 +24,7 @@ fn push(stack: &mut Vec<Slot>, slot: Slot) -> Result<(), Halt>
     }
 }
 
-/// Takes the topmost entry.
+/// Removes the topmost entry.
 fn pop(stack: &mut Vec<Slot>, memo: &Memo) -> Result<(), Halt>
     ensures ok { OnOk result
         (moved (move_of Move.Pops) 0 (shape_seen stack.old.items memo.now)
@@ -39,7 +40,7 @@ fn pop(stack: &mut Vec<Slot>, memo: &Memo) -> Result<(), Halt>
     Ok(())
 }
 
-/// Takes what stands above the topmost mark, and the mark.
+/// Removes the topmost mark and everything above it.
 fn pop_mark(stack: &mut Vec<Slot>, memo: &Memo) -> Result<(), Halt>
     ensures ok { OnOk result
         (moved (move_of Move.PopsMark) 0 (shape_seen stack.old.items memo.now)
@@ -54,7 +55,7 @@ fn pop_mark(stack: &mut Vec<Slot>, memo: &Memo) -> Result<(), Halt>
     Ok(())
 }
 
-/// Pushes the top once more.
+/// Pushes the top again.
 fn duplicate(stack: &mut Vec<Slot>, memo: &Memo) -> Result<(), Halt>
     ensures ok { OnOk result
         (moved (move_of Move.Duplicates) 0 (shape_seen stack.old.items memo.now)
@@ -85,7 +86,7 @@ fn store(stack: &[Slot], memo: &mut Memo, number: u64) -> Result<(), Halt>
     }
 }
 
-/// Pushes what was stored under a number.
+/// Pushes the memo entry of a number.
 fn fetch(stack: &mut Vec<Slot>, memo: &Memo, number: u64) -> Result<(), Halt>
     ensures ok { OnOk result
         (moved (move_of Move.Fetches) number (shape_seen stack.old.items memo.now)
@@ -99,7 +100,7 @@ fn fetch(stack: &mut Vec<Slot>, memo: &Memo, number: u64) -> Result<(), Halt>
     }
 }
 
-/// Does what the move does.
+/// Applies a move.
 pub fn apply(stack: &mut Vec<Slot>, memo: &mut Memo, what: Move, number: u32) -> Result<(), Halt>
     ensures ok { OnOk result
         (moved (move_of what) number (shape_seen stack.old.items memo.old)

@@ -1,6 +1,6 @@
-//! Objects as they stand at the end.
+//! Objects in their final state.
 
-/// What an object holds. Others are named by their numbers.
+/// What an object holds. Other objects are referred to by number.
 #[derive(Drop)]
 pub enum Node<'a> {
     Null,

@@ -1,34 +1,34 @@
-//! The objects of a run, each with what it was given.
+//! The objects of a run, with what each was given.
 
 ghost use Rattle.std.specs.Prelude.{◌≡◌, ◌≤◌, ◌<◌, ◌+◌, [], ◌∷◌, ◌++◌, length, take, drop, IfOk};
 ghost use Rattle.std.specs.Prelude.{OnOk};
 ghost use Rattle.pkcheck.specs.Shape.{Item};
 ghost use Rattle.pkjson.specs.Private.Arena.{kept_by, received, more_given};
 ghost use Rattle.pkjson.specs.Private.Kinds.{kind_seen};
-ghost use Rattle.pkjson.specs.Private.Seen.{kept_of, kept_all, shown, numbers_of};
+ghost use Rattle.pkjson.specs.Private.Seen.{kept_of, kept_all, seen_entries, numbers_of};
 
 use crate::kinds::Kind;
 use crate::slots::{Slot, add_numbers, numbers};
 use std::alloc::{AllocError, Global};
 
-/// An object: a list, a tuple or a dict with the numbers of those that it was given, or a scalar
-/// with its value.
+/// An object: a list, tuple or dict with the numbers of the objects it was given, or a scalar with
+/// its value.
 #[derive(Drop)]
 pub enum Object<'a> {
     /// A list or a tuple.
     Items(Vec<usize>),
-    /// A dict: keys and values in turn.
+    /// A dict: alternating keys and values.
     Pairs(Vec<usize>),
     Null,
     Bool(bool),
     Int(i64),
-    /// A text that the pickle has as it is.
+    /// A text that the pickle contains verbatim.
     Lent(&'a str),
     /// A text that the pickle spells with escapes.
     Decoded(String),
 }
 
-/// An object of a kind that is given the objects among these entries.
+/// An object of this kind that is given the objects among these entries.
 fn object_of<'a>(alloc: Global, kind: Kind<'a>, slots: &[Slot]) -> Result<Object<'a>, AllocError>
     ensures { IfOk result (λ object. kept_of object ≡ record {
       kind = kind_seen kind.entry;
@@ -46,7 +46,7 @@ fn object_of<'a>(alloc: Global, kind: Kind<'a>, slots: &[Slot]) -> Result<Object
     }
 }
 
-/// Makes an object in the place of all entries from there on, which it is given.
+/// Replaces all entries from a place on with a new object made from them.
 #[tactic(auto, using(crate::proofs::Entries::shown_append, crate::proofs::Entries::kept_append))]
 pub fn make<'a>(
     alloc: Global,
@@ -56,8 +56,8 @@ pub fn make<'a>(
     kind: Kind<'a>,
 ) -> Result<(), AllocError>
     requires { place ≤ length stack.old.items }
-    ensures stack { OnOk result (shown stack.new.items []
-        ≡ Item (length objects.old.items) ∷ shown (take place stack.old.items) []) }
+    ensures stack { OnOk result (seen_entries stack.new.items []
+        ≡ Item (length objects.old.items) ∷ seen_entries (take place stack.old.items) []) }
     ensures objects { OnOk result (kept_all objects.new.items ≡ kept_all objects.old.items
         ++ record {
           kind = kind_seen kind.entry;
@@ -72,7 +72,7 @@ pub fn make<'a>(
     Ok(())
 }
 
-/// Gives it the objects among these entries.
+/// Gives the objects among these entries to an object.
 fn receive(object: &mut Object<'_>, slots: &[Slot]) -> Result<(), AllocError>
     ensures { OnOk result
         (kept_of object.new ≡ more_given (numbers_of slots.now) (kept_of object.old)) }
@@ -84,7 +84,7 @@ fn receive(object: &mut Object<'_>, slots: &[Slot]) -> Result<(), AllocError>
     }
 }
 
-/// Gives an object all that stands above it.
+/// Gives an object everything above it.
 pub fn fill(
     stack: &mut Vec<Slot>,
     objects: &mut Vec<Object<'_>>,

@@ -1,4 +1,4 @@
-//! The ranks of long keys: each of them is compared a few times, however often it is set.
+//! Ranks of long keys, so that each is compared a few times, however often it is set.
 
 ghost use Rattle.std.specs.Prelude.{◌≡◌, ◌<◌, length, All, IfOk, IfSome};
 ghost use Rattle.std.specs.Map.{values_of};
@@ -13,11 +13,11 @@ use std::alloc::{AllocError, Global};
 use std::cmp::Ordering;
 use std::collections::{BTreeMap, BTreeSet};
 
-/// A text of more bytes is long. Others are compared byte by byte, wherever they are set.
+/// A text of more bytes is long. Shorter keys are compared byte by byte wherever they are set.
 const LONG: usize = 64;
 
-/// The texts of keys, each once, in the order of their bytes; and of each object the place of its
-/// text among them. Where no dict has a long key there are none.
+/// The distinct texts of keys in byte order, and for each object the position of its text among
+/// them. Both are empty if no dict has a long key.
 #[derive(Drop)]
 pub struct Ranks<'a, 'b> {
     pub objects: &'a [Object<'b>],
@@ -25,7 +25,7 @@ pub struct Ranks<'a, 'b> {
     pub places: Vec<Option<usize>>,
 }
 
-/// The ranks of all keys of the dicts that have a long one.
+/// The ranks of all keys of the dicts that have a long key.
 pub fn ranks_of<'a, 'b>(
     alloc: Global,
     objects: &'a [Object<'b>],
@@ -43,7 +43,7 @@ pub fn ranks_of<'a, 'b>(
     })
 }
 
-/// The keys of the dicts that have a long one, each once and with itself as its value.
+/// The keys of the dicts that have a long key, each once, with itself as its value.
 fn long_keys(alloc: Global, objects: &[Object<'_>]) -> Result<Vec<usize>, AllocError>
     ensures { IfOk result (λ v. All (λ x. x < length objects.now) v.items) }
 {
@@ -56,7 +56,7 @@ fn long_keys(alloc: Global, objects: &[Object<'_>]) -> Result<Vec<usize>, AllocE
     pairs_of(alloc, &marked, objects.len())
 }
 
-/// Marks the keys of a dict that was given these, where one of them is long.
+/// Marks the keys of a dict that was given these, if one of them is long.
 fn mark_long(
     marked: &mut BTreeSet<usize>,
     objects: &[Object<'_>],
@@ -92,7 +92,7 @@ fn mark(marked: &mut BTreeSet<usize>, given: &[usize]) -> Result<(), AllocError>
     Ok(())
 }
 
-/// The marked numbers below the count, each twice.
+/// The marked numbers below `count`, each as a pair with itself.
 #[tactic(auto, using(crate::proofs::Ranking::all_twice))]
 fn pairs_of(alloc: Global, marked: &BTreeSet<usize>, count: usize) -> Result<Vec<usize>, AllocError>
     ensures { IfOk result (λ v. All (λ x. x < count) v.items) }
@@ -109,7 +109,7 @@ fn pairs_of(alloc: Global, marked: &BTreeSet<usize>, count: usize) -> Result<Vec
     Ok(pairs)
 }
 
-/// Of each object the place of its text, where there are texts.
+/// For each object the position of its text, if there are ranked texts.
 fn places_of(
     alloc: Global,
     objects: &[Object<'_>],
@@ -128,7 +128,7 @@ fn places_of(
     Ok(places)
 }
 
-/// The place of a text among those that ascend, where it is one of them.
+/// The position of a text in an ascending list, if the list has it.
 #[tactic(auto, using(crate::proofs::Ranking::same_text))]
 fn place_of(texts: &[(&str, usize)], text: &str) -> Option<usize>
     ensures { IfSome result (StandsIn texts.now text.now) }
@@ -168,7 +168,7 @@ impl<'a, 'b> Ranks<'a, 'b> {
         Ok(members)
     }
 
-    /// The members by the places of their keys; and nothing where a key has no place.
+    /// The members by the positions of their keys; `None` if a key has no position.
     fn pairs(
         &self,
         alloc: Global,
@@ -193,7 +193,7 @@ impl<'a, 'b> Ranks<'a, 'b> {
         Ok(Some(pairs))
     }
 
-    /// The place of the text of an object.
+    /// The position of an object's text.
     fn place(&self, number: usize) -> Option<usize>
         requires { AreRanks self.now }
         ensures { IfSome result (StandsIn self.now.texts.items

@@ -1,11 +1,11 @@
-//! Follows a pickle that `check` accepts, as far as it is plain.
+//! Replays an accepted pickle, as far as it is plain.
 
 ghost use Rattle.std.specs.Prelude.{ℕ, IfOk, IfErr, IfSome, Some};
-ghost use Rattle.pkjson.specs.Export.{IsAccepted, IsRefused};
+ghost use Rattle.pkjson.specs.Export.{IsAccepted, IsNotExported};
 ghost use Rattle.pkjson.specs.Private.Standing.{IsFront};
 ghost use Rattle.pkjson.specs.Private.Replayed.{Replays};
 
-use crate::action::{Action, action_of};
+use crate::action::{Action, plain_action};
 use crate::arena::Arena;
 use crate::error::ExportError;
 use crate::halt::Halt;
@@ -13,8 +13,8 @@ use pkops::laws::one_code;
 use pkops::{Arg, Inst, Layout, Limits, Scan, layout_of_op, op_of_byte, scan};
 use std::alloc::Global;
 
-/// The instruction at the front of the bytes, where its opcode has no argument. Most have none,
-/// and need no scan.
+/// The instruction at the front of the bytes, if its opcode has no argument. Most have none and
+/// need no scan.
 #[inline]
 fn bare_at_front<'a>(bytes: &[u8]) -> Option<Inst<'a>>
     ensures { IfSome result (λ inst. (limit : ℕ) → IsFront limit bytes.now (Some (inst, 1))) }
@@ -32,7 +32,7 @@ fn bare_at_front<'a>(bytes: &[u8]) -> Option<Inst<'a>>
     }
 }
 
-/// The instruction at the front of the bytes, and how many bytes spell it.
+/// The instruction at the front of the bytes, and the number of bytes that spell it.
 fn whole_at_front<'a>(bytes: &'a [u8], limits: &Limits) -> Option<(Inst<'a>, usize)>
     ensures { IsFront limits.now.counted bytes.now result }
 {
@@ -46,8 +46,8 @@ fn whole_at_front<'a>(bytes: &'a [u8], limits: &Limits) -> Option<(Inst<'a>, usi
     }
 }
 
-/// The objects at the STOP of a pickle, and the number of its result; or what of it is first no
-/// part of plain data.
+/// The objects at the STOP of a pickle and the number of its result, or the first fault that shows
+/// it is not plain data.
 pub fn replay<'a>(
     alloc: Global,
     bytes: &'a [u8],
@@ -55,7 +55,7 @@ pub fn replay<'a>(
 ) -> Result<(Arena<'a>, usize), ExportError>
     requires { IsAccepted limits.now bytes.now }
     ensures ok { IfOk result (λ r. Replays limits.now bytes.now r.0 r.1) }
-    ensures err { IfErr result (IsRefused limits.now bytes.now) }
+    ensures err { IfErr result (IsNotExported limits.now bytes.now) }
 {
     let mut arena = Arena::new(alloc);
     let mut rest = bytes;
@@ -64,7 +64,7 @@ pub fn replay<'a>(
         let Some((inst, length)) = whole_at_front(rest, limits) else {
             unreachable!()
         };
-        let Some(action) = action_of(inst.op()) else {
+        let Some(action) = plain_action(inst.op()) else {
             return Err(ExportError::NotPlain(at, inst.op()));
         };
         if let Action::Stops = action {

@@ -1,4 +1,4 @@
-//! Each object as it stands at the end.
+//! Objects in their final state.
 
 ghost use Rattle.std.specs.Prelude.{◌≡◌, ◌<◌, length, All, IfOk};
 ghost use Rattle.pkjson.specs.Private.Ranks.{AreRanks};
@@ -10,7 +10,7 @@ use crate::objects::Object;
 use crate::ranks::{Ranks, ranks_of};
 use std::alloc::{AllocError, Global};
 
-/// An object as it stands.
+/// An object in its final state.
 fn settle_one<'a, 'b>(
     alloc: Global,
     ranks: &Ranks<'a, 'b>,
@@ -31,7 +31,7 @@ fn settle_one<'a, 'b>(
     }
 }
 
-/// All of them.
+/// All objects in their final state.
 pub fn settle<'a>(alloc: Global, objects: &'a [Object<'_>]) -> Result<Vec<Node<'a>>, AllocError>
     requires { AreGivenBelow (length objects.now) (kept_all objects.now) }
     ensures { IfOk result (λ v. AreSettled (kept_all objects.now) (kept_all objects.now) v.items) }

@@ -1,15 +1,15 @@
-//! The entries that the stack keeps: the last of them is on top.
+//! The entries of the stack; the last one is on top.
 
 ghost use Rattle.std.specs.Prelude.{◌≡◌, [], ◌∷◌, ◌++◌, ◌<◌, ◌≤◌, length, take, drop, IfOk};
 ghost use Rattle.std.specs.Prelude.{MatchOption, Ok, OnOk};
 ghost use Rattle.pkcheck.specs.Shape.{items, slice, top};
-ghost use Rattle.pkjson.specs.Private.Acting.{found, found_above, IsLacking};
-ghost use Rattle.pkjson.specs.Private.Seen.{numbers_of, shown, FindsPlace, FindsObject};
+ghost use Rattle.pkjson.specs.Private.Acting.{picked, found_above, IsLacking};
+ghost use Rattle.pkjson.specs.Private.Seen.{numbers_of, seen_entries, FindsPlace, FindsObject};
 
 use crate::action::Takes;
 use std::alloc::{AllocError, Global};
 
-/// An entry of the stack: a mark, or the object of a number.
+/// An entry of the stack: a mark, or an object by its number.
 #[derive(Clone, Copy)]
 pub enum Slot {
     Mark,
@@ -18,7 +18,7 @@ pub enum Slot {
 
 /// The place of the topmost mark.
 pub fn mark_place(slots: &[Slot]) -> Option<usize>
-    ensures { FindsPlace (slice (shown slots.now []) []) slots.now result }
+    ensures { FindsPlace (slice (seen_entries slots.now []) []) slots.now result }
 {
     let mut place = slots.len();
     while place > 0 {
@@ -30,9 +30,9 @@ pub fn mark_place(slots: &[Slot]) -> Option<usize>
     None
 }
 
-/// The place below so many objects, of which none is a mark.
+/// The place below the topmost `count` objects, if no mark is among them.
 pub fn objects_place(slots: &[Slot], count: usize) -> Option<usize>
-    ensures { FindsPlace (items count (shown slots.now []) []) slots.now result }
+    ensures { FindsPlace (items count (seen_entries slots.now []) []) slots.now result }
 {
     let mut place = slots.len();
     for _k in 0..count {
@@ -47,9 +47,9 @@ pub fn objects_place(slots: &[Slot], count: usize) -> Option<usize>
     Some(place)
 }
 
-/// The place from which on an operation takes.
+/// The place where an operation's operands begin.
 pub fn place_of(slots: &[Slot], takes: Takes) -> Option<usize>
-    ensures { FindsPlace (found takes (shown slots.now [])) slots.now result }
+    ensures { FindsPlace (picked takes (seen_entries slots.now [])) slots.now result }
 {
     match takes {
         Takes::Objects(count) => objects_place(slots, count as usize),
@@ -57,9 +57,9 @@ pub fn place_of(slots: &[Slot], takes: Takes) -> Option<usize>
     }
 }
 
-/// The place and the number of the object below what an operation takes.
+/// The place and the number of the object below the operands.
 pub fn receiver_of(slots: &[Slot], takes: Takes) -> Option<(usize, usize)>
-    ensures { FindsObject (found_above takes (shown slots.now [])) slots.now result }
+    ensures { FindsObject (found_above takes (seen_entries slots.now [])) slots.now result }
 {
     let Some(place) = place_of(slots, takes) else {
         return None;
@@ -75,8 +75,8 @@ pub fn receiver_of(slots: &[Slot], takes: Takes) -> Option<(usize, usize)>
 
 /// The number of the object on top.
 pub fn top(slots: &[Slot]) -> Option<usize>
-    ensures { MatchOption result (IsLacking (top (shown slots.now [])))
-        (λ n. top (shown slots.now []) ≡ Ok (n, drop 1 (shown slots.now []))) }
+    ensures { MatchOption result (IsLacking (top (seen_entries slots.now [])))
+        (λ n. top (seen_entries slots.now []) ≡ Ok (n, drop 1 (seen_entries slots.now []))) }
 {
     let count = slots.len();
     if count == 0 {
@@ -88,7 +88,7 @@ pub fn top(slots: &[Slot]) -> Option<usize>
     }
 }
 
-/// The objects among these entries.
+/// The numbers of the objects among these entries.
 pub fn numbers(alloc: Global, slots: &[Slot]) -> Result<Vec<usize>, AllocError>
     ensures { IfOk result (λ v. v.items ≡ numbers_of slots.now) }
 {
@@ -97,7 +97,7 @@ pub fn numbers(alloc: Global, slots: &[Slot]) -> Result<Vec<usize>, AllocError>
     Ok(found)
 }
 
-/// Adds the objects among these entries.
+/// Appends the numbers of the objects among these entries.
 pub fn add_numbers(found: &mut Vec<usize>, slots: &[Slot]) -> Result<(), AllocError>
     ensures { OnOk result (found.new.items ≡ found.old.items ++ numbers_of slots.now) }
 {
@@ -108,7 +108,7 @@ pub fn add_numbers(found: &mut Vec<usize>, slots: &[Slot]) -> Result<(), AllocEr
     Ok(())
 }
 
-/// Adds the object, if the entry is one.
+/// Appends the number of the object, if the entry is one.
 #[inline]
 fn add_number(found: &mut Vec<usize>, slot: Slot) -> Result<(), AllocError>
     ensures { OnOk result (found.new.items ≡ found.old.items ++ numbers_of (slot ∷ [])) }

@@ -1,16 +1,16 @@
-//! The members of a dict that stand, by the texts of their keys.
+//! The members that a dict ends with, by the texts of their keys.
 
 ghost use Rattle.std.specs.Prelude.{◌≡◌, ◌<◌, [], length, All, IfOk};
 ghost use Rattle.pkjson.specs.Private.Arena.{kind_at};
 ghost use Rattle.pkjson.specs.Contents.{characters, paired, standing};
-ghost use Rattle.pkjson.specs.Private.Nodes.{named, Ascending};
+ghost use Rattle.pkjson.specs.Private.Nodes.{named_members, Ascending};
 ghost use Rattle.pkjson.specs.Private.Seen.{kept_all};
 
 use crate::objects::Object;
 use std::alloc::{AllocError, Global};
 use std::collections::BTreeMap;
 
-/// The characters of the text there.
+/// The characters of the text at a place.
 pub fn text_at<'a>(objects: &'a [Object<'_>], place: usize) -> &'a str
     ensures { result.now ≡ characters (kind_at (kept_all objects.now) place) }
 {
@@ -31,9 +31,9 @@ fn standing_pairs<'a>(
     given: &[usize],
 ) -> Result<BTreeMap<&'a str, usize>, AllocError>
     requires { All (λ x. x < length objects.now) given.now }
-    ensures ascending { IfOk result (λ m. Ascending (named m.entries)) }
+    ensures ascending { IfOk result (λ m. Ascending (named_members m.entries)) }
     ensures below { IfOk result (λ m. All (λ p. p.1 < length objects.now) m.entries) }
-    ensures pairs { IfOk result (λ m. named m.entries
+    ensures pairs { IfOk result (λ m. named_members m.entries
         ≡ standing [] (paired (kind_at (kept_all objects.now)) given.now)) }
 {
     let mut pairs = BTreeMap::new(alloc);
@@ -52,9 +52,9 @@ pub fn members<'a>(
     given: &[usize],
 ) -> Result<Vec<(&'a str, usize)>, AllocError>
     requires { All (λ x. x < length objects.now) given.now }
-    ensures ascending { IfOk result (λ v. Ascending (named v.items)) }
+    ensures ascending { IfOk result (λ v. Ascending (named_members v.items)) }
     ensures below { IfOk result (λ v. All (λ p. p.1 < length objects.now) v.items) }
-    ensures pairs { IfOk result (λ v. named v.items
+    ensures pairs { IfOk result (λ v. named_members v.items
         ≡ standing [] (paired (kind_at (kept_all objects.now)) given.now)) }
 {
     let pairs = standing_pairs(alloc, objects, given)?;

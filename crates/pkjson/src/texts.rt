@@ -8,7 +8,7 @@ ghost use Rattle.pkjson.specs.Private.Seen.{kept_all, numbers_of};
 use crate::objects::Object;
 use crate::slots::Slot;
 
-/// Whether the object of a number is a text.
+/// Whether the object with this number is a text.
 fn is_text(objects: &[Object<'_>], number: usize) -> bool
     ensures { result ≡ is_text_kind (kind_at (kept_all objects.now) number) }
 {
@@ -22,7 +22,7 @@ fn is_text(objects: &[Object<'_>], number: usize) -> bool
     }
 }
 
-/// Whether the first, third, fifth object among these entries and so on are texts.
+/// Whether the first, third, fifth object and so on among these entries are texts.
 pub fn keys_are_texts(objects: &[Object<'_>], slots: &[Slot]) -> bool
     ensures { result
         ≡ are_text_kinds (kept_all objects.now) (every_other true (numbers_of slots.now)) }

@@ -1,7 +1,7 @@
-//! The text of the value that an object unfolds to, which serde is sent.
+//! Writes the text of the value that an object unfolds to, through serde.
 
 ghost use Rattle.std.specs.Prelude.{◌<◌, length, All, IfOk, OnOk};
-ghost use Rattle.pkjson.specs.Private.Nodes.{heap, named, IsClosed};
+ghost use Rattle.pkjson.specs.Private.Nodes.{heap, named_members, IsClosed};
 ghost use Rattle.pkjson.specs.Private.Fits.{Fits, ItemsFit, MembersFit};
 ghost use Rattle.pkjson.specs.Private.Sends.{IsCompact, Sends, SendsArray, SendsObject};
 
@@ -10,7 +10,7 @@ use serde::{Described, Serialize, Serializer};
 use serde_json::Number;
 use std::alloc::Global;
 
-/// The text of the value of an object, which has one of at most so many levels.
+/// The text of the value of an object. The object must have one of at most this many levels.
 pub fn text_of(
     alloc: Global,
     nodes: &[Node<'_>],
@@ -30,7 +30,7 @@ pub fn text_of(
     serde_json::to_vec(alloc, &value)
 }
 
-/// An object, for the value that it unfolds to, which has at most so many levels.
+/// An object that serializes as the value it unfolds to, of at most this many levels.
 #[derive(Drop)]
 struct Unfolded<'n, 'a> {
     nodes: &'n [Node<'a>],
@@ -54,7 +54,7 @@ impl<'n, 'a> Serialize for Unfolded<'n, 'a> {
     }
 }
 
-/// Sends the value of an object, which has one of at most so many levels.
+/// Serializes the value of an object. The object must have one of at most this many levels.
 #[cycle(sending)]
 fn send<S: Serializer>(
     nodes: &[Node<'_>],
@@ -78,7 +78,7 @@ fn send<S: Serializer>(
     }
 }
 
-/// Sends an array of their values, in order.
+/// Serializes an array of the values of these objects, in order.
 #[cycle(sending)]
 fn send_items<S: Serializer>(
     nodes: &[Node<'_>],
@@ -99,7 +99,7 @@ fn send_items<S: Serializer>(
     out.end_seq()
 }
 
-/// Sends an object of their keys and values, in order.
+/// Serializes an object with these keys and values, in order.
 #[cycle(sending)]
 fn send_members<S: Serializer>(
     nodes: &[Node<'_>],
@@ -109,9 +109,10 @@ fn send_members<S: Serializer>(
 ) -> Result<(), S::Error>
     requires closed { IsClosed nodes.now }
     requires places { All (λ p. p.1 < length nodes.now) members.now }
-    requires fits { ∥ MembersFit (heap nodes.now) levels (named members.now) ∥₁ }
+    requires fits { ∥ MembersFit (heap nodes.now) levels (named_members members.now) ∥₁ }
     ensures { OnOk result
-        (SendsObject (heap nodes.now) (named members.now) (S.written out.old) (S.written out.new)) }
+        (SendsObject (heap nodes.now) (named_members members.now)
+        (S.written out.old) (S.written out.new)) }
 {
     out.begin_map(Some(members.len()))?;
     for (key, value) in members {

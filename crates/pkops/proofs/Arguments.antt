@@ -14,7 +14,7 @@ use Rattle.pkops.specs.declared.fault.Fault.TheVariants.{UnknownOpcode, BadArgum
 use Rattle.pkops.specs.declared.reading.Unread.{Unread}
 use Rattle.pkops.specs.declared.reading.Unread.TheVariants.{Short, Bad}
 use Rattle.pkops.specs.Spelling.{Argument, Nothing, Number, Signed, Float, Line, Pair, Counted, Suits, laid, IsLine}
-use Rattle.pkops.specs.Scanning.{IsWithin, MayBegin, IsNegative, Passes}
+use Rattle.pkops.specs.Scanning.{IsWithin, MayBegin, IsNegative, IsAbove}
 use Rattle.pkops.specs.Private.Reading.{◌>>=◌, arg_at}
 use Rattle.pkops.proofs.Exact.{IsBytes, Lacks, Takes, IsExact}
 use Rattle.pkops.proofs.Fields.{ok_is, NoFault, self, number_exact, bytes_exact, some_left}
@@ -29,7 +29,7 @@ pub record IsArgument (limit : ℕ) (lay : Layout) (arg : Argument) : Type 0 whe
 abbrev pub ArgFault : ℕ → Layout → Fault → List ℕ → Type 0
 ArgFault limit lay (UnknownOpcode code) bytes = ⊥
 ArgFault limit lay BadArgument bytes = IsNegative lay bytes
-ArgFault limit lay TooLarge bytes = Passes limit lay bytes
+ArgFault limit lay TooLarge bytes = IsAbove limit lay bytes
 
 abbrev pub ArgExact : ℕ → Layout → Type 0
 ArgExact limit lay = IsExact (arg_at limit lay) (IsArgument limit lay) (MayBegin limit lay) (laid lay) (ArgFault limit lay)
@@ -45,7 +45,10 @@ record Wraps {X : Type 0} (limit : ℕ) (lay : Layout) (Is : X → Type 0) (May 
   fault_forth : (fault : Fault) (bytes : List ℕ) → Faulty fault bytes → ArgFault limit lay fault bytes
   fault_back : (fault : Fault) (bytes : List ℕ) → ArgFault limit lay fault bytes → Faulty fault bytes
 
-module _ {X : Type 0} (read : List ℕ → Result (X × List ℕ) Unread) (Is : X → Type 0) (May : X → List ℕ → Type 0) (text : X → List ℕ) (Faulty : Fault → List ℕ → Type 0) (ex : IsExact read Is May text Faulty) (limit : ℕ) (lay : Layout) (g : X → Argument) (wr : Wraps limit lay Is May text Faulty g) where
+module _ {X : Type 0} (read : List ℕ → Result (X × List ℕ) Unread) (Is : X → Type 0)
+    (May : X → List ℕ → Type 0) (text : X → List ℕ) (Faulty : Fault → List ℕ → Type 0)
+    (ex : IsExact read Is May text Faulty) (limit : ℕ) (lay : Layout) (g : X → Argument)
+    (wr : Wraps limit lay Is May text Faulty g) where
   abbrev end : X × List ℕ → Result (Argument × List ℕ) Unread
   end x = Ok (g x.0, x.1)
 
@@ -100,7 +103,7 @@ module _ {X : Type 0} (read : List ℕ → Result (X × List ℕ) Unread) (Is : 
 
 -- ---- each layout
 
-no_fault : (limit : ℕ) (lay : Layout) → ((bytes : List ℕ) → IsNegative lay bytes → ⊥) → ((bytes : List ℕ) → Passes limit lay bytes → ⊥) → (fault : Fault) (bytes : List ℕ) → ArgFault limit lay fault bytes → NoFault fault bytes
+no_fault : (limit : ℕ) (lay : Layout) → ((bytes : List ℕ) → IsNegative lay bytes → ⊥) → ((bytes : List ℕ) → IsAbove limit lay bytes → ⊥) → (fault : Fault) (bytes : List ℕ) → ArgFault limit lay fault bytes → NoFault fault bytes
 no_fault limit lay p q (UnknownOpcode code) bytes h = h
 no_fault limit lay p q BadArgument bytes h = p bytes h
 no_fault limit lay p q TooLarge bytes h = q bytes h

@@ -74,7 +74,11 @@ within_some (Counted payload) = (length payload, omega arith)
 within_some _ = (0, tt)
 
 -- what an instruction holds in bytes lies there
-pub held_lies : (op : Op) (split : ℕ) (bytes : List ℕ) → IsGood (instruction op (argument_behind (layout_at op) split bytes)) → bytes ≡ spelling (instruction op (argument_behind (layout_at op) split bytes)) → split ≡ split_of (argument_behind (layout_at op) split bytes) → (limit : ℕ) × (arg : Argument) × Lies limit op arg split bytes
+pub held_lies : (op : Op) (split : ℕ) (bytes : List ℕ)
+    → IsGood (instruction op (argument_behind (layout_at op) split bytes))
+    → bytes ≡ spelling (instruction op (argument_behind (layout_at op) split bytes))
+    → split ≡ split_of (argument_behind (layout_at op) split bytes)
+    → (limit : ℕ) × (arg : Argument) × Lies limit op arg split bytes
 held_lies op split bytes good spelled is_split =
     let within = within_some (argument_behind (layout_at op) split bytes) in (
       within.0,
@@ -87,7 +91,11 @@ held_lies op split bytes good spelled is_split =
     )
 
 -- the same of a form of which that is known
-pub form_lies : (op : Op) (held : Form) (split : ℕ) (bytes : _) → held ≡ form.Spelled split bytes → IsGood (instruction op (argument_in op held)) → spelled_by op held ≡ spelling (instruction op (argument_in op held)) → split_by held ≡ split_of (argument_in op held) → (limit : ℕ) × (arg : Argument) × Lies limit op arg split bytes.now
+pub form_lies : (op : Op) (held : Form) (split : ℕ) (bytes : _) → held ≡ form.Spelled split bytes
+    → IsGood (instruction op (argument_in op held))
+    → spelled_by op held ≡ spelling (instruction op (argument_in op held))
+    → split_by held ≡ split_of (argument_in op held)
+    → (limit : ℕ) × (arg : Argument) × Lies limit op arg split bytes.now
 form_lies op held split bytes e good spelled is_split =
     held_lies op split bytes.now (subst (λ x. IsGood (instruction op (argument_in op x))) e good) (subst (λ x. spelled_by op x ≡ spelling (instruction op (argument_in op x))) e spelled) (subst (λ x. split_by x ≡ split_of (argument_in op x)) e is_split)
 

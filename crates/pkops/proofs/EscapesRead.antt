@@ -13,7 +13,7 @@ use Rattle.std.proofs.lemmas.List.Folds.{list_all-append}
 use Rattle.pkops.specs.declared.contents.escapes.State.{State}
 use Rattle.pkops.specs.declared.contents.escapes.State.TheVariants.{Outside, Behind, Digits}
 use Rattle.pkops.specs.Escapes.{Character, plain, short, long, print_character, code_point, IsEscape, IsCharacter, SpellsText, points_of}
-use Rattle.pkops.specs.Private.EscapeSteps.{is_scalar, step_of}
+use Rattle.pkops.specs.Private.EscapeSteps.{is_scalar, escape_step}
 use Rattle.pkops.proofs.EscapeLoop.{with_point, code_points, text_named, one_step, joined}
 use Rattle.pkops.proofs.EscapesSpelled.{points_of_spelled, spelled_points}
 
@@ -102,7 +102,7 @@ Read state bytes points = code_points state bytes ≡ Some points
 
 abbrev Stepped : State → ℕ → (bytes points : List ℕ) → Type 0
 Stepped state byte bytes points =
-    option_and_then (λ next. option_map (with_point next.1) (code_points next.0 bytes)) (step_of state byte) ≡ Some points
+    option_and_then (λ next. option_map (with_point next.1) (code_points next.0 bytes)) (escape_step state byte) ≡ Some points
 
 -- one more digit
 digit_leads : (left value byte : ℕ) (bytes points : List ℕ) → ((next : State) (rest : List ℕ) → Read next bytes rest → Completes next bytes rest) → Stepped (Digits left value) byte bytes points → Completes (Digits left value) (byte ∷ bytes) points
@@ -183,11 +183,11 @@ nothing_added None = refl
 nothing_added (Some points) = refl
 
 -- a byte leads to a state, and ends no character
-passes : (state next : State) (byte : ℕ) (bytes : List ℕ) → step_of state byte ≡ Some (next, None) → code_points state (byte ∷ bytes) ≡ code_points next bytes
+passes : (state next : State) (byte : ℕ) (bytes : List ℕ) → escape_step state byte ≡ Some (next, None) → code_points state (byte ∷ bytes) ≡ code_points next bytes
 passes state next byte bytes e = one_step state byte bytes ∙ (rw e refl ∙ nothing_added (code_points next bytes))
 
 -- a byte ends a character
-ends : (state : State) (byte point : ℕ) (bytes : List ℕ) → step_of state byte ≡ Some (Outside, Some point) → code_points state (byte ∷ bytes) ≡ after point bytes
+ends : (state : State) (byte point : ℕ) (bytes : List ℕ) → escape_step state byte ≡ Some (Outside, Some point) → code_points state (byte ∷ bytes) ≡ after point bytes
 ends state byte point bytes e = one_step state byte bytes ∙ rw e refl
 
 digits_read : (digits : List ℕ) (value : ℕ) (bytes : List ℕ) → 1 ≤ length digits → list_all is_ascii_hexdigit digits ≡ true → IsScalar (digits_value_after 16 value digits) → code_points (Digits (length digits) value) (digits ++ bytes) ≡ after (digits_value_after 16 value digits) bytes
@@ -208,7 +208,7 @@ digits_read (digit ∷ next ∷ digits) value bytes some all scalar =
     passes (Digits (length (digit ∷ next ∷ digits)) value) (Digits (length (next ∷ digits)) now) digit ((next ∷ digits) ++ bytes) (rw (p.0, long, small, left) refl)
     ∙ digits_read (next ∷ digits) now bytes (omega arith) p.1 scalar
 
-escape_read : (letter size : ℕ) (digits bytes : List ℕ) → 1 ≤ size → step_of Behind letter ≡ Some (Digits size 0, None) → IsEscape size digits → code_points Outside (92 ∷ letter ∷ (digits ++ bytes)) ≡ after (digits_value 16 digits) bytes
+escape_read : (letter size : ℕ) (digits bytes : List ℕ) → 1 ≤ size → escape_step Behind letter ≡ Some (Digits size 0, None) → IsEscape size digits → code_points Outside (92 ∷ letter ∷ (digits ++ bytes)) ≡ after (digits_value 16 digits) bytes
 escape_read letter size digits bytes some step h =
     let count = h.count in
     let same : size ≡ length digits = sym count in

@@ -68,7 +68,11 @@ module _ {A : Type 0} (first : ℕ → List ℕ → Option A) (print : A → Lis
   printed_on byte rest form all None p ih e = absurd cc
   printed_on byte rest form all (Some forms) p ih e = printed_more byte rest form forms all p (ih forms refl) cc
 
-  printed_at : (byte : ℕ) (rest : List ℕ) (all : List A) (found : Option A) → first byte rest ≡ found → ((inside : ℕ) (forms : List A) → forms_behind first print inside rest ≡ Some forms → Printed (drop inside rest) forms) → option_and_then (λ form. with_form form (forms_behind first print (length (print form) - 1) rest)) found ≡ Some all → Printed (byte ∷ rest) all
+  printed_at : (byte : ℕ) (rest : List ℕ) (all : List A) (found : Option A)
+      → first byte rest ≡ found → ((inside : ℕ) (forms : List A)
+      → forms_behind first print inside rest ≡ Some forms → Printed (drop inside rest) forms)
+      → option_and_then (λ form. with_form form (forms_behind first print (length (print form) - 1)
+      rest)) found ≡ Some all → Printed (byte ∷ rest) all
   printed_at byte rest all None found ih e = absurd cc
   printed_at byte rest all (Some form) found ih e =
       printed_on byte rest form all (forms_behind first print (length (print form) - 1) rest) (inverse.back byte rest form found) (ih (length (print form) - 1)) e

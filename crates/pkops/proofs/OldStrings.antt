@@ -12,7 +12,7 @@ use Rattle.pkops.specs.declared.contents.old_string.Place.{Place}
 use Rattle.pkops.specs.declared.contents.old_string.Place.TheVariants.{Outside, Behind, High, Low}
 use Rattle.pkops.specs.OldBytes.{byte_of, bytes_between, letter_byte}
 use Rattle.pkops.specs.OldStrings.{Item, plain, escape, hex, print_item, is_escape_letter, IsItem, IsQuote, IsStringLine, items_of}
-use Rattle.pkops.specs.Private.Places.{step_of}
+use Rattle.pkops.specs.Private.Places.{place_step}
 use Rattle.pkops.specs.Deciding.{are_items, is_quote, is_string_line}
 use Rattle.pkops.proofs.OldStringsSpelled.{not_x, items_is, is_items_of, items_of_printed, items_printed}
 
@@ -30,21 +30,21 @@ spelled quote (Low value) [] = None
 spelled quote place (byte ∷ bytes) =
     option_and_then
     (λ next. option_map (with_byte next.1) (spelled quote next.0 bytes))
-    (step_of quote place byte)
+    (place_step quote place byte)
 
 abbrev pub joined : List ℕ → Option (List ℕ) → Option (List ℕ)
 joined front rest = option_map (λ bytes. front ++ bytes) rest
 
 -- ---- the loop
 
-one_step : (quote : ℕ) (place : Place) (byte : ℕ) (bytes : List ℕ) → spelled quote place (byte ∷ bytes) ≡ option_and_then (λ next. option_map (with_byte next.1) (spelled quote next.0 bytes)) (step_of quote place byte)
+one_step : (quote : ℕ) (place : Place) (byte : ℕ) (bytes : List ℕ) → spelled quote place (byte ∷ bytes) ≡ option_and_then (λ next. option_map (with_byte next.1) (spelled quote next.0 bytes)) (place_step quote place byte)
 unfolding spelled
 one_step quote Outside byte bytes = refl
 one_step quote Behind byte bytes = refl
 one_step quote High byte bytes = refl
 one_step quote (Low value) byte bytes = refl
 
-at_place : (quote : ℕ) (place : Place) (line : List ℕ) (i : ℕ) → i < length line → spelled quote place (drop i line) ≡ option_and_then (λ next. option_map (with_byte next.1) (spelled quote next.0 (drop (i + 1) line))) (step_of quote place (get_or line i 0))
+at_place : (quote : ℕ) (place : Place) (line : List ℕ) (i : ℕ) → i < length line → spelled quote place (drop i line) ≡ option_and_then (λ next. option_map (with_byte next.1) (spelled quote next.0 (drop (i + 1) line))) (place_step quote place (get_or line i 0))
 at_place quote place line i lt = rw (drop-cons line i 0, add-one) (one_step quote place (get_or line i 0) (drop (suc i) line))
 
 ends : (quote : ℕ) (place : Place) (line : List ℕ) (i : ℕ) → length line ≤ i → spelled quote place (drop i line) ≡ spelled quote place []
@@ -76,17 +76,17 @@ not_ended Behind h = refl
 not_ended High h = refl
 not_ended (Low value) h = refl
 
-pub stops : (quote : ℕ) (place : Place) (line : List ℕ) (i : ℕ) → i < length line → None ≡ step_of quote place (get_or line i 0) → spelled quote place (drop i line) ≡ None
+pub stops : (quote : ℕ) (place : Place) (line : List ℕ) (i : ℕ) → i < length line → None ≡ place_step quote place (get_or line i 0) → spelled quote place (drop i line) ≡ None
 stops quote place line i lt e = at_place quote place line i lt ∙ rw (← e) refl
 
-pub goes_on : (quote : ℕ) (place next : Place) (byte : Option ℕ) (line : List ℕ) (i : ℕ) → i < length line → Some (next, byte) ≡ step_of quote place (get_or line i 0) → spelled quote place (drop i line) ≡ option_map (with_byte byte) (spelled quote next (drop (i + 1) line))
+pub goes_on : (quote : ℕ) (place next : Place) (byte : Option ℕ) (line : List ℕ) (i : ℕ) → i < length line → Some (next, byte) ≡ place_step quote place (get_or line i 0) → spelled quote place (drop i line) ≡ option_map (with_byte byte) (spelled quote next (drop (i + 1) line))
 goes_on quote place next byte line i lt e = at_place quote place line i lt ∙ rw (← e) refl
 
 mapped_some : {A B : Type 0} (f : A → B) (o : Option A) → is_some (option_map f o) ≡ is_some o
 mapped_some f None = refl
 mapped_some f (Some x) = refl
 
-pub some_goes_on : (quote : ℕ) (place next : Place) (byte : Option ℕ) (line : List ℕ) (i : ℕ) → i < length line → Some (next, byte) ≡ step_of quote place (get_or line i 0) → is_some (spelled quote next (drop (i + 1) line)) ≡ is_some (spelled quote place (drop i line))
+pub some_goes_on : (quote : ℕ) (place next : Place) (byte : Option ℕ) (line : List ℕ) (i : ℕ) → i < length line → Some (next, byte) ≡ place_step quote place (get_or line i 0) → is_some (spelled quote next (drop (i + 1) line)) ≡ is_some (spelled quote place (drop i line))
 some_goes_on quote place next byte line i lt e = sym (ap is_some (goes_on quote place next byte line i lt e) ∙ mapped_some (with_byte byte) (spelled quote next (drop (i + 1) line)))
 
 pub some_at_end : (quote : ℕ) (place : Place) (line : List ℕ) (i : ℕ) (whole : Bool) → length line ≤ i → is_some (spelled quote place (drop i line)) ≡ whole → ended place ≡ whole
@@ -103,7 +103,11 @@ joins front (Some byte) None = refl
 joins front (Some byte) (Some bytes) = ap (λ (t : List ℕ). Some t) (sym (append_assoc front (byte ∷ []) bytes))
 
 -- one step of the loop
-pub kept_on : (front : List ℕ) (quote : ℕ) (place next : Place) (byte : Option ℕ) (line : List ℕ) (i : ℕ) (all : Option (List ℕ)) → i < length line → Some (next, byte) ≡ step_of quote place (get_or line i 0) → joined front (spelled quote place (drop i line)) ≡ all → joined (front ++ byte_spelled byte) (spelled quote next (drop (i + 1) line)) ≡ all
+pub kept_on : (front : List ℕ) (quote : ℕ) (place next : Place) (byte : Option ℕ) (line : List ℕ)
+    (i : ℕ) (all : Option (List ℕ)) → i < length line
+    → Some (next, byte) ≡ place_step quote place (get_or line i 0)
+    → joined front (spelled quote place (drop i line)) ≡ all
+    → joined (front ++ byte_spelled byte) (spelled quote next (drop (i + 1) line)) ≡ all
 kept_on front quote place next byte line i all lt e kept = sym (joins front byte (spelled quote next (drop (i + 1) line))) ∙ (ap (joined front) (sym (goes_on quote place next byte line i lt e)) ∙ kept)
 
 pub kept_last : (front : List ℕ) (quote : ℕ) (place : Place) (line : List ℕ) (i : ℕ) (all : Option (List ℕ)) → length line ≤ i → joined front (spelled quote place (drop i line)) ≡ all → joined front (cond (ended place) (Some []) None) ≡ all
@@ -131,7 +135,7 @@ Read quote place line bytes = spelled quote place line ≡ Some bytes
 
 abbrev Stepped : ℕ → Place → ℕ → (line bytes : List ℕ) → Type 0
 Stepped quote place byte line bytes =
-    option_and_then (λ next. option_map (with_byte next.1) (spelled quote next.0 line)) (step_of quote place byte) ≡ Some bytes
+    option_and_then (λ next. option_map (with_byte next.1) (spelled quote next.0 line)) (place_step quote place byte) ≡ Some bytes
 
 -- the byte of two digits
 two_digits : (high low : ℕ) → byte_of (hex high low) ≡ digit_value high * 16 + digit_value low
@@ -203,11 +207,11 @@ nothing_added None = refl
 nothing_added (Some bytes) = refl
 
 -- a byte leads to a place, and ends no item
-passes : (quote : ℕ) (place next : Place) (byte : ℕ) (line : List ℕ) → step_of quote place byte ≡ Some (next, None) → spelled quote place (byte ∷ line) ≡ spelled quote next line
+passes : (quote : ℕ) (place next : Place) (byte : ℕ) (line : List ℕ) → place_step quote place byte ≡ Some (next, None) → spelled quote place (byte ∷ line) ≡ spelled quote next line
 passes quote place next byte line e = one_step quote place byte line ∙ (rw e refl ∙ nothing_added (spelled quote next line))
 
 -- a byte ends an item
-finishes : (quote : ℕ) (place : Place) (byte named : ℕ) (line : List ℕ) → step_of quote place byte ≡ Some (Outside, Some named) → spelled quote place (byte ∷ line) ≡ after quote named line
+finishes : (quote : ℕ) (place : Place) (byte named : ℕ) (line : List ℕ) → place_step quote place byte ≡ Some (Outside, Some named) → spelled quote place (byte ∷ line) ≡ after quote named line
 finishes quote place byte named line e = one_step quote place byte line ∙ rw e refl
 
 item_read : (quote : ℕ) (item : Item) (line : List ℕ) → IsItem quote item → spelled quote Outside (print_item item ++ line) ≡ after quote (byte_of item) line

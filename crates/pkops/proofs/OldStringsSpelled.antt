@@ -4,7 +4,7 @@ use Rattle.std.specs.Prelude.{is_some}
 use Rattle.std.specs.List.{All, flat_map}
 use Rattle.std.specs.Char.{is_ascii_hexdigit}
 use Rattle.std.proofs.lemmas.Bool.{and_parts, cases_Bool, eqb-true, eqb-false, ne_eqb, leb-true, le-leb, both_ways}
-use Rattle.pkops.specs.OldStrings.{Item, plain, escape, hex, print_item, is_escape_letter, IsItem, is_plain, hex_at, escape_at, item_at, items_of}
+use Rattle.pkops.specs.OldStrings.{Item, plain, escape, hex, print_item, is_escape_letter, IsItem, is_plain, hex_at, old_escape_at, item_at, items_of}
 use Rattle.pkops.specs.Deciding.{are_items}
 use Rattle.pkops.proofs.FormsRead.{IsRead, IsPrinted, AreInverse, read_of, printed_of}
 
@@ -42,7 +42,7 @@ module _ (quote : ℕ) where
         subst (λ (i : Item). Prints i 92 (120 ∷ high ∷ low ∷ text)) same (record { is = (p.0, p.1); others = 3; len = refl; parts = refl })
   ]
 
-  escape_back : (text : List ℕ) (item : Item) → escape_at text ≡ Some item → Prints item 92 text
+  escape_back : (text : List ℕ) (item : Item) → old_escape_at text ≡ Some item → Prints item 92 text
   escape_back [] item e = absurd cc
   escape_back (letter ∷ text) item e = elim (cases_Bool (eqb letter 120)) [
     | inl x ↦ subst (λ (l : ℕ). Prints item 92 (l ∷ text)) (sym (eqb-true letter 120 x)) (hex_back text item (rw x at e))

@@ -94,7 +94,10 @@ tail_is [] h = refl
 tail_is (x ∷ bytes) h = let e : length (x ∷ bytes) - 1 ≡ length bytes = omega arith in rw e (ap (take (length bytes)) (sym (append-nil bytes)) ∙ take_at bytes [] (length bytes) refl)
 
 -- what the code passes to the reader of an argument is what the lemmas above speak of
-pub read_is : (limit given : ℕ) (lay : Layout) (k : Kind) (o : Op) (bytes : List ℕ) (r : Result (Argument × List ℕ) Unread) → 1 ≤ length bytes → given ≡ limit → k ≡ kind_of o → lay ≡ layout_of k → arg_at given lay (take (length bytes - 1) (drop 1 bytes)) ≡ r → arg_at limit (layout_at o) (drop 1 bytes) ≡ r
+pub read_is : (limit given : ℕ) (lay : Layout) (k : Kind) (o : Op) (bytes : List ℕ)
+    (r : Result (Argument × List ℕ) Unread) → 1 ≤ length bytes → given ≡ limit → k ≡ kind_of o
+    → lay ≡ layout_of k → arg_at given lay (take (length bytes - 1) (drop 1 bytes)) ≡ r
+    → arg_at limit (layout_at o) (drop 1 bytes) ≡ r
 read_is limit given lay k o bytes r some same kind_is is_lay e =
     let lay_is : lay ≡ layout_at o = is_lay ∙ ap layout_of kind_is in
     sym (rw (same, lay_is, tail_is bytes some) refl) ∙ e
@@ -103,7 +106,11 @@ pub unread_is : (limit : ℕ) (o : Op) (bytes : List ℕ) (why : Unread) (result
 unread_is limit o bytes Short result h e is = rw is (all_begun limit o bytes h e)
 unread_is limit o bytes (Bad fault) result h e is = rw is (all_faulty limit o bytes fault h e)
 
-pub made_is : (limit : ℕ) (o : Op) (bytes : List ℕ) (arg : Argument) (rest : List ℕ) (made : Instruction) (found : Option Instruction) → Front o bytes → arg_at limit (layout_at o) (drop 1 bytes) ≡ Ok (arg, rest) → SomeIff found (IsGood (instruction o arg)) (instruction o arg) → found ≡ Some made → IsWhole limit bytes made (length bytes - length rest)
+pub made_is : (limit : ℕ) (o : Op) (bytes : List ℕ) (arg : Argument) (rest : List ℕ)
+    (made : Instruction) (found : Option Instruction) → Front o bytes
+    → arg_at limit (layout_at o) (drop 1 bytes) ≡ Ok (arg, rest)
+    → SomeIff found (IsGood (instruction o arg)) (instruction o arg) → found ≡ Some made
+    → IsWhole limit bytes made (length bytes - length rest)
 made_is limit o bytes arg rest made None h e iff is = absurd cc
 made_is limit o bytes arg rest made (Some i) h e iff is =
     let same : i ≡ made = cc in

@@ -13,8 +13,8 @@ abbrev is_known : Argument → Bool
 is_known (Number width protocol) = nat_le protocol highest_protocol
 is_known _ = false
 
--- every instruction but the extension codes, whose registry (PEP 307) is the reader's own,
--- and a PROTO of an unknown protocol
+-- every instruction except EXT1, EXT2 and EXT4, whose registry (PEP 307) belongs to the reader, and
+-- a PROTO of an unknown protocol
 abbrev pub is_admitted_by : Op → Argument → Bool
 is_admitted_by op.Ext1 _ = false
 is_admitted_by op.Ext2 _ = false
@@ -22,6 +22,6 @@ is_admitted_by op.Ext4 _ = false
 is_admitted_by op.Proto arg = is_known arg
 is_admitted_by _ _ = true
 
--- the same, of an instruction
+-- whether a reader admits the instruction
 abbrev pub is_admitted : Instruction → Bool
 is_admitted i = is_admitted_by i.op i.arg

@@ -7,25 +7,25 @@ use Rattle.pkops.specs.Inst.{instruction_of}
 use Rattle.pkops.specs.Spelling.{Instruction}
 use Rattle.pkops.specs.Scanning.{IsWithin, Spells, Begun, HasFault}
 
--- an answer, without where its bytes lie in memory
+-- an answer as a value, whatever memory holds its bytes
 pub data Answer : Type 0 where
   Whole : Instruction → ℕ → Answer
   More : Answer
   Bad : Fault → Answer
 
--- the program's answer as that of the definitions
+-- the answer that the program's `Scan` stands for
 abbrev pub shown_scan : Scan → Answer
 shown_scan (scan.Whole inst n) = Whole (instruction_of inst) n
 shown_scan scan.More = More
 shown_scan (scan.Bad fault) = Bad fault
 
--- a front of that length spells the instruction, within the limit
+-- the first n bytes spell the instruction, within the limit
 pub record IsWhole (limit : ℕ) (bytes : List ℕ) (i : Instruction) (n : ℕ) : Type 0 where
   pub fits : n ≤ length bytes
   pub spells : Spells i (take n bytes)
   pub within : IsWithin limit i.arg
 
--- the answer is right, where a payload may have as many bytes as the limit says
+-- the answer is right when a payload may have at most `limit` bytes
 abbrev pub Answers : ℕ → List ℕ → Answer → Type 0
 Answers limit bytes (Whole i n) = IsWhole limit bytes i n
 Answers limit bytes More = Begun limit bytes

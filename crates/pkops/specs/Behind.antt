@@ -1,4 +1,4 @@
--- The argument of an instruction, however it is held.
+-- The argument of an instruction in each form that holds it.
 use Rattle.std.specs.Prelude.{ℕ, ◌+◌, ◌-◌, List, length, take, drop}
 use Rattle.std.specs.Int.{w32, cast_signed}
 use Rattle.byteorder.specs.Endian.{little_number}
@@ -8,9 +8,10 @@ use Rattle.pkops.specs.declared.layout.Layout.{Layout}
 use Rattle.pkops.specs.declared.layout.Layout.TheVariants as layout
 use Rattle.pkops.specs.declared.op.Op.{Op}
 use Rattle.pkops.specs.Lying.{split_of}
-use Rattle.pkops.specs.Spelling.{Argument, Nothing, Number, Signed, Float, Line, Pair, Counted, instruction, layout_at, shown_arg, size_of, spelling}
+use Rattle.pkops.specs.Spelling.{Argument, Nothing, Number, Signed, Float, Line, Pair, Counted}
+use Rattle.pkops.specs.Spelling.{instruction, layout_at, shown_arg, size_of, spelling}
 
--- the argument that these bytes spell behind their code; the first of two lines has so many
+-- the argument that bytes spell after their code; `split` is the length of the first of two lines
 abbrev pub argument_behind : Layout → ℕ → List ℕ → Argument
 argument_behind layout.Nothing split bytes = Nothing
 argument_behind layout.U1 split bytes = Number 1 (little_number 1 (drop 1 bytes))
@@ -34,7 +35,7 @@ abbrev pub spelled_by : Op → Form → List ℕ
 spelled_by op (form.Made arg) = spelling (instruction op (shown_arg arg))
 spelled_by op (form.Spelled split bytes) = bytes.now
 
--- how many bytes the first of two lines has
+-- the length of the first of two lines
 abbrev pub split_by : Form → ℕ
 split_by (form.Made arg) = split_of (shown_arg arg)
 split_by (form.Spelled split bytes) = split

@@ -11,12 +11,12 @@ use Rattle.pkops.specs.Numerals.{IsIntLine, IsLongLine, IsMemoNumber}
 use Rattle.pkops.specs.OldStrings.{IsStringLine}
 use Rattle.pkops.specs.Spelling.{Argument, Line, Pair, Counted, Instruction, Suits, layout_at}
 
--- the module or the name of a global: ASCII, and not empty
+-- the module or name of a global: ASCII and not empty
 pub record IsName (line : List ℕ) : Type 0 where
   pub ascii : IsAscii line
   pub some : 0 < length line
 
--- the rule of each opcode; any argument of its layout is good for the others
+-- the rule of each opcode; the others take any argument of their layout
 abbrev pub rule_of : Op → Rule
 rule_of op.Int = rule.Int
 rule_of op.Long = rule.Long
@@ -47,7 +47,7 @@ Keeps rule.Names (Pair first second) = IsName first × IsName second
 Keeps rule.Ascii (Line line) = IsAscii line
 Keeps _ _ = ⊥
 
--- the argument is of the opcode's kind, and keeps the opcode's rule
+-- the argument has the opcode's kind and keeps the opcode's rule
 pub record IsGood (i : Instruction) : Type 0 where
   pub suits : Suits (layout_at i.op) i.arg
   pub contents : Keeps (rule_of i.op) i.arg

@@ -1,6 +1,8 @@
--- The rules of contents as tests, from left to right, for whoever wants to compute. Nobody has to
--- believe them: `laws::rules_are_computed` says that each holds exactly where its rule does.
-use Rattle.std.specs.Prelude.{ℕ, ◌-◌, ◌^◌, Bool, true, false, ◌&&◌, ◌||◌, ◌==◌, nat_lt, nat_le, is_some, if◌then◌else◌, List, [], ◌∷◌, length, take, drop, slice_index}
+-- The content rules as boolean tests from left to right, for proofs by computation. They need not
+-- be trusted: `laws::rules_are_computed` proves that each test holds exactly when its rule does.
+use Rattle.std.specs.Prelude.{ℕ, ◌-◌, ◌^◌, Bool, true, false, ◌&&◌, ◌||◌, ◌==◌, nat_lt, nat_le}
+use Rattle.std.specs.Prelude.{is_some, if◌then◌else◌, List, [], ◌∷◌, length, take, drop}
+use Rattle.std.specs.Prelude.{slice_index}
 use Rattle.std.specs.List.{list_all}
 use Rattle.std.specs.Char.{is_ascii, is_ascii_digit}
 use Rattle.std.specs.Str.Parse.{digits_value}
@@ -19,7 +21,7 @@ abbrev pub is_zero : List ℕ → Bool
 is_zero (digit ∷ []) = digit == 48
 is_zero _ = false
 
--- a digit that is not zero, and digits
+-- a nonzero digit followed by digits
 abbrev pub is_positive : List ℕ → Bool
 is_positive [] = false
 is_positive (first ∷ rest) = is_nonzero_digit first && list_all is_ascii_digit rest
@@ -28,7 +30,7 @@ is_positive (first ∷ rest) = is_nonzero_digit first && list_all is_ascii_digit
 abbrev pub is_natural : List ℕ → Bool
 is_natural text = is_zero text || is_positive text
 
--- a minus, and a positive number
+-- a minus followed by a positive number
 abbrev pub is_negative : List ℕ → Bool
 is_negative [] = false
 is_negative (sign ∷ digits) = (sign == 45) && is_positive digits
@@ -45,15 +47,15 @@ is_int_line line = is_bool_line line || is_numeral line
 abbrev pub ends_in_l : List ℕ → Bool
 ends_in_l line = nat_lt 0 (length line) && (slice_index line (length line - 1) == 76)
 
--- a numeral and an L
+-- a numeral followed by an L
 abbrev pub is_marked_numeral : List ℕ → Bool
 is_marked_numeral line = ends_in_l line && is_numeral (take (length line - 1) line)
 
--- a numeral, with an L or without
+-- a numeral, with or without an L
 abbrev pub is_long_line : List ℕ → Bool
 is_long_line line = is_numeral line || is_marked_numeral line
 
--- a natural number of 32 bits
+-- a natural number that 32 bits hold
 abbrev pub is_memo_number : List ℕ → Bool
 is_memo_number line = is_natural line && nat_lt (digits_value 10 line) (2 ^ 32)
 
@@ -64,16 +66,16 @@ abbrev pub starts_with_digit : List ℕ → Bool
 starts_with_digit [] = false
 starts_with_digit (byte ∷ rest) = is_ascii_digit byte
 
--- the bytes from the first on that is no digit
+-- the bytes from the first non-digit on
 abbrev pub after_digits : List ℕ → List ℕ
 after_digits [] = []
 after_digits (byte ∷ rest) = if is_ascii_digit byte then after_digits rest else byte ∷ rest
 
--- digits, one at least
+-- one or more digits
 abbrev pub is_digits : List ℕ → Bool
 is_digits text = starts_with_digit text && list_all is_ascii_digit text
 
--- a plus or a minus, and digits
+-- a plus or a minus, then digits
 abbrev pub is_signed_digits : List ℕ → Bool
 is_signed_digits [] = false
 is_signed_digits (sign ∷ digits) = (sign == 43 || sign == 45) && is_digits digits
@@ -83,18 +85,18 @@ abbrev pub is_exponent_or_end : List ℕ → Bool
 is_exponent_or_end [] = true
 is_exponent_or_end (byte ∷ rest) = (byte == 101) && is_signed_digits rest
 
--- what may follow the digits before the point: a fraction or nothing, and an exponent or nothing
+-- what may follow the digits before the point: an optional fraction, then an optional exponent
 abbrev pub is_after_whole : List ℕ → Bool
 is_after_whole [] = true
 is_after_whole (byte ∷ rest) =
     if byte == 46 then starts_with_digit rest && is_exponent_or_end (after_digits rest)
     else is_exponent_or_end (byte ∷ rest)
 
--- digits, and what may follow them
+-- digits, then what may follow them
 abbrev pub is_decimal : List ℕ → Bool
 is_decimal text = starts_with_digit text && is_after_whole (after_digits text)
 
--- the three bytes, and nothing else
+-- exactly these three bytes
 abbrev pub is_word : (a b c : ℕ) → List ℕ → Bool
 is_word a b c (x ∷ y ∷ z ∷ []) = (x == a) && ((y == b) && (z == c))
 is_word a b c _ = false
@@ -103,14 +105,14 @@ is_word a b c _ = false
 abbrev pub is_unsigned : List ℕ → Bool
 is_unsigned text = (is_word 105 110 102 text || is_word 110 97 110 text) || is_decimal text
 
--- a minus and such a text, or such a text
+-- an optional minus, then an unsigned float
 abbrev pub is_float_line : List ℕ → Bool
 is_float_line [] = false
 is_float_line (byte ∷ rest) = if byte == 45 then is_unsigned rest else is_unsigned (byte ∷ rest)
 
 -- ---- strings in quotes
 
--- the bytes are whole items
+-- the bytes are a sequence of items
 abbrev pub are_items : (quote : ℕ) → List ℕ → Bool
 are_items quote inside = is_some (items_of quote inside)
 
@@ -118,7 +120,7 @@ are_items quote inside = is_some (items_of quote inside)
 abbrev pub is_quote : ℕ → Bool
 is_quote byte = byte == 39 || byte == 34
 
--- two bytes at least, the first a quote, the last the same, and items between them
+-- at least two bytes, the first and the last the same quote, with items between them
 abbrev pub is_string_line : List ℕ → Bool
 is_string_line line =
     nat_le 2 (length line)
@@ -128,7 +130,7 @@ is_string_line line =
 
 -- ---- all rules
 
--- ASCII, and not empty
+-- ASCII and not empty
 abbrev pub is_name : List ℕ → Bool
 is_name line = nat_lt 0 (length line) && list_all is_ascii line
 

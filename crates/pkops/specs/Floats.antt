@@ -1,6 +1,6 @@
 -- Floats in decimal digits, as protocol 0 spells them: the line of FLOAT, the argument `floatnl` of
--- CPython's `pickletools`. The grammar has every text that Python's `repr` gives a float, and fewer
--- than Python's `float` takes: no plus in front, no underscores, no upper case, no spaces.
+-- CPython's `pickletools`. The grammar accepts every text that Python's `repr` gives a float. It is
+-- stricter than Python's `float`: no leading plus, underscores, upper case or spaces.
 use Rattle.std.specs.Prelude.{◌≡◌, ◌⊎◌, ℕ, ◌<◌, List, [], ◌++◌, length, codes}
 use Rattle.std.specs.List.{AllPass}
 use Rattle.std.specs.Char.{is_ascii_digit}

@@ -1,9 +1,9 @@
--- Reading a text as forms, one behind the other. A form is a tree with a printer to its bytes; what
--- a text begins with is said for each grammar.
+-- Parsing a text as a sequence of forms. A form is a syntax tree with a printer to its bytes; each
+-- grammar says which form a text begins with.
 use Rattle.std.specs.Prelude.{ℕ, ◌-◌, zero, suc, List, [], ◌∷◌, length, Option, Some}
 use Rattle.std.specs.Option.{option_map, option_and_then}
 
--- the forms of what is left of a text, of which so many bytes belong to the form before them
+-- the forms in the rest of a text, whose first `inside` bytes belong to the form before them
 unfoldable pub forms_behind :
     {A : Type 0} → (first : ℕ → List ℕ → Option A) (print : A → List ℕ) (inside : ℕ) → List ℕ
     → Option (List A)
@@ -16,7 +16,7 @@ forms_behind first print zero (byte ∷ rest) =
     (forms_behind first print (length (print form) - 1) rest))
     (first byte rest)
 
--- the forms of a whole text, if it is nothing else
+-- the forms of a text, if it is a sequence of forms
 abbrev pub forms_of :
     {A : Type 0} → (first : ℕ → List ℕ → Option A) (print : A → List ℕ) → List ℕ
     → Option (List A)

@@ -1,24 +1,24 @@
--- The numbers of a program's limits.
+-- The numbers of a set of limits.
 use Rattle.std.specs.Prelude.{ℕ, ◌≤◌}
 
--- how much is read, kept and written
+-- limits on what is read, kept and written
 pub record Bounds : Type 0 where
-  -- bytes of the payload of a counted argument
+  -- bytes in the payload of a counted argument
   pub counted : ℕ
-  -- entries of the stack, marks included
+  -- stack entries, marks included
   pub stack : ℕ
-  -- entries of the memo
+  -- memo entries
   pub memo : ℕ
-  -- how deep JSON values nest: a scalar 0, an empty list 1
+  -- nesting depth of JSON values: 0 for a scalar, 1 for an empty list
   pub depth : ℕ
   -- JSON values
   pub values : ℕ
-  -- bytes of a payload that is passed over
+  -- bytes in a payload that is passed over
   pub passed : ℕ
-  -- the number under which PUT, BINPUT or LONG_BINPUT stores into the memo
+  -- the greatest memo number that PUT, BINPUT or LONG_BINPUT may store under
   pub numbers : ℕ
 
--- these numbers
+-- the limits with these numbers
 abbrev pub bounds : (counted stack memo depth values passed numbers : ℕ) → Bounds
 bounds counted stack memo depth values passed numbers = record {
   counted = counted;
@@ -30,16 +30,16 @@ bounds counted stack memo depth values passed numbers = record {
   numbers = numbers;
 }
 
--- the numbers that stand where none are asked for
+-- the default limits
 abbrev pub standard : Bounds
 standard = bounds 16_777_216 1_000_000 1_000_000 100 1_000_000 16_777_216 4_294_967_295
 
--- the greatest numbers that limits may have: the standard ones, but for payloads passed over
+-- the greatest limits without large data: the default ones, except for payloads passed over
 abbrev pub greatest : Bounds
 greatest = record standard { passed = 1_099_511_627_776 }
 
--- the numbers that stand for large data where none are asked for: as many entries of the memo as
--- numbers of 32 bits name, and as many of the stack and bytes of a payload
+-- the default limits for large data: memo entries as many as 32-bit numbers name, and the same
+-- number of stack entries and payload bytes
 abbrev pub large : Bounds
 large = record standard {
   counted = 4_294_967_295;
@@ -47,15 +47,15 @@ large = record standard {
   memo = 4_294_967_295;
 }
 
--- the greatest numbers that limits for large data may have
+-- the greatest limits for large data
 abbrev pub greatest_large : Bounds
 greatest_large = record large { passed = greatest.passed }
 
--- the same for a reader that holds every payload: one limit for all
+-- the limits of a reader that holds every payload: `counted` applies to all of them
 abbrev pub holding_all : Bounds → Bounds
 holding_all limits = record limits { passed = limits.counted }
 
--- each number is at most the other's
+-- each limit is at most the other's
 pub record AreWithin (a b : Bounds) : Type 0 where
   pub counted : a.counted ≤ b.counted
   pub stack : a.stack ≤ b.stack

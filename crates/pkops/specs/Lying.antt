@@ -8,18 +8,19 @@ use Rattle.pkops.specs.declared.op.Op.{Op}
 use Rattle.pkops.specs.Spelling.{Argument, Pair, instruction, layout_at, spelling, size_of}
 use Rattle.pkops.specs.Scanning.{IsLaid}
 
--- how many bytes stand before the first of two line ends, 0 where there are no two
+-- the length of the first of two lines; 0 for any other argument
 abbrev pub split_of : Argument → ℕ
 split_of (Pair first second) = length first
 split_of _ = 0
 
--- all the bytes are the opcode with the argument, good or not, and its first line ends there
+-- the bytes are exactly the opcode and its argument, good or not; `split` is `split_of` the
+-- argument
 pub record Lies (limit : ℕ) (op : Op) (arg : Argument) (split : ℕ) (bytes : List ℕ) : Type 0 where
   pub laid : IsLaid limit (instruction op arg)
   pub spelled : bytes ≡ spelling (instruction op arg)
   pub split_is : split ≡ split_of arg
 
--- how many bytes behind the code are needed, whatever they are: a number, a float or a count
+-- the length of the fixed-size field after the code: a number, a float or a count
 abbrev pub field_len : Layout → ℕ
 field_len layout.Nothing = 0
 field_len layout.U1 = 1
@@ -32,22 +33,22 @@ field_len (layout.Line most) = 0
 field_len (layout.Pair most) = 0
 field_len (layout.Counted size signed) = size_of size
 
--- such bytes are the whole argument
+-- the field is the whole argument
 abbrev pub IsFixed : Layout → Type 0
 IsFixed (layout.Line most) = ⊥
 IsFixed (layout.Pair most) = ⊥
 IsFixed (layout.Counted size signed) = ⊥
 IsFixed _ = ⊤
 
--- the number that a count field holds
+-- the number in a count field
 abbrev pub count_in : Width → List ℕ → ℕ
 count_in size field = little_number (size_of size) field
 
--- each number is that of a byte
+-- each number is a byte
 abbrev pub AreBytes : List ℕ → Type 0
 AreBytes bytes = (i : ℕ) → slice_index bytes i < 256
 
--- the field of the opcode's count
+-- the count field of the opcode
 pub record IsCountField (op : Op) (size : Width) (signed : Bool) (field : List ℕ) : Type 0 where
   pub lay : layout_at op ≡ layout.Counted size signed
   pub len : length field ≡ size_of size

@@ -1,7 +1,7 @@
 -- Numbers in decimal digits, as protocol 0 spells them: the lines of INT, LONG, GET and PUT, the
--- arguments `decimalnl_short` and `decimalnl_long` of CPython's `pickletools`.
--- A number has one spelling, the one that CPython's pickler writes: a plus, needless zeros, spaces
--- and underscores, which Python's `int` takes, are refused.
+-- arguments `decimalnl_short` and `decimalnl_long` of CPython's `pickletools`. Each number has one
+-- spelling, the one that CPython's pickler writes. Python's `int` also accepts a plus, leading
+-- zeros, spaces and underscores; these are refused here.
 use Rattle.std.specs.Prelude.{◌≡◌, ◌⊎◌, ℕ, ◌^◌, ◌<◌, Bool, true, ◌||◌, List, ◌∷◌, ◌++◌, codes}
 use Rattle.std.specs.Int.{is_in_range}
 use Rattle.std.specs.List.{AllPass}
@@ -28,7 +28,7 @@ abbrev pub IsNumeral : List ℕ → Type 0
 IsNumeral text =
     IsNatural text ⊎ ((digits : List ℕ) × IsPositive digits × (text ≡ codes "-" ++ digits))
 
--- how INT says False and True to readers of protocol 0 (PEP 307, which gave them opcodes)
+-- how INT spells False and True for readers of protocol 0 (PEP 307 gave them opcodes)
 abbrev pub is_bool_line : List ℕ → Bool
 is_bool_line line = bytes_eq line (codes "00") || bytes_eq line (codes "01")
 
@@ -36,12 +36,12 @@ is_bool_line line = bytes_eq line (codes "00") || bytes_eq line (codes "01")
 abbrev pub IsIntLine : List ℕ → Type 0
 IsIntLine line = (is_bool_line line ≡ true) ⊎ IsNumeral line
 
--- the line of LONG: a numeral, and then perhaps an L, as Python 2 printed long numbers
+-- the line of LONG: a numeral with an optional L after it, as Python 2 printed long numbers
 abbrev pub IsLongLine : List ℕ → Type 0
 IsLongLine line =
     IsNumeral line ⊎ ((numeral : List ℕ) × IsNumeral numeral × (line ≡ numeral ++ codes "L"))
 
--- the line of GET and PUT: a natural number that 32 bits hold, as LONG_BINGET's argument does
+-- the line of GET and PUT: a natural number that 32 bits hold, like the argument of LONG_BINGET
 pub record IsMemoNumber (line : List ℕ) : Type 0 where
   pub natural : IsNatural line
   pub small : digits_value 10 line < 2 ^ 32

@@ -1,5 +1,6 @@
--- Payloads behind their counts, and which of them a reader may pass over.
-use Rattle.std.specs.Prelude.{◌≡◌, ℕ, ◌==◌, ◌≤◌, ◌||◌, Bool, true, false, List, [], ◌∷◌, length, if◌then◌else◌}
+-- Counted payloads, and which of them a reader may pass over.
+use Rattle.std.specs.Prelude.{◌≡◌, ℕ, ◌==◌, ◌≤◌, ◌||◌, Bool, true, false, List, [], ◌∷◌, length}
+use Rattle.std.specs.Prelude.{if◌then◌else◌}
 use Rattle.pkops.specs.declared.layout.Layout.TheVariants as layout
 use Rattle.pkops.specs.declared.layout.Width.{Width}
 use Rattle.pkops.specs.declared.op.Op.{Op}
@@ -9,7 +10,8 @@ use Rattle.pkops.specs.Lying.{count_in}
 use Rattle.pkops.specs.Spelling.{layout_at, size_of}
 use Rattle.pkops.specs.Table.{code_of}
 
--- the opcodes of byte payloads: of bytes, and of a bytearray (PEP 574), whatever their bytes are
+-- opcodes with a byte payload, for bytes and for a bytearray (PEP 574); the payload may hold any
+-- bytes
 abbrev pub is_passed : Op → Bool
 is_passed op.BinBytes = true
 is_passed op.ShortBinBytes = true
@@ -17,23 +19,23 @@ is_passed op.BinBytes8 = true
 is_passed op.ByteArray8 = true
 is_passed _ = false
 
--- the most bytes of the opcode's payload, for a reader that passes byte payloads over
+-- the limit on the opcode's payload, for a reader that passes byte payloads over
 abbrev pub payload_limit : Bounds → Op → ℕ
 payload_limit limits op = if is_passed op then limits.passed else limits.counted
 
--- the code is that of such an opcode
+-- the byte is the code of such an opcode
 abbrev pub is_passed_code : ℕ → Bool
 is_passed_code code =
     (code_of op.BinBytes == code) || (code_of op.ShortBinBytes == code)
     || (code_of op.BinBytes8 == code) || (code_of op.ByteArray8 == code)
 
--- the same limit, by the bytes of an instruction or of a front of one
+-- the limit on the payload of an instruction, by its bytes or a prefix of them
 abbrev pub payload_limit_at : Bounds → List ℕ → ℕ
 payload_limit_at limits [] = limits.counted
 payload_limit_at limits (code ∷ behind) =
     if is_passed_code code then limits.passed else limits.counted
 
--- the bytes begin with the code of an opcode that has a counted argument, and with its count
+-- the bytes begin with the code of an opcode with a counted argument, followed by this count
 pub record HasCount (op : Op) (bytes : List ℕ) (count : ℕ) : Type 0 where
   pub size : Width
   pub signed : Bool

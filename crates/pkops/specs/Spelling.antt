@@ -1,8 +1,9 @@
--- What an instruction is and how it is spelled: a code, and an argument laid out by its kind, after
--- the argument descriptors of CPython's `pickletools` (`read_uint1` to `read_unicodestring8`).
--- Arguments are kept as they are spelled, so an instruction has one spelling. The 25 kinds have ten
--- layouts; which contents are good beyond the layout is said in `Contents`.
-use Rattle.std.specs.Prelude.{◌≡◌, ◌≢◌, ℕ, ℤ, ◌-◌, ◌*◌, ◌^◌, ◌<◌, ◌≤◌, Bool, true, false, List, [], ◌∷◌, ◌++◌, length, FitsSigned, ⊤}
+-- Instructions and their spelling: a code, then an argument laid out by its kind, after the
+-- argument descriptors of CPython's `pickletools` (`read_uint1` to `read_unicodestring8`). An
+-- argument is kept as it was spelled, so an instruction has exactly one spelling. The 25 kinds have
+-- ten layouts; `Contents` says which contents are good beyond the layout.
+use Rattle.std.specs.Prelude.{◌≡◌, ◌≢◌, ℕ, ℤ, ◌-◌, ◌*◌, ◌^◌, ◌<◌, ◌≤◌, Bool, true, false, List, []}
+use Rattle.std.specs.Prelude.{◌∷◌, ◌++◌, length, FitsSigned, ⊤}
 use Rattle.std.specs.List.{AllByRecursion}
 use Rattle.std.specs.Int.{w32, cast_unsigned}
 use Rattle.byteorder.specs.Endian.{little_bytes}
@@ -17,8 +18,8 @@ use Rattle.pkops.specs.declared.arg.Arg.{Arg}
 use Rattle.pkops.specs.declared.arg.Arg.TheVariants as arg
 use Rattle.pkops.specs.Table.{code_of, kind_of}
 
--- an argument, without where it lies in memory: nothing, a number of so many bytes, a number of
--- four bytes with a sign, the bytes of a float, a line, two lines, or a payload behind its count
+-- an argument as a value, whatever memory holds it: nothing, a number of `width` bytes, a signed
+-- number of four bytes, the bytes of a float, a line, two lines, or a counted payload
 pub data Argument : Type 0 where
   Nothing : Argument
   Number : (width value : ℕ) → Argument
@@ -33,11 +34,11 @@ pub record Instruction : Type 0 where
   pub op : Op
   pub arg : Argument
 
--- the instruction of an opcode and an argument, good or not
+-- the instruction with this opcode and argument, good or not
 abbrev pub instruction : Op → Argument → Instruction
 instruction op arg = record { op = op; arg = arg }
 
--- the program's argument as that of the definitions
+-- the argument that the program's `Arg` stands for
 abbrev pub shown_arg : Arg → Argument
 shown_arg arg.None = Nothing
 shown_arg (arg.U1 n) = Number 1 n
@@ -50,8 +51,8 @@ shown_arg (arg.Line text) = Line text.now
 shown_arg (arg.Pair first second) = Pair first.now second.now
 shown_arg (arg.Counted payload) = Counted payload.now
 
--- how the argument of each kind lies; a line has at most 1,024 bytes where it is an int or the
--- number of a memo entry, and at most 65,536 otherwise (limits of this project)
+-- the layout of each kind; a line has at most 1,024 bytes for an int or a memo number, and at most
+-- 65,536 otherwise (limits of this project)
 abbrev pub layout_of : Kind → Layout
 layout_of kind.None = layout.Nothing
 layout_of kind.Uint1 = layout.U1
@@ -79,27 +80,27 @@ layout_of kind.Bytes8 = layout.Counted width.Eight false
 layout_of kind.Bytearray8 = layout.Counted width.Eight false
 layout_of kind.Unicodestring8 = layout.Counted width.Eight false
 
--- how many bytes a count has
+-- the width of a count field in bytes
 abbrev pub size_of : Width → ℕ
 size_of width.One = 1
 size_of width.Four = 4
 size_of width.Eight = 8
 
--- the least number that a count field of this width does not hold
+-- the least number too large for a count field of this width
 abbrev pub count_limit : Width → Bool → ℕ
 count_limit size true = 2 ^ (8 * size_of size - 1)
 count_limit size false = 256 ^ size_of size
 
--- what ends a line
+-- the byte that ends a line
 abbrev pub line_feed : ℕ
 line_feed = 10
 
--- a line of at most so many bytes, without its end
+-- a line of at most `most` bytes, without its line feed
 pub record IsLine (most : ℕ) (text : List ℕ) : Type 0 where
   pub short : length text ≤ most
   pub whole : AllByRecursion (λ byte. byte ≢ line_feed) text
 
--- the argument is one of the layout: its numbers, lines and counts fit
+-- the argument fits the layout: its numbers, lines and counts are in range
 abbrev pub Suits : Layout → Argument → Type 0
 Suits layout.Nothing Nothing = ⊤
 Suits layout.U1 (Number width n) = (width ≡ 1) × (n < 256 ^ 1)
@@ -113,8 +114,8 @@ Suits (layout.Pair most) (Pair first second) = IsLine most first × IsLine most 
 Suits (layout.Counted size signed) (Counted payload) = length payload < count_limit size signed
 Suits _ _ = ⊥
 
--- the bytes of an argument, by its layout: numbers and counts have their lowest byte first,
--- negative numbers are in two's complement, and each line ends in a line feed
+-- the bytes of an argument by its layout: numbers and counts are little-endian, signed numbers are
+-- in two's complement, and each line ends in a line feed
 abbrev pub bytes_of : Argument → Layout → List ℕ
 bytes_of Nothing _ = []
 bytes_of (Number width n) _ = little_bytes width n
@@ -126,7 +127,7 @@ bytes_of (Counted payload) (layout.Counted size signed) =
     little_bytes (size_of size) (length payload) ++ payload
 bytes_of (Counted payload) _ = payload
 
--- the same, layout first
+-- `bytes_of` with the layout first
 abbrev pub laid : Layout → Argument → List ℕ
 laid lay arg = bytes_of arg lay
 
@@ -134,6 +135,6 @@ laid lay arg = bytes_of arg lay
 abbrev pub layout_at : Op → Layout
 layout_at op = layout_of (kind_of op)
 
--- the bytes of an instruction: its code, and then its argument
+-- the bytes of an instruction: its code, then its argument
 abbrev pub spelling : Instruction → List ℕ
 spelling i = code_of i.op ∷ laid (layout_at i.op) i.arg

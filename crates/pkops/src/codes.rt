@@ -1,4 +1,4 @@
-//! The opcode of a code.
+//! Opcodes by code byte.
 
 ghost use Rattle.std.specs.Prelude.{◌≡◌, ◌≢◌, IfSome, IfNone};
 ghost use Rattle.pkops.specs.Private.Codes.{ops_from};
@@ -7,7 +7,7 @@ ghost use Rattle.pkops.specs.declared.op.Op.{Op};
 
 use crate::op::Op;
 
-/// The opcode that the byte is the code of, if it is one.
+/// The opcode with this code byte, or `None` if no opcode has it.
 #[inline]
 pub fn op_of_byte(byte: u8) -> Option<Op>
     ensures found { IfSome result (λ op. code_of op ≡ byte) }
@@ -22,8 +22,8 @@ fn opcodes() -> &'static [Option<Op>; 256]
     &OPCODES
 }
 
-/// The opcode of each code, in the order of the codes: a table in memory, since a match on the byte
-/// becomes a jump, which costs more.
+/// The opcode of each code byte, in order. A table in memory is faster than a match, which LLVM
+/// compiles to an indirect jump.
 static OPCODES: [Option<Op>; 256] = [
     // 0x00
     None,

@@ -1,4 +1,4 @@
-//! What an argument may contain: a rule for each opcode, and whether an argument keeps it.
+//! What an argument may contain: a rule for each opcode, and a test of the rule.
 
 ghost use Rattle.std.specs.Prelude.{◌≡◌, MatchBool};
 ghost use Rattle.std.specs.Str.{is_utf8};
@@ -21,32 +21,32 @@ pub mod name;
 pub mod numeral;
 pub mod old_string;
 
-/// A rule for what an argument may contain, beyond its layout. It goes by opcode and not by kind:
-/// INT, GET and PUT share a kind.
+/// A rule for the contents of an argument, beyond its layout. Rules belong to opcodes, not to
+/// kinds: INT, GET and PUT share a kind.
 #[derive(Clone, Copy, Debug, PartialEq, Eq)]
 pub enum Rule {
-    /// Any argument of the layout is good.
+    /// Any argument of the layout.
     Anything,
-    /// INT: the line is `00`, `01` or a numeral, an optional minus and digits without needless
-    /// zeros.
+    /// INT: a line with `00`, `01` or a numeral. A numeral is digits without leading zeros, after
+    /// an optional minus.
     Int,
-    /// LONG: the line is a numeral, perhaps with an `L` behind it.
+    /// LONG: a line with a numeral and an optional `L` after it.
     Long,
-    /// GET and PUT: the line is the number of a memo entry, a numeral from 0 to 4,294,967,295.
+    /// GET and PUT: a line with a memo number, a numeral from 0 to 4,294,967,295.
     MemoNumber,
-    /// FLOAT: the line is `inf`, `nan` or decimal digits, perhaps with a fraction and an exponent,
-    /// all perhaps behind a minus.
+    /// FLOAT: a line with an optional minus, then `inf`, `nan` or decimal digits with an optional
+    /// fraction and an optional exponent.
     Float,
-    /// STRING: the line is a string of printable ASCII and escapes, in quotes.
+    /// STRING: a line with a string of printable ASCII and escapes, in quotes.
     OldString,
-    /// UNICODE: the line is text, with `\u` and four or `\U` and eight hexadecimal digits for code
-    /// points.
+    /// UNICODE: a line of text. `\u` with four or `\U` with eight hexadecimal digits spells a code
+    /// point.
     Escapes,
-    /// SHORT_BINUNICODE, BINUNICODE and BINUNICODE8: the payload is UTF-8.
+    /// SHORT_BINUNICODE, BINUNICODE and BINUNICODE8: a UTF-8 payload.
     Utf8,
-    /// GLOBAL and INST: both lines are ASCII, and not empty.
+    /// GLOBAL and INST: two lines, both ASCII and not empty.
     Names,
-    /// PERSID: the line is ASCII.
+    /// PERSID: an ASCII line.
     Ascii,
 }
 

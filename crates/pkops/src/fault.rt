@@ -1,12 +1,12 @@
-//! What is wrong with bytes that begin no instruction.
+//! Why bytes begin no instruction.
 
-/// What is wrong with the bytes.
+/// Why bytes begin no instruction.
 #[derive(Clone, Copy, Debug, PartialEq, Eq)]
 pub enum Fault {
-    /// The first byte is the code of no opcode.
+    /// The first byte is no opcode's code.
     UnknownOpcode(u8),
-    /// A count is negative, or the argument's contents break a rule of its kind.
+    /// A count is negative, or the argument breaks the rule for its contents.
     BadArgument,
-    /// A count is above the limit, or a line has more bytes than a line of its kind may have.
+    /// A count is above the limit, or a line is longer than its kind allows.
     TooLarge,
 }

@@ -2,12 +2,12 @@
 
 use crate::arg::Arg;
 
-/// How an instruction holds its argument: as it is, or in the bytes that spell the instruction.
-/// What a reader lends is spelled there, and no argument is made of it before one is asked for.
+/// How an instruction holds its argument: decoded, or in the bytes that spell the instruction. A
+/// reader lends the bytes, and the argument is decoded only when it is asked for.
 #[derive(Clone, Copy, Debug)]
 pub enum Form<'a> {
-    /// The argument.
+    /// The decoded argument.
     Made(Arg<'a>),
-    /// The bytes, from the code on; the first of two lines has so many.
+    /// The bytes of the whole instruction, after the length of the first of two lines.
     Spelled(usize, &'a [u8]),
 }

@@ -1,14 +1,14 @@
-//! What a scan answers.
+//! The answer of a scan.
 
 use crate::fault::Fault;
 use crate::inst::Inst;
 
-/// What stands at the front of some bytes.
+/// What is at the front of some bytes.
 #[derive(Clone, Copy, Debug)]
 pub enum Scan<'a> {
-    /// An instruction, and how many bytes spell it.
+    /// An instruction, and the number of bytes that spell it.
     Whole(Inst<'a>, usize),
-    /// The bytes begin an instruction and do not hold the whole of it.
+    /// The bytes are a proper prefix of an instruction.
     More,
     /// The bytes begin no instruction within the limits.
     Bad(Fault),

@@ -19,7 +19,7 @@ use crate::lending::{argument_apart, is_bool_behind, memo_number_behind};
 use crate::op::Op;
 use crate::table::kind;
 
-/// An instruction: an opcode with an argument of its kind, whose contents keep the kind's rules.
+/// An instruction: an opcode with an argument of its kind, whose contents keep the opcode's rule.
 #[derive(Clone, Copy, Debug)]
 pub struct Inst<'a> {
     op: Op,
@@ -37,9 +37,9 @@ impl<'a> Inst<'a> {
     ghost use Rattle.pkops.specs.Operands.{memo_entry, names_bool, pair_named};
     ghost use Rattle.pkops.specs.Spelling.{spelling};
 
-    /// The instruction of an opcode and an argument, where the argument is of the opcode's kind,
-    /// its lines are within their limits, its count fits the count field and its contents keep
-    /// the kind's rules.
+    /// The instruction with this opcode and argument. `None` unless the argument has the opcode's
+    /// kind, its lines are within their limits, its count fits the count field and its contents
+    /// keep the opcode's rule.
     pub fn new(op: Op, arg: Arg<'a>) -> Option<Inst<'a>>
         ensures { SomeIff (option_map instruction_of result)
             (IsGood (instruction op (shown_arg arg.entry))) (instruction op (shown_arg arg.entry)) }
@@ -54,8 +54,8 @@ impl<'a> Inst<'a> {
         }
     }
 
-    /// The instruction of an opcode and an argument of its kind, where the argument's contents keep
-    /// the kind's rules.
+    /// The instruction with this opcode and an argument of its kind. `None` unless the contents of
+    /// the argument keep the opcode's rule.
     pub fn judged(op: Op, arg: Arg<'a>) -> Option<Inst<'a>>
         requires { Suits (layout_at op) (shown_arg arg) }
         ensures { SomeIff (option_map instruction_of result)
@@ -71,7 +71,7 @@ impl<'a> Inst<'a> {
         }
     }
 
-    /// The instruction of an opcode and an argument that are known to be good together.
+    /// The instruction with this opcode and an argument that is known to be good for it.
     #[inline]
     pub fn known(op: Op, arg: Arg<'a>) -> Inst<'a>
         requires { IsGood (instruction op (shown_arg arg)) }
@@ -83,8 +83,8 @@ impl<'a> Inst<'a> {
         }
     }
 
-    /// The instruction that these bytes spell, which is known to be good; the first of two lines
-    /// has so many.
+    /// The instruction that these bytes spell, which is known to be good. `split` is the length of
+    /// the first of two lines, else 0.
     #[inline]
     pub fn spelled(op: Op, split: usize, bytes: &'a [u8]) -> Inst<'a>
         requires { (limit : ℕ) × (arg : Argument)
@@ -118,7 +118,15 @@ impl<'a> Inst<'a> {
         }
     }
 
-    /// How many bytes spell the instruction.
+    /// Whether both are the same opcode with the same argument, wherever they lie in memory.
+    pub fn same(&self, other: &Inst<'_>) -> bool
+        ensures { MatchBool result (instruction_of self.now ≡ instruction_of other.now)
+            (instruction_of self.now ≢ instruction_of other.now) }
+    {
+        is_same_opcode(self.op, other.op) && is_same_argument(self.arg(), other.arg())
+    }
+
+    /// The number of bytes that spell the instruction.
     #[inline(always)]
     pub fn len(&self) -> u64
         ensures { result ≡ length (spelling (instruction_of self.now)) }
@@ -129,8 +137,8 @@ impl<'a> Inst<'a> {
         }
     }
 
-    /// The number of the memo entry that GET, BINGET, LONG_BINGET, PUT, BINPUT and LONG_BINPUT
-    /// name; `None` for all others.
+    /// The memo number that GET, BINGET, LONG_BINGET, PUT, BINPUT or LONG_BINPUT names; `None` for
+    /// any other opcode.
     #[inline(always)]
     pub fn memo_number(&self) -> Option<u32>
         ensures { result ≡ memo_entry (instruction_of self.now) }
@@ -144,7 +152,7 @@ impl<'a> Inst<'a> {
         }
     }
 
-    /// Whether the instruction is an INT that makes a bool: `00` and `01`.
+    /// Whether the instruction is an INT that makes a bool, by `00` or `01`.
     #[inline(always)]
     pub fn names_bool(&self) -> bool
         ensures { result ≡ names_bool (instruction_of self.now) }
@@ -158,7 +166,7 @@ impl<'a> Inst<'a> {
         }
     }
 
-    /// The module and the name that GLOBAL and INST name; `None` for all others.
+    /// The module and the name that GLOBAL or INST names; `None` for any other opcode.
     pub fn pair(&self) -> Option<(&'a str, &'a str)>
         ensures { option_map (λ pair. (pair.0.now, pair.1.now)) result
             ≡ pair_named (instruction_of self.now) }
@@ -175,7 +183,8 @@ impl<'a> Inst<'a> {
         Some((module, name))
     }
 
-    /// Whether a reader admits the instruction: not EXT1, EXT2, EXT4 or a PROTO above 5.
+    /// Whether a reader admits the instruction: anything except EXT1, EXT2, EXT4 and a PROTO above
+    /// 5.
     pub fn admitted(&self) -> bool
         ensures { result ≡ is_admitted (instruction_of self.now) }
     {
@@ -187,7 +196,22 @@ impl<'a> Inst<'a> {
     }
 }
 
-/// Whether the argument of an opcode is the number of a memo entry.
+/// Whether both opcodes are the same.
+fn is_same_opcode(first: Op, second: Op) -> bool
+    ensures { MatchBool result (first ≡ second) (first ≢ second) }
+{
+    first == second
+}
+
+/// Whether both arguments are the same.
+fn is_same_argument(first: Arg<'_>, second: Arg<'_>) -> bool
+    ensures { MatchBool result (shown_arg first.entry ≡ shown_arg second.entry)
+        (shown_arg first.entry ≢ shown_arg second.entry) }
+{
+    first == second
+}
+
+/// Whether the opcode's argument is a memo number.
 #[inline(always)]
 fn names_memo_entry(op: Op) -> bool
     ensures { result ≡ names_memo_entry op }
@@ -206,7 +230,7 @@ fn is_int(op: Op) -> bool
     matches!(op, Op::Int)
 }
 
-/// Whether an argument of INT says a bool.
+/// Whether an argument of INT spells a bool.
 fn is_bool_in(arg: Arg<'_>) -> bool
     ensures { result ≡ names_bool_by opcode.Int (shown_arg arg.entry) }
 {
@@ -216,7 +240,7 @@ fn is_bool_in(arg: Arg<'_>) -> bool
     }
 }
 
-/// The number of a memo entry that an argument is.
+/// The memo number in an argument.
 #[inline(never)]
 fn memo_number_in(op: Op, arg: Arg<'_>) -> u32
     requires names { names_memo_entry op ≡ true }
@@ -231,7 +255,7 @@ fn memo_number_in(op: Op, arg: Arg<'_>) -> u32
     }
 }
 
-/// The bytes of an argument.
+/// The length of an argument in bytes.
 fn argument_len(op: Op, arg: Arg<'_>) -> u64
     requires { Suits (layout_at op) (shown_arg arg) }
     ensures is { result ≡ length (laid (layout_at op) (shown_arg arg.entry)) }
@@ -249,7 +273,7 @@ fn argument_len(op: Op, arg: Arg<'_>) -> u64
     }
 }
 
-/// The bytes of a line, its end among them.
+/// The length of a line in bytes, with its line feed.
 fn line_len(text: &[u8]) -> u64
     ensures is { result ≡ length text.now + 1 }
     ensures small { result ≤ 2 ^ 63 }
@@ -257,7 +281,7 @@ fn line_len(text: &[u8]) -> u64
     text.len() as u64 + 1
 }
 
-/// The bytes of a payload, without its count.
+/// The length of a payload in bytes, without its count.
 fn payload_len(payload: &[u8]) -> u64
     ensures is { result ≡ length payload.now }
     ensures small { result < 2 ^ 63 }
@@ -265,7 +289,7 @@ fn payload_len(payload: &[u8]) -> u64
     payload.len() as u64
 }
 
-/// The bytes of the count of an opcode, 0 where it has none.
+/// The length of the opcode's count field in bytes; 0 if it has none.
 fn count_len(op: Op) -> u64
     ensures is { result ≡ count_len (layout_at op) }
     ensures small { result ≤ 8 }
@@ -276,7 +300,7 @@ fn count_len(op: Op) -> u64
     }
 }
 
-/// Whether the argument is one of the layout.
+/// Whether the argument fits the layout.
 fn suits(layout: Layout, arg: Arg<'_>) -> bool
     ensures { MatchBool result
         (Suits layout (shown_arg arg.entry)) (¬ (Suits layout (shown_arg arg.entry))) }
@@ -300,7 +324,7 @@ fn suits(layout: Layout, arg: Arg<'_>) -> bool
     }
 }
 
-/// Whether the text is a line of at most so many bytes.
+/// Whether the text is a line of at most `most` bytes.
 fn is_line(most: usize, text: &[u8]) -> bool
     ensures { MatchBool result (IsLine most text.now) (¬ (IsLine most text.now)) }
 {

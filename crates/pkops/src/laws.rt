@@ -1,5 +1,5 @@
-//! Laws of the definitions, each the contract of a function that does nothing. What calls one has
-//! its contract for its own.
+//! Laws of the definitions. Each is the contract of a function that does nothing; call the function
+//! to use its law in a proof.
 
 ghost use Rattle.std.specs.Prelude.{◌≡◌, ◌↔◌, [], ◌++◌, List, Some, true, ℕ};
 ghost use Rattle.pkops.specs.Answer.{Answer, Answers};
@@ -14,28 +14,28 @@ ghost use Rattle.pkops.specs.Text.{NamesText, text_bytes};
 ghost use Rattle.pkops.specs.declared.contents.Rule.{Rule};
 ghost use Rattle.pkops.specs.declared.op.Op.{Op};
 
-/// No spelling begins another, so bytes have one reading however they are cut.
+/// No spelling is a proper prefix of another, so bytes have one reading however they are split.
 #[inline]
 pub fn one_spelling()
     ensures { (i j : Instruction) (front more : List ℕ) →
         Spells i front → Spells j (front ++ more) → (more ≡ []) × (i ≡ j) }
 {}
 
-/// A scan has one answer.
+/// A scan has exactly one right answer.
 #[inline]
 pub fn one_answer()
     ensures { (limit : ℕ) (bytes : List ℕ) (r s : Answer) →
         Answers limit bytes r → Answers limit bytes s → r ≡ s }
 {}
 
-/// No two opcodes have one code.
+/// No two opcodes share a code.
 #[inline]
 pub fn one_code()
     ensures { (a b : Op) → code_of a ≡ code_of b → a ≡ b }
 {}
 
-/// What bytes come to as more of them stand behind their front: which begin an instruction, and
-/// what a code is with its field, and with its count and payload.
+/// What a prefix is as more bytes arrive: which bytes begin an instruction, and what a code is with
+/// its field, or with its count and payload.
 #[inline]
 pub fn growth()
     ensures begun { BegunLaws }
@@ -43,19 +43,20 @@ pub fn growth()
     ensures count { CountLaws }
 {}
 
-/// Each rule for what an argument may contain holds exactly where its test does, which computes.
+/// Each content rule holds exactly when its test, which computes, is true.
 #[inline]
 pub fn rules_are_computed()
     ensures { (rule : Rule) (arg : Argument) → Keeps rule arg ↔ (passes rule arg ≡ true) }
 {}
 
-/// The text of an instruction, as `text_of` answers it, is the one that it names.
+/// The text that `text_of` answers is the one that the instruction names.
 #[inline]
 pub fn text_is_named()
     ensures { (i : Instruction) (text : List ℕ) → NamesText i text ↔ (text_bytes i ≡ Some text) }
 {}
 
-/// The bytes of an old string, as `old_bytes_of` answers them, are those that it names.
+/// The bytes that `old_bytes_of` answers are those of the Python 2 string that the instruction
+/// names.
 #[inline]
 pub fn old_bytes_are_named()
     ensures { (i : Instruction) (bytes : List ℕ) →

@@ -1,38 +1,38 @@
-//! How the bytes of an argument lie, by its kind: the layout says where an argument ends, and
-//! nothing of what it may contain.
+//! The layout of an argument, by its kind: it says where the argument ends, not what it may
+//! contain.
 
 ghost use Rattle.std.specs.Prelude.{◌≡◌, nat_lt};
 ghost use Rattle.pkops.specs.Spelling.{count_limit, layout_of, size_of};
 
 use crate::op::Kind;
 
-/// How the bytes of an argument lie. The 25 kinds have ten layouts.
+/// The layout of an argument. The 25 kinds have ten layouts.
 #[derive(Clone, Copy, Debug, PartialEq, Eq)]
 pub enum Layout {
     /// No bytes.
     Nothing,
     /// One byte.
     U1,
-    /// Two bytes, the lowest first.
+    /// Two bytes, little-endian.
     U2,
-    /// Four bytes, the lowest first, in two's complement.
+    /// Four bytes, little-endian, in two's complement.
     I4,
-    /// Four bytes, the lowest first.
+    /// Four bytes, little-endian.
     U4,
-    /// Eight bytes, the lowest first.
+    /// Eight bytes, little-endian.
     U8,
-    /// Eight bytes, the highest first.
+    /// Eight bytes, big-endian.
     F8,
-    /// A line of at most so many bytes, and a line feed that ends it.
+    /// A line of at most this many bytes, followed by a line feed.
     Line(usize),
     /// Two such lines.
     Pair(usize),
-    /// A count of so many bytes, the lowest first, and then as many bytes as it says; where the
-    /// sign is true, a count in two's complement, which may not be negative.
+    /// A little-endian count of this width, then a payload of that many bytes. If the flag is true,
+    /// the count is in two's complement and may not be negative.
     Counted(Width, bool),
 }
 
-/// How many bytes a count has.
+/// The width of a count field.
 #[derive(Clone, Copy, Debug, PartialEq, Eq)]
 pub enum Width {
     /// One byte.
@@ -44,7 +44,7 @@ pub enum Width {
 }
 
 impl Kind {
-    /// How an argument of this kind lies.
+    /// The layout of an argument of this kind.
     #[inline]
     pub fn layout(self) -> Layout
         ensures { result ≡ layout_of self }
@@ -75,7 +75,7 @@ impl Kind {
 }
 
 impl Width {
-    /// The bytes of the count itself.
+    /// The width of the count field in bytes.
     #[inline]
     pub fn size(self) -> usize
         ensures { result ≡ size_of self }
@@ -88,7 +88,7 @@ impl Width {
     }
 }
 
-/// Whether a count field of this width holds the number.
+/// Whether a count field of this width can hold the number.
 #[inline]
 pub fn is_count(width: Width, signed: bool, count: u64) -> bool
     ensures { result ≡ nat_lt count (count_limit width signed) }

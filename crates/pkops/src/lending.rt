@@ -1,4 +1,4 @@
-//! The argument of bytes whose layout is known: nothing is looked for.
+//! Decodes the argument of bytes whose layout is known, without searching for line ends.
 
 ghost use Rattle.std.specs.Prelude.{◌≡◌, ◌+◌, ◌-◌, ◌≤◌, ℕ, Some, length, take, drop, true};
 ghost use Rattle.std.specs.Str.Parse.{digits_value};
@@ -17,8 +17,9 @@ use crate::op::Op;
 use crate::table::layout_of_op;
 use byteorder::{ByteOrder, LittleEndian};
 
-/// The argument of all the bytes, whose code is that of the opcode; the first of two lines has so
-/// many bytes. It is written out where it is called, so that no room is made for the argument.
+/// The argument in the bytes of a whole instruction of this opcode. `split` is the length of the
+/// first of two lines. It is inlined everywhere, so that callers need no stack slot for the
+/// argument.
 #[inline(always)]
 pub fn argument_of<'a>(op: Op, split: usize, bytes: &'a [u8]) -> Arg<'a>
     requires { (limit : ℕ) × (arg : Argument) × Lies limit op arg split bytes.now }
@@ -42,7 +43,7 @@ pub fn argument_of<'a>(op: Op, split: usize, bytes: &'a [u8]) -> Arg<'a>
     }
 }
 
-/// The same, for callers that have much else to do and would grow too large.
+/// `argument_of` out of line, for large callers.
 #[inline(never)]
 pub fn argument_apart<'a>(op: Op, split: usize, bytes: &'a [u8]) -> Arg<'a>
     requires { (limit : ℕ) × (arg : Argument) × Lies limit op arg split bytes.now }
@@ -52,8 +53,8 @@ pub fn argument_apart<'a>(op: Op, split: usize, bytes: &'a [u8]) -> Arg<'a>
     argument_of(op, split, bytes)
 }
 
-/// The number of a memo entry behind a code whose argument is one. It makes no `Arg`, since most
-/// of what an instruction costs is the room for one.
+/// The memo number after the code. It makes no `Arg`, whose stack slot would be most of the cost of
+/// such an instruction.
 #[inline(always)]
 pub fn memo_number_behind(op: Op, bytes: &[u8]) -> u32
     requires names { names_memo_entry op ≡ true }
@@ -69,7 +70,7 @@ pub fn memo_number_behind(op: Op, bytes: &[u8]) -> u32
     }
 }
 
-/// Whether the line of an INT says a bool.
+/// Whether the line of an INT spells a bool.
 #[inline(always)]
 pub fn is_bool_behind(bytes: &[u8]) -> bool
     requires { (limit split : ℕ) × (arg : Argument) × Lies limit opcode.Int arg split bytes.now }
@@ -79,7 +80,7 @@ pub fn is_bool_behind(bytes: &[u8]) -> bool
     is_bool_line(between(1, bytes.len() - 1, bytes))
 }
 
-/// The number that the line behind the code says.
+/// The number in the line after the code.
 #[inline(never)]
 fn line_number_behind(bytes: &[u8]) -> u32
     requires some { 2 ≤ length bytes.now }
@@ -89,7 +90,7 @@ fn line_number_behind(bytes: &[u8]) -> u32
     number_of(between(1, bytes.len() - 1, bytes))
 }
 
-/// The count behind the code.
+/// The count after the code.
 #[inline]
 pub fn count_behind(width: Width, bytes: &[u8]) -> u64
     requires { size_of width + 1 ≤ length bytes.now }

@@ -6,8 +6,8 @@ ghost use Rattle.pkops.specs.Limits.{large, standard};
 
 use std::marker::Model;
 
-/// Limits on what is read, kept and written. None is above its standard number, but for that on
-/// payloads that are passed over, and but for those of large data.
+/// Limits on what is read, kept and written. Each is at most its standard number, except the limit
+/// on payloads that are passed over and the limits for large data.
 #[derive(Clone, Copy, Debug, PartialEq, Eq)]
 pub struct Limits {
     counted: u64,
@@ -42,9 +42,9 @@ impl Model for Limits {
 }
 
 impl Limits {
-    /// 16,777,216 bytes of a payload, 1,000,000 entries of the stack and as many of the memo,
-    /// JSON values 100 deep and 1,000,000 of them, 16,777,216 bytes of a payload passed over, and
-    /// each number of the memo that an instruction can spell: up to 4,294,967,295.
+    /// The default limits: payloads of 16,777,216 bytes, held or passed over; 1,000,000 stack
+    /// entries; 1,000,000 memo entries; JSON values nested 100 deep, and 1,000,000 of them; and
+    /// memo numbers up to 4,294,967,295, all that an instruction can spell.
     pub const STANDARD: Limits = Limits {
         counted: 16_777_216,
         stack: 1_000_000,
@@ -55,15 +55,15 @@ impl Limits {
         numbers: 4_294_967_295,
     };
 
-    /// The greatest that limits may be where nothing is said of large data: the standard ones, but
-    /// for 1,099,511,627,776 bytes of a payload passed over.
+    /// The greatest limits without large data: the default ones, with 1,099,511,627,776 bytes for
+    /// payloads that are passed over.
     pub const GREATEST: Limits = Limits {
         passed: 1_099_511_627_776,
         ..Limits::STANDARD
     };
 
-    /// Those of large data: 4,294,967,295 bytes of a payload, as many entries of the stack and as
-    /// many of the memo, and else the standard ones.
+    /// The default limits for large data: 4,294,967,295 payload bytes, stack entries and memo
+    /// entries, and otherwise the default limits.
     pub const LARGE: Limits = Limits {
         counted: 4_294_967_295,
         stack: 4_294_967_295,
@@ -71,15 +71,15 @@ impl Limits {
         ..Limits::STANDARD
     };
 
-    /// The greatest that limits may be: those of large data, but for 1,099,511,627,776 bytes of a
-    /// payload passed over.
+    /// The greatest limits of all: those for large data, with 1,099,511,627,776 bytes for payloads
+    /// that are passed over.
     pub const GREATEST_LARGE: Limits = Limits {
         passed: 1_099_511_627_776,
         ..Limits::LARGE
     };
 
-    /// Limits with these numbers, where each is at most the standard one. That on payloads passed
-    /// over and that on numbers of the memo are the standard ones.
+    /// Limits with these numbers, or `None` if one of them is above [`Limits::STANDARD`]. The
+    /// limits on payloads passed over and on memo numbers are the standard ones.
     pub fn new(counted: u64, stack: u64, memo: u64, depth: u64, values: u64) -> Option<Limits>
         ensures { SomeIff result
             (AreWithin (bounds counted stack memo depth values standard.passed standard.numbers)
@@ -96,9 +96,9 @@ impl Limits {
         }
     }
 
-    /// The same for large data, where each number is at most that of [`Limits::LARGE`]. What is
-    /// kept stays bounded by what was read: no payload, stack or memo takes memory before its bytes
-    /// are there.
+    /// Limits for large data with these numbers, or `None` if one of them is above
+    /// [`Limits::LARGE`]. Memory stays bounded by what was read: no payload, stack or memo is
+    /// allocated before its bytes arrive.
     pub fn large(counted: u64, stack: u64, memo: u64, depth: u64, values: u64) -> Option<Limits>
         ensures { SomeIff result
             (AreWithin (bounds counted stack memo depth values standard.passed standard.numbers)
@@ -124,7 +124,7 @@ impl Limits {
         }
     }
 
-    /// The same limits with this one on payloads that are passed over, where it is at most
+    /// These limits with another one on payloads that are passed over, in bytes; `None` above
     /// 1,099,511,627,776.
     pub fn with_passed(self, passed: u64) -> Option<Limits>
         ensures { SomeIff result (passed ≤ greatest.passed) (record self { passed = passed }) }
@@ -136,9 +136,9 @@ impl Limits {
         }
     }
 
-    /// The same limits with this one on numbers of the memo, where it is at most 4,294,967,295. A
-    /// reader that keeps its memo in an array, as CPython's does, takes memory for each number up
-    /// to the greatest that a pickle stores under.
+    /// These limits with another one on memo numbers; `None` above 4,294,967,295. A reader whose
+    /// memo is an array, like CPython's, allocates memory up to the greatest number that a pickle
+    /// stores under.
     pub fn with_numbers(self, numbers: u64) -> Option<Limits>
         ensures { SomeIff result (numbers ≤ greatest.numbers) (record self { numbers = numbers }) }
     {
@@ -149,8 +149,7 @@ impl Limits {
         }
     }
 
-    /// The same limits for a reader that holds every payload: none may have more bytes than
-    /// `counted` says.
+    /// These limits for a reader that holds every payload: `counted` applies to each of them.
     pub fn holding_all(self) -> Limits
         ensures { result ≡ holding_all self }
     {
@@ -161,7 +160,7 @@ impl Limits {
         }
     }
 
-    /// The most bytes that the payload of a counted argument may have, where it is held.
+    /// The most bytes in the payload of a counted argument that is held.
     pub fn counted(&self) -> u64
         ensures is { result ≡ self.now.counted }
         ensures most { result ≤ greatest_large.counted }
@@ -169,7 +168,7 @@ impl Limits {
         self.counted
     }
 
-    /// The most entries that the stack may have, marks included.
+    /// The most stack entries, marks included.
     pub fn stack(&self) -> u64
         ensures is { result ≡ self.now.stack }
         ensures most { result ≤ greatest_large.stack }
@@ -177,7 +176,7 @@ impl Limits {
         self.stack
     }
 
-    /// The most entries that the memo may have.
+    /// The most memo entries.
     pub fn memo(&self) -> u64
         ensures is { result ≡ self.now.memo }
         ensures most { result ≤ greatest_large.memo }
@@ -185,7 +184,7 @@ impl Limits {
         self.memo
     }
 
-    /// How deep JSON values may nest.
+    /// The deepest nesting of JSON values.
     pub fn depth(&self) -> u64
         ensures is { result ≡ self.now.depth }
         ensures most { result ≤ greatest_large.depth }
@@ -201,16 +200,16 @@ impl Limits {
         self.values
     }
 
-    /// The most bytes that a payload may have that is passed over: one of bytes or of a bytearray,
-    /// where only its length is told.
+    /// The most bytes in a payload that is passed over: one of bytes or of a bytearray, of which
+    /// only the length is told.
     pub fn passed(&self) -> u64
         ensures is { result ≡ self.now.passed }
         ensures most { result ≤ greatest_large.passed }
     {
         self.passed
     }
-    /// The greatest number under which PUT, BINPUT and LONG_BINPUT may store into the memo. That of
-    /// MEMOIZE is the count of entries, on which `memo` is the limit.
+    /// The greatest memo number that PUT, BINPUT and LONG_BINPUT may store under. MEMOIZE stores
+    /// under the number of entries, which `memo` limits.
     pub fn numbers(&self) -> u64
         ensures is { result ≡ self.now.numbers }
         ensures most { result ≤ greatest_large.numbers }

@@ -1,4 +1,4 @@
-//! The bytes of an old string: what Python 2 wrote of its type `str`.
+//! The bytes of a Python 2 string (type `str`).
 
 ghost use Rattle.std.specs.Prelude.{◌≡◌, ℕ, List, IfOk, MatchOption};
 ghost use Rattle.std.specs.Option.{option_map};
@@ -11,10 +11,10 @@ use crate::inst::Inst;
 use crate::op::Op;
 use std::alloc::{AllocError, Global};
 
-/// The bytes of an old string: the payload of BINSTRING and SHORT_BINSTRING; of STRING what stands
-/// between the quotes, with its escapes read: `\n` is 0a, `\r` 0d, `\t` 09, `\xHH` the byte of that
-/// number, and a backslash before `\`, `'` or `"` stands for that character. `None` for all other
-/// opcodes. It errs only where memory is lacking.
+/// The bytes of a Python 2 string: the payload of BINSTRING and SHORT_BINSTRING, or what the line
+/// of STRING spells between its quotes. There `\n` is 0a, `\r` 0d and `\t` 09, `\xHH` is the byte
+/// of that number, and a backslash before `\`, `'` or `"` stands for that character. `None` for any
+/// other opcode. Fails only if an allocation is refused.
 pub fn old_bytes_of(alloc: Global, inst: &Inst<'_>) -> Result<Option<Vec<u8>>, AllocError>
     ensures named { IfOk result (λ bytes. MatchOption bytes
         ((named : List ℕ) → ¬ (NamesBytes (instruction_of inst.now) named))

@@ -1,39 +1,39 @@
-//! The opcodes, the kinds of their arguments, and the rows of their table.
+//! The opcodes, the kinds of their arguments, and the rows of the opcode table.
 
-/// An opcode, by the name that it has in `pickletools`.
+/// An opcode, named as in `pickletools`.
 #[derive(Clone, Copy, Debug, PartialEq, Eq)]
 pub enum Op {
-    /// `INT`: an int or a bool, by a line of decimal digits.
+    /// `INT`: an int or a bool, in a line of decimal digits.
     Int,
-    /// `BININT`: an int, by four bytes with a sign.
+    /// `BININT`: an int, in four bytes, signed.
     BinInt,
-    /// `BININT1`: an int, by one byte.
+    /// `BININT1`: an int, in one byte, unsigned.
     BinInt1,
-    /// `BININT2`: an int, by two bytes.
+    /// `BININT2`: an int, in two bytes, unsigned.
     BinInt2,
-    /// `LONG`: an int, by a line of decimal digits.
+    /// `LONG`: an int, in a line of decimal digits.
     Long,
-    /// `LONG1`: an int, by up to 255 bytes.
+    /// `LONG1`: an int, in up to 255 bytes.
     Long1,
-    /// `LONG4`: an int, by up to 2^31 - 1 bytes.
+    /// `LONG4`: an int, in up to 2^31 - 1 bytes.
     Long4,
-    /// `STRING`: a string of Python 2, by a line in quotes.
+    /// `STRING`: a Python 2 string, in a line with quotes.
     String,
-    /// `BINSTRING`: a string of Python 2, by up to 2^31 - 1 bytes.
+    /// `BINSTRING`: a Python 2 string, of up to 2^31 - 1 bytes.
     BinString,
-    /// `SHORT_BINSTRING`: a string of Python 2, by up to 255 bytes.
+    /// `SHORT_BINSTRING`: a Python 2 string, of up to 255 bytes.
     ShortBinString,
-    /// `BINBYTES`: bytes, up to 2^32 - 1.
+    /// `BINBYTES`: bytes, up to 2^32 - 1 of them.
     BinBytes,
-    /// `SHORT_BINBYTES`: bytes, up to 255.
+    /// `SHORT_BINBYTES`: bytes, up to 255 of them.
     ShortBinBytes,
-    /// `BINBYTES8`: bytes, behind a count of eight bytes.
+    /// `BINBYTES8`: bytes, after a count of eight bytes.
     BinBytes8,
-    /// `BYTEARRAY8`: a bytearray, behind a count of eight bytes.
+    /// `BYTEARRAY8`: a bytearray, after a count of eight bytes.
     ByteArray8,
-    /// `NEXT_BUFFER`: the next of the buffers that lie outside of the pickle.
+    /// `NEXT_BUFFER`: the next out-of-band buffer (PEP 574).
     NextBuffer,
-    /// `READONLY_BUFFER`: the buffer on top of the stack, made read-only.
+    /// `READONLY_BUFFER`: makes the buffer on top of the stack read-only (PEP 574).
     ReadonlyBuffer,
     /// `NONE`: None.
     None,
@@ -41,17 +41,17 @@ pub enum Op {
     NewTrue,
     /// `NEWFALSE`: False.
     NewFalse,
-    /// `UNICODE`: text, by a line with escapes.
+    /// `UNICODE`: text, in a line with escapes.
     Unicode,
-    /// `SHORT_BINUNICODE`: text, by up to 255 bytes of UTF-8.
+    /// `SHORT_BINUNICODE`: text, in up to 255 bytes of UTF-8.
     ShortBinUnicode,
-    /// `BINUNICODE`: text, by up to 2^32 - 1 bytes of UTF-8.
+    /// `BINUNICODE`: text, in up to 2^32 - 1 bytes of UTF-8.
     BinUnicode,
-    /// `BINUNICODE8`: text, by UTF-8 behind a count of eight bytes.
+    /// `BINUNICODE8`: text, in UTF-8 after a count of eight bytes.
     BinUnicode8,
-    /// `FLOAT`: a float, by a line of decimal digits.
+    /// `FLOAT`: a float, in a line of decimal digits.
     Float,
-    /// `BINFLOAT`: a float, by eight bytes.
+    /// `BINFLOAT`: a float, in eight bytes.
     BinFloat,
     /// `EMPTY_LIST`: a new list.
     EmptyList,
@@ -75,7 +75,7 @@ pub enum Op {
     EmptyDict,
     /// `DICT`: a new dict of the keys and values above the topmost mark.
     Dict,
-    /// `SETITEM`: sets the key below the top to the top object, in the dict below them.
+    /// `SETITEM`: sets the key below the top to the top object, in the dict below both.
     SetItem,
     /// `SETITEMS`: sets the keys above the topmost mark to their values, in the dict below it.
     SetItems,
@@ -85,80 +85,81 @@ pub enum Op {
     AddItems,
     /// `FROZENSET`: a frozenset of the objects above the topmost mark.
     FrozenSet,
-    /// `POP`: takes the topmost entry of the stack away.
+    /// `POP`: removes the top entry of the stack.
     Pop,
-    /// `DUP`: the top object once more.
+    /// `DUP`: pushes the top object again.
     Dup,
     /// `MARK`: a mark.
     Mark,
-    /// `POP_MARK`: takes the topmost mark and all above it away.
+    /// `POP_MARK`: removes the topmost mark and everything above it.
     PopMark,
-    /// `GET`: the memo entry of a number, by a line of decimal digits.
+    /// `GET`: pushes the memo entry with a number, in a line of decimal digits.
     Get,
-    /// `BINGET`: the memo entry of a number of one byte.
+    /// `BINGET`: pushes the memo entry with a number of one byte.
     BinGet,
-    /// `LONG_BINGET`: the memo entry of a number of four bytes.
+    /// `LONG_BINGET`: pushes the memo entry with a number of four bytes.
     LongBinGet,
-    /// `PUT`: stores the top object in the memo under a number, by a line of decimal digits.
+    /// `PUT`: stores the top object in the memo under a number, in a line of decimal digits.
     Put,
     /// `BINPUT`: stores the top object in the memo under a number of one byte.
     BinPut,
     /// `LONG_BINPUT`: stores the top object in the memo under a number of four bytes.
     LongBinPut,
-    /// `MEMOIZE`: stores the top object in the memo under the number of its entries.
+    /// `MEMOIZE`: stores the top object in the memo under the number of memo entries.
     Memoize,
-    /// `EXT1`: an object that the reader has registered, by a code of one byte.
+    /// `EXT1`: an object from the extension registry (PEP 307), by a code of one byte.
     Ext1,
-    /// `EXT2`: an object that the reader has registered, by a code of two bytes.
+    /// `EXT2`: an object from the extension registry (PEP 307), by a code of two bytes.
     Ext2,
-    /// `EXT4`: an object that the reader has registered, by a code of four bytes.
+    /// `EXT4`: an object from the extension registry (PEP 307), by a code of four bytes.
     Ext4,
-    /// `GLOBAL`: what a module has under a name, by two lines.
+    /// `GLOBAL`: imports a name from a module, both given as lines.
     Global,
-    /// `STACK_GLOBAL`: what a module has under a name, by the two top objects.
+    /// `STACK_GLOBAL`: imports a name from a module, the two top objects.
     StackGlobal,
-    /// `REDUCE`: what the object below the top returns for the arguments on top.
+    /// `REDUCE`: calls the object below the top with the arguments on top.
     Reduce,
-    /// `BUILD`: gives the object below the top the state on top.
+    /// `BUILD`: sets the state of the object below the top to the top object.
     Build,
-    /// `INST`: an object of a class, by two lines, made from the objects above the topmost mark.
+    /// `INST`: an instance of a class named by two lines, made from the objects above the topmost
+    /// mark.
     Inst,
-    /// `OBJ`: an object of the class just above the topmost mark, made from the objects above that.
+    /// `OBJ`: an instance of the class just above the topmost mark, made from the objects above it.
     Obj,
-    /// `NEWOBJ`: an object of the class below the top, made from the arguments on top.
+    /// `NEWOBJ`: an instance of the class below the top, made from the arguments on top.
     NewObj,
-    /// `NEWOBJ_EX`: an object of a class, made from the arguments and keyword arguments on top.
+    /// `NEWOBJ_EX`: an instance of a class, made from arguments and keyword arguments on top.
     NewObjEx,
     /// `PROTO`: the protocol of the pickle.
     Proto,
-    /// `STOP`: ends the pickle; the top object is what it says.
+    /// `STOP`: ends the pickle; the top object is its result.
     Stop,
-    /// `FRAME`: the length in bytes of the frame that follows.
+    /// `FRAME`: begins a frame (PEP 3154), and gives its length in bytes.
     Frame,
-    /// `PERSID`: an object that lies outside of the pickle, by a line that names it.
+    /// `PERSID`: an object outside the pickle, named by a line.
     PersId,
-    /// `BINPERSID`: an object that lies outside of the pickle, by the name on top of the stack.
+    /// `BINPERSID`: an object outside the pickle, named by the top object.
     BinPersid,
 }
 
-/// The kind of an argument, by the name of its descriptor in `pickletools`.
+/// The kind of an argument, named as its descriptor in `pickletools`.
 #[derive(Clone, Copy, Debug, PartialEq, Eq)]
 pub enum Kind {
     /// No argument.
     None,
     /// One byte.
     Uint1,
-    /// Two bytes, the lowest first.
+    /// Two bytes, little-endian.
     Uint2,
-    /// Four bytes, the lowest first, with a sign.
+    /// Four bytes, little-endian, signed.
     Int4,
-    /// Four bytes, the lowest first.
+    /// Four bytes, little-endian.
     Uint4,
-    /// Eight bytes, the lowest first.
+    /// Eight bytes, little-endian.
     Uint8,
-    /// A float of eight bytes, the highest first.
+    /// A float of eight bytes, big-endian.
     Float8,
-    /// A line of decimal digits: an int, a bool or the number of a memo entry.
+    /// A line of decimal digits: an int, a bool or a memo number.
     DecimalnlShort,
     /// A line of decimal digits: an int.
     DecimalnlLong,
@@ -166,37 +167,37 @@ pub enum Kind {
     Floatnl,
     /// A line: a string in quotes.
     Stringnl,
-    /// A line: the name of an object outside of the pickle.
+    /// A line: the name of an object outside the pickle.
     StringnlNoescape,
     /// A line: text with escapes.
     Unicodestringnl,
     /// Two lines: a module and a name.
     StringnlNoescapePair,
-    /// A string of Python 2 behind a count of one byte.
+    /// A Python 2 string, after a count of one byte.
     String1,
-    /// Bytes behind a count of one byte.
+    /// Bytes, after a count of one byte.
     Bytes1,
-    /// An int behind a count of one byte.
+    /// An int, after a count of one byte.
     Long1,
-    /// UTF-8 behind a count of one byte.
+    /// UTF-8, after a count of one byte.
     Unicodestring1,
-    /// Bytes behind a count of four bytes.
+    /// Bytes, after a count of four bytes.
     Bytes4,
-    /// UTF-8 behind a count of four bytes.
+    /// UTF-8, after a count of four bytes.
     Unicodestring4,
-    /// A string of Python 2 behind a count of four bytes with a sign.
+    /// A Python 2 string, after a signed count of four bytes.
     String4,
-    /// An int behind a count of four bytes with a sign.
+    /// An int, after a signed count of four bytes.
     Long4,
-    /// Bytes behind a count of eight bytes.
+    /// Bytes, after a count of eight bytes.
     Bytes8,
-    /// A bytearray behind a count of eight bytes.
+    /// A bytearray, after a count of eight bytes.
     Bytearray8,
-    /// UTF-8 behind a count of eight bytes.
+    /// UTF-8, after a count of eight bytes.
     Unicodestring8,
 }
 
-/// A row of the table of opcodes.
+/// A row of the opcode table.
 #[derive(Clone, Copy, Debug, PartialEq, Eq)]
 pub struct Row {
     /// The byte that begins the instruction.
@@ -205,6 +206,6 @@ pub struct Row {
     pub name: &'static str,
     /// The kind of the argument.
     pub kind: Kind,
-    /// The least protocol that has the opcode.
+    /// The first protocol with this opcode.
     pub proto: u8,
 }

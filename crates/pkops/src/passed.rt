@@ -6,8 +6,8 @@ ghost use Rattle.pkops.specs.Payloads.{is_passed};
 use crate::op::Op;
 
 impl Op {
-    /// The argument is a payload of bytes, any bytes, which a reader may take without holding it:
-    /// BINBYTES, SHORT_BINBYTES, BINBYTES8 and BYTEARRAY8.
+    /// Whether the payload is plain bytes, which a reader may take without holding them: BINBYTES,
+    /// SHORT_BINBYTES, BINBYTES8 and BYTEARRAY8.
     #[inline]
     pub fn passed(self) -> bool
         ensures { result ≡ is_passed self }

@@ -4,7 +4,7 @@ ghost use Rattle.std.specs.Prelude.{◌≡◌, ◌⊎◌, ◌≤◌, ◌<◌, �
 ghost use Rattle.std.specs.Int.{cast_signed, w32};
 ghost use Rattle.pkops.specs.Spelling.{Argument, Number, Signed, Float, Line, Pair, Counted};
 ghost use Rattle.pkops.specs.Spelling.{shown_arg};
-ghost use Rattle.pkops.specs.Private.Reading.{Gives, pair_at, ◌>>=◌ as ◌and_then◌, bytes_at};
+ghost use Rattle.pkops.specs.Private.Reading.{ReturnsAs, pair_at, ◌>>=◌ as ◌and_then◌, bytes_at};
 ghost use Rattle.pkops.specs.Private.Reading.{number_at, line_at, payload_at, arg_at};
 
 use crate::arg::Arg;
@@ -17,13 +17,13 @@ use byteorder::{ByteOrder, LittleEndian};
 pub enum Unread {
     /// The bytes end before the argument does.
     Short,
-    /// Whatever follows, the bytes begin no argument.
+    /// The bytes begin no argument, whatever follows them.
     Bad(Fault),
 }
 
-/// So many bytes, and the bytes after them.
+/// The first n bytes, and the bytes after them.
 fn bytes(n: usize, from: &[u8]) -> Result<(&[u8], &[u8]), Unread>
-    ensures { Gives (λ x. (x.0.now, x.1.now)) result (bytes_at n from.now) }
+    ensures { ReturnsAs (λ x. (x.0.now, x.1.now)) result (bytes_at n from.now) }
 {
     if from.len() < n {
         return Err(Unread::Short);
@@ -31,11 +31,11 @@ fn bytes(n: usize, from: &[u8]) -> Result<(&[u8], &[u8]), Unread>
     Ok(from.split_at(n))
 }
 
-/// A number of so many bytes, the lowest first, and the bytes after it.
+/// A little-endian number of `width` bytes, and the bytes after it.
 fn number(width: usize, from: &[u8]) -> Result<(u64, &[u8]), Unread>
     requires low { 1 ≤ width }
     requires high { width ≤ 8 }
-    ensures value { Gives (λ x. (x.0, x.1.now)) result (number_at width from.now) }
+    ensures value { ReturnsAs (λ x. (x.0, x.1.now)) result (number_at width from.now) }
     ensures fits { IfOk result (λ x. x.0 < 256 ^ width) }
 {
     if from.len() < width {
@@ -44,10 +44,10 @@ fn number(width: usize, from: &[u8]) -> Result<(u64, &[u8]), Unread>
     Ok((LittleEndian::read_uint(from, width), &from[width..]))
 }
 
-/// A line without its end, and the bytes after its end.
+/// A line without its line feed, and the bytes after it.
 #[tactic(auto, unfolding(crate::specs::Private::Reading::line_at))]
 fn line(most: usize, from: &[u8]) -> Result<(&[u8], &[u8]), Unread>
-    ensures { Gives (λ x. (x.0.now, x.1.now)) result (line_at most from.now) }
+    ensures { ReturnsAs (λ x. (x.0.now, x.1.now)) result (line_at most from.now) }
 {
     match end_of_line(from) {
         Some(end) if end <= most => Ok((&from[..end], &from[end + 1..])),
@@ -71,7 +71,7 @@ fn payload<'a>(
     signed: bool,
     from: &'a [u8],
 ) -> Result<(&'a [u8], &'a [u8]), Unread>
-    ensures { Gives (λ x. (x.0.now, x.1.now)) result (payload_at limit width signed from.now) }
+    ensures { ReturnsAs (λ x. (x.0.now, x.1.now)) result (payload_at limit width signed from.now) }
 {
     let (count, rest) = number(width.size(), from)?;
     if !is_count(width, signed, count) {
@@ -83,10 +83,10 @@ fn payload<'a>(
     bytes(count as usize, rest)
 }
 
-/// A number without a sign as an argument, and the bytes after it.
+/// An unsigned number as an argument, and the bytes after it.
 fn unsigned(width: usize, from: &[u8]) -> Result<(Arg<'_>, &[u8]), Unread>
     requires { (width ≡ 1) ⊎ (width ≡ 2) ⊎ (width ≡ 4) ⊎ (width ≡ 8) }
-    ensures { Gives {Y = Argument × List ℕ} (λ x. (shown_arg x.0, x.1.now)) result
+    ensures { ReturnsAs {Y = Argument × List ℕ} (λ x. (shown_arg x.0, x.1.now)) result
         (number_at width from.now and_then λ n. Ok (Number width n.0, n.1)) }
 {
     let (n, rest) = number(width, from)?;
@@ -99,9 +99,9 @@ fn unsigned(width: usize, from: &[u8]) -> Result<(Arg<'_>, &[u8]), Unread>
     Ok((arg, rest))
 }
 
-/// A number of four bytes with a sign as an argument, and the bytes after it.
+/// A signed number of four bytes as an argument, and the bytes after it.
 fn signed(from: &[u8]) -> Result<(Arg<'_>, &[u8]), Unread>
-    ensures { Gives {Y = Argument × List ℕ} (λ x. (shown_arg x.0, x.1.now)) result
+    ensures { ReturnsAs {Y = Argument × List ℕ} (λ x. (shown_arg x.0, x.1.now)) result
         (number_at 4 from.now and_then λ n. Ok (Signed (cast_signed w32 n.0), n.1)) }
 {
     let (n, rest) = number(4, from)?;
@@ -110,25 +110,25 @@ fn signed(from: &[u8]) -> Result<(Arg<'_>, &[u8]), Unread>
 
 /// The bytes of a float as an argument, and the bytes after them.
 fn float(from: &[u8]) -> Result<(Arg<'_>, &[u8]), Unread>
-    ensures { Gives {Y = Argument × List ℕ} (λ x. (shown_arg x.0, x.1.now)) result
+    ensures { ReturnsAs {Y = Argument × List ℕ} (λ x. (shown_arg x.0, x.1.now)) result
         (bytes_at 8 from.now and_then λ eight. Ok (Float eight.0, eight.1)) }
 {
     let (eight, rest) = bytes(8, from)?;
     Ok((Arg::F8(eight), rest))
 }
 
-/// A line as an argument, and the bytes after its end.
+/// A line as an argument, and the bytes after its line feed.
 fn text(most: usize, from: &[u8]) -> Result<(Arg<'_>, &[u8]), Unread>
-    ensures { Gives {Y = Argument × List ℕ} (λ x. (shown_arg x.0, x.1.now)) result
+    ensures { ReturnsAs {Y = Argument × List ℕ} (λ x. (shown_arg x.0, x.1.now)) result
         (line_at most from.now and_then λ text. Ok (Line text.0, text.1)) }
 {
     let (text, rest) = line(most, from)?;
     Ok((Arg::Line(text), rest))
 }
 
-/// Two lines as an argument, and the bytes after their ends.
+/// Two lines as an argument, and the bytes after them.
 fn pair(most: usize, from: &[u8]) -> Result<(Arg<'_>, &[u8]), Unread>
-    ensures { Gives {Y = Argument × List ℕ} (λ x. (shown_arg x.0, x.1.now)) result
+    ensures { ReturnsAs {Y = Argument × List ℕ} (λ x. (shown_arg x.0, x.1.now)) result
         (pair_at most from.now and_then λ lines. Ok (Pair lines.0.0 lines.0.1, lines.1)) }
 {
     let (first, rest) = line(most, from)?;
@@ -143,7 +143,7 @@ fn counted<'a>(
     signed: bool,
     from: &'a [u8],
 ) -> Result<(Arg<'a>, &'a [u8]), Unread>
-    ensures { Gives {Y = Argument × List ℕ} (λ x. (shown_arg x.0, x.1.now)) result
+    ensures { ReturnsAs {Y = Argument × List ℕ} (λ x. (shown_arg x.0, x.1.now)) result
         (payload_at limit width signed from.now and_then λ payload.
         Ok (Counted payload.0, payload.1)) }
 {
@@ -158,7 +158,7 @@ pub fn argument<'a>(
     layout: Layout,
     from: &'a [u8],
 ) -> Result<(Arg<'a>, &'a [u8]), Unread>
-    ensures { Gives (λ x. (shown_arg x.0, x.1.now)) result (arg_at limit layout from.now) }
+    ensures { ReturnsAs (λ x. (shown_arg x.0, x.1.now)) result (arg_at limit layout from.now) }
 {
     match layout {
         Layout::Nothing => Ok((Arg::None, from)),

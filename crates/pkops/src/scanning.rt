@@ -12,14 +12,14 @@ use crate::limits::Limits;
 use crate::reading::{Unread, argument};
 use crate::table::kind;
 
-/// What stands at the front of the bytes, where a payload may have as many bytes as the limits say.
+/// What is at the front of the bytes. A payload may have at most `limits.counted()` bytes.
 ///
-/// A fault is answered as soon as it is certain: an unknown opcode at its code, a negative count or
-/// one above the limit once the count is whole, a line that is too long at its first byte too many,
-/// contents that break a rule once the argument is whole. It takes no memory.
+/// A fault is reported as soon as it is certain: an unknown opcode at its code; a negative count,
+/// or one above the limit, once the count is complete; a line that is too long at its first excess
+/// byte; bad contents once the argument is complete. It allocates nothing.
 pub fn scan<'a>(bytes: &'a [u8], limits: &Limits) -> Scan<'a>
     ensures answer { Answers limits.now.counted bytes.now (shown_scan result) }
-    // No other answer would be right.
+    // Any other answer would be wrong.
     ensures only { (other : Answer) →
         Answers limits.now.counted bytes.now other → other ≡ shown_scan result }
 {
@@ -45,7 +45,7 @@ fn right_answer<'a>(bytes: &'a [u8], limits: &Limits) -> Scan<'a>
     }
 }
 
-/// What a scan answers where no argument was read.
+/// The answer of a scan that reads no argument.
 fn unread<'a>(why: Unread) -> Scan<'a>
     ensures { IsUnread why (shown_scan result) }
 {

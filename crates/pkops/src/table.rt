@@ -1,15 +1,15 @@
-//! The table of opcodes: code, name, kind of argument and least protocol.
+//! The opcode table: code, name, kind of argument and least protocol.
 
 ghost use Rattle.std.specs.Prelude.{◌≡◌};
-ghost use Rattle.pkops.specs.Table.{row_of, shown, code_of, kind_of};
+ghost use Rattle.pkops.specs.Table.{row_of, shown_row, code_of, kind_of};
 ghost use Rattle.pkops.specs.Spelling.{layout_at};
 
 use crate::layout::Layout;
 use crate::op::{Kind, Op, Row};
 
-/// The row of an opcode in the table of `pickletools`.
+/// The opcode's row in the table of `pickletools`.
 pub fn row(op: Op) -> Row
-    ensures { shown result ≡ row_of op }
+    ensures { shown_row result ≡ row_of op }
 {
     Row {
         code: code(op),
@@ -19,7 +19,7 @@ pub fn row(op: Op) -> Row
     }
 }
 
-/// How the argument of an opcode lies.
+/// The layout of the opcode's argument.
 #[inline]
 pub fn layout_of_op(op: Op) -> Layout
     ensures { result ≡ layout_at op }
@@ -103,7 +103,7 @@ pub fn code(op: Op) -> u8
     }
 }
 
-/// The kind of the argument.
+/// The kind of the opcode's argument.
 #[inline]
 pub fn kind(op: Op) -> Kind
     ensures { result ≡ kind_of op }
@@ -256,7 +256,7 @@ fn name(op: Op) -> &'static str
     }
 }
 
-/// The least protocol that has the opcode.
+/// The first protocol with this opcode.
 fn least_protocol(op: Op) -> u8
     ensures { result ≡ (row_of op).proto }
 {

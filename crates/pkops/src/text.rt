@@ -11,8 +11,8 @@ use crate::contents::escapes::read_text;
 use crate::inst::Inst;
 use std::alloc::{AllocError, Global};
 
-/// The text of UNICODE, SHORT_BINUNICODE, BINUNICODE and BINUNICODE8; `None` for all others.
-/// It errs only where memory is lacking.
+/// The text of UNICODE, SHORT_BINUNICODE, BINUNICODE and BINUNICODE8; `None` for any other opcode.
+/// Fails only if an allocation is refused.
 pub fn text_of(alloc: Global, inst: &Inst<'_>) -> Result<Option<String>, AllocError>
     ensures named { IfOk result (λ text. MatchOption text
         ((bytes : List ℕ) → ¬ (NamesText (instruction_of inst.now) bytes))

@@ -1,4 +1,4 @@
-//! Instructions as bytes: to a writer, or one after the other into memory.
+//! Writes instructions as bytes, to a writer or into memory.
 
 ghost use Rattle.std.specs.Prelude.{◌≡◌, ◌++◌, ◌∷◌, [], OnOk, IfOk};
 ghost use Rattle.std.specs.List.{flat_map};
@@ -16,7 +16,7 @@ use std::alloc::{AllocError, Global};
 use std::io;
 use std::io::Write;
 
-/// Writes a line and its end.
+/// Writes a line and its line feed.
 fn write_line<W: Write>(text: &[u8], to: &mut W) -> Result<(), io::Error>
     ensures { OnOk result (Appends (W.contents to.old) (W.contents to.new) (text.now ++ 10 ∷ [])) }
 {
@@ -24,7 +24,7 @@ fn write_line<W: Write>(text: &[u8], to: &mut W) -> Result<(), io::Error>
     to.write_all(b"\n")
 }
 
-/// Writes two lines and their ends.
+/// Writes two lines and their line feeds.
 fn write_pair<W: Write>(first: &[u8], second: &[u8], to: &mut W) -> Result<(), io::Error>
     ensures { OnOk result (Appends (W.contents to.old) (W.contents to.new)
         ((first.now ++ 10 ∷ []) ++ (second.now ++ 10 ∷ []))) }
@@ -33,7 +33,7 @@ fn write_pair<W: Write>(first: &[u8], second: &[u8], to: &mut W) -> Result<(), i
     write_line(second, to)
 }
 
-/// Writes the payload of an opcode behind its count, whose lowest byte is the first.
+/// Writes the payload of an opcode after its little-endian count.
 fn write_counted<W: Write>(op: Op, payload: &[u8], to: &mut W) -> Result<(), io::Error>
     requires { Suits (layout_at op) (Counted payload.now) }
     ensures { OnOk result (Appends (W.contents to.old) (W.contents to.new)
@@ -46,7 +46,7 @@ fn write_counted<W: Write>(op: Op, payload: &[u8], to: &mut W) -> Result<(), io:
     to.write_all(payload)
 }
 
-/// Writes the bytes of an argument of an opcode.
+/// Writes the bytes of an opcode's argument.
 fn write_argument<W: Write>(op: Op, arg: Arg<'_>, to: &mut W) -> Result<(), io::Error>
     requires { Suits (layout_at op) (shown_arg arg) }
     ensures { OnOk result (Appends (W.contents to.old) (W.contents to.new)
@@ -66,8 +66,8 @@ fn write_argument<W: Write>(op: Op, arg: Arg<'_>, to: &mut W) -> Result<(), io::
     }
 }
 
-/// Writes the spelling of an instruction. It takes no memory, and errs only where the writer does;
-/// how much of the spelling was written then is open.
+/// Writes the spelling of an instruction. It allocates nothing and fails only when the writer
+/// fails; how much was written then is unspecified.
 pub fn write_inst<W: Write>(inst: &Inst<'_>, to: &mut W) -> Result<(), io::Error>
     ensures { OnOk result
         (Appends (W.contents to.old) (W.contents to.new) (spelling (instruction_of inst.now))) }
@@ -77,7 +77,7 @@ pub fn write_inst<W: Write>(inst: &Inst<'_>, to: &mut W) -> Result<(), io::Error
     write_argument(op, inst.arg(), to)
 }
 
-/// The spellings of instructions, one after the other. It errs only where memory is lacking.
+/// The spellings of instructions, one after the other. Fails only if an allocation is refused.
 pub fn assemble(alloc: Global, insts: &[Inst<'_>]) -> Result<Vec<u8>, AllocError>
     ensures { IfOk result (λ out.
         out.items ≡ flat_map (λ inst. spelling (instruction_of inst)) insts.now) }

@@ -1,29 +1,21 @@
 -- A step in two states that differ in their memos alone.
 use Rattle.std.proofs.Common.{◌≡◌, ℕ, Bool, true, false, List, [], ◌∷◌, map, Result, Ok, Err, refl, sym, subst}
 use Rattle.pkops.specs.Spelling.{Instruction}
-use Rattle.pkcheck.specs.declared.machine.effects.Names.{Names}
-use Rattle.pkcheck.specs.declared.machine.effects.Gives.{Gives}
+use Rattle.pkcheck.specs.declared.effect.Names.{Names}
+use Rattle.pkcheck.specs.declared.effect.Gives.{Gives}
 use Rattle.pkcheck.specs.Effects.{Effect, Operates, Moves, Stops, Raises}
-use Rattle.pkcheck.specs.declared.machine.effects.Move.TheVariants.{PushesMark, Pops, PopsMark, Duplicates, Stores, StoresNext, Fetches, Passes, Extends}
+use Rattle.pkcheck.specs.declared.effect.Move.TheVariants.{PushesMark, Pops, PopsMark, Duplicates, Stores, StoresNext, Fetches, Passes, Extends}
 use Rattle.pkcheck.specs.Shape.{Breach, Entry, Item, Taken, and_then, slice, operands, top, popped}
 use Rattle.pkcheck.specs.Runs.{Import, State, Outcome, Raise, Go, Stepped, WentOn, Raised, Stopped, Stuck, Named, NoImport, Pair, NotTexts, class_at, named, with_event, asks, come_of, operated, move_step, stop_step, operate_step, perform}
-use Rattle.pkcheck.specs.WholeRuns.{Ended, Reached, EndedBy, go_on}
-use Rattle.pkopt.specs.RunsAlike.{SameHistory, SameEnd}
-
--- a run that isn't stuck
-abbrev pub IsFree : Ended → Type 0
-IsFree (Reached s) = Unit {0}
-IsFree (EndedBy (WentOn s)) = ⊥
-IsFree (EndedBy (Raised s)) = Unit {0}
-IsFree (EndedBy (Stopped x s)) = Unit {0}
-IsFree (EndedBy (Stuck b)) = ⊥
+use Rattle.pkcheck.specs.WholeRuns.{Ended, go_on}
+use Rattle.pkcheck.specs.Ends.{IsFree, SameHistory, SameEnd}
 
 -- the same state with another memo
 abbrev pub with_memo : List (ℕ × ℕ) → State → State
 with_memo m s = record s { shape = record s.shape { memo = m } }
 
 -- the same step in both, their memos aside, which stay
-abbrev SameStep : List (ℕ × ℕ) → State → Stepped → Stepped → Type 0
+abbrev pub SameStep : List (ℕ × ℕ) → State → Stepped → Stepped → Type 0
 SameStep m s (WentOn a) (WentOn b) = (a.shape.memo ≡ s.shape.memo) × (b ≡ with_memo m a)
 SameStep m s (Raised a) (Raised b) = SameHistory a b
 SameStep m s (Stopped x a) (Stopped y b) = (x ≡ y) × (a.shape.entries ≡ b.shape.entries) × SameHistory a b

@@ -9,13 +9,13 @@ use Rattle.std.proofs.lemmas.Bool.{le-leb, ltb-true}
 use Rattle.std.proofs.lemmas.Fmt.{decimal_digit, decimal_nonempty, first_decimal, digits_decimal, length-decimal-le}
 use Rattle.std.proofs.lemmas.Grind.{get_or_default_zero}
 use Rattle.std.proofs.lemmas.Str.Parse.{numerals_by_value, tells_by_index}
-use Rattle.pkops.specs.declared.op.Op.{Op}
-use Rattle.pkops.specs.declared.op.Op.TheVariants as op
+use Rattle.pkops.specs.declared.Op.{Op}
+use Rattle.pkops.specs.declared.Op.TheVariants as op
 use Rattle.pkops.specs.Numerals.{IsPositive, IsNatural, IsMemoNumber, is_nonzero_digit}
 use Rattle.pkops.specs.Operands.{memo_number}
 use Rattle.pkops.specs.Spelling.{IsLine, Instruction, instruction}
 use Rattle.pkread.specs.Admission.{IsAllowed}
-use Rattle.pkcheck.specs.declared.machine.effects.Move.TheVariants.{Stores, StoresNext, Fetches}
+use Rattle.pkcheck.specs.declared.effect.Move.TheVariants.{Stores, StoresNext, Fetches}
 use Rattle.pkcheck.specs.Effects.{Effect, Moves, effect_of}
 use Rattle.pkopt.specs.Private.Fronts.{EndsInStop}
 use Rattle.pkopt.specs.Slim.{form_of, argument_for, is_frame, read_left, left_of, slim_from, slim}

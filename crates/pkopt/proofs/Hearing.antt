@@ -8,25 +8,29 @@ use Rattle.pkcheck.specs.Effects.{effect_of}
 use Rattle.pkcheck.specs.Heard.{Heard, heard, AreHeardBehind}
 use Rattle.pkopt.specs.declared.place.Place.{Place}
 use Rattle.pkopt.specs.declared.trace.Trace.{Trace}
-use Rattle.pkopt.specs.Private.Passes.{Begins, Follows, Hears, Steps, Tracks}
-use Rattle.pkopt.specs.Private.Places.{is_plain, place_of, places_from, places_told, told}
+use Rattle.pkopt.specs.Private.Passes.{IsNewTrace, FollowsWrites, Hears, NotesStep, Tracks}
+use Rattle.pkopt.specs.Private.Places.{stays_as_is, place_of, places_from, places_told, told}
 use Rattle.pkopt.specs.Writers.{Writes, read_by, sources, after_all}
 use Rattle.pkopt.proofs.Remembering.{none_remembered}
 use Rattle.pkopt.proofs.Plain.{plain_is}
 use Rattle.pkopt.proofs.Standing.{spellings-append}
 
 -- one plain instruction is heard
-pub plain_heard : (x : Trace) (at marks : ℕ) (i : Instruction) → is_plain i.op ≡ true → Hears x x (heard at i marks ∷ [])
+pub plain_heard : (x : Trace) (at marks : ℕ) (i : Instruction) → stays_as_is i.op ≡ true → Hears x x (heard at i marks ∷ [])
 plain_heard x at marks i e = λ ws h.
     let plain = plain_is i e in
     record {
-      follows = subst (λ (w : Writes). Follows w x) (sym (plain.no_write ws)) h;
+      follows = subst (λ (w : Writes). FollowsWrites w x) (sym (plain.no_write ws)) h;
       sources_now = sym (append-nil x.sources.items) ∙ ap (λ (l : List (Option ℕ)). x.sources.items ++ l) (sym (append-nil (read_by (effect_of i.op) (memo_number i) ws) ∙ plain.no_read ws));
       places_now = sym (append-nil x.places.items) ∙ ap (λ b. x.places.items ++ cond b [] (place_of at i ∷ [])) (sym e);
     }
 
 -- another one is heard
-pub other_heard : {A E : Type 0} (r : Result A E) (x y z : Trace) (at marks : ℕ) (i : Instruction) → is_plain i.op ≡ false → y.memo ≡ x.memo → y.writes ≡ x.writes → y.sources.items ≡ x.sources.items → y.places.items ≡ x.places.items ++ place_of at i ∷ [] → OnOk r (Steps i y z) → z.places.items ≡ y.places.items → OnOk r (Hears x z (heard at i marks ∷ []))
+pub other_heard : {A E : Type 0} (r : Result A E) (x y z : Trace) (at marks : ℕ) (i : Instruction)
+    → stays_as_is i.op ≡ false → y.memo ≡ x.memo → y.writes ≡ x.writes
+    → y.sources.items ≡ x.sources.items → y.places.items ≡ x.places.items ++ place_of at i ∷ []
+    → OnOk r (NotesStep i y z) → z.places.items ≡ y.places.items
+    → OnOk r (Hears x z (heard at i marks ∷ []))
 other_heard (Ok a) x y z at marks i e memo writes found grown step same = λ ws h.
     let s = step ws (record { holds = rw memo h.holds; count = writes ∙ h.count }) in
     record {
@@ -47,15 +51,15 @@ heard_places : (before is : List Instruction) (hs : List Heard) → AreHeardBehi
 heard_places before [] [] h = refl
 heard_places before (i ∷ is) (x ∷ hs) h =
     let more : length (spellings (before ++ i ∷ [])) ≡ length (spellings before) + length (spelling i) = ap length (spellings-append before (i ∷ [])) ∙ length-append (spellings before) (spelling i ++ []) ∙ ap (λ (l : List ℕ). length (spellings before) + length l) (append-nil (spelling i)) in
-    ap (λ (j : Instruction). cond (is_plain j.op) (places_told hs) (place_of x.at j ∷ places_told hs)) h.0.same
-    ∙ ap (λ at. cond (is_plain i.op) (places_told hs) (place_of at i ∷ places_told hs)) h.0.place
-    ∙ ap (λ (l : List Place). cond (is_plain i.op) l (place_of (length (spellings before)) i ∷ l)) (heard_places (before ++ i ∷ []) is hs h.1 ∙ ap (λ at. places_from at is) more)
+    ap (λ (j : Instruction). cond (stays_as_is j.op) (places_told hs) (place_of x.at j ∷ places_told hs)) h.0.same
+    ∙ ap (λ at. cond (stays_as_is i.op) (places_told hs) (place_of at i ∷ places_told hs)) h.0.place
+    ∙ ap (λ (l : List Place). cond (stays_as_is i.op) l (place_of (length (spellings before)) i ∷ l)) (heard_places (before ++ i ∷ []) is hs h.1 ∙ ap (λ at. places_from at is) more)
 heard_places before [] (x ∷ hs) h = absurd h
 heard_places before (i ∷ is) [] h = absurd h
 
-pub heard_tracks : (x y : Trace) (p : List Instruction) (hs : List Heard) → Begins x → AreHeardBehind [] p hs → Hears x y hs → Tracks p y
+pub heard_tracks : (x y : Trace) (p : List Instruction) (hs : List Heard) → IsNewTrace x → AreHeardBehind [] p hs → Hears x y hs → Tracks p y
 heard_tracks x y p hs first each h =
-    let s = h [] (record { holds = none_remembered x.memo.first x.memo.row.items x.memo.rest.entries first.row first.rest; count = first.writes }) in
+    let s = h [] (record { holds = none_remembered x.memo.first x.memo.ordered.items x.memo.rest.entries first.ordered first.rest; count = first.writes }) in
     let all = heard_told [] p hs each in
     record {
       reads = s.sources_now ∙ ap (λ (l : List (Option ℕ)). l ++ sources [] (told hs)) first.sources ∙ ap (sources []) all;

@@ -51,14 +51,22 @@ next_number : (vs : List (Option ℕ)) (k limit next : ℕ) (b : Bool) → is_re
 next_number vs k limit next true e h = let s = new_step vs k true e in omega (arith, s, h)
 next_number vs k limit next false e h = let s = new_step vs k false e in omega (arith, s, h)
 
-number_at : (vs : List (Option ℕ)) (w k limit next : ℕ) (numbers : List (Option ℕ)) (x : Option ℕ) → length numbers ≡ k → x ≡ cond (is_read k vs) (Some next) None → NumbersTo vs k limit next numbers → w < suc k → get_or (numbers ++ x ∷ []) w None ≡ cond (is_read w vs) (Some (min (new_number vs w) limit)) None
+number_at : (vs : List (Option ℕ)) (w k limit next : ℕ) (numbers : List (Option ℕ)) (x : Option ℕ)
+    → length numbers ≡ k → x ≡ cond (is_read k vs) (Some next) None
+    → NumbersTo vs k limit next numbers → w < suc k
+    → get_or (numbers ++ x ∷ []) w None ≡ cond (is_read w vs) (Some (min (new_number vs w) limit))
+    None
 number_at vs w k limit next numbers x len is h lt = elim (tells_eq w k) [
   | inl q ↦ ap (λ n. get_or (numbers ++ x ∷ []) n None) (q ∙ sym len) ∙ get_or-append_seam numbers x [] None ∙ is ∙ ap (λ n. cond (is_read k vs) (Some n) None) h.next_is ∙ ap (λ w. cond (is_read w vs) (Some (min (new_number vs w) limit)) None) (sym q)
   | inr q ↦ get_or_append_left numbers (x ∷ []) None w (omega (arith, lt, q, len)) ∙ h.each w (omega (arith, lt, q))
 ]
 
 -- one write more
-pub numbers_on : (vs : List (Option ℕ)) (k m limit next next' : ℕ) (numbers numbers' : List (Option ℕ)) (x : Option ℕ) (b : Bool) → m ≡ suc k → length numbers ≡ k → is_read k vs ≡ b → x ≡ cond b (Some next) None → next' ≡ cond b (min (suc next) limit) next → numbers' ≡ numbers ++ x ∷ [] → NumbersTo vs k limit next numbers → NumbersTo vs m limit next' numbers'
+pub numbers_on : (vs : List (Option ℕ)) (k m limit next next' : ℕ)
+    (numbers numbers' : List (Option ℕ)) (x : Option ℕ) (b : Bool) → m ≡ suc k → length numbers ≡ k
+    → is_read k vs ≡ b → x ≡ cond b (Some next) None → next' ≡ cond b (min (suc next) limit) next
+    → numbers' ≡ numbers ++ x ∷ [] → NumbersTo vs k limit next numbers
+    → NumbersTo vs m limit next' numbers'
 numbers_on vs k m limit next next' numbers numbers' x b is len read number after grown h = rw (is, grown) (record {
   next_is = after ∙ next_number vs k limit next b read h.next_is;
   each = λ w lt. number_at vs w k limit next numbers x len (number ∙ ap (λ b. cond b (Some next) None) (sym read)) h lt;

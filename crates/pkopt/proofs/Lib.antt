@@ -13,8 +13,11 @@ pub mod Fating
 pub mod Written
 pub mod Rereading
 pub mod OneFraming
+pub mod Origins
+pub mod Faultless
 pub mod Framed
 pub mod Optimized
+pub mod FormAccepted
 pub mod Allowing
 pub mod Sequencing
 mod SlimRows

@@ -3,9 +3,9 @@ use Rattle.std.proofs.Common.{◌≡◌, ℕ, suc, ◌+◌, ◌-◌, ◌<◌, Bo
 use Rattle.std.specs.Prelude.{nat_eq, ◌≢◌}
 use Rattle.std.proofs.lemmas.Bool.Decides.{nat_tests}
 use Rattle.std.proofs.lemmas.List.Elements.{All-nil, All-cons}
-use Rattle.pkops.specs.declared.op.Op.{Op}
-use Rattle.pkops.specs.declared.op.Op.TheVariants as op
-use Rattle.pkops.specs.declared.layout.Layout.TheVariants as layout
+use Rattle.pkops.specs.declared.Op.{Op}
+use Rattle.pkops.specs.declared.Op.TheVariants as op
+use Rattle.pkops.specs.declared.Layout.TheVariants as layout
 use Rattle.pkops.specs.Operands.{memo_number}
 use Rattle.pkops.specs.Spelling.{Argument, Nothing, Number, Signed, Float, Line, Pair, Counted, Instruction, instruction, Suits, layout_at, laid, spelling}
 use Rattle.pkops.specs.Table.{code_of}
@@ -14,14 +14,15 @@ use Rattle.pkread.specs.Framing.{Role, stop, other, total, counted, one_later, r
 use Rattle.pkread.specs.Genops.{is_stop}
 use Rattle.pkread.specs.Pieces.{role_of, number_of, piece_of}
 use Rattle.pkread.specs.Sequence.{spellings}
-use Rattle.pkcheck.specs.declared.machine.effects.Move.TheVariants.{Stores, StoresNext, Fetches}
+use Rattle.pkcheck.specs.declared.effect.Move.TheVariants.{Stores, StoresNext, Fetches}
 use Rattle.pkcheck.specs.Effects.{Effect, Moves, effect_of}
+use Rattle.pkcheck.specs.Ends.{SameEnd}
 use Rattle.pkcheck.specs.Runs.{State, Outcome, start}
 use Rattle.pkcheck.specs.WholeRuns.{run}
 use Rattle.pkopt.specs.Private.Fronts.{EndsInStop}
 use Rattle.pkopt.specs.Private.FrameBytes.{head_length, framed_bytes}
 use Rattle.pkopt.specs.OneFrame.{is_proto, has_frame, frame_around, in_frame, optimized}
-use Rattle.pkopt.specs.RunsAlike.{RunsAlike, SameEnd}
+use Rattle.pkopt.specs.RunsAlike.{RunsAlike}
 use Rattle.pkopt.specs.Slim.{is_frame, form_of, renumbered, read_left, left_of, slim_from, slim}
 use Rattle.pkopt.specs.Writers.{Writes, last_write, after, sources, is_read, new_number}
 use Rattle.pkopt.proofs.Slimming.{frame_effect}

@@ -6,59 +6,45 @@ use Rattle.std.specs.Prelude.{◌≢◌, All, slice_index_or}
 use Rattle.pkops.specs.Limits.{Bounds, holding_all}
 use Rattle.pkops.specs.Payloads.{is_passed, payload_limit}
 use Rattle.pkops.specs.Spelling.{Instruction}
-use Rattle.pkops.specs.declared.op.Op.TheVariants.{Stop}
+use Rattle.pkops.specs.declared.Op.TheVariants.{Stop}
 use Rattle.pkread.specs.Admission.{IsAllowed}
 use Rattle.pkread.specs.Framing.{CountingIsExact}
 use Rattle.pkread.specs.Sequence.{IsSequence, spellings}
-use Rattle.pkread.specs.declared.refusal.Refusal.{Refusal}
-use Rattle.pkcheck.specs.declared.old_strings.OldStrings.TheVariants.{Unknown}
+use Rattle.pkread.specs.declared.Refusal.{Refusal}
+use Rattle.pkcheck.specs.declared.OldStrings.TheVariants.{Unknown}
 use Rattle.pkcheck.specs.Listing.{permitted_by}
-use Rattle.pkcheck.specs.Runs.{WentOn, Raised, Stopped, Stuck, start}
-use Rattle.pkcheck.specs.Covers.{imports_of}
-use Rattle.pkcheck.specs.WholeRuns.{Ended, Reached, EndedBy, AllListed, EndsWell, run}
+use Rattle.pkcheck.specs.Ends.{IsFree, WellCarriesOver, WellIsFree}
+use Rattle.pkcheck.specs.Runs.{Outcome, start}
+use Rattle.pkcheck.specs.WholeRuns.{Sound, run}
 use Rattle.pkcheck.specs.Accepted.{Accepted}
 use Rattle.pkcheck.specs.Heard.{Heard, IsRightAndHeard}
-use Rattle.pkcheck.specs.declared.checking.Yes.{Yes}
-use Rattle.pkcheck.specs.declared.checking.No.{No}
+use Rattle.pkcheck.specs.declared.Yes.{Yes}
+use Rattle.pkcheck.specs.declared.No.{No}
 use Rattle.pkcheck.specs.Knowledge.{Asked}
 use Rattle.pkcheck.specs.Refused.{Refused}
-use Rattle.pkread.specs.Rows.{Sight}
 use Rattle.pkopt.specs.declared.fate.Plan.{Plan}
 use Rattle.pkopt.specs.declared.optimizing.Traced.{Traced}
 use Rattle.pkopt.specs.declared.trace.Trace.{Trace}
-use Rattle.pkopt.specs.Private.Passes.{AreNumbers, Begins, Hears}
+use Rattle.pkopt.specs.Private.Passes.{AreNumbers, IsNewTrace, Hears}
 use Rattle.pkopt.specs.Private.Tracing.{IsTraced}
-use Rattle.pkopt.specs.Answer.{in_memory, Checks, pickle, Optimizes, PassesLimit, FailsCheck, IsRefused}
+use Rattle.pkopt.specs.Answer.{Checks, pickle, Optimizes, PassesLimit, FailsCheck, IsNotOptimized}
+use Rattle.pkread.specs.Rows.{in_memory}
 use Rattle.pkopt.specs.Private.Fates.{Aims, IsSlim, StopsSlim, IsPastAt, IsPlanFor}
 use Rattle.pkopt.specs.Private.FrameBytes.{framed_bytes}
 use Rattle.pkopt.specs.Private.Fronts.{EndsInStop}
 use Rattle.pkopt.specs.Limit.{IsPastLimit}
 use Rattle.pkopt.specs.OneFrame.{has_frame, optimized}
-use Rattle.pkopt.specs.RunsAlike.{RunsAlike, SameEnd}
+use Rattle.pkopt.specs.RunsAlike.{RunsAlike}
 use Rattle.pkopt.specs.Slim.{slim}
 use Rattle.pkopt.specs.Writers.{Writes, after, sources, new_number, after_all}
-use Rattle.pkopt.proofs.AlikeSteps.{IsFree}
+use Rattle.pkopt.proofs.Faultless.{stays_faultless}
 use Rattle.pkopt.proofs.NewNumbers.{after_all_le, new_least, new_up_to}
 use Rattle.pkopt.proofs.Hearing.{heard_tracks}
 use Rattle.pkopt.proofs.OneFraming.{optimized_alike, optimized_framed, optimized_bytes, slim_bytes}
+use Rattle.pkopt.proofs.Origins.{counterpart}
 use Rattle.pkopt.proofs.Rereading.{all_read, after_all-append}
 use Rattle.pkopt.proofs.Sequencing.{optimized_sequence}
 use Rattle.pkopt.proofs.Slimming.{AreSmall, slim_alike}
-
--- a run that ends well isn't stuck
-free_if_well : (list : List ℕ → List ℕ → Bool) (e : Ended) → EndsWell list e → IsFree e
-free_if_well list (Reached s) h = tt
-free_if_well list (EndedBy (WentOn s)) h = h
-free_if_well list (EndedBy (Raised s)) h = tt
-free_if_well list (EndedBy (Stopped r s)) h = tt
-free_if_well list (EndedBy (Stuck b)) h = h
-
--- what ends as one that ends well does, ends well
-well_alike : (list : List ℕ → List ℕ → Bool) (a b : Ended) → SameEnd a b → EndsWell list a → EndsWell list b
-well_alike list (Reached s) (Reached t) same h = subst (λ events. AllListed list (imports_of events)) same.1.events h
-well_alike list (EndedBy (Stopped x s)) (EndedBy (Stopped y t)) same h = (sym same.1 ∙ h.0, subst (λ events. AllListed list (imports_of events)) same.2.events h.1)
-well_alike list (EndedBy (Raised s)) (EndedBy (Raised t)) same h = subst (λ events. AllListed list (imports_of events)) same.events h
-well_alike list a b same h = absurd same
 
 ends_in_stop : (limit : ℕ) (front : List Instruction) (last : Instruction) → All (IsAllowed limit) (front ++ last ∷ []) → last.op ≡ Stop → All (λ i. i.op ≢ Stop) front → EndsInStop limit (front ++ last ∷ [])
 ends_in_stop limit [] last each stop none = (each 0 last (omega arith), inl (stop, refl))
@@ -94,27 +80,38 @@ none_past p limit le before (i, rest, parts, more, read, number) =
     let less = new_least (sources [] p) (length ws) (length (after_all p [])) (omega (arith, size, up, more)) read in
     omega (arith, less, le, number)
 
-spelled_by : (b : Bool) (limits : Bounds) (bytes : List ℕ) (c : Checks limits bytes) → has_frame (pickle c) ≡ b → (out slim_out : List ℕ) → slim_out ≡ spellings (slim (pickle c)) → ((b ≡ true) × (out ≡ framed_bytes slim_out)) ⊎ ((b ≡ false) × (out ≡ slim_out)) → out ≡ spellings (optimized (pickle c))
+spelled_by : (b : Bool) (limits : Bounds) (bytes : List ℕ) (c : Checks limits bytes)
+    → has_frame (pickle c) ≡ b → (out slim_out : List ℕ) → slim_out ≡ spellings (slim (pickle c))
+    → ((b ≡ true) × (out ≡ framed_bytes slim_out)) ⊎ ((b ≡ false) × (out ≡ slim_out))
+    → out ≡ spellings (optimized (pickle c))
 spelled_by b limits bytes c f out slim_out e (inl h) = h.1 ∙ ap framed_bytes e ∙ optimized_bytes limits.counted (pickle c) (ends_of limits bytes c) (f ∙ h.0)
 spelled_by b limits bytes c f out slim_out e (inr h) = h.1 ∙ e ∙ slim_bytes (pickle c) (f ∙ h.0)
 
 -- the answer where the slim form was written
-pub optimizes : CountingIsExact → (limits : Bounds) (bytes : List ℕ) (c : Checks limits bytes) (limit room : ℕ) (out : List ℕ) (framed : Bool) (result : List ℕ) → limit < 2 ^ 32 → length out < 2 ^ 64 → limit ≡ limits.memo → IsSlim (pickle c) limit room out → framed ≡ has_frame (pickle c)
-    → ((framed ≡ true) × (result ≡ framed_bytes (drop room out))) ⊎ ((framed ≡ false) × (result ≡ drop room out)) → Optimizes limits bytes result
-optimizes exact limits bytes c limit room out framed result lt short same h framed_so how =
+pub optimizes : CountingIsExact → WellIsFree → WellCarriesOver
+    → (limits : Bounds) (bytes : List ℕ) (c : Checks limits bytes) (limit room : ℕ) (out : List ℕ)
+    (has : Bool) (result : List ℕ) → limit < 2 ^ 32 → length out < 2 ^ 64 → limit ≡ limits.memo
+    → IsSlim (pickle c) limit room out → has ≡ has_frame (pickle c)
+    → ((has ≡ true) × (result ≡ framed_bytes (drop room out))) ⊎ ((has ≡ false) × (result ≡ drop room out)) → Optimizes limits bytes result
+optimizes exact well_free carries limits bytes c limit room out has result lt short same h framed_so how =
     let p = pickle c in
     let small = small_numbers p limit lt h.fits in
     let form = ap (drop room) h.spelled ∙ drop_at (replicate room 0) (spellings (slim p)) room (length-replicate room 0) in
     let smaller : AreSmall (sources [] p) (length (after_all p [])) = λ w inside. let s = small w inside in omega (arith, s) in
-    let alike : RunsAlike p (optimized p) = optimized_alike p (slim_alike p smaller (λ os. free_if_well (permitted_by None) (run p os start) (c.accepted.sound os))) in
+    let list = permitted_by None in
+    let free : (os : List Outcome) → IsFree (run p os start) = λ os. well_free list (run p os start) (c.accepted.sound os) in
+    let alike : RunsAlike p (optimized p) = optimized_alike p (slim_alike p smaller free) in
+    let sound : Sound Unknown (optimized p) list = λ os. carries list (run p os start) (run (optimized p) os start) (alike os) (c.accepted.sound os) in
+    let framed = optimized_framed exact limits.counted p (ends_of limits bytes c) in
     record {
       checks = c;
-      spelled = spelled_by framed limits bytes c (sym framed_so) result (drop room out) form how;
+      spelled = spelled_by has limits bytes c (sym framed_so) result (drop room out) form how;
       alike = alike;
       read = all_read p smaller;
       sequence = optimized_sequence limits.counted p small (let l = ap length form in let d = length-drop room out in omega (arith, l, d, short)) (ends_of limits bytes c);
-      framed = optimized_framed exact limits.counted p (ends_of limits bytes c);
-      sound = λ os. well_alike (permitted_by None) (run p os start) (run (optimized p) os start) (alike os) (c.accepted.sound os);
+      framed = framed;
+      sound = sound;
+      faultless = stays_faultless p (optimized p) framed list sound (counterpart p smaller free);
       fits = none_past p limits.memo (subst (λ m. new_number (sources [] p) (length (after_all p [])) ≤ m) same h.fits);
     }
 
@@ -130,14 +127,21 @@ pub fails_memory : (limits : Bounds) (bytes left rest : List ℕ) (refusal : Ref
 fails_memory limits bytes left rest refusal pair e h = record { rest = rest; pair = pair; refused = subst (λ b. Refused Unknown None (holding_all limits) (in_memory b) (in_memory rest) refusal.at refusal.reason pair) e h }
 
 -- the check was heard
-traced_memory : (limits : Bounds) (bytes rest : List ℕ) (accepted : Yes) (hs : List Heard) (x y : Trace) → IsRightAndHeard None (holding_all limits) (in_memory bytes) (in_memory rest) (Ok accepted) hs → Begins x → Hears x y hs → IsTraced limits bytes (record { taken = accepted.taken; trace = y })
+traced_memory : (limits : Bounds) (bytes rest : List ℕ) (accepted : Yes) (hs : List Heard)
+    (x y : Trace) → IsRightAndHeard None (holding_all limits) (in_memory bytes) (in_memory rest)
+    (Ok accepted) hs → IsNewTrace x → Hears x y hs → IsTraced limits bytes
+    (record { taken = accepted.taken; trace = y })
 traced_memory limits bytes rest accepted hs x y h first heard = record {
   checks = record { rest = rest; taken = accepted.taken; imports = accepted.imports; accepted = h.right };
   tracks = heard_tracks x y h.right.instructions hs first h.each heard;
   count = h.right.count;
 }
 
-pub is_traced : (limits : Bounds) (bytes left rest : List ℕ) (answer : Result Yes No) (accepted : Yes) (hs : List Heard) (x y : Trace) → left ≡ bytes → answer ≡ Ok accepted → IsRightAndHeard None (holding_all limits) (in_memory left) (in_memory rest) answer hs → Begins x → Hears x y hs → IsTraced limits bytes (record { taken = accepted.taken; trace = y })
+pub is_traced : (limits : Bounds) (bytes left rest : List ℕ) (answer : Result Yes No)
+    (accepted : Yes) (hs : List Heard) (x y : Trace) → left ≡ bytes → answer ≡ Ok accepted
+    → IsRightAndHeard None (holding_all limits) (in_memory left) (in_memory rest) answer hs
+    → IsNewTrace x → Hears x y hs → IsTraced limits bytes (record
+    { taken = accepted.taken; trace = y })
 is_traced limits bytes left rest answer accepted hs x y e is h first heard =
     subst (λ b. IsTraced limits b (record { taken = accepted.taken; trace = y })) e
     (traced_memory limits left rest accepted hs x y (subst (λ a. IsRightAndHeard None (holding_all limits) (in_memory left) (in_memory rest) a hs) is h) first heard)
@@ -153,6 +157,6 @@ plan_for p plan found writes same h e w = record {
 }
 
 -- the refusal where the slim form could not be written
-pub slim_refused : (limits : Bounds) (bytes : List ℕ) (c : Checks limits bytes) (limit : ℕ) (refusal : Refusal) → limit ≡ limits.memo → StopsSlim (pickle c) limit refusal → IsRefused limits bytes refusal
+pub slim_refused : (limits : Bounds) (bytes : List ℕ) (c : Checks limits bytes) (limit : ℕ) (refusal : Refusal) → limit ≡ limits.memo → StopsSlim (pickle c) limit refusal → IsNotOptimized limits bytes refusal
 slim_refused limits bytes c limit refusal same (inl past) = inr (inl (passes_limit limits bytes c limit refusal same past))
 slim_refused limits bytes c limit refusal same (inr none) = inr (inr (record { checks = c; place = none.0; reason = none.1 }))

@@ -6,7 +6,7 @@ use Rattle.std.proofs.lemmas.Bool.Decides.{eqb_tells}
 use Rattle.std.proofs.lemmas.List.{get_or-set_other, get_or-set_same, get_or_append_left, length-set}
 use Rattle.std.proofs.Math.Seq.{get_or-append_seam}
 use Rattle.pkcheck.specs.Shape.{recalled, stored}
-use Rattle.pkopt.specs.Private.Memories.{Remembers, remembered}
+use Rattle.pkopt.specs.Private.Memories.{Remembers, write_held}
 use Rattle.pkopt.specs.Writers.{Writes, last_write, different, more_if_none}
 use Rattle.pkopt.proofs.Recalling.{recalled_same, recalled_other, rising_insert, length_insert}
 
@@ -28,13 +28,13 @@ in_or_out first row n = elim (is_below n first (ltb n first) refl) [
 ]
 
 module _ (first : ℕ) (row : List ℕ) (rest : List (ℕ × ℕ)) (n : ℕ) where
-  by_tests : (a b : Bool) → ltb n first ≡ a → ltb (n - first) (length row) ≡ b → remembered first row rest n ≡ cond a (recalled n rest) (cond b (Some (get_or row (n - first) 0)) (recalled n rest))
+  by_tests : (a b : Bool) → ltb n first ≡ a → ltb (n - first) (length row) ≡ b → write_held first row rest n ≡ cond a (recalled n rest) (cond b (Some (get_or row (n - first) 0)) (recalled n rest))
   by_tests a b e f = ap (λ a. cond a (recalled n rest) (cond (ltb (n - first) (length row)) (Some (get_or row (n - first) 0)) (recalled n rest))) e ∙ ap (λ b. cond a (recalled n rest) (cond b (Some (get_or row (n - first) 0)) (recalled n rest))) f
 
-  inside : InRow first row n → remembered first row rest n ≡ Some (get_or row (n - first) 0)
+  inside : InRow first row n → write_held first row rest n ≡ Some (get_or row (n - first) 0)
   inside h = let low = h.0 in let high = h.1 in by_tests false true (le-ltb n first low) (lt-ltb (n - first) (length row) (omega (arith, low, high)))
 
-  outside : OutOfRow first row n → remembered first row rest n ≡ recalled n rest
+  outside : OutOfRow first row n → write_held first row rest n ≡ recalled n rest
   outside (inl h) = by_tests true (ltb (n - first) (length row)) (lt-ltb n first h) refl
   outside (inr h) = by_tests false false (le-ltb n first (omega (arith, h))) (le-ltb (n - first) (length row) (omega (arith, h)))
 
@@ -55,7 +55,7 @@ module _ (ws : Writes) (first : ℕ) (row : List ℕ) (rest : List (ℕ × ℕ))
       let had = h.found n ∙ inside first row rest n here in
       let c = h.count in
       record {
-        found = found_on ws n (remembered first row rest) (remembered first (set row (n - first) w) rest) h.found
+        found = found_on ws n (write_held first row rest) (write_held first (set row (n - first) w) rest) h.found
             (inside first (set row (n - first) w) rest n there ∙ ap (λ x. Some x) (get_or-set_same row (n - first) w 0 lt ∙ is))
             (λ k ne. elim (in_or_out first row k) [
               | inl q ↦ let from = q.0 in let to = q.1 in inside first row rest k q ∙ ap (λ x. Some x) (sym (get_or-set_other row (n - first) (k - first) w 0 (λ e. ne (omega (arith, e, from, low))))) ∙ sym (inside first (set row (n - first) w) rest k (from, omega (arith, to, size)))
@@ -74,7 +74,7 @@ module _ (ws : Writes) (first : ℕ) (row : List ℕ) (rest : List (ℕ × ℕ))
       let had = h.found n ∙ outside first row rest n (inr (omega (arith, low, next))) ∙ ap (λ (l : List (ℕ × ℕ)). recalled n l) none in
       let c = h.count in
       record {
-        found = found_on ws n (remembered first row rest) (remembered first (row ++ w ∷ []) rest) h.found
+        found = found_on ws n (write_held first row rest) (write_held first (row ++ w ∷ []) rest) h.found
             (inside first (row ++ w ∷ []) rest n there ∙ ap (λ x. Some x) (ap (λ k. get_or (row ++ w ∷ []) k 0) next ∙ get_or-append_seam row w [] 0 ∙ is))
             (λ k ne. elim (in_or_out first row k) [
               | inl q ↦ let from = q.0 in let to = q.1 in inside first row rest k q ∙ ap (λ x. Some x) (sym (get_or_append_left row (w ∷ []) 0 (k - first) (omega (arith, from, to)))) ∙ sym (inside first (row ++ w ∷ []) rest k (from, omega (arith, to, size)))
@@ -92,7 +92,7 @@ module _ (ws : Writes) (first : ℕ) (row : List ℕ) (rest : List (ℕ × ℕ))
   -- it is none of the row
   pub note_in_rest : OutOfRow first row n → Remembers (n ∷ ws) first row (stored n w rest)
   note_in_rest out = record {
-    found = found_on ws n (remembered first row rest) (remembered first row (stored n w rest)) h.found
+    found = found_on ws n (write_held first row rest) (write_held first row (stored n w rest)) h.found
         (outside first row (stored n w rest) n out ∙ recalled_same n w rest ∙ ap (λ x. Some x) is)
         (λ k ne. elim (in_or_out first row k) [
           | inl q ↦ inside first row rest k q ∙ sym (inside first row (stored n w rest) k q)

@@ -5,7 +5,7 @@ use Rattle.std.proofs.lemmas.Bool.Decides.{eqb_tells}
 use Rattle.std.proofs.lemmas.Bool.{eqb-true, eq-eqb}
 use Rattle.pkops.specs.Operands.{memo_number}
 use Rattle.pkops.specs.Spelling.{Instruction}
-use Rattle.pkcheck.specs.declared.machine.effects.Move.TheVariants.{Stores, StoresNext, Fetches}
+use Rattle.pkcheck.specs.declared.effect.Move.TheVariants.{Stores, StoresNext, Fetches}
 use Rattle.pkcheck.specs.Effects.{Effect, Moves, effect_of}
 use Rattle.pkopt.specs.Writers.{Writes, last_write, different, wrote, after, read_by, sources, is_this, is_read, new_number, after_all, more_if_none}
 use Rattle.pkopt.specs.Slim.{renumbered, is_frame, read_left, left_of, slim_from, slim}
@@ -45,7 +45,7 @@ all_different : (k : ℕ) → different (countdown k) ≡ k
 all_different zero = refl
 all_different (suc k) = ap (λ o. more_if_none o (different (countdown k))) (not_there k k (omega arith)) ∙ ap suc (all_different k)
 
-sources-append : (ws : Writes) (is js : List Instruction) → sources ws (is ++ js) ≡ sources ws is ++ sources (after_all is ws) js
+pub sources-append : (ws : Writes) (is js : List Instruction) → sources ws (is ++ js) ≡ sources ws is ++ sources (after_all is ws) js
 sources-append ws [] js = refl
 sources-append ws (i ∷ is) js = ap (λ (l : List (Option ℕ)). read_by (effect_of i.op) (memo_number i) ws ++ l) (sources-append (after i ws) is js) ∙ sym (append_assoc (read_by (effect_of i.op) (memo_number i) ws) (sources (after i ws) is) (sources (after_all is (after i ws)) js))
 

@@ -2,8 +2,8 @@
 use Rattle.std.proofs.Common.{◌≡◌, ℕ, List, [], ◌∷◌, refl, ap, arith}
 use Rattle.std.proofs.lemmas.Fmt.{decimal_digit}
 use Rattle.std.specs.Prelude.{codes}
-use Rattle.pkops.specs.declared.op.Op.{Op}
-use Rattle.pkops.specs.declared.op.Op.TheVariants.{EmptyList, BinPut, LongBinPut, None, Append, BinGet, LongBinGet, Pop, Stop, Memoize, Proto, Frame, Put, Get}
+use Rattle.pkops.specs.declared.Op.{Op}
+use Rattle.pkops.specs.declared.Op.TheVariants.{EmptyList, BinPut, LongBinPut, None, Append, BinGet, LongBinGet, Pop, Stop, Memoize, Proto, Frame, Put, Get}
 use Rattle.pkops.specs.Spelling.{Nothing, Number, Line, Instruction, instruction}
 use Rattle.pkopt.specs.Slim.{slim}
 use Rattle.pkopt.specs.OneFrame.{optimized}

@@ -5,20 +5,21 @@ use Rattle.std.proofs.lemmas.Bool.Decides.{eqb_tells}
 use Rattle.std.proofs.lemmas.Bool.{eq-eqb}
 use Rattle.std.specs.Ordering.{nat_cmp}
 use Rattle.std.specs.BTreeMap.{insert_entry}
-use Rattle.pkops.specs.declared.op.Op.{Op}
-use Rattle.pkops.specs.declared.op.Op.TheVariants as op
+use Rattle.pkops.specs.declared.Op.{Op}
+use Rattle.pkops.specs.declared.Op.TheVariants as op
 use Rattle.pkops.specs.Spelling.{Instruction}
 use Rattle.pkops.specs.Operands.{memo_number}
-use Rattle.pkcheck.specs.declared.machine.effects.Move.TheVariants.{Stores, StoresNext, Fetches, Passes}
+use Rattle.pkcheck.specs.declared.effect.Move.TheVariants.{Stores, StoresNext, Fetches, Passes}
 use Rattle.pkcheck.specs.Effects.{Effect, Moves, effect_of}
+use Rattle.pkcheck.specs.Ends.{IsFree, SameEnd}
 use Rattle.pkcheck.specs.Shape.{Entry, Mark, Item, recalled, fetched}
 use Rattle.pkcheck.specs.Runs.{Object, Event, State, Outcome, move_step, perform, effect_asks, start}
 use Rattle.pkcheck.specs.WholeRuns.{first_outcome, outcomes_after, go_on, run}
 use Rattle.pkopt.specs.Writers.{Writes, last_write, different, wrote, after, read_by, sources, is_this, is_read, new_number, after_all, more_if_none}
 use Rattle.pkopt.specs.Slim.{renumbered, is_frame, read_left, left_of, slim_from, slim}
-use Rattle.pkopt.specs.RunsAlike.{SameEnd, RunsAlike}
+use Rattle.pkopt.specs.RunsAlike.{RunsAlike}
 use Rattle.pkopt.specs.Private.Traces.{Rising}
-use Rattle.pkopt.proofs.AlikeSteps.{IsFree, with_memo, IsBlind, perform_same, step_on}
+use Rattle.pkopt.proofs.AlikeSteps.{with_memo, IsBlind, perform_same, step_on}
 use Rattle.pkopt.proofs.NewNumbers.{after_all_le, new_step, new_least}
 use Rattle.pkopt.proofs.Recalling.{recalled_same, recalled_other, rising_insert, length_insert, length_new}
 use Rattle.pkopt.proofs.NewForms.{NamesNumber, form_effect, renumbered_number}
@@ -80,7 +81,7 @@ module _ (vs : List (Option ℕ)) where
     pub size : length m ≡ new_number vs (length ws)
     pub fresh : (n : ℕ) → new_number vs (length ws) ≤ n → recalled n m ≡ None
 
-  related_none : Related [] [] []
+  pub related_none : Related [] [] []
   related_none = record { found = λ n. tt; count = refl; rising = tt; size = refl; fresh = λ n le. refl }
 
   module _ (ws : Writes) (memo m m' : List (ℕ × ℕ)) (n x : ℕ) (h : Related ws memo m) (here : Kept m' (n ∷ ws) (length ws) x) (others : (w y : ℕ) → Kept m ws w y → Kept m' (n ∷ ws) w y) where
@@ -222,7 +223,10 @@ module _ (vs : List (Option ℕ)) where
   tied_last [] ws h w e = h w e
   tied_last (u ∷ us) ws h w e = tied_last us ws (λ v f. h v (or_right _ _ f)) w e
 
-  alike_from : (total : ℕ) → AreSmall total → (ws : Writes) (is : List Instruction) (s : State) (m : List (ℕ × ℕ)) (os : List Outcome) → AreTied (sources ws is) vs → length (after_all is ws) ≤ total → Related ws s.shape.memo m → IsFree (run is os s) → SameEnd (run is os s) (run (slim_from vs ws is) os (with_memo m s))
+  pub alike_from : (total : ℕ) → AreSmall total → (ws : Writes) (is : List Instruction) (s : State)
+      (m : List (ℕ × ℕ)) (os : List Outcome) → AreTied (sources ws is) vs
+      → length (after_all is ws) ≤ total → Related ws s.shape.memo m → IsFree (run is os s)
+      → SameEnd (run is os s) (run (slim_from vs ws is) os (with_memo m s))
   alike_from total small ws [] s m os tied le r free = (refl, record { objects = refl; events = refl })
   alike_from total small ws (i ∷ is) s m os tied le r free =
       on_effect total small i ws is (slim_from vs (after i ws) is) (effect_of i.op) s m os refl

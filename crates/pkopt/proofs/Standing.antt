@@ -9,7 +9,7 @@ use Rattle.pkopt.specs.declared.place.Place.{Place}
 use Rattle.pkopt.specs.declared.slim.Slim.{Slim}
 use Rattle.pkopt.specs.OneFrame.{has_frame}
 use Rattle.pkopt.specs.Private.Fates.{form_up_to}
-use Rattle.pkopt.specs.Private.Places.{is_plain, place_of, places_from}
+use Rattle.pkopt.specs.Private.Places.{stays_as_is, place_of, places_from}
 use Rattle.pkopt.specs.Slim.{is_frame, slim_from}
 use Rattle.pkopt.specs.Writers.{Writes, after, sources, after_all}
 use Rattle.pkopt.proofs.Plain.{plain_is}
@@ -21,7 +21,7 @@ spellings-append (x ∷ xs) ys = ap (λ (l : List ℕ). spelling x ++ l) (spelli
 -- all of them are plain
 abbrev pub AllPlain : List Instruction → Type 0
 AllPlain [] = Unit {0}
-AllPlain (i ∷ is) = (is_plain i.op ≡ true) × AllPlain is
+AllPlain (i ∷ is) = (stays_as_is i.op ≡ true) × AllPlain is
 
 pub after_plain : (q js : List Instruction) (ws : Writes) → AllPlain q → after_all (q ++ js) ws ≡ after_all js ws
 after_plain [] js ws h = refl
@@ -39,7 +39,7 @@ slim_plain vs (i ∷ is) ws h =
     ap (λ (l : List Instruction). l ++ slim_from vs (after i ws) is) ((plain_is i h.0).stays vs ws)
     ∙ ap (λ (l : List Instruction). i ∷ l) (ap (λ (x : Writes). slim_from vs x is) ((plain_is i h.0).no_write ws) ∙ slim_plain vs is ws h.1)
 
-framed_by : (b : Bool) (i : Instruction) (later : List Place) (is : List Instruction) (here : ℕ) → is_plain i.op ≡ b → list_any (λ (x : Place). is_frame x.op) later ≡ has_frame is
+framed_by : (b : Bool) (i : Instruction) (later : List Place) (is : List Instruction) (here : ℕ) → stays_as_is i.op ≡ b → list_any (λ (x : Place). is_frame x.op) later ≡ has_frame is
     → list_any (λ (x : Place). is_frame x.op) (cond b later (place_of here i ∷ later)) ≡ is_frame i.op || has_frame is
 framed_by true i later is here p e = e ∙ ap (λ b. b || has_frame is) (sym (plain_is i p).no_frame)
 framed_by false i later is here p e = ap (λ b. is_frame i.op || b) e
@@ -47,7 +47,7 @@ framed_by false i later is here p e = ap (λ b. is_frame i.op || b) e
 -- a pickle has a FRAME where one of the places is of one
 pub framed_places : (is : List Instruction) (here : ℕ) → list_any (λ (x : Place). is_frame x.op) (places_from here is) ≡ has_frame is
 framed_places [] here = refl
-framed_places (i ∷ is) here = framed_by (is_plain i.op) i (places_from (here + length (spelling i)) is) is here refl (framed_places is (here + length (spelling i)))
+framed_places (i ∷ is) here = framed_by (stays_as_is i.op) i (places_from (here + length (spelling i)) is) is here refl (framed_places is (here + length (spelling i)))
 
 -- the next instruction that isn't plain stands at this place
 pub record Next (here : ℕ) (place : Place) (later : List Place) (left : List Instruction) : Type 0 where
@@ -62,7 +62,7 @@ pub record Next (here : ℕ) (place : Place) (later : List Place) (left : List I
 head_of : (a b : Place) (later bs : List Place) → a ∷ later ≡ b ∷ bs → (a ≡ b) × (later ≡ bs)
 head_of a b later bs e = (cc, cc)
 
-next_by : (b : Bool) (i : Instruction) (is : List Instruction) (here : ℕ) (place : Place) (later : List Place) → is_plain i.op ≡ b
+next_by : (b : Bool) (i : Instruction) (is : List Instruction) (here : ℕ) (place : Place) (later : List Place) → stays_as_is i.op ≡ b
     → place ∷ later ≡ cond b (places_from (here + length (spelling i)) is) (place_of here i ∷ places_from (here + length (spelling i)) is)
     → (place ∷ later ≡ places_from (here + length (spelling i)) is → Next (here + length (spelling i)) place later is) → Next here place later (i ∷ is)
 next_by true i is here place later p e on =
@@ -93,16 +93,16 @@ next_by false i is here place later p e on =
 
 pub next_place : (left : List Instruction) (here : ℕ) (place : Place) (later : List Place) → place ∷ later ≡ places_from here left → Next here place later left
 next_place [] here place later e = cc
-next_place (i ∷ is) here place later e = next_by (is_plain i.op) i is here place later refl e (λ q. next_place is (here + length (spelling i)) place later q)
+next_place (i ∷ is) here place later e = next_by (stays_as_is i.op) i is here place later refl e (λ q. next_place is (here + length (spelling i)) place later q)
 
 -- where there is none, all are plain
-none_by : (b : Bool) (i : Instruction) (is : List Instruction) (here n : ℕ) → is_plain i.op ≡ b → [] ≡ cond b (places_from n is) (place_of here i ∷ places_from n is) → ([] ≡ places_from n is → AllPlain is) → AllPlain (i ∷ is)
+none_by : (b : Bool) (i : Instruction) (is : List Instruction) (here n : ℕ) → stays_as_is i.op ≡ b → [] ≡ cond b (places_from n is) (place_of here i ∷ places_from n is) → ([] ≡ places_from n is → AllPlain is) → AllPlain (i ∷ is)
 none_by true i is here n p e on = (p, on e)
 none_by false i is here n p e on = cc
 
 pub none_ahead : (left : List Instruction) (here : ℕ) → [] ≡ places_from here left → AllPlain left
 none_ahead [] here e = tt
-none_ahead (i ∷ is) here e = none_by (is_plain i.op) i is here (here + length (spelling i)) refl e (λ q. none_ahead is (here + length (spelling i)) q)
+none_ahead (i ∷ is) here e = none_by (stays_as_is i.op) i is here (here + length (spelling i)) refl e (λ q. none_ahead is (here + length (spelling i)) q)
 
 -- the bytes behind the first of three parts, and those of the second
 pub behind_first : (bytes a b : List ℕ) (from : ℕ) → from ≡ length a → bytes ≡ a ++ b → drop from bytes ≡ b

@@ -5,14 +5,14 @@ use Rattle.std.proofs.Math.ListN.{drop_of_length-le}
 use Rattle.std.proofs.lemmas.List.{drop_more}
 use Rattle.pkops.specs.Spelling.{Instruction, spelling}
 use Rattle.pkread.specs.Sequence.{spellings}
-use Rattle.pkread.specs.declared.refusal.Reason.{Reason}
+use Rattle.pkread.specs.declared.Reason.{Reason}
 use Rattle.pkcheck.specs.Effects.{effect_of}
 use Rattle.pkopt.specs.declared.fate.Fate.{Fate}
 use Rattle.pkopt.specs.declared.fate.Fate.TheVariants.{IsPast}
 use Rattle.pkopt.specs.declared.fate.Plan.{Plan}
 use Rattle.pkopt.specs.declared.place.Place.{Place}
 use Rattle.pkopt.specs.declared.slim.Slim.{Slim}
-use Rattle.pkopt.specs.Private.Fates.{fate_by, fate_in, reads_after, writes_after, Adds, Aims, Emits, IsHalted, IsSlim, StopsSlim, form_up_to, refusal_at}
+use Rattle.pkopt.specs.Private.Fates.{fate_by, fate_in, reads_after, writes_after, AddsPlace, Aims, Emits, FailsPlace, IsSlim, StopsSlim, form_up_to, refusal_at}
 use Rattle.pkopt.specs.Private.Passes.{memo_use}
 use Rattle.pkopt.specs.Private.Places.{places_from}
 use Rattle.pkopt.specs.Slim.{left_of, slim_from}
@@ -169,7 +169,7 @@ module _ (bytes : List ℕ) (places : List Place) (taken : ℕ) (room : ℕ) (pl
         (fate_right vs total plan.limit plan.numbers.items aims.planned.writes ws i next.others out.writes out.reads there.place)
 
     -- it isn't passed
-    pub slimmed_halted : (r : Reason) → IsHalted plan place.op out r → StopsSlim p plan.limit (refusal_at place.at r)
+    pub slimmed_halted : (r : Reason) → FailsPlace plan place.op out r → StopsSlim p plan.limit (refusal_at place.at r)
     slimmed_halted r (inl e) = inr (ap (λ r. (refusal_at place.at r).at) e, ap (λ r. (refusal_at place.at r).reason) e)
     slimmed_halted r (inr (e, q)) =
         let past = past_right vs total plan.limit plan.numbers.items aims.planned.writes ws i next.others (effect_of i.op) fate (subst (λ o. fate_in plan o out.writes out.reads ≡ IsPast) same q) right in
@@ -181,7 +181,7 @@ module _ (bytes : List ℕ) (places : List Place) (taken : ℕ) (room : ℕ) (pl
         })
 
     -- it is passed
-    pub slimmed_next : (new : Slim) → Adds plan bytes place out new → Slimmed later new
+    pub slimmed_next : (new : Slim) → AddsPlace plan bytes place out new → Slimmed later new
     slimmed_next new adds =
         let goes = subst (λ o. fate_in plan o out.writes out.reads ≢ IsPast) same adds.goes_on in
         let written = on_right vs total plan.limit plan.numbers.items aims.planned.writes ws i next.others (effect_of i.op) fate goes right in

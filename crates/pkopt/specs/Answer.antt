@@ -1,29 +1,26 @@
--- What an answer of `optimize` says.
+-- What the answers of `optimize` mean.
 use Rattle.std.specs.Prelude.{◌≡◌, ℕ, ◌⊎◌, List, length, map, Option, Some, None}
 use Rattle.pkops.specs.Limits.{Bounds, holding_all}
 use Rattle.pkops.specs.Spelling.{Instruction}
 use Rattle.pkread.specs.Framing.{Framed}
 use Rattle.pkread.specs.Pieces.{piece_of}
-use Rattle.pkread.specs.Rows.{Sight}
+use Rattle.pkread.specs.Rows.{Sight, in_memory}
 use Rattle.pkread.specs.Sequence.{IsSequence, spellings}
-use Rattle.pkread.specs.declared.refusal.Reason.TheVariants.{TooLarge, OutOfMemory}
-use Rattle.pkread.specs.declared.refusal.Refusal.{Refusal}
-use Rattle.pkcheck.specs.declared.old_strings.OldStrings.TheVariants.{Unknown}
+use Rattle.pkread.specs.declared.Reason.TheVariants.{TooLarge, OutOfMemory}
+use Rattle.pkread.specs.declared.Refusal.{Refusal}
+use Rattle.pkcheck.specs.declared.OldStrings.TheVariants.{Unknown}
 use Rattle.pkcheck.specs.Accepted.{Accepted}
 use Rattle.pkcheck.specs.Knowledge.{Asked}
 use Rattle.pkcheck.specs.Listing.{permitted_by}
 use Rattle.pkcheck.specs.Refused.{Refused}
 use Rattle.pkcheck.specs.WholeRuns.{Sound}
+use Rattle.pkopt.specs.Faultless.{StaysFaultless}
 use Rattle.pkopt.specs.Limit.{IsPastLimit}
 use Rattle.pkopt.specs.OneFrame.{optimized}
 use Rattle.pkopt.specs.RunsAlike.{RunsAlike, AllRead}
 
--- bytes in memory, as a check sees them
-abbrev pub in_memory : List ℕ → Sight
-in_memory bytes = record { left = Some bytes; failures = 0 }
-
--- a check under any import, with one limit for all payloads, says yes to the pickle at the front of
--- the bytes
+-- a check under any import, with one limit for all payloads, accepts the pickle at the front of the
+-- bytes
 pub record Checks (limits : Bounds) (bytes : List ℕ) : Type 0 where
   pub rest : List ℕ
   pub taken : ℕ
@@ -31,45 +28,48 @@ pub record Checks (limits : Bounds) (bytes : List ℕ) : Type 0 where
   pub accepted : Accepted Unknown None (holding_all limits) (in_memory bytes) (in_memory rest)
       taken imports
 
--- a check of the bytes under any import takes so many
+-- a check of the bytes under any import takes this many bytes
 abbrev pub TakesAsChecked : Bounds → List ℕ → ℕ → Type 0
 TakesAsChecked limits bytes taken =
     (after : Sight) × (imports : List Asked)
     × Accepted Unknown None (holding_all limits) (in_memory bytes) after taken imports
 
--- the instructions of that pickle
+-- the instructions of the accepted pickle
 abbrev pub pickle : {limits : Bounds} {bytes : List ℕ} → Checks limits bytes → List Instruction
 pickle checks = checks.accepted.instructions
 
--- these bytes are the optimized form of the pickle at the front of the others
+-- `out` is the optimized form of the pickle at the front of the bytes
 pub record Optimizes (limits : Bounds) (bytes out : List ℕ) : Type 0 where
   -- the pickle passes the check
   pub checks : Checks limits bytes
-  -- the bytes spell its slim form, in one frame if it had any
+  -- the output spells its slim form, in one frame if the pickle had any
   pub spelled : out ≡ spellings (optimized (pickle checks))
-  -- whatever operations answer, both do the same in the same order, with the same operands and
-  -- results, and end alike
+  -- whatever operations answer, both do the same things in the same order, with the same operands
+  -- and results, and end alike
   pub alike : RunsAlike (pickle checks) (optimized (pickle checks))
-  -- each memo write that stayed is read
+  -- every memo write of the output is read
   pub read : AllRead (optimized (pickle checks))
-  -- which is one sequence itself, and each instruction lies whole within its frame
+  -- the output is a sequence of its own, and each instruction lies within one frame
   pub sequence : IsSequence (λ _. limits.counted) (optimized (pickle checks))
   pub framed : Framed (map piece_of (optimized (pickle checks)))
-  -- whatever operations answer, each step of it finds what it needs, and STOP leaves nothing but
-  -- the result
+  -- whatever operations answer, each step of the output finds what it needs, and STOP leaves
+  -- nothing but the result
   pub sound : Sound Unknown (optimized (pickle checks)) (permitted_by None)
-  -- no write has a number as large as the limit
+  -- under any policy a check of the output finds no fault where it finds none in the pickle, apart
+  -- from passed limits
+  pub faultless : StaysFaultless (pickle checks) (optimized (pickle checks))
+  -- no write needs a number as large as the limit
   pub fits : (before : List Instruction) → IsPastLimit limits.memo (pickle checks) before → ⊥
 
--- the check refuses the pickle, at this place and for this reason
+-- the check refuses the pickle, at this offset and for this reason
 pub record FailsCheck (limits : Bounds) (bytes : List ℕ) (refusal : Refusal) : Type 0 where
   pub rest : List ℕ
   pub pair : Option Asked
   pub refused : Refused Unknown None (holding_all limits)
       (in_memory bytes) (in_memory rest) refusal.at refusal.reason pair
 
--- the pickle passes the check, and at this place stands a write that is read and whose number would
--- be the limit
+-- the pickle passes the check, and the write at this offset is read and would need the limit as its
+-- number
 pub record PassesLimit (limits : Bounds) (bytes : List ℕ) (refusal : Refusal) : Type 0 where
   pub checks : Checks limits bytes
   pub before : List Instruction
@@ -77,15 +77,15 @@ pub record PassesLimit (limits : Bounds) (bytes : List ℕ) (refusal : Refusal) 
   pub place : refusal.at ≡ length (spellings before)
   pub reason : refusal.reason ≡ TooLarge
 
--- the pickle passes the check, and then there was no memory
+-- the pickle passes the check, but an allocation outside it was refused
 pub record LacksMemory (limits : Bounds) (bytes : List ℕ) (refusal : Refusal) : Type 0 where
   pub checks : Checks limits bytes
   pub place : refusal.at ≡ 0
   pub reason : refusal.reason ≡ OutOfMemory
 
--- the one, the other or the third
-abbrev pub IsRefused : Bounds → List ℕ → Refusal → Type 0
-IsRefused limits bytes refusal =
+-- one of these three
+abbrev pub IsNotOptimized : Bounds → List ℕ → Refusal → Type 0
+IsNotOptimized limits bytes refusal =
     FailsCheck limits bytes refusal
     ⊎ PassesLimit limits bytes refusal
     ⊎ LacksMemory limits bytes refusal

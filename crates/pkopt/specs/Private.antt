@@ -1,5 +1,5 @@
--- Nobody has to believe these: what the functions that optimize tell one another. Only private
--- functions cite them, and the contract of `optimize` follows from them.
+-- Internal definitions, cited by private functions alone; they need not be trusted. The contract of
+-- `optimize` follows from them.
 pub mod Traces
 pub mod Fronts
 pub mod Memories

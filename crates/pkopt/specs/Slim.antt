@@ -1,17 +1,17 @@
--- A pickle without its frames and without the memo writes that nothing reads. The writes that stay
--- have the numbers 0, 1, 2, .. in order, and each read has the new number of the write that it
--- reads.
-use Rattle.std.specs.Prelude.{ℕ, Bool, true, false, cond, ltb, List, [], ◌∷◌, ◌++◌, length, Option, None, Some}
+-- A pickle without its frames and without the memo writes that nothing reads. The remaining writes
+-- are numbered 0, 1, 2, and so on, and each read gets the new number of the write that it reads.
+use Rattle.std.specs.Prelude.{ℕ, Bool, true, false, cond, ltb, List, [], ◌∷◌, ◌++◌, length, Option}
+use Rattle.std.specs.Prelude.{None, Some}
 use Rattle.std.specs.Fmt.{decimal}
-use Rattle.pkops.specs.declared.op.Op.{Op}
-use Rattle.pkops.specs.declared.op.Op.TheVariants as op
+use Rattle.pkops.specs.declared.Op.{Op}
+use Rattle.pkops.specs.declared.Op.TheVariants as op
 use Rattle.pkops.specs.Spelling.{Argument, Nothing, Number, Line, Instruction, instruction}
 use Rattle.pkops.specs.Operands.{memo_number}
-use Rattle.pkcheck.specs.declared.machine.effects.Move.TheVariants.{Stores, StoresNext, Fetches}
+use Rattle.pkcheck.specs.declared.effect.Move.TheVariants.{Stores, StoresNext, Fetches}
 use Rattle.pkcheck.specs.Effects.{Effect, Moves, effect_of}
 use Rattle.pkopt.specs.Writers.{Writes, last_write, after, sources, is_read, new_number}
 
--- the opcode for a number: the binary forms are of one byte below 256, and of four from there on
+-- the opcode for a number: the one-byte binary form below 256, the four-byte form from there on
 abbrev pub form_of : Op → ℕ → Op
 form_of op.BinPut n = cond (ltb n 256) op.BinPut op.LongBinPut
 form_of op.LongBinPut n = cond (ltb n 256) op.BinPut op.LongBinPut
@@ -19,7 +19,7 @@ form_of op.BinGet n = cond (ltb n 256) op.BinGet op.LongBinGet
 form_of op.LongBinGet n = cond (ltb n 256) op.BinGet op.LongBinGet
 form_of o n = o
 
--- the argument of such an opcode that says the number
+-- the argument of such an opcode for this number
 abbrev pub argument_for : Op → ℕ → Argument
 argument_for op.Put n = Line (decimal n)
 argument_for op.Get n = Line (decimal n)
@@ -29,11 +29,11 @@ argument_for op.LongBinPut n = Number 4 n
 argument_for op.LongBinGet n = Number 4 n
 argument_for o n = Nothing
 
--- the same instruction with another number
+-- the instruction with another number
 abbrev pub renumbered : ℕ → Instruction → Instruction
 renumbered n i = instruction (form_of i.op n) (argument_for (form_of i.op n) n)
 
--- a read, where this is the write that it reads
+-- what is left of a read, given the write that it reads
 abbrev pub read_left : List (Option ℕ) → Option ℕ → Instruction → List Instruction
 read_left vs (Some w) i = renumbered (new_number vs w) i ∷ []
 read_left vs None i = i ∷ []
@@ -43,8 +43,8 @@ abbrev pub is_frame : Op → Bool
 is_frame op.Frame = true
 is_frame o = false
 
--- what is left of an instruction of this effect, where these were the writes before it and vs is
--- what all reads read
+-- what is left of an instruction with this effect after the writes `ws`, where `vs` is what all
+-- reads read
 abbrev pub left_of : List (Option ℕ) → Writes → Effect → Instruction → List Instruction
 left_of vs ws (Moves Stores) i =
     cond (is_read (length ws) vs) (renumbered (new_number vs (length ws)) i ∷ []) []

@@ -10,24 +10,24 @@ use pkops::Op;
 /// What becomes of an instruction.
 #[derive(Clone, Copy)]
 pub(crate) enum Fate {
-    /// It goes.
+    /// It is dropped.
     Goes,
-    /// It stays as it is.
+    /// It stays unchanged.
     Stays,
-    /// It stays with this number.
+    /// It stays, with this number.
     Gets(u32),
     /// It is a write that is read, and its number would be the limit.
     IsPast,
 }
 
-/// What is known of the memo instructions of a pickle.
+/// What is known about the memo instructions of a pickle.
 #[derive(Drop)]
 pub(crate) struct Plan {
-    /// The write that each read reads.
+    /// For each read, the write that it reads.
     pub sources: Vec<Option<u32>>,
-    /// The new number of each write that is read.
+    /// For each write that is read, its new number.
     pub numbers: Vec<Option<u32>>,
-    /// The number that none may have.
+    /// The limit on the memo: no write may have it as its number.
     pub limit: u32,
 }
 
@@ -53,7 +53,7 @@ fn source_of(sources: &[Option<u32>], read: usize) -> Option<u32>
     }
 }
 
-/// That of a write under a number.
+/// The fate of a write under a number that the instruction names.
 fn stored_fate(number: Option<u32>, limit: u32) -> Fate
     ensures { result ≡ stored_fate limit number }
 {
@@ -69,7 +69,7 @@ fn stored_fate(number: Option<u32>, limit: u32) -> Fate
     }
 }
 
-/// That of a write under the number of entries.
+/// The fate of a write under the number of entries.
 fn next_fate(number: Option<u32>, limit: u32) -> Fate
     ensures { result ≡ next_fate limit number }
 {
@@ -85,7 +85,7 @@ fn next_fate(number: Option<u32>, limit: u32) -> Fate
     }
 }
 
-/// That of a read of a write with this new number.
+/// The fate of a read of a write with this new number.
 fn kept_fate(number: Option<u32>) -> Fate
     ensures { result ≡ kept_fate number }
 {
@@ -95,7 +95,7 @@ fn kept_fate(number: Option<u32>) -> Fate
     }
 }
 
-/// That of a read.
+/// The fate of a read.
 fn fetched_fate(numbers: &[Option<u32>], source: Option<u32>) -> Fate
     ensures { result ≡ fetched_fate numbers.now source }
 {
@@ -105,7 +105,7 @@ fn fetched_fate(numbers: &[Option<u32>], source: Option<u32>) -> Fate
     }
 }
 
-/// That of an instruction that doesn't use the memo.
+/// The fate of an instruction that does not use the memo.
 fn passed_fate(op: Op) -> Fate
     ensures { result ≡ passed_fate op }
 {
@@ -115,7 +115,7 @@ fn passed_fate(op: Op) -> Fate
     }
 }
 
-/// What becomes of an instruction, behind so many writes and reads.
+/// The fate of an instruction after this many writes and reads.
 pub(crate) fn fate_of(plan: &Plan, op: Op, writes: usize, reads: usize) -> Fate
     ensures { result ≡ fate_in plan.now op writes reads }
 {

@@ -2,23 +2,23 @@
 
 ghost use Rattle.std.specs.Prelude.{◌≡◌, ◌≤◌, ◌++◌, IfOk, OnOk, cond, drop, length};
 ghost use Rattle.pkops.specs.Table.{code_of};
-ghost use Rattle.pkops.specs.declared.op.Op.TheVariants.{Frame};
+ghost use Rattle.pkops.specs.declared.Op.TheVariants.{Frame};
 ghost use Rattle.pkopt.specs.Private.FrameBytes.{frame_front, framed_bytes, head_length};
 
 use pkops::{Op, row};
 use std::alloc::{AllocError, Global};
 
-/// How many bytes a FRAME has.
+/// The length of a FRAME instruction in bytes.
 const ROOM: usize = 9;
 
-/// How much room is left for a FRAME, if there is to be one.
+/// The room to leave for a FRAME: its length if there is to be one, else 0.
 pub(crate) fn room_for(framed: bool) -> usize
     ensures { result ≡ cond framed 9 0 }
 {
     if framed { ROOM } else { 0 }
 }
 
-/// How many bytes stand before the frame: the two of a PROTO that comes first.
+/// The number of bytes before the frame: the two of a leading PROTO, else 0.
 fn head_length(bytes: &[u8]) -> usize
     ensures is { result ≡ head_length bytes.now }
     ensures fits { result ≤ length bytes.now }
@@ -36,7 +36,7 @@ fn frame_code() -> u8
     row(Op::Frame).code
 }
 
-/// A PROTO that comes first, and the FRAME around the other bytes of a pickle.
+/// A leading PROTO, then the FRAME around the other bytes of the pickle.
 fn front_of(alloc: Global, bytes: &[u8]) -> Result<Vec<u8>, AllocError>
     ensures { IfOk result (λ front. front.items ≡ frame_front bytes.now) }
 {
@@ -49,7 +49,7 @@ fn front_of(alloc: Global, bytes: &[u8]) -> Result<Vec<u8>, AllocError>
     Ok(front)
 }
 
-/// Writes bytes over as many at the front.
+/// Overwrites the front of a buffer.
 fn write_over(out: &mut [u8], front: &[u8])
     requires { length front.now ≤ length out.old }
     ensures { out.new ≡ front.now ++ drop (length front.now) out.old }
@@ -57,8 +57,7 @@ fn write_over(out: &mut [u8], front: &[u8])
     out[..front.len()].copy_from_slice(front);
 }
 
-/// Puts a pickle into one frame, all but a PROTO that comes first, where it stands behind room for
-/// a FRAME.
+/// Puts a pickle into one frame, except a leading PROTO. The pickle follows room for a FRAME.
 pub(crate) fn put_in_frame(alloc: Global, out: &mut Vec<u8>) -> Result<(), AllocError>
     requires { 9 ≤ length out.old.items }
     ensures { OnOk result (out.new.items ≡ framed_bytes (drop 9 out.old.items)) }

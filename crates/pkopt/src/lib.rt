@@ -1,9 +1,10 @@
-//! The same pickle in less: without memo writes that nothing reads, in one frame, and with a proof
-//! that every run of it is a run of the original.
+//! Makes pickles smaller: drops memo writes that nothing reads, and uses one frame. It is proved
+//! that every run of the result is a run of the original.
 #![tactic(auto)]
 
 mod fate;
 mod frame;
+pub mod laws;
 mod memo;
 mod numbers;
 mod optimizing;

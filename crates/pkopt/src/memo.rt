@@ -1,8 +1,8 @@
-//! How instructions use the memo, and which write is the last of each number.
+//! How instructions use the memo, and the last write of each number.
 
 ghost use Rattle.std.specs.Prelude.{◌≡◌, ◌+◌, [], OnOk, length};
 ghost use Rattle.pkcheck.specs.Shape.{recalled, stored};
-ghost use Rattle.pkopt.specs.Private.Memories.{Notes, remembered};
+ghost use Rattle.pkopt.specs.Private.Memories.{Notes, write_held};
 ghost use Rattle.pkopt.specs.Private.Passes.{memo_use};
 
 use pkops::Op;
@@ -39,14 +39,14 @@ pub(crate) fn memo_use(op: Op) -> MemoUse
     }
 }
 
-/// The last write of each number. Writes are named by their order, 0, 1, 2, .. Most pickles number
-/// them in order, from 0 or from 1 on, and these are found at once.
+/// The last write of each number. Writes are named 0, 1, 2 and so on, in order. Most pickles number
+/// them consecutively from 0 or 1, and these are found by index.
 pub(crate) struct Memo {
-    /// The number that was written first.
+    /// The number of the first write.
     first: usize,
-    /// The last write of it, and of those behind it as long as they came in order.
-    row: Vec<u32>,
-    /// Those of the other numbers.
+    /// The last writes of that number and the following ones, as long as they came in order.
+    ordered: Vec<u32>,
+    /// The last writes of the other numbers.
     rest: BTreeMap<usize, u32>,
 }
 
@@ -54,76 +54,76 @@ impl Drop for Memo {
     fn drop(self) {
         let Memo {
             first: _first,
-            row: _row,
+            ordered: _ordered,
             rest: _rest,
         } = self;
     }
 }
 
 impl Memo {
-    /// Before the first write. It takes no memory.
+    /// An empty memo, before the first write. It allocates nothing.
     pub(crate) fn new(alloc: Global) -> Memo
-        ensures row { result.row.items ≡ [] }
+        ensures ordered { result.ordered.items ≡ [] }
         ensures rest { result.rest.entries ≡ [] }
     {
         Memo {
             first: 0,
-            row: Vec::new(alloc),
+            ordered: Vec::new(alloc),
             rest: BTreeMap::new(alloc),
         }
     }
 
-    /// How many numbers were written.
+    /// How many distinct numbers were written.
     #[inline]
     pub(crate) fn len(&self) -> usize
-        ensures { result ≡ length self.now.row.items + length self.now.rest.entries }
+        ensures { result ≡ length self.now.ordered.items + length self.now.rest.entries }
     {
-        self.row.len() + self.rest.len()
+        self.ordered.len() + self.rest.len()
     }
 
     /// The last write of a number, if there is one.
     #[inline]
     pub(crate) fn get(&self, number: usize) -> Option<u32>
-        ensures { result ≡ remembered self.now.first self.now.row.items
+        ensures { result ≡ write_held self.now.first self.now.ordered.items
             self.now.rest.entries number }
     {
         if number < self.first {
             return found(&self.rest, number);
         }
         let place = number - self.first;
-        if place < self.row.len() {
-            return Some(self.row[place]);
+        if place < self.ordered.len() {
+            return Some(self.ordered[place]);
         }
         found(&self.rest, number)
     }
 
-    /// Notes the last write of a number.
+    /// Records the last write of a number.
     #[inline]
     pub(crate) fn note(&mut self, number: usize, write: u32) -> Result<(), AllocError>
         ensures { OnOk result (Notes number write self.old self.new) }
     {
-        if self.row.is_empty() && self.rest.is_empty() {
+        if self.ordered.is_empty() && self.rest.is_empty() {
             self.first = number;
-            self.row.push(write)?;
+            self.ordered.push(write)?;
             return Ok(());
         }
         if number < self.first {
             return put(&mut self.rest, number, write);
         }
         let place = number - self.first;
-        if place < self.row.len() {
-            self.row[place] = write;
+        if place < self.ordered.len() {
+            self.ordered[place] = write;
             return Ok(());
         }
-        if place == self.row.len() && self.rest.is_empty() {
-            self.row.push(write)?;
+        if place == self.ordered.len() && self.rest.is_empty() {
+            self.ordered.push(write)?;
             return Ok(());
         }
         put(&mut self.rest, number, write)
     }
 }
 
-/// What stands under a number there.
+/// The entry of a number in the tree.
 #[inline(never)]
 fn found(rest: &BTreeMap<usize, u32>, number: usize) -> Option<u32>
     ensures { result ≡ recalled number rest.now.entries }
@@ -134,7 +134,7 @@ fn found(rest: &BTreeMap<usize, u32>, number: usize) -> Option<u32>
     }
 }
 
-/// Puts a write under a number there.
+/// Sets the entry of a number in the tree.
 #[inline(never)]
 fn put(rest: &mut BTreeMap<usize, u32>, number: usize, write: u32) -> Result<(), AllocError>
     ensures { OnOk result (rest.new.entries ≡ stored number write rest.old.entries) }

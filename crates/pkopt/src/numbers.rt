@@ -1,11 +1,11 @@
-//! The new numbers of the memo writes that stay.
+//! New numbers for the memo writes that stay.
 
 ghost use Rattle.std.specs.Prelude.{◌≡◌, ◌≤◌, IfOk, List, None, Option, Some, cond, min, suc, ℕ};
 ghost use Rattle.pkopt.specs.Private.Passes.{AreKept, AreNumbers};
 
 use std::alloc::{AllocError, Global};
 
-/// Of each write, whether some read reads it.
+/// For each write, whether some read reads it.
 fn kept_among(
     alloc: Global,
     sources: &[Option<u32>],
@@ -32,7 +32,7 @@ fn number_if(stays: bool, next: u32) -> Option<u32>
     if stays { Some(next) } else { None }
 }
 
-/// The next number after a write, no greater than the limit.
+/// The next number after a write, at most the limit.
 fn number_after(stays: bool, next: u32, limit: u32) -> u32
     requires { next ≤ limit }
     ensures { result ≡ cond stays (min (suc next) limit) next }
@@ -44,7 +44,7 @@ fn number_after(stays: bool, next: u32, limit: u32) -> u32
     }
 }
 
-/// Numbers those that stay, up to the limit, which all later ones have too.
+/// Numbers the writes that stay. From the limit on they all get the limit.
 fn numbered(alloc: Global, kept: &[bool], limit: u32) -> Result<Vec<Option<u32>>, AllocError>
     ensures { IfOk result (λ numbers. (vs : List (Option ℕ)) (writes : ℕ) →
         AreKept vs writes kept.now → AreNumbers vs writes limit numbers.items) }
@@ -58,7 +58,7 @@ fn numbered(alloc: Global, kept: &[bool], limit: u32) -> Result<Vec<Option<u32>>
     Ok(numbers)
 }
 
-/// Of each write that some read reads, its new number, or the limit where it is past that.
+/// For each write that some read reads, its new number, or the limit if the number is greater.
 pub(crate) fn new_numbers(
     alloc: Global,
     sources: &[Option<u32>],

@@ -1,9 +1,9 @@
-//! The optimized form of a pickle.
+//! Optimizes a pickle.
 
 ghost use Rattle.std.specs.Prelude.{◌≡◌, ◌<◌, ◌^◌, IfErr, IfOk, OnOk, List, [], length};
 ghost use Rattle.pkops.specs.Spelling.{Instruction};
-ghost use Rattle.pkread.specs.declared.refusal.Reason.TheVariants as reason;
-ghost use Rattle.pkopt.specs.Answer.{IsRefused, Optimizes, Checks, FailsCheck, TakesAsChecked};
+ghost use Rattle.pkread.specs.declared.Reason.TheVariants as reason;
+ghost use Rattle.pkopt.specs.Answer.{IsNotOptimized, Optimizes, Checks, FailsCheck, TakesAsChecked};
 ghost use Rattle.pkopt.specs.Private.Fates.{IsPlanFor};
 ghost use Rattle.pkopt.specs.Private.Tracing.{IsTraced};
 ghost use Rattle.pkopt.specs.Writers.{after_all, sources as sources_of};
@@ -14,13 +14,14 @@ use crate::numbers::new_numbers;
 use crate::place::any_frame;
 use crate::slim::slim_of;
 use crate::trace::Trace;
+use pkcheck::laws::same_ends;
 use pkcheck::{Policy, check, check_heard};
 use pkops::Limits;
 use pkread::laws::framed;
 use pkread::{Memory, Reason, Refusal};
 use std::alloc::{AllocError, Global};
 
-/// Why nothing comes where memory is lacking outside the check.
+/// The refusal when an allocation outside the check was refused.
 fn lacks_memory() -> Refusal
     ensures at { result.at ≡ 0 }
     ensures reason { result.reason ≡ reason.OutOfMemory }
@@ -31,7 +32,7 @@ fn lacks_memory() -> Refusal
     }
 }
 
-/// What becomes of the memo instructions of a pickle.
+/// Plans what becomes of the memo instructions of a pickle.
 fn plan_of(
     alloc: Global,
     sources: Vec<Option<u32>>,
@@ -52,8 +53,8 @@ fn plan_of(
     })
 }
 
-/// Checks the pickle at the front of the bytes, under any import. Its payloads are all held, and
-/// have one limit.
+/// Checks the pickle at the front of the bytes under any import. All its payloads are held, under
+/// one limit.
 fn checked(alloc: Global, bytes: &[u8], limits: &Limits) -> Result<(), Refusal>
     ensures ok { OnOk result (Checks limits.now bytes.now) }
     ensures err { IfErr result (λ refusal. FailsCheck limits.now bytes.now refusal) }
@@ -73,20 +74,20 @@ fn checked(alloc: Global, bytes: &[u8], limits: &Limits) -> Result<(), Refusal>
     }
 }
 
-/// A pickle that passes the check, and what is known of its memo and its frames.
+/// An accepted pickle, with what is known about its memo and its frames.
 #[derive(Drop)]
 struct Traced {
-    /// How many bytes it takes.
+    /// Its length in bytes.
     taken: u64,
     trace: Trace,
 }
 
-/// The same check, which hears of each instruction. Where memory is lacking for what it hears,
-/// it checks again with nothing heard.
+/// Checks the pickle while recording its instructions. If an allocation for the recording is
+/// refused, checks again without it.
 fn heard_check(alloc: Global, bytes: &[u8], limits: &Limits) -> Result<Traced, Refusal>
     ensures ok { IfOk result (IsTraced limits.now bytes.now) }
     ensures taken { IfOk result (λ x. TakesAsChecked limits.now bytes.now x.taken) }
-    ensures err { IfErr result (λ refusal. IsRefused limits.now bytes.now refusal) }
+    ensures err { IfErr result (λ refusal. IsNotOptimized limits.now bytes.now refusal) }
 {
     let mut source = Memory::new(bytes);
     let mut trace = Trace::new(alloc);
@@ -107,16 +108,16 @@ fn heard_check(alloc: Global, bytes: &[u8], limits: &Limits) -> Result<Traced, R
     }
 }
 
-/// A pickle in its optimized form.
-#[derive(Debug, Drop)]
+/// The optimized form of a pickle.
+#[derive(Debug, Drop, PartialEq, Eq)]
 pub struct Form {
-    /// How many bytes the pickle takes, up to and with its STOP.
+    /// The length of the pickle in bytes, up to and including STOP.
     pub taken: u64,
     /// The optimized form.
     pub bytes: Vec<u8>,
 }
 
-/// What `optimize` gives, and how many bytes the pickle takes.
+/// The optimized form, as `optimize` gives it, with the length of the original.
 ///
 /// # Errors
 ///
@@ -124,10 +125,11 @@ pub struct Form {
 pub fn optimized_form(alloc: Global, bytes: &[u8], limits: &Limits) -> Result<Form, Refusal>
     ensures ok { IfOk result (λ form. Optimizes limits.now bytes.now form.bytes.items) }
     ensures taken { IfOk result (λ form. TakesAsChecked limits.now bytes.now form.taken) }
-    ensures err { IfErr result (λ refusal. IsRefused limits.now bytes.now refusal) }
+    ensures err { IfErr result (λ refusal. IsNotOptimized limits.now bytes.now refusal) }
 {
     let Traced { taken, trace } = heard_check(alloc, bytes, limits)?;
     framed();
+    same_ends();
     let Trace {
         memo,
         sources,
@@ -153,18 +155,20 @@ pub fn optimized_form(alloc: Global, bytes: &[u8], limits: &Limits) -> Result<Fo
     Ok(Form { taken, bytes: slim })
 }
 
-/// The same pickle in less: without memo writes that nothing reads, with those that stay numbered
-/// from 0 on, and in one frame if it had any. Bytes behind its STOP are no part of it.
+/// Optimizes the pickle at the front of the bytes: drops memo writes that nothing reads, renumbers
+/// the others from 0, and uses one frame if the pickle had any. Bytes after STOP are ignored.
 ///
-/// The pickle is checked first, as `check` does it under any import, with `counted` as the limit on
-/// all payloads. Then every run of the result
-/// is a run of the pickle, whatever operations answer: it does the same in the same order, to the
-/// same operands and with the same results, and it ends alike. A refusal is that of the check; or
-/// `TooLarge` at the write whose new number would be the limit on the memo; or `OutOfMemory` at 0,
-/// where memory was lacking outside the check.
+/// The pickle is checked first, as by `check` under any import, with `counted` as the limit on all
+/// payloads. Every run of the result is a run of the pickle, whatever operations answer: it does
+/// the same things in the same order, with the same operands and results, and ends alike.
+///
+/// # Errors
+///
+/// The refusal of the check; `TooLarge` at the write whose new number would be the limit on the
+/// memo; or `OutOfMemory` at 0, if an allocation outside the check was refused.
 pub fn optimize(alloc: Global, bytes: &[u8], limits: &Limits) -> Result<Vec<u8>, Refusal>
     ensures ok { IfOk result (λ out. Optimizes limits.now bytes.now out.items) }
-    ensures err { IfErr result (λ refusal. IsRefused limits.now bytes.now refusal) }
+    ensures err { IfErr result (λ refusal. IsNotOptimized limits.now bytes.now refusal) }
 {
     match optimized_form(alloc, bytes, limits) {
         Ok(form) => Ok(form.bytes),

@@ -1,4 +1,4 @@
-//! Writes memo instructions with other numbers.
+//! Writes memo instructions with new numbers.
 
 ghost use Rattle.std.specs.Prelude.{◌≡◌, ◌++◌, ◌∷◌, [], OnOk, cond, ltb, true};
 ghost use Rattle.std.specs.Fmt.{decimal};
@@ -27,7 +27,7 @@ fn code(op: Op) -> u8
     }
 }
 
-/// Adds an opcode and the line of a number.
+/// Appends an opcode and a number as a line of digits.
 fn push_line(out: &mut Vec<u8>, op: Op, number: u32) -> Result<(), AllocError>
     requires { names_memo_entry op ≡ true }
     ensures { OnOk result (out.new.items
@@ -40,7 +40,7 @@ fn push_line(out: &mut Vec<u8>, op: Op, number: u32) -> Result<(), AllocError>
     Ok(())
 }
 
-/// Adds the shorter opcode and a number of one byte, or the longer and one of four.
+/// Appends the short opcode and a one-byte number, or the long one and a four-byte number.
 #[inline(always)]
 fn push_binary(out: &mut Vec<u8>, short: Op, long: Op, number: u32) -> Result<(), AllocError>
     requires short { names_memo_entry short ≡ true }
@@ -59,7 +59,7 @@ fn push_binary(out: &mut Vec<u8>, short: Op, long: Op, number: u32) -> Result<()
     out.extend_from_slice(&number.to_le_bytes())
 }
 
-/// Adds the instruction of a memo opcode with this number.
+/// Appends a memo instruction with this number.
 pub(crate) fn push_renumbered(out: &mut Vec<u8>, op: Op, number: u32) -> Result<(), AllocError>
     ensures { OnOk result (names_memo_entry op ≡ true → out.new.items
         ≡ out.old.items ++ spelling (renumbered number (instruction op Nothing))) }

@@ -3,7 +3,8 @@
 ghost use Rattle.std.specs.Prelude.{◌≡◌, ◌<◌, ◌≤◌, ◌+◌, ◌-◌, ◌++◌, ◌^◌, IfErr, IfOk, List, OnOk};
 ghost use Rattle.std.specs.Prelude.{drop, length, replicate, take};
 ghost use Rattle.pkops.specs.Spelling.{Instruction};
-ghost use Rattle.pkopt.specs.Private.Fates.{Adds, Aims, Emitted, IsHalted, IsSlim, StopsSlim};
+ghost use Rattle.pkopt.specs.Private.Fates.{AddsPlace, Aims, Emitted, FailsPlace, IsSlim};
+ghost use Rattle.pkopt.specs.Private.Fates.{StopsSlim};
 ghost use Rattle.pkopt.specs.Private.Fates.{reads_after, refusal_at, writes_after};
 ghost use Rattle.pkopt.specs.Private.Passes.{memo_use};
 
@@ -15,21 +16,21 @@ use pkops::Op;
 use pkread::{Reason, Refusal};
 use std::alloc::{AllocError, Global};
 
-/// The slim form of a pickle as far as it is written.
+/// The slim form of a pickle, as far as it is written.
 #[derive(Drop)]
 pub(crate) struct Slim {
     /// How many memo writes the pickle had so far.
     writes: usize,
-    /// How many reads.
+    /// How many memo reads it had so far.
     reads: usize,
-    /// Room for a FRAME if there is to be one, and the bytes of what stays, but for those that are
-    /// not copied yet.
+    /// Room for a FRAME if there is to be one, then the bytes of the slim form, except those not
+    /// copied yet.
     pub bytes: Vec<u8>,
-    /// Where in the pickle these begin, which end where the pass stands.
+    /// The offset in the pickle of the bytes not copied yet, which end where the pass is.
     from: usize,
 }
 
-/// How many memo writes there are behind an instruction.
+/// The number of memo writes after an instruction.
 fn writes_after(op: Op, writes: usize) -> usize
     requires { writes < 2 ^ 63 }
     ensures is { result ≡ writes_after (memo_use op) writes }
@@ -42,7 +43,7 @@ fn writes_after(op: Op, writes: usize) -> usize
     }
 }
 
-/// How many reads.
+/// The number of memo reads after an instruction.
 fn reads_after(op: Op, reads: usize) -> usize
     requires { reads < 2 ^ 63 }
     ensures is { result ≡ reads_after (memo_use op) reads }
@@ -55,7 +56,7 @@ fn reads_after(op: Op, reads: usize) -> usize
 }
 
 impl Slim {
-    /// Before the first instruction, with so much room in front, and for so many bytes behind it.
+    /// An empty slim form after `room` zero bytes, with capacity for `count` more.
     fn new(alloc: Global, room: usize, count: usize) -> Result<Slim, AllocError>
         ensures writes { IfOk result (λ slim. slim.writes ≡ 0) }
         ensures reads { IfOk result (λ slim. slim.reads ≡ 0) }
@@ -72,7 +73,7 @@ impl Slim {
         })
     }
 
-    /// Copies what stays as it is up to here, and leaves out what stands from here to there.
+    /// Copies the unchanged bytes up to `here`, and skips those up to `there`.
     fn copy(&mut self, bytes: &[u8], here: usize, there: usize) -> Result<(), AllocError>
         requires low { self.old.from ≤ here }
         requires high { here ≤ length bytes.now }
@@ -87,8 +88,8 @@ impl Slim {
         Ok(())
     }
 
-    /// Writes what is left of the instruction at a place. What stays as it is need not be copied
-    /// before something else stands behind it.
+    /// Writes what is left of the instruction at a place. Unchanged bytes are copied only when
+    /// something else follows them.
     fn emit(&mut self, fate: Fate, place: Place, bytes: &[u8]) -> Result<(), AllocError>
         requires low { self.old.from ≤ place.at }
         requires high { place.at + place.size ≤ length bytes.now }
@@ -109,7 +110,7 @@ impl Slim {
         }
     }
 
-    /// Goes on over one more instruction that isn't plain.
+    /// Processes one more instruction that is not plain.
     fn add(&mut self, plan: &Plan, place: Place, bytes: &[u8]) -> Result<(), Reason>
         requires writes { self.old.writes < 2 ^ 63 }
         requires reads { self.old.reads < 2 ^ 63 }
@@ -117,8 +118,8 @@ impl Slim {
         requires high { place.at + place.size ≤ length bytes.now }
         ensures few_writes { self.new.writes ≤ self.old.writes + 1 }
         ensures few_reads { self.new.reads ≤ self.old.reads + 1 }
-        ensures ok { OnOk result (Adds plan.now bytes.now place self.old self.new) }
-        ensures err { IfErr result (λ reason. IsHalted plan.now place.op self.old reason) }
+        ensures ok { OnOk result (AddsPlace plan.now bytes.now place self.old self.new) }
+        ensures err { IfErr result (λ reason. FailsPlace plan.now place.op self.old reason) }
     {
         let fate = fate_of(plan, place.op, self.writes, self.reads);
         if let Fate::IsPast = fate {
@@ -133,7 +134,7 @@ impl Slim {
     }
 }
 
-/// The refusal of an instruction. Want of memory has no place.
+/// The refusal of an instruction. A refused allocation is reported at offset 0.
 fn refused(at: u64, reason: Reason) -> Refusal
     ensures { result ≡ refusal_at at reason }
 {
@@ -143,8 +144,8 @@ fn refused(at: u64, reason: Reason) -> Refusal
     }
 }
 
-/// The slim form of the pickle at the front of the bytes, whose instructions that aren't plain
-/// stand at these places, behind so much room.
+/// The slim form of the pickle at the front of the bytes, after `room` zero bytes. `places` are
+/// those of its instructions that are not plain.
 #[inline(never)]
 pub(crate) fn slim_of(
     alloc: Global,

@@ -1,10 +1,10 @@
-//! Follows the memo and the frames of a pickle while it is checked.
+//! Records the memo and the frames of a pickle while it is checked.
 
 ghost use Rattle.std.specs.Prelude.{◌≡◌, ◌+◌, ◌++◌, ◌∷◌, [], OnOk};
 ghost use Rattle.pkops.specs.Inst.{instruction_of};
 ghost use Rattle.pkops.specs.Operands.{memo_number};
-ghost use Rattle.pkopt.specs.Private.Memories.{Notes, remembered};
-ghost use Rattle.pkopt.specs.Private.Passes.{Begins, Steps};
+ghost use Rattle.pkopt.specs.Private.Memories.{Notes, write_held};
+ghost use Rattle.pkopt.specs.Private.Passes.{IsNewTrace, NotesStep};
 
 use crate::memo::{Memo, MemoUse, memo_use};
 use crate::place::{Place, is_plain, place_of};
@@ -12,30 +12,30 @@ use pkcheck::Listener;
 use pkops::Inst;
 use std::alloc::{AllocError, Global};
 
-/// The number of the memo entry that an instruction names, where it names one.
+/// The memo number that an instruction names; 0 if it names none.
 fn number_of(inst: &Inst<'_>) -> usize
     ensures { result ≡ memo_number (instruction_of inst.now) }
 {
     inst.memo_number().unwrap_or(0) as usize
 }
 
-/// What is known of the memo and the frames along a pickle.
+/// What is known so far about the memo and the frames of a pickle.
 #[derive(Drop)]
 pub(crate) struct Trace {
     /// The last write of each number.
     pub memo: Memo,
-    /// How many writes there were. Of 2^32 writes the rest of this would take some 100 GB.
+    /// The number of writes. It fits: with 2^32 writes the other fields would take some 100 GB.
     pub writes: u32,
-    /// The write that each read reads.
+    /// For each read, the write that it reads.
     pub sources: Vec<Option<u32>>,
-    /// Where each instruction stands that isn't plain.
+    /// The places of the instructions that are not plain.
     pub places: Vec<Place>,
 }
 
 impl Trace {
     /// Before the first instruction.
     pub(crate) fn new(alloc: Global) -> Trace
-        ensures { Begins result }
+        ensures { IsNewTrace result }
     {
         Trace {
             memo: Memo::new(alloc),
@@ -45,7 +45,7 @@ impl Trace {
         }
     }
 
-    /// Notes a write under this number.
+    /// Records a write under this number.
     fn write(&mut self, number: usize) -> Result<(), AllocError>
         ensures writes { OnOk result (self.new.writes ≡ self.old.writes + 1) }
         ensures memo { OnOk result (Notes number self.old.writes self.old.memo self.new.memo) }
@@ -60,12 +60,12 @@ impl Trace {
         Ok(())
     }
 
-    /// Notes a read of this number.
+    /// Records a read of this number.
     fn read(&mut self, number: usize) -> Result<(), AllocError>
         ensures writes { self.new.writes ≡ self.old.writes }
         ensures memo { self.new.memo ≡ self.old.memo }
         ensures sources { OnOk result (self.new.sources.items ≡ self.old.sources.items
-            ++ remembered self.old.memo.first self.old.memo.row.items
+            ++ write_held self.old.memo.first self.old.memo.ordered.items
             self.old.memo.rest.entries number ∷ []) }
         ensures places { self.new.places.items ≡ self.old.places.items }
     {
@@ -74,9 +74,9 @@ impl Trace {
         Ok(())
     }
 
-    /// Notes what one more instruction does to the memo.
+    /// Records what one more instruction does to the memo.
     fn follow(&mut self, inst: &Inst<'_>) -> Result<(), AllocError>
-        ensures step { OnOk result (Steps (instruction_of inst.now) self.old self.new) }
+        ensures step { OnOk result (NotesStep (instruction_of inst.now) self.old self.new) }
         ensures places { self.new.places.items ≡ self.old.places.items }
     {
         match memo_use(inst.op()) {

@@ -4,8 +4,8 @@ use Rattle.pkops.specs.Admitted.{is_admitted}
 use Rattle.pkops.specs.Contents.{IsGood}
 use Rattle.pkops.specs.Scanning.{IsWithin}
 use Rattle.pkops.specs.Spelling.{Argument, Number, Instruction}
-use Rattle.pkops.specs.declared.op.Op.{Op}
-use Rattle.pkops.specs.declared.op.Op.TheVariants as op
+use Rattle.pkops.specs.declared.Op.{Op}
+use Rattle.pkops.specs.declared.Op.TheVariants as op
 use Rattle.pkread.specs.declared.refusal.Reason.{Reason}
 use Rattle.pkread.specs.declared.refusal.Reason.TheVariants.{ExtensionCode, UnsupportedProtocol}
 

@@ -1,8 +1,9 @@
 -- What a call of `again` does behind STOP.
-use Rattle.std.specs.Prelude.{◌≡◌, ℕ, ◌<◌, Bool, true, false, List, [], ◌∷◌, Option, Result, Ok, MatchResult}
+use Rattle.std.specs.Prelude.{◌≡◌, ℕ, ◌<◌, Bool, true, false, List, [], ◌∷◌, Option, Result, Ok}
+use Rattle.std.specs.Prelude.{MatchResult}
 use Rattle.std.specs.Io.KnownBytes.{IsAtEnd}
 use Rattle.pkread.specs.Core.{CoreView, Open, Refused}
-use Rattle.pkread.specs.Reading.{State, source_of}
+use Rattle.pkread.specs.Reading.{ReaderState, source_of}
 use Rattle.pkread.specs.Rows.{Sight, Takes, Fails, Refuses, sight, all_bytes}
 use Rattle.pkread.specs.Sequence.{CountsAt}
 use Rattle.pkread.specs.declared.reader.Reader.{Reader}
@@ -18,19 +19,19 @@ WhyNoByte old new taken OutOfMemory = Takes old new []
 WhyNoByte old new taken _ = ⊥
 
 -- the reader refuses at the place that it has come to, and for ever
-pub record RefusesAgain (old : State) (r : Refusal) (new : State) : Type 0 where
+pub record RefusesAgain (old : ReaderState) (r : Refusal) (new : ReaderState) : Type 0 where
   pub place : r.at ≡ old.taken
   pub why : WhyNoByte old.source new.source old.taken r.reason
   pub after : new ≡ record old { source = new.source; phase = Refused r }
 
 -- the source is at its end, or it is not, and the reader is open to the next instruction
-abbrev pub AnswersAgain : State → State → Bool → Type 0
+abbrev pub AnswersAgain : ReaderState → ReaderState → Bool → Type 0
 AnswersAgain old new false =
     IsAtEnd new.source.left × (new ≡ record old { source = new.source })
 AnswersAgain old new true = new ≡ record old { source = new.source; phase = Open }
 
 -- one call of `again`, of a reader that has ended. Where it answers, nothing is counted as taken
-abbrev pub StepsAgain : State → Result Bool Refusal → State → Type 0
+abbrev pub StepsAgain : ReaderState → Result Bool Refusal → ReaderState → Type 0
 StepsAgain old result new =
     MatchResult result
     (λ more. (old.taken < all_bytes)
@@ -50,6 +51,6 @@ TakesOneAhead left failures old _ new = new.core.ahead ≡ []
 -- where it refuses, it refuses the next instruction, of which it took no byte, under any limit
 abbrev pub NoByteIsRefused : Type 0
 NoByteIsRefused =
-    (limit : ℕ) (old new : State) (r : Refusal) → RefusesAgain old r new →
+    (limit : ℕ) (old new : ReaderState) (r : Refusal) → RefusesAgain old r new →
     Refuses limit old.source new.source [] old.taken old.taken r.reason
     × CountsAt r.reason old.source.failures new.source.failures

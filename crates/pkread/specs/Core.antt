@@ -1,8 +1,8 @@
 -- What contracts see of a reader, its source aside.
 use Rattle.std.specs.Prelude.{◌≡◌, ⊤, ℕ, ◌<◌, Bool, true, false, List, [], ◌∷◌}
 use Rattle.pkops.specs.Limits.{Bounds}
-use Rattle.pkops.specs.declared.op.Op.{Op}
-use Rattle.pkops.specs.declared.op.Op.TheVariants.{Stop}
+use Rattle.pkops.specs.declared.Op.{Op}
+use Rattle.pkops.specs.declared.Op.TheVariants.{Stop}
 use Rattle.pkread.specs.Held.{Held}
 use Rattle.pkread.specs.Rows.{all_bytes}
 use Rattle.pkread.specs.declared.state.Phase as declared
@@ -27,10 +27,10 @@ ahead_of true bytes = bytes
 ahead_of false bytes = []
 
 -- at most one byte is taken ahead, and it is still to be counted among those taken
-abbrev pub Begins : List ℕ → ℕ → Type 0
-Begins [] taken = ⊤
-Begins (byte ∷ []) taken = taken < all_bytes
-Begins (byte ∷ more ∷ bytes) taken = ⊥
+abbrev pub AtMostOneAhead : List ℕ → ℕ → Type 0
+AtMostOneAhead [] taken = ⊤
+AtMostOneAhead (byte ∷ []) taken = taken < all_bytes
+AtMostOneAhead (byte ∷ more ∷ bytes) taken = ⊥
 
 -- bytes are taken ahead only where the reader goes on with the next instruction
 abbrev pub NoneIfClosed : Phase → List ℕ → Type 0

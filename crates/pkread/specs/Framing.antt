@@ -1,6 +1,8 @@
 -- Frames (PEP 3154): first as intervals of offsets, and then as the rule that counts the bytes of a
 -- frame that are still open.
-use Rattle.std.specs.Prelude.{◌≡◌, ℕ, ◌+◌, ◌-◌, ◌<◌, ◌≤◌, cond, nat_lt, nat_eq, List, [], ◌∷◌, ◌++◌, length, All, Contains, ◌⊎◌, Option, None, Some, MatchOption, MatchResult, Result, option_map}
+use Rattle.std.specs.Prelude.{◌≡◌, ℕ, ◌+◌, ◌-◌, ◌<◌, ◌≤◌, cond, nat_lt, nat_eq, List, [], ◌∷◌, ◌++◌}
+use Rattle.std.specs.Prelude.{length, All, Contains, ◌⊎◌, Option, None, Some, MatchOption}
+use Rattle.std.specs.Prelude.{MatchResult, Result, option_map}
 
 -- the part of an instruction in the frame rules: a FRAME with its argument, STOP, or any other
 pub data Role : Type 0 where
@@ -43,9 +45,9 @@ contents_of from stop = []
 contents_of from other = []
 
 -- the contents of each FRAME of a list that is laid from `at` on
-abbrev pub contents : ℕ → List Piece → List Span
-contents at [] = []
-contents at (p ∷ ps) = contents_of (at + p.length) p.role ++ contents (at + p.length) ps
+abbrev pub frame_spans : ℕ → List Piece → List Span
+frame_spans at [] = []
+frame_spans at (p ∷ ps) = contents_of (at + p.length) p.role ++ frame_spans (at + p.length) ps
 
 -- the span of a piece that stands behind others
 abbrev pub span_after : List Piece → Piece → Span
@@ -75,10 +77,10 @@ IsStop other = ⊥
 -- meets no contents; a FRAME meets none; and at STOP no earlier contents go on behind it
 pub record IsFramed (before : List Piece) (p : Piece) (after : List Piece) : Type 0 where
   pub whole :
-      LiesInOne (span_after before p) (contents 0 before)
-      ⊎ MeetsNone (span_after before p) (contents 0 (before ++ p ∷ after))
-  pub frame : IsFrame p.role → MeetsNone (span_after before p) (contents 0 (before ++ p ∷ after))
-  pub stop : IsStop p.role → (c : Span) → Contains (contents 0 before) c →
+      LiesInOne (span_after before p) (frame_spans 0 before)
+      ⊎ MeetsNone (span_after before p) (frame_spans 0 (before ++ p ∷ after))
+  pub frame : IsFrame p.role → MeetsNone (span_after before p) (frame_spans 0 (before ++ p ∷ after))
+  pub stop : IsStop p.role → (c : Span) → Contains (frame_spans 0 before) c →
       c.to ≤ (span_after before p).to
 
 -- each piece is framed
@@ -117,14 +119,14 @@ one_later None f = Some 0
 one_later (Some n) f = option_map (λ k. k + 1) (f n)
 
 -- go on with a number, where there is one
-abbrev pub and_then : Option ℕ → (ℕ → Option ℕ) → Option ℕ
-and_then None f = None
-and_then (Some n) f = f n
+abbrev pub then_counted : Option ℕ → (ℕ → Option ℕ) → Option ℕ
+then_counted None f = None
+then_counted (Some n) f = f n
 
 -- the bytes left open after all the pieces, or None where one of them is refused
 abbrev pub counted_all : ℕ → List Piece → Option ℕ
 counted_all n [] = Some n
-counted_all n (p ∷ ps) = and_then (counted n p) (λ m. counted_all m ps)
+counted_all n (p ∷ ps) = then_counted (counted n p) (λ m. counted_all m ps)
 
 -- the place of the first piece that the rule refuses, where n bytes are open before the list
 abbrev pub refused_at : ℕ → List Piece → Option ℕ
@@ -137,6 +139,6 @@ CountingIsExact = (ps : List Piece) → All (λ p. 0 < p.length) ps →
     MatchOption (refused_at 0 ps) (Framed ps) (FirstUnframed ps)
 
 -- what a call does that takes the piece, where `old` bytes were open and then `new` are
-abbrev pub Took : {A E : Type 0} → ℕ → Piece → Result A E → ℕ → Type 0
-Took old p result new =
+abbrev pub TakesPiece : {A E : Type 0} → ℕ → Piece → Result A E → ℕ → Type 0
+TakesPiece old p result new =
     MatchResult result (λ _. counted old p ≡ Some new) (λ _. (counted old p ≡ None) × (new ≡ old))

@@ -1,12 +1,13 @@
 -- The instructions of a slice, one after the other (CPython's `pickletools.genops`).
-use Rattle.std.specs.Prelude.{◌≡◌, ℕ, ◌+◌, Bool, true, false, cond, List, ◌++◌, length, Option, None, Result, MatchBool, MatchOption, MatchResult}
+use Rattle.std.specs.Prelude.{◌≡◌, ℕ, ◌+◌, Bool, true, false, cond, List, ◌++◌, length, Option}
+use Rattle.std.specs.Prelude.{None, Result, MatchBool, MatchOption, MatchResult}
 use Rattle.std.specs.Iterator.{Count, at_most}
 use Rattle.pkops.specs.Inst.{instruction_of}
 use Rattle.pkops.specs.Scanning.{Begun}
 use Rattle.pkops.specs.Spelling.{Instruction, spelling}
-use Rattle.pkops.specs.declared.inst.Inst.{Inst}
-use Rattle.pkops.specs.declared.op.Op.{Op}
-use Rattle.pkops.specs.declared.op.Op.TheVariants.{Stop}
+use Rattle.pkops.specs.declared.Inst.{Inst}
+use Rattle.pkops.specs.declared.Op.{Op}
+use Rattle.pkops.specs.declared.Op.TheVariants.{Stop}
 use Rattle.pkread.specs.Admission.{IsAllowed}
 use Rattle.pkread.specs.Rows.{IsAmiss}
 use Rattle.pkread.specs.declared.refusal.Reason.{Reason}
@@ -40,15 +41,15 @@ pub record GivesItem (old : Walk) (at : ℕ) (i : Instruction) (new : Walk) : Ty
   pub done : new.done ≡ is_stop i.op
 
 -- what each reason says of the bytes that are left: that they end too early, or what is amiss
-abbrev pub IsRefused : ℕ → List ℕ → Reason → Type 0
-IsRefused limit bytes Truncated = Begun limit bytes
-IsRefused limit bytes reason = IsAmiss limit bytes reason
+abbrev pub EndsOrIsAmiss : ℕ → List ℕ → Reason → Type 0
+EndsOrIsAmiss limit bytes Truncated = Begun limit bytes
+EndsOrIsAmiss limit bytes reason = IsAmiss limit bytes reason
 
 -- the bytes from the place on show the reason and no other, and nothing more will be given
 pub record RefusesItem (old : Walk) (r : Refusal) (new : Walk) : Type 0 where
   pub place : r.at ≡ old.at
-  pub why : IsRefused old.limit old.bytes r.reason
-  pub alone : (other : Reason) → IsRefused old.limit old.bytes other → other ≡ r.reason
+  pub why : EndsOrIsAmiss old.limit old.bytes r.reason
+  pub alone : (other : Reason) → EndsOrIsAmiss old.limit old.bytes other → other ≡ r.reason
   pub after : new ≡ record old { done = true }
 
 -- an item is an instruction with its place, or a refusal

@@ -1,13 +1,14 @@
 -- What a call of `next_head` does: a byte payload is taken and not held, and has a limit of its
 -- own.
-use Rattle.std.specs.Prelude.{◌≡◌, ◌⊎◌, ℕ, ◌+◌, ◌≤◌, false, IsTrue, List, length, max, Result, Ok, Err, MatchResult}
+use Rattle.std.specs.Prelude.{◌≡◌, ◌⊎◌, ℕ, ◌+◌, ◌≤◌, false, IsTrue, List, length, max, Result, Ok}
+use Rattle.std.specs.Prelude.{Err, MatchResult}
 use Rattle.pkops.specs.Inst.{instruction_of}
 use Rattle.pkops.specs.Payloads.{HasCount, is_passed, payload_limit_at}
 use Rattle.pkops.specs.Spelling.{Counted, instruction, spelling}
-use Rattle.pkops.specs.declared.op.Op.{Op}
+use Rattle.pkops.specs.declared.Op.{Op}
 use Rattle.pkread.specs.Core.{Phase, Open, Ended, Refused}
 use Rattle.pkread.specs.Admission.{IsAllowed}
-use Rattle.pkread.specs.Reading.{Gives, State}
+use Rattle.pkread.specs.Reading.{Gives, ReaderState}
 use Rattle.pkread.specs.Rows.{Refuses, Sight, Takes, all_bytes}
 use Rattle.pkread.specs.Sequence.{CountsAt}
 use Rattle.pkread.specs.declared.reader.Head.{Head}
@@ -15,16 +16,16 @@ use Rattle.pkread.specs.declared.reader.Head.TheVariants as head
 use Rattle.pkread.specs.declared.refusal.Refusal.{Refusal}
 
 -- the instruction of a passed opcode with this payload is one that a reader gives
-pub record IsPassed (limit : ℕ) (op : Op) (count : ℕ) (payload : List ℕ) : Type 0 where
+pub record IsSkipped (limit : ℕ) (op : Op) (count : ℕ) (payload : List ℕ) : Type 0 where
   pub passed : IsTrue (is_passed op)
   pub count_is : length payload ≡ count
   pub allowed : IsAllowed limit (instruction op (Counted payload))
 
 -- the bytes taken spell an instruction of the opcode, with some payload of so many bytes
-pub record PassesBy (limit : ℕ) (op : Op) (count : ℕ) (old new : Sight)
+pub record SkipsBy (limit : ℕ) (op : Op) (count : ℕ) (old new : Sight)
     (before after : ℕ) : Type 0 where
   pub payload : List ℕ
-  pub one : IsPassed limit op count payload
+  pub one : IsSkipped limit op count payload
   pub bytes : Takes old new (spelling (instruction op (Counted payload)))
   pub taken : after ≡ before + length (spelling (instruction op (Counted payload)))
 
@@ -37,9 +38,10 @@ HoldsFew old bytes new =
     × (is_passed op ≡ false) × HasCount op bytes count × (new ≤ max old (count + 9)))
 
 -- a payload was passed over, of the instruction at the place
-pub record Passes (old : State) (at : ℕ) (op : Op) (count : ℕ) (new : State) : Type 0 where
+pub record Skips (old : ReaderState) (at : ℕ) (op : Op) (count : ℕ) (new : ReaderState)
+    : Type 0 where
   pub place : at ≡ old.taken
-  pub passes : PassesBy old.limits.passed op count old.source new.source old.taken new.taken
+  pub passes : SkipsBy old.limits.passed op count old.source new.source old.taken new.taken
   pub within : new.taken ≤ all_bytes
   pub least : old.most ≤ new.most
   pub most : new.most ≤ max old.most 131_075
@@ -47,7 +49,7 @@ pub record Passes (old : State) (at : ℕ) (op : Op) (count : ℕ) (new : State)
 
 -- the bytes from the place on were taken, and show the reason, as at a refusal of `next`; where
 -- they begin an instruction of a passed opcode, under the limit on payloads passed over
-pub record RefusesHead (old : State) (r : Refusal) (new : State) : Type 0 where
+pub record RefusesHead (old : ReaderState) (r : Refusal) (new : ReaderState) : Type 0 where
   pub place : r.at ≡ old.taken
   pub why : (bytes : List ℕ)
       × Refuses (payload_limit_at old.limits bytes)
@@ -58,40 +60,40 @@ pub record RefusesHead (old : State) (r : Refusal) (new : State) : Type 0 where
   pub phase : new.phase ≡ Refused r
 
 -- an open reader gives an instruction or passes over one, and never that it has ended
-abbrev pub GivesHead : State → State → Head → Type 0
+abbrev pub GivesHead : ReaderState → ReaderState → Head → Type 0
 GivesHead old new (head.Inst at inst) =
     Gives old at (instruction_of inst) new
     × (is_passed (instruction_of inst).op ≡ false)
     × HoldsFew old.most (spelling (instruction_of inst)) new.most
-GivesHead old new (head.Passed at op count) = Passes old at op count new
+GivesHead old new (head.Passed at op count) = Skips old at op count new
 GivesHead old new head.Ended = ⊥
 
 -- a call goes by the phase, as a call of `next` does
-abbrev pub StepsHeadFrom : Phase → State → Result Head Refusal → State → Type 0
+abbrev pub StepsHeadFrom : Phase → ReaderState → Result Head Refusal → ReaderState → Type 0
 StepsHeadFrom Open old result new =
     MatchResult result (GivesHead old new) (λ r. RefusesHead old r new)
 StepsHeadFrom Ended old result new = (result ≡ Ok head.Ended) × (new ≡ old)
 StepsHeadFrom (Refused r) old result new = (result ≡ Err r) × (new ≡ old)
 
 -- one call of `next_head`
-abbrev pub StepsHead : State → Result Head Refusal → State → Type 0
+abbrev pub StepsHead : ReaderState → Result Head Refusal → ReaderState → Type 0
 StepsHead old result new =
     (new.limits ≡ old.limits) × StepsHeadFrom old.phase old result new
 
 -- the place is known at once, and that the instruction is allowed
-abbrev pub ShowsHead : State → Head → Type 0
+abbrev pub ShowsHead : ReaderState → Head → Type 0
 ShowsHead old (head.Inst at inst) =
     (at ≡ old.taken) × IsAllowed old.limits.counted (instruction_of inst)
 ShowsHead old (head.Passed at op count) =
-    (at ≡ old.taken) × (payload : List ℕ) × IsPassed old.limits.passed op count payload
+    (at ≡ old.taken) × (payload : List ℕ) × IsSkipped old.limits.passed op count payload
 ShowsHead old head.Ended = ⊥
 
 -- the answer by the phase, with no word of the state after
-abbrev pub ShowsHeadFrom : Phase → State → Result Head Refusal → Type 0
+abbrev pub ShowsHeadFrom : Phase → ReaderState → Result Head Refusal → Type 0
 ShowsHeadFrom Open old result = MatchResult result (ShowsHead old) (λ r. r.at ≡ old.taken)
 ShowsHeadFrom Ended old result = result ≡ Ok head.Ended
 ShowsHeadFrom (Refused r) old result = result ≡ Err r
 
 -- what is known of an answer while its instruction is still lent
-abbrev pub ShowsAHead : State → Result Head Refusal → Type 0
+abbrev pub ShowsAHead : ReaderState → Result Head Refusal → Type 0
 ShowsAHead old result = ShowsHeadFrom old.phase old result

@@ -1,9 +1,10 @@
 -- Instructions as the frame rules see them.
 use Rattle.std.specs.Prelude.{◌≡◌, ℕ, List, [], ◌∷◌, ◌++◌, length, map, None, Some}
-use Rattle.pkops.specs.declared.op.Op.{Op}
-use Rattle.pkops.specs.declared.op.Op.TheVariants.{Frame, Stop}
+use Rattle.pkops.specs.declared.Op.{Op}
+use Rattle.pkops.specs.declared.Op.TheVariants.{Frame, Stop}
 use Rattle.pkops.specs.Spelling.{Argument, Number, Instruction, spelling}
-use Rattle.pkread.specs.Framing.{Framed, IsFramed, Piece, Role, counted, counted_all, frame, stop, other}
+use Rattle.pkread.specs.Framing.{Framed, IsFramed, Piece, Role, counted, counted_all, frame, stop}
+use Rattle.pkread.specs.Framing.{other}
 
 -- the part that an opcode has in the frame rules; n is the argument where it is FRAME
 abbrev pub role_of : Op → ℕ → Role

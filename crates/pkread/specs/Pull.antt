@@ -1,5 +1,6 @@
 -- What a pull does to the bytes that a source has left and to its count of failures.
-use Rattle.std.specs.Prelude.{◌≡◌, ℕ, ◌+◌, ◌%◌, ◌^◌, ◌<◌, ◌≤◌, List, length, take, ⊤, MatchResult, Result, Option}
+use Rattle.std.specs.Prelude.{◌≡◌, ℕ, ◌+◌, ◌%◌, ◌^◌, ◌<◌, ◌≤◌, List, length, take, ⊤, MatchResult}
+use Rattle.std.specs.Prelude.{Result, Option}
 use Rattle.std.specs.Io.KnownBytes.{Consumes, IsAtEnd}
 use Rattle.pkread.specs.declared.source.Memory.{Memory}
 use Rattle.pkread.specs.declared.source.Input.{Input}

@@ -1,5 +1,6 @@
 -- What contracts see of a reader, and what a call of `next` does.
-use Rattle.std.specs.Prelude.{◌≡◌, ◌≢◌, ℕ, ◌+◌, ◌≤◌, Bool, true, false, List, length, max, Option, Result, Ok, Err, MatchResult, []}
+use Rattle.std.specs.Prelude.{◌≡◌, ◌≢◌, ℕ, ◌+◌, ◌≤◌, Bool, true, false, List, length, max, Option}
+use Rattle.std.specs.Prelude.{Result, Ok, Err, MatchResult, []}
 use base.Fml.{GName}
 use Rattle.pkops.specs.Inst.{instruction_of}
 use Rattle.pkops.specs.Limits.{Bounds}
@@ -27,7 +28,7 @@ source_name r = r.source.ghost_name
 -- the sight of the source, the number of bytes taken, the limits, the most bytes ever held, and how
 -- the reader goes on. A byte that was taken ahead counts with the instruction that it begins: until
 -- that is taken, the source is seen as before it, and it is not among the bytes taken
-pub record State : Type 0 where
+pub record ReaderState : Type 0 where
   pub source : Sight
   pub taken : ℕ
   pub limits : Bounds
@@ -35,7 +36,7 @@ pub record State : Type 0 where
   pub phase : Phase
 
 -- the state of a reader, by the ghost members of its source's type
-abbrev pub state : {R : Type 0} → (R → Option (List ℕ)) → (R → ℕ) → Reader R CoreView → State
+abbrev pub state : {R : Type 0} → (R → Option (List ℕ)) → (R → ℕ) → Reader R CoreView → ReaderState
 state left failures r = record {
   source = unread r.core.ahead (sight left failures (source_of r));
   taken = r.core.taken;
@@ -45,7 +46,7 @@ state left failures r = record {
 }
 
 -- the state of a new reader
-abbrev pub begun : Sight → Bounds → State
+abbrev pub begun : Sight → Bounds → ReaderState
 begun source limits = record {
   source = source;
   taken = 0;
@@ -61,7 +62,7 @@ is_ended Ended = true
 is_ended (Refused r) = false
 
 -- the last instruction given was STOP, and nothing was refused since
-abbrev pub has_ended : State → Bool
+abbrev pub has_ended : ReaderState → Bool
 has_ended s = is_ended s.phase
 
 -- the reader holds the same `&mut`
@@ -77,7 +78,7 @@ abbrev pub TakesNoneAhead : {R : Type 0} → Reader R CoreView → Type 0
 TakesNoneAhead r = r.core.ahead ≡ []
 
 -- the instruction given is the one that the bytes taken spell, at the place where they begin
-pub record Gives (old : State) (at : ℕ) (i : Instruction) (new : State) : Type 0 where
+pub record Gives (old : ReaderState) (at : ℕ) (i : Instruction) (new : ReaderState) : Type 0 where
   pub place : at ≡ old.taken
   pub allowed : IsAllowed old.limits.counted i
   pub bytes : Takes old.source new.source (spelling i)
@@ -94,7 +95,7 @@ pub record Raises (old : ℕ) (bytes : List ℕ) (reason : Reason) (new : ℕ) :
 
 -- the bytes from the place on were taken, and show the reason; the count of failures goes up by one
 -- at Source alone
-pub record RefusesAt (old : State) (r : Refusal) (new : State) : Type 0 where
+pub record RefusesAt (old : ReaderState) (r : Refusal) (new : ReaderState) : Type 0 where
   pub place : r.at ≡ old.taken
   pub why : (bytes : List ℕ) ×
       Refuses old.limits.counted old.source new.source bytes old.taken new.taken r.reason ×
@@ -103,33 +104,33 @@ pub record RefusesAt (old : State) (r : Refusal) (new : State) : Type 0 where
   pub phase : new.phase ≡ Refused r
 
 -- an open reader gives an instruction, and never that it has ended
-abbrev pub GivesNext : State → State → Next → Type 0
+abbrev pub GivesNext : ReaderState → ReaderState → Next → Type 0
 GivesNext old new (next.Inst at inst) = Gives old at (instruction_of inst) new
 GivesNext old new next.Ended = ⊥
 
 -- a call goes by the phase: an open reader gives or refuses; after STOP and after a refusal it
 -- answers the same for ever, and nothing changes
-abbrev pub StepsFrom : Phase → State → Result Next Refusal → State → Type 0
+abbrev pub StepsFrom : Phase → ReaderState → Result Next Refusal → ReaderState → Type 0
 StepsFrom Open old result new = MatchResult result (GivesNext old new) (λ r. RefusesAt old r new)
 StepsFrom Ended old result new = (result ≡ Ok next.Ended) × (new ≡ old)
 StepsFrom (Refused r) old result new = (result ≡ Err r) × (new ≡ old)
 
 -- one call of `next`
-abbrev pub Steps : State → Result Next Refusal → State → Type 0
+abbrev pub Steps : ReaderState → Result Next Refusal → ReaderState → Type 0
 Steps old result new = (new.limits ≡ old.limits) × StepsFrom old.phase old result new
 
 -- the place is known at once, and that the instruction is allowed
-abbrev pub ShowsNext : State → Next → Type 0
+abbrev pub ShowsNext : ReaderState → Next → Type 0
 ShowsNext old (next.Inst at inst) =
     (at ≡ old.taken) × IsAllowed old.limits.counted (instruction_of inst)
 ShowsNext old next.Ended = ⊥
 
 -- the answer by the phase, with no word of the state after
-abbrev pub ShowsFrom : Phase → State → Result Next Refusal → Type 0
+abbrev pub ShowsFrom : Phase → ReaderState → Result Next Refusal → Type 0
 ShowsFrom Open old result = MatchResult result (ShowsNext old) (λ r. r.at ≡ old.taken)
 ShowsFrom Ended old result = result ≡ Ok next.Ended
 ShowsFrom (Refused r) old result = result ≡ Err r
 
 -- what is known of an answer while its instruction is still lent
-abbrev pub Shows : State → Result Next Refusal → Type 0
+abbrev pub Shows : ReaderState → Result Next Refusal → Type 0
 Shows old result = ShowsFrom old.phase old result

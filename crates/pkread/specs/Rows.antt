@@ -1,13 +1,16 @@
 -- What holds of the bytes where a reader refuses them: a row for each reason.
-use Rattle.std.specs.Prelude.{◌≡◌, ◌≢◌, ℕ, ◌+◌, ◌-◌, ◌^◌, ◌%◌, ◌<◌, ◌⊎◌, List, [], ◌∷◌, ◌++◌, length, take, Option, Some}
+use Rattle.std.specs.Prelude.{◌≡◌, ◌≢◌, ℕ, ◌+◌, ◌-◌, ◌^◌, ◌%◌, ◌<◌, ◌⊎◌, List, [], ◌∷◌, ◌++◌}
+use Rattle.std.specs.Prelude.{length, take, Option, Some}
 use Rattle.std.specs.Io.KnownBytes.{Consumes, IsAtEnd, prepend_known}
 use Rattle.pkops.specs.Answer.{IsWhole}
 use Rattle.pkops.specs.Scanning.{Begun, HasFault}
 use Rattle.pkops.specs.Spelling.{Instruction}
-use Rattle.pkops.specs.declared.fault.Fault.TheVariants as fault
+use Rattle.pkops.specs.declared.Fault.TheVariants as fault
 use Rattle.pkread.specs.Admission.{objection}
 use Rattle.pkread.specs.declared.refusal.Reason.{Reason}
-use Rattle.pkread.specs.declared.refusal.Reason.TheVariants.{Source, Truncated, UnknownOpcode, BadArgument, TooLarge, ExtensionCode, UnsupportedProtocol, OutOfMemory}
+use Rattle.pkread.specs.declared.refusal.Reason.TheVariants.{Source, Truncated, UnknownOpcode}
+use Rattle.pkread.specs.declared.refusal.Reason.TheVariants.{BadArgument, TooLarge, ExtensionCode}
+use Rattle.pkread.specs.declared.refusal.Reason.TheVariants.{UnsupportedProtocol, OutOfMemory}
 
 -- what contracts see of a source: the bytes left, where it tells them, and its count of failures
 pub record Sight : Type 0 where
@@ -17,6 +20,10 @@ pub record Sight : Type 0 where
 -- the sight of a source, by the ghost members of its type
 abbrev pub sight : {R : Type 0} → (R → Option (List ℕ)) → (R → ℕ) → R → Sight
 sight left failures r = record { left = left r; failures = failures r }
+
+-- bytes in memory, before any was taken
+abbrev pub in_memory : List ℕ → Sight
+in_memory bytes = record { left = Some bytes; failures = 0 }
 
 -- a source as it was seen before these bytes were taken from it
 abbrev pub unread : List ℕ → Sight → Sight
@@ -63,14 +70,14 @@ IsAmiss limit bytes _ = ⊥
 
 -- what each reason says of the bytes that were taken from the instruction's first one on, where
 -- `taken` is the number of all bytes taken
-abbrev pub Row : ℕ → Sight → Sight → List ℕ → ℕ → Reason → Type 0
-Row limit old new bytes taken Source = Fails old new bytes × Begun limit bytes
-Row limit old new bytes taken Truncated =
+abbrev pub ShowsReason : ℕ → Sight → Sight → List ℕ → ℕ → Reason → Type 0
+ShowsReason limit old new bytes taken Source = Fails old new bytes × Begun limit bytes
+ShowsReason limit old new bytes taken Truncated =
     Takes old new bytes × IsAtEnd new.left × (taken < all_bytes) × Begun limit bytes
-Row limit old new bytes taken TooLarge =
+ShowsReason limit old new bytes taken TooLarge =
     Takes old new bytes × (IsAmiss limit bytes TooLarge ⊎ (Begun limit bytes × (taken ≡ all_bytes)))
-Row limit old new bytes taken OutOfMemory = Takes old new bytes × Begun limit bytes
-Row limit old new bytes taken reason = Takes old new bytes × IsAmiss limit bytes reason
+ShowsReason limit old new bytes taken OutOfMemory = Takes old new bytes × Begun limit bytes
+ShowsReason limit old new bytes taken reason = Takes old new bytes × IsAmiss limit bytes reason
 
 -- each shorter front only begins an instruction
 abbrev pub FrontsBegin : ℕ → List ℕ → Type 0
@@ -82,6 +89,6 @@ pub record Refuses (limit : ℕ) (old new : Sight) (bytes : List ℕ) (before af
     (reason : Reason) : Type 0 where
   pub taken : after ≡ before + length bytes
   pub fronts : FrontsBegin limit bytes
-  pub row : Row limit old new bytes after reason
+  pub row : ShowsReason limit old new bytes after reason
   pub alone : reason ≢ OutOfMemory → (other : Reason) → other ≢ OutOfMemory →
-      Row limit old new bytes after other → other ≡ reason
+      ShowsReason limit old new bytes after other → other ≡ reason

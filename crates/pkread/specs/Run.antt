@@ -4,12 +4,12 @@ use Rattle.pkops.specs.Inst.{instruction_of}
 use Rattle.pkops.specs.Limits.{Bounds}
 use Rattle.pkops.specs.Payloads.{payload_limit}
 use Rattle.pkops.specs.Spelling.{Counted, Instruction, instruction, spelling}
-use Rattle.pkops.specs.declared.inst.Inst.{Inst}
-use Rattle.pkops.specs.declared.op.Op.{Op}
+use Rattle.pkops.specs.declared.Inst.{Inst}
+use Rattle.pkops.specs.declared.Op.{Op}
 use Rattle.pkread.specs.Admission.{IsAllowedBy}
 use Rattle.pkread.specs.Core.{Phase, Open, Ended, Refused}
-use Rattle.pkread.specs.Heads.{IsPassed, Passes, RefusesHead, StepsHead}
-use Rattle.pkread.specs.Reading.{Gives, RefusesAt, State, Steps, begun}
+use Rattle.pkread.specs.Heads.{IsSkipped, Skips, RefusesHead, StepsHead}
+use Rattle.pkread.specs.Reading.{Gives, RefusesAt, ReaderState, Steps, begun}
 use Rattle.pkread.specs.Rows.{Sight, Takes}
 use Rattle.pkread.specs.Sequence.{IsSequence, NoStop, StopIsLast, spellings}
 use Rattle.pkread.specs.declared.reader.Head.{Head}
@@ -27,7 +27,7 @@ SoFar instructions (Refused refusal) = ⊥
 -- a reader in this state has given these instructions, within the limits of their opcodes, from
 -- where the source was seen so and `from` bytes were taken
 pub record Reads (start : Sight) (from : ℕ) (limit : Op → ℕ) (instructions : List Instruction)
-    (state : State) : Type 0 where
+    (state : ReaderState) : Type 0 where
   pub each : All (IsAllowedBy limit) instructions
   pub so_far : SoFar instructions state.phase
   pub bytes : Takes start state.source (spellings instructions)
@@ -42,26 +42,26 @@ ReadingBegins =
 -- a reader that is open has given nothing from there on
 abbrev pub ReadingGoesOn : Type 0
 ReadingGoesOn =
-    (s : State) (limit : Op → ℕ) → s.phase ≡ Open → Reads s.source s.taken limit [] s
+    (s : ReaderState) (limit : Op → ℕ) → s.phase ≡ Open → Reads s.source s.taken limit [] s
 
 -- the limits that `next` goes by: one for all opcodes
-abbrev pub HoldsTo : State → (Op → ℕ) → Type 0
+abbrev pub HoldsTo : ReaderState → (Op → ℕ) → Type 0
 HoldsTo state limit = (op : Op) → state.limits.counted ≡ limit op
 
 -- the limits that `next_head` goes by: another one for passed opcodes
-abbrev pub PassesTo : State → (Op → ℕ) → Type 0
+abbrev pub PassesTo : ReaderState → (Op → ℕ) → Type 0
 PassesTo state limit = (op : Op) → payload_limit state.limits op ≡ limit op
 
 -- an instruction more was given
 pub record ReadsMore (start : Sight) (from : ℕ) (limit : Op → ℕ) (before : List Instruction)
-    (i : Instruction) (after : State) : Type 0 where
+    (i : Instruction) (after : ReaderState) : Type 0 where
   pub no_stop : NoStop before
   pub reads : Reads start from limit (before ++ i ∷ []) after
 
 -- where `next` gives an instruction, it was given behind the others
 abbrev pub NextIsRead : Type 0
 NextIsRead =
-    (start : Sight) (from : ℕ) (limit : Op → ℕ) (p : List Instruction) (old new : State)
+    (start : Sight) (from : ℕ) (limit : Op → ℕ) (p : List Instruction) (old new : ReaderState)
     (result : Result Next Refusal) (at : ℕ) (inst : Inst) →
     HoldsTo old limit → Reads start from limit p old → Steps old result new →
     result ≡ Ok (next.Inst at inst) →
@@ -70,7 +70,7 @@ NextIsRead =
 -- the same of `next_head`
 abbrev pub HeadIsRead : Type 0
 HeadIsRead =
-    (start : Sight) (from : ℕ) (limit : Op → ℕ) (p : List Instruction) (old new : State)
+    (start : Sight) (from : ℕ) (limit : Op → ℕ) (p : List Instruction) (old new : ReaderState)
     (result : Result Head Refusal) (at : ℕ) (inst : Inst) →
     PassesTo old limit → Reads start from limit p old → StepsHead old result new →
     result ≡ Ok (head.Inst at inst) →
@@ -80,20 +80,20 @@ HeadIsRead =
 -- the bytes taken spell
 abbrev pub PassedIsRead : Type 0
 PassedIsRead =
-    (start : Sight) (from : ℕ) (limit : Op → ℕ) (p : List Instruction) (old new : State)
+    (start : Sight) (from : ℕ) (limit : Op → ℕ) (p : List Instruction) (old new : ReaderState)
     (result : Result Head Refusal) (at : ℕ) (op : Op) (count : ℕ) →
     PassesTo old limit → Reads start from limit p old → StepsHead old result new →
     result ≡ Ok (head.Passed at op count) →
-    (payload : List ℕ) × IsPassed (limit op) op count payload
+    (payload : List ℕ) × IsSkipped (limit op) op count payload
     × ReadsMore start from limit p (instruction op (Counted payload)) new
     × Takes old.source new.source (spelling (instruction op (Counted payload)))
     × (new.taken ≡ old.taken + length (spelling (instruction op (Counted payload))))
-    × Passes old at op count new
+    × Skips old at op count new
 
 -- where a call says that the reader has ended, the instructions are a sequence, and nothing changed
 abbrev pub EndIsRead : Type 0
 EndIsRead =
-    (start : Sight) (from : ℕ) (limit : Op → ℕ) (p : List Instruction) (old new : State)
+    (start : Sight) (from : ℕ) (limit : Op → ℕ) (p : List Instruction) (old new : ReaderState)
     (result : Result Next Refusal) →
     Reads start from limit p old → Steps old result new → result ≡ Ok next.Ended →
     IsSequence limit p × (new ≡ old)
@@ -101,7 +101,7 @@ EndIsRead =
 -- the same of `next_head`
 abbrev pub EndOfHeads : Type 0
 EndOfHeads =
-    (start : Sight) (from : ℕ) (limit : Op → ℕ) (p : List Instruction) (old new : State)
+    (start : Sight) (from : ℕ) (limit : Op → ℕ) (p : List Instruction) (old new : ReaderState)
     (result : Result Head Refusal) →
     Reads start from limit p old → StepsHead old result new → result ≡ Ok head.Ended →
     IsSequence limit p × (new ≡ old)
@@ -109,7 +109,7 @@ EndOfHeads =
 -- where a call refuses, it refuses here for the first time, and STOP was not given
 abbrev pub RefusalIsRead : Type 0
 RefusalIsRead =
-    (start : Sight) (from : ℕ) (limit : Op → ℕ) (p : List Instruction) (old new : State)
+    (start : Sight) (from : ℕ) (limit : Op → ℕ) (p : List Instruction) (old new : ReaderState)
     (result : Result Next Refusal) (refusal : Refusal) →
     Reads start from limit p old → Steps old result new → result ≡ Err refusal →
     NoStop p × RefusesAt old refusal new
@@ -117,7 +117,7 @@ RefusalIsRead =
 -- the same of `next_head`
 abbrev pub RefusalOfHeads : Type 0
 RefusalOfHeads =
-    (start : Sight) (from : ℕ) (limit : Op → ℕ) (p : List Instruction) (old new : State)
+    (start : Sight) (from : ℕ) (limit : Op → ℕ) (p : List Instruction) (old new : ReaderState)
     (result : Result Head Refusal) (refusal : Refusal) →
     Reads start from limit p old → StepsHead old result new → result ≡ Err refusal →
     NoStop p × RefusesHead old refusal new

@@ -1,23 +1,22 @@
 //! Why what was scanned is refused.
 
-ghost use Rattle.std.specs.Prelude.{◌≡◌, ℕ, None, IfErr, IfNone, IfOk, IfSome, MatchBool};
-ghost use Rattle.std.specs.Prelude.{false, true};
+ghost use Rattle.std.specs.Prelude.{◌≡◌, IfErr, IfNone, IfOk, IfSome, MatchBool, false, true};
 ghost use Rattle.std.specs.Str.{IsUtf8};
 ghost use Rattle.pkops.specs.Contents.{IsGood};
-ghost use Rattle.pkops.specs.Lying.{Lies};
-ghost use Rattle.pkops.specs.Spelling.{Argument, Suits, instruction, layout_at, shown_arg};
-ghost use Rattle.pkops.specs.declared.layout.Layout.TheVariants as layout;
-ghost use Rattle.pkread.specs.Rows.{IsAmiss};
 ghost use Rattle.pkops.specs.Inst.{instruction_of};
+ghost use Rattle.pkops.specs.Spelling.{Suits, instruction, layout_at, shown_arg};
+ghost use Rattle.pkops.specs.declared.Layout.TheVariants as layout;
 ghost use Rattle.pkread.specs.Admission.{objection};
-ghost use Rattle.pkread.specs.Private.Judging.{IsPlain, IsText, reason_of};
+ghost use Rattle.pkread.specs.Private.Judging.{IsFaulty, IsFine, TakesAnyArgument, IsSpelled};
+ghost use Rattle.pkread.specs.Private.Judging.{TakesUtf8};
+ghost use Rattle.pkread.specs.Private.Judging.{fault_reason};
 
 use crate::refusal::Reason;
 use pkops::{Arg, Fault, Inst, Op, Width, argument_of};
 
 /// The reason of the same name as the fault.
 pub(crate) fn reason_of(fault: Fault) -> Reason
-    ensures { result ≡ reason_of fault }
+    ensures { result ≡ fault_reason fault }
 {
     match fault {
         Fault::UnknownOpcode(code) => Reason::UnknownOpcode(code),
@@ -43,32 +42,25 @@ pub(crate) fn objection_to(inst: Inst<'_>) -> Option<Reason>
 /// at only where they aren't plain.
 #[inline(always)]
 pub(crate) fn judged(op: Op, plain: bool, split: usize, bytes: &[u8]) -> Result<(), Reason>
-    requires plain { plain ≡ true → IsPlain op }
-    requires lies { (limit : ℕ) × (arg : Argument) × Lies limit op arg split bytes.now }
-    ensures ok { IfOk result (λ _. (limit : ℕ) (arg : Argument) →
-        Lies limit op arg split bytes.now →
-        IsGood (instruction op arg) × (objection (instruction op arg) ≡ None)) }
-    ensures err { IfErr result (λ reason. (limit : ℕ) (arg : Argument) →
-        Lies limit op arg split bytes.now → IsAmiss limit bytes.now reason) }
+    requires plain { plain ≡ true → TakesAnyArgument op }
+    requires lies { IsSpelled op split bytes.now }
+    ensures ok { IfOk result (λ _. IsFine op split bytes.now) }
+    ensures err { IfErr result (IsFaulty op split bytes.now) }
 {
     if plain {
         return Ok(());
     }
-    looked(op, split, bytes)
+    look(op, split, bytes)
 }
 
-/// The same where a look is needed. It stands apart so that room for the answer of a look is made
-/// there alone.
+/// Judges an instruction whose contents have to be looked at.
 #[inline(always)]
-fn looked(op: Op, split: usize, bytes: &[u8]) -> Result<(), Reason>
-    requires { (limit : ℕ) × (arg : Argument) × Lies limit op arg split bytes.now }
-    ensures ok { IfOk result (λ _. (limit : ℕ) (arg : Argument) →
-        Lies limit op arg split bytes.now →
-        IsGood (instruction op arg) × (objection (instruction op arg) ≡ None)) }
-    ensures err { IfErr result (λ reason. (limit : ℕ) (arg : Argument) →
-        Lies limit op arg split bytes.now → IsAmiss limit bytes.now reason) }
+fn look(op: Op, split: usize, bytes: &[u8]) -> Result<(), Reason>
+    requires { IsSpelled op split bytes.now }
+    ensures ok { IfOk result (λ _. IsFine op split bytes.now) }
+    ensures err { IfErr result (IsFaulty op split bytes.now) }
 {
-    match look(op, split, bytes) {
+    match look_slowly(op, split, bytes) {
         Some(reason) => Err(reason),
         None => Ok(()),
     }
@@ -100,13 +92,10 @@ pub(crate) fn is_utf8(payload: &[u8]) -> bool
 
 /// Why it is refused, if it is, whatever the opcode is.
 #[inline(never)]
-fn look(op: Op, split: usize, bytes: &[u8]) -> Option<Reason>
-    requires { (limit : ℕ) × (arg : Argument) × Lies limit op arg split bytes.now }
-    ensures none { IfNone result ((limit : ℕ) (arg : Argument) →
-        Lies limit op arg split bytes.now →
-        IsGood (instruction op arg) × (objection (instruction op arg) ≡ None)) }
-    ensures some { IfSome result (λ reason. (limit : ℕ) (arg : Argument) →
-        Lies limit op arg split bytes.now → IsAmiss limit bytes.now reason) }
+fn look_slowly(op: Op, split: usize, bytes: &[u8]) -> Option<Reason>
+    requires { IsSpelled op split bytes.now }
+    ensures none { IfNone result (IsFine op split bytes.now) }
+    ensures some { IfSome result (IsFaulty op split bytes.now) }
 {
     let arg = argument_of(op, split, bytes);
     if !is_good(op, arg) {
@@ -119,7 +108,7 @@ fn look(op: Op, split: usize, bytes: &[u8]) -> Option<Reason>
 #[inline(always)]
 pub(crate) fn byte_is_plain(op: Op) -> bool
     requires { layout_at op ≡ layout.U1 }
-    ensures { result ≡ true → IsPlain op }
+    ensures { result ≡ true → TakesAnyArgument op }
 {
     match op {
         Op::Proto => false,
@@ -132,7 +121,7 @@ pub(crate) fn byte_is_plain(op: Op) -> bool
 #[inline(always)]
 pub(crate) fn two_is_plain(op: Op) -> bool
     requires { layout_at op ≡ layout.U2 }
-    ensures { result ≡ true → IsPlain op }
+    ensures { result ≡ true → TakesAnyArgument op }
 {
     match op {
         Op::Ext2 => false,
@@ -144,7 +133,7 @@ pub(crate) fn two_is_plain(op: Op) -> bool
 #[inline(always)]
 pub(crate) fn signed_is_plain(op: Op) -> bool
     requires { layout_at op ≡ layout.I4 }
-    ensures { result ≡ true → IsPlain op }
+    ensures { result ≡ true → TakesAnyArgument op }
 {
     match op {
         Op::Ext4 => false,
@@ -156,8 +145,8 @@ pub(crate) fn signed_is_plain(op: Op) -> bool
 #[inline(always)]
 pub(crate) fn counted_is_plain(op: Op, width: Width, signed: bool) -> bool
     requires { layout_at op ≡ layout.Counted width signed }
-    ensures plain { result ≡ true → IsPlain op }
-    ensures text { result ≡ false → IsText op }
+    ensures plain { result ≡ true → TakesAnyArgument op }
+    ensures text { result ≡ false → TakesUtf8 op }
 {
     match op {
         Op::ShortBinUnicode => false,

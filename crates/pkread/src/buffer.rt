@@ -4,7 +4,8 @@ ghost use Rattle.std.specs.Prelude.{◌≡◌, ◌+◌, ◌++◌, ◌∷◌, ◌
 ghost use Rattle.std.specs.Prelude.{IfOk, IfErr, IfNone, IfSome, length, take};
 ghost use Rattle.pkread.specs.Held.{Held, most_held, none_held};
 ghost use Rattle.pkread.specs.Rows.{sight};
-ghost use Rattle.pkread.specs.Private.Taking.{AreBytes, PulledInto, Reads, ReadsByte, ReadsNone};
+ghost use Rattle.pkread.specs.Private.Taking.{AreAllBytes, PulledInto, ReadsSome, ReadsByte};
+ghost use Rattle.pkread.specs.Private.Taking.{ReadsNone};
 
 use crate::refusal::Reason;
 use crate::source::{ReadFailed, Source};
@@ -99,12 +100,12 @@ impl Buffer {
         ensures peak { self.new.peak ≡ most_held self.old }
     {
         if self.held > self.peak {
-            self.raise();
+            self.count_slowly();
         }
     }
 
     #[inline(never)]
-    fn raise(&mut self)
+    fn count_slowly(&mut self)
         requires { self.old.peak ≤ length self.old.bytes }
         ensures bytes { self.new.bytes ≡ self.old.bytes }
         ensures peak { self.new.peak ≡ length self.old.bytes }
@@ -146,7 +147,7 @@ impl Buffer {
         requires some { 0 < N }
         requires few { N ≤ 8 }
         ensures peak { self.new.peak ≡ self.old.peak }
-        ensures ok { IfOk result (λ n. Reads N n
+        ensures ok { IfOk result (λ n. ReadsSome N n
             self.old.bytes (sight R.left R.failures source.old)
             self.new.bytes (sight R.left R.failures source.new)) }
         ensures same { IfErr result (λ _. self.new.bytes ≡ self.old.bytes) }
@@ -171,7 +172,7 @@ impl Buffer {
         requires some { 0 < wanted }
         requires few { wanted ≤ 4096 }
         ensures peak { self.new.peak ≡ self.old.peak }
-        ensures ok { IfOk result (λ n. Reads wanted n
+        ensures ok { IfOk result (λ n. ReadsSome wanted n
             self.old.bytes (sight R.left R.failures source.old)
             self.new.bytes (sight R.left R.failures source.new)) }
         ensures same { IfErr result (λ _. self.new.bytes ≡ self.old.bytes) }
@@ -206,7 +207,7 @@ fn put_field<const N: usize>(store: &mut Vec<u8>, at: usize, field: &[u8; N])
     requires { at + N ≤ length store.old.items }
     ensures front { take (at + N) store.new.items ≡ take at store.old.items ++ field.now }
     ensures length { at + N ≤ length store.new.items }
-    ensures fits { AreBytes store.new.items }
+    ensures fits { AreAllBytes store.new.items }
 {
     store[at..at + N].copy_from_slice(field);
 }
@@ -221,13 +222,13 @@ fn make_room(store: &mut Vec<u8>, from: usize, wanted: usize) -> Result<(), Allo
     ensures more { from ≤ length store.new.items }
 {
     if store.len() - from < wanted {
-        return lengthen(store, from, wanted);
+        return make_room_slowly(store, from, wanted);
     }
     Ok(())
 }
 
 #[inline(never)]
-fn lengthen(store: &mut Vec<u8>, from: usize, wanted: usize) -> Result<(), AllocError>
+fn make_room_slowly(store: &mut Vec<u8>, from: usize, wanted: usize) -> Result<(), AllocError>
     requires within { from ≤ length store.old.items }
     requires few { wanted ≤ 4096 }
     ensures ok { IfOk result (λ _. from + wanted ≤ length store.new.items) }

@@ -1,20 +1,20 @@
-//! The frame rules, by the number of bytes of a frame that are still open.
+//! The frame rules, by the number of bytes left in the open frame.
 
 ghost use Rattle.std.specs.Prelude.{◌≡◌, ◌<◌, ℕ};
 ghost use Rattle.pkops.specs.Inst.{instruction_of};
-ghost use Rattle.pkread.specs.Framing.{Took};
+ghost use Rattle.pkread.specs.Framing.{TakesPiece};
 ghost use Rattle.pkread.specs.Pieces.{number_of, role_of};
 
 use pkops::{Arg, Inst, Op};
 use std::marker::Model;
 
-/// An instruction breaks the frame rules: it is a FRAME inside a frame, it lies across the end
-/// of a frame, or it is a STOP that leaves bytes of its frame.
+/// An instruction breaks the frame rules: it is a FRAME inside a frame, it crosses the end of a
+/// frame, or it is a STOP before the end of its frame.
 #[derive(Clone, Copy, Debug, Drop, PartialEq, Eq)]
 pub struct BrokenFrame;
 
-/// Follows the frames of a pickle (PEP 3154), one instruction after the other. Contracts see the
-/// number of bytes of a frame that are still open, 0 outside any frame.
+/// Follows the frames of a pickle (PEP 3154), one instruction at a time. Contracts see the number
+/// of bytes left in the open frame, 0 outside any frame.
 #[derive(Debug, Drop)]
 pub struct Frames {
     open: u64,
@@ -29,20 +29,20 @@ impl Model for Frames {
 }
 
 impl Frames {
-    /// Before the first instruction, with no frame open.
+    /// The state before the first instruction, with no frame open.
     pub fn new() -> Frames
         ensures { result ≡ 0 }
     {
         Frames { open: 0 }
     }
 
-    /// Takes the next instruction: its opcode, the number of bytes that spell it, and the
-    /// argument where it is a FRAME (else `arg` is not looked at; `frame_argument` gives it). An
-    /// instruction that breaks the frame rules is refused and leaves everything as it was.
+    /// Takes the next instruction: its opcode, its length in bytes, and the argument of a FRAME, as
+    /// `frame_argument` gives it (`arg` is ignored for any other opcode). An instruction that
+    /// breaks the frame rules is refused and changes nothing.
     #[inline(always)]
     pub fn take(&mut self, op: Op, length: u64, arg: u64) -> Result<(), BrokenFrame>
         requires { 0 < length }
-        ensures { Took self.old (record { length = length; role = role_of op arg })
+        ensures { TakesPiece self.old (record { length = length; role = role_of op arg })
             result self.new }
     {
         if self.open == 0 {
@@ -70,8 +70,8 @@ impl Frames {
     }
 }
 
-/// The number that `Frames::take` wants of an instruction as its last argument: the one that the
-/// argument is, and 0 where it is none.
+/// The last argument of `Frames::take` for an instruction: the unsigned number in its argument, or
+/// 0 if there is none.
 #[inline]
 pub fn frame_argument(inst: &Inst<'_>) -> u64
     ensures { result ≡ number_of (instruction_of inst.now).arg }

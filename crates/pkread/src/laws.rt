@@ -1,4 +1,4 @@
-//! Laws of the definitions. Nothing is computed: each function is proved to keep what it says.
+//! Laws of the definitions. Each is the contract of a function that does nothing.
 
 ghost use Rattle.pkread.specs.Again.{NoByteIsRefused};
 ghost use Rattle.pkread.specs.Framing.{CountingIsExact};
@@ -11,15 +11,15 @@ ghost use Rattle.pkread.specs.Walked.{EndIsWalked, ItemIsWalked, RefusalIsWalked
 
 use pkops::laws::{growth, one_answer, one_spelling};
 
-/// Along any instructions laid end to end, the rule of `Frames::take` refuses first exactly at
-/// the first instruction that the frame rules forbid.
+/// Along any consecutive instructions, the rule of `Frames::take` first refuses exactly at the
+/// first instruction that the frame rules forbid.
 pub fn framed()
     ensures { CountingIsExact }
 {}
 
 /// What a loop over `Reader::next` knows: the instructions given so far are those that the bytes
-/// taken spell, the last is STOP where the reader has ended, and a refusal is told where it first
-/// comes.
+/// taken spell, the last is STOP if the reader has ended, and a refusal is reported where it first
+/// occurs.
 #[inline]
 pub fn nexts()
     ensures begins { ReadingBegins }
@@ -28,7 +28,7 @@ pub fn nexts()
     ensures refused { RefusalIsRead }
 {}
 
-/// The same of a loop over `Reader::next_head`.
+/// What a loop over `Reader::next_head` knows, as for `next`.
 #[inline]
 pub fn heads()
     ensures begins { ReadingBegins }
@@ -38,8 +38,8 @@ pub fn heads()
     ensures refused { RefusalOfHeads }
 {}
 
-/// A loop over either knows the same from where `Reader::again` has answered true, what its refusal
-/// is, and that the bytes of several pickles were taken one after the other.
+/// What a loop over either knows after `Reader::again` has returned true, what its refusal is, and
+/// that the bytes of several pickles were taken one after the other.
 #[inline]
 pub fn rows()
     ensures begins { ReadingGoesOn }
@@ -50,7 +50,7 @@ pub fn rows()
     one_answer();
 }
 
-/// The same of a loop over `genops`.
+/// What a loop over `genops` knows, as for `next`.
 #[inline]
 pub fn walks()
     ensures begins { WalkBegins }
@@ -59,8 +59,8 @@ pub fn walks()
     ensures refused { RefusalIsWalked }
 {}
 
-/// The rule of `Frames::take` along instructions that grow at their end: what it passes is framed,
-/// and one that it refuses behind them is not.
+/// The rule of `Frames::take` as instructions are appended: what it accepts is framed, and the next
+/// one that it refuses is not.
 #[inline]
 pub fn frames()
     ensures more { FramesGoOn }
@@ -68,8 +68,9 @@ pub fn frames()
     ensures refused { FramesBreak }
 {}
 
-/// Bytes have one instruction at their front, and one sequence, whatever the limits on payloads. It
-/// begins with any instructions that they have there and of which none is STOP.
+/// Bytes have at most one instruction at their front, and at most one sequence, whatever the limits
+/// on payloads. The sequence begins with any instructions at the front that have no STOP among
+/// them.
 #[inline]
 pub fn one_sequence()
     ensures front { OneFront }

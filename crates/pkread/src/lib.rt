@@ -1,18 +1,21 @@
-//! Reads the instructions of a pickle, from bytes in memory or from any source, and follows its
-//! frames. Nothing is run: an instruction is its opcode and its argument as they are spelled.
+//! Reads the instructions of a pickle, from memory or from any source, and checks its frames.
+//! Nothing is executed: an instruction is an opcode and its argument as spelled.
 //!
-//! [`genops`] walks over a slice. A [`Reader`] takes bytes from a [`Source`], lends one
-//! instruction at a time and takes no byte past STOP; by [`Reader::next_head`] it holds no payload
-//! of bytes. [`Frames`] holds the instructions to the
-//! frame rules. What is refused is told as a [`Refusal`]: a place and a [`Reason`].
+//! [`genops`] iterates over a slice. A [`Reader`] takes bytes from a [`Source`], lends one
+//! instruction at a time and takes no byte after STOP; [`Reader::next_head`] holds no byte payload.
+//! [`Frames`] enforces the frame rules. Refusals are a [`Refusal`]: an offset and a [`Reason`].
 #![tactic(auto)]
+
+// What is seldom run is out of line: `X` is inlined, and calls `X_slowly` where it comes to that.
+// `X` takes the answer of `X_slowly` apart and makes it anew, since else the answers of all such
+// calls are one place in memory, which each instruction clears.
 
 mod admission;
 mod arms;
-mod blocks;
 mod buffer;
 mod frames;
 mod gather;
+mod gathering;
 mod heads;
 pub mod laws;
 mod lines;

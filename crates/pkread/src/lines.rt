@@ -1,38 +1,30 @@
 //! Takes lines, byte by byte.
 
-ghost use Rattle.std.specs.Prelude.{◌≡◌, IfOk, IfErr};
-ghost use Rattle.pkread.specs.Private.Gathering.{LacksLine, TookLine};
-ghost use Rattle.pkread.specs.Rows.{sight};
+ghost use Rattle.pkread.specs.Private.Gathering.{TakesLine};
+ghost use Rattle.pkread.specs.Private.Progress.{KeepsRest, intake};
 
-use crate::blocks::take_byte;
-use crate::buffer::Buffer;
+use crate::gathering::Gathering;
 use crate::refusal::Reason;
 use crate::source::Source;
 
-/// Takes a line of at most so many bytes, and its end.
-pub(crate) fn line<R: Source>(
-    source: &mut R,
-    buffer: &mut Buffer,
-    taken: &mut u64,
-    most: usize,
-) -> Result<(), Reason>
-    ensures peak { buffer.new.peak ≡ buffer.old.peak }
-    ensures ok { IfOk result (λ _. TookLine most
-        buffer.old.bytes (sight R.left R.failures source.old) taken.old
-        buffer.new.bytes (sight R.left R.failures source.new) taken.new) }
-    ensures err { IfErr result (LacksLine most
-        buffer.old.bytes (sight R.left R.failures source.old) taken.old
-        buffer.new.bytes (sight R.left R.failures source.new) taken.new) }
-{
-    let mut left = most;
-    'bytes: loop {
-        let byte = take_byte(source, buffer, taken)?;
-        if byte == b'\n' {
-            return Ok(());
+impl Gathering {
+    /// Takes a line of at most so many bytes, and its end.
+    pub(crate) fn take_line<R: Source>(&mut self, source: &mut R, most: usize) -> Result<(), Reason>
+        ensures keeps { KeepsRest self.old self.new }
+        ensures takes { TakesLine most result
+            (intake R.left R.failures source.old self.old)
+            (intake R.left R.failures source.new self.new) }
+    {
+        let mut left = most;
+        'bytes: loop {
+            let byte = self.take_byte(source)?;
+            if byte == b'\n' {
+                return Ok(());
+            }
+            if left == 0 {
+                return Err(Reason::TooLarge);
+            }
+            left -= 1;
         }
-        if left == 0 {
-            return Err(Reason::TooLarge);
-        }
-        left -= 1;
     }
 }

@@ -17,30 +17,30 @@ use std::alloc::Global;
 #[derive(Clone, Copy, Debug)]
 pub enum Next<'a> {
     /// An instruction, and the offset of its first byte, counted from the first byte taken. Its
-    /// argument is lent from the reader's buffer.
+    /// argument is borrowed from the reader's buffer.
     Inst { at: u64, inst: Inst<'a> },
     /// STOP was given before.
     Ended,
 }
 
-/// What a reader gives that holds no byte payload.
+/// What a reader gives that does not hold byte payloads.
 #[derive(Clone, Copy, Debug)]
 pub enum Head<'a> {
-    /// An instruction, as `Next` has it. Its opcode is not a passed one.
+    /// An instruction, as in `Next`. Its opcode is not a passed one.
     Inst { at: u64, inst: Inst<'a> },
-    /// An instruction of a passed opcode, and the offset of its first byte. Its payload, of so many
-    /// bytes, was taken and is gone.
+    /// An instruction with a passed opcode, and the offset of its first byte. Its payload of
+    /// `count` bytes was taken and discarded.
     Passed { at: u64, op: Op, count: u64 },
     /// STOP was given before.
     Ended,
 }
 
-/// Gives the instructions of a source, and takes no byte past STOP. It asks for no more than the
-/// instruction begun is known to need, and for 4,096 bytes at most, so put a source with costly
-/// reads behind a buffer.
+/// Gives the instructions of a source, and takes no byte after STOP. A read requests only bytes
+/// that the current instruction is known to need, and at most 4,096 of them, so buffer a source
+/// whose reads are expensive.
 ///
-/// It borrows the source, so the code that reads is a function generic in it, which may then be
-/// called with any source:
+/// The reader borrows its source, so write the reading code as a function that is generic in the
+/// source, and call it with any source:
 ///
 /// ```
 /// fn count<R: Source>(alloc: Global, source: &mut R) -> Result<u64, Refusal> {
@@ -83,7 +83,7 @@ impl<'r, R: Source> Reader<'r, R> {
     ghost use Rattle.pkread.specs.Reading.{KeepsSource, LeavesSource, Shows, Steps, TakesNoneAhead};
     ghost use Rattle.pkread.specs.Reading.{begun, has_ended, state};
 
-    /// A reader of the source, which has taken nothing yet.
+    /// A reader of the source that has taken nothing yet.
     pub fn new(alloc: Global, source: &'r mut R, limits: &Limits) -> Reader<'r, R>
         ensures source { source_name result ≡ source.entry.ghost_name }
         ensures state { state R.left R.failures result
@@ -95,22 +95,22 @@ impl<'r, R: Source> Reader<'r, R> {
         }
     }
 
-    /// The last instruction given was STOP, and nothing was refused since.
+    /// Whether the last instruction given was STOP, with no refusal since.
     pub fn ended(&self) -> bool
         ensures { result ≡ has_ended (state R.left R.failures self.now) }
     {
         matches!(self.core.phase(), Phase::Ended)
     }
 
-    /// How many bytes were taken from the source.
+    /// The number of bytes taken from the source.
     pub fn taken(&self) -> u64
         ensures { result ≡ (state R.left R.failures self.now).taken }
     {
         self.core.taken()
     }
 
-    /// The greatest number of bytes that the buffer has held. It is never above the larger of
-    /// 131,075 and the limit on payloads that are held plus 9.
+    /// The most bytes that the buffer has held. It never exceeds 131,075 or the limit on held
+    /// payloads plus 9, whichever is larger.
     pub fn most_held(&self) -> usize
         ensures most { result ≡ (state R.left R.failures self.now).most }
         ensures bound { result ≤ longest (state R.left R.failures self.now).limits.counted }
@@ -118,11 +118,13 @@ impl<'r, R: Source> Reader<'r, R> {
         self.core.most()
     }
 
-    /// Takes the next instruction from the source, and lends it until the next call. After STOP
-    /// it answers `Ended`, and after a refusal the same refusal, and asks for nothing.
+    /// Takes the next instruction from the source, and lends it until the next call. After STOP it
+    /// returns `Ended`, and after a refusal the same refusal, without reading.
     ///
-    /// It refuses by the reasons from `Source` to `UnsupportedProtocol` that `Reason` lists, and
-    /// where memory runs out. No read is tried again.
+    /// # Errors
+    ///
+    /// The reasons from `Source` to `UnsupportedProtocol`, in the order of `Reason`, and
+    /// `OutOfMemory`. A failed read is not retried.
     pub fn next(&mut self) -> Result<Next<'_>, Refusal>
         ensures shows { Shows (state R.left R.failures self.old) result }
         ensures* after { sem 𝓛 (Rests (the_row (record { mir = named 1; lft = [] }) R.row core_row)
@@ -143,12 +145,12 @@ impl<'r, R: Source> Reader<'r, R> {
         })
     }
 
-    /// Takes the next instruction from the source as `next` does, but holds no payload of a passed
-    /// opcode: it is taken block by block, and only its length is told. Calls of the two may be
-    /// mixed. The limit on such a payload is `passed`, and not `counted`. Else refusals, their
-    /// places and the bytes taken are those of `next`, but where memory runs out.
+    /// Takes the next instruction as `next` does, but does not hold the payload of a passed opcode:
+    /// it takes the payload in blocks, and reports only its length. The limit on such a payload is
+    /// `passed` instead of `counted`. Otherwise refusals, their offsets and the bytes taken are
+    /// those of `next`, except when an allocation is refused. Calls of both may be mixed.
     ///
-    /// One call raises `most_held` to 131,075 at most, or to 9 and the count of an instruction
+    /// One call raises `most_held` to at most 131,075, or to the count plus 9 of an instruction
     /// whose payload is held.
     #[inline(always)]
     pub fn next_head(&mut self) -> Result<Head<'_>, Refusal>
@@ -165,7 +167,7 @@ impl<'r, R: Source> Reader<'r, R> {
         }
         let at = self.taken();
         match self.core.collect_head(self.source)? {
-            Gathered::Passed { op, count } => Ok(Head::Passed { at, op, count }),
+            Gathered::Skipped { op, count } => Ok(Head::Passed { at, op, count }),
             Gathered::Held(found) => Ok(Head::Inst {
                 at,
                 inst: self.core.instruction(found),
@@ -173,13 +175,14 @@ impl<'r, R: Source> Reader<'r, R> {
         }
     }
 
-    /// Asks for one byte behind STOP: whether a further pickle begins there. Where it does, that
-    /// byte is the first of its first instruction, with which it counts: `next` and `next_head`
-    /// read on to the next STOP, and offsets go on. Where the source is at its end, the reader
-    /// stays as it is.
+    /// Reads one byte after STOP, to find out whether another pickle follows. If so, that byte is
+    /// the first of its first instruction and counts with it: `next` and `next_head` read on to the
+    /// next STOP, and offsets continue. At the end of the source, the reader stays as it is.
     ///
-    /// It refuses by `Source`, by `OutOfMemory`, or by `TooLarge` in place of asking once 2^64 - 1
-    /// bytes were taken. After that `next` and `next_head` answer the same refusal for ever.
+    /// # Errors
+    ///
+    /// `Source`, `OutOfMemory`, or `TooLarge` without reading once 2^64 - 1 bytes were taken. From
+    /// then on `next` and `next_head` return the same refusal.
     pub fn again(&mut self) -> Result<bool, Refusal>
         requires { has_ended (state R.left R.failures self.old) ≡ true }
         ensures source { KeepsSource self.old self.new }

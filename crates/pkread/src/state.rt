@@ -1,26 +1,24 @@
 //! What a reader keeps beside its source: the bytes of an instruction, and how it goes on.
 
-ghost use Rattle.std.specs.Io.KnownBytes.{IsAtEnd};
-ghost use Rattle.std.specs.Prelude.{◌≡◌, ◌≢◌, ◌∷◌, ◌<◌, ◌≤◌, [], ℕ, List, IfOk, IfErr};
-ghost use Rattle.std.specs.Prelude.{false, length, max, true};
+ghost use Rattle.std.specs.Prelude.{◌≡◌, ◌≢◌, ◌<◌, ◌≤◌, [], IfErr, IfOk, false, length, true};
 ghost use Rattle.pkops.specs.Inst.{instruction_of};
 ghost use Rattle.pkops.specs.Lying.{Lies};
-ghost use Rattle.pkops.specs.Payloads.{is_passed, payload_limit_at};
 ghost use Rattle.pkops.specs.Scanning.{longest};
 ghost use Rattle.pkops.specs.Spelling.{Argument, instruction};
+ghost use Rattle.pkread.specs.Again.{WhyNoByte};
 ghost use Rattle.pkread.specs.Core as phase;
 ghost use Rattle.pkread.specs.Core.{NoneIfClosed, ahead_of, phase_after, shown_phase};
-ghost use Rattle.pkread.specs.Heads.{HoldsFew, PassesBy};
 ghost use Rattle.pkread.specs.Held.{most_held};
-ghost use Rattle.pkread.specs.Private.Gathering.{Gathers, IsFound};
-ghost use Rattle.pkread.specs.Private.Passing.{IfHeld, IfPassed};
-ghost use Rattle.pkread.specs.Again.{WhyNoByte};
-ghost use Rattle.pkread.specs.Reading.{Raises};
-ghost use Rattle.pkread.specs.Rows.{Refuses, Takes, all_bytes, sight, unread};
+ghost use Rattle.pkread.specs.Private.Collecting.{Advances, ByteCame, Collects, CollectsHead};
+ghost use Rattle.pkread.specs.Private.Collecting.{EndsHere, IfHeld, NoneCame, Waits, before_next};
+ghost use Rattle.pkread.specs.Private.Collecting.{behind_next, phase_behind};
+ghost use Rattle.pkread.specs.Private.Gathering.{IsFound};
+ghost use Rattle.pkread.specs.Private.Progress.{KeepsRest};
+ghost use Rattle.pkread.specs.Rows.{all_bytes, sight};
 
-use crate::buffer::Buffer;
-use crate::gather::{Found, gather};
-use crate::heads::{Gathered, gather_head};
+use crate::gather::Found;
+use crate::gathering::Gathering;
+use crate::heads::Gathered;
 use crate::refusal::{Reason, Refusal};
 use crate::source::Source;
 use pkops::{Inst, Limits, Op};
@@ -42,17 +40,15 @@ pub(crate) enum Phase {
 /// the source still known.
 #[derive(Debug, Drop)]
 pub struct Core {
-    buffer: Buffer,
-    taken: u64,
-    limits: Limits,
+    gathering: Gathering,
     phase: Phase,
-    /// Whether the buffer holds what was taken ahead of the next instruction.
+    /// Whether the bytes held were taken ahead of the next instruction.
     begun: bool,
 }
 
 impl Model for Core {
     ghost use Rattle.std.specs.Prelude.{◌≤◌, length};
-    ghost use Rattle.pkread.specs.Core.{Begins, CoreView, NoneIfClosed, SomeIfEnded};
+    ghost use Rattle.pkread.specs.Core.{AtMostOneAhead, CoreView, NoneIfClosed, SomeIfEnded};
     ghost use Rattle.pkread.specs.Core.{ahead_of, shown_phase};
     ghost use Rattle.pkread.specs.Held.{most_held};
     ghost use Rattle.pkops.specs.Scanning.{longest};
@@ -60,18 +56,18 @@ impl Model for Core {
     ghost Value = { CoreView };
 
     ghost view = { λ c. record {
-      held = c.buffer;
-      ahead = ahead_of c.begun c.buffer.bytes;
-      taken = c.taken;
-      limits = c.limits;
+      held = c.gathering.buffer;
+      ahead = ahead_of c.begun c.gathering.buffer.bytes;
+      taken = c.gathering.taken;
+      limits = c.gathering.limits;
       phase = shown_phase c.phase;
     } };
 
-    ghost invariant = { λ c. (most_held c.buffer ≤ longest c.limits.counted)
-        × (length (ahead_of c.begun c.buffer.bytes) ≤ c.buffer.peak)
-        × SomeIfEnded (shown_phase c.phase) (most_held c.buffer)
-        × Begins (ahead_of c.begun c.buffer.bytes) c.taken
-        × NoneIfClosed (shown_phase c.phase) (ahead_of c.begun c.buffer.bytes) };
+    ghost invariant = { λ c. (most_held c.gathering.buffer ≤ longest c.gathering.limits.counted)
+        × (length (ahead_of c.begun c.gathering.buffer.bytes) ≤ c.gathering.buffer.peak)
+        × SomeIfEnded (shown_phase c.phase) (most_held c.gathering.buffer)
+        × AtMostOneAhead (ahead_of c.begun c.gathering.buffer.bytes) c.gathering.taken
+        × NoneIfClosed (shown_phase c.phase) (ahead_of c.begun c.gathering.buffer.bytes) };
 }
 
 impl Core {
@@ -89,9 +85,7 @@ impl Core {
         } }
     {
         Core {
-            buffer: Buffer::new(alloc),
-            taken: 0,
-            limits: *limits,
+            gathering: Gathering::new(alloc, limits),
             phase: Phase::Open,
             begun: false,
         }
@@ -100,7 +94,7 @@ impl Core {
     pub(crate) fn taken(&self) -> u64
         ensures { result ≡ self.now.taken }
     {
-        self.taken
+        self.gathering.taken()
     }
 
     pub(crate) fn phase(&self) -> Phase
@@ -114,7 +108,7 @@ impl Core {
         ensures most { result ≡ most_held self.now.held }
         ensures bound { result ≤ longest self.now.limits.counted }
     {
-        self.buffer.most()
+        self.gathering.most()
     }
 
     /// Goes on behind an instruction of the opcode.
@@ -128,6 +122,20 @@ impl Core {
         match op {
             Op::Stop => self.phase = Phase::Ended,
             _ => {}
+        }
+    }
+
+    /// Goes on behind what was gathered.
+    #[inline(always)]
+    fn give_head(&mut self, head: Gathered)
+        requires open { self.old.phase ≡ phase.Open }
+        requires none { self.old.ahead ≡ [] }
+        requires some { IfHeld head (0 < most_held self.old.held) }
+        ensures { self.new ≡ record self.old { phase = phase_behind head } }
+    {
+        match head {
+            Gathered::Held(found) => self.give(found.op),
+            Gathered::Skipped { .. } => {}
         }
     }
 
@@ -152,36 +160,21 @@ impl Core {
             Lies self.now.limits.counted found.op arg found.split self.now.held.bytes →
             instruction_of result ≡ instruction found.op arg }
     {
-        Inst::spelled(found.op, found.split, self.buffer.bytes())
+        Inst::spelled(found.op, found.split, self.gathering.bytes())
     }
 
     /// Takes the bytes of the next instruction.
     pub(crate) fn collect<R: Source>(&mut self, source: &mut R) -> Result<Found, Refusal>
         requires { self.old.phase ≡ phase.Open }
-        ensures limits { self.new.limits ≡ self.old.limits }
-        ensures ahead { self.new.ahead ≡ [] }
-        ensures whole { IfOk result (λ f.
-            IsFound self.old.limits.counted self.new.held.bytes f.op f.split
-            × (self.new.phase ≡ phase_after f.op)) }
-        ensures ok { IfOk result (λ _. Gathers self.old.limits.counted
-            (unread self.old.ahead (sight R.left R.failures source.old))
-            (sight R.left R.failures source.new)
-            self.new.held.bytes self.old.taken self.new.taken) }
-        ensures most { IfOk result (λ _.
-            most_held self.new.held ≡ max (most_held self.old.held) (length self.new.held.bytes)) }
-        ensures within { self.new.taken ≤ all_bytes }
-        ensures place { IfErr result (λ r.
-            (r.at ≡ self.old.taken) × (self.new.phase ≡ phase.Refused r)) }
-        ensures err { IfErr result (λ r. (bytes : List ℕ) × Refuses self.old.limits.counted
-            (unread self.old.ahead (sight R.left R.failures source.old))
-            (sight R.left R.failures source.new)
-            bytes self.old.taken self.new.taken r.reason
-            × Raises (most_held self.old.held) bytes r.reason (most_held self.new.held)) }
+        ensures advances { Advances self.old self.new }
+        ensures collects { Collects result self.old self.new
+            (before_next R.left R.failures source.old self.old)
+            (behind_next R.left R.failures source.new self.new) }
     {
-        let at = self.taken;
-        keep(&mut self.buffer, &mut self.begun);
-        let gathered = gather(source, &mut self.buffer, &mut self.taken, &self.limits);
-        let _taken = self.taken;
+        let at = self.gathering.taken();
+        keep(&mut self.gathering, &mut self.begun);
+        let gathered = self.gathering.gather(source);
+        let _taken = self.gathering.taken();
         match gathered {
             Ok(found) => {
                 self.give(found.op);
@@ -195,47 +188,19 @@ impl Core {
     #[inline(always)]
     pub(crate) fn collect_head<R: Source>(&mut self, source: &mut R) -> Result<Gathered, Refusal>
         requires { self.old.phase ≡ phase.Open }
-        ensures limits { self.new.limits ≡ self.old.limits }
-        ensures ahead { self.new.ahead ≡ [] }
-        ensures least { most_held self.old.held ≤ most_held self.new.held }
-        ensures passed { IfOk result (λ g. IfPassed g (λ op count. PassesBy self.old.limits.passed
-            op count (unread self.old.ahead (sight R.left R.failures source.old))
-            (sight R.left R.failures source.new)
-            self.old.taken self.new.taken)) }
-        ensures open { IfOk result (λ g. IfPassed g (λ _ _. self.new.phase ≡ phase.Open)) }
-        ensures few { IfOk result (λ g. IfPassed g (λ _ _.
-            most_held self.new.held ≤ max (most_held self.old.held) 131_075)) }
-        ensures held { IfOk result (λ g. IfHeld g (λ f.
-            IsFound self.old.limits.counted self.new.held.bytes f.op f.split
-            × (is_passed f.op ≡ false)
-            × (most_held self.new.held
-            ≡ max (most_held self.old.held) (length self.new.held.bytes))
-            × Gathers self.old.limits.counted
-            (unread self.old.ahead (sight R.left R.failures source.old))
-            (sight R.left R.failures source.new)
-            self.new.held.bytes self.old.taken self.new.taken
-            × HoldsFew (most_held self.old.held) self.new.held.bytes
-            (most_held self.new.held))) }
-        ensures next { IfOk result (λ g. IfHeld g (λ f. self.new.phase ≡ phase_after f.op)) }
-        ensures within { self.new.taken ≤ all_bytes }
-        ensures place { IfErr result (λ r.
-            (r.at ≡ self.old.taken) × (self.new.phase ≡ phase.Refused r)) }
-        ensures err { IfErr result (λ r. (bytes : List ℕ) × Refuses
-            (payload_limit_at self.old.limits bytes)
-            (unread self.old.ahead (sight R.left R.failures source.old))
-            (sight R.left R.failures source.new)
-            bytes self.old.taken self.new.taken r.reason
-            × HoldsFew (most_held self.old.held) bytes (most_held self.new.held)) }
+        ensures advances { Advances self.old self.new }
+        ensures collects { CollectsHead result self.old self.new
+            (before_next R.left R.failures source.old self.old)
+            (behind_next R.left R.failures source.new self.new) }
     {
-        let at = self.taken;
-        keep(&mut self.buffer, &mut self.begun);
-        let gathered = gather_head(source, &mut self.buffer, &mut self.taken, &self.limits);
-        let _taken = self.taken;
+        let at = self.gathering.taken();
+        keep(&mut self.gathering, &mut self.begun);
+        let gathered = self.gathering.gather_head(source);
+        let _taken = self.gathering.taken();
         match gathered {
-            Ok(Gathered::Passed { op, count }) => Ok(Gathered::Passed { op, count }),
-            Ok(Gathered::Held(found)) => {
-                self.give(found.op);
-                Ok(Gathered::Held(found))
+            Ok(head) => {
+                self.give_head(head);
+                Ok(head)
             }
             Err(reason) => Err(self.refuse(at, reason)),
         }
@@ -245,24 +210,20 @@ impl Core {
     pub(crate) fn again<R: Source>(&mut self, source: &mut R) -> Result<bool, Refusal>
         requires { self.old.phase ≡ phase.Ended }
         ensures none { self.old.ahead ≡ [] }
-        ensures kept { (most_held self.new.held ≡ most_held self.old.held)
-            × (self.new.taken ≡ self.old.taken) × (self.new.limits ≡ self.old.limits) }
+        ensures kept { Waits self.old self.new }
         ensures room { IfOk result (λ _. self.old.taken < all_bytes) }
-        ensures byte { IfOk result (λ more. more ≡ true → (byte : ℕ)
-            × (self.new.ahead ≡ byte ∷ [])
-            × Takes (sight R.left R.failures source.old) (sight R.left R.failures source.new)
-            (byte ∷ []) × (self.new.phase ≡ phase.Open)) }
-        ensures end { IfOk result (λ more. more ≡ false → (self.new.ahead ≡ [])
-            × Takes (sight R.left R.failures source.old) (sight R.left R.failures source.new) []
-            × IsAtEnd (R.left source.new) × (self.new.phase ≡ phase.Ended)) }
-        ensures place { IfErr result (λ r. (r.at ≡ self.old.taken)
-            × (self.new.ahead ≡ []) × (self.new.phase ≡ phase.Refused r)) }
-        ensures err { IfErr result (λ r. WhyNoByte
+        ensures byte { IfOk result (λ more. more ≡ true → (self.new.phase ≡ phase.Open) × ByteCame
             (sight R.left R.failures source.old) (sight R.left R.failures source.new)
-            self.old.taken r.reason) }
+            self.new.ahead) }
+        ensures end { IfOk result (λ more. more ≡ false → (self.new.phase ≡ phase.Ended) × NoneCame
+            (sight R.left R.failures source.old) (sight R.left R.failures source.new)
+            self.new.ahead) }
+        ensures place { IfErr result (EndsHere self.old self.new) }
+        ensures err { IfErr result (λ r. WhyNoByte (sight R.left R.failures source.old)
+            (sight R.left R.failures source.new) self.old.taken r.reason) }
     {
-        self.buffer.clear();
-        match ask(source, &mut self.buffer, self.taken) {
+        self.gathering.clear();
+        match ask(source, &mut self.gathering) {
             Ok(more) => {
                 self.begun = more;
                 self.phase = phase_of(more);
@@ -270,25 +231,30 @@ impl Core {
             }
             Err(reason) => {
                 self.begun = false;
-                Err(self.refuse(self.taken, reason))
+                let at = self.gathering.taken();
+                Err(self.refuse(at, reason))
             }
         }
     }
 }
 
-/// Leaves in a buffer what was taken ahead of the next instruction, where that is begun. Nothing is
-/// ahead of the one behind it.
+/// Holds what was taken ahead of the next instruction, where that is begun. Nothing is ahead of the
+/// one behind it.
 #[inline(always)]
-fn keep(buffer: &mut Buffer, begun: &mut bool)
-    requires { length (ahead_of begun.old buffer.old.bytes) ≤ buffer.old.peak }
-    ensures bytes { buffer.new.bytes ≡ ahead_of begun.old buffer.old.bytes }
-    ensures peak { buffer.new.peak ≡ most_held buffer.old }
+fn keep(gathering: &mut Gathering, begun: &mut bool)
+    requires { length (ahead_of begun.old gathering.old.buffer.bytes) ≤ gathering.old.buffer.peak }
+    ensures kept { gathering.new ≡ record gathering.old {
+      buffer = record {
+        bytes = ahead_of begun.old gathering.old.buffer.bytes;
+        peak = most_held gathering.old.buffer;
+      };
+    } }
     ensures none { begun.new ≡ false }
 {
     if *begun {
         *begun = false;
     } else {
-        buffer.clear();
+        gathering.clear();
     }
 }
 
@@ -300,26 +266,24 @@ fn phase_of(more: bool) -> Phase
     if more { Phase::Open } else { Phase::Ended }
 }
 
-/// Asks for one byte, which stands in the buffer then. Gives whether it came.
-fn ask<R: Source>(source: &mut R, buffer: &mut Buffer, taken: u64) -> Result<bool, Reason>
-    requires { buffer.old.bytes ≡ [] }
-    ensures peak { buffer.new.peak ≡ buffer.old.peak }
-    ensures room { IfOk result (λ _. taken < all_bytes) }
-    ensures byte { IfOk result (λ more. more ≡ true → (byte : ℕ)
-        × (buffer.new.bytes ≡ byte ∷ [])
-        × Takes (sight R.left R.failures source.old) (sight R.left R.failures source.new)
-        (byte ∷ [])) }
-    ensures end { IfOk result (λ more. more ≡ false
-        → Takes (sight R.left R.failures source.old) (sight R.left R.failures source.new) []
-        × IsAtEnd (R.left source.new) × (buffer.new.bytes ≡ [])) }
-    ensures same { IfErr result (λ _. buffer.new.bytes ≡ []) }
-    ensures err { IfErr result (WhyNoByte
-        (sight R.left R.failures source.old) (sight R.left R.failures source.new) taken) }
+/// Asks for one byte, which is held then. Gives whether it came.
+fn ask<R: Source>(source: &mut R, gathering: &mut Gathering) -> Result<bool, Reason>
+    requires { gathering.old.buffer.bytes ≡ [] }
+    ensures keeps { KeepsRest gathering.old gathering.new }
+    ensures taken { gathering.new.taken ≡ gathering.old.taken }
+    ensures room { IfOk result (λ _. gathering.old.taken < all_bytes) }
+    ensures byte { IfOk result (λ more. more ≡ true → ByteCame (sight R.left R.failures source.old)
+        (sight R.left R.failures source.new) gathering.new.buffer.bytes) }
+    ensures end { IfOk result (λ more. more ≡ false → NoneCame (sight R.left R.failures source.old)
+        (sight R.left R.failures source.new) gathering.new.buffer.bytes) }
+    ensures same { IfErr result (λ _. gathering.new.buffer.bytes ≡ []) }
+    ensures err { IfErr result (WhyNoByte (sight R.left R.failures source.old)
+        (sight R.left R.failures source.new) gathering.old.taken) }
 {
-    if taken == u64::MAX {
+    if gathering.taken() == u64::MAX {
         return Err(Reason::TooLarge);
     }
-    match buffer.read_byte(source) {
+    match gathering.take_ahead(source) {
         Ok(_) => Ok(true),
         Err(reason) => none_or(reason),
     }

@@ -4,7 +4,7 @@ ghost use Rattle.std.specs.Prelude.{◌≡◌, IfOk, IfErr, length};
 ghost use Rattle.pkops.specs.Answer.{IsWhole};
 ghost use Rattle.pkops.specs.Inst.{instruction_of};
 ghost use Rattle.pkread.specs.Admission.{objection};
-ghost use Rattle.pkread.specs.Genops.{IsRefused, is_stop, walk_of};
+ghost use Rattle.pkread.specs.Genops.{EndsOrIsAmiss, is_stop, walk_of};
 
 use crate::admission::{objection_to, reason_of};
 use crate::refusal::{Reason, Refusal};
@@ -60,9 +60,8 @@ impl<'a> Iterator for Genops<'a> {
 
     ghost remaining = { most_items };
 
-    /// The next instruction and the offset of its first byte, or the refusal of what stands
-    /// there. It refuses by the reasons from `Truncated` to `UnsupportedProtocol` that `Reason`
-    /// lists.
+    /// The next instruction and the offset of its first byte, or a refusal, for one of the reasons
+    /// from `Truncated` to `UnsupportedProtocol`, in the order of `Reason`.
     fn next(&mut self) -> Option<Result<(u64, Inst<'a>), Refusal>> {
         if self.done {
             return None;
@@ -83,20 +82,20 @@ impl<'a> Iterator for Genops<'a> {
     }
 }
 
-/// It is STOP.
+/// Whether the opcode is STOP.
 fn is_stop(op: Op) -> bool
     ensures { result ≡ is_stop op }
 {
     matches!(op, Op::Stop)
 }
 
-/// The instruction that a front of the bytes spells, and how many bytes that front has.
+/// The instruction at the front of the bytes, and its length in bytes.
 fn admitted_at_front<'a>(bytes: &'a [u8], limits: &Limits) -> Result<(Inst<'a>, usize), Reason>
     ensures ok { IfOk result (λ given.
         IsWhole limits.now.counted bytes.now (instruction_of given.0) given.1
         × (objection (instruction_of given.0) ≡ None)) }
-    ensures err { IfErr result (λ reason. IsRefused limits.now.counted bytes.now reason
-        × ((other : Reason) → IsRefused limits.now.counted bytes.now other → other ≡ reason)) }
+    ensures err { IfErr result (λ reason. EndsOrIsAmiss limits.now.counted bytes.now reason
+        × ((other : Reason) → EndsOrIsAmiss limits.now.counted bytes.now other → other ≡ reason)) }
 {
     one_answer();
     match scan(bytes, limits) {

@@ -25,7 +25,7 @@ pub fn judge<T: AllocGlobal, R: Source>(
     verdict_of(check(rt.alloc(), source, policy, limits))
 }
 
-/// The same, where this becomes of old strings.
+/// Like the verdict above, for a reader that decodes Python 2 strings as `old_strings` says.
 pub fn judge_as<T: AllocGlobal, R: Source>(
     rt: &T,
     policy: &Policy<'_>,

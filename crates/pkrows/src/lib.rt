@@ -18,6 +18,8 @@ mod large;
 #[cfg(test)]
 mod limited;
 #[cfg(test)]
+mod listed;
+#[cfg(test)]
 mod lists;
 #[cfg(test)]
 mod loaded_rows;
@@ -29,6 +31,8 @@ mod old_strings;
 mod opcodes;
 #[cfg(test)]
 mod optimized;
+#[cfg(test)]
+mod printed;
 #[cfg(test)]
 mod readers;
 #[cfg(test)]

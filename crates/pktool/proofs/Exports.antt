@@ -3,10 +3,10 @@ use Rattle.std.proofs.Common.{ℕ, List, [], ◌∷◌, ◌++◌, Option, Some, 
 use Rattle.std.specs.Io.KnownBytes.{Appends, Consumes}
 use Rattle.pkops.specs.Limits.{Bounds}
 use Rattle.pkread.specs.Rows.{Sight, Takes}
-use Rattle.pkjson.specs.Export.{IsRefused, IsTextOf}
-use Rattle.pkjson.specs.declared.error.ExportError.{ExportError}
-use Rattle.pkjson.specs.declared.error.ExportError.TheVariants.{Check, NotPlain, Key, Number, TooDeep, TooMany, OutOfMemory}
-use Rattle.pktool.specs.Json.{EndsWith, IsErrorFor, TakesAll}
+use Rattle.pkjson.specs.Export.{IsNotExported, IsTextOf}
+use Rattle.pkjson.specs.declared.ExportError.{ExportError}
+use Rattle.pkjson.specs.declared.ExportError.TheVariants.{Check, NotPlain, Key, Number, TooDeep, TooMany, OutOfMemory}
+use Rattle.pktool.specs.Json.{EndsWith, IsErrorFor, ReadsWhole}
 use Rattle.pktool.specs.Private.Lists.{appends_then}
 use Rattle.pktool.specs.declared.checking.Outcome.TheVariants.{Done}
 
@@ -26,7 +26,7 @@ takes_none a = record { bytes = consumes_none a.left; count = refl }
 pub takes_then : (a b c : Sight) (xs ys : List ℕ) → Takes a b xs → Takes b c ys → Takes a c (xs ++ ys)
 takes_then a b c xs ys p q = record { bytes = consumes_then a.left b.left c.left xs ys p.bytes q.bytes; count = q.count ∙ p.count }
 
-pub error_for : (limits : Bounds) (old new : Sight) (bytes : List ℕ) (e : ExportError) → TakesAll old new bytes → IsRefused limits bytes e → IsErrorFor limits old new e
+pub error_for : (limits : Bounds) (old new : Sight) (bytes : List ℕ) (e : ExportError) → ReadsWhole old new bytes → IsNotExported limits bytes e → IsErrorFor limits old new e
 error_for limits old new bytes (Check r) t h = (bytes, t, h)
 error_for limits old new bytes (NotPlain at op) t h = (bytes, t, h)
 error_for limits old new bytes (Key at) t h = (bytes, t, h)
@@ -36,7 +36,7 @@ error_for limits old new bytes TooMany t h = (bytes, t, h)
 error_for limits old new bytes OutOfMemory t h = (bytes, t.0)
 
 -- the text and then a line end
-pub ends_done : (limits : Bounds) (old new : Sight) (a b c : Option (List ℕ)) (bytes text : List ℕ) → TakesAll old new bytes → IsTextOf limits bytes text → Appends a b text → Appends b c (10 ∷ []) → EndsWith limits old new a c Done
+pub ends_done : (limits : Bounds) (old new : Sight) (a b c : Option (List ℕ)) (bytes text : List ℕ) → ReadsWhole old new bytes → IsTextOf limits bytes text → Appends a b text → Appends b c (10 ∷ []) → EndsWith limits old new a c Done
 ends_done limits old new a b c bytes text t h p q = (bytes, t, h.0, h.1, rw (← h.2) (appends_then a b c text _ p q))
 
 -- a line whose name is written between two texts

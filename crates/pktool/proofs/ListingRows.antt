@@ -4,7 +4,7 @@ use Rattle.std.specs.Fmt.{digits}
 use Rattle.std.specs.Prelude.{negsuc}
 use Rattle.hex.specs.Hex.{encode_with}
 use Rattle.pkops.specs.Spelling.{Nothing, Number, Signed, Pair, Counted, instruction}
-use Rattle.pkops.specs.declared.op.Op.TheVariants as op
+use Rattle.pkops.specs.declared.Op.TheVariants as op
 use Rattle.pkcheck.specs.Heard.{heard}
 use Rattle.pkcheck.specs.Knowledge.{AskedPair, AskedUnknown}
 use Rattle.pktool.specs.Imports.{import_line}

@@ -2,9 +2,10 @@
 use Rattle.std.proofs.Common.{◌≡◌, refl, codes, [], ◌∷◌, None}
 use Rattle.std.specs.Fmt.{digits}
 use Rattle.hex.specs.Hex.{encode_with}
-use Rattle.pkread.specs.declared.refusal.Reason.TheVariants as reason
+use Rattle.pkread.specs.declared.Reason.TheVariants as reason
+use Rattle.pkread.specs.Printed.{reason_text}
 use Rattle.pktool.specs.Quoted.{quoted}
-use Rattle.pktool.specs.Verdict.{yes_line, no_line, reason_text}
+use Rattle.pktool.specs.Verdict.{yes_line, no_line}
 
 one_import : yes_line 28 1 ≡ codes "yes: 28 bytes, 1 imports\n"
 unfolding digits

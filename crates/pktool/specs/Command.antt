@@ -6,9 +6,9 @@ use Rattle.clap.specs.Simple.{new_shape}
 use Rattle.clap.specs.declared.builder.action.ArgAction.TheVariants.{SetTrue}
 use Rattle.clap.specs.declared.builder.value_parser.ValueParser.{ValueParser}
 use Rattle.clap.specs.declared.builder.value_parser.ValueParser.TheVariants.{Names}
-use Rattle.pkcheck.specs.declared.loading.Memo.TheVariants.{Fresh, Kept}
-use Rattle.pkcheck.specs.declared.old_strings.OldStrings.{OldStrings}
-use Rattle.pkcheck.specs.declared.old_strings.OldStrings.TheVariants.{Unknown, Ascii, Bytes}
+use Rattle.pkcheck.specs.declared.Memo.TheVariants.{Fresh, Kept}
+use Rattle.pkcheck.specs.declared.OldStrings.{OldStrings}
+use Rattle.pkcheck.specs.declared.OldStrings.TheVariants.{Unknown, Ascii, Bytes}
 use Rattle.pktool.specs.declared.job.Job.{Job}
 use Rattle.pktool.specs.declared.job.Job.TheVariants.{Dis, Check, Imports, Optimize, Json}
 use Rattle.pktool.specs.declared.job.Pickles.{Pickles}
@@ -18,13 +18,13 @@ use Rattle.pktool.specs.declared.job.Pickles.TheVariants.{First, Row as RowOf}
 abbrev pub allow_rule : Rule
 allow_rule = record (new_rule (codes "LIST")) { long = Some (codes "allow"); required = true }
 
--- the word of a setting for old strings
+-- the word for a way to decode Python 2 strings
 abbrev pub old_word : OldStrings → Text
 old_word Unknown = codes "unknown"
 old_word Ascii = codes "ascii"
 old_word Bytes = codes "bytes"
 
--- the option `--old-strings OBJECT`, with its parser, which is `unknown` where it is not given
+-- the option `--old-strings OBJECT` with its parser; `unknown` by default
 abbrev pub old_rule : ValueParser → Rule
 old_rule parser = record (new_rule (codes "OBJECT")) {
   long = Some (codes "old-strings");
@@ -32,7 +32,7 @@ old_rule parser = record (new_rule (codes "OBJECT")) {
   parser = Some parser;
 }
 
--- the parser takes the three words and no other
+-- the parser accepts exactly the three words
 abbrev pub TakesOldWords : ValueParser → Type 0
 TakesOldWords (Names words) =
     map (λ word. word.now) words.now ≡ map old_word (Unknown ∷ Ascii ∷ Bytes ∷ [])
@@ -42,7 +42,7 @@ TakesOldWords _ = ⊥
 abbrev pub all_rule : Rule
 all_rule = record (new_rule (codes "all")) { long = Some (codes "all"); action = Some SetTrue }
 
--- the flag `--one-unpickler`, which needs `--all`
+-- the flag `--one-unpickler`, which requires `--all`
 abbrev pub one_rule : Rule
 one_rule = record (new_rule (codes "one-unpickler")) {
   long = Some (codes "one-unpickler");
@@ -58,7 +58,7 @@ file_rule = record (new_rule (codes "FILE")) { required = true }
 abbrev pub out_rule : Rule
 out_rule = record (new_rule (codes "OUT")) { required = true }
 
--- a subcommand that takes these
+-- a subcommand with these arguments
 abbrev pub app_with : Text → List Rule → App
 app_with name rules = record { top = record (new_shape name) { rules = rules }; subs = [] }
 
@@ -75,7 +75,7 @@ check_app parser =
 abbrev pub optimize_app : App
 optimize_app = app_with (codes "optimize") (file_rule ∷ out_rule ∷ [])
 
--- the program with no subcommand yet, and with the first three of them
+-- the program without its subcommands, then with the first three of them
 abbrev pub bare_app : App
 bare_app = record {
   top = record (new_shape (codes "pktool")) {
@@ -98,7 +98,7 @@ reading_app parser = record {
       (file_app (codes "dis")).top ∷ (check_app parser).top ∷ (file_app (codes "imports")).top ∷ [];
 }
 
--- one level of subcommands, of which one must be given
+-- one level of subcommands, one of which is required
 abbrev pub program_app : ValueParser → App
 program_app parser = record {
   top = record (new_shape (codes "pktool")) {
@@ -112,7 +112,8 @@ program_app parser = record {
       ∷ optimize_app.top ∷ (file_app (codes "json")).top ∷ [];
 }
 
--- these are the option, the command and the program, and old strings are one of the three words
+-- these are the option, the command and the program, for a parser that accepts exactly the three
+-- words
 abbrev pub IsOldRule : Rule → Type 0
 IsOldRule rule = (parser : ValueParser) × TakesOldWords parser × (rule ≡ old_rule parser)
 
@@ -126,8 +127,8 @@ abbrev pub IsProgram : App → Type 0
 IsProgram app = (parser : ValueParser) × TakesOldWords parser × (app ≡ program_app parser)
 
 -- the argument has this value
-abbrev pub Has : List Row → Text → Text → Type 0
-Has rows id value = first_of id rows ≡ Some value
+abbrev pub IsGiven : List Row → Text → Text → Type 0
+IsGiven rows id value = first_of id rows ≡ Some value
 
 -- the value of a flag
 abbrev pub flag_text : Bool → Text
@@ -144,20 +145,20 @@ one_text First = flag_text false
 one_text (RowOf Fresh) = flag_text false
 one_text (RowOf Kept) = flag_text true
 
--- the values of a job are those of its arguments
-abbrev pub Gives : List Row → Job → Type 0
-Gives rows (Dis file) = Has rows (codes "FILE") (string_bytes file)
-Gives rows (Imports file) = Has rows (codes "FILE") (string_bytes file)
-Gives rows (Json file) = Has rows (codes "FILE") (string_bytes file)
-Gives rows (Optimize file out) =
-    Has rows (codes "FILE") (string_bytes file) × Has rows (codes "OUT") (string_bytes out)
-Gives rows (Check allow old pickles file) =
-    Has rows (codes "LIST") (string_bytes allow) × Has rows (codes "OBJECT") (old_word old)
-    × Has rows (codes "all") (all_text pickles)
-    × Has rows (codes "one-unpickler") (one_text pickles)
-    × Has rows (codes "FILE") (string_bytes file)
+-- the values of the job are those of its arguments
+abbrev pub Carries : List Row → Job → Type 0
+Carries rows (Dis file) = IsGiven rows (codes "FILE") (string_bytes file)
+Carries rows (Imports file) = IsGiven rows (codes "FILE") (string_bytes file)
+Carries rows (Json file) = IsGiven rows (codes "FILE") (string_bytes file)
+Carries rows (Optimize file out) =
+    IsGiven rows (codes "FILE") (string_bytes file) × IsGiven rows (codes "OUT") (string_bytes out)
+Carries rows (Check allow old pickles file) =
+    IsGiven rows (codes "LIST") (string_bytes allow) × IsGiven rows (codes "OBJECT") (old_word old)
+    × IsGiven rows (codes "all") (all_text pickles)
+    × IsGiven rows (codes "one-unpickler") (one_text pickles)
+    × IsGiven rows (codes "FILE") (string_bytes file)
 
--- the subcommand of a job
+-- the subcommand of each job
 abbrev pub name_of : Job → Text
 name_of (Dis file) = codes "dis"
 name_of (Check allow old pickles file) = codes "check"
@@ -165,11 +166,11 @@ name_of (Imports file) = codes "imports"
 name_of (Optimize file out) = codes "optimize"
 name_of (Json file) = codes "json"
 
--- the job is the subcommand that was met, with its values
+-- the job is the subcommand that was found, with its values
 abbrev pub IsJob : Option (Text × List Row) → Job → Type 0
-IsJob met job = (rows : List Row) × (met ≡ Some (name_of job, rows)) × Gives rows job
+IsJob met job = (rows : List Row) × (met ≡ Some (name_of job, rows)) × Carries rows job
 
--- the job is what `clap` makes of the words
-abbrev pub Asks : List Text → Job → Type 0
-Asks words job =
+-- the job is the one that `clap` finds in the words
+abbrev pub AsksForJob : List Text → Job → Type 0
+AsksForJob words job =
     (app : App) × IsProgram app × IsJob (subcommand_of app words) job

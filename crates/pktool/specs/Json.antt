@@ -1,28 +1,29 @@
--- The data of a plain pickle as JSON: what is read, what is written, and how it ends.
+-- A plain pickle as JSON: what is read, what is written, and how the command ends.
 use Rattle.std.specs.Prelude.{◌≡◌, ℕ, ◌+◌, ◌%◌, ◌^◌, List, ◌++◌, codes, decimal, Option, None}
 use Rattle.std.specs.Io.KnownBytes.{Appends, IsAtEnd}
 use Rattle.serde_json.specs.Data.{Data}
 use Rattle.serde_json.specs.Written.{compact_text}
 use Rattle.pkops.specs.Limits.{Bounds}
 use Rattle.pkops.specs.Table.{row_of}
-use Rattle.pkops.specs.declared.op.Op.{Op}
+use Rattle.pkops.specs.declared.Op.{Op}
 use Rattle.pkread.specs.Rows.{Sight, Takes}
-use Rattle.pkjson.specs.Export.{IsRefused, IsValueOf}
-use Rattle.pkjson.specs.declared.error.ExportError.{ExportError}
-use Rattle.pkjson.specs.declared.error.ExportError.TheVariants.{Check, NotPlain, Key, Number, TooDeep, TooMany, OutOfMemory}
+use Rattle.pkjson.specs.Export.{IsNotExported, IsValueOf}
+use Rattle.pkjson.specs.declared.ExportError.{ExportError}
+use Rattle.pkjson.specs.declared.ExportError.TheVariants.{Check, NotPlain, Key, Number, TooDeep}
+use Rattle.pkjson.specs.declared.ExportError.TheVariants.{TooMany, OutOfMemory}
 use Rattle.pktool.specs.Verdict.{no_line}
 use Rattle.pktool.specs.declared.checking.Outcome.{Outcome}
 use Rattle.pktool.specs.declared.checking.Outcome.TheVariants.{Done, Refused, Unread}
 
--- these are all bytes of the source, and no read of them failed
-abbrev pub TakesAll : Sight → Sight → List ℕ → Type 0
-TakesAll old new bytes = Takes old new bytes × IsAtEnd new.left
+-- these are all the bytes of the source, and no read failed
+abbrev pub ReadsWhole : Sight → Sight → List ℕ → Type 0
+ReadsWhole old new bytes = Takes old new bytes × IsAtEnd new.left
 
 -- the count of failed reads went up by one
 abbrev pub OneFailed : ℕ → ℕ → Type 0
 OneFailed old new = new ≡ (old + 1) % (2 ^ 64)
 
--- the compact text of a value, and a line end
+-- the compact text of a value, and a line feed
 abbrev pub value_line : Data → List ℕ
 value_line v = compact_text v ++ codes "\n"
 
@@ -36,7 +37,7 @@ not_plain_line at op =
     codes "no at "
     ++ (decimal at ++ (codes ": NotPlain(" ++ ((row_of op).name ++ codes ")\n")))
 
--- why there is no value
+-- the line of an export error
 abbrev pub error_line : ExportError → List ℕ
 error_line (Check refusal) = no_line refusal.at refusal.reason None
 error_line (NotPlain at op) = not_plain_line at op
@@ -46,17 +47,18 @@ error_line TooDeep = codes "no: TooDeep\n"
 error_line TooMany = codes "no: TooMany\n"
 error_line OutOfMemory = codes "no: OutOfMemory\n"
 
--- the error is that of all bytes of a source. Without memory it may be that not all were taken
+-- the error is the one for all bytes of the source; `OutOfMemory` may come before all of them are
+-- read
 abbrev pub IsErrorFor : Bounds → Sight → Sight → ExportError → Type 0
 IsErrorFor limits old new OutOfMemory = (bytes : List ℕ) × Takes old new bytes
 IsErrorFor limits old new error =
-    (bytes : List ℕ) × TakesAll old new bytes × IsRefused limits bytes error
+    (bytes : List ℕ) × ReadsWhole old new bytes × IsNotExported limits bytes error
 
--- how it ends: with the line of the value of all bytes, with the line of the error, or, exactly
--- where a read failed, with no line
+-- how the command ends: with the line of the value of all bytes, with the line of the error, or,
+-- exactly if a read failed, with no line
 abbrev pub EndsWith : Bounds → Sight → Sight → Option (List ℕ) → Option (List ℕ) → Outcome → Type 0
 EndsWith limits old new before after Done =
-    (bytes : List ℕ) × TakesAll old new bytes
+    (bytes : List ℕ) × ReadsWhole old new bytes
     × (v : Data) × IsValueOf limits bytes v × Appends before after (value_line v)
 EndsWith limits old new before after Refused =
     (error : ExportError) × IsErrorFor limits old new error

@@ -1,9 +1,9 @@
--- The optimized form of a pickle: where it is put, and the line that tells of it.
+-- The optimized form of a pickle: where it is written, and the line that reports it.
 use Rattle.std.specs.Prelude.{◌≡◌, ℕ, ⊤, List, ◌++◌, length, codes, decimal, Option, None, Some}
 use Rattle.std.specs.Io.KnownBytes.{Appends}
 use Rattle.pkops.specs.Limits.{Bounds}
-use Rattle.pkread.specs.declared.refusal.Refusal.{Refusal}
-use Rattle.pkopt.specs.Answer.{IsRefused, Optimizes, TakesAsChecked}
+use Rattle.pkread.specs.declared.Refusal.{Refusal}
+use Rattle.pkopt.specs.Answer.{IsNotOptimized, Optimizes, TakesAsChecked}
 use Rattle.pktool.specs.Verdict.{no_line}
 use Rattle.pktool.specs.declared.checking.Outcome.{Outcome}
 use Rattle.pktool.specs.declared.checking.Outcome.TheVariants.{Done, Refused, Unread}
@@ -13,31 +13,31 @@ abbrev pub sizes_line : ℕ → ℕ → List ℕ
 sizes_line before after =
     decimal before ++ (codes " bytes to " ++ (decimal after ++ codes " bytes\n"))
 
--- a place holds these bytes, where it tells what it holds
-abbrev pub Holds : Option (List ℕ) → List ℕ → Type 0
-Holds None bytes = ⊤
-Holds (Some held) bytes = held ≡ bytes
+-- the place holds these bytes, if it reveals what it holds
+abbrev pub HoldsBytes : Option (List ℕ) → List ℕ → Type 0
+HoldsBytes None bytes = ⊤
+HoldsBytes (Some held) bytes = held ≡ bytes
 
--- the place holds the optimized form of the pickle at the front of the bytes, and the line tells
--- how many bytes the pickle takes and how many its form
+-- the place holds the optimized form of the pickle at the front of the bytes, and the line reports
+-- the sizes of both
 pub record IsPut (limits : Bounds) (bytes : List ℕ) (held before after : Option (List ℕ))
     : Type 0 where
   pub form : List ℕ
   pub optimizes : Optimizes limits bytes form
   pub taken : ℕ
   pub takes : TakesAsChecked limits bytes taken
-  pub holds : Holds held form
+  pub holds : HoldsBytes held form
   pub line : Appends before after (sizes_line taken (length form))
 
 -- the pickle has no optimized form, and the line says why
 pub record IsNone (limits : Bounds) (bytes : List ℕ) (before after : Option (List ℕ))
     : Type 0 where
   pub refusal : Refusal
-  pub refused : IsRefused limits bytes refusal
+  pub refused : IsNotOptimized limits bytes refusal
   pub line : Appends before after (no_line refusal.at refusal.reason None)
 
--- how an optimization ends: with the form in its place, or with a refusal, which leaves the place
--- as it was
+-- how an optimization ends: with the form in its place, or with a refusal that leaves the place
+-- unchanged
 abbrev pub EndsIn : {P : Type 0} → Bounds → List ℕ → (P → Option (List ℕ)) → P → P
     → Option (List ℕ) → Option (List ℕ) → Outcome → Type 0
 EndsIn limits bytes holds old new before after Done =

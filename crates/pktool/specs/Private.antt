@@ -1,3 +1,3 @@
--- Nobody has to believe these: steps of the code, which only private functions cite. The lemmas of
--- `proofs/` show that they come to what the other definitions say.
+-- Internal definitions, cited by private functions alone; they need not be trusted. The lemmas in
+-- `proofs/` relate them to the public definitions.
 pub mod Lists

@@ -1,54 +1,17 @@
 -- The line of a verdict.
 use Rattle.std.specs.Prelude.{ℕ, List, [], ◌++◌, length, codes, decimal, string_bytes}
-use Rattle.std.specs.Prelude.{Option, Some, None, Result, Ok, Err}
-use Rattle.pkread.specs.declared.refusal.Reason.{Reason}
-use Rattle.pkread.specs.declared.refusal.Reason.TheVariants as reason
-use Rattle.pkcheck.specs.declared.import.Asked.{Asked}
-use Rattle.pkcheck.specs.declared.import.Asked.TheVariants.{Pair}
-use Rattle.pkcheck.specs.declared.checking.Yes.{Yes}
-use Rattle.pkcheck.specs.declared.checking.No.{No}
-use Rattle.pkcheck.specs.declared.row_of_pickles.YesAll.{YesAll}
-use Rattle.pkcheck.specs.declared.row_of_pickles.NoAll.{NoAll}
+use Rattle.std.specs.Prelude.{Option, Some, Result, Ok, Err}
+use Rattle.pkread.specs.declared.Reason.{Reason}
+use Rattle.pkread.specs.Printed.{reason_text}
+use Rattle.pkcheck.specs.declared.Asked.{Asked}
+use Rattle.pkcheck.specs.declared.Asked.TheVariants.{Pair}
+use Rattle.pkcheck.specs.declared.Yes.{Yes}
+use Rattle.pkcheck.specs.declared.No.{No}
+use Rattle.pkcheck.specs.declared.YesAll.{YesAll}
+use Rattle.pkcheck.specs.declared.NoAll.{NoAll}
 use Rattle.pktool.specs.declared.checking.Outcome.{Outcome}
 use Rattle.pktool.specs.declared.checking.Outcome.TheVariants.{Done, Refused}
 use Rattle.pktool.specs.Quoted.{quoted}
-
--- the name of each reason
-abbrev pub reason_name : Reason → List ℕ
-reason_name reason.Source = codes "Source"
-reason_name reason.Truncated = codes "Truncated"
-reason_name (reason.UnknownOpcode code) = codes "UnknownOpcode"
-reason_name reason.BadArgument = codes "BadArgument"
-reason_name reason.TooLarge = codes "TooLarge"
-reason_name reason.ExtensionCode = codes "ExtensionCode"
-reason_name (reason.UnsupportedProtocol version) = codes "UnsupportedProtocol"
-reason_name reason.BrokenFrame = codes "BrokenFrame"
-reason_name reason.MissingMark = codes "MissingMark"
-reason_name reason.MissingItem = codes "MissingItem"
-reason_name (reason.MissingMemo number) = codes "MissingMemo"
-reason_name reason.OddItems = codes "OddItems"
-reason_name reason.WrongClass = codes "WrongClass"
-reason_name reason.NotText = codes "NotText"
-reason_name reason.UnknownImport = codes "UnknownImport"
-reason_name reason.ImportOffList = codes "ImportOffList"
-reason_name reason.LeftOver = codes "LeftOver"
-reason_name reason.NotAscii = codes "NotAscii"
-reason_name reason.OutOfMemory = codes "OutOfMemory"
-
--- its number: a code byte, a protocol or a memo number
-abbrev pub reason_number : Reason → Option ℕ
-reason_number (reason.UnknownOpcode code) = Some code
-reason_number (reason.UnsupportedProtocol version) = Some version
-reason_number (reason.MissingMemo number) = Some number
-reason_number _ = None
-
--- a name, and behind it a number in parentheses where there is one
-abbrev pub numbered : List ℕ → Option ℕ → List ℕ
-numbered name None = name
-numbered name (Some number) = name ++ (codes "(" ++ (decimal number ++ codes ")"))
-
-abbrev pub reason_text : Reason → List ℕ
-reason_text why = numbered (reason_name why) (reason_number why)
 
 -- a pair off the list: `("MODULE","NAME")`
 abbrev pub pair_text : Option Asked → List ℕ
@@ -77,7 +40,7 @@ abbrev pub verdict_line : Result Yes No → List ℕ
 verdict_line (Ok accepted) = yes_line accepted.taken (length accepted.imports)
 verdict_line (Err refused) = no_line refused.at refused.reason refused.pair
 
--- a check that is done said yes
+-- the outcome of a check: done for a yes, refused for a no
 abbrev pub outcome_of : Result Yes No → Outcome
 outcome_of (Ok accepted) = Done
 outcome_of (Err refused) = Refused
@@ -103,7 +66,7 @@ row_line (Ok accepted) =
 row_line (Err refused) =
     no_in_line refused.pickle refused.no.at refused.no.reason refused.no.pair
 
--- a check of a row that is done said yes
+-- the outcome of a check of a row: done for a yes, refused for a no
 abbrev pub outcome_of_row : Result YesAll NoAll → Outcome
 outcome_of_row (Ok accepted) = Done
 outcome_of_row (Err refused) = Refused

@@ -1,4 +1,4 @@
-//! The bytes that were read and not yet given.
+//! The bytes that were read ahead.
 
 ghost use Rattle.std.specs.Prelude.{◌≡◌, ◌≤◌, ◌++◌, [], IfOk, IfErr, length};
 ghost use Rattle.std.specs.Io.KnownBytes.{Consumes, IsAtEnd};
@@ -8,10 +8,10 @@ use std::io;
 use std::io::Read;
 use std::marker::Model;
 
-/// How many bytes are asked of a reader at a time.
+/// How many bytes are requested from a reader at a time.
 const SIZE: usize = 65_536;
 
-/// The bytes that were read and not yet given.
+/// The bytes that were read ahead.
 #[derive(Drop)]
 pub struct Block {
     bytes: Vec<u8>,
@@ -32,7 +32,7 @@ impl Model for Block {
 }
 
 impl Block {
-    /// No bytes yet.
+    /// An empty block.
     pub fn new(alloc: Global) -> Result<Block, AllocError>
         ensures { IfOk result (λ b. b ≡ []) }
     {
@@ -45,7 +45,7 @@ impl Block {
         })
     }
 
-    /// How many bytes there are.
+    /// How many bytes are left.
     #[inline]
     pub fn len(&self) -> usize
         ensures { result ≡ length self.now }
@@ -53,7 +53,7 @@ impl Block {
         self.end - self.start
     }
 
-    /// Gives the first bytes away.
+    /// Moves the first bytes out of the block.
     #[inline]
     pub fn fill(&mut self, to: &mut [u8])
         requires { length to.old ≤ length self.old }
@@ -65,7 +65,7 @@ impl Block {
         self.start = end;
     }
 
-    /// Asks a reader once for more, where all were given away.
+    /// Reads once into the block, which must be empty.
     pub fn read<R: Read>(&mut self, reader: &mut R) -> io::Result<()>
         requires { self.old ≡ [] }
         ensures bytes { IfOk result (λ _.

@@ -2,15 +2,15 @@
 
 ghost use Rattle.std.specs.Prelude.{◌≡◌, IfOk};
 ghost use Rattle.pkread.specs.Pull.{Counted, Pulled};
-ghost use Rattle.pktool.specs.Blocks.{failed_reads, unread};
+ghost use Rattle.pktool.specs.Blocks.{failed_reads, unpulled};
 
 use crate::block::Block;
 use pkread::{ReadFailed, Source};
 use std::alloc::{AllocError, Global};
 use std::io::Read;
 
-/// A source of what a reader gives, which is asked for a block at a time. A pull of a few bytes is
-/// most often a move out of the block, and is inlined where it is called.
+/// A source over a reader, which it reads one block at a time. A pull of a few bytes is usually a
+/// copy out of the block, and is inlined into its caller.
 #[derive(Drop)]
 pub struct Blocks<R> {
     reader: R,
@@ -19,9 +19,9 @@ pub struct Blocks<R> {
 }
 
 impl<R: Read + Drop> Blocks<R> {
-    /// A source of what the reader gives. Nothing was read yet.
+    /// A source over a reader. Nothing has been read yet.
     pub fn new(alloc: Global, reader: R) -> Result<Blocks<R>, AllocError>
-        ensures left { IfOk result (λ b. unread R.remaining b ≡ R.remaining reader) }
+        ensures left { IfOk result (λ b. unpulled R.remaining b ≡ R.remaining reader) }
         ensures failures { IfOk result (λ b. failed_reads b ≡ 0) }
     {
         Ok(Blocks {
@@ -33,11 +33,11 @@ impl<R: Read + Drop> Blocks<R> {
 }
 
 impl<R: Read> Blocks<R> {
-    /// Pulls what lies in the block, or in the next one where it is empty.
+    /// Pulls bytes from the block, reading the next one if it is empty.
     #[inline(never)]
     fn pull_some(&mut self, to: &mut [u8]) -> Result<usize, ReadFailed>
         ensures bytes { Pulled
-            (unread R.remaining self.old) (unread R.remaining self.new) result to.new }
+            (unpulled R.remaining self.old) (unpulled R.remaining self.new) result to.new }
         ensures count { Counted (failed_reads self.old) (failed_reads self.new) result }
     {
         if self.block.len() == 0 {
@@ -53,7 +53,7 @@ impl<R: Read> Blocks<R> {
 }
 
 impl<R: Read> Source for Blocks<R> {
-    ghost left = { unread R.remaining };
+    ghost left = { unpulled R.remaining };
 
     ghost failures = { failed_reads };
 
@@ -63,7 +63,8 @@ impl<R: Read> Source for Blocks<R> {
             self.block.fill(to);
             return Ok(to.len());
         }
-        // Taken apart and made anew: else LLVM joins both answers to one, and tests it again.
+        // Unwrapped and wrapped again: otherwise LLVM merges both answers and tests the result
+        // twice.
         Ok(self.pull_some(to)?)
     }
 }

@@ -4,8 +4,8 @@ ghost use Rattle.std.specs.Io.KnownBytes.{Appends};
 ghost use Rattle.pkread.specs.Rows.{sight};
 ghost use Rattle.pkcheck.specs.Answered.{CountsFailures, IsRightAnswer};
 ghost use Rattle.pkcheck.specs.Import.{policy_of};
-ghost use Rattle.pkcheck.specs.declared.checking.Yes.{Yes};
-ghost use Rattle.pkcheck.specs.declared.checking.No.{No};
+ghost use Rattle.pkcheck.specs.declared.Yes.{Yes};
+ghost use Rattle.pkcheck.specs.declared.No.{No};
 ghost use Rattle.pktool.specs.Verdict.{outcome_of, verdict_line};
 
 use crate::printing::write_verdict;
@@ -16,23 +16,23 @@ use std::alloc::Global;
 use std::io;
 use std::io::Write;
 
-/// How a command ended that wrote its answer.
+/// How a command ended after writing its answer.
 #[derive(Clone, Copy, Debug, PartialEq, Eq)]
 pub enum Outcome {
     /// With a yes.
     Done,
     /// With a no.
     Refused,
-    /// With no answer: a read failed, and nothing was written. An export alone ends so.
+    /// With no answer: a read failed, and nothing was written. Only an export ends this way.
     Unread,
 }
 
-/// Checks the pickle at the front of a source, where this becomes of old strings, and writes the
-/// line of the answer.
+/// Checks the pickle at the front of a source, decoding Python 2 strings as `old` says, and writes
+/// the line of the answer.
 ///
 /// # Errors
 ///
-/// The writer's own. How much of the line it has taken is then open.
+/// The writer's. How much of the line was written is then unspecified.
 pub fn check_to<R: Source, W: Write>(
     alloc: Global,
     source: &mut R,

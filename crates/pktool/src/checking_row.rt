@@ -4,8 +4,8 @@ ghost use Rattle.std.specs.Io.KnownBytes.{Appends};
 ghost use Rattle.pkread.specs.Rows.{sight};
 ghost use Rattle.pkcheck.specs.Import.{policy_of};
 ghost use Rattle.pkcheck.specs.RowOfPickles.{CountsInRow, IsRightOfRow};
-ghost use Rattle.pkcheck.specs.declared.row_of_pickles.YesAll.{YesAll};
-ghost use Rattle.pkcheck.specs.declared.row_of_pickles.NoAll.{NoAll};
+ghost use Rattle.pkcheck.specs.declared.YesAll.{YesAll};
+ghost use Rattle.pkcheck.specs.declared.NoAll.{NoAll};
 ghost use Rattle.pktool.specs.Verdict.{outcome_of_row, row_line};
 
 use crate::checking::Outcome;
@@ -17,12 +17,12 @@ use std::alloc::Global;
 use std::io;
 use std::io::Write;
 
-/// Checks the pickles that stand one after the other in a source, up to its end, where they are
-/// loaded so, and writes the line of the answer.
+/// Checks a source of pickles that follow one another up to its end, loaded as `loading` says, and
+/// writes the line of the answer.
 ///
 /// # Errors
 ///
-/// The writer's own. How much of the line it has taken is then open.
+/// The writer's. How much of the line was written is then unspecified.
 pub fn check_all_to<R: Source, W: Write>(
     alloc: Global,
     source: &mut R,

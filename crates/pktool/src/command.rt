@@ -1,10 +1,10 @@
-//! The words of the command line.
+//! The command line.
 ghost use Rattle.std.specs.Prelude.{◌≡◌, IfOk, IfSome, Some, codes, false};
 ghost use Rattle.std.specs.Prelude.{map, option_map, string_bytes};
 ghost use Rattle.clap.specs.Words.{app_of, first_of, found_of, rows_of, rule_of};
 ghost use Rattle.clap.specs.Words.{subcommand_rows_of};
 ghost use Rattle.clap.specs.declared.Command.TheViews.{out-Command as fields_of};
-ghost use Rattle.pktool.specs.Command.{Asks, Gives, IsCheck, IsJob, IsOldRule, IsProgram};
+ghost use Rattle.pktool.specs.Command.{AsksForJob, Carries, IsCheck, IsJob, IsOldRule, IsProgram};
 ghost use Rattle.pktool.specs.Command.{IsReading, bare_app};
 ghost use Rattle.pktool.specs.Command.{all_rule, all_text, allow_rule, file_app, file_rule};
 ghost use Rattle.pktool.specs.Command.{flag_text, one_rule, one_text};
@@ -17,15 +17,15 @@ use clap::{Arg, ArgAction, ArgMatches, Command};
 use pkcheck::{Memo, OldStrings};
 use std::alloc::{AllocError, Global};
 
-/// What old strings may become, the default first.
+/// How Python 2 strings may be decoded, the default first.
 static OLD_WORDS: [&str; 3] = ["unknown", "ascii", "bytes"];
 
-/// Why words are no command, or that the help or the version was asked for.
+/// Why a command line gives no job: it is invalid, or asks for the help or the version.
 #[derive(Debug, Drop)]
 pub enum Usage {
-    /// What `clap` says of the words: a fault, or the help or the version that they ask for.
+    /// The error or message of `clap`.
     Clap(clap::Error),
-    /// There was no memory to read them.
+    /// An allocation was refused.
     OutOfMemory,
 }
 
@@ -41,14 +41,14 @@ impl From<AllocError> for Usage {
     }
 }
 
-/// The job that the words ask for. The first of them is the program's name.
+/// The job in a command line, whose first word is the program's name.
 ///
 /// # Errors
 ///
-/// `Clap` where the words are no command or ask for help or for the version, `OutOfMemory` where
-/// memory ran out.
+/// `Clap` if the command line is invalid or asks for the help or the version; `OutOfMemory` if an
+/// allocation was refused.
 pub fn command_of(alloc: Global, words: &[&str]) -> Result<Job, Usage>
-    ensures { IfOk result (Asks (map (λ word. word.now) words.now)) }
+    ensures { IfOk result (AsksForJob (map (λ word. word.now) words.now)) }
 {
     let matches = program(alloc)?.try_get_matches_from(words)?;
     match job_of(alloc, &matches)? {
@@ -57,7 +57,7 @@ pub fn command_of(alloc: Global, words: &[&str]) -> Result<Job, Usage>
     }
 }
 
-/// The command line of the program: one subcommand, which must be given.
+/// The command line of the program: one subcommand, which is required.
 fn program<'a>(alloc: Global) -> Result<Command<'a>, AllocError>
     ensures { IfOk result (λ command. IsProgram (app_of command)) }
 {
@@ -66,7 +66,7 @@ fn program<'a>(alloc: Global) -> Result<Command<'a>, AllocError>
         .subcommand(file_command(alloc, "json", "Writes a plain pickle as JSON", JSON)?)
 }
 
-/// It, with the first three of its subcommands.
+/// The program with the first three of its subcommands.
 fn reading_program<'a>(alloc: Global) -> Result<Command<'a>, AllocError>
     ensures { IfOk result (λ command. IsReading (app_of command)) }
 {
@@ -76,7 +76,7 @@ fn reading_program<'a>(alloc: Global) -> Result<Command<'a>, AllocError>
         .subcommand(file_command(alloc, "imports", "Lists what a pickle imports", IMPORTS)?)
 }
 
-/// It, with no subcommand yet.
+/// The program without its subcommands.
 fn bare_program<'a>(alloc: Global) -> Command<'a>
     ensures { app_of result ≡ bare_app }
 {
@@ -88,7 +88,7 @@ fn bare_program<'a>(alloc: Global) -> Command<'a>
         .disable_help_subcommand(true)
 }
 
-/// `NAME FILE`, with what its help says of it and of its lines.
+/// A subcommand `NAME FILE`, with the text of its help.
 fn file_command<'a>(
     alloc: Global,
     name: &'a str,
@@ -152,7 +152,7 @@ fn all_flag<'a>(alloc: Global) -> Arg<'a>
         .action(ArgAction::SetTrue)
 }
 
-/// `--one-unpickler`, which stands with `--all` alone.
+/// `--one-unpickler`, which requires `--all`.
 fn one_flag<'a>(alloc: Global) -> Result<Arg<'a>, AllocError>
     ensures rule { IfOk result (λ flag. rule_of flag ≡ one_rule) }
     ensures local { IfOk result (λ flag. flag.global ≡ false) }
@@ -187,7 +187,7 @@ fn optimize_command<'a>(alloc: Global) -> Result<Command<'a>, AllocError>
         .arg(out)
 }
 
-/// The job of the subcommand that was met.
+/// The job of the subcommand that was found.
 fn job_of(alloc: Global, matches: &ArgMatches) -> Result<Option<Job>, AllocError>
     ensures { IfOk result (λ found. IfSome found (IsJob (subcommand_rows_of matches.now))) }
 {
@@ -209,10 +209,10 @@ fn job_of(alloc: Global, matches: &ArgMatches) -> Result<Option<Job>, AllocError
     Ok(None)
 }
 
-/// The job of `dis`, where its value is there.
+/// The job of `dis`, if its value is there.
 fn dis_job(alloc: Global, values: &ArgMatches) -> Result<Option<Job>, AllocError>
     ensures name { IfOk result (λ found. IfSome found (λ job. name_of job ≡ codes "dis")) }
-    ensures values { IfOk result (λ found. IfSome found (Gives (rows_of (found_of values.now)))) }
+    ensures values { IfOk result (λ found. IfSome found (Carries (rows_of (found_of values.now)))) }
 {
     let Some(file) = value_of(alloc, values, "FILE")? else {
         return Ok(None);
@@ -220,10 +220,10 @@ fn dis_job(alloc: Global, values: &ArgMatches) -> Result<Option<Job>, AllocError
     Ok(Some(Job::Dis { file }))
 }
 
-/// The job of `imports`, where its value is there.
+/// The job of `imports`, if its value is there.
 fn imports_job(alloc: Global, values: &ArgMatches) -> Result<Option<Job>, AllocError>
     ensures name { IfOk result (λ found. IfSome found (λ job. name_of job ≡ codes "imports")) }
-    ensures values { IfOk result (λ found. IfSome found (Gives (rows_of (found_of values.now)))) }
+    ensures values { IfOk result (λ found. IfSome found (Carries (rows_of (found_of values.now)))) }
 {
     let Some(file) = value_of(alloc, values, "FILE")? else {
         return Ok(None);
@@ -231,10 +231,10 @@ fn imports_job(alloc: Global, values: &ArgMatches) -> Result<Option<Job>, AllocE
     Ok(Some(Job::Imports { file }))
 }
 
-/// The job of `optimize`, where its values are there.
+/// The job of `optimize`, if its values are there.
 fn optimize_job(alloc: Global, values: &ArgMatches) -> Result<Option<Job>, AllocError>
     ensures name { IfOk result (λ found. IfSome found (λ job. name_of job ≡ codes "optimize")) }
-    ensures values { IfOk result (λ found. IfSome found (Gives (rows_of (found_of values.now)))) }
+    ensures values { IfOk result (λ found. IfSome found (Carries (rows_of (found_of values.now)))) }
 {
     let Some(file) = value_of(alloc, values, "FILE")? else {
         return Ok(None);
@@ -245,10 +245,10 @@ fn optimize_job(alloc: Global, values: &ArgMatches) -> Result<Option<Job>, Alloc
     Ok(Some(Job::Optimize { file, out }))
 }
 
-/// The job of `json`, where its value is there.
+/// The job of `json`, if its value is there.
 fn json_job(alloc: Global, values: &ArgMatches) -> Result<Option<Job>, AllocError>
     ensures name { IfOk result (λ found. IfSome found (λ job. name_of job ≡ codes "json")) }
-    ensures values { IfOk result (λ found. IfSome found (Gives (rows_of (found_of values.now)))) }
+    ensures values { IfOk result (λ found. IfSome found (Carries (rows_of (found_of values.now)))) }
 {
     let Some(file) = value_of(alloc, values, "FILE")? else {
         return Ok(None);
@@ -256,10 +256,10 @@ fn json_job(alloc: Global, values: &ArgMatches) -> Result<Option<Job>, AllocErro
     Ok(Some(Job::Json { file }))
 }
 
-/// The job of `check`, where its values are there.
+/// The job of `check`, if its values are there.
 fn check_job(alloc: Global, values: &ArgMatches) -> Result<Option<Job>, AllocError>
     ensures name { IfOk result (λ found. IfSome found (λ job. name_of job ≡ codes "check")) }
-    ensures values { IfOk result (λ found. IfSome found (Gives (rows_of (found_of values.now)))) }
+    ensures values { IfOk result (λ found. IfSome found (Carries (rows_of (found_of values.now)))) }
 {
     let Some(allow) = value_of(alloc, values, "LIST")? else {
         return Ok(None);
@@ -281,7 +281,7 @@ fn check_job(alloc: Global, values: &ArgMatches) -> Result<Option<Job>, AllocErr
     }))
 }
 
-/// What old strings become.
+/// How Python 2 strings are decoded.
 fn old_of(values: &ArgMatches) -> Option<OldStrings>
     ensures { IfSome result (λ old.
         first_of (codes "OBJECT") (rows_of (found_of values.now)) ≡ Some (old_word old)) }
@@ -354,7 +354,7 @@ fn value_of(alloc: Global, values: &ArgMatches, id: &str) -> Result<Option<Strin
     }
 }
 
-/// The value of an argument: given, or its default.
+/// The value of an argument, given or default.
 fn text_of<'a>(values: &ArgMatches<'a>, id: &str) -> Option<&'a str>
     ensures { option_map (λ text. text.now) result
         ≡ first_of id.now (rows_of (found_of values.now)) }
@@ -362,7 +362,7 @@ fn text_of<'a>(values: &ArgMatches<'a>, id: &str) -> Option<&'a str>
     values.get_str(id)
 }
 
-/// The error of words that name no job.
+/// The error for a command line without a job.
 fn no_job(alloc: Global) -> Result<clap::Error, AllocError> {
     program(alloc)?.error(ErrorKind::MissingSubcommand, "no command was given")
 }

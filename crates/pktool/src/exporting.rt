@@ -1,4 +1,4 @@
-//! The data of a plain pickle as a line of JSON.
+//! A plain pickle as a line of JSON.
 ghost use Rattle.std.specs.Prelude.{IfOk};
 ghost use Rattle.pkread.specs.Rows.{sight};
 ghost use Rattle.pktool.specs.Json.{EndsWith};
@@ -13,12 +13,12 @@ use std::alloc::Global;
 use std::io;
 use std::io::Write;
 
-/// Reads a source whole, and writes the data of the plain pickle at its front as a line of JSON, or
-/// why it has none. Where a read fails, nothing is written.
+/// Reads a source to its end, and writes the plain pickle at its front as a line of JSON, or why it
+/// cannot be exported. If a read fails, nothing is written.
 ///
 /// # Errors
 ///
-/// The writer's own. How much of the line it has taken is then open.
+/// The writer's. How much of the line was written is then unspecified.
 #[tactic(auto, using(crate::proofs::Exports::error_for, crate::proofs::Exports::ends_done))]
 pub fn json_to<R: Source, W: Write>(
     alloc: Global,

@@ -4,24 +4,24 @@ use std::alloc::AllocError;
 use std::io;
 use std::io::{ErrorKind, Write};
 
-/// Why a command ends without an answer. Its status is 2.
+/// Why a command ends without an answer, with status 2.
 #[derive(Debug, Drop)]
 pub enum Fault<'a> {
-    /// The words are no command.
+    /// The command line is invalid.
     Words(clap::Error),
-    /// A word isn't UTF-8.
+    /// A word of the command line is not UTF-8.
     NotUtf8,
-    /// There was no memory to read the words, or to gather what is written.
+    /// An allocation was refused, for the command line or for the output buffer.
     OutOfMemory,
-    /// The file of this name can't be opened or read.
+    /// The file at this path cannot be opened or read.
     Unread(&'a str),
-    /// The file LIST holds no list.
+    /// The file LIST is not a list file.
     List(AllowError),
-    /// The answer can't be written.
+    /// The answer cannot be written.
     Unwritten,
-    /// The file of this name can't be made or written.
+    /// The file at this path cannot be created or written.
     Unmade(&'a str),
-    /// Whoever read the answer has closed the pipe. Nobody needs to be told.
+    /// The reader of the answer has closed the pipe. Nothing is reported.
     Closed,
 }
 
@@ -31,7 +31,7 @@ impl From<AllocError> for Fault<'_> {
     }
 }
 
-/// The fault of an answer that can't be written.
+/// The fault for an answer that cannot be written.
 pub fn unwritten<'a>(error: &io::Error) -> Fault<'a> {
     match error.kind() {
         ErrorKind::BrokenPipe => Fault::Closed,
@@ -39,7 +39,7 @@ pub fn unwritten<'a>(error: &io::Error) -> Fault<'a> {
     }
 }
 
-/// Writes what standard error says of a fault.
+/// Writes the message of a fault, for standard error.
 pub fn write_fault<W: Write>(fault: &Fault<'_>, out: &mut W) -> io::Result<()> {
     match fault {
         Fault::Words(error) => write!(out, "{error}"),

@@ -24,8 +24,8 @@ pub fn read_list<'a, R: Files>(rt: &R, alloc: Global, path: &'a str) -> Result<A
     }
 }
 
-/// All bytes that an open file has left, and nothing where there is no memory for them. The path
-/// names it in a fault.
+/// All bytes that an open file has left, or `None` if an allocation was refused. The path is for
+/// the fault.
 pub fn read_rest<'a, F: Read>(
     alloc: Global,
     file: &mut F,

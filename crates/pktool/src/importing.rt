@@ -2,12 +2,12 @@
 ghost use Rattle.std.specs.Prelude.{◌≡◌, IfOk, Result};
 ghost use Rattle.std.specs.Io.KnownBytes.{Appends};
 ghost use Rattle.pkread.specs.Rows.{sight};
-ghost use Rattle.pkcheck.specs.declared.old_strings.OldStrings.TheVariants.{Unknown};
+ghost use Rattle.pkcheck.specs.declared.OldStrings.TheVariants.{Unknown};
 ghost use Rattle.pkcheck.specs.Answered.{CountsFailures, IsRightAnswer};
 ghost use Rattle.pkcheck.specs.Import.{policy_of};
-ghost use Rattle.pkcheck.specs.declared.policy.Policy.TheVariants.{AnyImport};
-ghost use Rattle.pkcheck.specs.declared.checking.Yes.{Yes};
-ghost use Rattle.pkcheck.specs.declared.checking.No.{No};
+ghost use Rattle.pkcheck.specs.declared.Policy.TheVariants.{AnyImport};
+ghost use Rattle.pkcheck.specs.declared.Yes.{Yes};
+ghost use Rattle.pkcheck.specs.declared.No.{No};
 ghost use Rattle.pktool.specs.Imports.{imports_text};
 ghost use Rattle.pktool.specs.Verdict.{outcome_of};
 
@@ -20,12 +20,12 @@ use std::alloc::Global;
 use std::io;
 use std::io::Write;
 
-/// Checks the pickle at the front of a source, whatever it imports. At a yes it writes a line for
-/// each import, in order, and then the line of the answer; at a no that line alone.
+/// Checks the pickle at the front of a source under any import. For a yes it writes a line for each
+/// import, in order, then the line of the answer; for a no, that line alone.
 ///
 /// # Errors
 ///
-/// The writer's own. How much of the lines it has taken is then open.
+/// The writer's. How much was written is then unspecified.
 pub fn imports_to<R: Source, W: Write>(
     alloc: Global,
     source: &mut R,

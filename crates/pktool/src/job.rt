@@ -6,11 +6,12 @@ use pkcheck::{Memo, OldStrings};
 pub enum Pickles {
     /// The first one.
     First,
-    /// With `--all`: each of a row. With `--one-unpickler` the memo is kept.
+    /// With `--all`: each pickle of a row. With `--one-unpickler` the memo is kept from one to the
+    /// next.
     Row(Memo),
 }
 
-/// What a command line asks for, its values as given.
+/// What a command line asks for, with the values as given.
 #[derive(Debug, Drop)]
 pub enum Job {
     /// `dis FILE`: the instructions of the pickle in FILE.
@@ -19,11 +20,11 @@ pub enum Job {
         file: String,
     },
     /// `check --allow LIST [--old-strings OBJECT] [--all [--one-unpickler]] FILE`: whether the
-    /// pickle in FILE imports what LIST permits alone.
+    /// pickle in FILE imports only what LIST permits.
     Check {
         /// The path of the list file.
         allow: String,
-        /// With `--old-strings`: what strings of Python 2 become.
+        /// With `--old-strings`: how Python 2 strings are decoded.
         old: OldStrings,
         /// Which pickles of FILE are checked.
         pickles: Pickles,
@@ -39,10 +40,10 @@ pub enum Job {
     Optimize {
         /// The path of the pickle.
         file: String,
-        /// The path of its optimized form.
+        /// The path for its optimized form.
         out: String,
     },
-    /// `json FILE`: the data of the plain pickle in FILE.
+    /// `json FILE`: the plain pickle in FILE, as JSON.
     Json {
         /// The path of the pickle.
         file: String,

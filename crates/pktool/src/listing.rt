@@ -7,9 +7,9 @@ ghost use Rattle.pkread.specs.Rows.{sight};
 ghost use Rattle.pkcheck.specs.Answered.{CountsFailures};
 ghost use Rattle.pkcheck.specs.Heard.{Heard, IsRightAndHeard};
 ghost use Rattle.pkcheck.specs.Import.{policy_of};
-ghost use Rattle.pkcheck.specs.declared.policy.Policy.TheVariants.{AnyImport};
-ghost use Rattle.pkcheck.specs.declared.checking.Yes.{Yes};
-ghost use Rattle.pkcheck.specs.declared.checking.No.{No};
+ghost use Rattle.pkcheck.specs.declared.Policy.TheVariants.{AnyImport};
+ghost use Rattle.pkcheck.specs.declared.Yes.{Yes};
+ghost use Rattle.pkcheck.specs.declared.No.{No};
 ghost use Rattle.pktool.specs.Listing.{listing};
 ghost use Rattle.pktool.specs.Private.Lists.{Lists, lists_more, lists_none};
 ghost use Rattle.pktool.specs.Verdict.{outcome_of};
@@ -23,7 +23,7 @@ use std::alloc::Global;
 use std::io;
 use std::io::Write;
 
-/// Writes the line of each instruction that it hears of, and keeps the highest protocol.
+/// Writes the line of each instruction it hears, and records the highest protocol.
 #[derive(Drop)]
 struct Lines<'w, W> {
     out: &'w mut W,
@@ -46,14 +46,14 @@ impl<'w, W: Write> Listener for Lines<'w, W> {
     ghost hears_more = { λ x y z hs h f g. (g.0 ∙ f.0, lists_more _ _ _ _ _ _ hs h f.1 g.1) };
 }
 
-/// Lists the pickle at the front of a source: a line for each instruction, and a last line that
-/// says which protocol they need or why the pickle is refused. Each line is written before the
-/// instruction behind it is read, so the listing of a refused pickle stands up to the instruction
-/// that is refused.
+/// Lists the pickle at the front of a source: a line for each instruction, then a last line with
+/// the protocol they need, or with the reason why the pickle is refused. Each line is written
+/// before the next instruction is read, so the listing of a refused pickle reaches up to the
+/// refused instruction.
 ///
 /// # Errors
 ///
-/// The writer's own, which ends the listing. How much of it the writer has taken is then open.
+/// The writer's, which ends the listing. How much was written is then unspecified.
 pub fn dis_to<R: Source, W: Write>(
     alloc: Global,
     source: &mut R,

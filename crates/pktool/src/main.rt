@@ -1,7 +1,7 @@
 //! `pktool` says which names a pickle would import, before anything opens it.
 //!
-//! The command line, the lines that it prints, and the files and streams of the host stand here;
-//! what a pickle means stands in the crates below.
+//! The command line, the output, and access to files and streams are here; what a pickle means is
+//! in the crates below.
 #![tactic(auto)]
 
 mod block;
@@ -31,7 +31,7 @@ use std::io;
 use std::io::BufWriter;
 use std::process::ExitCode;
 
-/// The status of the command that the program's words ask for.
+/// Runs the command in the program's arguments, and returns its status.
 fn status<'a>(rt: &HostRuntime) -> Result<u8, Fault<'a>> {
     let alloc = rt.alloc();
     let words = words::words_of(rt)?;

@@ -1,20 +1,20 @@
-//! The names of files that are made anew.
+//! The names of files that are created or replaced.
 use std::alloc::{AllocError, Global};
 use std::io;
 use std::io::ErrorKind;
 use std::path::{Path, PathBuf};
 use std::rt::Files;
 
-/// The longest name, in bytes, that becomes part of another: a file's name has at most 255.
+/// The longest name, in bytes, that is extended with a suffix: file names have at most 255 bytes.
 const LONGEST: usize = 240;
 
-/// What stands for a longer one.
+/// What replaces a longer name.
 const SHORT: &str = "pktool";
 
-/// How many symbolic links are followed, as the system does.
+/// How many symbolic links are followed, the same number as Linux follows.
 const MOST_LINKS: u32 = 40;
 
-/// A name beside this one for a file that isn't whole yet.
+/// A name for an unfinished file next to this one.
 pub fn partial_name(alloc: Global, path: &str, number: u32) -> Result<String, AllocError> {
     match Path::new(path).file_name() {
         Some(name) if name.len() > LONGEST => {
@@ -32,7 +32,7 @@ fn numbered(alloc: Global, path: &str, number: u32) -> Result<String, AllocError
     }
 }
 
-/// The name behind the symbolic links that a name may be of. Nothing needs to stand there.
+/// The name that a chain of symbolic links ends in. No file needs to exist there.
 pub fn real_name<R: Files>(rt: &R, alloc: Global, path: &str) -> io::Result<PathBuf> {
     let mut name = PathBuf::from_str(alloc, path)?;
     for _ in 0..MOST_LINKS {
@@ -40,7 +40,7 @@ pub fn real_name<R: Files>(rt: &R, alloc: Global, path: &str) -> io::Result<Path
             Ok(target) => name.set_file_name(target.as_str())?,
             Err(error) => {
                 return match error.kind() {
-                    // no link, or nothing
+                    // not a link, or no file
                     ErrorKind::InvalidInput | ErrorKind::NotFound => Ok(name),
                     _ => Err(error),
                 };

@@ -1,7 +1,7 @@
-//! The optimized form of a pickle: where it is put, and the line that tells of it.
+//! The optimized form of a pickle: where it is written, and the line that reports it.
 ghost use Rattle.std.specs.Prelude.{IfOk, List, None, OnOk, Option, ℕ};
 ghost use Rattle.std.specs.Io.KnownBytes.{Appends};
-ghost use Rattle.pktool.specs.Optimized.{EndsIn, Holds, sizes_line};
+ghost use Rattle.pktool.specs.Optimized.{EndsIn, HoldsBytes, sizes_line};
 ghost use Rattle.pktool.specs.Verdict.{no_line};
 
 use crate::checking::Outcome;
@@ -14,22 +14,22 @@ use std::alloc::Global;
 use std::io;
 use std::io::Write;
 
-/// Where an optimized form is put.
+/// A destination for an optimized form.
 pub trait Place {
-    // The bytes that it holds, where it tells them.
+    // The bytes that it holds, if it reveals them.
     ghost holds: { Self → Option (List ℕ) } = { λ _. None };
 
-    /// Puts these bytes there, in place of what it held.
+    /// Replaces what it holds with these bytes.
     fn put(&mut self, bytes: &[u8]) -> io::Result<()>
-        ensures { OnOk result (Holds (holds self.new) bytes.now) };
+        ensures { OnOk result (HoldsBytes (holds self.new) bytes.now) };
 }
 
 /// Why an optimization ends without an answer.
 #[derive(Drop)]
 pub enum Unoptimized {
-    /// The form can't be put in its place.
+    /// The form cannot be written to its place.
     Unmade,
-    /// The line can't be written.
+    /// The line cannot be written.
     Unwritten(io::Error),
 }
 
@@ -39,14 +39,14 @@ impl From<io::Error> for Unoptimized {
     }
 }
 
-/// Optimizes the pickle at the front of the bytes, puts its form in the place, and writes the line
-/// that tells of both sizes. A pickle that is refused leaves the place as it is, and the line says
-/// where and why.
+/// Optimizes the pickle at the front of the bytes, puts the result in the place, and writes a line
+/// with both sizes. If the pickle is refused, the place stays unchanged, and the line says where
+/// and why.
 ///
 /// # Errors
 ///
-/// `Unmade` where the place doesn't take the form, `Unwritten` where the writer doesn't take the
-/// line. How much of it the writer has taken is then open.
+/// `Unmade` if the place does not accept the form; `Unwritten` if the writer fails. How much of the
+/// line was written is then unspecified.
 pub fn optimize_to<P: Place, W: Write>(
     alloc: Global,
     bytes: &[u8],
@@ -72,7 +72,7 @@ pub fn optimize_to<P: Place, W: Write>(
     }
 }
 
-/// Writes how many bytes there were and are.
+/// Writes the sizes before and after.
 fn write_sizes<W: Write>(before: u64, after: usize, out: &mut W) -> io::Result<()>
     ensures { OnOk result (Appends (W.contents out.old) (W.contents out.new)
         (sizes_line before after)) }

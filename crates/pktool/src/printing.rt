@@ -1,10 +1,9 @@
-//! The lines that the program prints, written straight to a writer. None takes memory.
+//! The lines that the program prints, written directly to a writer without allocating.
 mod export;
 mod hexadecimal;
 mod imports;
 mod listing;
 mod quoted;
-mod reason;
 mod verdict;
 
 pub use export::write_export_error;

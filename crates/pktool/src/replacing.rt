@@ -1,4 +1,4 @@
-//! A file that is made anew.
+//! Files that are created or replaced as a whole.
 use crate::naming::{partial_name, real_name};
 use crate::optimizing::Place;
 use std::alloc::Global;
@@ -9,29 +9,29 @@ use std::path::Path;
 use std::rt::Files;
 use std::{fs, io};
 
-/// The mode of a new file that takes the place of another, until it is whole.
+/// The mode of an unfinished file that will replace another.
 const OWNER_ONLY: u32 = 0o600;
 
-/// The mode of a file that takes nothing's place, less what the process masks.
+/// The mode of a file that replaces none, before the umask.
 const ANYONE: u32 = 0o666;
 
-/// The bits of a mode that say who may read, write and run a file.
+/// The permission bits of a mode.
 const PERMISSIONS: u32 = 0o777;
 
-/// Those of the owner and of others.
+/// The permission bits of the owner and of others.
 const NOT_GROUP: u32 = 0o707;
 
-/// How many names are tried for the new file before it is whole.
+/// How many names are tried for the unfinished file.
 const MOST_NAMES: u32 = 100;
 
-/// The file of a name, which is made anew from what an input holds.
+/// An output file, created or replaced as a whole, with content made from an input.
 ///
-/// A plain file, or what stands behind a symbolic link, is replaced by one that is whole: whenever
-/// the process ends, the name is that of the old file or of the new one. The new one has the old
-/// one's permissions, and its owner and group where the process may give them; until it is whole,
-/// only its owner may read it. Access lists and further attributes are not kept, and other hard
-/// links of the old file keep what it held. What isn't a plain file, such as a pipe or a device, is
-/// written as it is, but never where it is the input.
+/// A regular file, also one behind a symbolic link, is replaced atomically: whenever the process
+/// ends, the name refers to the old file or to the complete new one. The new file gets the old
+/// one's permissions, and its owner and group if the process may set them; until it is complete,
+/// only its owner can read it. Access control lists and extended attributes are not kept, and other
+/// hard links keep the old content. Anything else, such as a pipe or a device, is written in place,
+/// but never if it is the input.
 #[derive(Drop)]
 pub struct NewFile<'a, R> {
     rt: &'a R,
@@ -41,7 +41,7 @@ pub struct NewFile<'a, R> {
 }
 
 impl<'a, R> NewFile<'a, R> {
-    /// The file of this name. Nothing is made yet.
+    /// The file at this path. Nothing is created yet.
     pub fn new(rt: &'a R, alloc: Global, path: &'a str, input: &'a File) -> NewFile<'a, R> {
         NewFile {
             rt,
@@ -54,7 +54,7 @@ impl<'a, R> NewFile<'a, R> {
 
 impl<'a, R: Files<File = File>> Place for NewFile<'a, R> {
     fn put(&mut self, bytes: &[u8]) -> io::Result<()> {
-        // Opened without truncation: this shows what stands there, and that it may be written.
+        // Opened without truncation: this shows what is there, and whether it may be written.
         match OpenOptions::new().write(true).open(self.rt, self.path) {
             Ok(old) => {
                 if old.metadata()?.is_file() {
@@ -71,7 +71,7 @@ impl<'a, R: Files<File = File>> Place for NewFile<'a, R> {
     }
 }
 
-/// Writes what isn't a plain file, unless it is the input.
+/// Writes what is not a regular file, unless it is the input.
 fn write_in_place(mut file: File, input: &File, bytes: &[u8]) -> io::Result<()> {
     if is_same(&file.metadata()?, &input.metadata()?) {
         return Err(io::Error::from(ErrorKind::InvalidInput));
@@ -84,7 +84,7 @@ fn is_same(one: &Metadata, other: &Metadata) -> bool {
     one.dev() == other.dev() && one.ino() == other.ino()
 }
 
-/// Makes a file of these bytes where there was none.
+/// Creates a file with these bytes where there was none.
 fn create<R: Files<File = File>>(
     rt: &R,
     alloc: Global,
@@ -96,7 +96,7 @@ fn create<R: Files<File = File>>(
     take_name(rt, fill(file, None, bytes), partial.as_str(), path.as_str())
 }
 
-/// Replaces a plain file by one of these bytes.
+/// Replaces a regular file with one of these bytes.
 fn replace<R: Files<File = File>>(
     rt: &R,
     alloc: Global,
@@ -105,7 +105,7 @@ fn replace<R: Files<File = File>>(
     bytes: &[u8],
 ) -> io::Result<()> {
     let path = real_name(rt, alloc, path)?;
-    // A link to an open file, as in /proc, may show a name that is no longer the file's.
+    // A link to an open file, as in /proc, may show a name that the file no longer has.
     if !fs::symlink_metadata(rt, path.as_str())?.is_file() {
         return Err(io::Error::from(ErrorKind::NotFound));
     }
@@ -118,8 +118,8 @@ fn replace<R: Files<File = File>>(
     )
 }
 
-/// Makes an empty file beside the one of this name, and gives its name. A name that is taken, by
-/// another process or by one that was interrupted, is left, and the next is tried.
+/// Creates an empty file next to this one, and gives its name. If a name is taken, by another
+/// process or by an interrupted one, the next name is tried.
 fn create_beside<R: Files<File = File>>(
     rt: &R,
     alloc: Global,
@@ -145,7 +145,7 @@ fn create_beside<R: Files<File = File>>(
     Err(io::Error::from(ErrorKind::AlreadyExists))
 }
 
-/// Writes a new file whole, and gives it what the old one's owner and permissions are.
+/// Writes a new file completely, then gives it the old one's owner and permissions.
 fn fill(mut file: File, old: Option<&File>, bytes: &[u8]) -> io::Result<()> {
     file.write_all(bytes)?;
     if let Some(old) = old {
@@ -154,8 +154,8 @@ fn fill(mut file: File, old: Option<&File>, bytes: &[u8]) -> io::Result<()> {
     file.sync_all()
 }
 
-/// Gives a file the permissions that were found, and the owner and the group where that is allowed.
-/// A group that can't be given is no reason to let another group do what only that one might.
+/// Gives a file these permissions, and the owner and the group if that is allowed. If the group
+/// cannot be set, the file's own group gets no right that others lack.
 fn give_permissions(file: &File, found: &Metadata) -> io::Result<()> {
     let (owner, group) = (found.uid(), found.gid());
     if fchown(file, Some(owner), Some(group)).is_err() {
@@ -170,7 +170,7 @@ fn give_permissions(file: &File, found: &Metadata) -> io::Result<()> {
     file.set_permissions(Permissions::from_mode(mode))
 }
 
-/// Gives the new file its name where it was filled; else it goes.
+/// Renames the new file if it is complete; otherwise removes it.
 fn take_name<R: Files<File = File>>(
     rt: &R,
     filled: io::Result<()>,
@@ -190,7 +190,8 @@ fn take_name<R: Files<File = File>>(
     }
 }
 
-/// Syncs the folder of a name, so that the name lasts. One that may not be read can't be synced.
+/// Syncs a file's folder, so that its name survives a crash. A folder that cannot be opened is not
+/// synced.
 fn sync_folder<R: Files<File = File>>(rt: &R, path: &str) -> io::Result<()> {
     let folder = match Path::new(path).parent() {
         Some(folder) => folder.as_str(),
@@ -203,7 +204,7 @@ fn sync_folder<R: Files<File = File>>(rt: &R, path: &str) -> io::Result<()> {
     }
 }
 
-/// Syncs what the system can sync: a pipe or a terminal is no such thing, nor is each folder.
+/// Syncs a file if the system can: pipes, terminals and some folders cannot be synced.
 fn sync(file: &File) -> io::Result<()> {
     match file.sync_all() {
         Ok(()) => Ok(()),

@@ -1,4 +1,4 @@
-//! A whole command, over the files and streams of the host.
+//! Runs a whole command over the files and streams of the host.
 ghost use Rattle.std.specs.Prelude.{◌≤◌};
 
 use crate::checking::{Outcome, check_to};
@@ -21,26 +21,26 @@ use std::fs::File;
 use std::io::Write;
 use std::rt::Files;
 
-/// The answer is a yes, or the help that was asked for.
+/// The answer is a yes, or help that was requested.
 const DONE: u8 = 0;
 /// The answer is a no.
 const REFUSED: u8 = 1;
-/// There is no answer: a fault of usage, of the list or of a file.
+/// There is no answer: the command line, the list or a file is at fault.
 const FAULT: u8 = 2;
 
-/// There is no memory to read a file whole.
+/// An allocation for the content of a file was refused.
 const NO_MEMORY: Refusal = Refusal {
     at: 0,
     reason: Reason::OutOfMemory,
 };
 
-/// Does the command that the words ask for, the program's name first, and gives its status:
-/// 0 at a yes or at the help that was asked for, 1 at a no, 2 at a fault.
+/// Runs a command line, whose first word is the program's name, and returns the status: 0 for a yes
+/// or for help that was requested, 1 for a no, 2 for a fault.
 ///
-/// The answer goes to `out`, which is flushed, and a fault to `err`. Faults are looked for in the
-/// words, the list, the file that is read, the answer and the file that is written, in this order.
-/// An answer that `out` doesn't take is a fault, of which nothing is told where `out` is a pipe
-/// that was closed; a fault that `err` doesn't take changes nothing.
+/// The answer goes to `out`, which is flushed, and faults go to `err`. Faults are detected in this
+/// order: the command line, the list, the file that is read, the answer, the file that is written.
+/// Failing to write the answer is a fault; it is not reported if `out` is a closed pipe. Failing to
+/// write to `err` changes nothing.
 pub fn run<R: Files<File = File>, O: Write, E: Write>(
     rt: &R,
     alloc: Global,
@@ -56,7 +56,7 @@ pub fn run<R: Files<File = File>, O: Write, E: Write>(
     }
 }
 
-/// Does a job over the files of the host.
+/// Runs a job over the files of the host.
 fn done<'a, R: Files<File = File>, O: Write>(
     rt: &R,
     alloc: Global,
@@ -190,7 +190,7 @@ fn optimize_file<'a, R: Files<File = File>, O: Write>(
     }
 }
 
-/// Tells of a refusal.
+/// Reports a refusal.
 fn refused<'a, O: Write>(refusal: Refusal, out: &mut O) -> Result<Outcome, Fault<'a>> {
     match write_refusal(refusal, out) {
         Ok(()) => Ok(Outcome::Refused),
@@ -198,7 +198,7 @@ fn refused<'a, O: Write>(refusal: Refusal, out: &mut O) -> Result<Outcome, Fault
     }
 }
 
-/// Shows the help that the words ask for; else they are at fault.
+/// Shows the help that was requested; any other usage is a fault.
 fn shown<'a, O: Write>(usage: Usage, out: &mut O) -> Result<Outcome, Fault<'a>> {
     match usage {
         Usage::Clap(error) => {
@@ -215,7 +215,7 @@ fn shown<'a, O: Write>(usage: Usage, out: &mut O) -> Result<Outcome, Fault<'a>> 
     }
 }
 
-/// The status of a command that ended: its answer is flushed, its fault is told.
+/// The status of a command that ended. Flushes its answer, or reports its fault.
 fn status_of<O: Write, E: Write>(ended: Result<Outcome, Fault<'_>>, out: &mut O, err: &mut E) -> u8
     ensures { result ≤ 2 }
 {
@@ -230,7 +230,7 @@ fn status_of<O: Write, E: Write>(ended: Result<Outcome, Fault<'_>>, out: &mut O,
     }
 }
 
-/// An answer counts once it is flushed.
+/// Flushes an answer, which counts only then.
 fn flushed<'a, O: Write>(
     ended: Result<Outcome, Fault<'a>>,
     out: &mut O,

@@ -1,4 +1,4 @@
-//! Whole commands, with their statuses and outputs.
+//! Whole commands, with their statuses and output.
 mod checking;
 mod exporting;
 mod listing;
@@ -29,7 +29,7 @@ const OFF_LIST: &str = "no at 0: ImportOffList(\"collections\",\"OrderedDict\")\
 
 const QUOTED: &str = "no at 7: ImportOffList(\"\\x22\",\"\\xc3\\xa9\")\n";
 
-/// A list, a pickle, and the status and the line of its check.
+/// A list, a pickle, and the status and line of its check.
 static ANSWERS: [(&str, &[u8], u8, &str); 7] = [
     (LISTED, b"ccollections\nOrderedDict\n)R.", 0, ONE_IMPORT),
     (LISTED, b"ccollections\nOrderedDict\n)R.N", 0, ONE_IMPORT),
@@ -40,7 +40,7 @@ static ANSWERS: [(&str, &[u8], u8, &str); 7] = [
     (STACK_OF_ONE, b"NN.", 1, "no at 1: TooLarge\n"),
 ];
 
-/// What is no list, and what standard error says of it.
+/// Invalid list files, and the message on standard error.
 static NO_LISTS: [(&[u8], &str); 12] = [
     (b"version =", "list: Syntax\n"),
     (b"# \xff\n", "list: Syntax\n"),
@@ -65,13 +65,13 @@ static NO_LISTS: [(&[u8], &str); 12] = [
     ),
 ];
 
-/// Goes to the folder where a test's files lie: among what is built, which nothing keeps.
+/// Enters the folder for test files, which is among the build output and not kept.
 fn enter_folder(rt: &(impl Env + Files)) -> io::Result<()> {
     fs::create_dir_all(rt, "out/files")?;
     env::set_current_dir(rt, "out/files")
 }
 
-/// Runs a command, and compares its status and its outputs.
+/// Runs a command, and compares its status and output.
 fn expect(
     rt: &(impl Abort + AllocGlobal + Files<File = File>),
     words: &[&str],
@@ -110,7 +110,7 @@ fn checks_files(rt: HostRuntime) -> Result<(), Fail> {
 fn opens_files(rt: HostRuntime) -> Result<(), Fail> {
     enter_folder(&rt)?;
     fs::write(&rt, "list.toml", NOTHING)?;
-    // A folder can be opened, and not read.
+    // A folder can be opened, but not read.
     for (list, file, status, out, err) in [
         ("list.toml", ".", 1, "no at 0: Source\n", ""),
         ("list.toml", "none", 2, "", "cannot read none\n"),
@@ -225,7 +225,7 @@ fn names_a_word_that_is_no_text(rt: HostRuntime) -> Result<(), Fail> {
     Ok(())
 }
 
-/// Takes some bytes, then fails: at a write, or at the flush where there was room for all.
+/// Accepts some bytes, then fails: at a write, or at the flush if everything fitted.
 #[derive(Drop)]
 struct Failing {
     room: usize,

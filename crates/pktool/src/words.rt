@@ -1,14 +1,14 @@
-//! The words of the command line.
+//! The program's arguments.
 use crate::fault::Fault;
 use std::env;
 use std::io::ErrorKind;
 use std::rt::Env;
 
-/// The words of the command line, the program's name first.
+/// The program's arguments, its name first.
 ///
 /// # Errors
 ///
-/// `NotUtf8` where one of them isn't, else `OutOfMemory`.
+/// `NotUtf8` if one of them is not UTF-8; otherwise `OutOfMemory`.
 pub fn words_of<'a, R: Env + AllocGlobal>(rt: &R) -> Result<Vec<String>, Fault<'a>> {
     match env::args(rt) {
         Ok(words) => Ok(words.collect(rt.alloc())?),

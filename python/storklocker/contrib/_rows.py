@@ -33,10 +33,11 @@ def loaded(pairs: Iterable[Tuple[Any, Any]], guard: Guard) -> List[Row]:
 
 def _checked(key: Any, data: Any, guard: Guard) -> Row:
     try:
-        verdict = guard.check(bytes(data))
+        whole = data if type(data) is bytes else bytes(memoryview(data))
+        refused: Optional[Exception] = guard._refusal_of(whole)
     except TypeError as error:
-        return Row(key, False, str(error))
-    return Row(key, True) if verdict else Row(key, False, str(verdict))
+        refused = error
+    return Row(key, True) if refused is None else Row(key, False, str(refused))
 
 
 def _loaded(key: Any, data: Any, loader: Loader) -> Row:

@@ -14,12 +14,16 @@ through the guard like the value.
 
 from __future__ import annotations
 
+import pickle
 import zlib
 from typing import Any, Dict, Iterable, Tuple, Type
 
 from .. import Guard
 from ._loading import Loader, Unloadable
 from ._rebinding import rebound
+
+
+_REFUSED = (pickle.UnpicklingError, zlib.error)
 
 
 def LocMemCache(location: str, params: Dict[str, Any]) -> Any:
@@ -50,7 +54,7 @@ def RedisCache(location: Any, params: Dict[str, Any]) -> Any:
     guard, forget, params = _settings_of(params)
     serializer = f"{__name__}._RedisSerializer"
     params["OPTIONS"] = {**params["OPTIONS"], "SERIALIZER": serializer, "GUARD": guard}
-    return _missing(Plain, guard, forget)(location, params)
+    return _missing(Plain, forget)(location, params)
 
 
 class _RedisSerializer:
@@ -77,7 +81,7 @@ def _made(
 ) -> Any:
     guard, forget, params = _settings_of(params)
     kind = rebound(plain, {"pickle": loader(guard)})
-    return _missing(kind, guard, forget)(location, params)
+    return _missing(kind, forget)(location, params)
 
 
 def _settings_of(params: Dict[str, Any]) -> Tuple[Guard, bool, Dict[str, Any]]:
@@ -92,37 +96,50 @@ def _settings_of(params: Dict[str, Any]) -> Tuple[Guard, bool, Dict[str, Any]]:
     return guard, forget, {**params, "OPTIONS": options}
 
 
-def _missing(plain: Type[Any], guard: Guard, forget: bool) -> Type[Any]:
+class _Missing:
+    """What stands in front of a backend: a refused entry is one that is not there."""
+
+    _forget: bool
+
+    def _or(self, otherwise: Any, name: str, key: Any, *given: Any, **named: Any) -> Any:
+        try:
+            return getattr(super(), name)(key, *given, **named)
+        except _REFUSED:
+            return self._forgotten(otherwise, key, named.get("version"))
+
+    def _forgotten(self, otherwise: Any, key: Any, version: Any) -> Any:
+        cache: Any = self
+        if self._forget:
+            cache.delete(key, version=version)
+        return otherwise
+
+    def get(self, key: Any, default: Any = None, version: Any = None, **more: Any) -> Any:
+        return self._or(default, "get", key, default, version=version, **more)
+
+    def touch(self, key: Any, *given: Any, **named: Any) -> Any:
+        return self._or(False, "touch", key, *given, **named)
+
+    def has_key(self, key: Any, *given: Any, **named: Any) -> Any:
+        return self._or(False, "has_key", key, *given, **named)
+
+    def incr(self, key: Any, delta: int = 1, version: Any = None, **more: Any) -> Any:
+        value = self._or(None, "incr", key, delta, version=version, **more)
+        if value is None:
+            raise ValueError(f"Key {key!r} not found")
+        return value
+
+    def get_many(self, keys: Iterable[Any], version: Any = None, **more: Any) -> Any:
+        keys, plain = list(keys), getattr(super(), "get_many")
+        try:
+            return plain(keys, version=version, **more)
+        except _REFUSED:
+            if len(keys) == 1:
+                return self._forgotten({}, keys[0], version)
+        # (one by one, so that a refused entry takes no other with it)
+        found = [self.get_many([key], version=version, **more) for key in keys]
+        return {key: value for each in found for key, value in each.items()}
+
+
+def _missing(plain: Type[Any], forget: bool) -> Type[Any]:
     """The backend, where a refused entry is one that is not there."""
-
-    class Cache(plain):  # type: ignore[misc]
-        def _or(self, otherwise: Any, name: str, key: Any, *given: Any, **named: Any) -> Any:
-            try:
-                return getattr(super(), name)(key, *given, **named)
-            except (guard.UnpicklingError, zlib.error):
-                if forget:
-                    self.delete(key, version=named.get("version"))
-                return otherwise
-
-        def get(self, key: Any, default: Any = None, version: Any = None, **more: Any) -> Any:
-            return self._or(default, "get", key, default, version=version, **more)
-
-        def touch(self, key: Any, *given: Any, **named: Any) -> Any:
-            return self._or(False, "touch", key, *given, **named)
-
-        def has_key(self, key: Any, *given: Any, **named: Any) -> Any:
-            return self._or(False, "has_key", key, *given, **named)
-
-        def incr(self, key: Any, delta: int = 1, version: Any = None, **more: Any) -> Any:
-            value = self._or(None, "incr", key, delta, version=version, **more)
-            if value is None:
-                raise ValueError(f"Key {key!r} not found")
-            return value
-
-        def get_many(self, keys: Iterable[Any], version: Any = None, **more: Any) -> Any:
-            missing = object()
-            found = ((key, self.get(key, missing, version=version)) for key in keys)
-            return {key: value for key, value in found if value is not missing}
-
-    Cache.__name__ = Cache.__qualname__ = plain.__name__
-    return Cache
+    return type(plain.__name__, (_Missing, plain), {"_forget": forget, "__module__": __name__})

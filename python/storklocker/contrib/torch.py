@@ -15,7 +15,7 @@ import io
 import zipfile
 from typing import Any, Optional
 
-from .. import Guard, Refused
+from .. import Guard
 from .numpy import Source, bytes_of
 
 
@@ -38,11 +38,11 @@ def check_archive(data: bytes, guard: Guard) -> None:
             members = [name for name in archive.namelist() if _is_pickle(name)]
             if len(members) != 1:
                 raise guard.UnpicklingError(f"{len(members)} members are called data.pkl, not one")
-            verdict = guard.check(archive.read(members[0]))
+            refused = guard._refusal_of(archive.read(members[0]))
     except zipfile.BadZipFile as error:
         raise guard.UnpicklingError("this is no checkpoint in a zip file") from error
-    if not verdict:
-        raise Refused(verdict)
+    if refused is not None and guard.enforce:
+        raise refused
 
 
 def _is_pickle(name: str) -> bool:

@@ -20,9 +20,13 @@ YES, NO, FAULT = 0, 1, 2
 
 _STATUSES = """status:
   0  nothing is refused
-  1  something is refused, or dangerous where --fail-on says so
-  2  a file can't be read, or the words, the list or the output are at fault
+  1  something is refused, or dangerous with --fail-on danger
+  2  a file can't be read, or the command line, the list or the output is at fault
 """
+
+
+_PATH = "a file, a folder, or - for a pipe"
+_LIST = "the list file of permitted names"
 
 
 def main(words: Optional[Sequence[str]] = None) -> int:
@@ -60,51 +64,51 @@ def _parser() -> argparse.ArgumentParser:
 
 
 def _add_scan(commands: "argparse._SubParsersAction[argparse.ArgumentParser]") -> None:
-    it = commands.add_parser("scan", help="what files are, and what they would import")
-    it.add_argument("paths", nargs="+", metavar="PATH", help="a file, a folder, or - for a pipe")
-    it.add_argument("--allow", metavar="LIST", help="the list file of permitted names")
-    it.add_argument("--recursive", action="store_true", help="folders below folders too")
-    it.add_argument("--jobs", type=_jobs, default=1, metavar="N", help="processes; 1")
+    it = commands.add_parser("scan", help="lists the pickles in files, and what they would import")
+    it.add_argument("paths", nargs="+", metavar="PATH", help=_PATH)
+    it.add_argument("--allow", metavar="LIST", help=_LIST)
+    it.add_argument("--recursive", action="store_true", help="descend into subfolders")
+    it.add_argument("--jobs", type=_jobs, default=1, metavar="N", help="number of processes; 1")
     it.add_argument("--format", choices=("table", "json", "sarif", "html"), default="table")
     it.add_argument(
         "--fail-on",
         choices=("refused", "danger", "never"),
         default="refused",
-        help="what gives status 1; danger is refused and dangerous names",
+        help="what causes status 1; danger: refused files and dangerous names",
     )
     it.set_defaults(run=_scan)
 
 
 def _add_check(commands: "argparse._SubParsersAction[argparse.ArgumentParser]") -> None:
-    it = commands.add_parser("check", help="whether files import listed names alone")
-    it.add_argument("paths", nargs="+", metavar="FILE")
-    it.add_argument("--allow", metavar="LIST", required=True)
+    it = commands.add_parser("check", help="says whether files import only listed names")
+    it.add_argument("paths", nargs="+", metavar="FILE", help="a file, or - for a pipe")
+    it.add_argument("--allow", metavar="LIST", required=True, help=_LIST)
     it.set_defaults(run=_check)
 
 
 def _add_imports(commands: "argparse._SubParsersAction[argparse.ArgumentParser]") -> None:
-    it = commands.add_parser("imports", help="the names that files would import")
-    it.add_argument("paths", nargs="+", metavar="FILE")
+    it = commands.add_parser("imports", help="lists the names that files would import")
+    it.add_argument("paths", nargs="+", metavar="FILE", help="a file, or - for a pipe")
     it.set_defaults(run=_imports)
 
 
 def _add_learn(commands: "argparse._SubParsersAction[argparse.ArgumentParser]") -> None:
     it = commands.add_parser("learn", help="writes a list file from trusted files")
-    it.add_argument("paths", nargs="+", metavar="PATH")
-    it.add_argument("--recursive", action="store_true", help="folders below folders too")
+    it.add_argument("paths", nargs="+", metavar="PATH", help=_PATH)
+    it.add_argument("--recursive", action="store_true", help="descend into subfolders")
     it.set_defaults(run=_learn)
 
 
 def _add_lint(commands: "argparse._SubParsersAction[argparse.ArgumentParser]") -> None:
-    it = commands.add_parser("lint", help="the names of a list that are known to permit everything")
-    it.add_argument("list", metavar="LIST")
+    it = commands.add_parser("lint", help="lists the names in a list that can permit everything")
+    it.add_argument("list", metavar="LIST", help=_LIST)
     it.set_defaults(run=_lint)
 
 
 def _jobs(word: str) -> int:
     count = int(word)
     if not 1 <= count <= 256:
-        raise argparse.ArgumentTypeError("from 1 to 256")
+        raise argparse.ArgumentTypeError("expected a number from 1 to 256")
     return count
 
 

@@ -5,12 +5,12 @@ from __future__ import annotations
 import hashlib
 import itertools
 import pickletools
-from typing import Any, BinaryIO, Deque, Dict, Iterator, List, Optional, Tuple
+from typing import Any, BinaryIO, Deque, Dict, Iterator, List, Optional
 
 from .._answers import Reason, Verdict
 from .._limits import Limits
-from .._lists import AllowList, imports_in, with_room
-from .._storklocker import check, imports
+from .._lists import AllowList, imports_in, imports_of, records
+from .._storklocker import check
 from .containers import Finding, Piece, Stream, pieces_of
 from .dangers import dangers_in
 from .report import ACCEPTED, NO_PICKLE, REFUSED, UNREADABLE, UNVOUCHED, Listed, Pair, Report
@@ -19,8 +19,8 @@ AROUND = 10
 """How many instructions of a listing stand before the place of a refusal, and from it on."""
 
 _NOTHING = AllowList(())
-_FIRST = 512
-"""How many bytes are looked at first; eight times as many each time the pickle goes on behind."""
+_FIRST = 4096
+"""How many bytes are looked at first; sixteen times as many each time the pickle goes on."""
 _LISTED = 1 << 22
 _IMPORTING = (Reason.ImportOffList, Reason.UnknownImport, Reason.ExtensionCode)
 _JOBLIB = "joblib.numpy_pickle"
@@ -75,13 +75,10 @@ def _is_claimed(front: bytes) -> bool:
 
 def _may_be_pickle(front: bytes) -> bool:
     """Whether these first bytes claim to be a pickle, or a reader would get to an import or on."""
+    if _is_claimed(front):
+        return True
     verdict = check(front, _NOTHING)
-    return (
-        _is_claimed(front)
-        or verdict.accepted
-        or verdict.reason in _IMPORTING
-        or verdict.reason is Reason.Truncated
-    )
+    return verdict.accepted or verdict.reason in _IMPORTING or verdict.reason is Reason.Truncated
 
 
 class Row:
@@ -96,8 +93,10 @@ class Row:
 
     def __init__(self, stream: Stream, allow: Optional[AllowList]) -> None:
         self._stream, self._allow, self._digest = stream, allow, hashlib.sha256()
+        self._listed = _NOTHING if allow is None else allow
         self.imports: Dict[Pair, None] = {}
         self.refusal: Optional[Verdict] = None
+        self._is_read = False
         self.listing: List[Listed] = []
         self.number = self.pickles = self.taken = self.size = 0
         self._read_all()
@@ -106,47 +105,51 @@ class Row:
     def _read_all(self) -> None:
         data, at, window = b"", 0, _FIRST
         while True:
-            if len(data) - at < window:
+            if len(data) - at < window and not self._is_read:
                 data, at = self._grown(data[at:], window), 0
             piece: bytes = data[at : at + window]
             if not piece and self.pickles:
                 return
-            verdict, room = _imports_of(piece)
-            if verdict.reason is Reason.Truncated and len(piece) == window:
-                window *= 8
+            within, room = imports_of(piece, self._listed, _LARGE, "unknown")
+            found = within
+            if not within and within.reason is not Reason.Truncated and self._allow is not None:
+                # (what it imports is told where the limits of the list alone refuse it)
+                found, room = imports_of(piece, _NOTHING, _LARGE, "unknown")
+            if found.reason is Reason.Truncated and len(piece) == window:
+                window *= 16
                 continue
-            self._judge(piece, verdict)
-            if not verdict:
+            names = dict.fromkeys(records(room))
+            self._judge(piece, found, bool(within) and all(map(self._listed._has, names)))
+            if not found:
                 return
-            self.imports.update((it, None) for it in imports_in(room))
+            self.imports.update((it, None) for it in imports_in(names))
             self.pickles += 1
-            at, self.taken, window = at + verdict.taken, self.taken + verdict.taken, _FIRST
+            at, self.taken, window = at + found.taken, self.taken + found.taken, _FIRST
 
     def _grown(self, data: bytes, wanted: int) -> bytes:
-        more = self._stream.read(max(wanted - len(data), _FIRST))
+        count = max(wanted - len(data), _FIRST)
+        more = self._stream.read(count)
+        self._is_read = len(more) < count
         self._digest.update(more)
         self.size += len(more)
         return data + more
 
-    def _judge(self, piece: bytes, found: Verdict) -> None:
-        """Keeps the refusal of a pickle, where it is the first: by the list, or by any."""
+    def _judge(self, piece: bytes, found: Verdict, is_listed: bool) -> None:
+        """Keeps the refusal of a pickle, where it is the first: by the list, or by any. One that is
+        accepted under any import and imports listed names alone is accepted under the list.
+        """
         if not found:
             # (a reader runs what stands before the place: what it imports first is told)
             first = check(piece, _NOTHING, limits=_LARGE)
             if first.pair is not None:
                 self.imports[first.pair] = None
-        if self.refusal is not None:
+        if self.refusal is not None or is_listed:
             return
         under = found if self._allow is None else check(piece, self._allow, limits=_LARGE)
         if not under:
             self.number = self.pickles
             self.refusal = under._replace(at=self.taken + under.at)
             self.listing = list(_listing(piece, under.at, self.taken))
-
-
-def _imports_of(data: bytes) -> Tuple[Verdict, bytes]:
-    (verdict,), room = with_room(lambda size: imports(data, _NOTHING, _LARGE, "unknown", size))
-    return verdict, room
 
 
 def _listing(data: bytes, at: int, offset: int) -> Iterator[Listed]:

@@ -7,7 +7,6 @@ import contextlib
 import os
 import sys
 import time
-from pathlib import Path
 from typing import Deque, Iterable, Iterator, List, Optional, TextIO
 
 from .._lists import AllowList
@@ -23,21 +22,25 @@ _AHEAD = 4
 def files_in(paths: Iterable[str], recursive: bool) -> Iterator[str]:
     """The files that are named, and those of folders: all below them where `recursive`."""
     for path in paths:
-        if path != "-" and Path(path).is_dir():
+        if path != "-" and os.path.isdir(path):
             yield from _files_of(path, recursive)
         else:
             yield path
 
 
 def _files_of(folder: str, recursive: bool) -> Iterator[str]:
-    for root, folders, names in os.walk(folder):
-        folders.sort()
-        if not recursive:
-            folders.clear()
-        for name in sorted(names):
-            path = Path(root, name)
-            if path.is_file():
-                yield str(path)
+    try:
+        with os.scandir(folder) as found:
+            entries = sorted(found, key=lambda entry: entry.name)
+    except OSError:
+        yield folder  # (it can't be read, and is a finding like a file that can't)
+        return
+    for entry in entries:
+        if entry.is_file():
+            yield entry.path
+    for entry in entries:
+        if recursive and entry.is_dir(follow_symlinks=False):
+            yield from _files_of(entry.path, recursive)
 
 
 def scan_file(path: str, allow: Optional[AllowList]) -> List[Report]:

@@ -1,17 +1,26 @@
 -- States in which what is unknown is one text: each knowledge covers one, and in these a step that the checker lets pass goes on.
 use Rattle.pkops.specs.Operands.{memo_number, pair_named}
 use Rattle.std.proofs.Common.{◌≡◌, ℕ, Bool, true, false, cond, List, [], ◌∷◌, ◌++◌, length, map, Option, Some, None, Result, Ok, Err, ◌⊎◌, inl, inr, refl, sym, ap, subst, ◌∙◌, arith, le-ltb}
-use Rattle.pkcheck.specs.declared.machine.effects.Takes.{Takes}
-use Rattle.pkcheck.specs.declared.machine.effects.Names.{Names}
-use Rattle.pkcheck.specs.declared.machine.effects.Names.TheVariants.{NoName, OfArgument, OfOperands}
-use Rattle.pkcheck.specs.declared.machine.effects.Gives.{Gives}
+use Rattle.pkcheck.specs.declared.effect.Takes.{Takes}
+use Rattle.pkcheck.specs.declared.effect.Names.{Names}
+use Rattle.pkcheck.specs.declared.effect.Names.TheVariants.{NoName, OfArgument, OfOperands}
+use Rattle.pkcheck.specs.declared.effect.Gives.{Gives}
 use Rattle.pkcheck.specs.Effects.{Effect, Operates, Moves, Stops, Raises}
 use Rattle.pkcheck.specs.Shape.{top, Breach, Entry, Mark, Item, Shape, Taken, and_then, unless, operands, moved}
 use Rattle.std.specs.Str.{IsUtf8}
 use Rattle.std.proofs.lemmas.List.Elements.{All-append, All-cons, All-nil}
 use Rattle.pkops.specs.Spelling.{Instruction}
-use Rattle.pkcheck.specs.Runs.{argument_named, ObjectClass, AnswersCanBe, CanBe, Text, Plain, Foreign, Object, State, Outcome, Go, Stepped, WentOn, Raised, Stopped, Stuck, Named, NoImport, Pair, NotTexts, class_at, texts_named, of_two, named, asks, come_of, operated, move_step, stop_step, operate_step, perform}
-use Rattle.pkcheck.specs.Knowledge.{argument_asked, Known, Knowledge, Policy, Asked, AskedPair, AskedUnknown, Progress, Refusal, Lacks, WrongClass, NotText, UnknownImport, OffList, LeftOver, NotAscii, TooLarge, wrong_receiver, permitted, unknown_pair, text_fault, operands_asked, asked_of, left_over, move_learned, stop_learned, operate_learned, learn}
+use Rattle.pkcheck.specs.Runs.{argument_named, ObjectClass, AnswersCanBe, CanBe, Text, Plain}
+use Rattle.pkcheck.specs.Runs.{Foreign, Object, State, Outcome, Go, Stepped, WentOn, Raised}
+use Rattle.pkcheck.specs.Runs.{Stopped, Stuck, Named, NoImport, Pair, NotTexts, class_at}
+use Rattle.pkcheck.specs.Runs.{texts_named, of_two, named, asks, come_of, operated, move_step}
+use Rattle.pkcheck.specs.Runs.{stop_step, operate_step, perform}
+use Rattle.pkcheck.specs.Knowledge.{argument_asked, Known, Knowledge, Policy, Asked, AskedPair}
+use Rattle.pkcheck.specs.Knowledge.{AskedUnknown, Progress, Refusal, Lacks, WrongClass, NotText}
+use Rattle.pkcheck.specs.Knowledge.{UnknownImport, OffList, LeftOver, NotAscii, TooLarge}
+use Rattle.pkcheck.specs.Knowledge.{wrong_receiver, permitted, unknown_pair, text_fault}
+use Rattle.pkcheck.specs.Knowledge.{operands_asked, asked_of, left_over, move_learned}
+use Rattle.pkcheck.specs.Knowledge.{stop_learned, operate_learned, learn}
 use Rattle.pkcheck.specs.Covers.{Pointwise, Alike}
 use Rattle.pkcheck.proofs.Covering.CoversBy.{TrueBy, CoversBy, Choose, OutcomeHolds, IsAnswer}
 use Rattle.pkcheck.specs.Faults.{AsksFor}
@@ -163,13 +172,19 @@ module _ (v : List ℕ) where
     abbrev here : Stepped → Result Progress Refusal → Type 0
     here st x = Exactly v (Operates takes names gives) k s st x
 
-    asks_guess : (t : Taken Known) (u : Taken ℕ) (nm : Named) (o : Outcome) → operands takes k.entries ≡ Ok t → ((a : Known) × (b : Known) × (t.operands ≡ a ∷ b ∷ []) × (nm ≡ Pair (guess v a) (guess v b)) × ((a ≡ None) ⊎ (b ≡ None))) → AsksGuess v (Operates takes names gives) k s (operated nm gives i u o s)
+    asks_guess : (t : Taken Known) (u : Taken ℕ) (nm : Named) (o : Outcome)
+        → operands takes k.entries ≡ Ok t → ((a : Known) × (b : Known) × (t.operands ≡ a ∷ b ∷ []) ×
+        (nm ≡ Pair (guess v a) (guess v b)) × ((a ≡ None) ⊎ (b ≡ None)))
+        → AsksGuess v (Operates takes names gives) k s (operated nm gives i u o s)
     asks_guess t u nm o e g =
         let known : known_pair (Operates takes names gives) k ≡ Some (g.0, g.1) =
         ap (λ r. elim r as (λ _. Option (Known × Known)) [ Ok t ↦ of_two t.operands None (λ a b. Some (a, b)) | Err b ↦ None ]) e ∙ ap (λ l. of_two l None (λ a b. Some (a, b))) g.2 in
         (g.0, g.1, known, g.4, subst (λ m. AsksFor (guess v g.0) (guess v g.1) s (operated m gives i u o s)) (sym g.3) (operate_asks gives i u s (guess v g.0) (guess v g.1) o))
 
-    names_go : (t : Taken Known) (u : Taken ℕ) (nm : Named) (n : ℕ) (c : ObjectClass) (a : Result (Option Asked) Refusal) (after : Knowledge) → operands takes k.entries ≡ Ok t → NamesExactly t.operands nm a → here (operated nm gives i u (Go n c) s) (and_then a (λ x. Ok (record { after = after; import = x })))
+    names_go : (t : Taken Known) (u : Taken ℕ) (nm : Named) (n : ℕ) (c : ObjectClass)
+        (a : Result (Option Asked) Refusal) (after : Knowledge) → operands takes k.entries ≡ Ok t
+        → NamesExactly t.operands nm a → here (operated nm gives i u (Go n c) s)
+        (and_then a (λ x. Ok (record { after = after; import = x })))
     names_go t u nm n c (Ok a) after e h = (operate_goes (Operates takes names gives) nm gives i u n c s h.0, λ g. asks_guess t u nm (Go n c) e (h.1 g))
     names_go t u nm n c (Err UnknownImport) after e h = asks_guess t u nm (Go n c) e h
     names_go t u nm n c (Err (Lacks b)) after e h = tt
@@ -184,7 +199,10 @@ module _ (v : List ℕ) where
     unless_goes true st x h = tt
     unless_goes false st x h = h
 
-    operate_goes_on : (p : Policy) (n : ℕ) (c : ObjectClass) (x : Result (Taken Known) Breach) (y : Result (Taken ℕ) Breach) → operands takes k.entries ≡ x → SameResult (AlikeTaken (TrueBy (Answered v) s.objects)) x y → here (operate_step names gives i (Go n c) s y) (operate_learned p names gives i k x)
+    operate_goes_on : (p : Policy) (n : ℕ) (c : ObjectClass) (x : Result (Taken Known) Breach)
+        (y : Result (Taken ℕ) Breach) → operands takes k.entries ≡ x
+        → SameResult (AlikeTaken (TrueBy (Answered v) s.objects)) x y
+        → here (operate_step names gives i (Go n c) s y) (operate_learned p names gives i k x)
     operate_goes_on p n c (Ok t) (Ok u) e h =
         unless_goes (wrong_receiver gives t.operands) _ _ (names_go t u _ n c (asked_of p names i t.operands) _ e (names_exactly p names i s.objects t.operands u.operands h.operands))
     operate_goes_on p n c (Err b) y e h = tt

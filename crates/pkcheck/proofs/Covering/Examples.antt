@@ -5,8 +5,8 @@ use Rattle.std.proofs.Common.{◌≡◌, ℕ, ◌&&◌, List, [], ◌∷◌, Opt
 use Rattle.std.specs.Prelude.{nat_eq}
 use Rattle.std.proofs.Math.Utf8.{encode}
 use Rattle.std.specs.Cmp.Lexicographic.{pointwise}
-use Rattle.pkops.specs.declared.op.Op.{Op}
-use Rattle.pkops.specs.declared.op.Op.TheVariants as op
+use Rattle.pkops.specs.declared.Op.{Op}
+use Rattle.pkops.specs.declared.Op.TheVariants as op
 use Rattle.pkops.specs.Spelling.{Instruction, Nothing, Number, Pair, Counted, instruction}
 use Rattle.pkops.specs.Limits.{standard}
 use Rattle.pkcheck.specs.Shape.{NoItem, NoMemo, Odd}

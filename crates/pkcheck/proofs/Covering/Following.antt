@@ -6,15 +6,24 @@ use Rattle.std.specs.Prelude.{slice_get}
 use Rattle.std.proofs.lemmas.Option.{slice_get_within, slice_get-get_or, get_or_from_slice_get}
 use Rattle.std.proofs.Math.ListN.{get_or-append}
 use Rattle.std.proofs.Math.Seq.{get_or-append_seam}
-use Rattle.pkcheck.specs.declared.machine.effects.Names.{Names}
-use Rattle.pkcheck.specs.declared.machine.effects.Names.TheVariants.{NoName, OfArgument, OfOperands}
-use Rattle.pkcheck.specs.declared.machine.effects.Gives.{Gives}
-use Rattle.pkcheck.specs.declared.machine.effects.Gives.TheVariants.{Makes, MakesIntOrBool, MakesText, MayMake, Answers, Leaves}
+use Rattle.pkcheck.specs.declared.effect.Names.{Names}
+use Rattle.pkcheck.specs.declared.effect.Names.TheVariants.{NoName, OfArgument, OfOperands}
+use Rattle.pkcheck.specs.declared.effect.Gives.{Gives}
+use Rattle.pkcheck.specs.declared.effect.Gives.TheVariants.{Makes, MakesIntOrBool, MakesText, MayMake, Answers, Leaves}
 use Rattle.pkcheck.specs.Effects.{Effect, Operates, Moves, Stops, Raises, effect_as, number_stored}
 use Rattle.pkcheck.specs.Shape.{top, put, Breach, Entry, Item, Mark, Shape, Taken, and_then, unless, front, moved}
 use Rattle.pkops.specs.Spelling.{Instruction}
-use Rattle.pkcheck.specs.Runs.{argument_named, ObjectClass, Text, Plain, Foreign, Object, Event, Import, Did, State, Outcome, Raise, Go, Stepped, Stopped, Named, NoImport, Pair, NotTexts, class_at, texts_named, named, asks, given, come_of, operated, move_step, stop_step, operate_step, perform, step_as}
-use Rattle.pkcheck.specs.Knowledge.{argument_asked, Known, Knowledge, Policy, Asked, AskedPair, AskedUnknown, Progress, Refusal, WrongClass, OffList, TooLarge, wrong_receiver, permitted, unknown_pair, operands_asked, asked_of, known_given, is_past, within, left_over, move_learned, stop_learned, operate_learned, learn, advance}
+use Rattle.pkcheck.specs.Runs.{argument_named, ObjectClass, Text, Plain, Foreign, Object, Event}
+use Rattle.pkcheck.specs.Runs.{Import, Did, State, Outcome, Raise, Go, Stepped, Stopped, Named}
+use Rattle.pkcheck.specs.Runs.{NoImport, Pair, NotTexts, class_at, texts_named, named, asks}
+use Rattle.pkcheck.specs.Runs.{given, come_of, operated, move_step, stop_step, operate_step}
+use Rattle.pkcheck.specs.Runs.{perform, step_as}
+use Rattle.pkcheck.specs.Knowledge.{argument_asked, Known, Knowledge, Policy, Asked, AskedPair}
+use Rattle.pkcheck.specs.Knowledge.{AskedUnknown, Progress, Refusal, WrongClass, OffList}
+use Rattle.pkcheck.specs.Knowledge.{TooLarge, wrong_receiver, permitted, unknown_pair}
+use Rattle.pkcheck.specs.Knowledge.{operands_asked, asked_of, known_given, is_past, within}
+use Rattle.pkcheck.specs.Knowledge.{left_over, move_learned, stop_learned, operate_learned, learn}
+use Rattle.pkcheck.specs.Knowledge.{advance}
 use Rattle.pkops.specs.Limits.{Bounds}
 use Rattle.pkcheck.specs.Covers.{Pointwise, AlikeEntry, AlikeCell, Alike, imports_of, IsAsked, Adds}
 use Rattle.pkcheck.proofs.Covering.CoversBy.{TrueBy, CoversBy, Choose, AnswerHolds, OutcomeHolds, FollowsBy, FollowsIfOk}
@@ -122,12 +131,24 @@ module _ (U : List Object → ℕ → Type 0) where
     TrueOf-grow objects r (Some c) n h = kept_at objects r _ n h
 
     -- one more object on the stack, of which this is known
-    pub push_alike : (objects : List Object) (r : Object) (k : Known) (es : List (Entry Known)) (fs : List (Entry ℕ)) (ms : List (ℕ × Known)) (ns : List (ℕ × ℕ)) → TrueBy U (objects ++ r ∷ []) k (length objects) → Pointwise (AlikeEntry (TrueBy U objects)) es fs → Pointwise (AlikeCell (TrueBy U objects)) ms ns → Alike (TrueBy U (objects ++ r ∷ [])) (record { entries = Item k ∷ es; memo = ms }) (record { entries = Item (length objects) ∷ fs; memo = ns })
+    pub push_alike : (objects : List Object) (r : Object) (k : Known) (es : List (Entry Known))
+        (fs : List (Entry ℕ)) (ms : List (ℕ × Known)) (ns : List (ℕ × ℕ))
+        → TrueBy U (objects ++ r ∷ []) k (length objects)
+        → Pointwise (AlikeEntry (TrueBy U objects)) es fs
+        → Pointwise (AlikeCell (TrueBy U objects)) ms ns
+        → Alike (TrueBy U (objects ++ r ∷ [])) (record { entries = Item k ∷ es; memo = ms })
+        (record { entries = Item (length objects) ∷ fs; memo = ns })
     push_alike objects r k es fs ms ns new h g =
         let old = Alike-map (TrueBy U objects) (TrueBy U (objects ++ r ∷ [])) (TrueOf-grow objects r) (record { entries = es; memo = ms }) (record { entries = fs; memo = ns }) (record { entries = h; memo = g }) in
         record { entries = (new, old.entries); memo = old.memo }
 
-    given_alike : (gives : Gives) (i : Instruction) (t : Taken Known) (u : Taken ℕ) (n : ℕ) (c : ObjectClass) (objects : List Object) (ms : List (ℕ × Known)) (ns : List (ℕ × ℕ)) → AnswerIfAny gives U objects n c → AlikeTaken (TrueBy U objects) t u → Pointwise (AlikeCell (TrueBy U objects)) ms ns → Alike (TrueBy U (given gives i n c objects).1) (record { entries = put (known_given gives i) t.operands ++ t.below; memo = ms }) (record { entries = put (given gives i n c objects).0 u.operands ++ u.below; memo = ns })
+    given_alike : (gives : Gives) (i : Instruction) (t : Taken Known) (u : Taken ℕ) (n : ℕ)
+        (c : ObjectClass) (objects : List Object) (ms : List (ℕ × Known)) (ns : List (ℕ × ℕ))
+        → AnswerIfAny gives U objects n c → AlikeTaken (TrueBy U objects) t u
+        → Pointwise (AlikeCell (TrueBy U objects)) ms ns
+        → Alike (TrueBy U (given gives i n c objects).1) (record
+        { entries = put (known_given gives i) t.operands ++ t.below; memo = ms })
+        (record { entries = put (given gives i n c objects).0 u.operands ++ u.below; memo = ns })
     given_alike (Makes s) i t u n c objects ms ns o h g = push_alike objects _ _ t.below u.below ms ns (new_at objects _) h.below g
     given_alike MakesIntOrBool i t u n c objects ms ns o h g = push_alike objects _ _ t.below u.below ms ns (new_at objects _) h.below g
     given_alike MakesText i t u n c objects ms ns o h g = push_alike objects _ _ t.below u.below ms ns (new_at objects _) h.below g
@@ -135,7 +156,12 @@ module _ (U : List Object → ℕ → Type 0) where
     given_alike (Leaves w) i t u n c objects ms ns o h g =
         record { entries = Pointwise-append (AlikeEntry (TrueBy U objects)) (front t.operands) (front u.operands) t.below u.below (front_alike (TrueBy U objects) t.operands u.operands h.operands) h.below; memo = g }
     given_alike Answers i t u n c objects ms ns o h g =
-        elim (ltb n (length objects)) as (λ b. Choose b (U objects n) (U (objects ++ record { class_of = c; made = false } ∷ []) (length objects)) → (let x : Option ℕ × List Object = cond b (Some n, objects) (Some (length objects), objects ++ record { class_of = c; made = false } ∷ []) in Alike (TrueBy U x.1) (record { entries = Item None ∷ t.below; memo = ms }) (record { entries = put x.0 u.operands ++ u.below; memo = ns }))) [
+        elim (ltb n (length objects)) as (λ b. Choose b (U objects n)
+        (U (objects ++ record { class_of = c; made = false } ∷ []) (length objects))
+        → (let x : Option ℕ × List Object = cond b (Some n, objects)
+        (Some (length objects), objects ++ record { class_of = c; made = false } ∷ []) in Alike
+        (TrueBy U x.1) (record { entries = Item None ∷ t.below; memo = ms })
+        (record { entries = put x.0 u.operands ++ u.below; memo = ns }))) [
           | true ↦ λ v. record { entries = (v, h.below); memo = g }
           | false ↦ λ v. push_alike objects _ _ t.below u.below ms ns v h.below g
         ] o
@@ -185,7 +211,12 @@ module _ (U : List Object → ℕ → Type 0) where
     refused_follows true r x s st h = tt
     refused_follows false r x s st h = h
 
-    operate_follows : (p : Policy) (names : Names) (gives : Gives) (i : Instruction) (k : Knowledge) (s : State) (o : Outcome) (x : Result (Taken Known) Breach) (y : Result (Taken ℕ) Breach) → SameResult (AlikeTaken (TrueBy U s.objects)) x y → Pointwise (AlikeCell (TrueBy U s.objects)) k.memo s.shape.memo → OutcomeHolds U s.objects o → FollowsIfOk U (operate_learned p names gives i k x) s (operate_step names gives i o s y)
+    operate_follows : (p : Policy) (names : Names) (gives : Gives) (i : Instruction) (k : Knowledge)
+        (s : State) (o : Outcome) (x : Result (Taken Known) Breach) (y : Result (Taken ℕ) Breach)
+        → SameResult (AlikeTaken (TrueBy U s.objects)) x y
+        → Pointwise (AlikeCell (TrueBy U s.objects)) k.memo s.shape.memo
+        → OutcomeHolds U s.objects o → FollowsIfOk U (operate_learned p names gives i k x) s
+        (operate_step names gives i o s y)
     operate_follows p names gives i k s o (Ok t) (Ok u) h m w =
         refused_follows (wrong_receiver gives t.operands) WrongClass _ s _ (imports_follow gives i t u k s h m p (asked_of p names i t.operands) _ o (names_alike p names i s.objects t.operands u.operands h.operands) w)
     operate_follows p names gives i k s o (Err r) y h m w = tt
@@ -203,12 +234,22 @@ module _ (U : List Object → ℕ → Type 0) where
         let pair = λ (r : Result (ℕ × List (Entry ℕ)) Breach). elim r as (λ _. ℕ × List (Entry ℕ)) [ Ok t ↦ t | Err b ↦ (m, es) ] in
         ap (λ r. Item (pair r).0 ∷ (pair r).1) e
 
-    emptied : (es : List (Entry Known)) (ms : List (ℕ × Known)) (s : State) (n : ℕ) (fs : List (Entry ℕ)) → top s.shape.entries ≡ Ok (n, fs) → Pointwise (AlikeEntry (TrueBy U s.objects)) es fs → Pointwise (AlikeCell (TrueBy U s.objects)) ms s.shape.memo → FollowsIfOk U (unless (left_over es) (Ok (record { after = record { entries = es; memo = ms }; import = None }))) s (Stopped n (record s { shape = record s.shape { entries = fs } }))
+    emptied : (es : List (Entry Known)) (ms : List (ℕ × Known)) (s : State) (n : ℕ)
+        (fs : List (Entry ℕ)) → top s.shape.entries ≡ Ok (n, fs)
+        → Pointwise (AlikeEntry (TrueBy U s.objects)) es fs
+        → Pointwise (AlikeCell (TrueBy U s.objects)) ms s.shape.memo
+        → FollowsIfOk U (unless (left_over es)
+        (Ok (record { after = record { entries = es; memo = ms }; import = None }))) s
+        (Stopped n (record s { shape = record s.shape { entries = fs } }))
     emptied [] ms s n [] e h g = (only_item s.shape.entries n [] e, refl, record { entries = tt; memo = g }, refl, refl)
     emptied [] ms s n (f ∷ fs) e h g = absurd h
     emptied (x ∷ es) ms s n fs e h g = tt
 
-    stop_follows : (ms : List (ℕ × Known)) (x : Result (Known × List (Entry Known)) Breach) (s : State) (y : Result (ℕ × List (Entry ℕ)) Breach) → top s.shape.entries ≡ y → SameResult (AlikeTop (TrueBy U s.objects)) x y → Pointwise (AlikeCell (TrueBy U s.objects)) ms s.shape.memo → FollowsIfOk U (stop_learned ms x) s (stop_step s y)
+    stop_follows : (ms : List (ℕ × Known)) (x : Result (Known × List (Entry Known)) Breach)
+        (s : State) (y : Result (ℕ × List (Entry ℕ)) Breach) → top s.shape.entries ≡ y
+        → SameResult (AlikeTop (TrueBy U s.objects)) x y
+        → Pointwise (AlikeCell (TrueBy U s.objects)) ms s.shape.memo
+        → FollowsIfOk U (stop_learned ms x) s (stop_step s y)
     stop_follows ms (Ok a) s (Ok b) e h g = emptied a.1 ms s b.0 b.1 e h.below g
     stop_follows ms (Err r) s y e h g = tt
     stop_follows ms (Ok a) s (Err r) e h g = absurd h

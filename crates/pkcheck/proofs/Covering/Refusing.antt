@@ -2,17 +2,22 @@
 use Rattle.pkcheck.specs.declared.old_strings.OldStrings.{OldStrings}
 use Rattle.pkops.specs.Operands.{memo_number, pair_named}
 use Rattle.std.proofs.Common.{◌≡◌, ℕ, ◌<◌, Bool, true, false, not, cond, List, [], ◌∷◌, ◌++◌, length, map, Option, Some, None, Result, Ok, Err, inl, inr, refl, sym, ap, subst, ◌∙◌, append_assoc}
-use Rattle.pkcheck.specs.declared.machine.effects.Takes.{Takes}
-use Rattle.pkcheck.specs.declared.machine.effects.Names.{Names}
-use Rattle.pkcheck.specs.declared.machine.effects.Names.TheVariants.{NoName, OfArgument, OfOperands}
-use Rattle.pkcheck.specs.declared.machine.effects.Wanted.{Wanted}
-use Rattle.pkcheck.specs.declared.machine.effects.Gives.{Gives}
-use Rattle.pkcheck.specs.declared.machine.effects.Gives.TheVariants.{Makes, MakesIntOrBool, MakesText, MayMake, Answers, Leaves}
+use Rattle.pkcheck.specs.declared.effect.Takes.{Takes}
+use Rattle.pkcheck.specs.declared.effect.Names.{Names}
+use Rattle.pkcheck.specs.declared.effect.Names.TheVariants.{NoName, OfArgument, OfOperands}
+use Rattle.pkcheck.specs.declared.effect.Wanted.{Wanted}
+use Rattle.pkcheck.specs.declared.effect.Gives.{Gives}
+use Rattle.pkcheck.specs.declared.effect.Gives.TheVariants.{Makes, MakesIntOrBool, MakesText, MayMake, Answers, Leaves}
 use Rattle.pkcheck.specs.Effects.{Effect, Operates, Moves, Stops, Raises, effect_as, number_stored}
 use Rattle.pkcheck.specs.Shape.{top, Breach, Entry, Shape, Taken, and_then, unless, operands, moved}
 use Rattle.pkops.specs.Spelling.{Instruction}
 use Rattle.pkcheck.specs.Runs.{argument_named, Text, Plain, Foreign, Object, Import, Did, State, Outcome, Raise, Go, Stepped, WentOn, Raised, Stopped, Stuck, Named, Pair, class_at, texts_named, named, asks, come_of, operated, move_step, stop_step, operate_step, perform, step_as}
-use Rattle.pkcheck.specs.Knowledge.{argument_asked, Known, Knowledge, Policy, Asked, AskedPair, Progress, Refusal, Lacks, WrongClass, NotText, UnknownImport, OffList, LeftOver, NotAscii, TooLarge, suits, wrong_first, wrong_receiver, permitted, unknown_pair, operands_asked, asked_of, is_past, within, left_over, move_learned, stop_learned, operate_learned, learn, advance}
+use Rattle.pkcheck.specs.Knowledge.{argument_asked, Known, Knowledge, Policy, Asked, AskedPair}
+use Rattle.pkcheck.specs.Knowledge.{Progress, Refusal, Lacks, WrongClass, NotText, UnknownImport}
+use Rattle.pkcheck.specs.Knowledge.{OffList, LeftOver, NotAscii, TooLarge, suits, wrong_first}
+use Rattle.pkcheck.specs.Knowledge.{wrong_receiver, permitted, unknown_pair, operands_asked}
+use Rattle.pkcheck.specs.Knowledge.{asked_of, is_past, within, left_over, move_learned}
+use Rattle.pkcheck.specs.Knowledge.{stop_learned, operate_learned, learn, advance}
 use Rattle.pkops.specs.Limits.{Bounds}
 use Rattle.pkcheck.specs.Covers.{Pointwise, AlikeEntry, AlikeCell, Alike, Adds}
 use Rattle.pkcheck.proofs.Covering.CoversBy.{TrueBy, CoversBy, OutcomeHolds, FollowsBy, FollowsIfOk}
@@ -134,11 +139,20 @@ module _ (U : List Object → ℕ → Type 0) (p : Policy) where
   gives_fault Answers objects ks ns h e = cc
 
   module _ (l : Bounds) (number : ℕ) where
-    receiver_refused : (takes : Takes) (names : Names) (gives : Gives) (s : State) (st : Stepped) (u : Taken ℕ) (b : Bool) (x : Result Progress Refusal) → operands takes s.shape.entries ≡ Ok u → (b ≡ true → WrongReceiver gives s.objects u.operands) → FaultIfErr p l number (Operates takes names gives) s st x → FaultIfErr p l number (Operates takes names gives) s st (cond b (Err WrongClass) x)
+    receiver_refused : (takes : Takes) (names : Names) (gives : Gives) (s : State) (st : Stepped)
+        (u : Taken ℕ) (b : Bool) (x : Result Progress Refusal)
+        → operands takes s.shape.entries ≡ Ok u → (b ≡ true → WrongReceiver gives s.objects
+        u.operands) → FaultIfErr p l number (Operates takes names gives) s st x
+        → FaultIfErr p l number (Operates takes names gives) s st (cond b (Err WrongClass) x)
     receiver_refused takes names gives s st u false x e h g = g
     receiver_refused takes names gives s st u true x e h g = (u, e, h refl)
 
-    names_refused : (takes : Takes) (names : Names) (gives : Gives) (i : Instruction) (s : State) (o : Outcome) (u : Taken ℕ) (nm : Named) (a : Result (Option Asked) Refusal) (f : Option Asked → Progress) → operands takes s.shape.entries ≡ Ok u → NamesFault p names s.objects u.operands nm a → FaultIfErr p l number (Operates takes names gives) s (operated nm gives i u o s) (and_then a (λ v. Ok (f v)))
+    names_refused : (takes : Takes) (names : Names) (gives : Gives) (i : Instruction) (s : State)
+        (o : Outcome) (u : Taken ℕ) (nm : Named) (a : Result (Option Asked) Refusal)
+        (f : Option Asked → Progress) → operands takes s.shape.entries ≡ Ok u
+        → NamesFault p names s.objects u.operands nm a
+        → FaultIfErr p l number (Operates takes names gives) s (operated nm gives i u o s)
+        (and_then a (λ v. Ok (f v)))
     names_refused takes names gives i s o u nm (Ok a) f e h = tt
     names_refused takes names gives i s o u nm (Err (OffList a b)) f e h = (h.0, subst (λ v. AsksFor a b s (operated v gives i u o s)) (sym h.1) (operate_asks gives i u s a b o))
     names_refused takes names gives i s o u nm (Err NotText) f e h = (u, e, h)
@@ -149,7 +163,12 @@ module _ (U : List Object → ℕ → Type 0) (p : Policy) where
     names_refused takes names gives i s o u nm (Err NotAscii) f e h = absurd h
     names_refused takes names gives i s o u nm (Err TooLarge) f e h = absurd h
 
-    operate_refused : (takes : Takes) (names : Names) (gives : Gives) (i : Instruction) (k : Knowledge) (s : State) (o : Outcome) (x : Result (Taken Known) Breach) (y : Result (Taken ℕ) Breach) → operands takes s.shape.entries ≡ y → SameResult (AlikeTaken (TrueBy U s.objects)) x y → FaultIfErr p l number (Operates takes names gives) s (operate_step names gives i o s y) (operate_learned p names gives i k x)
+    operate_refused : (takes : Takes) (names : Names) (gives : Gives) (i : Instruction)
+        (k : Knowledge) (s : State) (o : Outcome) (x : Result (Taken Known) Breach)
+        (y : Result (Taken ℕ) Breach) → operands takes s.shape.entries ≡ y
+        → SameResult (AlikeTaken (TrueBy U s.objects)) x y
+        → FaultIfErr p l number (Operates takes names gives) s (operate_step names gives i o s y)
+        (operate_learned p names gives i k x)
     operate_refused takes names gives i k s o (Ok t) (Ok u) e h =
         receiver_refused takes names gives s _ u (wrong_receiver gives t.operands) _ e (gives_fault gives s.objects t.operands u.operands h.operands)
         (names_refused takes names gives i s o u _ (asked_of p names i t.operands) _ e (names_fault names i s.objects t.operands u.operands h.operands))
@@ -162,7 +181,15 @@ module _ (U : List Object → ℕ → Type 0) (p : Policy) where
     shape_refused e s (Err b) (Err c) h = ap Stuck (sym h)
     shape_refused e s (Err b) (Ok a) h = absurd h
 
-    left_refused : (es : List (Entry Known)) (fs : List (Entry ℕ)) (ms : List (ℕ × Known)) (n : ℕ) (e : Effect) (s : State) → Pointwise (AlikeEntry (TrueBy U s.objects)) es fs → FaultIfErr {A = Progress} p l number e s (Stopped n (record s { shape = record s.shape { entries = fs } })) (unless (left_over es) (Ok (record { after = record { entries = es; memo = ms }; import = None })))
+    left_refused : (es : List (Entry Known)) (fs : List (Entry ℕ)) (ms : List (ℕ × Known)) (n : ℕ)
+        (e : Effect) (s : State) → Pointwise (AlikeEntry (TrueBy U s.objects)) es fs
+        → FaultIfErr {A = Progress} p l number e s (Stopped n
+        (record s { shape = record s.shape { entries = fs } }))
+        (unless (left_over es) (Ok (record {
+          after = record { entries = es; memo = ms };
+          import =
+              None;
+        })))
     left_refused [] fs ms n e s h = tt
     left_refused (x ∷ es) (y ∷ fs) ms n e s h = λ none. cc
     left_refused (x ∷ es) [] ms n e s h = absurd h
@@ -208,7 +235,10 @@ module _ (U : List Object → ℕ → Type 0) (p : Policy) where
         elim (is_past l number q.after) as (λ b. is_past l number q.after ≡ b → FaultIfErr {A = Progress} p l number e s st (cond b (Err TooLarge) (Ok q))) [ true ↦ λ i. more q s st h (past_by l number q.after i) | false ↦ λ _. tt ] refl
 
   -- where the checker refuses, each state that it covers has the fault, whatever the outcome
-  pub step_refused : Grows U → (l : Bounds) (setting : OldStrings) (i : Instruction) (k : Knowledge) (s : State) (o : Outcome) → CoversBy U k s → OutcomeHolds U s.objects o → FaultIfErr p l (number_stored (effect_as setting i) i) (effect_as setting i) s (step_as setting i s o) (advance setting p l i k)
+  pub step_refused : Grows U → (l : Bounds) (setting : OldStrings) (i : Instruction) (k : Knowledge)
+      (s : State) (o : Outcome) → CoversBy U k s → OutcomeHolds U s.objects o
+      → FaultIfErr p l (number_stored (effect_as setting i) i) (effect_as setting i) s
+      (step_as setting i s o) (advance setting p l i k)
   step_refused grows l setting i k s o h w =
       let number = number_stored (effect_as setting i) i in
       within_refused l number (effect_as setting i) (learn p (effect_as setting i) i k) s (step_as setting i s o) (learn_follows U grows p (effect_as setting i) i k s o h w) (learn_refused l number (effect_as setting i) i k s o h)

@@ -4,16 +4,20 @@ use Rattle.std.proofs.lemmas.List.{append_cancel_left}
 use Rattle.std.proofs.lemmas.Option.{slice_get_within}
 use Rattle.pkops.specs.Spelling.{Instruction}
 use Rattle.pkops.specs.Limits.{Bounds}
-use Rattle.pkcheck.specs.declared.machine.effects.Takes.{Takes}
-use Rattle.pkcheck.specs.declared.machine.effects.Names.{Names}
-use Rattle.pkcheck.specs.declared.machine.effects.Names.TheVariants.{NoName, OfArgument, OfOperands}
-use Rattle.pkcheck.specs.declared.machine.effects.Wanted.{Wanted}
-use Rattle.pkcheck.specs.declared.machine.effects.Gives.{Gives}
-use Rattle.pkcheck.specs.declared.machine.effects.Gives.TheVariants.{Makes, MakesIntOrBool, MakesText, MayMake, Answers, Leaves}
+use Rattle.pkcheck.specs.declared.effect.Takes.{Takes}
+use Rattle.pkcheck.specs.declared.effect.Names.{Names}
+use Rattle.pkcheck.specs.declared.effect.Names.TheVariants.{NoName, OfArgument, OfOperands}
+use Rattle.pkcheck.specs.declared.effect.Wanted.{Wanted}
+use Rattle.pkcheck.specs.declared.effect.Gives.{Gives}
+use Rattle.pkcheck.specs.declared.effect.Gives.TheVariants.{Makes, MakesIntOrBool, MakesText, MayMake, Answers, Leaves}
 use Rattle.pkcheck.specs.Effects.{Effect, Operates, Moves, Stops, Raises}
 use Rattle.pkcheck.specs.Shape.{Breach, NoMark, NoItem, NoMemo, Odd, Extension, Taken}
 use Rattle.pkcheck.specs.Runs.{ObjectClass, Text, Plain, Foreign, Object, Event, State, Outcome, Raise, Go, Stepped, WentOn, Raised, Stopped, Stuck, Named, NoImport, Pair, NotTexts, asks, come_of, operated, operate_step, perform}
-use Rattle.pkcheck.specs.Knowledge.{Known, Knowledge, Policy, Asked, AskedPair, AskedUnknown, Progress, Refusal, Lacks, WrongClass, NotText, UnknownImport, OffList, LeftOver, NotAscii, TooLarge, wrong_first, wrong_receiver, text_fault, operands_asked, asked_of, operate_learned, learn, is_past, within, reason_of}
+use Rattle.pkcheck.specs.Knowledge.{Known, Knowledge, Policy, Asked, AskedPair, AskedUnknown}
+use Rattle.pkcheck.specs.Knowledge.{Progress, Refusal, Lacks, WrongClass, NotText, UnknownImport}
+use Rattle.pkcheck.specs.Knowledge.{OffList, LeftOver, NotAscii, TooLarge, wrong_first}
+use Rattle.pkcheck.specs.Knowledge.{wrong_receiver, text_fault, operands_asked, asked_of}
+use Rattle.pkcheck.specs.Knowledge.{operate_learned, learn, is_past, within, reason_of}
 use Rattle.pkcheck.specs.Covers.{Pointwise, AlikeEntry, AlikeCell, IsObject, imports_of, IsAsked, Adds}
 use Rattle.pkcheck.proofs.Covering.CoversBy.{TrueBy, CoversBy, FollowsBy}
 use Rattle.pkcheck.specs.Faults.{IsMade, is_text, WrongReceiver, NonText, HasWrongReceiver, HasNonText, IsOff, AsksFor, LeavesMore, IsPast, GoesOnPast, rank, IsRaise}
@@ -158,13 +162,20 @@ refuses_text true = inr refl
 refuses_text false = inl refl
 
 module _ (v : List ℕ) (p : Policy) (i : Instruction) (k : Knowledge) (s : State) (h : CoversBy (Answered v) k s) where
-  pub wrong_at : (takes : Takes) (names : Names) (gives : Gives) (x : Result (Taken Known) Breach) (y : Result (Taken ℕ) Breach) → SameResult (AlikeTaken (TrueBy (Answered v) s.objects)) x y → (t : Taken ℕ) → y ≡ Ok t → WrongReceiver gives s.objects t.operands → operate_learned p names gives i k x ≡ Err WrongClass
+  pub wrong_at : (takes : Takes) (names : Names) (gives : Gives) (x : Result (Taken Known) Breach)
+      (y : Result (Taken ℕ) Breach) → SameResult (AlikeTaken (TrueBy (Answered v) s.objects)) x y
+      → (t : Taken ℕ) → y ≡ Ok t → WrongReceiver gives s.objects t.operands
+      → operate_learned p names gives i k x ≡ Err WrongClass
   wrong_at takes names gives (Ok u) (Ok w) a t e g =
       refuses_class _ _ (receiver_seen v s.objects gives u.operands w.operands a.operands (subst (λ (z : Taken ℕ). WrongReceiver gives s.objects z.operands) (sym (same_taken w t e)) g))
   wrong_at takes names gives (Err b) (Ok w) a t e g = absurd a
   wrong_at takes names gives x (Err b) a t e g = cc
 
-  pub non_text_at : (takes : Takes) (names : Names) (gives : Gives) (x : Result (Taken Known) Breach) (y : Result (Taken ℕ) Breach) → SameResult (AlikeTaken (TrueBy (Answered v) s.objects)) x y → (t : Taken ℕ) → y ≡ Ok t → NonText names s.objects t.operands → (operate_learned p names gives i k x ≡ Err NotText) ⊎ (operate_learned p names gives i k x ≡ Err WrongClass)
+  pub non_text_at : (takes : Takes) (names : Names) (gives : Gives)
+      (x : Result (Taken Known) Breach) (y : Result (Taken ℕ) Breach)
+      → SameResult (AlikeTaken (TrueBy (Answered v) s.objects)) x y → (t : Taken ℕ) → y ≡ Ok t
+      → NonText names s.objects t.operands → (operate_learned p names gives i k x ≡ Err NotText) ⊎
+      (operate_learned p names gives i k x ≡ Err WrongClass)
   non_text_at takes names gives (Ok u) (Ok w) a t e g =
       let is : asked_of p names i u.operands ≡ Err NotText = names_seen v s.objects p names i u.operands w.operands a.operands (subst (λ (z : Taken ℕ). NonText names s.objects z.operands) (sym (same_taken w t e)) g) in
       rw is (refuses_text (wrong_receiver gives u.operands))

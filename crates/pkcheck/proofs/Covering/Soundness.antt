@@ -2,8 +2,8 @@
 use Rattle.pkcheck.specs.declared.old_strings.OldStrings.{OldStrings}
 use Rattle.pkops.specs.Operands.{memo_number, pair_named}
 use Rattle.std.proofs.Common.{◌≡◌, ℕ, Bool, true, false, cond, List, [], ◌∷◌, ◌++◌, Option, Some, None, Result, Ok, Err, inl, inr, refl, sym, ap, subst}
-use Rattle.pkcheck.specs.declared.machine.effects.Names.{Names}
-use Rattle.pkcheck.specs.declared.machine.effects.Names.TheVariants.{NoName, OfArgument, OfOperands}
+use Rattle.pkcheck.specs.declared.effect.Names.{Names}
+use Rattle.pkcheck.specs.declared.effect.Names.TheVariants.{NoName, OfArgument, OfOperands}
 use Rattle.pkcheck.specs.Effects.{Effect, Operates, Moves, Stops, Raises, effect_as, number_stored}
 use Rattle.pkcheck.specs.Shape.{top, Breach, Entry, Taken, and_then, unless, operands, moved}
 use Rattle.pkops.specs.Spelling.{Instruction}
@@ -72,7 +72,11 @@ module _ (list : List ℕ → List ℕ → Bool) where
   refused_listed true r x h = tt
   refused_listed false r x h = h
 
-  operate_listed : (names : Names) (i : Instruction) (b : Taken Known → Bool) (k : Taken Known → Knowledge) (x : Result (Taken Known) Breach) → PassesListed list (and_then (lacking x) (λ t. cond (b t) (Err WrongClass) (and_then (asked_of (Some list) names i t.operands) (λ a. Ok (record { after = k t; import = a })))))
+  operate_listed : (names : Names) (i : Instruction) (b : Taken Known → Bool)
+      (k : Taken Known → Knowledge) (x : Result (Taken Known) Breach)
+      → PassesListed list (and_then (lacking x) (λ t. cond (b t) (Err WrongClass)
+      (and_then (asked_of (Some list) names i t.operands) (λ a. Ok
+      (record { after = k t; import = a })))))
   operate_listed names i b k (Ok t) = refused_listed (b t) WrongClass _ (named_listed (asked_of (Some list) names i t.operands) (k t) (asked_listed names i t.operands))
   operate_listed names i b k (Err r) = tt
 
@@ -118,7 +122,10 @@ module _ (list : List ℕ → List ℕ → Bool) where
   yes_before a (Yes k as') h = tt
   yes_before a (No n r) h = h
 
-  step_fine : (q : Progress) (s : State) (st : Stepped) (f : State → Ended) → IsPermitted (Some list) q.import → FollowsBy IsObject q s st → AllListed list (imports_of s.events) → ((t : State) → CoversBy IsObject q.after t → AllListed list (imports_of t.events) → EndsWell list (f t)) → EndsWell list (go_on st f)
+  step_fine : (q : Progress) (s : State) (st : Stepped) (f : State → Ended)
+      → IsPermitted (Some list) q.import → FollowsBy IsObject q s st
+      → AllListed list (imports_of s.events) → ((t : State) → CoversBy IsObject q.after t →
+      AllListed list (imports_of t.events) → EndsWell list (f t)) → EndsWell list (go_on st f)
   step_fine q s (WentOn t) f h g old on = on t g.0 (adds_listed q.import s.events t.events h g.1 old)
   step_fine q s (Raised t) f h (inl g) old on = adds_listed q.import s.events t.events h g old
   step_fine q s (Raised t) f h (inr g) old on = adds_listed None s.events t.events tt g.1 old
@@ -126,7 +133,13 @@ module _ (list : List ℕ → List ℕ → Bool) where
   step_fine q s (Stuck b) f h g old on = absurd g
 
   module _ (setting : OldStrings) (l : Bounds) where
-    fine_after : (is : List Instruction) (s : State) (st : Stepped) (os : List Outcome) (x : Result Progress Refusal) → PassesListed list x → FollowsIfOk IsObject x s st → IsYes (verdict_on x (verdict setting (Some list) l is)) → AllListed list (imports_of s.events) → ((k : Knowledge) (t : State) → IsYes (verdict setting (Some list) l is k) → CoversBy IsObject k t → AllListed list (imports_of t.events) → EndsWell list (run_as setting is os t)) → EndsWell list (go_on st (run_as setting is os))
+    fine_after : (is : List Instruction) (s : State) (st : Stepped) (os : List Outcome)
+        (x : Result Progress Refusal) → PassesListed list x → FollowsIfOk IsObject x s st
+        → IsYes (verdict_on x (verdict setting (Some list) l is))
+        → AllListed list (imports_of s.events) → ((k : Knowledge) (t : State) → IsYes
+        (verdict setting (Some list) l is k) → CoversBy IsObject k t
+        → AllListed list (imports_of t.events) → EndsWell list (run_as setting is os t))
+        → EndsWell list (go_on st (run_as setting is os))
     fine_after is s st os (Ok q) h g y old on = step_fine q s st (run_as setting is os) h g old (λ t c listed. on q.after t (yes_before q.import _ y) c listed)
     fine_after is s st os (Err r) h g y old on = absurd y
 

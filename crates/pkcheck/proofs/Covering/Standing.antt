@@ -9,8 +9,8 @@ use Rattle.std.proofs.lemmas.Str.Ascii.{IsAscii-from_all}
 use Rattle.pkops.specs.Spelling.{Instruction}
 use Rattle.pkops.specs.Limits.{Bounds}
 use Rattle.pkcheck.specs.Effects.{effect_as, number_stored}
-use Rattle.pkread.specs.declared.refusal.Reason.{Reason}
-use Rattle.pkread.specs.declared.refusal.Reason.TheVariants as reason
+use Rattle.pkread.specs.declared.Reason.{Reason}
+use Rattle.pkread.specs.declared.Reason.TheVariants as reason
 use Rattle.pkcheck.specs.Shape.{Breach, NoMark, NoItem, NoMemo, Odd, Extension, and_then}
 use Rattle.pkcheck.specs.Runs.{Text, State, Outcome, Go, Raise, Stuck, step_as}
 use Rattle.pkcheck.specs.Knowledge.{Knowledge, Policy, AskedUnknown, Progress, Refusal, Lacks, WrongClass, NotText, UnknownImport, OffList, LeftOver, NotAscii, TooLarge, reason_of, learn, within, advance}
@@ -23,7 +23,14 @@ use Rattle.pkcheck.proofs.Covering.Refusing.{Fault, FaultIfErr, learn_refused, s
 use Rattle.pkcheck.specs.Stepping.{CoveredBy}
 use Rattle.pkcheck.proofs.Covering.Answering.{Answered, Word, covered_real, guess, IsGoing, AsksGuess, Exactly, new_text, learn_exactly, covered, covers_covered}
 use Rattle.pkcheck.proofs.Covering.Soundness.{PassesListed, learn_listed}
-use Rattle.pkcheck.proofs.Covering.Showing.{IsLonger, turn, asks_once, asked_listed, off_is_out, same_of, wrong_learned, non_text_learned, wrong_goes, non_text_goes, asks_goes, leaves_goes, leaves_asks, same_breach, lacks_turn, last_turn, same_refusal, off, same_pair, differing, longer_differs, within_ok, within_unknown, past_refused, goes_past, left_nothing, loosely, raise_asks, raise_goes, raise_leaves, raise_is, going_on}
+use Rattle.pkcheck.proofs.Covering.Showing.{IsLonger, turn, asks_once, asked_listed, off_is_out}
+use Rattle.pkcheck.proofs.Covering.Showing.{same_of, wrong_learned, non_text_learned, wrong_goes}
+use Rattle.pkcheck.proofs.Covering.Showing.{non_text_goes, asks_goes, leaves_goes, leaves_asks}
+use Rattle.pkcheck.proofs.Covering.Showing.{same_breach, lacks_turn, last_turn, same_refusal, off}
+use Rattle.pkcheck.proofs.Covering.Showing.{same_pair, differing, longer_differs, within_ok}
+use Rattle.pkcheck.proofs.Covering.Showing.{within_unknown, past_refused, goes_past, left_nothing}
+use Rattle.pkcheck.proofs.Covering.Showing.{loosely, raise_asks, raise_goes, raise_leaves}
+use Rattle.pkcheck.proofs.Covering.Showing.{raise_is, going_on}
 
 -- the knowledge covers each state in which runs get here; and for each text a run is there, in a state in which what is
 -- unknown are answers of this text
@@ -91,7 +98,11 @@ module _ (p : Policy) (l : Bounds) (i : Instruction) (k : Knowledge) (Here : Arr
 
   -- ---- the fault is there
 
-  guessed : (v : Word) (x : Result Progress Refusal) → Exactly v.text (effect_as Here.setting i) k (at v) (step_as Here.setting i (at v) (answer v)) x → and_then x (within l (number_stored (effect_as Here.setting i) i)) ≡ Err UnknownImport → AsksGuess v.text (effect_as Here.setting i) k (at v) (step_as Here.setting i (at v) (answer v))
+  guessed : (v : Word) (x : Result Progress Refusal)
+      → Exactly v.text (effect_as Here.setting i) k (at v) (step_as Here.setting i (at v)
+      (answer v)) x → and_then x (within l (number_stored (effect_as Here.setting i) i)) ≡ Err
+      UnknownImport → AsksGuess v.text (effect_as Here.setting i) k (at v)
+      (step_as Here.setting i (at v) (answer v))
   guessed v (Ok q) g e = within_unknown l (number_stored (effect_as Here.setting i) i) q e
   guessed v (Err UnknownImport) g e = g
   guessed v (Err TooLarge) g e = cc
@@ -102,7 +113,10 @@ module _ (p : Policy) (l : Bounds) (i : Instruction) (k : Knowledge) (Here : Arr
   guessed v (Err LeftOver) g e = cc
   guessed v (Err NotAscii) g e = cc
 
-  goes_on : (v : Word) (x : Result Progress Refusal) → Exactly v.text (effect_as Here.setting i) k (at v) (step_as Here.setting i (at v) (answer v)) x → and_then x (within l (number_stored (effect_as Here.setting i) i)) ≡ Err TooLarge → IsGoing (effect_as Here.setting i) (step_as Here.setting i (at v) (answer v))
+  goes_on : (v : Word) (x : Result Progress Refusal)
+      → Exactly v.text (effect_as Here.setting i) k (at v) (step_as Here.setting i (at v)
+      (answer v)) x → and_then x (within l (number_stored (effect_as Here.setting i) i)) ≡ Err
+      TooLarge → IsGoing (effect_as Here.setting i) (step_as Here.setting i (at v) (answer v))
   goes_on v (Ok q) g e = g.0
   goes_on v (Err TooLarge) g e = absurd g
   goes_on v (Err UnknownImport) g e = cc
@@ -114,7 +128,11 @@ module _ (p : Policy) (l : Bounds) (i : Instruction) (k : Knowledge) (Here : Arr
   goes_on v (Err NotAscii) g e = cc
 
   -- two answers that differ make two imports that differ
-  two_guesses : (u v : Word) → ((u.text ≡ v.text) → ⊥) → (a : AsksGuess u.text (effect_as Here.setting i) k (at u) (step_as Here.setting i (at u) (answer u))) → (b : AsksGuess v.text (effect_as Here.setting i) k (at v) (step_as Here.setting i (at v) (answer v))) → AsksOtherThan Here i (guess u.text a.0) (guess u.text a.1)
+  two_guesses : (u v : Word) → ((u.text ≡ v.text) → ⊥)
+      → (a : AsksGuess u.text (effect_as Here.setting i) k (at u)
+      (step_as Here.setting i (at u) (answer u))) → (b : AsksGuess v.text (effect_as Here.setting i)
+      k (at v) (step_as Here.setting i (at v) (answer v)))
+      → AsksOtherThan Here i (guess u.text a.0) (guess u.text a.1)
   two_guesses u v ne a b =
       let same = same_pair a.0 a.1 b.0 b.1 (sym a.2 ∙ b.2) in (
         (at u, answer u, here u, h.answers u _, a.4),
@@ -147,7 +165,16 @@ module _ (p : Policy) (l : Bounds) (i : Instruction) (k : Knowledge) (Here : Arr
   has_fault v long (OffList m n) e x = (m, n, off_list m n e)
   has_fault v long LeftOver e x = record { each = λ s g o. fault_at LeftOver e s o g; some = some_run }
   has_fault v long NotAscii e x = record { each = λ s g o. raise_is s _ (fault_at NotAscii e s o g); some = some_run }
-  has_fault v long TooLarge e x = (at empty, answer empty, here empty, h.answers empty _, goes_past l (number_stored (effect_as Here.setting i) i) (effect_as Here.setting i) _ (goes_on empty (learn p (effect_as Here.setting i) i k) (exactly empty) e) (fault_at TooLarge e (at empty) (answer empty) (there empty)))
+  has_fault v long TooLarge e x = (
+    at empty,
+    answer empty,
+    here empty,
+    h.answers empty _,
+    goes_past
+        l (number_stored (effect_as Here.setting i) i) (effect_as Here.setting i) _
+        (goes_on empty (learn p (effect_as Here.setting i) i k) (exactly empty) e)
+        (fault_at TooLarge e (at empty) (answer empty) (there empty)),
+  )
 
   -- ---- a fault is refused, by it or by one that is tried earlier
 
@@ -355,8 +382,16 @@ module _ (p : Policy) (l : Bounds) (i : Instruction) (k : Knowledge) (Here : Arr
   pub first_fault : (v : Word) → IsLonger p v.text → (r : Refusal) → advance Here.setting p l i k ≡ Err r → (r ≡ Lacks Extension → ⊥) → IsFirstFault p l Here i (reason_of r) (off_pair r)
   first_fault v long r e x = record { fault = has_fault p l i k Here h v long r e x; first = first r e; asks = pair_of r e }
 
-  asks_guess : (v : Word) (q : Progress) → advance Here.setting p l i k ≡ Ok q → q.import ≡ Some AskedUnknown → (x : Result Progress Refusal) → learn p (effect_as Here.setting i) i k ≡ x → and_then x (within l (number_stored (effect_as Here.setting i) i)) ≡ Ok q → AsksGuess v.text (effect_as Here.setting i) k (at p l i k Here h v) (step_as Here.setting i (at p l i k Here h v) (answer p l i k Here h v))
-  asks_guess v q e u (Ok r) is w = (subst (λ x. Exactly v.text (effect_as Here.setting i) k (at p l i k Here h v) (step_as Here.setting i (at p l i k Here h v) (answer p l i k Here h v)) x) is (exactly p l i k Here h v)).1 (ap (λ (z : Progress). z.import) (sym (within_ok l (number_stored (effect_as Here.setting i) i) r q w)) ∙ u)
+  asks_guess : (v : Word) (q : Progress) → advance Here.setting p l i k ≡ Ok q
+      → q.import ≡ Some AskedUnknown → (x : Result Progress Refusal)
+      → learn p (effect_as Here.setting i) i k ≡ x → and_then x
+      (within l (number_stored (effect_as Here.setting i) i)) ≡ Ok q
+      → AsksGuess v.text (effect_as Here.setting i) k (at p l i k Here h v)
+      (step_as Here.setting i (at p l i k Here h v) (answer p l i k Here h v))
+  asks_guess v q e u (Ok r) is w = (subst (λ x. Exactly v.text (effect_as Here.setting i) k
+      (at p l i k Here h v) (step_as Here.setting i (at p l i k Here h v) (answer p l i k Here h v))
+      x) is (exactly p l i k Here h v)).1 (ap (λ (z : Progress). z.import)
+      (sym (within_ok l (number_stored (effect_as Here.setting i) i) r q w)) ∙ u)
   asks_guess v q e u (Err r) is w = cc
 
   -- an import is listed as unknown only where two runs ask for different pairs

@@ -3,7 +3,7 @@ use Rattle.pkcheck.specs.declared.old_strings.OldStrings.{OldStrings}
 use Rattle.std.specs.Prelude.{◌≢◌, ℕ, suc, List, [], ◌∷◌, Option, Result, Ok, Err, ⊤}
 use Rattle.pkops.specs.Spelling.{Instruction}
 use Rattle.pkops.specs.Limits.{Bounds}
-use Rattle.pkops.specs.declared.op.Op.TheVariants as op
+use Rattle.pkops.specs.declared.Op.TheVariants as op
 use Rattle.pkcheck.specs.Knowledge.{Knowledge, Policy, Asked, Progress, Refusal, advance}
 
 -- what it knows at the end and the imports that it listed, an entry an instruction, or the number of the refused

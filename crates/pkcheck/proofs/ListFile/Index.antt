@@ -10,11 +10,11 @@ use Rattle.std.proofs.lemmas.Slice.Eq.{bytes_eq-Decides}
 use Rattle.toml.specs.Data.{Data, Members, no_members, member, get_member}
 use Rattle.toml.specs.Errors.{IsBlank}
 use Rattle.toml.specs.Parse.{parse_document, lines}
-use Rattle.pkcheck.specs.ListFile.{Text, has_name, is_text, items_have, fault_of}
+use Rattle.pkcheck.specs.ListFile.{Text, has_name, is_this_text, items_have, fault_of_document}
 use Rattle.toml.specs.View.{view, items_view}
 use Rattle.toml.specs.declared.Value.{Value}
 use Rattle.pkcheck.proofs.ListFile.Items.{items_have_step}
-use Rattle.pkcheck.specs.Private.ListIndex.{Has, has_text}
+use Rattle.pkcheck.specs.Private.ListIndex.{HasJust, has_text}
 
 abbrev pub TextSet : Type 0
 TextSet = BTreeSet (String Global)
@@ -80,7 +80,7 @@ module _ (f : Text → Option TextSet) (k : Text) (v : Data) (rest : Members) (m
   pub module_past : true ≡ is_some (f k) → has_or (f m) n (has_name n (get_member m rest)) ≡ has_or (f m) n (has_name n (get_member m (member k v rest)))
   module_past h = past_by (bytes_eq k m) refl h
 
-  module _ (g : Text → Option TextSet) (set : TextSet) (none : f k ≡ None) (has : Has set (λ n. has_name n (Some v))) where
+  module _ (g : Text → Option TextSet) (set : TextSet) (none : f k ≡ None) (has : HasJust set (λ n. has_name n (Some v))) where
     added_by : (b : Bool) → bytes_eq k m ≡ b → g m ≡ cond b (Some set) (f m) → has_or (g m) n (has_name n (get_member m rest)) ≡ has_or (f m) n (has_name n (get_member m (member k v rest)))
     added_by false e h = rw (h, member_other k m v rest e) refl
     added_by true e h =
@@ -93,12 +93,12 @@ module _ (f : Text → Option TextSet) (k : Text) (v : Data) (rest : Members) (m
 
 -- one value more of an array
 pub item_step : (n : Text) (values : List Value) (i : ℕ) (d x : Value) (s t : TextSet) (all : Bool) → i < length values → get_or values i d ≡ x
-    → contains_text t n ≡ cond (is_text n (view x)) true (contains_text s n)
+    → contains_text t n ≡ cond (is_this_text n (view x)) true (contains_text s n)
     → (contains_text s n || items_have n (items_view (drop i values))) ≡ all
     → (contains_text t n || items_have n (items_view (drop (i + 1) values))) ≡ all
 item_step n values i d x s t all lt is h now =
     let e = items_have_step n values i d lt in
-    rw h (one_more_name (is_text n (view x)) (contains_text s n) (items_have n (items_view (drop (i + 1) values))) ∙ ap (λ b. contains_text s n || b) (ap (λ y. is_text n (view y) || items_have n (items_view (drop (i + 1) values))) (sym is) ∙ sym e) ∙ now)
+    rw h (one_more_name (is_this_text n (view x)) (contains_text s n) (items_have n (items_view (drop (i + 1) values))) ∙ ap (λ b. contains_text s n || b) (ap (λ y. is_this_text n (view y) || items_have n (items_view (drop (i + 1) values))) (sym is) ∙ sym e) ∙ now)
 
 pub item_end : (n : Text) (values : List Value) (i : ℕ) (s : TextSet) (all : Bool) → length values ≤ i → (contains_text s n || items_have n (items_view (drop i values))) ≡ all → contains_text s n ≡ all
 item_end n values i s all le now = sym (or_false (contains_text s n)) ∙ (rw (drop_all i values le) at now)
@@ -108,9 +108,9 @@ blank_parses : (text : Text) → IsBlank text → parse_document text ≡ Some n
 unfolding parse_document lines
 blank_parses text h = rw h refl
 
-pub blank_fault : (text : Text) (d : Members) → parse_document text ≡ Some d → fault_of d ≡ None → IsBlank text → ⊥
+pub blank_fault : (text : Text) (d : Members) → parse_document text ≡ Some d → fault_of_document d ≡ None → IsBlank text → ⊥
 blank_fault text d is none h =
     let e : Some no_members ≡ Some d = sym (blank_parses text h) ∙ is in
     let f : no_members ≡ d = cc in
-    let g : fault_of no_members ≡ None = ap fault_of f ∙ none in
+    let g : fault_of_document no_members ≡ None = ap fault_of_document f ∙ none in
     cc

@@ -6,7 +6,12 @@ use Rattle.pkops.specs.Limits.{Bounds}
 use Rattle.pkcheck.specs.declared.allow.error.AllowError.{AllowError}
 use Rattle.pkcheck.specs.declared.allow.error.AllowError.TheVariants.{Shape, Version, OutOfMemory}
 use Rattle.pkcheck.specs.declared.allow.error.Where.TheVariants as part
-use Rattle.pkcheck.specs.ListFile.{Text, kept_or, or_else, is_version, is_two, is_top_key, version_fault, keys_fault, module_fault, modules_fault, imports_fault, greatest_at, greatest_where, is_large, is_limit, is_true, key_fault, large_fault, limit_fault, each_limit_fault, table_fault, limits_fault, fault_of, are_names}
+use Rattle.pkcheck.specs.ListFile.{Text, kept_or, or_else, is_version, is_two, is_top_key}
+use Rattle.pkcheck.specs.ListFile.{version_fault, keys_fault, module_fault, modules_fault}
+use Rattle.pkcheck.specs.ListFile.{imports_fault, greatest_at, greatest_where, is_large, is_limit}
+use Rattle.pkcheck.specs.ListFile.{is_true_value, key_fault, large_fault, limit_fault}
+use Rattle.pkcheck.specs.ListFile.{each_limit_fault, table_fault, limits_fault, fault_of_document}
+use Rattle.pkcheck.specs.ListFile.{are_names}
 
 abbrev IsOfRule : Option AllowError → Type 0
 IsOfRule fault = fault ≢ Some OutOfMemory
@@ -78,7 +83,7 @@ each_limit_is most (member key value rest) =
     or_else_is (key_fault most key value) (each_limit_fault most rest) (key_is most key value) (each_limit_is most rest)
 
 large_is : (value : Option Data) → IsOfRule (large_fault value)
-large_is (Some value) = kept_or_is (is_true value) (Shape part.Limit) (λ h. cc)
+large_is (Some value) = kept_or_is (is_true_value value) (Shape part.Limit) (λ h. cc)
 large_is None = λ h. cc
 
 table_is : (limits : Members) → IsOfRule (table_fault limits)
@@ -96,7 +101,7 @@ limits_is (Some (boolean _)) = λ h. cc
 limits_is (Some (datetime _)) = λ h. cc
 limits_is (Some (array _)) = λ h. cc
 
-pub fault_is : (document : Members) → fault_of document ≢ Some OutOfMemory
+pub fault_is : (document : Members) → fault_of_document document ≢ Some OutOfMemory
 fault_is document =
     let version = get_member (codes "version") document in
     let imports = get_member (codes "imports") document in

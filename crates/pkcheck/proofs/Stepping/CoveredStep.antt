@@ -5,8 +5,8 @@ use Rattle.std.proofs.lemmas.List.{append_cancel_left}
 use Rattle.pkops.specs.Admitted.{is_admitted}
 use Rattle.pkops.specs.Limits.{Bounds}
 use Rattle.pkops.specs.Spelling.{Instruction}
-use Rattle.pkread.specs.declared.refusal.Reason.{Reason}
-use Rattle.pkread.specs.declared.refusal.Reason.TheVariants as reason
+use Rattle.pkread.specs.declared.Reason.{Reason}
+use Rattle.pkread.specs.declared.Reason.TheVariants as reason
 use Rattle.pkcheck.specs.declared.machine.stepping.Moved.{Moved}
 use Rattle.pkcheck.specs.Effects.{effect_as}
 use Rattle.pkcheck.specs.Runs.{step_as}
@@ -16,9 +16,9 @@ use Rattle.pkcheck.specs.Covers.{IsObject}
 use Rattle.pkcheck.proofs.Covering.CoversBy.{FollowsIfOk, any_answer, objects_grow}
 use Rattle.pkcheck.specs.Faults.{IsFirstFault}
 use Rattle.pkcheck.specs.Import.{asks_more}
-use Rattle.pkcheck.specs.Private.Denials.{IsRefusedFor, LacksMemory, MayWantMemory}
+use Rattle.pkcheck.specs.Private.Denials.{IsRefusedFor, IsWantOfMemory, MayWantMemory}
 use Rattle.pkcheck.specs.View.{View}
-use Rattle.pkcheck.specs.Stepping.{CoveredBy, AppendsPermitted, Fails, GoesOn, IsNoFalseAlarm, IsPermitted, IsStep, MayLackMemory, MeansInEachRun, PassesNoFault, RefusesForGood, UnknownIsNeeded}
+use Rattle.pkcheck.specs.Stepping.{CoveredBy, AppendsPermitted, FailsStep, GoesOn, IsNoFalseAlarm, IsPermitted, IsStep, MayLackMemory, MeansInEachRun, PassesNoFault, RefusesForGood, UnknownIsNeeded}
 use Rattle.pkcheck.proofs.Covering.Following.{step_follows}
 use Rattle.pkcheck.proofs.Covering.Soundness.{PassesListed, advance_listed}
 use Rattle.pkcheck.proofs.Covering.Answering.{Word}
@@ -92,28 +92,31 @@ module _ (p : Policy) (i : Instruction) (before after : View) where
 
   module _ (r : Reason) where
     -- what was denied is refused so
-    pub denied : (pair : Option Asked) → after ≡ record before { refused = Some r; off = pair } → IsRefusedFor (advance before.old_strings p before.limits i before.knowledge) r pair ⊎ (MayWantMemory (effect_as before.old_strings i) × LacksMemory r pair) → Fails p i before after r
+    pub denied : (pair : Option Asked) → after ≡ record before { refused = Some r; off = pair } → IsRefusedFor (advance before.old_strings p before.limits i before.knowledge) r pair ⊎ (MayWantMemory (effect_as before.old_strings i) × IsWantOfMemory r pair) → FailsStep p i before after r
     denied pair becomes (inl (f, is, e, g)) = inl (f, is, e, becomes ∙ (λ j. record before { refused = Some r; off = g j }))
     denied pair becomes (inr (wants, (e, g))) = inr ((λ none. wants_no_memory before.old_strings i none wants), e, becomes ∙ (λ j. record before { refused = Some r; off = g j }))
 
-    pub memory_by : Fails p i before after r → MayLackMemory p i before after r
+    pub memory_by : FailsStep p i before after r → MayLackMemory p i before after r
     memory_by (inl (f, is, e, becomes)) none lacks = no_memory f (sym e ∙ lacks)
     memory_by (inr (wants, e, becomes)) none lacks = wants none
 
-    pub kept_by : Fails p i before after r → RefusesForGood before after r
+    pub kept_by : FailsStep p i before after r → RefusesForGood before after r
     kept_by (inl (f, is, e, becomes)) = record { imports = ap (λ (m : View). m.imports) becomes; knowledge = ap (λ (m : View). m.knowledge) becomes; refused = ap (λ (m : View). m.refused) becomes }
     kept_by (inr (wants, e, becomes)) = record { imports = ap (λ (m : View). m.imports) becomes; knowledge = ap (λ (m : View). m.knowledge) becomes; refused = ap (λ (m : View). m.refused) becomes }
 
     module _ (v : Word) (long : IsLonger p v.text) (admitted : is_admitted i ≡ true) where
-      pub alarm_by : Fails p i before after r → IsNoFalseAlarm p i before after r
+      pub alarm_by : FailsStep p i before after r → IsNoFalseAlarm p i before after r
       alarm_by (inr (wants, e, becomes)) = inr e
       alarm_by (inl (f, is, e, becomes)) =
           inl (subst (λ x. IsFirstFault p before.limits (CoveredBy before.old_strings before.knowledge) i x after.off) (sym e)
           (subst (IsFirstFault p before.limits (CoveredBy before.old_strings before.knowledge) i (reason_of f)) (sym (ap (λ (m : View). m.off) becomes))
-          (first_fault p before.limits i before.knowledge (CoveredBy before.old_strings before.knowledge) (stands_for_covered before.old_strings before.knowledge) v long f is (no_extension before.old_strings p before.limits i before.knowledge f (wants_no_registry before.old_strings i admitted) is))))
+          (first_fault p before.limits i before.knowledge (CoveredBy before.old_strings
+          before.knowledge) (stands_for_covered before.old_strings before.knowledge) v long f is
+          (no_extension before.old_strings p before.limits i before.knowledge f
+          (wants_no_registry before.old_strings i admitted) is))))
 
       -- a step that is refused
-      pub fails : before.refused ≡ None → Fails p i before after r → IsStep p i before after (Err r)
+      pub fails : before.refused ≡ None → FailsStep p i before after r → IsStep p i before after (Err r)
       fails fresh h = record {
         again = rw fresh tt;
         goes_on = tt;

@@ -2,12 +2,12 @@
 use Rattle.pkops.specs.Operands.{pair_named}
 use Rattle.std.proofs.Common.{◌≡◌, ℕ, ◌⊎◌, inl, inr, List, [], ◌∷◌, ◌++◌, Bool, true, false, cond, Option, Some, None, Result, Ok, Err, option_map, refl, ◌∙◌, length, arith, map, ◌≤◌}
 use Rattle.std.specs.Prelude.{is_some, IsSome}
-use Rattle.pkcheck.specs.declared.machine.effects.Names.{Names}
-use Rattle.pkcheck.specs.declared.machine.effects.Names.TheVariants.{NoName, OfArgument, OfOperands}
-use Rattle.pkcheck.specs.declared.machine.effects.Gives.{Gives}
-use Rattle.pkcheck.specs.declared.machine.effects.Gives.TheVariants.{Makes, MakesIntOrBool, MakesText, MayMake, Answers, Leaves}
-use Rattle.pkcheck.specs.declared.machine.effects.Takes.{Takes}
-use Rattle.pkcheck.specs.declared.machine.effects.Takes.TheVariants.{Objects}
+use Rattle.pkcheck.specs.declared.effect.Names.{Names}
+use Rattle.pkcheck.specs.declared.effect.Names.TheVariants.{NoName, OfArgument, OfOperands}
+use Rattle.pkcheck.specs.declared.effect.Gives.{Gives}
+use Rattle.pkcheck.specs.declared.effect.Gives.TheVariants.{Makes, MakesIntOrBool, MakesText, MayMake, Answers, Leaves}
+use Rattle.pkcheck.specs.declared.effect.Takes.{Takes}
+use Rattle.pkcheck.specs.declared.effect.Takes.TheVariants.{Objects}
 use Rattle.pkcheck.specs.Effects.{Operates}
 use Rattle.pkcheck.specs.Shape.{put, Breach, Entry, Item, Taken, and_then, operands}
 use Rattle.pkops.specs.Spelling.{Instruction}
@@ -15,17 +15,17 @@ use Rattle.pkcheck.specs.Runs.{Text, Plain, Foreign}
 use Rattle.pkcheck.specs.Knowledge.{argument_asked, Known, Knowledge, Policy, Asked, Refusal, Lacks, Progress, TooLarge, known_given, learn, within, WrongClass, wrong_first, wrong_receiver, asked_of}
 use Rattle.pkops.specs.Limits.{Bounds}
 use Rattle.pkcheck.specs.Private.Slots.{StandsIf, known}
-use Rattle.pkread.specs.declared.refusal.Reason.{Reason}
-use Rattle.pkread.specs.declared.refusal.Reason.TheVariants as reason
+use Rattle.pkread.specs.declared.Reason.{Reason}
+use Rattle.pkread.specs.declared.Reason.TheVariants as reason
 use Rattle.pkcheck.specs.declared.machine.operate.Denial.{Denial}
 use Rattle.pkcheck.specs.declared.import.Named.{Named}
 use Rattle.pkcheck.specs.Private.Noted.{named_asked}
 use Rattle.pkcheck.specs.declared.machine.value.Value.{Value}
 use Rattle.pkcheck.specs.declared.machine.value.Value.TheVariants.{Unknown, Made}
 use Rattle.pkcheck.specs.declared.machine.value.Value.TheVariants as value
-use Rattle.pkcheck.specs.declared.machine.effects.Wanted.{Wanted}
+use Rattle.pkcheck.specs.declared.effect.Wanted.{Wanted}
 use Rattle.std.specs.List.{slice_get}
-use Rattle.pkcheck.specs.Private.Denials.{ruled, judged, IsDenied, IsForMemory, IsLack, MayGive, MayName, MayOperate, Passes, WantsRoom, HasFirst, WellGiven}
+use Rattle.pkcheck.specs.Private.Denials.{ruled, judged, IsDenied, IsForMemory, IsLack, MayGive, MayName, MayOperate, Proceeds, WantsRoom, HasFirst, WellGiven}
 use Rattle.pkcheck.specs.Import.{asks_more}
 use Rattle.pkcheck.proofs.Stepping.Past.{within_past}
 
@@ -92,7 +92,11 @@ module _ (p : Policy) (takes : Takes) (names : Names) (gives : Gives) (i : Instr
   judged_denied t d e (f, g, h, j) = (f, learn_denied t e f g, h, j)
 
   -- a given object wants room for one more
-  pub room_denied : (l : Bounds) (t : Taken Known) (a : Option Asked) (v : Known) → operands takes k.entries ≡ Ok t → judged p names gives i t.operands ≡ Ok a → known_given gives i ≡ Some v → l.stack ≤ length t.below → IsDenied (and_then (learn p (Operates takes names gives) i k) (within l 0)) (record { reason = reason.TooLarge; pair = None })
+  pub room_denied : (l : Bounds) (t : Taken Known) (a : Option Asked) (v : Known)
+      → operands takes k.entries ≡ Ok t → judged p names gives i t.operands ≡ Ok a
+      → known_given gives i ≡ Some v → l.stack ≤ length t.below
+      → IsDenied (and_then (learn p (Operates takes names gives) i k) (within l 0))
+      (record { reason = reason.TooLarge; pair = None })
   room_denied l t a v e g j h = (TooLarge, rw (learn_passes t e a g, j) (within_past l 0 (record { after = record { entries = Item v ∷ t.below; memo = k.memo }; import = a }) (inl (omega arith))), refl, refl)
 
 pub may_give : (gives : Gives) (i : Instruction) (v : Known) → known_given gives i ≡ Some v → MayGive gives
@@ -143,10 +147,14 @@ module _ (p : Policy) (takes : Takes) (names : Names) (gives : Gives) (i : Instr
     (found : operands takes k.entries ≡ Ok t)
     (fits : judged p names gives i t.operands ≡ Ok (option_map (named_asked us) a)) where
   pub does_pass : (new : List (Entry Known)) (before after : List Asked) (b : Bool) → new ≡ put (known_given gives i) t.operands ++ t.below → after ≡ asks_more (option_map (named_asked us) a) before → b ≡ is_some a →
-      Passes (learn p (Operates takes names gives) i k) (record { entries = new; memo = k.memo }) before after b
+      Proceeds (learn p (Operates takes names gives) i k) (record { entries = new; memo = k.memo }) before after b
   does_pass new before after b e f g = (option_map (named_asked us) a, rw e (learn_passes p takes names gives i k t found _ fits), f, g ∙ some_named us a)
 
-  pub unroomed : (ts : List (List ℕ)) (v : Option Value) → StandsIf ts v (known_given gives i) → (l : Bounds) (r : Reason) → IsSome v → WantsRoom l.stack (length t.below) r → IsDenied (and_then (learn p (Operates takes names gives) i k) (within l 0)) (record { reason = r; pair = None }) ⊎ (MayOperate names gives × IsForMemory (record { reason = r; pair = None }))
+  pub unroomed : (ts : List (List ℕ)) (v : Option Value) → StandsIf ts v (known_given gives i)
+      → (l : Bounds) (r : Reason) → IsSome v → WantsRoom l.stack (length t.below) r
+      → IsDenied (and_then (learn p (Operates takes names gives) i k) (within l 0))
+      (record { reason = r; pair = None }) ⊎ (MayOperate names gives × IsForMemory
+      (record { reason = r; pair = None }))
   unroomed ts v given l r s w =
       let (n, j) = given_some ts v (known_given gives i) s given in
       elim w [
@@ -180,7 +188,10 @@ module _ (p : Policy) (takes : Takes) (names : Names) (gives : Gives) (i : Instr
   nothing_asked : judged p names gives i [] ≡ Ok None
   nothing_asked = rw (f, no_receiver gives) refl
 
-  pub create_denied : (l : Bounds) (r : Reason) (v : Known) → known_given gives i ≡ Some v → WantsRoom l.stack (length k.entries) r → IsDenied (and_then (learn p (Operates takes names gives) i k) (within l 0)) (record { reason = r; pair = None }) ⊎ (MayOperate names gives × IsForMemory (record { reason = r; pair = None }))
+  pub create_denied : (l : Bounds) (r : Reason) (v : Known) → known_given gives i ≡ Some v
+      → WantsRoom l.stack (length k.entries) r → IsDenied (and_then
+      (learn p (Operates takes names gives) i k) (within l 0)) (record { reason = r; pair = None })
+      ⊎ (MayOperate names gives × IsForMemory (record { reason = r; pair = None }))
   create_denied l r v j s =
       elim s [
         | inl u ↦ inl (rw u.0 (room_denied p takes names gives i k l _ None v nothing_taken nothing_asked j u.1))

@@ -1,8 +1,8 @@
 -- The moves, on the stack and the memo.
 use Rattle.std.proofs.Common.{◌≡◌, ℕ, inl, inr, List, ◌∷◌, length, Some, None, Ok, Err, Result, refl, arith}
-use Rattle.pkcheck.specs.declared.machine.effects.Move.{Move}
-use Rattle.pkcheck.specs.declared.machine.effects.Move.TheVariants.{Duplicates, Stores, Fetches}
-use Rattle.pkread.specs.declared.refusal.Reason.{Reason}
+use Rattle.pkcheck.specs.declared.effect.Move.{Move}
+use Rattle.pkcheck.specs.declared.effect.Move.TheVariants.{Duplicates, Stores, Fetches}
+use Rattle.pkread.specs.declared.Reason.{Reason}
 use Rattle.pkcheck.specs.Shape.{Shape, Item, NoMemo, top, Breach, Entry, recalled, stored, moved}
 use Rattle.pkops.specs.Limits.{Bounds}
 use Rattle.pkcheck.specs.Private.Denials.{IsFault, IsFaultOf, MoveMayWantMemory, WantsRoom, WantsMemo}

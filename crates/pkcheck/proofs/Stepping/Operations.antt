@@ -1,7 +1,7 @@
 -- The operations of the table, by the effects of their opcodes.
 use Rattle.std.proofs.Common.{◌≡◌, ap, subst, sym}
-use Rattle.pkcheck.specs.declared.machine.effects.Names.{Names}
-use Rattle.pkcheck.specs.declared.machine.effects.Names.TheVariants.{NoName, OfArgument, OfOperands}
+use Rattle.pkcheck.specs.declared.effect.Names.{Names}
+use Rattle.pkcheck.specs.declared.effect.Names.TheVariants.{NoName, OfArgument, OfOperands}
 use Rattle.pkcheck.specs.declared.machine.effects.Operation.{Operation}
 use Rattle.pkcheck.specs.Effects.{Effect, Operates, Moves, Stops, Raises}
 use Rattle.pkcheck.specs.Private.Actions.{IsOperation, IsUnnamed, effect_in}

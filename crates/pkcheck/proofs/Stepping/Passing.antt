@@ -2,17 +2,17 @@
 use Rattle.std.proofs.Common.{◌≡◌, ◌≤◌, inl, inr, true, false, Some, None, Ok, IsTrue, length, refl, sym, ap, ◌∙◌, arith}
 use Rattle.pkops.specs.Admitted.{is_admitted_by}
 use Rattle.pkops.specs.Spelling.{Argument, Instruction}
-use Rattle.pkops.specs.declared.op.Op.{Op}
-use Rattle.pkops.specs.declared.op.Op.TheVariants as op
-use Rattle.pkread.specs.declared.refusal.Reason.{Reason}
-use Rattle.pkcheck.specs.declared.machine.effects.Class.{Class}
+use Rattle.pkops.specs.declared.Op.{Op}
+use Rattle.pkops.specs.declared.Op.TheVariants as op
+use Rattle.pkread.specs.declared.Reason.{Reason}
+use Rattle.pkcheck.specs.declared.effect.Class.{Class}
 use Rattle.pkcheck.specs.declared.machine.stepping.Moved.TheVariants.{On}
 use Rattle.pkcheck.specs.Effects.{effect_as, number_stored, pushes}
 use Rattle.pkcheck.specs.Shape.{and_then}
 use Rattle.pkcheck.specs.Knowledge.{Policy, TooLarge, learn, within}
 use Rattle.pkcheck.specs.Private.Denials.{WantsRoom, with_made}
 use Rattle.pkops.specs.Payloads.{is_passed}
-use Rattle.pkcheck.specs.Stepping.{Fails, GoesOn}
+use Rattle.pkcheck.specs.Stepping.{FailsStep, GoesOn}
 use Rattle.pkcheck.specs.View.{View, moved_as, texts_after}
 use Rattle.pkcheck.proofs.Stepping.Past.{within_fits, within_past}
 use Rattle.pkcheck.proofs.Stepping.Settings.{wants_no_memory}
@@ -38,7 +38,7 @@ module _ (p : Policy) (i : Instruction) (before after : View) (c : Class) (e : e
         sym (ap (λ x. moved_as x None) e),
       )
 
-  pub lacks_room : (r : Reason) → WantsRoom before.limits.stack (length before.knowledge.entries) r → after ≡ record before { refused = Some r; off = None } → Fails p i before after r
+  pub lacks_room : (r : Reason) → WantsRoom before.limits.stack (length before.knowledge.entries) r → after ≡ record before { refused = Some r; off = None } → FailsStep p i before after r
   lacks_room r (inl h) becomes =
       inl (TooLarge, ap (λ x. and_then x (within before.limits (number_stored (effect_as before.old_strings i) i))) learned ∙ within_past before.limits _ (record { after = with_made c before.knowledge; import = None }) (inl (let le = h.1 in omega (arith, le))), h.0, becomes)
   lacks_room r (inr h) becomes = inr ((λ none. wants_no_memory before.old_strings i none (rw e (inr tt))), h, becomes)

@@ -1,8 +1,8 @@
 -- What an operation takes, by what stands above the mark.
 use Rattle.std.proofs.Common.{◌≡◌, ℕ, List, [], Some, None, Ok, Err, refl, ◌-◌, ◌≤◌, length, take, drop, arith, length-drop}
 use Rattle.std.proofs.lemmas.List.{take_all}
-use Rattle.pkcheck.specs.declared.machine.effects.SliceRule.{SliceRule}
-use Rattle.pkcheck.specs.declared.machine.effects.Takes.TheVariants.{SliceAndReceiver}
+use Rattle.pkcheck.specs.declared.effect.SliceRule.{SliceRule}
+use Rattle.pkcheck.specs.declared.effect.Takes.TheVariants.{SliceAndReceiver}
 use Rattle.pkcheck.specs.Shape.{Breach, Entry, Taken, slice, items, breaks, operands}
 use Rattle.pkcheck.specs.declared.machine.value.Value.{Value}
 

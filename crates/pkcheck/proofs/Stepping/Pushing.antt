@@ -4,19 +4,19 @@ use Rattle.std.specs.Char.{is_ascii}
 use Rattle.std.specs.List.{list_all}
 use Rattle.std.specs.Prelude.{if◌then◌else◌, unwrap_or}
 use Rattle.pkops.specs.OldBytes.{old_bytes}
-use Rattle.pkops.specs.declared.op.Op.{Op}
-use Rattle.pkops.specs.declared.op.Op.TheVariants as op
+use Rattle.pkops.specs.declared.Op.{Op}
+use Rattle.pkops.specs.declared.Op.TheVariants as op
 use Rattle.pkcheck.specs.declared.machine.effects.Action.{Action}
-use Rattle.pkcheck.specs.declared.machine.effects.Class.TheVariants as class
-use Rattle.pkcheck.specs.declared.machine.effects.Gives.TheVariants.{MakesText}
+use Rattle.pkcheck.specs.declared.effect.Class.TheVariants as class
+use Rattle.pkcheck.specs.declared.effect.Gives.TheVariants.{MakesText}
 use Rattle.pkcheck.specs.declared.old_strings.OldStrings.TheVariants.{Unknown, Ascii, Bytes}
 use Rattle.pkcheck.specs.Private.Actions.{effect_by, is_reading}
 use Rattle.pkops.specs.Limits.{Bounds}
 use Rattle.pkops.specs.Spelling.{Instruction}
-use Rattle.pkread.specs.declared.refusal.Reason.{Reason}
-use Rattle.pkcheck.specs.declared.machine.effects.Gives.{Gives}
-use Rattle.pkcheck.specs.declared.machine.effects.Names.TheVariants.{NoName}
-use Rattle.pkcheck.specs.declared.machine.effects.Takes.TheVariants.{Objects}
+use Rattle.pkread.specs.declared.Reason.{Reason}
+use Rattle.pkcheck.specs.declared.effect.Gives.{Gives}
+use Rattle.pkcheck.specs.declared.effect.Names.TheVariants.{NoName}
+use Rattle.pkcheck.specs.declared.effect.Takes.TheVariants.{Objects}
 use Rattle.pkcheck.specs.declared.old_strings.OldStrings.{OldStrings}
 use Rattle.pkcheck.specs.Effects.{Operates, Raises, answers, effect_as, effect_of, is_old_string, pushes}
 use Rattle.pkcheck.specs.Knowledge.{Known, Knowledge, Policy, advance, known_given}

@@ -7,15 +7,15 @@ use Rattle.pkops.specs.Admitted.{is_admitted_by}
 use Rattle.pkops.specs.OldBytes.{old_bytes}
 use Rattle.pkops.specs.Payloads.{is_passed}
 use Rattle.pkops.specs.Spelling.{Instruction}
-use Rattle.pkops.specs.declared.op.Op.{Op}
-use Rattle.pkops.specs.declared.op.Op.TheVariants as op
+use Rattle.pkops.specs.declared.Op.{Op}
+use Rattle.pkops.specs.declared.Op.TheVariants as op
 use Rattle.pkread.specs.Core.{phase_after}
 use Rattle.pkread.specs.Reading.{is_ended}
-use Rattle.pkcheck.specs.declared.machine.effects.Class.TheVariants as class
-use Rattle.pkcheck.specs.declared.machine.effects.Gives.TheVariants.{MakesText}
-use Rattle.pkcheck.specs.declared.machine.effects.Move.TheVariants.{Extends}
-use Rattle.pkcheck.specs.declared.machine.effects.Names.TheVariants.{NoName}
-use Rattle.pkcheck.specs.declared.machine.effects.Takes.TheVariants.{Objects}
+use Rattle.pkcheck.specs.declared.effect.Class.TheVariants as class
+use Rattle.pkcheck.specs.declared.effect.Gives.TheVariants.{MakesText}
+use Rattle.pkcheck.specs.declared.effect.Move.TheVariants.{Extends}
+use Rattle.pkcheck.specs.declared.effect.Names.TheVariants.{NoName}
+use Rattle.pkcheck.specs.declared.effect.Takes.TheVariants.{Objects}
 use Rattle.pkcheck.specs.declared.old_strings.OldStrings.{OldStrings}
 use Rattle.pkcheck.specs.declared.old_strings.OldStrings.TheVariants.{Unknown, Ascii, Bytes}
 use Rattle.pkcheck.specs.Effects.{Effect, Operates, Moves, Stops, Raises, ascii_string, effect_as, effect_of, is_old_string, pushes}

@@ -1,7 +1,7 @@
 -- The opcodes that make texts, by their effects.
 use Rattle.std.proofs.Common.{◌≡◌, ℕ, refl}
-use Rattle.pkops.specs.declared.op.Op.{Op}
-use Rattle.pkops.specs.declared.op.Op.TheVariants as op
+use Rattle.pkops.specs.declared.Op.{Op}
+use Rattle.pkops.specs.declared.Op.TheVariants as op
 use Rattle.pkcheck.specs.Effects.{effect_of}
 use Rattle.pkcheck.specs.Texts.{texts_then}
 use Rattle.pkcheck.specs.declared.old_strings.OldStrings.TheVariants.{Unknown}

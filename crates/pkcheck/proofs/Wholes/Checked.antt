@@ -1,4 +1,5 @@
 -- What is known once instructions were read and judged, and the answers that follow.
+use Rattle.pkcheck.specs.declared.checking.No.{No}
 use Rattle.pkcheck.specs.declared.old_strings.OldStrings.{OldStrings}
 use Rattle.std.proofs.Common.{◌≡◌, ℕ, ◌+◌, ◌<◌, List, [], ◌∷◌, ◌++◌, map, Option, Some, None, Ok, Err, false, inl, inr, refl, sym, ap, subst, ◌∙◌, append-nil, arith}
 use Rattle.pkops.specs.Limits.{Bounds}
@@ -8,27 +9,28 @@ use Rattle.pkread.specs.Admission.{IsAllowedBy}
 use Rattle.pkread.specs.Core.{Open}
 use Rattle.pkread.specs.Framing.{counted, counted_all}
 use Rattle.pkread.specs.Pieces.{piece_of}
-use Rattle.pkread.specs.Reading.{State, begun, has_ended, is_ended}
+use Rattle.pkread.specs.Reading.{ReaderState, begun, has_ended, is_ended}
 use Rattle.pkread.specs.Run.{Reads, ReadingBegins, ReadingGoesOn}
 use Rattle.pkread.specs.Sequence.{CountsAt, IsSequence, NoStop}
 use Rattle.pkread.specs.Rows.{Sight, Takes, Refuses as ReaderRefuses}
-use Rattle.pkread.specs.declared.refusal.Reason.{Reason}
-use Rattle.pkread.specs.declared.refusal.Reason.TheVariants as reason
-use Rattle.pkread.specs.declared.refusal.Refusal.{Refusal as ReadRefusal}
+use Rattle.pkread.specs.declared.Reason.{Reason}
+use Rattle.pkread.specs.declared.Reason.TheVariants as reason
+use Rattle.pkread.specs.declared.Refusal.{Refusal as ReadRefusal}
 use Rattle.pkcheck.specs.Accepted.{AcceptedFrom}
-use Rattle.pkcheck.specs.Import.{asks_more}
-use Rattle.pkcheck.specs.Private.Judging.{IsPassed, BreaksFrame, IsRefusedByMachine, IsRefused}
+use Rattle.std.specs.Prelude.{option_map}
+use Rattle.pkcheck.specs.Import.{asked_shown, asks_more}
+use Rattle.pkcheck.specs.Private.Judging.{IsNoAt, BothGoOn, BreaksFrame, IsRefusedByMachine, IsRefused}
 use Rattle.pkcheck.specs.Knowledge.{Policy, Asked, Refusal, reason_of, advance, nothing_known, Lacks, WrongClass, NotText, UnknownImport, OffList, LeftOver, NotAscii, TooLarge}
 use Rattle.pkcheck.specs.Shape.{NoMark, NoItem, NoMemo, Odd, Extension}
 use Rattle.pkcheck.specs.Listing.{imports_among, ImportsAreListed, permitted_by}
 use Rattle.pkcheck.specs.Refused.{RefusedFrom, Why, reading, judging, growing, HasFirstFault}
 use Rattle.pkcheck.specs.RowRuns.{Afresh, Beginning, listed_before}
-use Rattle.pkcheck.specs.RunFaults.{HasFault, RunsFrom}
+use Rattle.pkcheck.specs.RunFaults.{HasRunFault, IsFaultless, RunsFrom}
 use Rattle.pkcheck.specs.Faults.{Arrivals, HasFaultHere, everyone, rank}
 use Rattle.pkcheck.specs.Heard.{refused_instruction}
 use Rattle.pkcheck.proofs.Covering.Answering.{Word}
 use Rattle.pkcheck.proofs.Covering.Verdicts.{Yes, verdict}
-use Rattle.pkcheck.specs.Stepping.{LacksMemory}
+use Rattle.pkcheck.specs.Stepping.{StepWantsMemory}
 use Rattle.pkcheck.specs.View.{View, fresh, stopped_by, off_pair}
 use Rattle.pkcheck.specs.WholeRuns.{EndsWell, run_as}
 use Rattle.pkcheck.proofs.Wholes.FramesSoFar.{FrameLaws}
@@ -44,7 +46,7 @@ use Rattle.pkcheck.proofs.Stepping.Extensions.{no_extension}
 use Rattle.pkcheck.proofs.Wholes.Walk.{along, verdict_more}
 
 -- these instructions of a pickle were read, from where the source was seen so, and judged, and these are their imports
-pub record Checked (setting : OldStrings) (policy : Policy) (limits : Bounds) (old : Sight) (o : Origin) (p : List Instruction) (asked : List (Option Asked)) (s : State) (still_open : ℕ) (m : View) : Type 0 where
+pub record Checked (setting : OldStrings) (policy : Policy) (limits : Bounds) (old : Sight) (o : Origin) (p : List Instruction) (asked : List (Option Asked)) (s : ReaderState) (still_open : ℕ) (m : View) : Type 0 where
   pub laws : FrameLaws
   pub begins : Begins setting policy o.beginning o.known
   pub reads : Reads old o.at (payload_limit limits) p s
@@ -72,7 +74,7 @@ among_more [] (Some x ∷ asked) None = ap (λ l. x ∷ l) (among_more [] asked 
 among_more [] (Some x ∷ asked) (Some a) = ap (λ l. x ∷ l) (among_more [] asked (Some a))
 
 -- nothing is tried before the frames
-none_earlier : (policy : Policy) (limits : Bounds) (p : List Instruction) (i : Instruction) (here : Arrivals) (r : Reason) → rank r < 1 → HasFault policy limits p here i r → ⊥
+none_earlier : (policy : Policy) (limits : Bounds) (p : List Instruction) (i : Instruction) (here : Arrivals) (r : Reason) → rank r < 1 → HasRunFault policy limits p here i r → ⊥
 none_earlier policy limits p i here reason.BrokenFrame lt h = absurd (omega (arith, lt))
 none_earlier policy limits p i here reason.MissingMark lt h = absurd (omega (arith, lt))
 none_earlier policy limits p i here reason.MissingItem lt h = absurd (omega (arith, lt))
@@ -139,7 +141,7 @@ module _ (setting : OldStrings) (policy : Policy) (limits : Bounds) (old : Sight
   checked_none laws begins = checked_first laws begins Afresh refl (begins_afresh setting policy)
 
   -- of a pickle behind others, where the reader is open again
-  pub checked_again : FrameLaws → ReadingGoesOn → (s : State) → s.phase ≡ Open → s.limits ≡ limits → (b : Beginning) (m : View) → IsReady setting policy limits b m → Checked setting policy limits s.source (record { at = s.taken; beginning = b; known = m.knowledge }) [] [] s 0 m
+  pub checked_again : FrameLaws → ReadingGoesOn → (s : ReaderState) → s.phase ≡ Open → s.limits ≡ limits → (b : Beginning) (m : View) → IsReady setting policy limits b m → Checked setting policy limits s.source (record { at = s.taken; beginning = b; known = m.knowledge }) [] [] s 0 m
   checked_again laws law s open' same b m ready = record {
     laws = laws;
     begins = ready.begins;
@@ -155,9 +157,9 @@ module _ (setting : OldStrings) (policy : Policy) (limits : Bounds) (old : Sight
     stopped = ready.stopped ∙ rw open' refl;
   }
 
-  module _ (origin : Origin) (p : List Instruction) (asked : List (Option Asked)) (s : State) (still_open : ℕ) (m : View) (h : Checked setting policy limits old origin p asked s still_open m) where
+  module _ (origin : Origin) (p : List Instruction) (asked : List (Option Asked)) (s : ReaderState) (still_open : ℕ) (m : View) (h : Checked setting policy limits old origin p asked s still_open m) where
     -- one instruction more passed
-    pub checked_took : (t : State) (is_open : ℕ) (n : View) (at : ℕ) (i : Instruction) → Took old origin.at limits p s at i t → (g : IsPassed policy i still_open m is_open n) → Checked setting policy limits old origin (p ++ i ∷ []) (asked ++ g.1.1.0.import ∷ []) t is_open n
+    pub checked_took : (t : ReaderState) (is_open : ℕ) (n : View) (at : ℕ) (i : Instruction) → Took old origin.at limits p s at i t → (g : BothGoOn policy i still_open m is_open n) → Checked setting policy limits old origin (p ++ i ∷ []) (asked ++ g.1.1.0.import ∷ []) t is_open n
     checked_took t is_open n at i took (frames, (v, (q, passes, becomes, moved))) =
         let passes' : advance setting policy limits i m.knowledge ≡ Ok q = subst (λ o. advance o policy limits i m.knowledge ≡ Ok q) h.same_setting (subst (λ l. advance m.old_strings policy l i m.knowledge ≡ Ok q) h.same_limits passes) in
         record {
@@ -190,7 +192,11 @@ module _ (setting : OldStrings) (policy : Policy) (limits : Bounds) (old : Sight
             asked = asked;
             each = length-asked setting policy limits p origin.known m.knowledge asked h.accepts;
             listed = lists;
-            imported = in_each setting b p (ImportsAreListed (listed_before b ++ imports)) (λ st os c. subst (λ l. ImportsAreListed (listed_before b ++ l) (run_as setting p os st)) (sym lists) (listed_from setting policy limits p origin.known m.knowledge asked (listed_before b) st os last h.accepts (h.begins.each st c) (h.begins.listed st c)));
+            imported = in_each setting b p (ImportsAreListed (listed_before b ++ imports))
+                (λ st os c. subst (λ l. ImportsAreListed (listed_before b ++ l)
+                (run_as setting p os st)) (sym lists) (listed_from setting policy limits p
+                origin.known m.knowledge asked (listed_before b) st os last h.accepts
+                (h.begins.each st c) (h.begins.listed st c)));
             at_each = each_asks setting policy limits b origin.known h.begins p m.knowledge asked last h.accepts;
             faultless = faultless setting policy limits b origin.known h.begins p m.knowledge asked last h.accepts h.laws.more still_open h.frames;
             unknown = unknown_is_open setting policy limits b origin.known h.begins p m.knowledge asked last h.accepts;
@@ -202,10 +208,25 @@ module _ (setting : OldStrings) (policy : Policy) (limits : Bounds) (old : Sight
     pub known_behind : NoStop p → Stands m.knowledge (RunsFrom setting origin.beginning p)
     known_behind none = stands_from setting policy limits origin.beginning p origin.known m.knowledge h.begins (along setting policy limits p origin.known m.knowledge asked (stops_nowhere p none) h.accepts)
 
+    -- nor has any of them a fault
+    pub faultless_here : NoStop p → IsFaultless setting origin.beginning policy limits p
+    faultless_here none = faultless setting policy limits origin.beginning origin.known h.begins p m.knowledge asked (nowhere_last p (stops_nowhere p none)) h.accepts h.laws.more still_open h.frames
+
     -- a refusal that is about these instructions: those before the place, and the refused one where it was read
     abbrev pub RefusedAfter : ℕ → Reason → Option Asked → Sight → List Instruction → Type 0
     RefusedAfter at reason pair new q =
         (r : RefusedFrom origin.at setting origin.beginning policy limits old new at reason pair) × (r.instructions ++ refused_instruction r.why ≡ q)
+
+    -- a no that says so
+    pub refusal_of : (at : ℕ) (reason : Reason) (off pair : Option Asked) (answer : No)
+        (new : Sight) (q : List Instruction) → IsNoAt at reason off answer → off ≡ pair
+        → RefusedAfter at reason pair new q
+        → RefusedAfter answer.at answer.reason (option_map asked_shown answer.pair) new q
+    refusal_of at reason off pair answer new q is e r =
+        let pair' = option_map asked_shown answer.pair in
+        subst (λ x. RefusedAfter x answer.reason pair' new q) (sym is.place)
+        (subst (λ x. RefusedAfter at x pair' new q) (sym is.why)
+        (subst (λ x. RefusedAfter at reason x new q) (sym (is.pair ∙ e)) r))
 
     -- where none is STOP, and then something is refused
     refused_here : (at : ℕ) (why : Reason) (pair : Option Asked) (new : Sight) → NoStop p → at ≡ s.taken → (w : Why setting origin.beginning policy limits p s.source new at why pair) → RefusedAfter at why pair new (p ++ refused_instruction w)
@@ -218,17 +239,17 @@ module _ (setting : OldStrings) (policy : Policy) (limits : Bounds) (old : Sight
         bytes = h.reads.bytes;
         place = place ∙ h.reads.count;
         framed = h.laws.all p still_open h.frames;
-        faultless = faultless setting policy limits origin.beginning origin.known h.begins p m.knowledge asked (nowhere_last p (stops_nowhere p none)) h.accepts h.laws.more still_open h.frames;
+        faultless = faultless_here none;
         why = why;
       },
       refl,
     )
 
-    abbrev RefusesHere : List ℕ → State → ReadRefusal → ℕ → Sight → Type 0
+    abbrev RefusesHere : List ℕ → ReaderState → ReadRefusal → ℕ → Sight → Type 0
     RefusesHere b t x at new = ReaderRefuses (payload_limit_at limits b) s.source new b at t.taken x.reason
 
     -- where the reader refuses
-    pub refused_turned : (t : State) (x : ReadRefusal) (new : Sight) → Turned old origin.at limits p s x t → new ≡ t.source → RefusedAfter x.at x.reason None new (p ++ [])
+    pub refused_turned : (t : ReaderState) (x : ReadRefusal) (new : Sight) → Turned old origin.at limits p s x t → new ≡ t.source → RefusedAfter x.at x.reason None new (p ++ [])
     refused_turned t x new o same =
         refused_here x.at x.reason None new o.no_stop o.place (reading (record {
           bytes = o.bytes;
@@ -237,7 +258,7 @@ module _ (setting : OldStrings) (policy : Policy) (limits : Bounds) (old : Sight
           none = refl;
         }))
 
-    module _ (t : State) (at : ℕ) (i : Instruction) (new : Sight) (took : Took old origin.at limits p s at i t) (same : new ≡ t.source) where
+    module _ (t : ReaderState) (at : ℕ) (i : Instruction) (new : Sight) (took : Took old origin.at limits p s at i t) (same : new ≡ t.source) where
       allowed : IsAllowedBy (payload_limit limits) i
       allowed = took.allowed
 
@@ -263,7 +284,7 @@ module _ (setting : OldStrings) (policy : Policy) (limits : Bounds) (old : Sight
       )
 
       -- there is no memory
-      lacks_memory : (n : View) (why : Reason) → LacksMemory policy i m n why → IsWhy why n.off
+      lacks_memory : (n : View) (why : Reason) → StepWantsMemory policy i m n why → IsWhy why n.off
       lacks_memory n why (wants, is, becomes) = (
         growing (record {
           instruction = i;
@@ -281,7 +302,7 @@ module _ (setting : OldStrings) (policy : Policy) (limits : Bounds) (old : Sight
         known = known_behind took.more.no_stop
 
         -- a fault of the machine is one of the instruction
-        behind : (r : Reason) → HasFaultHere policy limits (RunsFrom setting origin.beginning p) i r → HasFault policy limits p (RunsFrom setting origin.beginning p) i r
+        behind : (r : Reason) → HasFaultHere policy limits (RunsFrom setting origin.beginning p) i r → HasRunFault policy limits p (RunsFrom setting origin.beginning p) i r
         behind reason.BrokenFrame g = absurd g
         behind reason.MissingMark g = g
         behind reason.MissingItem g = g
@@ -331,5 +352,13 @@ module _ (setting : OldStrings) (policy : Policy) (limits : Bounds) (old : Sight
             subst (λ x. RefusedAfter at why x new (p ++ i ∷ [])) (sym is) (subst (RefusedAfter at why n.off new) (ap (λ q. p ++ q) w.1) (refused_here at why n.off new took.more.no_stop took.place w.0))
 
     -- no read failed where the frames or the machine refuse
-    pub count_took : (t : State) (at : ℕ) (i : Instruction) (new : Sight) (why : Reason) (pair : Option Asked) → RefusedFrom origin.at setting origin.beginning policy limits old new at why pair → Took old origin.at limits p s at i t → new ≡ t.source → (n : View) → IsRefused policy i still_open m n why → CountsAt why old.failures new.failures
-    count_took t at i new why pair a took same n g = counts_at policy i still_open m n why g old.failures new.failures (ap (λ x. x.failures) same ∙ took.bytes.count ∙ h.reads.bytes.count)
+    pub count_took : (t : ReaderState) (at : ℕ) (i : Instruction) (new : Sight) (place : ℕ)
+        (why reason : Reason) (pair : Option Asked)
+        → RefusedFrom origin.at setting origin.beginning policy limits old new place why pair
+        → why ≡ reason → Took old origin.at limits p s at i t → new ≡ t.source
+        → (n : View) → IsRefused policy i still_open m n reason
+        → CountsAt why old.failures new.failures
+    count_took t at i new place why reason pair a is took same n g =
+        let none = ap (λ x. x.failures) same ∙ took.bytes.count ∙ h.reads.bytes.count in
+        subst (λ x. CountsAt x old.failures new.failures) (sym is)
+        (counts_at policy i still_open m n reason g old.failures new.failures none)

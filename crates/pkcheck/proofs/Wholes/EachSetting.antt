@@ -10,16 +10,21 @@ use Rattle.pkops.specs.Operands.{memo_number}
 use Rattle.pkops.specs.Spelling.{Instruction}
 use Rattle.pkcheck.specs.declared.old_strings.OldStrings.{OldStrings}
 use Rattle.pkcheck.specs.declared.old_strings.OldStrings.TheVariants.{Unknown, Ascii, Bytes}
-use Rattle.pkcheck.specs.declared.machine.effects.Class.TheVariants as class
-use Rattle.pkcheck.specs.declared.machine.effects.Names.{Names}
-use Rattle.pkcheck.specs.declared.machine.effects.Names.TheVariants.{NoName}
-use Rattle.pkcheck.specs.declared.machine.effects.Gives.{Gives}
-use Rattle.pkcheck.specs.declared.machine.effects.Gives.TheVariants.{Makes, MakesIntOrBool, MakesText, MayMake, Answers, Leaves}
-use Rattle.pkcheck.specs.declared.machine.effects.Takes.TheVariants.{Objects}
+use Rattle.pkcheck.specs.declared.effect.Class.TheVariants as class
+use Rattle.pkcheck.specs.declared.effect.Names.{Names}
+use Rattle.pkcheck.specs.declared.effect.Names.TheVariants.{NoName}
+use Rattle.pkcheck.specs.declared.effect.Gives.{Gives}
+use Rattle.pkcheck.specs.declared.effect.Gives.TheVariants.{Makes, MakesIntOrBool, MakesText, MayMake, Answers, Leaves}
+use Rattle.pkcheck.specs.declared.effect.Takes.TheVariants.{Objects}
 use Rattle.pkcheck.specs.Covers.{imports_of}
 use Rattle.pkcheck.specs.Effects.{Effect, Operates, Moves, Stops, Raises, ascii_string, effect_as, effect_of, is_old_string, pushes}
 use Rattle.pkcheck.specs.Shape.{Breach, Entry, Shape, Taken, moved, operands, put, top}
-use Rattle.pkcheck.specs.Runs.{Event, Did, Import, Foreign, Go, Named, NoImport, NotTexts, Object, ObjectClass, Outcome, Pair, Plain, Raise, Raised, State, Stepped, Stopped, Stuck, Text, WentOn, answered, asks, class_at, come_of, effect_asks, given, gone_on, int_or_bool, made_new, move_step, named, operate_step, operated, perform, start, step_as, stop_step, text, with_answer}
+use Rattle.pkcheck.specs.Runs.{Event, Did, Import, Foreign, Go, Named, NoImport, NotTexts, Object}
+use Rattle.pkcheck.specs.Runs.{ObjectClass, Outcome, Pair, Plain, Raise, Raised, State, Stepped}
+use Rattle.pkcheck.specs.Runs.{Stopped, Stuck, Text, WentOn, answered, asks, class_at, come_of}
+use Rattle.pkcheck.specs.Runs.{effect_asks, given, gone_on, int_or_bool, made_new, move_step}
+use Rattle.pkcheck.specs.Runs.{named, operate_step, operated, perform, start, step_as, stop_step}
+use Rattle.pkcheck.specs.Runs.{text, with_answer}
 use Rattle.pkcheck.specs.WholeRuns.{AllListed, Ended, EndedBy, EndsWell, Reached, first_outcome, go_on, outcomes_after, run_as}
 use Rattle.pkcheck.proofs.Stepping.Pushing.{old_unknown}
 use Rattle.pkcheck.proofs.Wholes.RunSteps.{kept, perform_unused}
@@ -168,8 +173,14 @@ module _ (setting : OldStrings) where
   -- a run that begins with this outcome, where it asks
   begins : (b : Bool) (i : Instruction) (is : List Instruction) (t : State) (q : Outcome) (os : List Outcome) → effect_asks (effect_of i.op) ≡ b → (qs : List Outcome) × (run_as Unknown (i ∷ is) qs t ≡ go_on (step_as Unknown i t q) (run_as Unknown is os))
   begins true i is t q os e = (q ∷ os, ap (λ c. go_on (step_as Unknown i t q) (run_as Unknown is (outcomes_after c (q ∷ os)))) e)
-  begins false i is t q os e =
-      (os, ap (λ c. go_on (step_as Unknown i t (first_outcome os)) (run_as Unknown is (outcomes_after c os))) e ∙ ap (λ st. go_on st (run_as Unknown is (outcomes_after false os))) (perform_unused (effect_of i.op) i t (first_outcome os) q e) ∙ ap (λ qs. go_on (step_as Unknown i t q) (run_as Unknown is qs)) (kept os))
+  begins false i is t q os e = (
+    os,
+    ap (λ c. go_on (step_as Unknown i t (first_outcome os))
+        (run_as Unknown is (outcomes_after c os))) e ∙ ap (λ st. go_on st
+        (run_as Unknown is (outcomes_after false os))) (perform_unused (effect_of i.op) i t
+        (first_outcome os) q e) ∙ ap (λ qs. go_on (step_as Unknown i t q) (run_as Unknown is qs))
+        (kept os),
+  )
 
   -- all runs of these instructions have their like
   abbrev HaveLike : List Instruction → Type 0

@@ -1,9 +1,9 @@
 -- A pickle is accepted or refused, and not both.
-use Rattle.std.proofs.Common.{◌≡◌, ◌≢◌, ℕ, ◌+◌, ◌<◌, ◌≤◌, ◌⊎◌, inl, inr, Bool, cond, List, [], ◌∷◌, ◌++◌, length, take, drop, map, Option, Some, None, refl, sym, ap, subst, ◌∙◌, arith, length-append, length-drop}
+use Rattle.std.proofs.Common.{◌≡◌, ◌≢◌, ℕ, ◌+◌, ◌<◌, ◌≤◌, ◌⊎◌, inl, inr, cond, List, [], ◌∷◌, ◌++◌, length, take, drop, Option, Some, None, refl, sym, ap, subst, ◌∙◌, arith, length-append, length-drop}
 use Rattle.std.specs.Prelude.{All, IsTrue}
 use Rattle.std.specs.Io.KnownBytes.{Consumes, IsAtEnd}
 use Rattle.std.proofs.lemmas.Bool.{cases_lt}
-use Rattle.std.proofs.lemmas.List.{append-nil, take-append-drop, take-append-le}
+use Rattle.std.proofs.lemmas.List.{take-append-drop, take-append-le}
 use Rattle.std.proofs.lemmas.List.Elements.{All-head, All-tail}
 use Rattle.std.proofs.Math.Seq.{take-append_seam}
 use Rattle.pkops.specs.Admitted.{is_admitted}
@@ -14,23 +14,24 @@ use Rattle.pkops.specs.Payloads.{is_passed, is_passed_code, payload_limit, paylo
 use Rattle.pkops.specs.Scanning.{Begun, HasFault as ShowsFault, IsWithin}
 use Rattle.pkops.specs.Spelling.{Instruction, spelling}
 use Rattle.pkops.specs.Table.{code_of}
-use Rattle.pkops.specs.declared.fault.Fault.{Fault}
-use Rattle.pkops.specs.declared.fault.Fault.TheVariants as fault
-use Rattle.pkops.specs.declared.op.Op.{Op}
-use Rattle.pkops.specs.declared.op.Op.TheVariants as op
-use Rattle.pkread.specs.Admission.{IsAllowed, IsAllowedBy, objection, unadmitted_by}
-use Rattle.pkread.specs.Rows.{IsAmiss, IsBarred, Refuses, Row, Sight, Takes, all_bytes}
+use Rattle.pkops.specs.declared.Fault.{Fault}
+use Rattle.pkops.specs.declared.Fault.TheVariants as fault
+use Rattle.pkops.specs.declared.Op.{Op}
+use Rattle.pkops.specs.declared.Op.TheVariants as op
+use Rattle.pkread.specs.Admission.{IsAllowedBy, objection, unadmitted_by}
+use Rattle.pkread.specs.Rows.{IsAmiss, IsBarred, ShowsReason, Sight, Takes, all_bytes}
 use Rattle.pkread.specs.Sequence.{spellings}
 use Rattle.pkread.specs.Sequences.{GoesOnBehind, OneFront, SequenceGoesOn}
-use Rattle.pkread.specs.declared.refusal.Reason.{Reason}
-use Rattle.pkread.specs.declared.refusal.Reason.TheVariants as reason
+use Rattle.pkread.specs.declared.Reason.{Reason}
+use Rattle.pkread.specs.declared.Reason.TheVariants as reason
 use Rattle.pkcheck.specs.declared.old_strings.OldStrings.{OldStrings}
 use Rattle.pkcheck.specs.Knowledge.{Policy, Asked}
 use Rattle.pkcheck.specs.Faults.{Arrivals, AsksOnce, HasFaultHere, InEachRun, everyone}
 use Rattle.pkcheck.specs.Refused.{Why, reading, judging, growing}
-use Rattle.pkcheck.specs.RunFaults.{HasFault, RunsBehind}
+use Rattle.pkcheck.specs.RunFaults.{HasRunFault, RunsBehind}
 use Rattle.pkcheck.specs.RowRuns.{Afresh}
 use Rattle.pkcheck.specs.Runs.{State}
+use Rattle.pkcheck.specs.ButForLimits.{RefusedForLimits}
 use Rattle.pkcheck.specs.Exclusive.{YesExcludesNo}
 
 -- ---- a fault that claimed runs show, any run shows
@@ -64,7 +65,7 @@ module _ (here : Arrivals) (real : (s : State) → here.some s → here.any s) w
   fault_of_any policy limits i reason.OutOfMemory f = absurd f
 
 module _ (setting : OldStrings) (policy : Policy) (limits : Bounds) (before : List Instruction) (i : Instruction) where
-  by_any : (r : Reason) → HasFault policy limits before (RunsBehind setting before) i r → HasFault policy limits before (everyone (RunsBehind setting before)) i r
+  by_any : (r : Reason) → HasRunFault policy limits before (RunsBehind setting before) i r → HasRunFault policy limits before (everyone (RunsBehind setting before)) i r
   by_any reason.BrokenFrame f = f
   by_any reason.MissingMark f = fault_of_any (RunsBehind setting before) (λ s g. (g.0, g.2)) policy limits i reason.MissingMark f
   by_any reason.MissingItem f = fault_of_any (RunsBehind setting before) (λ s g. (g.0, g.2)) policy limits i reason.MissingItem f
@@ -203,7 +204,7 @@ module _ (one : OneAnswer) (nothing : (limit : ℕ) → Begun limit []) (limits 
         let n = ap length e in
         omega (arith, n, length-append bytes [], length-append (spelling j) behind, lt)
 
-    no_row : (r : Reason) → r ≢ reason.Source → r ≢ reason.OutOfMemory → Row (payload_limit_at limits bytes) here after bytes taken r → ⊥
+    no_row : (r : Reason) → r ≢ reason.Source → r ≢ reason.OutOfMemory → ShowsReason (payload_limit_at limits bytes) here after bytes taken r → ⊥
     no_row reason.Source n m h = n refl
     no_row reason.OutOfMemory n m h = m refl
     no_row reason.Truncated n m (t, end, lt, begun) =
@@ -245,11 +246,16 @@ spellings_behind (k ∷ q) j is =
     let e = spellings_behind q j is in
     omega (arith, e, length-append (spelling k) (spellings (q ++ j ∷ is)), length-append (spelling k) (spellings q))
 
+-- a reason that is no other is this one
+if_not_other : (r : Reason) → (r ≢ reason.TooLarge → ⊥) → r ≡ reason.TooLarge
+if_not_other reason.TooLarge h = refl
+if_not_other r h = absurd (h (λ e. cc))
+
 module _ (one : OneAnswer) (nothing : (limit : ℕ) → Begun limit []) (front : OneFront) (goes : SequenceGoesOn) where
   module _ (setting : OldStrings) (policy : Policy) (limits : Bounds) (p q : List Instruction) (rest tail : List ℕ)
       (g : GoesOnBehind p q rest tail) (each : All (IsAllowedBy (payload_limit limits)) p) (few : length (spellings p) ≤ all_bytes)
-      (faultless : (before : List Instruction) (i : Instruction) (is : List Instruction) → p ≡ before ++ i ∷ is → (r : Reason) → HasFault policy limits before (everyone (RunsBehind setting before)) i r → ⊥)
-      (here after : Sight) (at : ℕ) (r : Reason) (pair : Option Asked) (is : here.left ≡ Some tail) (place : at ≡ length (spellings q)) where
+      (r : Reason) (faultless : (before : List Instruction) (i : Instruction) (is : List Instruction) → p ≡ before ++ i ∷ is → HasRunFault policy limits before (everyone (RunsBehind setting before)) i r → ⊥)
+      (here after : Sight) (at : ℕ) (pair : Option Asked) (is : here.left ≡ Some tail) (place : at ≡ length (spellings q)) where
     may : IsAllowedBy (payload_limit limits) g.next
     may = behind_each (IsAllowedBy (payload_limit limits)) q g.next g.after (subst (All (IsAllowedBy (payload_limit limits))) g.split each)
 
@@ -264,7 +270,7 @@ module _ (one : OneAnswer) (nothing : (limit : ℕ) → Begun limit []) (front :
         let c = consumed here tail (spelling h.instruction) after is h.bytes in
         let same = front h.instruction g.next c.0 (spellings g.after ++ rest) h.allowed.good may.good (sym c.2 ∙ g.bytes) in
         let fault = by_any setting policy limits q h.instruction r h.fault in
-        faultless q g.next g.after g.split r (subst (λ i. HasFault policy limits q (everyone (RunsBehind setting q)) i r) same.0 fault)
+        faultless q g.next g.after g.split (subst (λ i. HasRunFault policy limits q (everyone (RunsBehind setting q)) i r) same.0 fault)
     not_why n m (growing h) = m h.memory
 
   pub yes_excludes_no : YesExcludesNo
@@ -274,4 +280,17 @@ module _ (one : OneAnswer) (nothing : (limit : ℕ) → Begun limit []) (front :
       let a = consumed old bytes (spellings p) new known accepted.bytes in
       let b = consumed other bytes (spellings q) refused.here same refused.bytes in
       let g = goes (payload_limit limits) (payload_limit limits) p q a.0 b.0 accepted.sequence refused.admitted refused.goes_on (sym a.2 ∙ b.2) in
-      not_why setting policy limits p q a.0 b.0 g accepted.sequence.each (let k = accepted.count in omega (arith, k, few)) accepted.faultless refused.here after at r pair b.1 (let k = refused.place in omega (arith, k)) n m refused.why
+      let short : length (spellings p) ≤ all_bytes = (let k = accepted.count in omega (arith, k, few)) in
+      let there : at ≡ length (spellings q) = (let k = refused.place in omega (arith, k)) in
+      not_why setting policy limits p q a.0 b.0 g accepted.sequence.each short
+      r (λ before i is e f. accepted.faultless before i is e r f) refused.here after at pair b.1 there n m refused.why
+
+  pub refused_for_limits : RefusedForLimits
+  refused_for_limits setting policy limits p rest old after at r pair sequence faultless is few refused n m =
+      if_not_other r (λ other.
+      let q = refused.instructions in
+      let b = consumed old (spellings p ++ rest) (spellings q) refused.here is refused.bytes in
+      let g = goes (payload_limit limits) (payload_limit limits) p q rest b.0 sequence refused.admitted refused.goes_on b.2 in
+      let there : at ≡ length (spellings q) = (let k = refused.place in omega (arith, k)) in
+      not_why setting policy limits p q rest b.0 g sequence.each few
+      r (λ before i is e f. faultless before i is e r other f) refused.here after at pair b.1 there n m refused.why)

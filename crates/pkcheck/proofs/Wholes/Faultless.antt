@@ -10,11 +10,11 @@ use Rattle.pkcheck.proofs.Covering.Verdicts.{StopsLast}
 use Rattle.pkcheck.specs.Knowledge.{Knowledge, Policy, Asked, AskedUnknown, Progress, advance}
 use Rattle.pkcheck.specs.Listing.{EachAsks, UnknownIsOpen}
 use Rattle.pkread.specs.Framing.{IsFramed, counted_all}
-use Rattle.pkread.specs.declared.refusal.Reason.{Reason}
-use Rattle.pkread.specs.declared.refusal.Reason.TheVariants as reason
+use Rattle.pkread.specs.declared.Reason.{Reason}
+use Rattle.pkread.specs.declared.Reason.TheVariants as reason
 use Rattle.pkcheck.specs.Faults.{Arrivals, HasFaultHere, everyone}
 use Rattle.pkcheck.specs.RowRuns.{Beginning}
-use Rattle.pkcheck.specs.RunFaults.{HasFault, IsFaultless, RunsFrom}
+use Rattle.pkcheck.specs.RunFaults.{HasRunFault, IsFaultless, RunsFrom}
 use Rattle.pkcheck.specs.Runs.{State, Stepped, WentOn, Raised, Stopped, Stuck, step_as}
 use Rattle.pkcheck.proofs.Covering.Verdicts.{Yes, verdict}
 use Rattle.pkcheck.proofs.Covering.Following.{step_follows}
@@ -25,7 +25,7 @@ use Rattle.pkcheck.proofs.Stepping.Stops.{nowhere_before}
 use Rattle.pkcheck.proofs.Wholes.Walk.{along, verdict_first, verdict_split}
 
 -- a fault of an instruction that is framed is one of the machine
-pub machine_fault : (policy : Policy) (limits : Bounds) (before : List Instruction) (i : Instruction) → IsFramed (map piece_of before) (piece_of i) [] → (here : Arrivals) (r : Reason) → HasFault policy limits before here i r → HasFaultHere policy limits here i r
+pub machine_fault : (policy : Policy) (limits : Bounds) (before : List Instruction) (i : Instruction) → IsFramed (map piece_of before) (piece_of i) [] → (here : Arrivals) (r : Reason) → HasRunFault policy limits before here i r → HasFaultHere policy limits here i r
 machine_fault policy limits before i w here reason.BrokenFrame h = absurd (h w)
 machine_fault policy limits before i w here reason.MissingMark h = h
 machine_fault policy limits before i w here reason.MissingItem h = h

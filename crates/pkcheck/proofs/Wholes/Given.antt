@@ -5,21 +5,21 @@ use Rattle.pkops.specs.Inst.{instruction_of}
 use Rattle.pkops.specs.Limits.{Bounds}
 use Rattle.pkops.specs.Payloads.{is_passed, is_passed_code, payload_limit, payload_limit_at}
 use Rattle.pkops.specs.Spelling.{Counted, Instruction, instruction, spelling}
-use Rattle.pkops.specs.declared.inst.Inst.{Inst}
-use Rattle.pkops.specs.declared.op.Op.{Op}
-use Rattle.pkops.specs.declared.op.Op.TheVariants as op
+use Rattle.pkops.specs.declared.Inst.{Inst}
+use Rattle.pkops.specs.declared.Op.{Op}
+use Rattle.pkops.specs.declared.Op.TheVariants as op
 use Rattle.pkread.specs.Admission.{IsAllowedBy}
 use Rattle.pkread.specs.Core.{Open, phase_after}
-use Rattle.pkread.specs.Heads.{IsPassed, StepsHead}
-use Rattle.pkread.specs.Reading.{Gives, State, Steps}
+use Rattle.pkread.specs.Heads.{IsSkipped, StepsHead}
+use Rattle.pkread.specs.Reading.{Gives, ReaderState, Steps}
 use Rattle.pkread.specs.Rows.{Refuses, Sight, Takes, unread}
 use Rattle.pkread.specs.Run.{HeadIsRead, HoldsTo, NextIsRead, PassedIsRead, PassesTo, Reads, ReadsMore, RefusalIsRead, RefusalOfHeads}
 use Rattle.pkread.specs.Sequence.{NoStop}
-use Rattle.pkread.specs.declared.reader.Head.{Head}
-use Rattle.pkread.specs.declared.reader.Head.TheVariants as head
-use Rattle.pkread.specs.declared.reader.Next.{Next}
-use Rattle.pkread.specs.declared.reader.Next.TheVariants as next
-use Rattle.pkread.specs.declared.refusal.Refusal.{Refusal}
+use Rattle.pkread.specs.declared.Head.{Head}
+use Rattle.pkread.specs.declared.Head.TheVariants as head
+use Rattle.pkread.specs.declared.Next.{Next}
+use Rattle.pkread.specs.declared.Next.TheVariants as next
+use Rattle.pkread.specs.declared.Refusal.{Refusal}
 
 last_of : {X : Type 0} (P : X → Type 0) (xs : List X) (x : X) → All P (xs ++ x ∷ []) → P x
 last_of P [] x h = h 0 x (omega arith)
@@ -34,9 +34,9 @@ one_limit_at : (limits : Bounds) → limits.passed ≡ limits.counted → (b : L
 one_limit_at limits e [] = refl
 one_limit_at limits e (code ∷ b) = one_limit limits e (is_passed_code code)
 
-module _ (start : Sight) (from : ℕ) (limits : Bounds) (p : List Instruction) (s : State) where
+module _ (start : Sight) (from : ℕ) (limits : Bounds) (p : List Instruction) (s : ReaderState) where
   -- the bytes of this instruction were taken at the place
-  pub record Took (at : ℕ) (i : Instruction) (t : State) : Type 0 where
+  pub record Took (at : ℕ) (i : Instruction) (t : ReaderState) : Type 0 where
     pub more : ReadsMore start from (payload_limit limits) p i t
     pub same_limits : t.limits ≡ s.limits
     pub place : at ≡ s.taken
@@ -46,19 +46,19 @@ module _ (start : Sight) (from : ℕ) (limits : Bounds) (p : List Instruction) (
     pub phase : t.phase ≡ phase_after i.op
 
   -- the payload of this opcode, with so many bytes, was passed over
-  pub record Passed (at : ℕ) (o : Op) (count : ℕ) (t : State) : Type 0 where
+  pub record Passed (at : ℕ) (o : Op) (count : ℕ) (t : ReaderState) : Type 0 where
     pub payload : List ℕ
-    pub one : IsPassed (payload_limit limits o) o count payload
+    pub one : IsSkipped (payload_limit limits o) o count payload
     pub took : Took at (instruction o (Counted payload)) t
 
   -- these bytes were taken at the place, and refused
-  pub record Turned (r : Refusal) (t : State) : Type 0 where
+  pub record Turned (r : Refusal) (t : ReaderState) : Type 0 where
     pub no_stop : NoStop p
     pub place : r.at ≡ s.taken
     pub bytes : List ℕ
     pub why : Refuses (payload_limit_at limits bytes) s.source t.source bytes s.taken t.taken r.reason
 
-  gave : (at : ℕ) (i : Instruction) (t : State) → t.limits ≡ s.limits → ReadsMore start from (payload_limit limits) p i t × Gives s at i t → Took at i t
+  gave : (at : ℕ) (i : Instruction) (t : ReaderState) → t.limits ≡ s.limits → ReadsMore start from (payload_limit limits) p i t × Gives s at i t → Took at i t
   gave at i t same w = record {
     more = w.0;
     same_limits = same;
@@ -69,7 +69,7 @@ module _ (start : Sight) (from : ℕ) (limits : Bounds) (p : List Instruction) (
     phase = w.1.phase;
   }
 
-  module _ (reads : Reads start from (payload_limit limits) p s) (same : s.limits ≡ limits) (t : State) where
+  module _ (reads : Reads start from (payload_limit limits) p s) (same : s.limits ≡ limits) (t : ReaderState) where
     -- by `next`, which holds each payload, where there is one limit for all
     module _ (one : limits.passed ≡ limits.counted) where
       holds : HoldsTo s (payload_limit limits)

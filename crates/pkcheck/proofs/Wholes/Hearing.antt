@@ -2,18 +2,19 @@
 use Rattle.pkcheck.specs.declared.old_strings.OldStrings.TheVariants.{Unknown}
 use Rattle.std.proofs.Common.{◌≡◌, ℕ, List, [], ◌∷◌, ◌++◌, append-nil, arith, append_assoc, refl, sym, subst}
 use Rattle.std.proofs.lemmas.Str.{IsUtf8-nil}
-use Rattle.std.specs.Prelude.{Option}
+use Rattle.std.specs.Prelude.{IfErr, Option, Result, Ok, Err}
 use Rattle.pkops.specs.Limits.{Bounds}
 use Rattle.pkops.specs.Spelling.{Instruction}
-use Rattle.pkread.specs.Reading.{State}
-use Rattle.pkread.specs.Rows.{Sight}
+use Rattle.pkread.specs.Reading.{ReaderState}
+use Rattle.pkread.specs.Rows.{Sight, Takes}
+use Rattle.pkread.specs.Sequence.{spellings}
 use Rattle.pkcheck.specs.Covers.{Covers}
-use Rattle.pkcheck.specs.Heard.{Heard, IsHeardOf, AreHeardBehind, heard}
+use Rattle.pkcheck.specs.Heard.{Heard, IsCutShort, IsHeardOf, AreHeardBehind, heard}
 use Rattle.pkcheck.specs.Knowledge.{Policy, Asked}
 use Rattle.pkcheck.specs.Runs.{State as RunState}
 use Rattle.pkcheck.specs.Shape.{marks_of}
 use Rattle.pkcheck.specs.View.{View}
-use Rattle.pkcheck.proofs.Wholes.Checked.{Checked, known_behind}
+use Rattle.pkcheck.proofs.Wholes.Checked.{Checked, faultless_here, known_behind}
 use Rattle.pkcheck.proofs.Wholes.Given.{Took}
 use Rattle.pkcheck.proofs.Wholes.Origins.{alone}
 
@@ -25,8 +26,8 @@ heard_more before [] (y ∷ hs) i x u h = absurd u
 heard_more before (j ∷ p) [] i x u h = absurd u
 
 -- what is heard of the instruction that the reader gives
-pub heard_here : (policy : Policy) (limits : Bounds) (old : Sight) (p : List Instruction) (asked : List (Option Asked)) (s : State) (still_open : ℕ) (m : View) → Checked Unknown policy limits old alone p asked s still_open m
-    → (t : State) (at : ℕ) (i : Instruction) → Took old 0 limits p s at i t
+pub heard_here : (policy : Policy) (limits : Bounds) (old : Sight) (p : List Instruction) (asked : List (Option Asked)) (s : ReaderState) (still_open : ℕ) (m : View) → Checked Unknown policy limits old alone p asked s still_open m
+    → (t : ReaderState) (at : ℕ) (i : Instruction) → Took old 0 limits p s at i t
     → (n : ℕ) → ((st : RunState) → Covers m.knowledge st → n ≡ marks_of st.shape.entries)
     → IsHeardOf p i (heard at i n)
 heard_here policy limits old p asked s still_open m h t at i took n marks =
@@ -40,3 +41,27 @@ heard_here policy limits old p asked s still_open m h t at i took n marks =
         some = (some.0, some.1);
       };
     }
+
+-- where the listener failed at the instruction that the reader gives
+pub cut_short : (policy : Policy) (limits : Bounds) (old : Sight) (p : List Instruction)
+    (asked : List (Option Asked)) (s : ReaderState) (still_open : ℕ) (m : View)
+    → Checked Unknown policy limits old alone p asked s still_open m
+    → (t : ReaderState) (at : ℕ) (i : Instruction) (new : Sight) → Took old 0 limits p s at i t
+    → new ≡ t.source → (hs : List Heard) → AreHeardBehind [] p hs
+    → IsCutShort policy limits old new hs
+cut_short policy limits old p asked s still_open m h t at i new took same hs each = record {
+  before = p;
+  instruction = i;
+  goes_on = took.more.no_stop;
+  admitted = took.more.reads.each;
+  bytes = subst (λ x. Takes old x (spellings (p ++ i ∷ []))) (sym same) took.more.reads.bytes;
+  framed = h.laws.all p still_open h.frames;
+  faultless = faultless_here Unknown policy limits old alone p asked s still_open m h
+      took.more.no_stop;
+  each = each;
+}
+
+-- whatever error it is
+pub if_err : {X Y : Type 0} {P : Type 0} (r : Result X Y) → P → IfErr r (λ _. P)
+if_err (Ok x) h = tt
+if_err (Err y) h = h

@@ -1,8 +1,8 @@
 -- The imports of every run are those that the checker lists.
 use Rattle.pkcheck.specs.declared.old_strings.OldStrings.{OldStrings}
 use Rattle.std.proofs.Common.{◌≡◌, ℕ, Bool, true, false, List, [], ◌∷◌, ◌++◌, Option, Some, None, Result, Ok, Err, inl, inr, refl, sym, ap, subst, ◌∙◌, append-nil, append_assoc}
-use Rattle.pkcheck.specs.declared.machine.effects.Gives.{Gives}
-use Rattle.pkcheck.specs.declared.machine.effects.Names.{Names}
+use Rattle.pkcheck.specs.declared.effect.Gives.{Gives}
+use Rattle.pkcheck.specs.declared.effect.Names.{Names}
 use Rattle.pkcheck.specs.Effects.{Effect, Operates, Moves, Stops, Raises, effect_as}
 use Rattle.pkcheck.specs.Shape.{Breach, Shape, Taken, operands, moved}
 use Rattle.pkops.specs.Spelling.{Instruction}
@@ -79,7 +79,13 @@ more_among None as' asked = refl
 more_among (Some a) as' asked = append_assoc as' (a ∷ []) (imports_among asked)
 
 module _ (setting : OldStrings) (p : Policy) (l : Bounds) where
-  step_listed : (q : Progress) (s : State) (st : Stepped) (done : List Asked) (rest : List (Option Asked)) (f : State → Ended) → FollowsBy IsObject q s st → Pointwise StandsFor done (imports_of s.events) → ((r : ℕ) (t : State) → st ≡ Stopped r t → rest ≡ []) → ((t : State) → CoversBy IsObject q.after t → Pointwise StandsFor (asks_more q.import done) (imports_of t.events) → ImportsAreListed (asks_more q.import done ++ imports_among rest) (f t)) → ImportsAreListed (done ++ imports_among (q.import ∷ rest)) (go_on st f)
+  step_listed : (q : Progress) (s : State) (st : Stepped) (done : List Asked)
+      (rest : List (Option Asked)) (f : State → Ended) → FollowsBy IsObject q s st
+      → Pointwise StandsFor done (imports_of s.events)
+      → ((r : ℕ) (t : State) → st ≡ Stopped r t → rest ≡ [])
+      → ((t : State) → CoversBy IsObject q.after t → Pointwise StandsFor (asks_more q.import done)
+      (imports_of t.events) → ImportsAreListed (asks_more q.import done ++ imports_among rest)
+      (f t)) → ImportsAreListed (done ++ imports_among (q.import ∷ rest)) (go_on st f)
   step_listed q s (WentOn t) done rest f g h last on = subst (λ x. ImportsAreListed x (f t)) (more_among q.import done rest) (on t g.0 (adds_stands q.import done s.events t.events h g.1))
   step_listed q s (Raised t) done rest f (inl g) h last on = subst (λ x. IsBeginning x (imports_of t.events)) (more_among q.import done rest) (all_begins (asks_more q.import done) (imports_among rest) (imports_of t.events) (adds_stands q.import done s.events t.events h g))
   step_listed q s (Raised t) done rest f (inr g) h last on = all_begins done _ (imports_of t.events) (adds_stands None done s.events t.events h g.1)
@@ -94,7 +100,11 @@ module _ (setting : OldStrings) (p : Policy) (l : Bounds) where
   none_left (i ∷ is) k known asked e h = cc
 
   -- the imports of a run are a beginning of those listed, behind those listed before, and all of them where it stopped
-  pub listed_from : (is : List Instruction) (k known : Knowledge) (asked : List (Option Asked)) (done : List Asked) (s : State) (os : List Outcome) → StopsLast is → verdict setting p l is k ≡ Yes known asked → CoversBy IsObject k s → Pointwise StandsFor done (imports_of s.events) → ImportsAreListed (done ++ imports_among asked) (run_as setting is os s)
+  pub listed_from : (is : List Instruction) (k known : Knowledge) (asked : List (Option Asked))
+      (done : List Asked) (s : State) (os : List Outcome) → StopsLast is
+      → verdict setting p l is k ≡ Yes known asked → CoversBy IsObject k s
+      → Pointwise StandsFor done (imports_of s.events)
+      → ImportsAreListed (done ++ imports_among asked) (run_as setting is os s)
   listed_from [] k known asked done s os last e c h = all_begins done (imports_among asked) (imports_of s.events) h
   listed_from (i ∷ is) k known asked done s os last e c h =
       let f = verdict_first (advance setting p l i k) (verdict setting p l is) known asked e in
@@ -128,6 +138,10 @@ fine_from setting l (i ∷ is) k known asked s os e c =
     step_fine f.passed s st (run_as setting is _) w (λ t d. fine_from setting l is f.passed.after known f.rest.listed t _ f.rest.accepts d)
 
 -- a yes is sound, whatever the policy
-pub sound_from : (setting : OldStrings) (p : Policy) (l : Bounds) (is : List Instruction) (k known : Knowledge) (asked : List (Option Asked)) (s : State) (os : List Outcome) → verdict setting p l is k ≡ Yes known asked → CoversBy IsObject k s → AllListed (permitted_by p) (imports_of s.events) → EndsWell (permitted_by p) (run_as setting is os s)
+pub sound_from : (setting : OldStrings) (p : Policy) (l : Bounds) (is : List Instruction)
+    (k known : Knowledge) (asked : List (Option Asked)) (s : State) (os : List Outcome)
+    → verdict setting p l is k ≡ Yes known asked → CoversBy IsObject k s
+    → AllListed (permitted_by p) (imports_of s.events)
+    → EndsWell (permitted_by p) (run_as setting is os s)
 sound_from setting None l is k known asked s os e c h = fine_from setting l is k known asked s os e c
 sound_from setting (Some list) l is k known asked s os e c h = sound_along list setting l is k s os (subst IsYes (sym e) tt) c h

@@ -8,15 +8,15 @@ use Rattle.std.proofs.lemmas.List.{map-append}
 use Rattle.std.proofs.lemmas.List.Elements.{All-cons, All-head, All-nil, All-tail}
 use Rattle.pkops.specs.Limits.{Bounds}
 use Rattle.pkops.specs.Spelling.{Instruction}
-use Rattle.pkops.specs.declared.op.Op.{Op}
-use Rattle.pkops.specs.declared.op.Op.TheVariants as op
+use Rattle.pkops.specs.declared.Op.{Op}
+use Rattle.pkops.specs.declared.Op.TheVariants as op
 use Rattle.pkread.specs.Sequence.{IsSequence}
 use Rattle.pkcheck.specs.Covers.{IsObject, Pointwise}
 use Rattle.pkcheck.specs.Covers.{imports_of as imported}
 use Rattle.pkcheck.specs.Effects.{Effect, Operates, Moves, Stops, Raises, effect_as, number_stored}
 use Rattle.pkcheck.specs.Knowledge.{Knowledge, Policy, Asked, Progress, advance, learn}
 use Rattle.pkcheck.specs.Listing.{StandsFor, ImportsAreListed, imports_among, permitted_by}
-use Rattle.pkcheck.specs.RowRuns.{Behind, Pickle, imports_of, next_from, run_row, sequences_of}
+use Rattle.pkcheck.specs.RowRuns.{Behind, Pickle, imports_of_all, next_from, run_row, sequences_of}
 use Rattle.pkcheck.specs.Runs.{CanCome, Object, Outcome, State, Text, Stepped, WentOn, Raised, Stopped, Stuck, effect_asks, perform, start, step_as, stop_step}
 use Rattle.pkcheck.specs.Shape.{Breach, Entry, top}
 use Rattle.pkcheck.specs.WholeRuns.{AllListed, Ended, EndedBy, EndsWell, Reached, first_outcome, go_on, outcomes_after, run_as}
@@ -85,7 +85,12 @@ module _ (setting : OldStrings) where
       record { middle = m.middle; before = os ∷ m.before; comes = ap (λ x. next_from x (run_row setting ps m.before)) n.stops ∙ m.comes; outcomes = m.outcomes; result = m.result; state = m.state; stops = m.stops; is = m.is }
 
   -- the run of pickles and of one more
-  with_last : (ps : List (List Instruction)) (p : List Instruction) (oss : List (List Outcome)) (first middle : State) → All (All CanCome) oss → run_row setting ps oss first ≡ Some middle → (os : List Outcome) (r : ℕ) (t : State) → All CanCome os → run_as setting p os middle ≡ EndedBy (Stopped r t) → (qss : List (List Outcome)) × All (All CanCome) qss × (run_row setting (ps ++ p ∷ []) qss first ≡ Some (cleared t))
+  with_last : (ps : List (List Instruction)) (p : List Instruction) (oss : List (List Outcome))
+      (first middle : State) → All (All CanCome) oss → run_row setting ps oss first ≡ Some middle
+      → (os : List Outcome) (r : ℕ) (t : State) → All CanCome os
+      → run_as setting p os middle ≡ EndedBy (Stopped r t)
+      → (qss : List (List Outcome)) × All (All CanCome) qss ×
+      (run_row setting (ps ++ p ∷ []) qss first ≡ Some (cleared t))
   with_last [] p oss first middle can e os r t all g =
       let at : run_as setting p os first ≡ EndedBy (Stopped r t) = ap (run_as setting p os) (same_state first middle e) ∙ g in
       (os ∷ [], All-cons (All CanCome) os [] all (All-nil (All CanCome)), ap (λ x. next_from x (run_row setting [] [])) at)
@@ -117,12 +122,18 @@ same_end : (r q : ℕ) (s t : State) → EndedBy (Stopped r s) ≡ EndedBy (Stop
 same_end r q s t e = cc
 
 -- the imports of one pickle more
-pub imports_more : (before : List Pickle) (x : Pickle) → imports_of (before ++ x ∷ []) ≡ imports_of before ++ x.imports
-imports_more before x = flat_map-append (λ (y : Pickle). y.imports) before (x ∷ []) ∙ ap (λ l. imports_of before ++ l) (append-nil x.imports)
+pub imports_more : (before : List Pickle) (x : Pickle) → imports_of_all (before ++ x ∷ []) ≡ imports_of_all before ++ x.imports
+imports_more before x = flat_map-append (λ (y : Pickle). y.imports) before (x ∷ []) ∙ ap (λ l. imports_of_all before ++ l) (append-nil x.imports)
 
 module _ (setting : OldStrings) (policy : Policy) (limits : Bounds) where
   -- what is known at the end covers each state in which a run stops
-  stops_on : (i : Instruction) (is : List Instruction) (q : Progress) (s : State) (st : Stepped) (known : Knowledge) (listed : List (Option Asked)) (os : List Outcome) (r : ℕ) (t : State) → StopsLast (i ∷ is) → verdict setting policy limits is q.after ≡ Yes known listed → FollowsBy IsObject q s st → ((r' : ℕ) (u : State) → st ≡ Stopped r' u → effect_as setting i ≡ Stops) → ((u : State) → CoversBy IsObject q.after u → run_as setting is os u ≡ EndedBy (Stopped r t) → CoversBy IsObject known t) → go_on st (run_as setting is os) ≡ EndedBy (Stopped r t) → CoversBy IsObject known t
+  stops_on : (i : Instruction) (is : List Instruction) (q : Progress) (s : State) (st : Stepped)
+      (known : Knowledge) (listed : List (Option Asked)) (os : List Outcome) (r : ℕ) (t : State)
+      → StopsLast (i ∷ is) → verdict setting policy limits is q.after ≡ Yes known listed
+      → FollowsBy IsObject q s st → ((r' : ℕ) (u : State) → st ≡ Stopped r' u
+      → effect_as setting i ≡ Stops) → ((u : State) → CoversBy IsObject q.after u
+      → run_as setting is os u ≡ EndedBy (Stopped r t) → CoversBy IsObject known t)
+      → go_on st (run_as setting is os) ≡ EndedBy (Stopped r t) → CoversBy IsObject known t
   stops_on i is q s (WentOn u) known listed os r t last e g by on h = on u g.0 h
   stops_on i is q s (Raised u) known listed os r t last e g by on h = cc
   stops_on i is q s (Stuck b) known listed os r t last e g by on h = cc
@@ -131,14 +142,21 @@ module _ (setting : OldStrings) (policy : Policy) (limits : Bounds) where
       let same = yes_parts q.after known [] listed (subst (λ x. verdict setting policy limits x q.after ≡ Yes known listed) none e) in
       subst (λ x. CoversBy IsObject known x) (same_end n r u t h) (subst (λ x. CoversBy IsObject x u) same.0 g.2)
 
-  pub stopped_covered : (is : List Instruction) (k known : Knowledge) (asked : List (Option Asked)) (s : State) (os : List Outcome) (r : ℕ) (t : State) → StopsLast is → verdict setting policy limits is k ≡ Yes known asked → CoversBy IsObject k s → run_as setting is os s ≡ EndedBy (Stopped r t) → CoversBy IsObject known t
+  pub stopped_covered : (is : List Instruction) (k known : Knowledge) (asked : List (Option Asked))
+      (s : State) (os : List Outcome) (r : ℕ) (t : State) → StopsLast is
+      → verdict setting policy limits is k ≡ Yes known asked → CoversBy IsObject k s
+      → run_as setting is os s ≡ EndedBy (Stopped r t) → CoversBy IsObject known t
   stopped_covered [] k known asked s os r t last e c h = cc
   stopped_covered (i ∷ is) k known asked s os r t last e c h =
       let o = first_outcome os in
       let st = step_as setting i s o in
       let f = verdict_first (advance setting policy limits i k) (verdict setting policy limits is) known asked e in
       let w : FollowsBy IsObject f.passed s st = subst (λ x. FollowsIfOk IsObject x s st) f.passes (step_follows IsObject objects_grow setting policy limits i k s o c (any_answer s.objects o)) in
-      stops_on i is f.passed s st known f.rest.listed (outcomes_after (effect_asks (effect_as setting i)) os) r t last f.rest.accepts w (λ n u g. stopped_by_stop (effect_as setting i) i n s u o g) (λ u d g. stopped_covered is f.passed.after known f.rest.listed u _ r t (after_first i is last) f.rest.accepts d g) h
+      stops_on i is f.passed s st known f.rest.listed (outcomes_after
+      (effect_asks (effect_as setting i)) os) r t last f.rest.accepts w
+      (λ n u g. stopped_by_stop (effect_as setting i) i n s u o g)
+      (λ u d g. stopped_covered is f.passed.after known f.rest.listed u _ r t
+      (after_first i is last) f.rest.accepts d g) h
 
   -- some run stops, in which each answer is one text
   record StopsSomewhere (p : List Instruction) (known : Knowledge) (v : Word) (s : State) : Type 0 where
@@ -171,7 +189,11 @@ module _ (setting : OldStrings) (policy : Policy) (limits : Bounds) where
       let m = run_on setting (effect_asks (effect_as setting i)) i [] s (new_text v.text s) [] (EndedBy (Stopped r t)) v.utf8 (All-nil CanCome) refl (ap (λ x. go_on x (run_as setting [] [])) is) in
       record { outcomes = m.0; can = m.1; result = r; state = t; stops = m.2; covered = w.2 }
 
-  some_stops : (front : List Instruction) (last : Instruction) (k known : Knowledge) (asked : List (Option Asked)) → StopsNowhere front → last.op ≡ op.Stop → verdict setting policy limits (front ++ last ∷ []) k ≡ Yes known asked → (v : Word) (s : State) → CoversBy (Answered v.text) k s → StopsSomewhere (front ++ last ∷ []) known v s
+  some_stops : (front : List Instruction) (last : Instruction) (k known : Knowledge)
+      (asked : List (Option Asked)) → StopsNowhere front → last.op ≡ op.Stop
+      → verdict setting policy limits (front ++ last ∷ []) k ≡ Yes known asked
+      → (v : Word) (s : State) → CoversBy (Answered v.text) k s
+      → StopsSomewhere (front ++ last ∷ []) known v s
   some_stops [] last k known asked on is e v s c =
       let f = verdict_first (advance setting policy limits last k) (verdict setting policy limits []) known asked e in
       let w = steps last k f.passed v s f.passes c in
@@ -221,11 +243,11 @@ module _ (setting : OldStrings) (policy : Policy) (limits : Bounds) where
         let ends = subst (EndsWell (permitted_by policy)) w.stops (sound_from setting policy limits p k known asked w.first w.outcomes accepts (begins.each w.first w.starts) (begins.permitted w.first w.starts)) in
         subst (λ x. AllListed (permitted_by policy) (imported x.events)) (sym w.is) ends.1
 
-    next_listed : (s : State) → StartsIn setting (Behind (before ++ this ∷ [])) s → Pointwise StandsFor (imports_of (before ++ this ∷ [])) (imported s.events)
+    next_listed : (s : State) → StartsIn setting (Behind (before ++ this ∷ [])) s → Pointwise StandsFor (imports_of_all (before ++ this ∷ [])) (imported s.events)
     next_listed s h =
         let w = came s h in
-        let all = subst (ImportsAreListed (imports_of before ++ imports_among asked)) w.stops (listed_from setting policy limits p k known asked (imports_of before) w.first w.outcomes last accepts (begins.each w.first w.starts) (begins.listed w.first w.starts)) in
-        subst (λ x. Pointwise StandsFor x (imported s.events)) (sym (imports_more before this)) (subst (λ x. Pointwise StandsFor (imports_of before ++ imports_among asked) (imported x.events)) (sym w.is) all)
+        let all = subst (ImportsAreListed (imports_of_all before ++ imports_among asked)) w.stops (listed_from setting policy limits p k known asked (imports_of_all before) w.first w.outcomes last accepts (begins.each w.first w.starts) (begins.listed w.first w.starts)) in
+        subst (λ x. Pointwise StandsFor x (imported s.events)) (sym (imports_more before this)) (subst (λ x. Pointwise StandsFor (imports_of_all before ++ imports_among asked) (imported x.events)) (sym w.is) all)
 
     pub begins_next : Begins setting policy (Behind (before ++ this ∷ [])) (memo_of known)
     begins_next = record {

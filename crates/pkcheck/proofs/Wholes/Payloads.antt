@@ -4,10 +4,10 @@ use Rattle.std.specs.Prelude.{IsTrue}
 use Rattle.pkops.specs.Limits.{Bounds}
 use Rattle.pkops.specs.Payloads.{is_passed}
 use Rattle.pkops.specs.Spelling.{Counted, Instruction, instruction}
-use Rattle.pkops.specs.declared.op.Op.{Op}
-use Rattle.pkops.specs.declared.op.Op.TheVariants as op
+use Rattle.pkops.specs.declared.Op.{Op}
+use Rattle.pkops.specs.declared.Op.TheVariants as op
 use Rattle.pkread.specs.Pieces.{number_of, piece_of, role_of}
-use Rattle.pkread.specs.Reading.{State}
+use Rattle.pkread.specs.Reading.{ReaderState}
 use Rattle.pkread.specs.Rows.{Sight}
 use Rattle.pkcheck.specs.Private.Judging.{HasLength}
 use Rattle.pkcheck.proofs.Wholes.Given.{Passed}
@@ -22,7 +22,7 @@ piece_passed i o n h l =
     let role : role_of i.op (number_of i.arg) ≡ role_of o 0 = rw l.op_is (no_frame o (number_of i.arg) 0 h) in
     λ j. record { length = l.long j; role = role j }
 
-module _ (start : Sight) (from : ℕ) (limits : Bounds) (p : List Instruction) (s : State) (at : ℕ) (o : Op) (count : ℕ) (t : State) (w : Passed start from limits p s at o count t) (taken : ℕ) (e : taken ≡ t.taken) where
+module _ (start : Sight) (from : ℕ) (limits : Bounds) (p : List Instruction) (s : ReaderState) (at : ℕ) (o : Op) (count : ℕ) (t : ReaderState) (w : Passed start from limits p s at o count t) (taken : ℕ) (e : taken ≡ t.taken) where
   -- its length is how many bytes were taken since the place where it begins
   pub long_passed : HasLength (instruction o (Counted w.payload)) o (taken - at)
   long_passed = record { op_is = refl; long = omega (arith, e, w.took.place, w.took.taken) }

@@ -2,9 +2,9 @@
 use Rattle.pkcheck.specs.declared.old_strings.OldStrings.TheVariants.{Unknown}
 use Rattle.std.proofs.Common.{◌≡◌, ℕ, List, [], ◌∷◌, Option, Some, None, true, refl}
 use Rattle.pkops.specs.Spelling.{Instruction}
-use Rattle.pkops.specs.declared.op.Op.TheVariants as op
+use Rattle.pkops.specs.declared.Op.TheVariants as op
 use Rattle.pkcheck.specs.declared.loading.Memo.TheVariants.{Fresh, Kept}
-use Rattle.pkcheck.specs.declared.machine.effects.Class.TheVariants as class
+use Rattle.pkcheck.specs.declared.effect.Class.TheVariants as class
 use Rattle.pkcheck.specs.Covers.{imports_of}
 use Rattle.pkcheck.specs.RowOfPickles.{begins}
 use Rattle.pkcheck.specs.RowRuns.{Afresh, Behind, Pickle, run_row}

@@ -10,14 +10,14 @@ use Rattle.pkops.specs.Payloads.{payload_limit, payload_limit_at}
 use Rattle.pkops.specs.Spelling.{Instruction, spelling}
 use Rattle.pkread.specs.Again.{RefusesAgain, NoByteIsRefused, StepsAgain, WhyNoByte}
 use Rattle.pkread.specs.Run.{ReadingGoesOn}
-use Rattle.pkread.specs.Reading.{State}
+use Rattle.pkread.specs.Reading.{ReaderState}
 use Rattle.pkread.specs.Core.{Phase, Open, Ended, Refused}
 use Rattle.pkread.specs.Rows.{Refuses, Sight, Takes, TakingLaws, all_bytes, unread}
 use Rattle.pkread.specs.Sequence.{CountsAt, IsSequence, StopIsLast, spellings}
-use Rattle.pkread.specs.declared.refusal.Refusal.{Refusal as ReadRefusal}
-use Rattle.pkread.specs.declared.refusal.Reason.{Reason}
-use Rattle.pkread.specs.declared.refusal.Reason.TheVariants.{OutOfMemory, Truncated}
-use Rattle.pkops.specs.declared.op.Op.TheVariants.{Stop}
+use Rattle.pkread.specs.declared.Refusal.{Refusal as ReadRefusal}
+use Rattle.pkread.specs.declared.Reason.{Reason}
+use Rattle.pkread.specs.declared.Reason.TheVariants.{OutOfMemory, Truncated}
+use Rattle.pkops.specs.declared.Op.TheVariants.{Stop}
 use Rattle.pkcheck.proofs.Wholes.Checked.{Checked, IsReady, accepted, checked_again, refused_turned}
 use Rattle.pkcheck.proofs.Wholes.NextPickle.{begins_next, imports_more}
 use Rattle.pkcheck.proofs.Wholes.Origins.{Begins, Origin, begins_afresh, begins_row}
@@ -32,8 +32,8 @@ use Rattle.pkcheck.specs.Knowledge.{Knowledge, Policy, Asked, nothing_known}
 use Rattle.pkcheck.specs.Listing.{imports_among}
 use Rattle.pkcheck.specs.Private.NextPickle.{listed_apart, listed_in, moved_apart, restarted}
 use Rattle.pkcheck.specs.Refused.{RefusedFrom}
-use Rattle.pkcheck.specs.RowOfPickles.{AcceptedRow, AreAccepted, HasMore, IsAccepted, RefusedInRow, begins, bytes_of}
-use Rattle.pkcheck.specs.RowRuns.{Beginning, Pickle, imports_of, listed_before, sequences_of}
+use Rattle.pkcheck.specs.RowOfPickles.{AcceptedRow, AreAccepted, HasMore, IsAcceptedBehind, RefusedInRow, begins, bytes_of_all}
+use Rattle.pkcheck.specs.RowRuns.{Beginning, Pickle, imports_of_all, listed_before, sequences_of}
 
 -- what is left to take, and whether a pickle has just ended
 abbrev pub left_to_do : ℕ → Phase → ℕ
@@ -54,7 +54,7 @@ module _ (loading : Loading) (policy : Policy) (limits : Bounds) where
   -- these pickles were accepted, and the next begins here. Of the imports these are listed apart
   pub record RowSoFar (old here : Sight) (origin : Origin) (pickles : ℕ) (apart : List Asked) (before : List Pickle) : Type 0 where
     pub each : AreAccepted loading policy limits old here [] before
-    pub from_is : origin.at ≡ length (bytes_of before)
+    pub from_is : origin.at ≡ length (bytes_of_all before)
     pub begins : origin.beginning ≡ begins loading.memo before
     pub number : pickles ≡ length before
     pub few : pickles ≤ origin.at
@@ -81,7 +81,7 @@ begins_first Fresh setting policy = begins_afresh setting policy
 begins_first Kept setting policy = begins_row setting policy
 
 -- the imports of a row, which stand apart or in the machine
-pub all_listed : (memo : Memo) (apart own : List Asked) (before : List Pickle) → apart ≡ listed_apart memo before → own ≡ listed_before (begins memo before) → listed_in memo apart own ≡ imports_of before
+pub all_listed : (memo : Memo) (apart own : List Asked) (before : List Pickle) → apart ≡ listed_apart memo before → own ≡ listed_before (begins memo before) → listed_in memo apart own ≡ imports_of_all before
 all_listed Fresh apart own before e h = e
 all_listed Kept apart own before e h = h
 
@@ -105,21 +105,21 @@ module _ (taking : TakingLaws) (loading : Loading) (policy : Policy) (limits : B
   }
 
   -- the source may have been asked once more, in vain
-  accepted_on : (old mid new : Sight) (before : List Pickle) (x : Pickle) → IsAccepted loading policy limits old mid before x → Takes mid new [] → IsAccepted loading policy limits old new before x
+  accepted_on : (old mid new : Sight) (before : List Pickle) (x : Pickle) → IsAcceptedBehind loading policy limits old mid before x → Takes mid new [] → IsAcceptedBehind loading policy limits old new before x
   accepted_on old mid new before x (a, same) takes = (moved (begins loading.memo before) old mid old new _ x.imports a (takes_no_more taking old mid new _ a.bytes takes), same)
 
   -- one pickle more
-  accepted_more : (old mid new : Sight) (before xs : List Pickle) (x : Pickle) → AreAccepted loading policy limits old mid before xs → IsAccepted loading policy limits mid new (before ++ xs) x → AreAccepted loading policy limits old new before (xs ++ x ∷ [])
+  accepted_more : (old mid new : Sight) (before xs : List Pickle) (x : Pickle) → AreAccepted loading policy limits old mid before xs → IsAcceptedBehind loading policy limits mid new (before ++ xs) x → AreAccepted loading policy limits old new before (xs ++ x ∷ [])
   accepted_more old mid new before [] x takes h =
-      let (a, same) = subst (λ l. IsAccepted loading policy limits mid new l x) (append-nil before) h in
+      let (a, same) = subst (λ l. IsAcceptedBehind loading policy limits mid new l x) (append-nil before) h in
       (new, (moved (begins loading.memo before) mid new old new _ x.imports a (taking.more old mid new [] _ takes a.bytes), same), taking.none new)
   accepted_more old mid new before (y ∷ xs) x (between, first, rest) h =
-      (between, first, accepted_more between mid new (before ++ y ∷ []) xs x rest (subst (λ l. IsAccepted loading policy limits mid new l x) (sym (append_assoc before (y ∷ []) xs)) h))
+      (between, first, accepted_more between mid new (before ++ y ∷ []) xs x rest (subst (λ l. IsAcceptedBehind loading policy limits mid new l x) (sym (append_assoc before (y ∷ []) xs)) h))
 
   -- the bytes of all were taken
-  pub accepted_bytes : (old new : Sight) (before xs : List Pickle) → AreAccepted loading policy limits old new before xs → Takes old new (bytes_of xs)
+  pub accepted_bytes : (old new : Sight) (before xs : List Pickle) → AreAccepted loading policy limits old new before xs → Takes old new (bytes_of_all xs)
   accepted_bytes old new before [] takes = takes
-  accepted_bytes old new before (x ∷ xs) (between, (a, same), rest) = taking.more old between new (spellings x.instructions) (bytes_of xs) (subst (λ p. Takes old between (spellings p)) same a.bytes) (accepted_bytes between new (before ++ x ∷ []) xs rest)
+  accepted_bytes old new before (x ∷ xs) (between, (a, same), rest) = taking.more old between new (spellings x.instructions) (bytes_of_all xs) (subst (λ p. Takes old between (spellings p)) same a.bytes) (accepted_bytes between new (before ++ x ∷ []) xs rest)
 
   -- each is a sequence
   pub accepted_sequences : (old new : Sight) (before xs : List Pickle) → AreAccepted loading policy limits old new before xs → All (IsSequence (payload_limit limits)) (sequences_of xs)
@@ -131,24 +131,38 @@ module _ (taking : TakingLaws) (loading : Loading) (policy : Policy) (limits : B
   row_begins old apart none = record { each = taking.none old; from_is = refl; begins = refl; number = refl; few = omega arith; listed = none ∙ none_apart loading.memo }
 
   -- what is listed apart behind one pickle more
-  apart_more : (memo : Memo) (apart own : List Asked) (before : List Pickle) (p : List Instruction) (asked : List (Option Asked)) → apart ≡ listed_apart memo before → own ≡ listed_before (begins memo before) ++ imports_among asked → moved_apart memo apart own ≡ listed_apart memo (before ++ record { instructions = p; imports = imports_among asked } ∷ [])
+  apart_more : (memo : Memo) (apart own : List Asked) (before : List Pickle) (p : List Instruction)
+      (asked : List (Option Asked)) → apart ≡ listed_apart memo before
+      → own ≡ listed_before (begins memo before) ++ imports_among asked
+      → moved_apart memo apart own ≡ listed_apart memo (before ++ record
+      { instructions = p; imports = imports_among asked } ∷ [])
   apart_more Fresh apart own before p asked e h = rw (e, h) (sym (imports_more before (record { instructions = p; imports = imports_among asked })))
   apart_more Kept apart own before p asked e h = e
 
   module _ (old here : Sight) (origin : Origin) (pickles : ℕ) (apart : List Asked) (before : List Pickle) (h : RowSoFar loading policy limits old here origin pickles apart before) where
-    bytes_more : (x : Pickle) → length (bytes_of (before ++ x ∷ [])) ≡ length (bytes_of before) + length (spellings x.instructions)
+    bytes_more : (x : Pickle) → length (bytes_of_all (before ++ x ∷ [])) ≡ length (bytes_of_all before) + length (spellings x.instructions)
     bytes_more x =
-        let e : bytes_of (before ++ x ∷ []) ≡ bytes_of before ++ (spellings x.instructions ++ []) = ap (λ (l : List (List Instruction)). flat_map spellings l) (map-append (λ (y : Pickle). y.instructions) before (x ∷ [])) ∙ flat_map-append spellings (sequences_of before) (x.instructions ∷ []) in
-        omega (arith, ap length e, length-append (bytes_of before) (spellings x.instructions ++ []), length-append (spellings x.instructions) [])
+        let e : bytes_of_all (before ++ x ∷ []) ≡ bytes_of_all before ++
+        (spellings x.instructions ++ []) = ap (λ (l : List (List Instruction)). flat_map
+        spellings l) (map-append (λ (y : Pickle). y.instructions) before (x ∷ [])) ∙
+        flat_map-append spellings (sequences_of before) (x.instructions ∷ []) in
+        omega (arith, ap length e, length-append (bytes_of_all before) (spellings x.instructions ++ []), length-append (spellings x.instructions) [])
 
-    module _ (p : List Instruction) (asked : List (Option Asked)) (s : State) (still_open : ℕ) (m : View) (checked : Checked loading.old_strings policy limits here origin p asked s still_open m) (sequence : IsSequence (payload_limit limits) p) where
-      is_accepted : IsAccepted loading policy limits here s.source before (this p asked)
+    module _ (p : List Instruction) (asked : List (Option Asked)) (s : ReaderState) (still_open : ℕ) (m : View) (checked : Checked loading.old_strings policy limits here origin p asked s still_open m) (sequence : IsSequence (payload_limit limits) p) where
+      is_accepted : IsAcceptedBehind loading policy limits here s.source before (this p asked)
       is_accepted =
           let a = accepted loading.old_strings policy limits here origin p asked s still_open m checked s.source (length (spellings p)) (imports_among asked) sequence refl checked.reads.count refl in
           subst (λ b. (a : AcceptedFrom loading.old_strings b policy limits here s.source (length (spellings p)) (imports_among asked)) × (a.instructions ≡ p)) h.begins a
 
       -- the pickle that was read and judged here was accepted, and the next begins
-      pub pickle_more : (new : Sight) → Takes s.source new [] → (known : Knowledge) (all : List Asked) → all ≡ moved_apart loading.memo apart m.imports → RowSoFar loading policy limits old new (record { at = s.taken; beginning = begins loading.memo (before ++ this p asked ∷ []); known = known }) (pickles + 1) all (before ++ this p asked ∷ [])
+      pub pickle_more : (new : Sight) → Takes s.source new []
+          → (known : Knowledge) (all : List Asked) → all ≡ moved_apart loading.memo apart m.imports
+          → RowSoFar loading policy limits old new
+          (record {
+            at = s.taken;
+            beginning = begins loading.memo (before ++ this p asked ∷ []);
+            known = known;
+          }) (pickles + 1) all (before ++ this p asked ∷ [])
       pickle_more new takes known all listed =
           let x = this p asked in
           let a = accepted_on here s.source new before x is_accepted takes in
@@ -183,7 +197,7 @@ module _ (taking : TakingLaws) (loading : Loading) (policy : Policy) (limits : B
     not_none some e = omega (arith, some, h.number, ap length e, length-map before (λ (y : Pickle). y.instructions))
 
     -- the source is at its end
-    pub row_accepted : (taken : ℕ) (imports : List Asked) → 0 < pickles → IsAtEnd here.left → taken ≡ origin.at → taken < all_bytes → imports ≡ imports_of before → AcceptedRow loading policy limits old here taken pickles imports
+    pub row_accepted : (taken : ℕ) (imports : List Asked) → 0 < pickles → IsAtEnd here.left → taken ≡ origin.at → taken < all_bytes → imports ≡ imports_of_all before → AcceptedRow loading policy limits old here taken pickles imports
     row_accepted taken imports some ends is within listed = record {
       row = before;
       ends = ends;
@@ -203,7 +217,7 @@ module _ (taking : TakingLaws) (loading : Loading) (policy : Policy) (limits : B
       number = h.number;
       here = here;
       each = h.each;
-      refused = subst (λ b. RefusedFrom (length (bytes_of before)) loading.old_strings b policy limits here new at why pair) h.begins (subst (λ n. RefusedFrom n loading.old_strings origin.beginning policy limits here new at why pair) h.from_is r);
+      refused = subst (λ b. RefusedFrom (length (bytes_of_all before)) loading.old_strings b policy limits here new at why pair) h.begins (subst (λ n. RefusedFrom n loading.old_strings origin.beginning policy limits here new at why pair) h.from_is r);
       more = more;
     }
 
@@ -211,17 +225,17 @@ module _ (taking : TakingLaws) (loading : Loading) (policy : Policy) (limits : B
     pub none_failed : here.failures ≡ old.failures
     none_failed = (accepted_bytes old here [] before h.each).count
 
-  module _ (laws : FrameLaws) (begins : ReadingGoesOn) (s : State) (same : s.limits ≡ limits) (b : Beginning) (m : View) (ready : IsReady loading.old_strings policy limits b m) where
+  module _ (laws : FrameLaws) (begins : ReadingGoesOn) (s : ReaderState) (same : s.limits ≡ limits) (b : Beginning) (m : View) (ready : IsReady loading.old_strings policy limits b m) where
     -- no byte was taken of the pickle that would begin
     turned : (x : ReadRefusal) (new : Sight) → x.at ≡ s.taken → Refuses (payload_limit_at limits []) s.source new [] s.taken s.taken x.reason → RefusedFrom s.taken loading.old_strings b policy limits s.source new x.at x.reason None
     turned x new place why =
-        let open' : State = record s { phase = Open } in
+        let open' : ReaderState = record s { phase = Open } in
         let origin : Origin = record { at = s.taken; beginning = b; known = m.knowledge } in
         let here = checked_again loading.old_strings policy limits s.source laws begins open' refl same b m ready in
         (refused_turned loading.old_strings policy limits s.source origin [] [] open' 0 m here (record s { source = new }) x new (record { no_stop = All-nil (λ i. i.op ≢ Stop); place = place; bytes = []; why = why }) refl).0
 
     -- the reader refused behind STOP
-    pub refused_again : NoByteIsRefused → (t : State) (x : ReadRefusal) → RefusesAgain s x t → RefusedFrom s.taken loading.old_strings b policy limits s.source t.source x.at x.reason None
+    pub refused_again : NoByteIsRefused → (t : ReaderState) (x : ReadRefusal) → RefusesAgain s x t → RefusedFrom s.taken loading.old_strings b policy limits s.source t.source x.at x.reason None
     refused_again law t x h = turned x t.source h.place (law (payload_limit_at limits []) s t x h).0
 
     -- there was no memory for the imports
@@ -251,21 +265,24 @@ left_least taken (Refused r) = omega arith
 pub less_to_do : (s t : ℕ) (p q : Phase) (i : Instruction) → t ≡ s + length (spelling i) → t ≤ all_bytes → left_to_do t q < left_to_do s p
 less_to_do s t p q i taken within = omega (arith, left_most t q, left_least s p, taken, within)
 
-pub count_on : (loading : Loading) (policy : Policy) (limits : Bounds) (old new : Sight) (n a : ℕ) (x : Reason) (u : Option Asked) → RefusedInRow loading policy limits old new n a x u → (y : Reason) (b : ℕ) (here : Sight) → x ≡ y → b ≡ old.failures → new ≡ here → CountsAt y b here.failures → CountsAt x old.failures new.failures
+pub count_on : (loading : Loading) (policy : Policy) (limits : Bounds) (old new : Sight) (n a : ℕ)
+    (x : Reason) (u : Option Asked) → RefusedInRow loading policy limits old new n a x u
+    → (y : Reason) (b : ℕ) (here : Sight) → x ≡ y → b ≡ old.failures → new ≡ here
+    → CountsAt y b here.failures → CountsAt x old.failures new.failures
 count_on loading policy limits old new n a x u r y b here e f g h = rw (e, ← f, g) h
 
 -- what `again` answered
-pub again_true : (s t : State) (r : Result Bool ReadRefusal) → StepsAgain s r t → r ≡ Ok true → Takes s.source t.source [] × (t.phase ≡ Open) × (t.taken ≡ s.taken) × (t.limits ≡ s.limits)
+pub again_true : (s t : ReaderState) (r : Result Bool ReadRefusal) → StepsAgain s r t → r ≡ Ok true → Takes s.source t.source [] × (t.phase ≡ Open) × (t.taken ≡ s.taken) × (t.limits ≡ s.limits)
 again_true s t (Ok true) (room, takes, is) e = (takes, ap (λ x. x.phase) is, ap (λ x. x.taken) is, ap (λ x. x.limits) is)
 again_true s t (Ok false) h e = absurd cc
 again_true s t (Err x) h e = absurd cc
 
-pub again_false : (s t : State) (r : Result Bool ReadRefusal) → StepsAgain s r t → r ≡ Ok false → Takes s.source t.source [] × IsAtEnd t.source.left × (s.taken < all_bytes)
+pub again_false : (s t : ReaderState) (r : Result Bool ReadRefusal) → StepsAgain s r t → r ≡ Ok false → Takes s.source t.source [] × IsAtEnd t.source.left × (s.taken < all_bytes)
 again_false s t (Ok false) (room, takes, is) e = (takes, is.0, room)
 again_false s t (Ok true) h e = absurd cc
 again_false s t (Err x) h e = absurd cc
 
-pub again_refused : (s t : State) (r : Result Bool ReadRefusal) (x : ReadRefusal) → StepsAgain s r t → r ≡ Err x → RefusesAgain s x t
+pub again_refused : (s t : ReaderState) (r : Result Bool ReadRefusal) (x : ReadRefusal) → StepsAgain s r t → r ≡ Err x → RefusesAgain s x t
 again_refused s t r x h e = let k = rw e at h in k
 
 known_ahead : (b : ℕ) (left : Option (List ℕ)) → prepend_known (b ∷ []) left ≢ Some []
@@ -280,5 +297,5 @@ some_ahead b ahead now is = rw is (known_ahead b now.left)
 pub growing_is_not_cut : OutOfMemory ≡ Truncated → ⊥
 growing_is_not_cut e = cc
 
-pub again_is_not_cut : (s t : State) (x : ReadRefusal) → RefusesAgain s x t → x.reason ≡ Truncated → ⊥
+pub again_is_not_cut : (s t : ReaderState) (x : ReadRefusal) → RefusesAgain s x t → x.reason ≡ Truncated → ⊥
 again_is_not_cut s t x h e = subst (WhyNoByte s.source t.source s.taken) e h.why

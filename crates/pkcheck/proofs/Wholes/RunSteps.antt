@@ -5,8 +5,8 @@ use Rattle.std.specs.Prelude.{All}
 use Rattle.std.proofs.lemmas.List.Elements.{All-cons}
 use Rattle.pkops.specs.Spelling.{Instruction}
 use Rattle.pkops.specs.Limits.{Bounds}
-use Rattle.pkcheck.specs.declared.machine.effects.Names.{Names}
-use Rattle.pkcheck.specs.declared.machine.effects.Gives.{Gives}
+use Rattle.pkcheck.specs.declared.effect.Names.{Names}
+use Rattle.pkcheck.specs.declared.effect.Gives.{Gives}
 use Rattle.pkcheck.specs.Effects.{Effect, Operates, Moves, Stops, Raises, effect_as}
 use Rattle.pkcheck.specs.Shape.{Breach, Taken, and_then, operands}
 use Rattle.pkcheck.specs.Runs.{Object, State, Outcome, CanCome, Stepped, WentOn, Raised, Stopped, Stuck, Named, NoImport, Pair, NotTexts, asks, come_of, operated, operate_step, perform, step_as, effect_asks}
@@ -41,15 +41,29 @@ kept [] = refl
 kept (o ∷ os) = refl
 
 -- a run that begins with this outcome, where it asks
-pub run_on : (setting : OldStrings) (b : Bool) (i : Instruction) (is : List Instruction) (s : State) (o : Outcome) (os : List Outcome) (x : Ended) → CanCome o → All CanCome os → effect_asks (effect_as setting i) ≡ b → go_on (step_as setting i s o) (run_as setting is os) ≡ x → (qs : List Outcome) × All CanCome qs × (run_as setting (i ∷ is) qs s ≡ x)
+pub run_on : (setting : OldStrings) (b : Bool) (i : Instruction) (is : List Instruction) (s : State)
+    (o : Outcome) (os : List Outcome) (x : Ended) → CanCome o → All CanCome os
+    → effect_asks (effect_as setting i) ≡ b → go_on (step_as setting i s o) (run_as setting is os) ≡
+    x → (qs : List Outcome) × All CanCome qs × (run_as setting (i ∷ is) qs s ≡ x)
 run_on setting true i is s o os x can all b e = (o ∷ os, All-cons CanCome o os can all, subst (λ c. go_on (step_as setting i s o) (run_as setting is (outcomes_after c (o ∷ os))) ≡ x) (sym b) e)
-run_on setting false i is s o os x can all b e =
-    (os, all, subst (λ c. go_on (step_as setting i s (first_outcome os)) (run_as setting is (outcomes_after c os)) ≡ x) (sym b) (ap (λ st. go_on st (run_as setting is (outcomes_after false os))) (perform_unused (effect_as setting i) i s (first_outcome os) o b) ∙ ap (λ qs. go_on (step_as setting i s o) (run_as setting is qs)) (kept os) ∙ e))
+run_on setting false i is s o os x can all b e = (
+  os,
+  all,
+  subst (λ c. go_on (step_as setting i s (first_outcome os))
+      (run_as setting is (outcomes_after c os)) ≡ x) (sym b)
+      (ap (λ st. go_on st (run_as setting is (outcomes_after false os)))
+      (perform_unused (effect_as setting i) i s (first_outcome os) o b) ∙ ap
+      (λ qs. go_on (step_as setting i s o) (run_as setting is qs)) (kept os) ∙ e),
+)
 
 pub same_reached : (s t : State) → Reached s ≡ Reached t → s ≡ t
 same_reached s t e = cc
 
-pub each_on : (setting : OldStrings) (q : Progress) (s : State) (st : Stepped) (is : List Instruction) (os : List Outcome) (t : State) (known : Knowledge) → FollowsBy IsObject q s st → ((u : State) → CoversBy IsObject q.after u → run_as setting is os u ≡ Reached t → CoversBy IsObject known t) → go_on st (run_as setting is os) ≡ Reached t → CoversBy IsObject known t
+pub each_on : (setting : OldStrings) (q : Progress) (s : State) (st : Stepped)
+    (is : List Instruction) (os : List Outcome) (t : State) (known : Knowledge)
+    → FollowsBy IsObject q s st → ((u : State) → CoversBy IsObject q.after u
+    → run_as setting is os u ≡ Reached t → CoversBy IsObject known t)
+    → go_on st (run_as setting is os) ≡ Reached t → CoversBy IsObject known t
 each_on setting q s (WentOn u) is os t known h on e = on u h.0 e
 each_on setting q s (Raised u) is os t known h on e = cc
 each_on setting q s (Stopped r u) is os t known h on e = cc

@@ -2,7 +2,7 @@
 use Rattle.pkcheck.specs.declared.old_strings.OldStrings.{OldStrings}
 use Rattle.std.proofs.Common.{◌≡◌, ◌≢◌, List, [], ◌∷◌, ◌++◌, length, Result, Ok, Err, refl, sym, ap, subst, ◌∙◌}
 use Rattle.std.specs.Prelude.{Option}
-use Rattle.pkops.specs.declared.op.Op.TheVariants as op
+use Rattle.pkops.specs.declared.Op.TheVariants as op
 use Rattle.pkcheck.specs.Effects.{effect_as, number_stored}
 use Rattle.std.proofs.lemmas.List.Elements.{All-nil}
 use Rattle.pkops.specs.Spelling.{Instruction}
@@ -90,7 +90,10 @@ module _ (setting : OldStrings) (p : Policy) (l : Bounds) where
     pub each : (s t : State) (os : List Outcome) → CoversBy IsObject k s → run_as setting is os s ≡ Reached t → CoversBy IsObject known t
     pub some : (v : Word) (s : State) → CoversBy (Answered v.text) k s → (t : State) × CanGetTo setting is s t × CoversBy (Answered v.text) known t
 
-  some_on : (i : Instruction) (is : List Instruction) (k known : Knowledge) (q : Progress) (h : Along is q.after known) → advance setting p l i k ≡ Ok q → i.op ≢ op.Stop → (v : Word) (s : State) → CoversBy (Answered v.text) k s → (t : State) × CanGetTo setting (i ∷ is) s t × CoversBy (Answered v.text) known t
+  some_on : (i : Instruction) (is : List Instruction) (k known : Knowledge) (q : Progress)
+      (h : Along is q.after known) → advance setting p l i k ≡ Ok q → i.op ≢ op.Stop
+      → (v : Word) (s : State) → CoversBy (Answered v.text) k s
+      → (t : State) × CanGetTo setting (i ∷ is) s t × CoversBy (Answered v.text) known t
   some_on i is k known q h e on word s c =
       let v = word.text in
       let o = new_text v s in

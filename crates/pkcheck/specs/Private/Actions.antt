@@ -2,17 +2,17 @@
 use Rattle.std.specs.Prelude.{◌<◌, Bool, true, false, ⊤}
 use Rattle.pkcheck.specs.declared.machine.effects.Action.{Action}
 use Rattle.pkcheck.specs.declared.machine.effects.Action.TheVariants as action
-use Rattle.pkcheck.specs.declared.machine.effects.Gives.TheVariants as gives
-use Rattle.pkcheck.specs.declared.machine.effects.Names.TheVariants.{NoName}
+use Rattle.pkcheck.specs.declared.effect.Gives.TheVariants as gives
+use Rattle.pkcheck.specs.declared.effect.Names.TheVariants.{NoName}
 use Rattle.pkcheck.specs.declared.machine.effects.Operation.{Operation}
-use Rattle.pkcheck.specs.declared.machine.effects.Takes.TheVariants.{Objects}
-use Rattle.pkcheck.specs.declared.machine.effects.Takes.{Takes}
-use Rattle.pkcheck.specs.declared.machine.effects.Gives.{Gives}
+use Rattle.pkcheck.specs.declared.effect.Takes.TheVariants.{Objects}
+use Rattle.pkcheck.specs.declared.effect.Takes.{Takes}
+use Rattle.pkcheck.specs.declared.effect.Gives.{Gives}
 use Rattle.pkcheck.specs.Effects.{Effect, Operates, Moves, Stops, answers, effect_of, pushes}
-use Rattle.pkcheck.specs.Private.Denials.{IsPlain, WellGiven}
-use Rattle.pkcheck.specs.Private.Spelled.{SpellsBytes}
-use Rattle.pkops.specs.declared.layout.Layout.{Layout}
-use Rattle.pkops.specs.declared.op.Op.{Op}
+use Rattle.pkcheck.specs.Private.Denials.{IgnoresArgument, WellGiven}
+use Rattle.pkcheck.specs.Private.Spelled.{IsTextLayout}
+use Rattle.pkops.specs.declared.Layout.{Layout}
+use Rattle.pkops.specs.declared.Op.{Op}
 
 -- the effect of an operation
 abbrev pub effect_in : Operation → Effect
@@ -46,12 +46,12 @@ IsNoPush takes g = ⊤
 -- an operation, which does more than to push: of what the instruction itself says it looks at its
 -- names alone, and one that leaves its receiver takes one
 abbrev pub IsOperation : Effect → Type 0
-IsOperation (Operates takes names g) = IsNoPush takes g × IsPlain g × WellGiven g takes
+IsOperation (Operates takes names g) = IsNoPush takes g × IgnoresArgument g × WellGiven g takes
 IsOperation _ = ⊥
 
 -- one that names nothing
 abbrev pub IsUnnamed : Effect → Type 0
-IsUnnamed (Operates takes NoName g) = IsNoPush takes g × IsPlain g × WellGiven g takes
+IsUnnamed (Operates takes NoName g) = IsNoPush takes g × IgnoresArgument g × WellGiven g takes
 IsUnnamed _ = ⊥
 
 -- what is said to be an operation is one
@@ -62,6 +62,6 @@ IsWell o _ = ⊤
 
 -- what is read as a text has a payload or a line
 abbrev pub MaySpell : Action → Layout → Type 0
-MaySpell action.MakesText l = SpellsBytes l
-MaySpell action.ReadsOldString l = SpellsBytes l
+MaySpell action.MakesText l = IsTextLayout l
+MaySpell action.ReadsOldString l = IsTextLayout l
 MaySpell _ l = ⊤

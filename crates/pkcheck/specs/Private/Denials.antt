@@ -1,24 +1,27 @@
 -- What the parts of a step answer, by what the checker knows.
-use Rattle.std.specs.Prelude.{ℕ, ◌≡◌, ◌<◌, ◌≤◌, ◌⊎◌, Bool, List, ◌∷◌, length, Option, Some, None, Result, Ok, Err, option_map, if◌then◌else◌, is_some, ⊤}
-use Rattle.pkcheck.specs.declared.machine.effects.Takes.{Takes}
-use Rattle.pkcheck.specs.declared.machine.effects.Takes.TheVariants.{Objects, Slice, SliceAndReceiver}
-use Rattle.pkcheck.specs.declared.machine.effects.Gives.{Gives}
-use Rattle.pkcheck.specs.declared.machine.effects.Gives.TheVariants.{MakesIntOrBool, MakesText, Leaves}
-use Rattle.pkcheck.specs.declared.machine.effects.Names.{Names}
-use Rattle.pkcheck.specs.declared.machine.effects.Names.TheVariants.{NoName}
-use Rattle.pkcheck.specs.declared.machine.effects.Move.{Move}
-use Rattle.pkcheck.specs.declared.machine.effects.Move.TheVariants as move
+use Rattle.std.specs.Prelude.{ℕ, ◌≡◌, ◌<◌, ◌≤◌, ◌⊎◌, Bool, List, ◌∷◌, length, Option, Some, None}
+use Rattle.std.specs.Prelude.{Result, Ok, Err, option_map, if◌then◌else◌, is_some, ⊤}
+use Rattle.pkcheck.specs.declared.effect.Takes.{Takes}
+use Rattle.pkcheck.specs.declared.effect.Takes.TheVariants.{Objects, Slice, SliceAndReceiver}
+use Rattle.pkcheck.specs.declared.effect.Gives.{Gives}
+use Rattle.pkcheck.specs.declared.effect.Gives.TheVariants.{MakesIntOrBool, MakesText, Leaves}
+use Rattle.pkcheck.specs.declared.effect.Names.{Names}
+use Rattle.pkcheck.specs.declared.effect.Names.TheVariants.{NoName}
+use Rattle.pkcheck.specs.declared.effect.Move.{Move}
+use Rattle.pkcheck.specs.declared.effect.Move.TheVariants as move
 use Rattle.pkcheck.specs.Effects.{Effect, Operates, Moves, Stops, Raises, number_moved}
 use Rattle.pkcheck.specs.declared.machine.operate.Denial.{Denial}
 use Rattle.pkcheck.specs.declared.machine.stepping.Moved.{Moved}
-use Rattle.pkread.specs.declared.refusal.Reason.{Reason}
-use Rattle.pkread.specs.declared.refusal.Reason.TheVariants as reason
+use Rattle.pkread.specs.declared.Reason.{Reason}
+use Rattle.pkread.specs.declared.Reason.TheVariants as reason
 use Rattle.pkops.specs.Spelling.{Instruction}
 use Rattle.pkops.specs.Limits.{Bounds}
 use Rattle.pkcheck.specs.Shape.{Breach, Item, Shape}
 use Rattle.pkcheck.specs.Runs.{Plain}
-use Rattle.pkcheck.specs.declared.machine.effects.Class.{Class}
-use Rattle.pkcheck.specs.Knowledge.{Policy, Asked, AskedPair, AskedUnknown, Known, Knowledge, Progress, Refusal, Lacks, WrongClass, reason_of, permitted, unknown_pair, wrong_receiver, asked_of}
+use Rattle.pkcheck.specs.declared.effect.Class.{Class}
+use Rattle.pkcheck.specs.Knowledge.{Policy, Asked, AskedPair, AskedUnknown, Known, Knowledge}
+use Rattle.pkcheck.specs.Knowledge.{Progress, Refusal, Lacks, WrongClass, reason_of, permitted}
+use Rattle.pkcheck.specs.Knowledge.{unknown_pair, wrong_receiver, asked_of}
 use Rattle.pkcheck.specs.Import.{asked_shown, asks_more}
 use Rattle.pkcheck.specs.View.{off_pair, moved_as}
 
@@ -44,22 +47,22 @@ WantsMemo limit cells r =
     ((r ≡ reason.TooLarge) × (limit < length cells)) ⊎ (r ≡ reason.OutOfMemory)
 
 -- it leaves more than the limits, or this number is above its limit
-abbrev pub IsPast : {A : Type 0} → Bounds → ℕ → Result (Shape A) Breach → Type 0
-IsPast {A} l n x =
+abbrev pub LeavesTooMuch : {A : Type 0} → Bounds → ℕ → Result (Shape A) Breach → Type 0
+LeavesTooMuch {A} l n x =
     (k : Shape A) × (x ≡ Ok k)
     × ((l.stack < length k.entries) ⊎ ((l.memo < length k.memo) ⊎ (l.numbers < n)))
 
 -- the reason of a breach, or of want of room
 abbrev pub IsFault : {A : Type 0} → Bounds → ℕ → Result (Shape A) Breach → Reason → Type 0
 IsFault l n x r =
-    IsLack x r ⊎ (((r ≡ reason.TooLarge) × IsPast l n x) ⊎ (r ≡ reason.OutOfMemory))
+    IsLack x r ⊎ (((r ≡ reason.TooLarge) × LeavesTooMuch l n x) ⊎ (r ≡ reason.OutOfMemory))
 
 -- the same of a move with this number, where only some moves may want memory
 abbrev pub IsFaultOf : {A : Type 0} → Move → Bounds → ℕ → Result (Shape A) Breach → Reason
     → Type 0
 IsFaultOf m l n x r =
     IsLack x r
-    ⊎ (((r ≡ reason.TooLarge) × IsPast l (number_moved m n) x)
+    ⊎ (((r ≡ reason.TooLarge) × LeavesTooMuch l (number_moved m n) x)
     ⊎ (MoveMayWantMemory m × (r ≡ reason.OutOfMemory)))
 
 -- what the policy makes of it
@@ -91,15 +94,15 @@ abbrev pub IsDenied : {A : Type 0} → Result A Refusal → Denial → Type 0
 IsDenied x d = IsRefusedFor x d.reason (pair_denied d)
 
 -- it is refused for want of memory, with no pair
-abbrev pub LacksMemory : Reason → Option Asked → Type 0
-LacksMemory r pair = (r ≡ reason.OutOfMemory) × (pair ≡ None)
+abbrev pub IsWantOfMemory : Reason → Option Asked → Type 0
+IsWantOfMemory r pair = (r ≡ reason.OutOfMemory) × (pair ≡ None)
 
 abbrev pub IsForMemory : Denial → Type 0
-IsForMemory d = LacksMemory d.reason (pair_denied d)
+IsForMemory d = IsWantOfMemory d.reason (pair_denied d)
 
 -- it passes: this is known after it, and these imports are listed
-abbrev pub Passes : Result Progress Refusal → Knowledge → List Asked → List Asked → Bool → Type 0
-Passes x after before now b =
+abbrev pub Proceeds : Result Progress Refusal → Knowledge → List Asked → List Asked → Bool → Type 0
+Proceeds x after before now b =
     (a : Option Asked)
     × (x ≡ Ok (record { after = after; import = a }))
     × (now ≡ asks_more a before)
@@ -126,10 +129,10 @@ WellGiven (Leaves w) takes = HasFirst takes
 WellGiven gives takes = ⊤
 
 -- what is given is the same whatever the argument of the instruction
-abbrev pub IsPlain : Gives → Type 0
-IsPlain MakesText = ⊥
-IsPlain MakesIntOrBool = ⊥
-IsPlain gives = ⊤
+abbrev pub IgnoresArgument : Gives → Type 0
+IgnoresArgument MakesText = ⊥
+IgnoresArgument MakesIntOrBool = ⊥
+IgnoresArgument gives = ⊤
 
 -- it goes on: this is known after it, and these imports are listed
 abbrev pub GoesTo : Effect → Result Progress Refusal → Knowledge → List Asked → List Asked
@@ -152,8 +155,8 @@ MayWantMemory Stops = ⊥
 MayWantMemory Raises = ⊤
 
 -- no more entries of the stack and of the memo than the limits
-abbrev pub IsWithin : Bounds → Knowledge → Type 0
-IsWithin limits known = (length known.entries ≤ limits.stack) × (length known.memo ≤ limits.memo)
+abbrev pub FitsLimits : Bounds → Knowledge → Type 0
+FitsLimits limits known = (length known.entries ≤ limits.stack) × (length known.memo ≤ limits.memo)
 
 -- with an object on top of which this is known
 abbrev pub with_item : Known → Knowledge → Knowledge

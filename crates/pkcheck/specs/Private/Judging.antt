@@ -1,15 +1,28 @@
 -- What becomes of one instruction that was read.
-use Rattle.std.specs.Prelude.{◌≡◌, ℕ, ◌⊎◌, None, Some, length}
+use Rattle.std.specs.Prelude.{◌≡◌, ℕ, ◌⊎◌, Option, None, Some, length, option_map}
 use Rattle.pkops.specs.Spelling.{Instruction, spelling}
-use Rattle.pkops.specs.declared.op.Op.{Op}
+use Rattle.pkops.specs.declared.Op.{Op}
 use Rattle.pkread.specs.Framing.{counted}
 use Rattle.pkread.specs.Pieces.{piece_of}
-use Rattle.pkread.specs.declared.refusal.Reason.{Reason}
-use Rattle.pkread.specs.declared.refusal.Reason.TheVariants.{BrokenFrame}
-use Rattle.pkcheck.specs.Knowledge.{Policy}
-use Rattle.pkcheck.specs.Stepping.{Fails, GoesOn}
+use Rattle.pkread.specs.declared.Reason.{Reason}
+use Rattle.pkread.specs.declared.Reason.TheVariants.{BrokenFrame}
+use Rattle.pkcheck.specs.Import.{asked_shown}
+use Rattle.pkcheck.specs.Knowledge.{Asked, Policy}
+use Rattle.pkcheck.specs.Stepping.{FailsStep, GoesOn}
 use Rattle.pkcheck.specs.View.{View}
+use Rattle.pkcheck.specs.declared.checking.No.{No}
 use Rattle.pkcheck.specs.declared.machine.stepping.Moved.{Moved}
+
+-- the frames and the machine of a check: how many bytes of a frame are still open, and the machine
+pub record SessionView : Type 0 where
+  pub frame : ℕ
+  pub machine : View
+
+-- the no at this place, for this reason, with this pair off the list
+pub record IsNoAt (at : ℕ) (reason : Reason) (off : Option Asked) (no : No) : Type 0 where
+  pub place : no.at ≡ at
+  pub why : no.reason ≡ reason
+  pub pair : option_map asked_shown no.pair ≡ off
 
 -- it is of this opcode, and spelled by so many bytes
 pub record HasLength (i : Instruction) (op : Op) (count : ℕ) : Type 0 where
@@ -17,8 +30,8 @@ pub record HasLength (i : Instruction) (op : Op) (count : ℕ) : Type 0 where
   pub long : length (spelling i) ≡ count
 
 -- the instruction lies within its frame, and the machine goes on
-abbrev pub IsPassed : Policy → Instruction → ℕ → View → ℕ → View → Type 0
-IsPassed policy i was_open before is_open after =
+abbrev pub BothGoOn : Policy → Instruction → ℕ → View → ℕ → View → Type 0
+BothGoOn policy i was_open before is_open after =
     (counted was_open (piece_of i) ≡ Some is_open)
     × ((moved : Moved) × GoesOn policy i before after moved)
 
@@ -31,7 +44,7 @@ BreaksFrame i was_open before after reason =
 abbrev pub IsRefusedByMachine : Policy → Instruction → ℕ → View → View → Reason → Type 0
 IsRefusedByMachine policy i was_open before after reason =
     ((is_open : ℕ) × (counted was_open (piece_of i) ≡ Some is_open))
-    × Fails policy i before after reason
+    × FailsStep policy i before after reason
 
 -- the one or the other
 abbrev pub IsRefused : Policy → Instruction → ℕ → View → View → Reason → Type 0

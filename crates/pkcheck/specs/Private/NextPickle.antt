@@ -3,7 +3,7 @@ use Rattle.std.specs.Prelude.{false, List, [], ◌++◌}
 use Rattle.pkcheck.specs.declared.loading.Memo.{Memo}
 use Rattle.pkcheck.specs.declared.loading.Memo.TheVariants.{Fresh, Kept}
 use Rattle.pkcheck.specs.Knowledge.{Asked}
-use Rattle.pkcheck.specs.RowRuns.{Pickle, imports_of}
+use Rattle.pkcheck.specs.RowRuns.{Pickle, imports_of_all}
 use Rattle.pkcheck.specs.View.{View, fresh}
 
 -- a machine at the first instruction of the next pickle: nothing is left, or all but the stack
@@ -21,7 +21,7 @@ moved_apart Kept apart own = apart
 
 -- those that are listed apart where these pickles stand before
 abbrev pub listed_apart : Memo → List Pickle → List Asked
-listed_apart Fresh before = imports_of before
+listed_apart Fresh before = imports_of_all before
 listed_apart Kept before = []
 
 -- the imports of a row, which stand apart or in the machine

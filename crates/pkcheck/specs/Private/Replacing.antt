@@ -2,12 +2,12 @@
 use Rattle.std.specs.Prelude.{ℕ, ◌⊎◌, List, false, None}
 use Rattle.pkcheck.specs.declared.machine.value.Value.{Value}
 use Rattle.pkcheck.specs.Effects.{Effect, number_stored}
-use Rattle.pkread.specs.declared.refusal.Reason.{Reason}
+use Rattle.pkread.specs.declared.Reason.{Reason}
 use Rattle.pkops.specs.Spelling.{Instruction}
 use Rattle.pkops.specs.Limits.{Bounds}
 use Rattle.pkcheck.specs.Shape.{Entry, and_then}
 use Rattle.pkcheck.specs.Knowledge.{Asked, Known, Policy, learn, within}
-use Rattle.pkcheck.specs.Private.Denials.{IsDenied, IsForMemory, MayWantMemory, Passes}
+use Rattle.pkcheck.specs.Private.Denials.{IsDenied, IsForMemory, MayWantMemory, Proceeds}
 use Rattle.pkcheck.specs.Private.Slots.{Sees, seen}
 
 -- by this effect these entries become those, and no import is listed
@@ -16,7 +16,7 @@ Replaces e old new =
     (ts : List (List ℕ))
     → Sees ts old (seen ts old)
     → (p : Policy) (i : Instruction) (m : List (ℕ × Known)) (listed : List Asked)
-    → Passes (learn p e i (record { entries = seen ts old; memo = m }))
+    → Proceeds (learn p e i (record { entries = seen ts old; memo = m }))
     (record { entries = seen ts new; memo = m }) listed listed false
 
 -- what is known of them stays true

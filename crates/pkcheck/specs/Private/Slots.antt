@@ -1,11 +1,12 @@
 -- What the fields of the stack, the memo and the table of texts say.
-use Rattle.std.specs.Prelude.{ℕ, suc, ◌<◌, List, [], ◌∷◌, ◌++◌, Option, Some, None, map, get_or, ◌≡◌, length, ⊤, drop, take}
+use Rattle.std.specs.Prelude.{ℕ, suc, ◌<◌, List, [], ◌∷◌, ◌++◌, Option, Some, None, map, get_or}
+use Rattle.std.specs.Prelude.{◌≡◌, length, ⊤, drop, take}
 use Rattle.pkcheck.specs.declared.machine.value.Value.{Value}
 use Rattle.pkcheck.specs.declared.machine.value.Value.TheVariants as value
 use Rattle.pkcheck.specs.declared.machine.stack.slots.Slot.{Slot}
 use Rattle.pkcheck.specs.declared.machine.stack.slots.Slot.TheVariants as slot
-use Rattle.pkcheck.specs.declared.machine.effects.Takes.{Takes}
-use Rattle.pkcheck.specs.declared.machine.effects.Takes.TheVariants.{Objects, Slice, SliceAndReceiver}
+use Rattle.pkcheck.specs.declared.effect.Takes.{Takes}
+use Rattle.pkcheck.specs.declared.effect.Takes.TheVariants.{Objects, Slice, SliceAndReceiver}
 use Rattle.pkcheck.specs.Runs.{Text, Plain}
 use Rattle.pkcheck.specs.Shape.{Entry, Mark, Item, Shape, Taken}
 use Rattle.pkcheck.specs.Covers.{Pointwise, AlikeEntry, Alike}
@@ -102,24 +103,24 @@ module _ (ts : List (List ℕ)) where
   resolved h = record { entries = seen h.entries; memo = remembered h.memo }
 
   -- this is known of an object, and it names no text that isn't in the table
-  pub record Stands (v : Value) (k : Known) : Type 0 where
+  pub record StandsAs (v : Value) (k : Known) : Type 0 where
     pub is : known v ≡ k
     pub numbered : IsNumbered (length ts) v
 
   -- the same, where there is one
   abbrev pub StandsIf : Option Value → Option Known → Type 0
   StandsIf None None = ⊤
-  StandsIf (Some v) (Some k) = Stands v k
+  StandsIf (Some v) (Some k) = StandsAs v k
   StandsIf None (Some k) = ⊥
   StandsIf (Some v) None = ⊥
 
   -- the same of the stack
   abbrev pub Sees : List (Entry Value) → List (Entry Known) → Type 0
-  Sees es ks = Pointwise (AlikeEntry Stands) es ks
+  Sees es ks = Pointwise (AlikeEntry StandsAs) es ks
 
   -- the same of both
   abbrev pub Resolves : Shape Value → Type 0
-  Resolves h = Alike Stands h (resolved h)
+  Resolves h = Alike StandsAs h (resolved h)
 
 -- what is known, how many texts are in the table, and the imports so far
 pub record Holding : Type 0 where
@@ -128,6 +129,6 @@ pub record Holding : Type 0 where
   pub imports : List Asked
 
 -- the table after is the one before, with others behind
-pub record Grows (before after : List (List ℕ)) : Type 0 where
+pub record HasMoreTexts (before after : List (List ℕ)) : Type 0 where
   pub more : List (List ℕ)
   pub is : after ≡ before ++ more

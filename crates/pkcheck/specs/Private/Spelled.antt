@@ -1,7 +1,7 @@
 -- The arguments that spell a text or an old string.
 use Rattle.std.specs.Prelude.{⊤}
-use Rattle.pkops.specs.declared.layout.Layout.{Layout}
-use Rattle.pkops.specs.declared.layout.Layout.TheVariants as layout
+use Rattle.pkops.specs.declared.Layout.{Layout}
+use Rattle.pkops.specs.declared.Layout.TheVariants as layout
 use Rattle.pkops.specs.Spelling.{Argument, Counted, Line}
 
 -- a payload, or a line
@@ -11,7 +11,7 @@ IsSpelled (Line line) = ⊤
 IsSpelled _ = ⊥
 
 -- the layout of one of these
-abbrev pub SpellsBytes : Layout → Type 0
-SpellsBytes (layout.Counted size signed) = ⊤
-SpellsBytes (layout.Line most) = ⊤
-SpellsBytes _ = ⊥
+abbrev pub IsTextLayout : Layout → Type 0
+IsTextLayout (layout.Counted size signed) = ⊤
+IsTextLayout (layout.Line most) = ⊤
+IsTextLayout _ = ⊥

@@ -1,12 +1,12 @@
-//! The pairs of a list, so that one is found in logarithmic time.
+//! The pairs of a list, for lookup in logarithmic time.
 ghost use Rattle.std.specs.Prelude.{◌≡◌, IfOk, OnOk, Some, cond, true, option_map};
 ghost use Rattle.toml.specs.View.{array_view, table_view, view};
 ghost use Rattle.std.specs.BTreeMap.{get_by_text};
 ghost use Rattle.std.specs.BTreeSet.{contains_text};
 ghost use Rattle.std.specs.Str.{bytes_eq};
 ghost use Rattle.toml.specs.Data.{table};
-ghost use Rattle.pkcheck.specs.ListFile.{Text, has_name, is_text, items_have};
-ghost use Rattle.pkcheck.specs.Private.ListIndex.{Has, Indexes, has_text};
+ghost use Rattle.pkcheck.specs.ListFile.{Text, has_name, is_this_text, items_have};
+ghost use Rattle.pkcheck.specs.Private.ListIndex.{HasJust, Indexes, has_text};
 
 use std::alloc::{AllocError, Global};
 use std::collections::{BTreeMap, BTreeSet};
@@ -25,7 +25,7 @@ pub fn index_of(alloc: Global, imports: Option<&Value>) -> Result<Index, AllocEr
     }
 }
 
-/// The index of the modules. Of two with one name, the first counts.
+/// The index of the modules. If a module appears twice, the first one counts.
 fn index_modules(alloc: Global, modules: &Table) -> Result<Index, AllocError>
     ensures { IfOk result (λ index. Indexes index (Some (table (table_view modules.now)))) }
 {
@@ -39,7 +39,7 @@ fn index_modules(alloc: Global, modules: &Table) -> Result<Index, AllocError>
     Ok(index)
 }
 
-/// Puts a module with its names into the index.
+/// Adds a module with its names to the index.
 fn put_module(
     alloc: Global,
     index: &mut Index,
@@ -58,7 +58,7 @@ fn put_module(
 
 /// The names of a module.
 fn names_of(alloc: Global, names: &Value) -> Result<BTreeSet<String>, AllocError>
-    ensures { IfOk result (λ set. Has set (λ n. has_name n (Some (view names.now)))) }
+    ensures { IfOk result (λ set. HasJust set (λ n. has_name n (Some (view names.now)))) }
 {
     match names {
         Value::Array(values) => items_of(alloc, values),
@@ -66,9 +66,9 @@ fn names_of(alloc: Global, names: &Value) -> Result<BTreeSet<String>, AllocError
     }
 }
 
-/// The texts among the values of an array.
+/// The strings among the values of an array.
 fn items_of(alloc: Global, values: &Vec<Value>) -> Result<BTreeSet<String>, AllocError>
-    ensures { IfOk result (λ set. Has set (λ n. items_have n (array_view values.now))) }
+    ensures { IfOk result (λ set. HasJust set (λ n. items_have n (array_view values.now))) }
 {
     let mut set: BTreeSet<String> = BTreeSet::new(alloc);
     for value in values {
@@ -77,10 +77,10 @@ fn items_of(alloc: Global, values: &Vec<Value>) -> Result<BTreeSet<String>, Allo
     Ok(set)
 }
 
-/// Puts a value into the set, where it is a text.
+/// Adds a value to the set, if it is a string.
 fn put_text(alloc: Global, set: &mut BTreeSet<String>, value: &Value) -> Result<(), AllocError>
     ensures { (n : Text) → OnOk result (contains_text set.new n
-        ≡ cond (is_text n (view value.now)) true (contains_text set.old n)) }
+        ≡ cond (is_this_text n (view value.now)) true (contains_text set.old n)) }
 {
     match value {
         Value::String(text) => put_name(alloc, set, text.as_str()),
@@ -88,7 +88,7 @@ fn put_text(alloc: Global, set: &mut BTreeSet<String>, value: &Value) -> Result<
     }
 }
 
-/// Puts a name into the set.
+/// Adds a name to the set.
 fn put_name(alloc: Global, set: &mut BTreeSet<String>, name: &str) -> Result<(), AllocError>
     ensures { (n : Text) → OnOk result (contains_text set.new n
         ≡ cond (bytes_eq name.now n) true (contains_text set.old n)) }

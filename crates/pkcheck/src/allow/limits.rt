@@ -4,7 +4,8 @@ ghost use Rattle.toml.specs.Data.{get_member};
 ghost use Rattle.toml.specs.View.{table_view, view};
 ghost use Rattle.pkops.specs.Limits.{AreWithin};
 ghost use Rattle.pkcheck.specs.ListFile.{each_limit_fault, greatest_at, greatest_where, is_large};
-ghost use Rattle.pkcheck.specs.ListFile.{is_limit, is_true, key_fault, large_fault, limit_fault};
+ghost use Rattle.pkcheck.specs.ListFile.{is_limit, is_true_value, key_fault, large_fault};
+ghost use Rattle.pkcheck.specs.ListFile.{limit_fault};
 ghost use Rattle.pkcheck.specs.ListFile.{limit_or, limits_among, limits_at, limits_fault};
 ghost use Rattle.pkcheck.specs.ListFile.{limits_in, standard_where, table_fault};
 
@@ -13,7 +14,7 @@ use crate::allow::{AllowError, Where};
 use pkops::Limits;
 use toml::{Table, Value};
 
-/// The first error of the table `limits`, if it is there.
+/// The first error in the table `limits`, if there is such a table.
 pub fn limits_fault(limits: Option<&Value>) -> Option<AllowError>
     ensures { result ≡ limits_fault (option_map (λ v. view v.now) limits.entry) }
 {
@@ -24,7 +25,7 @@ pub fn limits_fault(limits: Option<&Value>) -> Option<AllowError>
     }
 }
 
-/// The first error of the keys: `large` is judged before the others.
+/// The first error among the keys; `large` is checked before the others.
 fn table_fault(limits: &Table) -> Option<AllowError>
     ensures { result ≡ table_fault (table_view limits.now) }
 {
@@ -50,7 +51,7 @@ fn large_fault(value: Option<&Value>) -> Option<AllowError>
     }
 }
 
-/// Whether the limits are those of large data.
+/// Whether the limits are those for large data.
 fn is_large(value: Option<&Value>) -> bool
     ensures { result ≡ is_large (option_map (λ v. view v.now) value.entry) }
 {
@@ -61,7 +62,7 @@ fn is_large(value: Option<&Value>) -> bool
 }
 
 fn is_true(value: &Value) -> bool
-    ensures { result ≡ is_true (view value.now) }
+    ensures { result ≡ is_true_value (view value.now) }
 {
     match value {
         Value::Boolean(value) => *value,
@@ -69,7 +70,7 @@ fn is_true(value: &Value) -> bool
     }
 }
 
-/// The greatest limits, of large data or not.
+/// The greatest limits, for large data or not.
 fn greatest_where(is_large: bool) -> Limits
     ensures { result ≡ greatest_where is_large }
 {
@@ -80,7 +81,7 @@ fn greatest_where(is_large: bool) -> Limits
     }
 }
 
-/// The limits where none are named, of large data or not.
+/// The default limits, for large data or not.
 fn standard_where(is_large: bool) -> Limits
     ensures { result ≡ standard_where is_large }
 {
@@ -137,7 +138,7 @@ fn is_limit(most: u64, value: &Value) -> bool
     }
 }
 
-/// The greatest limit that may stand at a key, where it is one of a limit.
+/// The greatest value for a key, if the key names a limit.
 fn greatest_at(most: &Limits, key: &str) -> Option<u64>
     ensures { result ≡ greatest_at most.now key.now }
 {
@@ -160,7 +161,7 @@ fn greatest_at(most: &Limits, key: &str) -> Option<u64>
     }
 }
 
-/// The limits of a document, by its table `limits`.
+/// The limits of a document, from its table `limits`.
 pub fn limits_in(limits: Option<&Value>) -> Limits
     ensures { result ≡ limits_in (option_map (λ v. view v.now) limits.entry) }
 {
@@ -170,7 +171,7 @@ pub fn limits_in(limits: Option<&Value>) -> Limits
     }
 }
 
-/// The limits of a table.
+/// The limits in a table.
 fn limits_at(limits: &Table) -> Limits
     ensures { result ≡ limits_at (table_view limits.now) }
 {
@@ -181,7 +182,7 @@ fn limits_at(limits: &Table) -> Limits
     }
 }
 
-/// The limits of a table, each at most one of these and else another of these.
+/// The limits in a table, each at most that in `most`; a missing one is that in `standard`.
 fn limits_among(limits: &Table, most: &Limits, standard: &Limits) -> Limits
     requires { AreWithin standard.now most.now }
     ensures { result ≡ limits_among most.now standard.now (table_view limits.now) }
@@ -205,7 +206,7 @@ fn limits_among(limits: &Table, most: &Limits, standard: &Limits) -> Limits
     limits
 }
 
-/// The limit that stands at a key of a table, where it is one; else the standard one.
+/// The limit at a key of a table; the standard one if it has none.
 fn limit_at(limits: &Table, key: &str, most: u64, standard: u64) -> u64
     requires { standard ≤ most }
     ensures is { result ≡ limit_or most standard (get_member key.now (table_view limits.now)) }
@@ -214,7 +215,7 @@ fn limit_at(limits: &Table, key: &str, most: u64, standard: u64) -> u64
     limit_or(most, standard, value_at(limits, key))
 }
 
-/// The limit that is the value, where it is one; else the standard one.
+/// The limit in a value; the standard one if it has none.
 fn limit_or(most: u64, standard: u64, value: Option<&Value>) -> u64
     requires { standard ≤ most }
     ensures is { result ≡ limit_or most standard (option_map (λ v. view v.now) value.entry) }

@@ -7,81 +7,8 @@ ghost use Rattle.pkcheck.specs.Private.Actions.{effect_in, is_reading};
 ghost use Rattle.pkops.specs.Spelling.{layout_at};
 ghost use Rattle.pkops.specs.Payloads.{is_passed};
 
+use crate::effect::{Class, Gives, Move, Names, SliceRule, Takes, Wanted};
 use pkops::Op;
-
-/// The classes of objects that opcodes make, texts aside.
-#[derive(Clone, Copy)]
-pub enum Class {
-    None,
-    Bool,
-    Int,
-    Float,
-    Bytes,
-    ByteArray,
-    List,
-    Tuple,
-    Dict,
-    Set,
-    FrozenSet,
-}
-
-/// What a slice has to be.
-#[derive(Clone, Copy)]
-pub enum SliceRule {
-    AnySlice,
-    EvenSlice,
-    FullSlice,
-}
-
-/// What an operation takes.
-#[derive(Clone, Copy)]
-pub enum Takes {
-    Objects(u8),
-    Slice(SliceRule),
-    SliceAndReceiver(SliceRule),
-}
-
-/// Where the pair of an import comes from.
-#[derive(Clone, Copy)]
-pub enum Names {
-    NoName,
-    OfArgument,
-    OfOperands,
-}
-
-/// The class that a receiver has to have.
-#[derive(Clone, Copy)]
-pub enum Wanted {
-    WantsAny,
-    WantsList,
-    WantsDict,
-    WantsSet,
-}
-
-/// What an operation leaves on the stack.
-#[derive(Clone, Copy)]
-pub enum Gives {
-    Makes(Class),
-    MakesIntOrBool,
-    MakesText,
-    MayMake(Class),
-    Answers,
-    Leaves(Wanted),
-}
-
-/// What looks at no object.
-#[derive(Clone, Copy)]
-pub enum Move {
-    PushesMark,
-    Pops,
-    PopsMark,
-    Duplicates,
-    Stores,
-    StoresNext,
-    Fetches,
-    Passes,
-    Extends,
-}
 
 /// What an operation takes, where its name comes from, and what it gives.
 #[derive(Clone, Copy)]
@@ -91,13 +18,13 @@ pub struct Operation {
     pub gives: Gives,
 }
 
-/// What the machine does at an opcode: what most instructions do is found at once, and an operation
-/// looks for its row of the table itself.
+/// What the machine does at an opcode. The most frequent actions are variants; other operations
+/// look up their row of the table.
 #[derive(Clone, Copy)]
 pub enum Action {
     /// Pushes a new object of this class.
     Makes(Class),
-    /// The same, of the class that the line says.
+    /// Pushes a new int or bool, as the line says.
     MakesIntOrBool,
     /// Pushes the text that the argument spells.
     MakesText,
@@ -107,7 +34,7 @@ pub enum Action {
     Moves(Move),
     /// Takes objects and gives one.
     Operates,
-    /// The same, of the object that stands under a name.
+    /// Takes objects, imports a pair and gives one object.
     Imports,
     /// Takes the result.
     Stops,
@@ -121,7 +48,7 @@ fn makes(takes: Takes, class: Class) -> Operation
     unnamed(takes, Gives::Makes(class))
 }
 
-/// The same, but it may raise.
+/// Takes these and pushes a new object of this class, or raises.
 #[inline(always)]
 fn may_make(takes: Takes, class: Class) -> Operation
     ensures { effect_in result ≡ may_make takes class }

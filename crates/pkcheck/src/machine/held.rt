@@ -1,16 +1,15 @@
 //! What is known along a pickle: the stack, the memo, the texts that both name by number, and the
 //! imports.
-ghost use Rattle.std.specs.Prelude.{◌≡◌, ◌⊎◌, ◌≤◌, ◌++◌, [], length, option_map, IfOk, IfErr};
+ghost use Rattle.std.specs.Prelude.{◌≡◌, ◌⊎◌, ◌≤◌, ◌++◌, [], length, IfOk, IfErr};
 ghost use Rattle.std.specs.Prelude.{None, OnErr, OnOk, Some, false, suc};
-ghost use Rattle.std.specs.List.{slice_get};
 ghost use Rattle.pkcheck.specs.Private.Denials.{IsDenied, IsForMemory, IsFaultOf, IsStopFault};
 ghost use Rattle.pkcheck.specs.Effects.{effect_of, number_moved, number_stored};
 ghost use Rattle.pkcheck.specs.Private.Actions.{IsOperation, IsUnnamed};
-ghost use Rattle.pkcheck.specs.Private.Denials.{MayWantMemory, Passes, WantsRoom, with_item};
+ghost use Rattle.pkcheck.specs.Private.Denials.{MayWantMemory, Proceeds, WantsRoom, with_item};
 ghost use Rattle.pkcheck.specs.Private.Denials.{with_made};
 ghost use Rattle.pkcheck.specs.Private.Spelled.{IsSpelled};
 ghost use Rattle.pkcheck.specs.Runs.{Text, text};
-ghost use Rattle.pkcheck.specs.Import.{import_shown, policy_of};
+ghost use Rattle.pkcheck.specs.Import.{policy_of};
 ghost use Rattle.pkcheck.specs.Knowledge.{learn, stop_learned, within, nothing_known};
 ghost use Rattle.pkcheck.specs.Knowledge.{Policy as Pairs};
 ghost use Rattle.pkops.specs.Spelling.{Instruction};
@@ -18,14 +17,14 @@ ghost use Rattle.pkcheck.specs.Shape.{and_then, marks_of, moved, top};
 ghost use Rattle.pkops.specs.Inst.{instruction_of};
 ghost use Rattle.pkops.specs.Operands.{memo_number};
 
-use crate::import::Import;
+use crate::effect::{Class, Move};
+use crate::import_list::ImportList;
 use crate::imports::Imports;
-use crate::machine::effects::{Class, Move};
 use crate::machine::ledger::Ledger;
 use crate::machine::memo::Memo;
 use crate::machine::moves::apply;
 use crate::machine::new_text::make_text;
-use crate::machine::operate::{Denial, lines_of, operate, operate_named};
+use crate::machine::operate::{Denial, lines_of, operate_named, operate_unnamed};
 use crate::machine::stack::Stack;
 use crate::machine::value::Value;
 use crate::policy::Policy;
@@ -104,11 +103,11 @@ impl Held {
         self.ledger.texts()
     }
 
-    /// The import of a number, counted from 0.
-    pub fn import(&self, number: usize) -> Option<Import<'_>>
-        ensures { option_map import_shown result ≡ slice_get self.now.imports number }
+    /// The imports, lent.
+    pub fn imports(&self) -> ImportList<'_>
+        ensures { result ≡ self.now.imports }
     {
-        self.ledger.get(number)
+        self.ledger.imports()
     }
 
     /// Lists the imports behind others.
@@ -200,7 +199,7 @@ impl Held {
     pub fn operate(&mut self, limits: &Limits, op: Op) -> Result<(), Reason>
         requires within { length self.old.knowledge.entries ≤ limits.now.stack }
         requires unnamed { IsUnnamed (effect_of op) }
-        ensures ok { (p : Pairs) (i : Instruction) → OnOk result (Passes
+        ensures ok { (p : Pairs) (i : Instruction) → OnOk result (Proceeds
             (learn p (effect_of op) i self.old.knowledge) self.new.knowledge
             self.old.imports self.new.imports false) }
         ensures room { OnOk result ((length self.new.knowledge.entries ≤ limits.now.stack)
@@ -213,11 +212,11 @@ impl Held {
             (record { reason = r; pair = None })
             ⊎ (MayWantMemory (effect_of op) × IsForMemory (record { reason = r; pair = None }))) }
     {
-        operate(&mut self.stack, limits, op)?;
+        operate_unnamed(&mut self.stack, limits, op)?;
         Ok(())
     }
 
-    /// The same of an instruction that names a pair.
+    /// Does the operation of an instruction that names a pair.
     #[inline(always)]
     pub fn operate_named(
         &mut self,
@@ -228,7 +227,7 @@ impl Held {
     ) -> Result<bool, Denial>
         requires within { length self.old.knowledge.entries ≤ limits.now.stack }
         requires operation { IsOperation (effect_of (instruction_of inst.now).op) }
-        ensures ok { IfOk result (λ b. Passes (learn (policy_of policy.now)
+        ensures ok { IfOk result (λ b. Proceeds (learn (policy_of policy.now)
             (effect_of (instruction_of inst.now).op)
             (instruction_of inst.now) self.old.knowledge) self.new.knowledge
             self.old.imports self.new.imports b) }

@@ -1,16 +1,16 @@
 //! The texts that a pickle made, and the imports that it asked for, which name them by number.
-ghost use Rattle.std.specs.List.{slice_get};
 ghost use Rattle.std.specs.Prelude.{◌≡◌, ◌<◌, ℕ, List, ◌∷◌, ◌++◌, [], length, take, get_or};
 ghost use Rattle.std.specs.Prelude.{is_some, map, option_map, IfOk, IfErr, IsSome, OnErr, OnOk};
-ghost use Rattle.pkcheck.specs.Import.{asks_more, import_shown};
+ghost use Rattle.pkcheck.specs.Import.{asks_more};
 ghost use Rattle.pkcheck.specs.Knowledge.{AskedPair};
 ghost use Rattle.pkcheck.specs.Private.Noted.{AreCopies, AreEntries, IsEntry, IsNamed, IsNamedIf};
 ghost use Rattle.pkcheck.specs.Private.Noted.{entry_asked, named_asked};
-ghost use Rattle.pkcheck.specs.Private.Slots.{Grows};
+ghost use Rattle.pkcheck.specs.Private.Slots.{HasMoreTexts};
 ghost use Rattle.pkcheck.specs.Runs.{text};
 ghost use Rattle.pkops.specs.Inst.{instruction_of};
 
-use crate::import::{Import, Named};
+use crate::import::Named;
+use crate::import_list::ImportList;
 use crate::machine::texts::Texts;
 use pkops::Inst;
 use pkread::Reason;
@@ -117,14 +117,11 @@ impl Ledger {
         self.entries.len()
     }
 
-    /// The import of a number, counted from 0.
-    pub fn get(&self, number: usize) -> Option<Import<'_>>
-        ensures { option_map import_shown result ≡ slice_get self.now.asked number }
+    /// The imports, lent.
+    pub fn imports(&self) -> ImportList<'_>
+        ensures { result ≡ self.now.asked }
     {
-        match self.entries.get(number) {
-            None => None,
-            Some(entry) => Some(shown(&self.texts, &self.written, *entry)),
-        }
+        ImportList::new(&self.texts, &self.written, &self.entries)
     }
 
     /// Lists an import, if there is one.
@@ -172,26 +169,9 @@ impl Ledger {
     }
 }
 
-/// What an entry says.
-fn shown<'a>(texts: &'a Texts, written: &'a Texts, entry: Entry) -> Import<'a>
-    ensures { import_shown result ≡ entry_asked texts.now written.now entry }
-{
-    match entry {
-        Entry::Unknown => Import::Unknown,
-        Entry::Made(first, second) => Import::Pair {
-            module: texts.get(first as usize),
-            name: texts.get(second as usize),
-        },
-        Entry::Written(first, second) => Import::Pair {
-            module: written.get(first as usize),
-            name: written.get(second as usize),
-        },
-    }
-}
-
 /// The entry of an import. Names that stand in no text are written out.
 fn enter(written: &mut Texts, named: Named<'_>) -> Result<Entry, Reason>
-    ensures grows { Grows written.old written.new }
+    ensures grows { HasMoreTexts written.old written.new }
     ensures ok { (ts : List (List ℕ)) → IfOk result (λ e. (entry_asked ts written.new e
         ≡ named_asked ts named.entry) × (IsNamed (length ts) named.entry
         → IsEntry (length ts) (length written.new) e)) }
@@ -230,7 +210,7 @@ fn copy_entries(
     entries: &[Entry],
 ) -> Result<Vec<Entry>, AllocError>
     requires { AreEntries (length texts.now) (length names.now) entries.now }
-    ensures grows { Grows written.old written.new }
+    ensures grows { HasMoreTexts written.old written.new }
     ensures ok { IfOk result (λ es. AreEntries 0 (length written.new) es.items
         × (map (entry_asked [] written.new) es.items
         ≡ map (entry_asked texts.now names.now) entries.now)) }
@@ -259,7 +239,7 @@ fn copy_entry(
     requires entry { IsEntry (length copies.old.items) (length names.now) entry }
     ensures copies { AreCopies copies.new.items texts.now written.new }
     ensures count { length copies.new.items ≡ length copies.old.items }
-    ensures grows { Grows written.old written.new }
+    ensures grows { HasMoreTexts written.old written.new }
     ensures ok { IfOk result (λ e. IsEntry 0 (length written.new) e
         × (entry_asked [] written.new e ≡ entry_asked texts.now names.now entry)) }
 {
@@ -289,7 +269,7 @@ fn copy_text(
     requires number { number < length copies.old.items }
     ensures copies { AreCopies copies.new.items texts.now written.new }
     ensures count { length copies.new.items ≡ length copies.old.items }
-    ensures grows { Grows written.old written.new }
+    ensures grows { HasMoreTexts written.old written.new }
     ensures ok { IfOk result (λ n. (n < length written.new)
         × (get_or written.new n [] ≡ get_or texts.now number [])) }
 {

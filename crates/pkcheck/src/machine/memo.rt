@@ -1,4 +1,4 @@
-//! The memo: what is known of the objects stored under numbers.
+//! The memo: what is known about the objects stored under numbers.
 ghost use Rattle.pkcheck.specs.Private.Denials.{WantsMemo};
 ghost use Rattle.pkcheck.specs.Shape.{recalled, stored};
 ghost use Rattle.pkcheck.specs.Private.Slots.{zeroth};
@@ -12,14 +12,14 @@ use std::alloc::Global;
 use std::collections::BTreeMap;
 use std::marker::Model;
 
-/// What is known of the objects that were stored, by their numbers. Most pickles number them in
-/// order, from 0 on or (those of Python 2's `cPickle`) from 1 on, and these are found at once.
+/// What is known about the stored objects, by number. Most pickles number them consecutively, from
+/// 0 or (Python 2's `cPickle`) from 1, and these are found by index.
 pub struct Memo {
-    /// That of number 0.
+    /// The entry of number 0.
     zero: Option<Value>,
-    /// Those from number 1 on, as long as they came in order.
-    row: Pile<Value>,
-    /// The others. A number of more than 32 bits is none that an instruction spells.
+    /// The entries from number 1 on that were stored in order.
+    ordered: Pile<Value>,
+    /// The other entries. No instruction can spell a number of more than 32 bits.
     rest: BTreeMap<u32, Value>,
 }
 
@@ -27,7 +27,7 @@ impl Drop for Memo {
     fn drop(self) {
         let Memo {
             zero: _zero,
-            row: _row,
+            ordered: _ordered,
             rest: _rest,
         } = self;
     }
@@ -40,41 +40,41 @@ impl Model for Memo {
 
     ghost Value = { List (ℕ × Object) };
 
-    ghost view = { λ m. zeroth m.zero ++ (numbered 1 m.row ++ m.rest.entries) };
+    ghost view = { λ m. zeroth m.zero ++ (numbered 1 m.ordered ++ m.rest.entries) };
 
     ghost invariant = { λ m. ArePositive m.rest.entries };
 }
 
 impl Memo {
-    /// A memo of nothing. It takes no memory.
+    /// An empty memo. It allocates nothing.
     pub fn new(alloc: Global) -> Memo
         ensures { result ≡ [] }
     {
         Memo {
             zero: None,
-            row: Pile::new(alloc, Value::Unknown),
+            ordered: Pile::new(alloc, Value::Unknown),
             rest: BTreeMap::new(alloc),
         }
     }
 
-    /// Forgets all, and keeps the memory of what came in order.
+    /// Removes all entries, and keeps the memory of those in order.
     pub fn clear(&mut self)
         ensures { self.new ≡ [] }
     {
         self.zero = None;
-        self.row.clear();
+        self.ordered.clear();
         self.rest.clear();
     }
 
-    /// How many objects are stored.
+    /// The number of entries.
     #[inline]
     pub fn len(&self) -> u64
         ensures { result ≡ length self.now }
     {
-        count(self.zero) + self.row.len() as u64 + self.rest.len() as u64
+        count(self.zero) + self.ordered.len() as u64 + self.rest.len() as u64
     }
 
-    /// What is known of the object under a number.
+    /// What is known about the object stored under a number.
     #[inline(always)]
     pub fn get(&self, number: u32) -> Option<Value>
         ensures { result ≡ recalled number self.now }
@@ -82,14 +82,14 @@ impl Memo {
         if number == 0 {
             return self.zero;
         }
-        if number as usize <= self.row.len() {
-            return Some(self.row.entries()[(number - 1) as usize]);
+        if number as usize <= self.ordered.len() {
+            return Some(self.ordered.entries()[(number - 1) as usize]);
         }
         found(&self.rest, number)
     }
 
-    /// Stores what is known under a number, where the limit leaves room. Most numbers are the next
-    /// in order.
+    /// Stores what is known under a number, if the limit leaves room. Most numbers are the next in
+    /// order.
     #[inline(always)]
     pub fn store(&mut self, limits: &Limits, number: u64, value: Value) -> Result<(), Reason>
         requires { length self.old ≤ limits.now.memo }
@@ -98,12 +98,12 @@ impl Memo {
         ensures err { IfErr result (λ r. (self.new ≡ self.old)
             × WantsMemo limits.now.memo (stored number value self.old) r) }
     {
-        let last = self.row.len() as u64;
+        let last = self.ordered.len() as u64;
         if number == last + 1 && self.rest.is_empty() {
             if count(self.zero) + last >= limits.memo() {
                 return Err(Reason::TooLarge);
             }
-            return match self.row.push(value) {
+            return match self.ordered.push(value) {
                 Ok(()) => Ok(()),
                 Err(_) => Err(Reason::OutOfMemory),
             };
@@ -111,8 +111,8 @@ impl Memo {
         self.store_apart(limits, number, value)
     }
 
-    /// The same, of a number that isn't the next in order. The call stands apart so that room for
-    /// its answer is made on its own way alone.
+    /// `store` for a number that is not the next in order. The separate call gives its answer a
+    /// stack slot only on this path.
     #[inline(always)]
     fn store_apart(&mut self, limits: &Limits, number: u64, value: Value) -> Result<(), Reason>
         requires { length self.old ≤ limits.now.memo }
@@ -125,7 +125,7 @@ impl Memo {
         Ok(())
     }
 
-    /// The same, of a number that isn't the next in order.
+    /// `store` for a number that is not the next in order, out of line.
     #[inline(never)]
     fn store_elsewhere(&mut self, limits: &Limits, number: u64, value: Value) -> Result<(), Reason>
         requires { length self.old ≤ limits.now.memo }
@@ -142,8 +142,8 @@ impl Memo {
             self.zero = Some(value);
             return Ok(());
         }
-        if number <= self.row.len() as u64 {
-            self.row.set((number - 1) as usize, value);
+        if number <= self.ordered.len() as u64 {
+            self.ordered.set((number - 1) as usize, value);
             return Ok(());
         }
         let Ok(number) = u32::try_from(number) else {
@@ -153,7 +153,7 @@ impl Memo {
     }
 }
 
-/// How many there are: one or none.
+/// The number of entries in an optional one: 1 or 0.
 fn count(value: Option<Value>) -> u64
     ensures is { result ≡ length (zeroth value) }
     ensures small { result ≤ 1 }
@@ -164,7 +164,7 @@ fn count(value: Option<Value>) -> u64
     }
 }
 
-/// What stands under a number there.
+/// The entry of a number in the tree.
 #[inline(never)]
 fn found(rest: &BTreeMap<u32, Value>, number: u32) -> Option<Value>
     ensures { result ≡ recalled number rest.now.entries }
@@ -175,7 +175,7 @@ fn found(rest: &BTreeMap<u32, Value>, number: u32) -> Option<Value>
     }
 }
 
-/// Puts a value under a number there, where it stands there already or there is room for one more.
+/// Sets the entry of a number in the tree, if it has one already or there is room for one more.
 #[inline(never)]
 fn put(
     rest: &mut BTreeMap<u32, Value>,

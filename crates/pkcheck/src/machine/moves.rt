@@ -6,7 +6,7 @@ ghost use Rattle.pkops.specs.Inst.{instruction_of};
 ghost use Rattle.pkops.specs.Operands.{memo_number};
 ghost use Rattle.std.specs.Prelude.{◌≡◌, ◌≤◌, ◌∷◌, [], ℕ, List, length, IfErr, OnOk};
 
-use crate::machine::effects::Move;
+use crate::effect::Move;
 use crate::machine::memo::Memo;
 use crate::machine::stack::Stack;
 use crate::machine::value::Value;
@@ -44,7 +44,7 @@ pub fn remember(stack: &Stack, memo: &mut Memo, limits: &Limits, number: u64) ->
     memo.store(limits, number, value)
 }
 
-/// The same under the number that the instruction names, where the limit allows it.
+/// Like `remember`, under the number that the instruction names, if the limit allows it.
 #[inline(always)]
 fn remember_at(stack: &Stack, memo: &mut Memo, limits: &Limits, number: u32) -> Result<(), Reason>
     requires { length memo.old ≤ limits.now.memo }

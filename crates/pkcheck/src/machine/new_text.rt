@@ -4,7 +4,7 @@ ghost use Rattle.pkops.specs.Contents.{IsGood};
 ghost use Rattle.pkops.specs.Inst.{instruction_of};
 ghost use Rattle.pkops.specs.Spelling.{Counted, Line, instruction};
 ghost use Rattle.pkcheck.specs.Private.Denials.{WantsRoom};
-ghost use Rattle.pkcheck.specs.Private.Slots.{seen, Grows, Sees};
+ghost use Rattle.pkcheck.specs.Private.Slots.{seen, HasMoreTexts, Sees};
 ghost use Rattle.pkcheck.specs.Private.Spelled.{IsSpelled};
 ghost use Rattle.pkcheck.specs.Runs.{Text, text};
 ghost use Rattle.pkcheck.specs.Shape.{Item};
@@ -29,7 +29,7 @@ fn name_text(
     ensures ok { OnOk result (seen ledger.new.texts stack.new
         ≡ Item (Some (Text (text (instruction_of inst.now)))) ∷ seen ledger.old.texts stack.old) }
     ensures sees { OnOk result (Sees ledger.new.texts stack.new (seen ledger.new.texts stack.new)) }
-    ensures grows { OnOk result (Grows ledger.old.texts ledger.new.texts) }
+    ensures grows { OnOk result (HasMoreTexts ledger.old.texts ledger.new.texts) }
     ensures count { OnOk result (length ledger.new.texts ≡ suc (length ledger.old.texts)) }
     ensures asked { OnOk result (ledger.new.asked ≡ ledger.old.asked) }
     ensures room { OnOk result (length stack.new ≤ limits.now.stack) }
@@ -48,8 +48,8 @@ fn name_text(
     Ok(())
 }
 
-/// The same of an instruction of this opcode with this payload. It is not handed the instruction,
-/// which would have to lie in memory then, in every step.
+/// Like `name_text`, for an opcode and its payload. A parameter of the type `Inst` would put the
+/// instruction in memory in every step.
 #[inline(never)]
 fn name_payload(
     alloc: Global,
@@ -65,7 +65,7 @@ fn name_payload(
         ≡ Item (Some (Text (text (instruction op (Counted payload.now)))))
         ∷ seen ledger.old.texts stack.old) }
     ensures sees { OnOk result (Sees ledger.new.texts stack.new (seen ledger.new.texts stack.new)) }
-    ensures grows { OnOk result (Grows ledger.old.texts ledger.new.texts) }
+    ensures grows { OnOk result (HasMoreTexts ledger.old.texts ledger.new.texts) }
     ensures count { OnOk result (length ledger.new.texts ≡ suc (length ledger.old.texts)) }
     ensures asked { OnOk result (ledger.new.asked ≡ ledger.old.asked) }
     ensures room { OnOk result (length stack.new ≤ limits.now.stack) }
@@ -76,7 +76,7 @@ fn name_payload(
     name_text(alloc, stack, ledger, limits, &inst)
 }
 
-/// The same of one with this line.
+/// Like `name_text`, for an opcode and its line.
 #[inline(never)]
 fn name_line(
     alloc: Global,
@@ -92,7 +92,7 @@ fn name_line(
         ≡ Item (Some (Text (text (instruction op (Line line.now)))))
         ∷ seen ledger.old.texts stack.old) }
     ensures sees { OnOk result (Sees ledger.new.texts stack.new (seen ledger.new.texts stack.new)) }
-    ensures grows { OnOk result (Grows ledger.old.texts ledger.new.texts) }
+    ensures grows { OnOk result (HasMoreTexts ledger.old.texts ledger.new.texts) }
     ensures count { OnOk result (length ledger.new.texts ≡ suc (length ledger.old.texts)) }
     ensures asked { OnOk result (ledger.new.asked ≡ ledger.old.asked) }
     ensures room { OnOk result (length stack.new ≤ limits.now.stack) }
@@ -117,7 +117,7 @@ pub fn make_text(
     ensures ok { OnOk result (seen ledger.new.texts stack.new
         ≡ Item (Some (Text (text (instruction_of inst.now)))) ∷ seen ledger.old.texts stack.old) }
     ensures sees { OnOk result (Sees ledger.new.texts stack.new (seen ledger.new.texts stack.new)) }
-    ensures grows { OnOk result (Grows ledger.old.texts ledger.new.texts) }
+    ensures grows { OnOk result (HasMoreTexts ledger.old.texts ledger.new.texts) }
     ensures count { OnOk result (length ledger.new.texts ≡ suc (length ledger.old.texts)) }
     ensures asked { OnOk result (ledger.new.asked ≡ ledger.old.asked) }
     ensures room { OnOk result (length stack.new ≤ limits.now.stack) }

@@ -25,8 +25,8 @@ pub fn is_ascii_string(alloc: Global, inst: &Inst<'_>) -> Result<bool, AllocErro
     }
 }
 
-/// The same of an instruction of this opcode with this payload. It is not handed the instruction,
-/// which would have to lie in memory then, in every step.
+/// Like `has_ascii`, for an opcode and its payload. A parameter of the type `Inst` would put the
+/// instruction in memory in every step.
 #[inline(never)]
 fn is_ascii_payload(alloc: Global, op: Op, payload: &[u8]) -> Result<bool, AllocError>
     requires { IsGood (instruction op (Counted payload.now)) }
@@ -36,7 +36,7 @@ fn is_ascii_payload(alloc: Global, op: Op, payload: &[u8]) -> Result<bool, Alloc
     has_ascii(alloc, &Inst::known(op, Arg::Counted(payload)))
 }
 
-/// The same of one with this line.
+/// Like `has_ascii`, for an opcode and its line.
 #[inline(never)]
 fn is_ascii_line(alloc: Global, op: Op, line: &[u8]) -> Result<bool, AllocError>
     requires { IsGood (instruction op (Line line.now)) }
@@ -46,7 +46,7 @@ fn is_ascii_line(alloc: Global, op: Op, line: &[u8]) -> Result<bool, AllocError>
     has_ascii(alloc, &Inst::known(op, Arg::Line(line)))
 }
 
-/// The same of an instruction that lies in memory.
+/// Whether each byte of the old string that the instruction spells is ASCII.
 fn has_ascii(alloc: Global, inst: &Inst<'_>) -> Result<bool, AllocError>
     ensures { IfOk result (λ answer. answer
         ≡ list_all is_ascii (unwrap_or (old_bytes (instruction_of inst.now)) [])) }

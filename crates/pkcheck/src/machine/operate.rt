@@ -13,7 +13,7 @@ mod receiver;
 
 use crate::import::Asked;
 pub use named::operate_named;
-pub use nameless::operate;
+pub use nameless::operate_unnamed;
 use pkops::{Arg, Inst};
 use pkread::Reason;
 

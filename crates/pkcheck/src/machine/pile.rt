@@ -121,6 +121,9 @@ impl<T: Copy + Drop> Pile<T> {
     }
 }
 
+/// The first allocation has room for so many entries: a short pickle needs no second one.
+const FIRST: usize = 64;
+
 /// Lengthens a store by many entries at once, and by no more than it is long. It isn't handed the
 /// entry that wants the place: a call that takes it keeps it in memory, also where none is made.
 #[inline(never)]
@@ -130,5 +133,8 @@ fn lengthen<T: Copy + Drop>(store: &mut Vec<T>, filler: T) -> Result<(), AllocEr
     ensures err { OnErr result (store.new.items ≡ store.old.items) }
 {
     let len = store.len();
+    if len == 0 {
+        store.reserve(FIRST)?;
+    }
     store.resize(len + len.max(4).min(64), filler)
 }

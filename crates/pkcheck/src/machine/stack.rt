@@ -1,4 +1,4 @@
-//! The stack, of marks and of what is known of objects.
+//! The stack: marks, and what is known about objects.
 ghost use Rattle.pkcheck.specs.Private.Denials.{HasFirst, IsLack, WantsRoom};
 ghost use Rattle.pkcheck.specs.Private.Places.{above, below};
 ghost use Rattle.pkcheck.specs.Shape.{Entry, Mark, Item, NoMark, front, marks_of, operands, slice};
@@ -9,7 +9,7 @@ ghost use Rattle.std.specs.Prelude.{drop, nat_lt, IfOk, IfErr, OnOk};
 mod operands;
 mod slots;
 
-use crate::machine::effects::Takes;
+use crate::effect::Takes;
 use crate::machine::pile::Pile;
 use crate::machine::value::Value;
 pub use operands::Operands;
@@ -20,11 +20,11 @@ use slots::{Slot, mark_place, marks_below, place_of, put_on_top, top};
 use std::alloc::Global;
 use std::marker::Model;
 
-/// The stack. A place on it is the number of entries below.
+/// The stack. A place is the number of entries below it.
 pub struct Stack {
-    /// The entries, the last of them on top.
+    /// The entries; the last one is on top.
     slots: Pile<Slot>,
-    /// The places of the marks among them.
+    /// The places of the marks.
     places: Pile<usize>,
 }
 
@@ -51,7 +51,7 @@ impl Model for Stack {
 }
 
 impl Stack {
-    /// A stack of nothing. It takes no memory.
+    /// An empty stack. It allocates nothing.
     pub fn new(alloc: Global) -> Stack
         ensures { result ≡ [] }
     {
@@ -61,7 +61,7 @@ impl Stack {
         }
     }
 
-    /// Takes all away, and keeps the memory.
+    /// Removes all entries, and keeps the memory.
     pub fn clear(&mut self)
         ensures { self.new ≡ [] }
     {
@@ -69,7 +69,7 @@ impl Stack {
         self.places.clear();
     }
 
-    /// How many entries there are.
+    /// The number of entries.
     #[tactic(auto, using(crate::proofs::Limited::length_shown))]
     pub fn len(&self) -> usize
         ensures { result ≡ length self.now }
@@ -77,14 +77,14 @@ impl Stack {
         self.slots.len()
     }
 
-    /// How many of them are marks.
+    /// The number of marks.
     pub fn marks(&self) -> usize
         ensures { result ≡ marks_of self.now }
     {
         self.places.len()
     }
 
-    /// What is known of the top.
+    /// What is known about the top.
     #[inline(always)]
     pub fn top(&self) -> Result<Value, Reason>
         ensures ok { IfOk result (λ v. top self.now ≡ Ok (v, drop 1 self.now)) }
@@ -96,7 +96,7 @@ impl Stack {
         }
     }
 
-    /// Where the operation takes from.
+    /// The place where an operation's operands begin.
     #[inline(always)]
     pub fn find(&self, takes: Takes) -> Result<Found, Reason>
         ensures within { IfOk result (λ f. f.place ≤ length self.now) }
@@ -123,7 +123,7 @@ impl Stack {
         Operands::from(self.slots.entries(), place)
     }
 
-    /// Whether there is room for one more.
+    /// Whether the limit leaves room for one more entry.
     #[tactic(auto, using(crate::proofs::Limited::length_shown))]
     fn has_room(&self, limits: &Limits) -> bool
         ensures value { result ≡ nat_lt (length self.now) limits.now.stack }
@@ -132,7 +132,7 @@ impl Stack {
         (self.slots.len() as u64) < limits.stack()
     }
 
-    /// Puts a mark on top, where the limit leaves room.
+    /// Pushes a mark, if the limit leaves room.
     #[tactic(auto, using(crate::proofs::Limited::length_shown, crate::proofs::Shown::shown_append))]
     #[inline(always)]
     pub fn push_mark(&mut self, limits: &Limits) -> Result<(), Reason>
@@ -157,7 +157,7 @@ impl Stack {
         }
     }
 
-    /// Puts an object on top, where the limit leaves room.
+    /// Pushes an object, if the limit leaves room.
     #[inline(always)]
     #[tactic(auto, using(crate::proofs::Limited::length_shown, crate::proofs::Shown::shown_append))]
     pub fn push(&mut self, limits: &Limits, value: Value) -> Result<(), Reason>
@@ -175,7 +175,8 @@ impl Stack {
         }
     }
 
-    /// The same where nothing is taken, which is rare, and where there is room.
+    /// Pushes an object for `replace` when it removes nothing, which is rare. The caller checks the
+    /// limit.
     #[inline(always)]
     #[tactic(auto, using(crate::proofs::Limited::length_shown, crate::proofs::Shown::shown_append))]
     fn push_apart(&mut self, value: Value) -> Result<(), Reason>
@@ -188,7 +189,7 @@ impl Stack {
         }
     }
 
-    /// Leaves the lowest so many entries.
+    /// Keeps the lowest `count` entries.
     #[inline(always)]
     #[tactic(auto, using(crate::proofs::Limited::length_shown, crate::proofs::Places::below_shown))]
     pub fn truncate(&mut self, count: usize)
@@ -199,7 +200,7 @@ impl Stack {
         self.slots.truncate(count);
     }
 
-    /// Takes the topmost entry.
+    /// Removes the topmost entry.
     #[tactic(auto, using(crate::proofs::Places::one_more))]
     pub fn pop(&mut self) -> Result<(), Reason>
         ensures ok { OnOk result ((e : Entry Value) × (self.old ≡ e ∷ self.new)) }
@@ -214,7 +215,7 @@ impl Stack {
         Ok(())
     }
 
-    /// Takes what stands above the topmost mark, and the mark.
+    /// Removes the topmost mark and everything above it.
     #[tactic(auto, using(crate::proofs::Places::below_shown))]
     pub fn pop_mark(&mut self) -> Result<(), Reason>
         ensures fewer { length self.new ≤ length self.old }
@@ -232,7 +233,7 @@ impl Stack {
         }
     }
 
-    /// Leaves the entry at a place and those below it, of which so many are marks.
+    /// Keeps the entry at a place and those below it, of which `marks` are marks.
     #[inline(always)]
     pub fn end_with(&mut self, place: usize, marks: usize)
         requires there { place < length self.old }
@@ -243,8 +244,8 @@ impl Stack {
         self.slots.end_with(place);
     }
 
-    /// Puts an object in the place of all from there on, where the limit leaves room. So many marks
-    /// stay below.
+    /// Replaces all entries from a place on with one object, if the limit leaves room. `marks` is
+    /// the number of marks below the place.
     #[inline(always)]
     pub fn replace(
         &mut self,
@@ -271,7 +272,7 @@ impl Stack {
         Ok(())
     }
 
-    /// Puts an object in the place of one or more, all from there on.
+    /// Replaces one or more entries, all those from a place on, with one object.
     #[inline(always)]
     fn replace_all(&mut self, place: usize, marks: usize, value: Value)
         requires at { place < length self.old }

@@ -11,11 +11,12 @@ ghost use Rattle.pkcheck.specs.View.{texts_after};
 ghost use Rattle.pkops.specs.Inst.{instruction_of};
 ghost use Rattle.pkcheck.specs.Import.{asked_shown, policy_of};
 ghost use Rattle.pkcheck.specs.Private.Denials.{IsDenied, IsForMemory, GoesTo, MayWantMemory};
-ghost use Rattle.pkcheck.specs.Private.Denials.{IsRefusedFor, IsStopFault, LacksMemory};
+ghost use Rattle.pkcheck.specs.Private.Denials.{IsRefusedFor, IsStopFault, IsWantOfMemory};
 ghost use Rattle.pkcheck.specs.Private.Denials.{pair_denied};
 
+use crate::effect::Class;
 use crate::import::Asked;
-use crate::machine::effects::{Action, Class, action_of};
+use crate::machine::effects::{Action, action_of};
 use crate::machine::held::Held;
 use crate::machine::old_text::is_ascii_string;
 use crate::machine::operate::Denial;
@@ -65,7 +66,7 @@ pub fn advance(
     ensures err { IfErr result (λ r. IsRefusedFor (advance old_strings (policy_of policy.now)
         limits.now (instruction_of inst.now) held.old.knowledge) r (option_map asked_shown off.new)
         ⊎ (MayWantMemory (effect_as old_strings (instruction_of inst.now))
-        × LacksMemory r (option_map asked_shown off.new))) }
+        × IsWantOfMemory r (option_map asked_shown off.new))) }
 {
     let op = inst.op();
     match action_of(op) {
@@ -220,7 +221,7 @@ fn import(
         (number_stored (effect_of (instruction_of inst.now).op) (instruction_of inst.now)))) r
         (option_map asked_shown off.new)
         ⊎ (MayWantMemory (effect_of (instruction_of inst.now).op)
-        × LacksMemory r (option_map asked_shown off.new))) }
+        × IsWantOfMemory r (option_map asked_shown off.new))) }
 {
     match held.operate_named(alloc, limits, inst, policy) {
         Ok(true) => Ok(Moved::Import),

@@ -2,7 +2,7 @@
 ghost use Rattle.pkcheck.specs.Runs.{text};
 ghost use Rattle.pkops.specs.Contents.{rule_of};
 ghost use Rattle.pkops.specs.Inst.{instruction_of};
-ghost use Rattle.pkops.specs.declared.contents.Rule.TheVariants as rule;
+ghost use Rattle.pkops.specs.declared.Rule.TheVariants as rule;
 ghost use Rattle.std.specs.Prelude.{◌≡◌, [], ◌∷◌, ◌++◌, ◌<◌, ◌≤◌, ◌-◌, length, take, drop, get_or};
 ghost use Rattle.std.specs.Prelude.{true, IfOk, OnErr, OnOk, unwrap_or};
 ghost use Rattle.std.specs.Prelude.{encode_utf8_all, string_bytes};
@@ -13,6 +13,9 @@ use crate::machine::pile::Pile;
 use pkops::{Arg, Inst, Op, old_bytes_of, text_of};
 use std::alloc::{AllocError, Global};
 use std::marker::Model;
+
+/// The first allocation has room for so many bytes: a short pickle needs no second one.
+const FIRST: usize = 512;
 
 /// The texts that a pickle made, in the order of their making, one behind the other in one buffer.
 /// Equal ones are not joined.
@@ -87,6 +90,7 @@ impl Texts {
         ensures err { OnErr result (self.new ≡ self.old) }
     {
         let before = self.bytes.len();
+        begin(&mut self.bytes)?;
         self.bytes.extend_from_slice(text)?;
         let Ok(()) = self.ends.push(self.bytes.len()) else {
             self.bytes.truncate(before);
@@ -117,7 +121,7 @@ impl Texts {
         self.add_decoded(alloc, inst)
     }
 
-    /// The same, of a text that is spelled with escapes.
+    /// Adds a text that is spelled with escapes.
     #[inline(never)]
     fn add_decoded(&mut self, alloc: Global, inst: &Inst<'_>) -> Result<(), AllocError>
         ensures ok { OnOk result (self.new ≡ self.old ++ text (instruction_of inst.now) ∷ []) }
@@ -129,7 +133,7 @@ impl Texts {
         }
     }
 
-    /// The same, of an old string.
+    /// Adds a Python 2 string.
     fn add_old(&mut self, alloc: Global, inst: &Inst<'_>) -> Result<(), AllocError>
         ensures ok { OnOk result (self.new ≡ self.old ++ encode_utf8_all
             (unwrap_or (old_bytes (instruction_of inst.now)) []) ∷ []) }
@@ -140,6 +144,17 @@ impl Texts {
             None => self.put(""),
         }
     }
+}
+
+/// Makes the first allocation of an empty vector.
+#[inline]
+fn begin(bytes: &mut Vec<u8>) -> Result<(), AllocError>
+    ensures { bytes.new.items ≡ bytes.old.items }
+{
+    if bytes.is_empty() {
+        return bytes.reserve(FIRST);
+    }
+    Ok(())
 }
 
 /// The characters that the bytes number.

@@ -1,13 +1,13 @@
 //! What is known of an object.
 ghost use Rattle.std.specs.Prelude.{◌≡◌, ℕ, List};
 ghost use Rattle.pkcheck.specs.Knowledge.{known_given};
-ghost use Rattle.pkcheck.specs.Private.Denials.{IsPlain};
+ghost use Rattle.pkcheck.specs.Private.Denials.{IgnoresArgument};
 ghost use Rattle.pkcheck.specs.Private.Slots.{StandsIf};
 ghost use Rattle.pkcheck.specs.Runs.{int_or_bool};
 ghost use Rattle.pkops.specs.Inst.{instruction_of};
 ghost use Rattle.pkops.specs.Spelling.{Instruction};
 
-use crate::machine::effects::{Class, Gives};
+use crate::effect::{Class, Gives};
 use pkops::Inst;
 
 /// What is known of an object.
@@ -36,7 +36,7 @@ pub fn int_or_bool(inst: &Inst) -> Class
 /// What is known of what is given.
 #[inline(always)]
 pub fn value_of(gives: Gives) -> Option<Value>
-    requires { IsPlain gives }
+    requires { IgnoresArgument gives }
     ensures { (ts : List (List ℕ)) (i : Instruction) → StandsIf ts result (known_given gives i) }
 {
     match gives {

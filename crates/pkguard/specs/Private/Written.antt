@@ -1,9 +1,9 @@
--- How far the caller's room is written.
+-- How far the caller's buffer is written.
 use Rattle.std.specs.Prelude.{◌≡◌, ◌≤◌, ◌++◌, ℕ, List, length, drop, min}
 use Rattle.pkguard.specs.Encoding.{greatest_number}
 
--- these bytes were written to the front of the room, if it has room for all of them; `next` is the
--- place behind them
+-- the bytes were written to the front of the buffer if it has room for all of them; `next` is the
+-- offset after them
 pub record IsWritten (bytes before after : List ℕ) (next : ℕ) : Type 0 where
   pub same : length after ≡ length before
   pub place : next ≡ min (length bytes) greatest_number

@@ -1,20 +1,21 @@
--- What a plain instruction does to the objects.
-use Rattle.std.specs.Prelude.{◌≡◌, ℕ, suc, Bool, true, cond, List, [], ◌∷◌, ◌++◌, length, Option, Some, None, Result, Ok, Err}
+-- The effect of a plain instruction on the objects.
+use Rattle.std.specs.Prelude.{◌≡◌, ℕ, suc, Bool, true, cond, List, [], ◌∷◌, ◌++◌, length, Option}
+use Rattle.std.specs.Prelude.{Some, None, Result, Ok, Err}
 use Rattle.serde_json.specs.Data.{string, null, boolean, number}
 use Rattle.serde_json.specs.Find.{of_integer}
 use Rattle.pkops.specs.Spelling.{Instruction}
 use Rattle.pkops.specs.Operands.{names_bool, memo_number}
-use Rattle.pkcheck.specs.declared.machine.effects.Class.TheVariants as class
+use Rattle.pkcheck.specs.declared.effect.Class.TheVariants as class
 use Rattle.pkcheck.specs.Effects.{Effect}
 use Rattle.pkcheck.specs.Effects as effect
-use Rattle.pkcheck.specs.declared.machine.effects.Gives.{Gives}
-use Rattle.pkcheck.specs.declared.machine.effects.Gives.TheVariants as gives
-use Rattle.pkcheck.specs.declared.machine.effects.Move.{Move as MoveOf}
-use Rattle.pkcheck.specs.declared.machine.effects.Move.TheVariants as moves
-use Rattle.pkcheck.specs.declared.machine.effects.Names.TheVariants.{NoName}
-use Rattle.pkcheck.specs.declared.machine.effects.Takes.{Takes as TakesOf}
-use Rattle.pkcheck.specs.declared.machine.effects.Takes.TheVariants as takes
-use Rattle.pkcheck.specs.declared.machine.effects.Wanted.TheVariants.{WantsList, WantsDict}
+use Rattle.pkcheck.specs.declared.effect.Gives.{Gives}
+use Rattle.pkcheck.specs.declared.effect.Gives.TheVariants as gives
+use Rattle.pkcheck.specs.declared.effect.Move.{Move as MoveOf}
+use Rattle.pkcheck.specs.declared.effect.Move.TheVariants as moves
+use Rattle.pkcheck.specs.declared.effect.Names.TheVariants.{NoName}
+use Rattle.pkcheck.specs.declared.effect.Takes.{Takes as TakesOf}
+use Rattle.pkcheck.specs.declared.effect.Takes.TheVariants as takes
+use Rattle.pkcheck.specs.declared.effect.Wanted.TheVariants.{WantsList, WantsDict}
 use Rattle.pkcheck.specs.Shape.{Breach, Entry, Item, Taken, and_then, items, slice, front, moved}
 use Rattle.pkjson.specs.declared.action.Action.{Action}
 use Rattle.pkjson.specs.declared.action.Action.TheVariants.{Makes, Fills, Moves, Stops}
@@ -31,30 +32,30 @@ use Rattle.pkjson.specs.Contents.{Kind, OfItems, OfPairs, OfValue, int_value, te
 use Rattle.pkjson.specs.Plain.{Fault, OtherKey, LargeNumber, every_other, taken}
 use Rattle.pkjson.specs.Private.Arena.{Arena, kept_by, received, are_text_kinds}
 
--- what is taken, whatever the rule for a slice is
-abbrev pub found : Takes → List (Entry ℕ) → Result (Taken ℕ) Breach
-found (Objects k) es = items k es []
-found Slice es = slice es []
+-- the operands, without the rule for a slice
+abbrev pub picked : Takes → List (Entry ℕ) → Result (Taken ℕ) Breach
+picked (Objects k) es = items k es []
+picked Slice es = slice es []
 
--- the same, and the object below it
+-- the operands and the object below them
 abbrev pub found_above : Takes → List (Entry ℕ) → Result (Taken ℕ) Breach
-found_above t es = and_then (found t es) (λ t. items 1 t.below t.operands)
+found_above t es = and_then (picked t es) (λ t. items 1 t.below t.operands)
 
--- a new object in the place of what was taken
+-- a new object replaces the operands
 abbrev pub made_of : Kind → Taken ℕ → Arena → Arena
 made_of kind t a = record {
   shape = record { entries = Item (length a.kept) ∷ t.below; memo = a.shape.memo };
   kept = a.kept ++ record { kind = kind; given = kept_by kind t.operands } ∷ [];
 }
 
--- the first of what was taken stays, and receives the others
+-- the first operand stays and receives the others
 abbrev pub filled_of : Taken ℕ → Arena → Arena
 filled_of t a = record {
   shape = record { entries = front t.operands ++ t.below; memo = a.shape.memo };
   kept = received t.operands a.kept;
 }
 
--- the kind of what is made
+-- the kind of the object that is made
 abbrev pub kind_made : Made → Instruction → Kind
 kind_made made.Items i = OfItems
 kind_made made.NoPairs i = OfPairs
@@ -65,7 +66,7 @@ kind_made made.Text i = OfValue (string (text_named i))
 kind_made made.IntOrTruth i = OfValue (int_value i)
 kind_made made.Int i = OfValue (number (of_integer (integer_named i.arg)))
 
--- the machine's move
+-- the machine's move for a move of the code
 abbrev pub move_of : Move → MoveOf
 move_of move.PushesMark = moves.PushesMark
 move_of move.Pops = moves.Pops
@@ -76,52 +77,52 @@ move_of move.StoresNext = moves.StoresNext
 move_of move.Fetches = moves.Fetches
 move_of move.Passes = moves.Passes
 
--- what a plain instruction does
+-- the effect of a plain instruction
 abbrev pub acted : Action → Instruction → Arena → Result Arena Breach
-acted (Makes t m) i a = and_then (found t a.shape.entries) (λ u. Ok (made_of (kind_made m i) u a))
+acted (Makes t m) i a = and_then (picked t a.shape.entries) (λ u. Ok (made_of (kind_made m i) u a))
 acted (Fills t f) i a = and_then (found_above t a.shape.entries) (λ u. Ok (filled_of u a))
 acted (Moves m) i a =
     and_then (moved (move_of m) (memo_number i) a.shape)
     (λ h. Ok (record { shape = h; kept = a.kept }))
 acted Stops i a = Ok a
 
--- the keys that it sets
+-- the keys that the action sets
 abbrev pub keys_acted : Action → List (Entry ℕ) → List ℕ
-keys_acted (Makes t made.Pairs) es = every_other true (taken (found t es))
-keys_acted (Fills t filled.Pairs) es = every_other true (taken (found t es))
+keys_acted (Makes t made.Pairs) es = every_other true (taken (picked t es))
+keys_acted (Fills t filled.Pairs) es = every_other true (taken (picked t es))
 keys_acted a es = []
 
--- the integer that is made, if one is, is within 64 bits
+-- the integer that is made, if one is, fits 64 signed bits
 abbrev pub number_made : Made → Instruction → Bool
 number_made made.Int i = fits_word (integer_named i.arg)
 number_made made.IntOrTruth i = cond (names_bool i) true (fits_word (integer_named i.arg))
 number_made m i = true
 
--- the same of an action
+-- the integer that the action makes, if it makes one, fits 64 signed bits
 abbrev pub number_acted : Action → Instruction → Bool
 number_acted (Makes t m) i = number_made m i
 number_acted a i = true
 
--- what of it is no part of plain data
+-- why the instruction is not plain data, if it is not
 abbrev pub fault_acted : Action → Instruction → Arena → Option Fault
 fault_acted action i a =
     cond (are_text_kinds a.kept (keys_acted action a.shape.entries))
     (cond (number_acted action i) None (Some LargeNumber))
     (Some OtherKey)
 
--- both take the same
+-- both take the same operands
 abbrev pub TakesSame : Takes → TakesOf → Type 0
 TakesSame (Objects k) (takes.Objects n) = n ≡ k
 TakesSame Slice (takes.Slice rule) = Unit {0}
 TakesSame t u = ⊥
 
--- the other takes the receiver too
+-- the machine takes these operands and the receiver
 abbrev pub TakesAbove : Takes → TakesOf → Type 0
 TakesAbove (Objects k) (takes.Objects n) = n ≡ suc k
 TakesAbove Slice (takes.SliceAndReceiver rule) = Unit {0}
 TakesAbove t u = ⊥
 
--- both make the same
+-- both make the same kind
 abbrev pub MakesSame : Made → Gives → Type 0
 MakesSame made.Items (gives.Makes class.List) = Unit {0}
 MakesSame made.Items (gives.Makes class.Tuple) = Unit {0}
@@ -134,13 +135,13 @@ MakesSame made.IntOrTruth gives.MakesIntOrBool = Unit {0}
 MakesSame made.Int (gives.Makes class.Int) = Unit {0}
 MakesSame m g = ⊥
 
--- both fill the same
+-- both fill the same kind
 abbrev pub FillsSame : Filled → Gives → Type 0
 FillsSame filled.Items (gives.Leaves WantsList) = Unit {0}
 FillsSame filled.Pairs (gives.Leaves WantsDict) = Unit {0}
 FillsSame f g = ⊥
 
--- the action is what the machine does
+-- the action does what the machine does
 abbrev pub ActsAs : Action → Effect → Type 0
 ActsAs (Makes t m) (effect.Operates u NoName g) = TakesSame t u × MakesSame m g
 ActsAs (Fills t f) (effect.Operates u NoName g) = TakesAbove t u × FillsSame f g
@@ -148,11 +149,11 @@ ActsAs (Moves m) (effect.Moves p) = move_of m ≡ p
 ActsAs Stops effect.Stops = Unit {0}
 ActsAs a e = ⊥
 
--- what it makes is of this kind, if it makes anything
+-- the object that the action makes, if any, has this kind
 abbrev pub KindsAgree : Action → Instruction → Kind → Type 0
 KindsAgree (Makes t m) i kind = kind ≡ kind_made m i
 KindsAgree a i kind = Unit {0}
 
--- for want of something it can't be done
+-- the operation lacks something
 abbrev pub IsLacking : {A : Type 0} → Result A Breach → Type 0
 IsLacking x = (b : Breach) × (x ≡ Err b)

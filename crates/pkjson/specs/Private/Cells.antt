@@ -1,7 +1,7 @@
--- What the fields of the memo say.
+-- The contents of the memo's fields.
 use Rattle.std.specs.Prelude.{ℕ, suc, List, [], ◌∷◌}
 
--- each with its number, counted from n
-abbrev pub numbered : ℕ → List ℕ → List (ℕ × ℕ)
-numbered n [] = []
-numbered n (x ∷ xs) = (n, x) ∷ numbered (suc n) xs
+-- items with their numbers, starting at n
+abbrev pub numbered_cells : ℕ → List ℕ → List (ℕ × ℕ)
+numbered_cells n [] = []
+numbered_cells n (x ∷ xs) = (n, x) ∷ numbered_cells (suc n) xs

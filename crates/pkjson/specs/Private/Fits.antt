@@ -1,16 +1,16 @@
--- What has a value within a depth.
+-- Objects with a value within a depth.
 use Rattle.std.specs.Prelude.{ℕ, ◌≤◌, List}
 use Rattle.serde_json.specs.Data.{Data, depth, Items, items_depth, Members, members_depth}
 use Rattle.pkjson.specs.Unfolds.{Heap, Unfolds, UnfoldItems, UnfoldMembers}
 
--- an object
+-- the object has one
 unfoldable pub Fits : Heap → ℕ → ℕ → Type 0
 Fits h levels x = (v : Data) × Unfolds h x v × (depth v ≤ levels)
 
--- each of these objects
+-- each of these objects has one
 unfoldable pub ItemsFit : Heap → ℕ → List ℕ → Type 0
 ItemsFit h levels xs = (vs : Items) × UnfoldItems h xs vs × (items_depth vs ≤ levels)
 
--- each value of these members
+-- the value of each of these members has one
 unfoldable pub MembersFit : Heap → ℕ → List (List ℕ × ℕ) → Type 0
 MembersFit h levels ps = (ms : Members) × UnfoldMembers h ps ms × (members_depth ms ≤ levels)

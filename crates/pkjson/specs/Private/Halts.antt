@@ -1,4 +1,4 @@
--- What a step that is not taken says.
+-- What a `Halt` says about its step.
 use Rattle.std.specs.Prelude.{◌≡◌, Bool, false, Some, Result}
 use Rattle.pkcheck.specs.Shape.{Breach}
 use Rattle.pkjson.specs.declared.halt.Halt.{Halt}
@@ -9,19 +9,19 @@ use Rattle.pkjson.specs.Plain as fault
 use Rattle.pkjson.specs.Private.Arena.{Arena}
 use Rattle.pkjson.specs.Private.Acting.{acted, fault_acted, IsLacking}
 
--- the number that the instruction names is too large, or there was no memory
+-- the integer does not fit, or an allocation was refused
 abbrev pub IsNoKind : Bool → Halt → Type 0
 IsNoKind fits LargeNumber = fits ≡ false
 IsNoKind fits OutOfMemory = Unit {0}
 IsNoKind fits halt = ⊥
 
--- something lacks, or there was no memory
+-- the stack or the memo lacks something, or an allocation was refused
 abbrev pub IsWant : {A : Type 0} → Result A Breach → Halt → Type 0
 IsWant x Lacks = IsLacking x
 IsWant x OutOfMemory = Unit {0}
 IsWant x halt = ⊥
 
--- a key or a number is at fault, something lacks, or there was no memory
+-- a key or an integer is at fault, something is missing, or an allocation was refused
 abbrev pub IsHalted : Action → Instruction → Arena → Halt → Type 0
 IsHalted action i a OtherKey = fault_acted action i a ≡ Some fault.OtherKey
 IsHalted action i a LargeNumber = fault_acted action i a ≡ Some fault.LargeNumber

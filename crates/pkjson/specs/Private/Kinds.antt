@@ -1,12 +1,13 @@
--- What the kinds of objects say.
+-- The kind that the program's `Kind` stands for.
 use Rattle.std.specs.Prelude.{string_bytes}
 use Rattle.serde_json.specs.Data.{null, boolean, number, string}
 use Rattle.serde_json.specs.Find.{of_integer}
 use Rattle.pkjson.specs.declared.kinds.Kind.{Kind as Made}
-use Rattle.pkjson.specs.declared.kinds.Kind.TheVariants.{Items, Pairs, Null, Bool as Truth, Int, Lent, Decoded}
+use Rattle.pkjson.specs.declared.kinds.Kind.TheVariants.{Items, Pairs, Null, Bool as Truth, Int}
+use Rattle.pkjson.specs.declared.kinds.Kind.TheVariants.{Lent, Decoded}
 use Rattle.pkjson.specs.Contents.{Kind, OfItems, OfPairs, OfValue}
 
--- the kind of an object
+-- the kind of an object, as a value
 abbrev pub kind_seen : Made → Kind
 kind_seen Items = OfItems
 kind_seen Pairs = OfPairs

@@ -1,5 +1,6 @@
--- What the settled objects hold.
-use Rattle.std.specs.Prelude.{◌≡◌, ℕ, ◌<◌, List, [], ◌∷◌, length, map, All, Some, option_map, slice_get}
+-- The contents of the settled objects.
+use Rattle.std.specs.Prelude.{◌≡◌, ℕ, ◌<◌, List, [], ◌∷◌, length, map, All, Some, option_map}
+use Rattle.std.specs.Prelude.{slice_get}
 use Rattle.std.specs.Borrow.{Bor}
 use Rattle.std.specs.Ordering.{nat_cmp}
 use Rattle.std.specs.Cmp.Lexicographic.{slice_cmp}
@@ -10,48 +11,48 @@ use Rattle.pkjson.specs.declared.node.Node.{Node}
 use Rattle.pkjson.specs.declared.node.Node.TheVariants.{Null, Bool, Int, Text, List as Items, Dict}
 use Rattle.pkjson.specs.Unfolds.{Content, Scalar, Sequence, Pairs, Heap}
 
--- members, without where their keys lie in memory
-abbrev pub named : List (Bor (List ℕ) × ℕ) → List (List ℕ × ℕ)
-named ps = map (λ p. (p.0.now, p.1)) ps
+-- members as values, whatever memory holds their keys
+abbrev pub named_members : List (Bor (List ℕ) × ℕ) → List (List ℕ × ℕ)
+named_members ps = map (λ p. (p.0.now, p.1)) ps
 
--- what a node says that an object holds
+-- the contents of a node
 abbrev pub content : Node → Content
 content Null = Scalar null
 content (Bool b) = Scalar (boolean b)
 content (Int i) = Scalar (number (of_integer i))
 content (Text t) = Scalar (string t.now)
 content (Items v) = Sequence v.now
-content (Dict v) = Pairs (named v.items)
+content (Dict v) = Pairs (named_members v.items)
 
 -- what each object holds
 abbrev pub heap : List Node → Heap
 heap ns x = option_map content (slice_get ns x)
 
--- the objects that it names have numbers below n
+-- the node refers only to numbers below n
 abbrev pub IsBelow : ℕ → Node → Type 0
 IsBelow n (Items v) = All (λ x. x < n) v.now
 IsBelow n (Dict v) = All (λ p. p.1 < n) v.items
 IsBelow n m = Unit {0}
 
--- each names only objects that there are
+-- each node refers only to existing objects
 unfoldable pub IsClosed : List Node → Type 0
 IsClosed ns = (x : ℕ) (m : Node) → slice_get ns x ≡ Some m → IsBelow (length ns) m
 
--- all their keys are above this one
+-- all keys are greater than this one
 abbrev pub AllAbove : List ℕ → List (List ℕ × ℕ) → Type 0
 AllAbove k [] = Unit {0}
 AllAbove k (p ∷ ps) = (slice_cmp nat_cmp p.0 k ≡ Greater) × AllAbove k ps
 
--- the keys ascend
+-- the keys are strictly ascending
 abbrev pub Ascending : List (List ℕ × ℕ) → Type 0
 Ascending [] = Unit {0}
 Ascending (p ∷ ps) = AllAbove p.0 ps × Ascending ps
 
--- the keys of a dict ascend
+-- the keys of a dict are ascending
 abbrev pub IsOrdered : Node → Type 0
-IsOrdered (Dict v) = Ascending (named v.items)
+IsOrdered (Dict v) = Ascending (named_members v.items)
 IsOrdered n = Unit {0}
 
--- those of each dict
+-- the keys of each dict are ascending
 unfoldable pub AreOrdered : List Node → Type 0
 AreOrdered ns = (x : ℕ) (n : Node) → slice_get ns x ≡ Some n → IsOrdered n

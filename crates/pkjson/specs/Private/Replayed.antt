@@ -1,4 +1,4 @@
--- What following a plain pickle to its end gives.
+-- The result of replaying a plain pickle to its end.
 use Rattle.std.specs.Prelude.{◌≡◌, ◌<◌, ℕ, List, length}
 use Rattle.pkops.specs.Limits.{Bounds}
 use Rattle.pkcheck.specs.Runs.{Event}
@@ -6,13 +6,13 @@ use Rattle.pkjson.specs.declared.arena.Arena.{Arena}
 use Rattle.pkjson.specs.Private.Arena.{holds}
 use Rattle.pkjson.specs.Contents.{contents}
 use Rattle.pkjson.specs.Export.{Results}
-use Rattle.pkjson.specs.Private.Held.{seen}
+use Rattle.pkjson.specs.Private.Held.{parts}
 use Rattle.pkjson.specs.Private.Settled.{AreGivenBelow}
 
--- the arena holds what the objects hold after the events of the run, and the result is one of them
+-- the arena holds what the objects hold after the run, and the result is one of them
 pub record Replays (limits : Bounds) (bytes : List ℕ) (a : Arena) (x : ℕ) : Type 0 where
   pub events : List Event
   pub results : Results limits bytes x events
-  pub holds : (n : ℕ) → holds (seen a).kept n ≡ contents events n
-  pub within : x < length (seen a).kept
-  pub closed : AreGivenBelow (length (seen a).kept) (seen a).kept
+  pub holds : (n : ℕ) → holds (parts a).kept n ≡ contents events n
+  pub within : x < length (parts a).kept
+  pub closed : AreGivenBelow (length (parts a).kept) (parts a).kept

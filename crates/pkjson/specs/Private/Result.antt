@@ -1,26 +1,27 @@
--- What an object's value is within the limits, or why there is none.
+-- The value of an object within the limits, or why it has none.
 use Rattle.std.specs.Prelude.{◌≡◌, ◌≢◌, ◌⊎◌, ℕ, ◌<◌, ◌≤◌, List}
 use Rattle.serde_json.specs.Data.{Data, depth}
 use Rattle.serde_json.specs.Written.{compact_text}
 use Rattle.pkjson.specs.declared.error.ExportError.{ExportError}
-use Rattle.pkjson.specs.declared.error.ExportError.TheVariants.{Check, TooDeep, TooMany, OutOfMemory}
-use Rattle.pkread.specs.declared.refusal.Reason.{Reason}
-use Rattle.pkread.specs.declared.refusal.Reason.TheVariants as reason
+use Rattle.pkjson.specs.declared.error.ExportError.TheVariants.{Check, TooDeep, TooMany}
+use Rattle.pkjson.specs.declared.error.ExportError.TheVariants.{OutOfMemory}
+use Rattle.pkread.specs.declared.Reason.{Reason}
+use Rattle.pkread.specs.declared.Reason.TheVariants as reason
 use Rattle.pkjson.specs.Unfolds.{Heap, Unfolds, count}
 
--- its value, within the limits
+-- the object has this value, within the limits
 abbrev pub IsValue : Heap → ℕ → ℕ → ℕ → Data → Type 0
 IsValue h deepest most x v = Unfolds h x v × (depth v ≤ deepest) × (count v ≤ most)
 
--- it has one
+-- the object has a value within the limits
 abbrev pub HasValue : Heap → ℕ → ℕ → ℕ → Type 0
 HasValue h deepest most x = (v : Data) × IsValue h deepest most x v
 
--- the text is that of its value
+-- the text of the object's value
 abbrev pub IsText : Heap → ℕ → ℕ → ℕ → List ℕ → Type 0
 IsText h deepest most x text = (v : Data) × IsValue h deepest most x v × (text ≡ compact_text v)
 
--- why it has none
+-- why the object has no value within the limits
 abbrev pub IsTooLarge : Heap → ℕ → ℕ → ℕ → ExportError → Type 0
 IsTooLarge h deepest most x TooDeep = (v : Data) → Unfolds h x v → deepest < depth v
 IsTooLarge h deepest most x TooMany =
@@ -28,7 +29,7 @@ IsTooLarge h deepest most x TooMany =
 IsTooLarge h deepest most x OutOfMemory = Unit {0}
 IsTooLarge h deepest most x e = ⊥
 
--- the error that tells a refusal: want of memory by its own
+-- the error for a refusal; a refused allocation has an error of its own
 abbrev pub TellsRefusal : ℕ → Reason → ExportError → Type 0
 TellsRefusal at why e =
     (e ≡ OutOfMemory)

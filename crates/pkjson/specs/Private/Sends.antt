@@ -1,4 +1,4 @@
--- What serde is sent of an object's value, and the text of it.
+-- The events that serde receives for an object's value, and the text they give.
 use Rattle.std.specs.Prelude.{◌≡◌, ℕ, List}
 use Rattle.serde.specs.Event.{Log}
 use Rattle.serde_json.specs.Data.{Data, array, object, Items, Members}
@@ -6,18 +6,18 @@ use Rattle.serde_json.specs.Events.{SendsValue}
 use Rattle.serde_json.specs.Written.{compact_text}
 use Rattle.pkjson.specs.Unfolds.{Heap, Unfolds, UnfoldItems, UnfoldMembers}
 
--- the new events are those of an object's value
+-- the new events are those of the object's value
 unfoldable pub Sends : Heap → ℕ → Log → Log → Type 0
 Sends h x old new = (v : Data) × Unfolds h x v × SendsValue v old new
 
--- they are those of an array of the values of these objects
+-- the new events are those of an array with the values of these objects
 unfoldable pub SendsArray : Heap → List ℕ → Log → Log → Type 0
 SendsArray h xs old new = (vs : Items) × UnfoldItems h xs vs × SendsValue (array vs) old new
 
--- they are those of an object of these members
+-- the new events are those of an object with these members
 unfoldable pub SendsObject : Heap → List (List ℕ × ℕ) → Log → Log → Type 0
 SendsObject h ps old new = (ms : Members) × UnfoldMembers h ps ms × SendsValue (object ms) old new
 
--- the text is that of an object's value
+-- the text is the compact JSON of the object's value
 unfoldable pub IsCompact : Heap → ℕ → List ℕ → Type 0
 IsCompact h x text = (v : Data) × Unfolds h x v × (text ≡ compact_text v)

@@ -1,7 +1,8 @@
--- How far a plain pickle was followed.
-use Rattle.std.specs.Prelude.{◌≡◌, ◌⊎◌, ℕ, Bool, List, [], ◌∷◌, ◌++◌, length, All, Option, Some, None}
-use Rattle.pkops.specs.declared.inst.Inst.{Inst}
-use Rattle.pkops.specs.declared.op.Op.TheVariants as op
+-- How far a plain pickle was replayed.
+use Rattle.std.specs.Prelude.{◌≡◌, ◌⊎◌, ℕ, Bool, List, [], ◌∷◌, ◌++◌, length, All, Option, Some}
+use Rattle.std.specs.Prelude.{None}
+use Rattle.pkops.specs.declared.Inst.{Inst}
+use Rattle.pkops.specs.declared.Op.TheVariants as op
 use Rattle.pkops.specs.Inst.{instruction_of}
 use Rattle.pkops.specs.Spelling.{Instruction, spelling}
 use Rattle.pkread.specs.Admission.{IsAllowed}
@@ -17,7 +18,7 @@ abbrev pub HasStop : List Instruction → Type 0
 HasStop [] = ⊥
 HasStop (i ∷ is) = (i.op ≡ op.Stop) ⊎ HasStop is
 
--- the front of the bytes, where an instruction stands there: that one, and how many bytes spell it
+-- the instruction at the front of the bytes, if there is one, and the number of bytes that spell it
 abbrev pub IsFront : ℕ → List ℕ → Option (Inst × ℕ) → Type 0
 IsFront limit bytes None =
     (i : Instruction) (more : List ℕ) → bytes ≡ spelling i ++ more → IsAllowed limit i → ⊥
@@ -25,8 +26,8 @@ IsFront limit bytes (Some p) =
     (i : Instruction) (more : List ℕ) → bytes ≡ spelling i ++ more → IsAllowed limit i
     → (instruction_of p.0 ≡ i) × (p.1 ≡ length (spelling i))
 
--- the pickle p was followed up to the bytes `rest`, which stand at this offset; so far its objects
--- are these, and nothing is amiss
+-- the pickle p was replayed up to the bytes `rest`, at this offset; these are its objects, and no
+-- fault was found
 pub record Stands (limit : ℕ) (p : List Instruction) (rest : List ℕ) (at : ℕ)
     (a : Arena) : Type 0 where
   pub after : List Instruction
@@ -41,7 +42,7 @@ pub record Stands (limit : ℕ) (p : List Instruction) (rest : List ℕ) (at : �
   pub fault : first_fault 0 p start ≡ first_fault at after state
   pub mirrors : MirrorsState a state
 
--- the same, with the next instruction
+-- the same position, with the next instruction
 pub record StandsAt (limit : ℕ) (p : List Instruction) (rest : List ℕ) (at : ℕ) (a : Arena)
     (i : Instruction) : Type 0 where
   pub after : List Instruction

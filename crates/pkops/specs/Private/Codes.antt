@@ -1,4 +1,4 @@
--- The opcodes by their codes, as the program keeps them.
+-- Opcodes by code, in the order of the program's table.
 use Rattle.std.specs.Prelude.{ℕ, ◌+◌, zero, suc, ◌==◌, List, [], ◌∷◌, Option, find}
 use Rattle.pkops.specs.declared.op.Op.{Op}
 use Rattle.pkops.specs.declared.op.Op.TheVariants as op
@@ -18,11 +18,11 @@ all =
     op.Ext4 ∷ op.Global ∷ op.StackGlobal ∷ op.Reduce ∷ op.Build ∷ op.Inst ∷ op.Obj ∷ op.NewObj ∷
     op.NewObjEx ∷ op.Proto ∷ op.Stop ∷ op.Frame ∷ op.PersId ∷ op.BinPersid ∷ []
 
--- the opcode that has the code, if there is one
+-- the opcode with this code, if any
 unfoldable pub op_of : ℕ → Option Op
 op_of code = find (λ op. code_of op == code) all
 
--- the opcodes of so many codes, from this one on
+-- the opcodes of `count` codes, starting at this code
 abbrev pub ops_from : (code count : ℕ) → List (Option Op)
 ops_from code zero = []
 ops_from code (suc count) = op_of code ∷ ops_from (code + 1) count

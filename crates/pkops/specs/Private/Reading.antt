@@ -1,6 +1,7 @@
--- How the code reads an argument from left to right, and which fault it meets first;
--- `proofs/Arguments.antt` shows that each layout is read as `Scanning` says.
-use Rattle.std.specs.Prelude.{◌≡◌, ℕ, ◌+◌, List, length, take, drop, Bool, Option, Some, None, Result, Ok, Err, nat_lt, nat_le, position, ◌==◌, if◌then◌else◌}
+-- How the code reads an argument from left to right, and which fault it reports first;
+-- `proofs/Arguments.antt` proves that it reads each layout as `Scanning` says.
+use Rattle.std.specs.Prelude.{◌≡◌, ℕ, ◌+◌, List, length, take, drop, Bool, Option, Some, None}
+use Rattle.std.specs.Prelude.{Result, Ok, Err, nat_lt, nat_le, position, ◌==◌, if◌then◌else◌}
 use Rattle.std.specs.Int.{w32, cast_signed}
 use Rattle.byteorder.specs.Endian.{little_number}
 use Rattle.pkops.specs.declared.layout.Layout.{Layout}
@@ -11,36 +12,37 @@ use Rattle.pkops.specs.declared.reading.Unread.{Unread}
 use Rattle.pkops.specs.declared.reading.Unread.TheVariants.{Short, Bad}
 use Rattle.pkops.specs.Answer.{Answer}
 use Rattle.pkops.specs.Answer as answer
-use Rattle.pkops.specs.Spelling.{Argument, Nothing, Number, Signed, Float, Line, Pair, Counted, count_limit, size_of}
+use Rattle.pkops.specs.Spelling.{Argument, Nothing, Number, Signed, Float, Line, Pair, Counted}
+use Rattle.pkops.specs.Spelling.{count_limit, size_of}
 
 infixl 10 ◌>>=◌
--- read, and then go on with what was read; the first fault ends the reading
+-- reads, then continues with what was read; the first fault ends the reading
 abbrev pub ◌>>=◌ : {A B : Type 0} → Result A Unread → (A → Result B Unread) → Result B Unread
 (Ok x) >>= f = f x
 (Err e) >>= f = Err e
 
--- what a function returned, seen by view, is what reading gives
-abbrev pub Gives : {X Y : Type 0} → (X → Y) → Result X Unread → Result Y Unread → Type 0
-Gives view (Ok x) read = read ≡ Ok (view x)
-Gives view (Err e) read = read ≡ Err e
+-- a function's return value, seen through `view`, is what reading gives
+abbrev pub ReturnsAs : {X Y : Type 0} → (X → Y) → Result X Unread → Result Y Unread → Type 0
+ReturnsAs view (Ok x) read = read ≡ Ok (view x)
+ReturnsAs view (Err e) read = read ≡ Err e
 
--- so many bytes, and the bytes after them
+-- n bytes, and the bytes after them
 abbrev pub bytes_at : ℕ → List ℕ → Result (List ℕ × List ℕ) Unread
 bytes_at n bytes = if nat_lt (length bytes) n then Err Short else Ok (take n bytes, drop n bytes)
 
--- a number of so many bytes, the lowest first
+-- a little-endian number of `width` bytes, and the bytes after it
 abbrev pub number_at : ℕ → List ℕ → Result (ℕ × List ℕ) Unread
 number_at width bytes =
     if nat_lt (length bytes) width then Err Short
     else Ok (little_number width bytes, drop width bytes)
 
--- a line, given where the first line feed stands
+-- a line, given the position of the first line feed
 abbrev at_end : ℕ → List ℕ → Option ℕ → Result (List ℕ × List ℕ) Unread
 at_end most bytes None = if nat_le (length bytes) most then Err Short else Err (Bad TooLarge)
 at_end most bytes (Some i) =
     if nat_le i most then Ok (take i bytes, drop (i + 1) bytes) else Err (Bad TooLarge)
 
--- a line of at most so many bytes
+-- a line of at most `most` bytes
 unfoldable pub line_at : ℕ → List ℕ → Result (List ℕ × List ℕ) Unread
 line_at most bytes = at_end most bytes (position (λ byte. byte == 10) bytes)
 
@@ -51,7 +53,7 @@ pair_at most bytes = do
   second ← line_at most first.1
   Ok ((first.0, second.0), second.1)
 
--- a count, and as many bytes as it says
+-- a count, then that many bytes
 unfoldable pub payload_at : ℕ → Width → Bool → List ℕ → Result (List ℕ × List ℕ) Unread
 payload_at limit size signed bytes = do
   count ← number_at (size_of size) bytes
@@ -73,7 +75,7 @@ arg_at limit (layout.Pair most) bytes =
 arg_at limit (layout.Counted size signed) bytes =
     payload_at limit size signed bytes >>= λ payload. Ok (Counted payload.0, payload.1)
 
--- the scan's answer where no argument was read
+-- the scan's answer when no argument was read
 abbrev pub IsUnread : Unread → Answer → Type 0
 IsUnread Short result = result ≡ answer.More
 IsUnread (Bad fault) result = result ≡ answer.Bad fault

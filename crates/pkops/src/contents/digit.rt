@@ -3,7 +3,7 @@
 ghost use Rattle.std.specs.Prelude.{◌≡◌, ◌<◌, Some, None, if◌then◌else◌, IfSome};
 ghost use Rattle.std.specs.Char.{is_ascii_hexdigit, digit_value};
 
-/// The value of a hexadecimal digit of either case.
+/// The value of a hexadecimal digit in either case; `None` for any other byte.
 pub fn hex_value(byte: u8) -> Option<u8>
     ensures value { result ≡ (if is_ascii_hexdigit byte then Some (digit_value byte) else None) }
     ensures small { IfSome result (λ digit. digit < 16) }

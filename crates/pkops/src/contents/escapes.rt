@@ -5,24 +5,26 @@ ghost use Rattle.std.specs.Prelude.{is_some, string_bytes};
 ghost use Rattle.std.specs.Prelude.{true};
 ghost use Rattle.std.specs.List.{list_all};
 ghost use Rattle.std.specs.Option.{option_map};
-ghost use Rattle.pkops.specs.Private.EscapeSteps.{IsSmall, digit_step, is_plain, step_of};
+ghost use Rattle.pkops.specs.Private.EscapeSteps.{IsPointSoFar, digit_step, is_plain_ascii};
+ghost use Rattle.pkops.specs.Private.EscapeSteps.{escape_step};
 ghost use Rattle.pkops.specs.Escapes.{points_of};
 
 use crate::contents::digit::hex_value;
 use std::alloc::{AllocError, Global};
 
-/// Where a reader of text with escapes stands.
+/// The state of a reader of text with escapes.
 #[derive(Clone, Copy)]
 pub enum State {
-    /// Outside of any escape.
+    /// Outside any escape.
     Outside,
-    /// Behind a backslash.
+    /// After a backslash.
     Behind,
-    /// Before so many digits of an escape; those before them write this number.
+    /// Inside an escape: how many digits are left, and the value of those read so far.
     Digits(u8, u32),
 }
 
-/// The text that a line spells, if it spells one.
+/// The text that a line spells, or `None` if it spells none. Fails only if an allocation is
+/// refused.
 pub fn read_text(alloc: Global, line: &[u8]) -> Result<Option<String>, AllocError>
     ensures { IfOk result (λ text.
         option_map string_bytes text ≡ option_map encode_utf8_all (points_of line.now)) }
@@ -34,16 +36,16 @@ pub fn read_text(alloc: Global, line: &[u8]) -> Result<Option<String>, AllocErro
     }
 }
 
-/// Whether a line is ASCII without a backslash, as most lines are: it spells itself.
+/// Whether a line is ASCII without a backslash, as most lines are. Such a line spells itself.
 fn is_plain(line: &[u8]) -> bool
-    ensures { result ≡ list_all is_plain line.now }
+    ensures { result ≡ list_all is_plain_ascii line.now }
 {
     line.iter().all(|byte| byte.is_ascii() && *byte != b'\\')
 }
 
-/// The text of such a line.
+/// The text of a plain line.
 fn read_plain(alloc: Global, line: &[u8]) -> Result<Option<String>, AllocError>
-    requires { list_all is_plain line.now ≡ true }
+    requires { list_all is_plain_ascii line.now ≡ true }
     ensures { IfOk result (λ text. option_map string_bytes text ≡ Some line.now) }
 {
     match str::from_utf8(line) {
@@ -52,7 +54,7 @@ fn read_plain(alloc: Global, line: &[u8]) -> Result<Option<String>, AllocError>
     }
 }
 
-/// The text of any line, byte by byte.
+/// The text of any line, read byte by byte.
 fn read_escaped(alloc: Global, line: &[u8]) -> Result<Option<String>, AllocError>
     ensures { IfOk result (λ text.
         option_map string_bytes text ≡ option_map encode_utf8_all (points_of line.now)) }
@@ -81,7 +83,7 @@ pub fn spells_text(line: &[u8]) -> bool
     is_plain(line) || spells_escaped(line)
 }
 
-/// Whether any line does, byte by byte.
+/// Whether any line spells a text, read byte by byte.
 #[inline(never)]
 fn spells_escaped(line: &[u8]) -> bool
     ensures { result ≡ is_some (points_of line.now) }
@@ -96,11 +98,11 @@ fn spells_escaped(line: &[u8]) -> bool
     matches!(state, State::Outside)
 }
 
-/// Where a byte leads, if it may stand there, and the character that it ends.
+/// The next state after a byte, if the byte is allowed, and the character that it completes.
 fn step(state: State, byte: u8) -> Option<(State, Option<char>)>
-    requires { IsSmall state }
-    ensures step { result ≡ step_of state byte }
-    ensures small { IfSome result (λ next. IsSmall next.0) }
+    requires { IsPointSoFar state }
+    ensures step { result ≡ escape_step state byte }
+    ensures small { IfSome result (λ next. IsPointSoFar next.0) }
 {
     match state {
         State::Outside => match byte {
@@ -121,10 +123,11 @@ fn step(state: State, byte: u8) -> Option<(State, Option<char>)>
     }
 }
 
-/// Where a digit leads that makes the number of an escape this one.
+/// The next state after a digit that raises the value of an escape to this; `left` counts the
+/// digits to come, this one included.
 fn digit_step(left: u8, value: u32) -> Option<(State, Option<char>)>
     ensures step { result ≡ digit_step left value }
-    ensures small { IfSome result (λ next. IsSmall next.0) }
+    ensures small { IfSome result (λ next. IsPointSoFar next.0) }
 {
     if left < 2 {
         match char::from_u32(value) {

@@ -8,7 +8,7 @@ ghost use Rattle.pkops.specs.Deciding.{is_unsigned, starts_with_digit};
 
 use crate::contents::numeral::are_digits;
 
-/// Whether the line is one of FLOAT: perhaps a minus, and `inf`, `nan` or decimal digits.
+/// Whether this is a line of FLOAT: an optional minus, then `inf`, `nan` or decimal digits.
 pub fn is_float_line(line: &[u8]) -> bool
     ensures { result ≡ is_float_line line.now }
 {
@@ -24,7 +24,7 @@ fn is_unsigned(text: &[u8]) -> bool
     matches!(text, [b'i', b'n', b'f'] | [b'n', b'a', b'n']) || is_decimal(text)
 }
 
-/// Whether the text is digits, perhaps a fraction and perhaps an exponent.
+/// Whether the text is digits with an optional fraction and an optional exponent.
 fn is_decimal(text: &[u8]) -> bool
     ensures { result ≡ is_decimal text.now }
 {
@@ -75,7 +75,7 @@ fn starts_with_digit(text: &[u8]) -> bool
     }
 }
 
-/// The bytes from the first on that is no digit.
+/// The bytes from the first non-digit on.
 fn after_digits(text: &[u8]) -> &[u8]
     ensures { result.now ≡ after_digits text.now }
 {

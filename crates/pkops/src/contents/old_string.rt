@@ -4,25 +4,25 @@ ghost use Rattle.std.specs.Prelude.{◌≡◌, Some, None, if◌then◌else◌, 
 ghost use Rattle.std.specs.Option.{option_map};
 ghost use Rattle.pkops.specs.Deciding.{are_items, is_string_line};
 ghost use Rattle.pkops.specs.OldBytes.{bytes_between, bytes_of_line, letter_byte};
-ghost use Rattle.pkops.specs.Private.Places.{IsSmall, step_of};
+ghost use Rattle.pkops.specs.Private.Places.{HoldsDigit, place_step};
 
 use crate::contents::digit::hex_value;
 use std::alloc::{AllocError, Global};
 
-/// Where a reader of a string in quotes stands.
+/// The state of a reader of a string in quotes.
 #[derive(Clone, Copy)]
 pub enum Place {
-    /// Outside of any escape.
+    /// Outside any escape.
     Outside,
-    /// Behind a backslash.
+    /// After a backslash.
     Behind,
-    /// Before the first digit of a byte's number.
+    /// Before the first digit of a `\x` escape.
     High,
-    /// Before its second digit, where the first has this value.
+    /// Before the second digit; the first has this value.
     Low(u8),
 }
 
-/// Whether the line is one of STRING: printable ASCII with escapes, in quotes.
+/// Whether this is a line of STRING: printable ASCII with escapes, in quotes.
 pub fn is_string_line(line: &[u8]) -> bool
     ensures { result ≡ is_string_line line.now }
 {
@@ -34,7 +34,8 @@ pub fn is_string_line(line: &[u8]) -> bool
     }
 }
 
-/// The bytes that a line of STRING spells, if it is one.
+/// The bytes that a line of STRING spells, or `None` if it is no such line. Fails only if an
+/// allocation is refused.
 pub fn read_string(alloc: Global, line: &[u8]) -> Result<Option<Vec<u8>>, AllocError>
     ensures { IfOk result (λ bytes. option_map (λ v. v.items) bytes ≡ bytes_of_line line.now) }
 {
@@ -46,7 +47,7 @@ pub fn read_string(alloc: Global, line: &[u8]) -> Result<Option<Vec<u8>>, AllocE
     }
 }
 
-/// Whether the bytes are whole characters and escapes, with no such quote among them.
+/// Whether the bytes are complete characters and escapes, without an unescaped `quote`.
 fn are_items(quote: u8, inside: &[u8]) -> bool
     ensures { result ≡ are_items quote inside.now }
 {
@@ -60,7 +61,7 @@ fn are_items(quote: u8, inside: &[u8]) -> bool
     matches!(place, Place::Outside)
 }
 
-/// The bytes that whole characters and escapes stand for, with no such quote among them.
+/// The bytes that complete characters and escapes spell, or `None` for anything else.
 fn read_items(alloc: Global, quote: u8, inside: &[u8]) -> Result<Option<Vec<u8>>, AllocError>
     ensures { IfOk result (λ bytes.
         option_map (λ v. v.items) bytes ≡ bytes_between quote inside.now) }
@@ -82,11 +83,11 @@ fn read_items(alloc: Global, quote: u8, inside: &[u8]) -> Result<Option<Vec<u8>>
     }
 }
 
-/// Where a byte leads, if it may stand there, and the byte that is spelled with it.
+/// The next place after a byte, if the byte is allowed, and the byte that it completes.
 fn step(quote: u8, place: Place, byte: u8) -> Option<(Place, Option<u8>)>
-    requires { IsSmall place }
-    ensures step { result ≡ step_of quote place byte }
-    ensures small { IfSome result (λ next. IsSmall next.0) }
+    requires { HoldsDigit place }
+    ensures step { result ≡ place_step quote place byte }
+    ensures small { IfSome result (λ next. HoldsDigit next.0) }
 {
     match place {
         Place::Outside => match byte {
@@ -112,7 +113,7 @@ fn step(quote: u8, place: Place, byte: u8) -> Option<(Place, Option<u8>)>
     }
 }
 
-/// The byte that the letter of an escape stands for.
+/// The byte that the letter of an escape spells.
 fn letter_byte(letter: u8) -> u8
     ensures { result ≡ letter_byte letter }
 {

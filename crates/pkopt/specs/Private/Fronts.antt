@@ -1,10 +1,10 @@
--- The instructions of a pickle, as the passes over them see it.
+-- The instructions of a pickle, as the passes see them.
 use Rattle.std.specs.Prelude.{◌≡◌, ◌≢◌, ◌⊎◌, ℕ, List, [], ◌∷◌}
-use Rattle.pkops.specs.declared.op.Op.TheVariants.{Stop}
+use Rattle.pkops.specs.declared.Op.TheVariants.{Stop}
 use Rattle.pkops.specs.Spelling.{Instruction}
 use Rattle.pkread.specs.Admission.{IsAllowed}
 
--- each instruction is allowed, the last is STOP, and no other is
+-- each instruction is allowed, and only the last is STOP
 abbrev pub EndsInStop : ℕ → List Instruction → Type 0
 EndsInStop limit [] = ⊥
 EndsInStop limit (i ∷ is) =

@@ -1,4 +1,4 @@
--- What is heard of a pickle, instruction by instruction, adds up.
+-- What is heard of consecutive instructions adds up.
 use Rattle.std.proofs.Common.{◌≡◌, ℕ, Bool, true, false, cond, List, [], ◌∷◌, ◌++◌, Option}
 use Rattle.std.proofs.Common.{refl, sym, ap, subst, ◌∙◌, append_assoc, append-nil}
 use Rattle.pkops.specs.Operands.{memo_number}
@@ -7,8 +7,8 @@ use Rattle.pkcheck.specs.Effects.{effect_of}
 use Rattle.pkcheck.specs.Heard.{Heard}
 use Rattle.pkopt.specs.declared.place.Place.{Place}
 use Rattle.pkopt.specs.declared.trace.Trace.{Trace}
-use Rattle.pkopt.specs.Private.Passes.{Follows, Hears}
-use Rattle.pkopt.specs.Private.Places.{is_plain, place_of, places_told, told}
+use Rattle.pkopt.specs.Private.Passes.{FollowsWrites, Hears}
+use Rattle.pkopt.specs.Private.Places.{stays_as_is, place_of, places_told, told}
 use Rattle.pkopt.specs.Writers.{Writes, after, read_by, sources, after_all}
 
 pub after_all-more :
@@ -17,7 +17,7 @@ pub after_all-more :
 after_all-more [] i ws = refl
 after_all-more (x ∷ is) i ws = after_all-more is i (after x ws)
 
--- what an instruction reads behind these writes
+-- what an instruction reads after these writes
 abbrev pub read_at : Instruction → Writes → List (Option ℕ)
 read_at i ws = read_by (effect_of i.op) (memo_number i) ws
 
@@ -44,9 +44,9 @@ places_told-more :
     (hs ks : List Heard) → places_told (hs ++ ks) ≡ places_told hs ++ places_told ks
 places_told-more [] ks = refl
 places_told-more (h ∷ hs) ks =
-    ap (λ (l : List Place). cond (is_plain h.instruction.op) l (place_of h.at h.instruction ∷ l))
+    ap (λ (l : List Place). cond (stays_as_is h.instruction.op) l (place_of h.at h.instruction ∷ l))
     (places_told-more hs ks)
-    ∙ cond_append (is_plain h.instruction.op) (place_of h.at h.instruction) (places_told hs)
+    ∙ cond_append (stays_as_is h.instruction.op) (place_of h.at h.instruction) (places_told hs)
     (places_told ks)
 
 pub hears_none : (x : Trace) → Hears x x []
@@ -68,7 +68,7 @@ hears_more x y z hs h f g = λ ws s.
     let read = read_at h.instruction behind in
     record {
       follows =
-          subst (λ (x : Writes). Follows x z)
+          subst (λ (x : Writes). FollowsWrites x z)
           (sym (ap (λ (l : List Instruction). after_all l ws) all
           ∙ after_all-more (told hs) h.instruction ws)) b.follows;
       sources_now =

@@ -1,7 +1,8 @@
--- What the two passes over a pickle keep, and what they find.
-use Rattle.std.specs.Prelude.{◌≡◌, ℕ, ◌<◌, Bool, false, cond, min, List, [], ◌++◌, length, Option, Some, None, slice_index_or}
-use Rattle.pkops.specs.declared.op.Op.{Op}
-use Rattle.pkops.specs.declared.op.Op.TheVariants as op
+-- The state of the two passes over a pickle, and their results.
+use Rattle.std.specs.Prelude.{◌≡◌, ℕ, ◌<◌, Bool, false, cond, min, List, [], ◌++◌, length, Option}
+use Rattle.std.specs.Prelude.{Some, None, slice_index_or}
+use Rattle.pkops.specs.declared.Op.{Op}
+use Rattle.pkops.specs.declared.Op.TheVariants as op
 use Rattle.pkops.specs.Spelling.{Instruction}
 use Rattle.pkops.specs.Operands.{memo_number}
 use Rattle.pkcheck.specs.Effects.{effect_of}
@@ -9,7 +10,7 @@ use Rattle.pkcheck.specs.Heard.{Heard}
 use Rattle.pkopt.specs.declared.memo.MemoUse.{MemoUse}
 use Rattle.pkopt.specs.declared.trace.Trace.{Trace}
 use Rattle.pkopt.specs.declared.memo.MemoUse.TheVariants.{Stores, StoresNext, Fetches, Neither}
-use Rattle.pkopt.specs.Private.Memories.{Holds}
+use Rattle.pkopt.specs.Private.Memories.{HoldsWrites}
 use Rattle.pkopt.specs.Private.Places.{places_from, places_told, told}
 use Rattle.pkopt.specs.Writers.{Writes, after, read_by, sources, is_read, new_number, after_all}
 
@@ -25,45 +26,46 @@ memo_use op.LongBinGet = Fetches
 memo_use o = Neither
 
 -- before the first instruction
-pub record Begins (t : Trace) : Type 0 where
-  pub row : t.memo.row.items ≡ []
+pub record IsNewTrace (t : Trace) : Type 0 where
+  pub ordered : t.memo.ordered.items ≡ []
   pub rest : t.memo.rest.entries ≡ []
   pub writes : t.writes ≡ 0
   pub sources : t.sources.items ≡ []
   pub places : t.places.items ≡ []
 
--- after these writes there are so many of them, and the memo has the last of each number
-pub record Follows (ws : Writes) (t : Trace) : Type 0 where
-  pub holds : Holds ws t.memo
+-- the trace counts these writes, and its memo holds the last of each number
+pub record FollowsWrites (ws : Writes) (t : Trace) : Type 0 where
+  pub holds : HoldsWrites ws t.memo
   pub count : t.writes ≡ length ws
 
--- what one more instruction does to the memo was noted
-abbrev pub Steps : Instruction → Trace → Trace → Type 0
-Steps i old new = (ws : Writes) → Follows ws old →
-    Follows (after i ws) new
+-- the effect of one more instruction on the memo was recorded
+abbrev pub NotesStep : Instruction → Trace → Trace → Type 0
+NotesStep i old new = (ws : Writes) → FollowsWrites ws old →
+    FollowsWrites (after i ws) new
     × (new.sources.items ≡ old.sources.items ++ read_by (effect_of i.op) (memo_number i) ws)
 
--- all this was heard, after these writes
+-- all these instructions were heard, after these writes
 pub record HearsBehind (ws : Writes) (old new : Trace) (hs : List Heard) : Type 0 where
-  pub follows : Follows (after_all (told hs) ws) new
+  pub follows : FollowsWrites (after_all (told hs) ws) new
   pub sources_now : new.sources.items ≡ old.sources.items ++ sources ws (told hs)
   pub places_now : new.places.items ≡ old.places.items ++ places_told hs
 
 abbrev pub Hears : Trace → Trace → List Heard → Type 0
-Hears old new hs = (ws : Writes) → Follows ws old → HearsBehind ws old new hs
+Hears old new hs = (ws : Writes) → FollowsWrites ws old → HearsBehind ws old new hs
 
--- this is known of a whole pickle: what each read reads, how many writes there are, and the places
+-- what is known of a whole pickle: the write that each read reads, the number of writes, and the
+-- places
 pub record Tracks (p : List Instruction) (t : Trace) : Type 0 where
   pub reads : t.sources.items ≡ sources [] p
   pub writes : t.writes ≡ length (after_all p [])
   pub places : t.places.items ≡ places_from 0 p
 
--- of each write, whether it is read
+-- for each write, whether it is read
 pub record AreKept (vs : List (Option ℕ)) (writes : ℕ) (kept : List Bool) : Type 0 where
   pub count : length kept ≡ writes
   pub each : (w : ℕ) → w < writes → slice_index_or kept w false ≡ is_read w vs
 
--- of each write that is read, its new number, or the limit where it is past that
+-- for each write that is read, its new number, or the limit if the number is greater
 pub record AreNumbers (vs : List (Option ℕ)) (writes limit : ℕ) (numbers : List (Option ℕ))
     : Type 0 where
   pub count : length numbers ≡ writes

@@ -1,42 +1,42 @@
--- Where in a pickle the instructions stand that may not stay as they are.
+-- The places of the instructions in a pickle that may change.
 use Rattle.std.specs.Prelude.{ℕ, ◌+◌, Bool, true, false, cond, List, [], ◌∷◌, length}
-use Rattle.pkops.specs.declared.op.Op.{Op}
-use Rattle.pkops.specs.declared.op.Op.TheVariants as op
+use Rattle.pkops.specs.declared.Op.{Op}
+use Rattle.pkops.specs.declared.Op.TheVariants as op
 use Rattle.pkops.specs.Spelling.{Instruction, spelling}
 use Rattle.pkcheck.specs.Heard.{Heard}
 use Rattle.pkopt.specs.declared.place.Place.{Place}
 
--- an instruction of this opcode stays as it is: it doesn't use the memo and is no FRAME
-abbrev pub is_plain : Op → Bool
-is_plain op.Put = false
-is_plain op.BinPut = false
-is_plain op.LongBinPut = false
-is_plain op.Memoize = false
-is_plain op.Get = false
-is_plain op.BinGet = false
-is_plain op.LongBinGet = false
-is_plain op.Frame = false
-is_plain o = true
+-- instructions of this opcode never change: they do not use the memo and are no FRAME
+abbrev pub stays_as_is : Op → Bool
+stays_as_is op.Put = false
+stays_as_is op.BinPut = false
+stays_as_is op.LongBinPut = false
+stays_as_is op.Memoize = false
+stays_as_is op.Get = false
+stays_as_is op.BinGet = false
+stays_as_is op.LongBinGet = false
+stays_as_is op.Frame = false
+stays_as_is o = true
 
--- the place of an instruction that begins at this offset
+-- the place of an instruction at this offset
 abbrev pub place_of : ℕ → Instruction → Place
 place_of at i = record { at = at; size = length (spelling i); op = i.op }
 
--- the places of those that aren't plain, where the first instruction begins at this offset
+-- the places of the instructions that are not plain; the first instruction is at this offset
 abbrev pub places_from : ℕ → List Instruction → List Place
 places_from at [] = []
 places_from at (i ∷ is) =
-    cond (is_plain i.op) (places_from (at + length (spelling i)) is)
+    cond (stays_as_is i.op) (places_from (at + length (spelling i)) is)
     (place_of at i ∷ places_from (at + length (spelling i)) is)
 
--- the instructions that were heard of
+-- the instructions that were heard
 abbrev pub told : List Heard → List Instruction
 told [] = []
 told (h ∷ hs) = h.instruction ∷ told hs
 
--- the places of those among them that aren't plain
+-- the places of the heard instructions that are not plain
 abbrev pub places_told : List Heard → List Place
 places_told [] = []
 places_told (h ∷ hs) =
-    cond (is_plain h.instruction.op) (places_told hs)
+    cond (stays_as_is h.instruction.op) (places_told hs)
     (place_of h.at h.instruction ∷ places_told hs)

@@ -1,19 +1,19 @@
--- The memo of a run, or what stands in its place, against the writes so far.
+-- The memo of a run, or its counterpart in the code, compared with the writes so far.
 use Rattle.std.specs.Prelude.{◌≡◌, ℕ, ◌<◌, List, [], ◌∷◌, length}
 use Rattle.pkcheck.specs.Shape.{recalled}
 use Rattle.pkopt.specs.Writers.{Writes, last_write, different}
 
--- each number is above this one
+-- each number is greater than this one
 abbrev pub Above : {A : Type 0} → ℕ → List (ℕ × A) → Type 0
 Above n [] = Unit {0}
 Above n (e ∷ es) = (n < e.0) × Above n es
 
--- in the order of their numbers, of which no two are equal
+-- in strictly ascending order of their numbers
 abbrev pub Rising : {A : Type 0} → List (ℕ × A) → Type 0
 Rising [] = Unit {0}
 Rising (e ∷ es) = Above e.0 es × Rising es
 
--- under each number is the last write of this number
+-- the entry of each number is its last write
 pub record Traces (ws : Writes) (trace : List (ℕ × ℕ)) : Type 0 where
   pub found : (n : ℕ) → last_write n ws ≡ recalled n trace
   pub count : different ws ≡ length trace

@@ -1,4 +1,4 @@
--- What a check that was heard leaves.
+-- The result of a check with a listener.
 use Rattle.std.specs.Prelude.{◌≡◌, ℕ, List, length}
 use Rattle.pkops.specs.Limits.{Bounds}
 use Rattle.pkread.specs.Sequence.{spellings}
@@ -6,7 +6,7 @@ use Rattle.pkopt.specs.declared.optimizing.Traced.{Traced}
 use Rattle.pkopt.specs.Answer.{Checks, pickle}
 use Rattle.pkopt.specs.Private.Passes.{Tracks}
 
--- the pickle at the front of the bytes passes the check, and this is known of it
+-- the pickle at the front of the bytes passes the check, and this is what the listener recorded
 pub record IsTraced (limits : Bounds) (bytes : List ℕ) (x : Traced) : Type 0 where
   pub checks : Checks limits bytes
   pub tracks : Tracks (pickle checks) x.trace

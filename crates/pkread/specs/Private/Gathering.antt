@@ -1,24 +1,29 @@
 -- The bytes of one instruction, as its arms take them.
-use Rattle.std.specs.Prelude.{◌≡◌, ◌≢◌, ◌⊎◌, ℕ, ◌+◌, ◌<◌, ◌≤◌, Bool, List, [], ◌∷◌, ◌++◌, length, None}
+use Rattle.std.specs.Prelude.{◌≡◌, ◌≢◌, ◌⊎◌, ℕ, ◌+◌, ◌<◌, ◌≤◌, Bool, List, [], ◌∷◌, ◌++◌, length}
+use Rattle.std.specs.Prelude.{None, Result, MatchResult}
 use Rattle.std.specs.List.{AllByRecursion}
 use Rattle.std.specs.Io.KnownBytes.{IsAtEnd}
 use Rattle.pkops.specs.Contents.{IsGood}
 use Rattle.pkops.specs.Lying.{Lies, count_in}
 use Rattle.pkops.specs.Scanning.{Begun}
 use Rattle.pkops.specs.Spelling.{Argument, IsLine, count_limit, instruction, line_feed, size_of}
-use Rattle.pkops.specs.declared.layout.Width.{Width}
-use Rattle.pkops.specs.declared.op.Op.{Op}
+use Rattle.pkops.specs.Table.{code_of}
+use Rattle.pkops.specs.declared.Op.{Op}
 use Rattle.pkread.specs.Admission.{objection}
-use Rattle.pkread.specs.Rows.{Sight, Fails, FrontsBegin, IsAmiss, Takes, all_bytes}
-use Rattle.pkread.specs.Private.Taking.{AreBytes, LackRow, Took}
+use Rattle.pkread.specs.Private.Progress.{Intake}
+use Rattle.pkread.specs.Private.Taking.{AreAllBytes, LackRow, Took}
+use Rattle.pkread.specs.Rows.{Sight, Fails, FrontsBegin, IsAmiss, Refuses, Takes, all_bytes}
+use Rattle.pkread.specs.declared.arms.Count.{Count}
+use Rattle.pkread.specs.declared.gather.Found.{Found}
 use Rattle.pkread.specs.declared.refusal.Reason.{Reason}
-use Rattle.pkread.specs.declared.refusal.Reason.TheVariants.{Source, Truncated, TooLarge, OutOfMemory}
+use Rattle.pkread.specs.declared.refusal.Reason.TheVariants.{Source, Truncated, TooLarge}
+use Rattle.pkread.specs.declared.refusal.Reason.TheVariants.{OutOfMemory}
 
--- the bytes were taken, and each shorter front only begins an instruction
-pub record Gathers (limit : ℕ) (old new : Sight) (bytes : List ℕ) (before after : ℕ) : Type 0 where
-  pub taken : after ≡ before + length bytes
-  pub fronts : FrontsBegin limit bytes
-  pub source : Takes old new bytes
+-- all bytes of an instruction were taken, and each shorter front only begins one
+pub record Gathers (limit : ℕ) (old new : Intake) : Type 0 where
+  pub taken : new.taken ≡ old.taken + length new.bytes
+  pub fronts : FrontsBegin limit new.bytes
+  pub source : Takes old.source new.source new.bytes
 
 -- the row of a reason, where only the run was taken between the sights, behind other bytes of the
 -- instruction
@@ -35,37 +40,33 @@ RowBehind limit before after run bytes taken reason =
     Takes before after run × IsAmiss limit bytes reason
 
 -- bytes were taken behind the old ones, and now they are the opcode with an argument
-pub record Grows (limit : ℕ) (op : Op) (split : ℕ) (old : List ℕ) (before : Sight) (t : ℕ)
-    (new : List ℕ) (after : Sight) (u : ℕ) : Type 0 where
+pub record Grows (limit : ℕ) (op : Op) (split : ℕ) (old new : Intake) : Type 0 where
   pub bytes : List ℕ
-  pub took : Took bytes old before t new after u
+  pub took : Took bytes old new
   pub arg : Argument
-  pub lies : Lies limit op arg split new
+  pub lies : Lies limit op arg split new.bytes
 
 -- bytes were taken behind the old ones, and no more, for the reason
-pub record Stops (limit : ℕ) (old : List ℕ) (before : Sight) (t : ℕ) (new : List ℕ)
-    (after : Sight) (u : ℕ) (reason : Reason) : Type 0 where
+pub record Stops (limit : ℕ) (old new : Intake) (reason : Reason) : Type 0 where
   pub bytes : List ℕ
-  pub held : new ≡ old ++ bytes
-  pub count_is : u ≡ t + length bytes
-  pub fronts : FrontsBegin limit new
-  pub row : RowBehind limit before after bytes new u reason
+  pub held : new.bytes ≡ old.bytes ++ bytes
+  pub count_is : new.taken ≡ old.taken + length bytes
+  pub fronts : FrontsBegin limit new.bytes
+  pub row : RowBehind limit old.source new.source bytes new.bytes new.taken reason
 
 -- a count was taken, and it keeps the limit
-pub record Counts (limit : ℕ) (size : Width) (signed : Bool) (n : ℕ) (old : List ℕ)
-    (before : Sight) (t : ℕ) (new : List ℕ) (after : Sight) (u : ℕ) : Type 0 where
+pub record Counts (c : Count) (n : ℕ) (old new : Intake) : Type 0 where
   pub field : List ℕ
-  pub took : Took field old before t new after u
-  pub len : length field ≡ size_of size
-  pub count : n ≡ count_in size field
-  pub under : n < count_limit size signed
-  pub within : n ≤ limit
+  pub took : Took field old new
+  pub len : length field ≡ size_of c.width
+  pub count : n ≡ count_in c.width field
+  pub under : n < count_limit c.width c.signed
+  pub within : n ≤ c.limit
 
 -- a line was taken, of at most so many bytes
-pub record TookLine (most : ℕ) (old : List ℕ) (before : Sight) (t : ℕ) (new : List ℕ)
-    (after : Sight) (u : ℕ) : Type 0 where
+pub record TookLine (most : ℕ) (old new : Intake) : Type 0 where
   pub text : List ℕ
-  pub took : Took (text ++ line_feed ∷ []) old before t new after u
+  pub took : Took (text ++ line_feed ∷ []) old new
   pub line : IsLine most text
 
 -- why no line was: one byte more could not be taken, or none may follow
@@ -77,14 +78,13 @@ LineRow most before after bytes u reason =
     (length bytes ≤ most) × LackRow before after bytes u reason
 
 -- bytes with no line end among them were taken, and no line
-pub record LacksLine (most : ℕ) (old : List ℕ) (before : Sight) (t : ℕ) (new : List ℕ)
-    (after : Sight) (u : ℕ) (reason : Reason) : Type 0 where
+pub record LacksLine (most : ℕ) (old new : Intake) (reason : Reason) : Type 0 where
   pub bytes : List ℕ
-  pub fit : AreBytes bytes
-  pub held : new ≡ old ++ bytes
-  pub count_is : u ≡ t + length bytes
+  pub fit : AreAllBytes bytes
+  pub held : new.bytes ≡ old.bytes ++ bytes
+  pub count_is : new.taken ≡ old.taken + length bytes
   pub endless : AllByRecursion (λ byte. byte ≢ line_feed) bytes
-  pub row : LineRow most before after bytes u reason
+  pub row : LineRow most old.source new.source bytes new.taken reason
 
 -- the bytes are the opcode with a good argument, and admitted; its first line ends there
 pub record IsFound (limit : ℕ) (bytes : List ℕ) (op : Op) (split : ℕ) : Type 0 where
@@ -95,13 +95,45 @@ pub record IsFound (limit : ℕ) (bytes : List ℕ) (op : Op) (split : ℕ) : Ty
 
 -- bytes were taken behind the old ones, and now they are the opcode with a good argument, and
 -- admitted
-pub record Finds (limit : ℕ) (op : Op) (split : ℕ) (old : List ℕ) (before : Sight) (t : ℕ)
-    (new : List ℕ) (after : Sight) (u : ℕ) : Type 0 where
+pub record Finds (limit : ℕ) (op : Op) (split : ℕ) (old new : Intake) : Type 0 where
   pub bytes : List ℕ
-  pub took : Took bytes old before t new after u
-  pub found : IsFound limit new op split
+  pub took : Took bytes old new
+  pub found : IsFound limit new.bytes op split
 
--- the buffer holds the bytes taken, but for those that memory did not suffice for
-pub record HoldsTaken (reason : Reason) (taken held : List ℕ) : Type 0 where
-  pub exact : reason ≢ OutOfMemory → held ≡ taken
-  pub within : length held ≤ length taken
+-- a line is taken, or none
+abbrev pub TakesLine : {A : Type 0} → ℕ → Result A Reason → Intake → Intake → Type 0
+TakesLine most result old new =
+    MatchResult result (λ _. TookLine most old new) (LacksLine most old new)
+
+-- a count is taken, or why none is
+abbrev pub TakesCount : Count → Result ℕ Reason → Intake → Intake → Type 0
+TakesCount c result old new = MatchResult result (λ n. Counts c n old new) (Stops c.limit old new)
+
+-- the argument behind the opcode is taken and judged, or why none is
+abbrev pub TakesArgument : {A : Type 0} → ℕ → Op → Result A Reason → Intake → Intake → Type 0
+TakesArgument limit op result old new =
+    MatchResult result (λ _. Finds limit op 0 old new) (Stops limit old new)
+
+-- an argument is, of which the first line ends at the place given
+abbrev pub TakesSplit : ℕ → Op → Result ℕ Reason → Intake → Intake → Type 0
+TakesSplit limit op result old new =
+    MatchResult result (λ split. Finds limit op split old new) (Stops limit old new)
+
+-- a code is taken, or why none is, under any limit
+abbrev pub TakesOp : Result Op Reason → Intake → Intake → Type 0
+TakesOp result old new =
+    MatchResult result
+    (λ op. Took (code_of op ∷ []) old new)
+    (λ reason. (limit : ℕ) → Stops limit old new reason)
+
+-- an instruction is taken, or why none is
+abbrev pub TakesFound : ℕ → Result Found Reason → Intake → Intake → Type 0
+TakesFound limit result old new =
+    MatchResult result (λ f. Finds limit f.op f.split old new) (Stops limit old new)
+
+-- all of an instruction is taken, or why it is refused
+abbrev pub TakesWhole : ℕ → Result Found Reason → Intake → Intake → Type 0
+TakesWhole limit result old new =
+    MatchResult result
+    (λ f. IsFound limit new.bytes f.op f.split × Gathers limit old new)
+    (Refuses limit old.source new.source new.bytes old.taken new.taken)

@@ -1,27 +1,44 @@
 -- How the code judges an instruction that is whole.
-use Rattle.std.specs.Prelude.{◌≡◌, None}
-use Rattle.pkops.specs.Contents.{rule_of}
+use Rattle.std.specs.Prelude.{◌≡◌, ℕ, List, None}
+use Rattle.pkops.specs.Contents.{IsGood, rule_of}
+use Rattle.pkops.specs.Lying.{Lies}
 use Rattle.pkops.specs.Spelling.{Argument, instruction}
-use Rattle.pkops.specs.declared.contents.Rule.TheVariants as rule
-use Rattle.pkops.specs.declared.fault.Fault.{Fault}
-use Rattle.pkops.specs.declared.fault.Fault.TheVariants as fault
-use Rattle.pkops.specs.declared.op.Op.{Op}
+use Rattle.pkops.specs.declared.Rule.TheVariants as rule
+use Rattle.pkops.specs.declared.Fault.{Fault}
+use Rattle.pkops.specs.declared.Fault.TheVariants as fault
+use Rattle.pkops.specs.declared.Op.{Op}
 use Rattle.pkread.specs.Admission.{objection}
+use Rattle.pkread.specs.Rows.{IsAmiss}
 use Rattle.pkread.specs.declared.refusal.Reason.{Reason}
 use Rattle.pkread.specs.declared.refusal.Reason.TheVariants.{BadArgument, TooLarge, UnknownOpcode}
 
 -- the reason of the same name
-abbrev pub reason_of : Fault → Reason
-reason_of (fault.UnknownOpcode code) = UnknownOpcode code
-reason_of fault.BadArgument = BadArgument
-reason_of fault.TooLarge = TooLarge
+abbrev pub fault_reason : Fault → Reason
+fault_reason (fault.UnknownOpcode code) = UnknownOpcode code
+fault_reason fault.BadArgument = BadArgument
+fault_reason fault.TooLarge = TooLarge
 
 -- any argument of the opcode's layout is good and admitted
-pub record IsPlain (o : Op) : Type 0 where
+pub record TakesAnyArgument (o : Op) : Type 0 where
   pub contents : rule_of o ≡ rule.Anything
   pub admitted : (arg : Argument) → objection (instruction o arg) ≡ None
 
 -- the argument of the opcode is good where its payload is UTF-8, and then it is admitted
-pub record IsText (o : Op) : Type 0 where
+pub record TakesUtf8 (o : Op) : Type 0 where
   pub contents : rule_of o ≡ rule.Utf8
   pub admitted : (arg : Argument) → objection (instruction o arg) ≡ None
+
+-- the bytes spell the opcode with some argument, under some limit
+abbrev pub IsSpelled : Op → ℕ → List ℕ → Type 0
+IsSpelled o split bytes = (limit : ℕ) × (arg : Argument) × Lies limit o arg split bytes
+
+-- the argument that they spell is good, and admitted
+abbrev pub IsFine : Op → ℕ → List ℕ → Type 0
+IsFine o split bytes =
+    (limit : ℕ) (arg : Argument) → Lies limit o arg split bytes →
+    IsGood (instruction o arg) × (objection (instruction o arg) ≡ None)
+
+-- what they spell is amiss, for the reason
+abbrev pub IsFaulty : Op → ℕ → List ℕ → Reason → Type 0
+IsFaulty o split bytes reason =
+    (limit : ℕ) (arg : Argument) → Lies limit o arg split bytes → IsAmiss limit bytes reason

@@ -1,19 +1,22 @@
 -- What reads do to the bytes held and to the source.
-use Rattle.std.specs.Prelude.{◌≡◌, ℕ, List, [], ◌∷◌, ◌++◌, ◌+◌, ◌%◌, ◌^◌, ◌<◌, ◌≤◌, length, take, drop, get_or}
+use Rattle.std.specs.Prelude.{◌≡◌, ℕ, List, [], ◌∷◌, ◌++◌, ◌+◌, ◌%◌, ◌^◌, ◌<◌, ◌≤◌, length, take}
+use Rattle.std.specs.Prelude.{drop, get_or, Result, MatchResult}
 use Rattle.std.specs.Io.KnownBytes.{IsAtEnd}
+use Rattle.pkread.specs.Private.Progress.{Intake}
 use Rattle.pkread.specs.Rows.{Sight, Takes, Fails, all_bytes}
 use Rattle.pkread.specs.declared.refusal.Reason.{Reason}
-use Rattle.pkread.specs.declared.refusal.Reason.TheVariants.{Source, Truncated, TooLarge, OutOfMemory}
+use Rattle.pkread.specs.declared.refusal.Reason.TheVariants.{Source, Truncated, TooLarge}
+use Rattle.pkread.specs.declared.refusal.Reason.TheVariants.{OutOfMemory}
 
 -- each is a byte
-abbrev pub AreBytes : List ℕ → Type 0
-AreBytes bytes = (i : ℕ) → get_or bytes i 0 < 256
+abbrev pub AreAllBytes : List ℕ → Type 0
+AreAllBytes bytes = (i : ℕ) → get_or bytes i 0 < 256
 
 -- n bytes, one at least, were read and stand behind the others
-pub record Reads (wanted n : ℕ) (old : List ℕ) (before : Sight) (new : List ℕ)
+pub record ReadsSome (wanted n : ℕ) (old : List ℕ) (before : Sight) (new : List ℕ)
     (after : Sight) : Type 0 where
   pub bytes : List ℕ
-  pub fit : AreBytes bytes
+  pub fit : AreAllBytes bytes
   pub held : new ≡ old ++ bytes
   pub taken : Takes before after bytes
   pub some : 0 < n
@@ -35,25 +38,22 @@ ReadsNone before after OutOfMemory = Takes before after []
 ReadsNone before after _ = ⊥
 
 -- the bytes were taken and are held behind the others
-pub record Took (bytes : List ℕ) (old : List ℕ) (before : Sight) (t : ℕ) (new : List ℕ)
-    (after : Sight) (u : ℕ) : Type 0 where
-  pub fit : AreBytes bytes
-  pub held : new ≡ old ++ bytes
-  pub taken : Takes before after bytes
-  pub count : u ≡ t + length bytes
+pub record Took (bytes : List ℕ) (old new : Intake) : Type 0 where
+  pub fit : AreAllBytes bytes
+  pub held : new.bytes ≡ old.bytes ++ bytes
+  pub source : Takes old.source new.source bytes
+  pub count : new.taken ≡ old.taken + length bytes
 
 -- so many were
-pub record TookAll (count : ℕ) (old : List ℕ) (before : Sight) (t : ℕ) (new : List ℕ)
-    (after : Sight) (u : ℕ) : Type 0 where
+pub record TookAll (count : ℕ) (old new : Intake) : Type 0 where
   pub bytes : List ℕ
-  pub took : Took bytes old before t new after u
+  pub took : Took bytes old new
   pub all : length bytes ≡ count
 
 -- n were, of so many that are wanted, and of a block at most
-pub record TookBlock (wanted n : ℕ) (old : List ℕ) (before : Sight) (t : ℕ) (new : List ℕ)
-    (after : Sight) (u : ℕ) : Type 0 where
+pub record TookBlock (wanted n : ℕ) (old new : Intake) : Type 0 where
   pub bytes : List ℕ
-  pub took : Took bytes old before t new after u
+  pub took : Took bytes old new
   pub some : 0 < n
   pub within : n ≤ wanted
   pub block : n ≤ 4096
@@ -69,20 +69,36 @@ LackRow before after bytes u OutOfMemory = Takes before after bytes
 LackRow before after bytes u _ = ⊥
 
 -- fewer were
-pub record LacksSome (count : ℕ) (old : List ℕ) (before : Sight) (t : ℕ) (new : List ℕ)
-    (after : Sight) (u : ℕ) (reason : Reason) : Type 0 where
+pub record LacksSome (count : ℕ) (old new : Intake) (reason : Reason) : Type 0 where
   pub bytes : List ℕ
-  pub fit : AreBytes bytes
-  pub held : new ≡ old ++ bytes
-  pub count_is : u ≡ t + length bytes
+  pub fit : AreAllBytes bytes
+  pub held : new.bytes ≡ old.bytes ++ bytes
+  pub count_is : new.taken ≡ old.taken + length bytes
   pub lacks : length bytes < count
-  pub row : LackRow before after bytes u reason
+  pub row : LackRow old.source new.source bytes new.taken reason
+
+-- a byte is taken, or none
+abbrev pub TakesByte : Result ℕ Reason → Intake → Intake → Type 0
+TakesByte result old new =
+    MatchResult result (λ byte. Took (byte ∷ []) old new) (LacksSome 1 old new)
+
+-- so many bytes are taken, or fewer
+abbrev pub TakesAll : {A : Type 0} → ℕ → Result A Reason → Intake → Intake → Type 0
+TakesAll count result old new =
+    MatchResult result (λ _. TookAll count old new) (LacksSome count old new)
+
+-- some of so many bytes are taken, a block at most, or none
+abbrev pub TakesBlock : ℕ → Result ℕ Reason → Intake → Intake → Type 0
+TakesBlock wanted result old new =
+    MatchResult result
+    (λ n. TookBlock wanted n old new)
+    (λ reason. (new.bytes ≡ old.bytes) × LacksSome wanted old new reason)
 
 -- a read put n bytes at a place of a store
 pub record PulledInto (wanted n from : ℕ) (old new : List ℕ) (before after : Sight) : Type 0 where
   pub same : take from new ≡ take from old
   pub size : length new ≡ length old
-  pub fit : AreBytes new
+  pub fit : AreAllBytes new
   pub taken : Takes before after (take n (drop from new))
   pub within : n ≤ wanted
   pub end : n ≡ 0 → 0 < wanted → IsAtEnd after.left

@@ -1,4 +1,4 @@
--- What is written of a listing so far, and that it adds up.
+-- What is written of a listing so far, and that consecutive parts add up.
 use Rattle.std.proofs.Common.{◌≡◌, ℕ, Result, List, [], ◌∷◌, ◌++◌, Option, None, Some}
 use Rattle.std.proofs.Common.{sym, ap, ◌∙◌, append_assoc, append-nil, arith}
 use Rattle.std.specs.Prelude.{max}
@@ -6,16 +6,16 @@ use Rattle.std.specs.Io.KnownBytes.{Appends}
 use Rattle.std.specs.List.{flat_map}
 use Rattle.std.proofs.lemmas.Grind.{flat_map-append}
 use Rattle.pkcheck.specs.Heard.{Heard}
-use Rattle.pkcheck.specs.declared.checking.Yes.{Yes}
-use Rattle.pkcheck.specs.declared.checking.No.{No}
+use Rattle.pkcheck.specs.declared.Yes.{Yes}
+use Rattle.pkcheck.specs.declared.No.{No}
 use Rattle.pktool.specs.Listing.{listing_line, highest, last_line, listing}
 
--- the lines of these were written, and the highest protocol raised by theirs
+-- the lines of these instructions were written, and the highest protocol was raised by theirs
 abbrev pub Lists : Option (List ℕ) → Option (List ℕ) → ℕ → ℕ → List Heard → Type 0
 Lists old new before after hs =
     Appends old new (flat_map listing_line hs) × (after ≡ max before (highest hs))
 
--- two writes are one
+-- two consecutive writes are one
 pub appends_then :
     (a b c : Option (List ℕ)) (xs ys : List ℕ)
     → Appends a b xs → Appends b c ys → Appends a c (xs ++ ys)
@@ -25,12 +25,12 @@ appends_then (Some a) (Some b) None xs ys p q = absurd q
 appends_then (Some a) (Some b) (Some c) xs ys p q =
     q ∙ ap (λ (zs : List ℕ). zs ++ ys) p ∙ append_assoc a xs ys
 
--- no write
+-- writing nothing changes nothing
 pub appends_none : (a : Option (List ℕ)) → Appends a a []
 appends_none None = tt
 appends_none (Some a) = sym (append-nil a)
 
--- no line
+-- no instruction adds no line
 pub lists_none : (a : Option (List ℕ)) (n : ℕ) → Lists a a n n []
 lists_none a n = (appends_none a, omega arith)
 
@@ -40,7 +40,7 @@ highest_more :
 highest_more [] h = omega arith
 highest_more (x ∷ hs) h = let e = highest_more hs h in omega (arith, e)
 
--- one line more
+-- one more instruction adds its line
 pub lists_more :
     (a b c : Option (List ℕ)) (n m k : ℕ) (hs : List Heard) (h : Heard)
     → Lists a b n m hs → Lists b c m k (h ∷ []) → Lists a c n k (hs ++ h ∷ [])
@@ -48,7 +48,7 @@ lists_more a b c n m k hs h (f, e) (g, i) =
     let j = highest_more hs h in
     (rw flat_map-append (appends_then a b c _ _ f g), omega (arith, e, i, j))
 
--- all lines, and then the last one
+-- all lines, then the last one
 pub lists_all :
     (a b c : Option (List ℕ)) (n : ℕ) (hs : List Heard) (answer : Result Yes No)
     → Lists a b 0 n hs → Appends b c (last_line answer n) → Appends a c (listing answer hs)

@@ -1,4 +1,4 @@
-//! The line of a pickle that has no JSON.
+//! The line for a pickle that cannot be exported.
 ghost use Rattle.std.specs.Prelude.{OnOk};
 ghost use Rattle.std.specs.Io.KnownBytes.{Appends};
 ghost use Rattle.pkops.specs.Table.{row_of};
@@ -11,7 +11,7 @@ use pkops::{Op, row};
 use std::io;
 use std::io::Write;
 
-/// Writes why a pickle has no JSON.
+/// Writes why a pickle cannot be exported.
 pub fn write_export_error<W: Write>(error: ExportError, out: &mut W) -> io::Result<()>
     ensures { OnOk result (Appends (W.contents out.old) (W.contents out.new) (error_line error)) }
 {

@@ -9,7 +9,7 @@ use pkcheck::{Import, Imports, No, Yes};
 use std::io;
 use std::io::Write;
 
-/// Writes a line for each import of a yes, and nothing for a no.
+/// Writes a line for each import of a yes; for a no, nothing.
 pub fn write_imports<W: Write>(answer: &Result<Yes, No>, out: &mut W) -> io::Result<()>
     ensures { OnOk result (Appends (W.contents out.old) (W.contents out.new)
         (import_lines answer.now)) }

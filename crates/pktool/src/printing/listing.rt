@@ -15,8 +15,8 @@ use pkops::{Arg, Inst, Op, row};
 use std::io;
 use std::io::Write;
 
-/// Writes the line of an instruction: its offset, its code, its name behind two spaces for each
-/// open mark, and its argument.
+/// Writes the line of an instruction: its offset, its code, its name indented by two spaces for
+/// each open mark, and its argument.
 pub fn write_line<W: Write>(at: u64, inst: &Inst<'_>, marks: usize, out: &mut W) -> io::Result<()>
     ensures { OnOk result (Appends (W.contents out.old) (W.contents out.new)
         (listing_line (heard at (instruction_of inst.now) marks))) }
@@ -98,7 +98,7 @@ fn write_argument<W: Write>(op: Op, arg: Arg<'_>, out: &mut W) -> io::Result<()>
     }
 }
 
-/// Writes a payload: that of a long integer as its bytes, any other quoted.
+/// Writes a payload: a long integer as its bytes, any other quoted.
 fn write_payload<W: Write>(op: Op, payload: &[u8], out: &mut W) -> io::Result<()>
     ensures { OnOk result (Appends (W.contents out.old) (W.contents out.new)
         (payload_text op payload.now)) }

@@ -6,7 +6,7 @@ ghost use Rattle.pktool.specs.Quoted.{quoted, quoted_byte};
 use std::io;
 use std::io::Write;
 
-/// Writes bytes between double quotes, on one line and in ASCII, whichever they are.
+/// Writes any bytes between double quotes, on one line and in ASCII.
 pub fn write_quoted<W: Write>(bytes: &[u8], out: &mut W) -> io::Result<()>
     ensures { OnOk result (Appends (W.contents out.old) (W.contents out.new) (quoted bytes.now)) }
 {

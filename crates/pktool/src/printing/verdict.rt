@@ -5,7 +5,6 @@ ghost use Rattle.pktool.specs.Verdict.{no_in_line, no_line, pair_text, place_tex
 ghost use Rattle.pktool.specs.Verdict.{verdict_line, yes_all_line, yes_line};
 
 use crate::printing::quoted::write_quoted;
-use crate::printing::reason::write_reason;
 use pkcheck::{Asked, No, NoAll, Yes, YesAll};
 use std::io;
 use std::io::Write;
@@ -72,19 +71,20 @@ fn write_no_in<W: Write>(refused: &NoAll, out: &mut W) -> io::Result<()>
     write_place(&refused.no, out)
 }
 
-/// Writes where and why a pickle is refused, behind what says that it is.
+/// Writes where and why a pickle is refused.
 fn write_place<W: Write>(no: &No, out: &mut W) -> io::Result<()>
     ensures { OnOk result (Appends (W.contents out.old) (W.contents out.new)
         (place_text no.now.at no.now.reason no.now.pair)) }
 {
     let at = no.at;
+    let reason = no.reason;
     write!(out, "{at}: ")?;
-    write_reason(no.reason, out)?;
+    write!(out, "{reason}")?;
     write_pair(&no.pair, out)?;
     out.write_all(b"\n")
 }
 
-/// Writes the pair that is off the list, where there is one.
+/// Writes the pair that is off the list, if there is one.
 fn write_pair<W: Write>(pair: &Option<Asked>, out: &mut W) -> io::Result<()>
     ensures { OnOk result (Appends (W.contents out.old) (W.contents out.new) (pair_text pair.now)) }
 {

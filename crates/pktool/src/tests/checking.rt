@@ -13,7 +13,8 @@ const ONE_PAIR: &str = "version = 1\n[imports]\na = [\"b\"]\n";
 
 const WORDS: [&str; 3] = ["unknown", "ascii", "bytes"];
 
-/// A pickle, and the lines of its check where its old strings become anything, texts, or bytes.
+/// A pickle, and the lines of its check when Python 2 strings are decoded as anything, as text, and
+/// as bytes.
 static OLD_STRINGS: [(&[u8], [&str; 3]); 4] = [
     (
         b"U\x01aU\x01b\x93.",
@@ -49,7 +50,7 @@ static OLD_STRINGS: [(&[u8], [&str; 3]); 4] = [
     ),
 ];
 
-/// What stands in a file, and the status and the line of the check of each pickle in it.
+/// The content of a file, and the status and line of the check of each pickle in it.
 static ROWS: [(&[u8], u8, &str); 6] = [
     (b"N.N.", 0, "yes: 4 bytes, 2 pickles, 0 imports\n"),
     (b"N..", 1, "no in pickle 1 at 2: MissingItem\n"),
@@ -64,6 +65,17 @@ static ROWS: [(&[u8], u8, &str); 6] = [
         b"N.ca\nc\n.",
         1,
         "no in pickle 1 at 2: ImportOffList(\"a\",\"c\")\n",
+    ),
+];
+
+/// A row read by one Unpickler: a pickle may name what an earlier one memoized.
+static ROWS_OF_ONE: [(&[u8], u8, &str); 3] = [
+    (b"N\x94.h\0.", 0, "yes: 6 bytes, 2 pickles, 0 imports\n"),
+    (b"N\x94.h\x01.", 1, "no in pickle 1 at 3: MissingMemo(1)\n"),
+    (
+        b"Vos\n\x940Vsystem\n\x94.Va\n\x940Vb\n\x940h\0h\x01\x93.",
+        1,
+        "no in pickle 1 at 30: ImportOffList(\"os\",\"system\")\n",
     ),
 ];
 
@@ -103,6 +115,26 @@ fn checks_rows_of_pickles(rt: HostRuntime) -> Result<(), Fail> {
 }
 
 #[test]
+fn checks_rows_that_one_unpickler_reads(rt: HostRuntime) -> Result<(), Fail> {
+    enter_folder(&rt)?;
+    fs::write(&rt, "list.toml", ONE_PAIR)?;
+    let words = [
+        "pktool",
+        "check",
+        "--allow",
+        "list.toml",
+        "--all",
+        "--one-unpickler",
+        "row",
+    ];
+    for (row, status, line) in ROWS_OF_ONE.as_slice() {
+        fs::write(&rt, "row", *row)?;
+        expect(&rt, words.as_slice(), *status, line, "");
+    }
+    Ok(())
+}
+
+#[test]
 fn checks_what_has_both_options(rt: HostRuntime) -> Result<(), Fail> {
     enter_folder(&rt)?;
     fs::write(&rt, "list.toml", NOTHING)?;
@@ -126,7 +158,7 @@ fn checks_what_has_both_options(rt: HostRuntime) -> Result<(), Fail> {
     Ok(())
 }
 
-/// Gives some bytes one by one. Then every read of it fails.
+/// Gives some bytes one by one; after them every read fails.
 #[derive(Drop)]
 struct Breaking {
     bytes: &'static [u8],

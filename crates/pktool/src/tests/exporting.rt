@@ -1,4 +1,4 @@
-//! Plain data as JSON, to the byte.
+//! Plain pickles as JSON, to the byte.
 use crate::checking::Outcome;
 use crate::exporting::json_to;
 use crate::tests::{enter_folder, expect};
@@ -8,7 +8,7 @@ use std::io::{ErrorKind, Read};
 use std::test::Fail;
 use std::{fs, io};
 
-/// A pickle, and the status and the line of its data.
+/// A pickle, and the status and line of its export.
 static LINES: [(&[u8], u8, &str); 13] = [
     (b"}\x8c\x01aK\x01s.", 0, "{\"a\":1}\n"),
     (b"]q\x00h\x00a.", 1, "no: TooDeep\n"),
@@ -49,7 +49,7 @@ fn exports_files(rt: HostRuntime) -> Result<(), Fail> {
     Ok(())
 }
 
-/// Every read of it fails.
+/// Fails every read.
 #[derive(Drop)]
 struct Broken;
 

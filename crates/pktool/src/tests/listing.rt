@@ -43,7 +43,7 @@ const SIGNED: &str = "    0: 4a BININT -2
 highest protocol: 1
 ";
 
-/// A pickle, and the status and the lines of its listing.
+/// A pickle, and the status and lines of its listing.
 static LISTINGS: [(&[u8], u8, &str); 7] = [
     (b"(\x8c\x01aK\x01d.", 0, MARKED),
     (b"(.", 1, REFUSED),
@@ -78,7 +78,7 @@ fn lists_instructions(rt: HostRuntime) -> Result<(), Fail> {
 
 const TWO_IMPORTS: &str = "\"m\" \"f\"\nunknown\nyes: 12 bytes, 2 imports\n";
 
-/// A pickle, and the status and the lines of its imports.
+/// A pickle, and the status and lines of its imports.
 static IMPORTS: [(&[u8], u8, &str); 2] = [
     (b"cm\nf\n)R\x8c\x01b\x93.", 0, TWO_IMPORTS),
     (b"N", 1, "no at 1: Truncated\n"),
@@ -102,7 +102,7 @@ fn lists_imports(rt: HostRuntime) -> Result<(), Fail> {
     Ok(())
 }
 
-/// A pipe that nobody reads any more.
+/// A pipe that its reader has closed.
 #[derive(Drop)]
 struct Closed;
 

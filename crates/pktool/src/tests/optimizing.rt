@@ -4,7 +4,7 @@ use std::fs;
 use std::fs::exists;
 use std::test::Fail;
 
-/// A pickle, its optimized form, and the line that tells of it.
+/// A pickle, its optimized form, and the line that reports it.
 static FORMS: [(&[u8], &[u8], &str); 9] = [
     (
         b"]q\x00Nq\x01ah\x000.",
@@ -91,7 +91,7 @@ fn leaves_what_it_cannot_replace(rt: HostRuntime) -> Result<(), Fail> {
         fs::read(&rt, "out.pickle")?.as_slice(),
         b"before".as_slice()
     );
-    // A name that is taken is left, and the next one is used.
+    // A name that is taken is skipped, and the next one is used.
     fs::write(&rt, "out.pickle.partial", b"mine".as_slice())?;
     let words = ["pktool", "optimize", "file.pickle", "out.pickle"];
     expect(&rt, words.as_slice(), 0, "2 bytes to 2 bytes\n", "");

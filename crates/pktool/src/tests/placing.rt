@@ -1,4 +1,4 @@
-//! An optimized form in a place that tells what it holds.
+//! An optimized form in a place that reveals what it holds.
 ghost use Rattle.std.specs.Prelude.{◌≡◌, IfOk, Some};
 ghost use Rattle.pkopt.specs.Answer.{Optimizes};
 
@@ -27,7 +27,7 @@ impl Place for Kept {
     }
 }
 
-/// Optimizes into memory: what is kept is then an optimized form, or what it was.
+/// Optimizes into memory: afterwards the place holds an optimized form, or what it held before.
 fn keep(
     alloc: Global,
     bytes: &[u8],

@@ -1,4 +1,4 @@
-//! Writers that fail at each write in turn: the call fails, and gives no other answer.
+//! Writers that fail at each write in turn: the call fails and gives no other answer.
 use crate::checking::{Outcome, check_to};
 use crate::checking_row::check_all_to;
 use crate::exporting::json_to;
@@ -12,7 +12,7 @@ use std::io;
 use std::io::{ErrorKind, Write};
 use std::test::Fail;
 
-/// Takes so many writes, then fails.
+/// Accepts a number of writes, then fails.
 #[derive(Drop)]
 struct Tiring {
     left: usize,
@@ -77,7 +77,7 @@ fn answer(
     }
 }
 
-/// More writes than any of these answers takes.
+/// More writes than any of these answers needs.
 const AMPLE: usize = 1_000;
 
 #[test]

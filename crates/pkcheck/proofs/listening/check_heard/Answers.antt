@@ -1,58 +1,129 @@
 use Rattle.std.proofs.Common.{rules, [], ◌∷◌, ◌++◌, refl, sym, ap, subst, ◌∙◌, append-nil}
 use Rattle.pkops.specs.Inst.{instruction_of}
 use Rattle.pkcheck.specs.Heard.{AreHeardBehind, heard}
-use Rattle.pkcheck.proofs.Wholes.Checked.{from_start, checked_none, checked_took, accepted, refused_turned, refused_took}
+use Rattle.pkcheck.proofs.Wholes.Checked.{from_start, checked_none, checked_took, accepted}
+use Rattle.pkcheck.proofs.Wholes.Checked.{refusal_of, refused_turned, refused_took}
 use Rattle.pkcheck.proofs.Wholes.FramesSoFar.{FrameLaws}
 use Rattle.pkcheck.proofs.Wholes.Given.{seen_so, refused_next, took_next}
-use Rattle.pkcheck.proofs.Wholes.Hearing.{heard_more, heard_here}
+use Rattle.pkcheck.proofs.Wholes.Hearing.{cut_short, heard_more, heard_here, if_err}
 use Rattle.pkcheck.proofs.Stepping.Longest.{longest}
 use Rattle.pkcheck.proofs.listening.check_heard.Goals as goal
 
 pub instructions-init : goal.instructions-init
 instructions-init g c =
-    let laws : FrameLaws = record { more = c.frames.ensures.more; all = c.frames.ensures.all; refused = c.frames.ensures.refused } in
+    let laws : FrameLaws = record {
+      more = c.frames.ensures.more;
+      all = c.frames.ensures.all;
+      refused = c.frames.ensures.refused;
+    } in
     record {
       same = refl;
-      checked = ([], [], rw (c.new-reader.ensures.state, c.new-frames.ensures, c.new-machine.ensures.fresh, c.holding_all-limits.ensures) (checked_none _ _ _ _ laws c.nexts.ensures.begins), [], tt, g.met.L.Listener.hears_none _);
+      checked = (
+        [],
+        [],
+        rw (
+          c.new-reader.ensures.state,
+          c.new-session.ensures,
+          c.holding_all-limits.ensures,
+        ) (checked_none _ _ _ _ laws c.nexts.ensures.begins),
+        [],
+        tt,
+        g.met.L.Listener.hears_none _,
+      );
     }
 
 pub returns-in-Err-clause-answer : goal.returns-in-Err-clause-answer
 returns-in-Err-clause-answer g c =
     let k = c.next.follows.holds-at-none in
     let r = c.instructions.invariant.checked in
-    let turned = refused_next _ _ _ r.0 _ r.2.reads r.2.read_limits _ refl c.nexts.ensures.refused c.next.result c.in-Err.refusal k.1 (cc (c.in-Err.is)) in
-    let w = refused_turned _ _ _ _ _ r.0 r.1 _ _ _ r.2 _ c.in-Err.refusal _ turned (seen_so _ _ _ k.3 (search rules)) in
-    (r.3, record { right = w.0; each = subst (λ p. AreHeardBehind [] p r.3) (sym (w.1 ∙ append-nil r.0)) r.4 }, r.5)
+    let turned = refused_next _ _ _ r.0 _ r.2.reads r.2.read_limits _ refl c.nexts.ensures.refused
+    c.next.result c.in-Err.refusal k.1 (cc (c.in-Err.is)) in
+    let refused = refused_turned _ _ _ _ _ r.0 r.1 _ _ _ r.2 _ c.in-Err.refusal _ turned
+    (seen_so _ _ _ k.3 (search rules)) in
+    let w = refusal_of _ _ _ _ _ r.0 r.1 _ _ _ r.2 _ _ _ _ _ _ _ c.refuse.ensures r.2.off refused in (
+      r.3,
+      record {
+        right = w.0;
+        each = subst (λ p. AreHeardBehind [] p r.3)
+            (sym (w.1 ∙ append-nil r.0)) r.4;
+      },
+      r.5,
+    )
 
 pub returns-in-Ok-Ended-clause-answer : goal.returns-in-Ok-Ended-clause-answer
 returns-in-Ok-Ended-clause-answer g c =
     let k = c.next.follows.holds-at-none in
     let r = c.instructions.invariant.checked in
-    let e = c.nexts.ensures.ended _ _ _ r.0 _ _ c.next.result r.2.reads k.1 (cc (c.in-Ok-Ended.is, c.in-Ok-Ended.field-0-is)) in
-    let w = accepted _ _ _ _ _ r.0 r.1 _ _ _ r.2 _ _ _ e.0 (let same = ap (λ s. s.source) e.1 in seen_so _ _ _ k.3 (search rules) ∙ same) (from_start _ _ (c.taken.ensures ∙ ap (λ s. s.taken) e.1)) (c.into_imports.ensures ∙ r.2.imports) in
+    let e = c.nexts.ensures.ended _ _ _ r.0 _ _ c.next.result r.2.reads k.1
+    (cc (c.in-Ok-Ended.is, c.in-Ok-Ended.field-0-is)) in
+    let w = accepted _ _ _ _ _ r.0 r.1 _ _ _ r.2 _ _ _ e.0
+    (let same = ap (λ s. s.source) e.1 in seen_so _ _ _ k.3 (search rules) ∙ same)
+    (from_start _ _ (c.taken.ensures ∙ ap (λ s. s.taken) e.1))
+    (c.into_imports.ensures ∙ r.2.imports) in
     (r.3, record { right = w.0; each = subst (λ p. AreHeardBehind [] p r.3) (sym w.1) r.4 }, r.5)
 
 pub returns-in-Err-judge-clause-answer : goal.returns-in-Err-judge-clause-answer
 returns-in-Err-judge-clause-answer g c =
     let k = c.next.follows.holds-at-none in
     let r = c.instructions.invariant.checked in
-    let took = took_next _ _ _ r.0 _ r.2.reads r.2.read_limits _ refl c.nexts.ensures.given c.next.result c.in-Ok-Inst.at c.in-Ok-Inst.inst k.1 (cc (c.in-Ok-Inst.is, c.in-Ok-Inst.field-0-is)) in
+    let took = took_next _ _ _ r.0 _ r.2.reads r.2.read_limits _ refl c.nexts.ensures.given
+    c.next.result c.in-Ok-Inst.at c.in-Ok-Inst.inst k.1
+    (cc (c.in-Ok-Inst.is, c.in-Ok-Inst.field-0-is)) in
     let x = heard c.in-Ok-Inst.at (instruction_of c.in-Ok-Inst.inst) c.marks.result in
-    let here = heard_here _ _ _ r.0 r.1 _ _ _ r.2 _ c.in-Ok-Inst.at (instruction_of c.in-Ok-Inst.inst) took _ c.marks.ensures.covered in
-    let w = refused_took _ _ _ _ _ r.0 r.1 _ _ _ r.2 _ c.in-Ok-Inst.at (instruction_of c.in-Ok-Inst.inst) _ took (seen_so _ _ _ k.3 (search rules)) (longest c.args.policy.now) _ _ _ c.in-Err-judge.ensures.err c.into_off_list.ensures in
-    let each = subst (λ p. AreHeardBehind [] p (r.3 ++ x ∷ [])) (sym w.1) (heard_more [] r.0 r.3 (instruction_of c.in-Ok-Inst.inst) x r.4 here) in
-    (r.3 ++ x ∷ [], record { right = w.0; each = each }, g.met.L.Listener.hears_more _ _ _ r.3 x r.5 c.in_ok-hear-in-Ok-Inst.ensures)
+    let here = heard_here _ _ _ r.0 r.1 _ _ _ r.2 _ c.in-Ok-Inst.at
+    (instruction_of c.in-Ok-Inst.inst) took _ c.marks.ensures in
+    let refused = refused_took _ _ _ _ _ r.0 r.1 _ _ _ r.2 _ c.in-Ok-Inst.at
+    (instruction_of c.in-Ok-Inst.inst) _ took (seen_so _ _ _ k.3 (search rules))
+    (longest c.args.policy.now) _ _ _ c.in-Err-judge.ensures.err refl in
+    let w = refusal_of _ _ _ _ _ r.0 r.1 _ _ _ r.2 _ _ _ _ _ _ _ c.refuse-in-Err-judge.ensures refl
+    refused in
+    let each = subst (λ p. AreHeardBehind [] p (r.3 ++ x ∷ [])) (sym w.1)
+    (heard_more [] r.0 r.3 (instruction_of c.in-Ok-Inst.inst) x r.4 here) in (
+      r.3 ++ x ∷ [],
+      record { right = w.0; each = each },
+      g.met.L.Listener.hears_more _ _ _ r.3 x r.5
+          c.in_ok-hear-in-Ok-Inst.ensures,
+    )
+
+pub returns-in_err-hear-in-Ok-Inst-clause-cut_short :
+    goal.returns-in_err-hear-in-Ok-Inst-clause-cut_short
+returns-in_err-hear-in-Ok-Inst-clause-cut_short g c =
+    let k = c.next.follows.holds-at-none in
+    let r = c.instructions.invariant.checked in
+    let took = took_next _ _ _ r.0 _ r.2.reads r.2.read_limits _ refl c.nexts.ensures.given
+    c.next.result c.in-Ok-Inst.at c.in-Ok-Inst.inst k.1
+    (cc (c.in-Ok-Inst.is, c.in-Ok-Inst.field-0-is)) in
+    if_err c.from_residual.result (
+      r.3,
+      c.instructions.listener,
+      cut_short _ _ _ r.0 r.1 _ _ _ r.2 _
+          c.in-Ok-Inst.at (instruction_of c.in-Ok-Inst.inst) _ took (seen_so _ _ _ k.3 (search rules))
+          r.3 r.4,
+      r.5,
+    )
 
 pub instructions-preserved : goal.instructions-preserved
 instructions-preserved g c =
     let k = c.next.follows.holds-at-none in
     let r = c.instructions.invariant.checked in
-    let took = took_next _ _ _ r.0 _ r.2.reads r.2.read_limits _ refl c.nexts.ensures.given c.next.result c.in-Ok-Inst.at c.in-Ok-Inst.inst k.1 (cc (c.in-Ok-Inst.is, c.in-Ok-Inst.field-0-is)) in
+    let took = took_next _ _ _ r.0 _ r.2.reads r.2.read_limits _ refl c.nexts.ensures.given
+    c.next.result c.in-Ok-Inst.at c.in-Ok-Inst.inst k.1
+    (cc (c.in-Ok-Inst.is, c.in-Ok-Inst.field-0-is)) in
     let x = heard c.in-Ok-Inst.at (instruction_of c.in-Ok-Inst.inst) c.marks.result in
-    let here = heard_here _ _ _ r.0 r.1 _ _ _ r.2 _ c.in-Ok-Inst.at (instruction_of c.in-Ok-Inst.inst) took _ c.marks.ensures.covered in
-    let checked = checked_took _ _ _ _ _ r.0 r.1 _ _ _ r.2 _ _ _ c.in-Ok-Inst.at (instruction_of c.in-Ok-Inst.inst) took c.in_default.ensures.ok in
+    let here = heard_here _ _ _ r.0 r.1 _ _ _ r.2 _ c.in-Ok-Inst.at
+    (instruction_of c.in-Ok-Inst.inst) took _ c.marks.ensures in
+    let checked = checked_took _ _ _ _ _ r.0 r.1 _ _ _ r.2 _ _ _ c.in-Ok-Inst.at
+    (instruction_of c.in-Ok-Inst.inst) took c.in_default.ensures.ok in
     let each = heard_more [] r.0 r.3 (instruction_of c.in-Ok-Inst.inst) x r.4 here in
     record {
       same = k.0 ∙ c.instructions.invariant.same;
-      checked = (_, _, checked, r.3 ++ x ∷ [], each, g.met.L.Listener.hears_more _ _ _ r.3 x r.5 c.in_ok-hear-in-Ok-Inst.ensures);
+      checked = (
+        _,
+        _,
+        checked,
+        r.3 ++ x ∷ [],
+        each,
+        g.met.L.Listener.hears_more _ _ _ r.3 x r.5
+            c.in_ok-hear-in-Ok-Inst.ensures,
+      );
     }

@@ -15,8 +15,12 @@ use Rattle.pkcheck.proofs.listening.check_heard.Given as goal
 abbrev pub invariant-instructions : goal.invariant-instructions
 invariant-instructions g l = record {
   same : l.reader.source.ghost_name ≡ l.initial.reader.source.ghost_name;
-  checked : (p : List Instruction) × (asked : List (Option Asked)) × Checked Unknown (policy_of l.fn.policy) (holding_all l.fn.limits) (sight g.R.Source.left g.R.Source.failures l.fn.source) alone p asked (state g.R.Source.left g.R.Source.failures l.reader) l.frames l.machine
-      × (hs : List Heard) × AreHeardBehind [] p hs × g.L.Listener.hears l.initial.listener l.listener hs;
+  checked : (p : List Instruction) × (asked : List (Option Asked)) × Checked Unknown
+      (policy_of l.fn.policy) (holding_all l.fn.limits)
+      (sight g.R.Source.left g.R.Source.failures l.fn.source) alone p asked
+      (state g.R.Source.left g.R.Source.failures l.reader) l.session.frame l.session.machine
+      × (hs : List Heard) × AreHeardBehind [] p hs × g.L.Listener.hears l.initial.listener
+      l.listener hs;
 }
 
 abbrev pub decreases-instructions : goal.decreases-instructions

@@ -5,7 +5,8 @@ use Rattle.pkops.specs.Spelling.{Counted, Instruction, instruction}
 use Rattle.pkread.specs.Again.{StepsAgain}
 use Rattle.pkread.specs.Reading.{state}
 use Rattle.pkread.specs.Rows.{all_bytes, sight}
-use Rattle.pkcheck.proofs.Wholes.Checked.{checked_again, checked_first, checked_took, count_took, refused_turned, refused_took}
+use Rattle.pkcheck.proofs.Wholes.Checked.{checked_again, checked_first, checked_took, count_took}
+use Rattle.pkcheck.proofs.Wholes.Checked.{refused_turned, refused_took}
 use Rattle.pkcheck.proofs.Wholes.FramesSoFar.{FrameLaws}
 use Rattle.pkcheck.proofs.Wholes.Given.{refused_head, seen_so, took_head, took_passed}
 use Rattle.pkcheck.proofs.Stepping.Longest.{longest}
@@ -14,16 +15,36 @@ use Rattle.pkcheck.specs.Private.NextPickle.{restarted}
 use Rattle.pkcheck.specs.RowOfPickles.{begins}
 use Rattle.pkcheck.proofs.Wholes.Origins.{Origin}
 use Rattle.pkcheck.proofs.Wholes.Payloads.{long_passed}
-use Rattle.pkcheck.proofs.Wholes.RowOfPickles.{again_false, again_refused, again_true, all_listed, begins_first, count_on, less_to_do, next_ready, none_before, none_failed, pickle_more, refused_again, refused_growing, row_accepted, row_begins, row_refused, some_byte, this, told, told_yes, some_ahead, growing_is_not_cut, again_is_not_cut}
+use Rattle.pkcheck.proofs.Wholes.RowOfPickles.{again_false, again_refused, again_true, all_listed}
+use Rattle.pkcheck.proofs.Wholes.RowOfPickles.{begins_first, count_on, less_to_do, next_ready}
+use Rattle.pkcheck.proofs.Wholes.RowOfPickles.{none_before, none_failed, pickle_more, refused_again}
+use Rattle.pkcheck.proofs.Wholes.RowOfPickles.{refused_growing, row_accepted, row_begins}
+use Rattle.pkcheck.proofs.Wholes.RowOfPickles.{row_refused, some_byte, this, told, told_yes}
+use Rattle.pkcheck.proofs.Wholes.RowOfPickles.{some_ahead, growing_is_not_cut, again_is_not_cut}
 use Rattle.pkcheck.proofs.row_of_pickles.check_all.Goals as goal
 
 pub instructions-init : goal.instructions-init
 instructions-init g c =
     let taking = c.rows.ensures.taking in
-    let laws : FrameLaws = record { more = c.frames.ensures.more; all = c.frames.ensures.all; refused = c.frames.ensures.refused } in
+    let laws : FrameLaws = record {
+      more = c.frames.ensures.more;
+      all = c.frames.ensures.all;
+      refused = c.frames.ensures.refused;
+    } in
     record {
       same = refl;
-      row = (_, _, [], row_begins taking _ _ _ _ _ (ap (λ l. l.asked) c.new-apart.ensures), [], [], rw (c.new-reader.ensures.state, c.new-frames.ensures, c.new_as-machine.ensures.fresh) (checked_first _ _ _ _ laws c.heads.ensures.begins _ (none_before c.args.loading.memo) (begins_first c.args.loading.memo _ _)), λ ne. absurd (ne refl));
+      row = (
+        _,
+        _,
+        [],
+        row_begins taking _ _ _ _ _ (ap (λ l. l.asked) c.new-apart.ensures),
+        [],
+        [],
+        rw (c.new-reader.ensures.state, c.new-session.ensures)
+            (checked_first _ _ _ _ laws c.heads.ensures.begins _ (none_before c.args.loading.memo)
+            (begins_first c.args.loading.memo _ _)),
+        λ ne. absurd (ne refl),
+      );
     }
 
 pub returns-in-Err-clause-answer : goal.returns-in-Err-clause-answer
@@ -32,21 +53,30 @@ returns-in-Err-clause-answer g c =
     let k = c.next_head.follows.holds-at-none in
     let r = c.instructions.invariant.row in
     let e = c.refused.ensures in
-    told _ _ _ _ _ _ _ _ _ _ _ _ _ _ refl e.pickle e.at e.reason e.pair (row_refused taking _ _ _ _ _ _ _ _ _ r.3 _ _ _ _ (refused_turned _ _ _ _ _ r.4 r.5 _ _ _ r.6 _ c.in-Err.refusal _ (refused_head _ _ _ r.4 _ r.6.reads r.6.read_limits _ c.heads.ensures.refused c.next_head.result c.in-Err.refusal k.1 (cc (c.in-Err.is))) (seen_so _ _ _ k.3 (search rules))).0 (λ is. r.7))
+    told _ _ _ _ _ _ _ _ _ _ _ _ _ _ refl e.pickle e.no.place e.no.why (e.no.pair ∙ r.6.off)
+    (row_refused taking _ _ _ _ _ _ _ _ _ r.3 _ _ _ _
+    (refused_turned _ _ _ _ _ r.4 r.5 _ _ _ r.6 _ c.in-Err.refusal _
+    (refused_head _ _ _ r.4 _ r.6.reads r.6.read_limits _ c.heads.ensures.refused
+    c.next_head.result c.in-Err.refusal k.1 (cc (c.in-Err.is)))
+    (seen_so _ _ _ k.3 (search rules))).0 (λ is. r.7))
 
 pub returns-in-Err-clause-count : goal.returns-in-Err-clause-count
 returns-in-Err-clause-count g c =
     let taking = c.rows.ensures.taking in
     let k = c.next_head.follows.holds-at-none in
     let r = c.instructions.invariant.row in
-    let w = (c.heads.ensures.refused _ _ _ r.4 _ _ c.next_head.result c.in-Err.refusal r.6.reads k.1 (cc (c.in-Err.is))).1 in
-    count_on _ _ _ _ _ _ _ _ _ (returns-in-Err-clause-answer g c) _ _ _ c.refused.ensures.reason (r.6.reads.bytes.count ∙ none_failed taking _ _ _ _ _ _ _ _ _ r.3) (seen_so _ _ _ k.3 (search rules)) w.failures
+    let w = (c.heads.ensures.refused _ _ _ r.4 _ _ c.next_head.result c.in-Err.refusal r.6.reads k.1
+    (cc (c.in-Err.is))).1 in
+    count_on _ _ _ _ _ _ _ _ _ (returns-in-Err-clause-answer g c) _ _ _ c.refused.ensures.no.why
+    (r.6.reads.bytes.count ∙ none_failed taking _ _ _ _ _ _ _ _ _ r.3)
+    (seen_so _ _ _ k.3 (search rules)) w.failures
 
 pub overflow_add-pickles : goal.overflow_add-pickles
 overflow_add-pickles g c =
     let k = c.next_head.follows.holds-at-none in
     let r = c.instructions.invariant.row in
-    let e = c.heads.ensures.ended _ _ _ r.4 _ _ c.next_head.result r.6.reads k.1 (cc (c.in-Ok-Ended.is, c.in-Ok-Ended.field-0-is)) in
+    let e = c.heads.ensures.ended _ _ _ r.4 _ _ c.next_head.result r.6.reads k.1
+    (cc (c.in-Ok-Ended.is, c.in-Ok-Ended.field-0-is)) in
     let some = some_byte r.4 e.0.stops in
     let reads = r.6.reads.count in
     let few = r.3.few in
@@ -58,60 +88,109 @@ returns-in_default-clause-answer g c =
     let taking = c.rows.ensures.taking in
     let k = c.next_head.follows.holds-at-none in
     let r = c.instructions.invariant.row in
-    let e = c.heads.ensures.ended _ _ _ r.4 _ _ c.next_head.result r.6.reads k.1 (cc (c.in-Ok-Ended.is, c.in-Ok-Ended.field-0-is)) in
+    let e = c.heads.ensures.ended _ _ _ r.4 _ _ c.next_head.result r.6.reads k.1
+    (cc (c.in-Ok-Ended.is, c.in-Ok-Ended.field-0-is)) in
     let f = c.refused-in_default.ensures in
-    told _ _ _ _ _ _ _ _ _ _ _ _ _ _ (seen_so _ _ _ k.3 (search rules) ∙ ap (λ s. s.source) e.1) f.pickle (f.at ∙ (c.taken-taken.ensures ∙ ap (λ s. s.taken) e.1)) f.reason f.pair (row_refused taking _ _ _ _ _ _ _ _ _ (pickle_more taking _ _ _ _ _ _ _ _ _ r.3 r.4 r.5 _ _ _ r.6 e.0 _ (taking.none _) nothing_known _ refl) _ _ _ _ (refused_growing taking c.args.loading _ _ r.6.laws c.rows.ensures.begins (state g.R.Source.left g.R.Source.failures c.instructions.reader) r.6.read_limits _ _ (next_ready taking _ _ _ _ _ _ _ _ _ r.3 r.4 r.5 _ _ _ r.6 e.0) c.rows.ensures.refused) (λ is. absurd (growing_is_not_cut is)))
+    told _ _ _ _ _ _ _ _ _ _ _ _ _ _ (seen_so _ _ _ k.3 (search rules) ∙ ap (λ s. s.source) e.1)
+    f.pickle (f.no.place ∙ (c.taken-taken.ensures ∙ ap (λ s. s.taken) e.1)) f.no.why
+    (f.no.pair ∙ (ap (λ v. v.machine.off) c.in_default.ensures.kept ∙ r.6.off))
+    (row_refused taking _ _ _ _ _ _ _ _ _ (pickle_more taking _ _ _ _ _ _ _ _ _ r.3 r.4 r.5 _ _
+    _ r.6 e.0 _ (taking.none _) nothing_known _ refl) _ _ _ _
+    (refused_growing taking c.args.loading _ _ r.6.laws c.rows.ensures.begins
+    (state g.R.Source.left g.R.Source.failures c.instructions.reader) r.6.read_limits _ _
+    (next_ready taking _ _ _ _ _ _ _ _ _ r.3 r.4 r.5 _ _ _ r.6 e.0) c.rows.ensures.refused)
+    (λ is. absurd (growing_is_not_cut is)))
 
 pub returns-in_default-clause-count : goal.returns-in_default-clause-count
 returns-in_default-clause-count g c =
     let taking = c.rows.ensures.taking in
     let k = c.next_head.follows.holds-at-none in
     let r = c.instructions.invariant.row in
-    let e = c.heads.ensures.ended _ _ _ r.4 _ _ c.next_head.result r.6.reads k.1 (cc (c.in-Ok-Ended.is, c.in-Ok-Ended.field-0-is)) in
-    count_on _ _ _ _ _ _ _ _ _ (returns-in_default-clause-answer g c) _ _ _ c.refused-in_default.ensures.reason (r.6.reads.bytes.count ∙ none_failed taking _ _ _ _ _ _ _ _ _ r.3) (seen_so _ _ _ k.3 (search rules) ∙ ap (λ s. s.source) e.1) refl
+    let e = c.heads.ensures.ended _ _ _ r.4 _ _ c.next_head.result r.6.reads k.1
+    (cc (c.in-Ok-Ended.is, c.in-Ok-Ended.field-0-is)) in
+    count_on _ _ _ _ _ _ _ _ _ (returns-in_default-clause-answer g c) _ _ _
+    c.refused-in_default.ensures.no.why (r.6.reads.bytes.count ∙ none_failed taking _ _ _ _ _ _
+    _ _ _ r.3) (seen_so _ _ _ k.3 (search rules) ∙ ap (λ s. s.source) e.1) refl
 
 pub returns-in-Err-again-clause-answer : goal.returns-in-Err-again-clause-answer
 returns-in-Err-again-clause-answer g c =
     let taking = c.rows.ensures.taking in
     let k = c.next_head.follows.holds-at-none in
     let r = c.instructions.invariant.row in
-    let e = c.heads.ensures.ended _ _ _ r.4 _ _ c.next_head.result r.6.reads k.1 (cc (c.in-Ok-Ended.is, c.in-Ok-Ended.field-0-is)) in
-    let steps = subst (λ s. StepsAgain s c.again.result (state g.R.Source.left g.R.Source.failures c.again.new.self)) e.1 c.again.ensures.steps in
-    let h = again_refused _ _ c.again.result c.in-Err-again.refusal steps (cc (c.in-Err-again.is)) in
+    let e = c.heads.ensures.ended _ _ _ r.4 _ _ c.next_head.result r.6.reads k.1
+    (cc (c.in-Ok-Ended.is, c.in-Ok-Ended.field-0-is)) in
+    let steps = subst (λ s. StepsAgain s c.again.result
+    (state g.R.Source.left g.R.Source.failures c.again.new.self)) e.1 c.again.ensures.steps in
+    let h = again_refused _ _ c.again.result c.in-Err-again.refusal steps (cc (c.in-Err-again.is))
+    in
     let ahead = (let b = rw c.in-Err-again.is at c.again.ensures.byte in b) in
     let f = c.refused-in-Err-again.ensures in
-    told _ _ _ _ _ _ _ _ _ _ _ _ _ _ (seen_so _ _ _ ahead (search rules)) f.pickle f.at f.reason f.pair (row_refused taking _ _ _ _ _ _ _ _ _ (pickle_more taking _ _ _ _ _ _ _ _ _ r.3 r.4 r.5 _ _ _ r.6 e.0 _ (taking.none _) nothing_known _ refl) _ _ _ _ (refused_again taking c.args.loading _ _ r.6.laws c.rows.ensures.begins _ r.6.read_limits _ _ (next_ready taking _ _ _ _ _ _ _ _ _ r.3 r.4 r.5 _ _ _ r.6 e.0) c.rows.ensures.refused _ c.in-Err-again.refusal h) (λ is. absurd (again_is_not_cut _ _ c.in-Err-again.refusal h is)))
+    told _ _ _ _ _ _ _ _ _ _ _ _ _ _ (seen_so _ _ _ ahead (search rules)) f.pickle f.no.place
+    f.no.why (f.no.pair ∙ (ap (λ v. v.machine.off) c.in-Ok.ensures.next ∙
+    (next_ready taking _ _ _ _ _ _ _ _ _ r.3 r.4 r.5 _ _ _ r.6 e.0).off))
+    (row_refused taking _ _ _ _ _ _ _ _ _ (pickle_more taking _ _ _ _ _ _ _ _ _ r.3 r.4 r.5 _ _
+    _ r.6 e.0 _ (taking.none _) nothing_known _ refl) _ _ _ _
+    (refused_again taking c.args.loading _ _ r.6.laws c.rows.ensures.begins _ r.6.read_limits _
+    _ (next_ready taking _ _ _ _ _ _ _ _ _ r.3 r.4 r.5 _ _ _ r.6 e.0) c.rows.ensures.refused _
+    c.in-Err-again.refusal h) (λ is. absurd (again_is_not_cut _ _ c.in-Err-again.refusal h is)))
 
 pub returns-in-Err-again-clause-count : goal.returns-in-Err-again-clause-count
 returns-in-Err-again-clause-count g c =
     let taking = c.rows.ensures.taking in
     let k = c.next_head.follows.holds-at-none in
     let r = c.instructions.invariant.row in
-    let e = c.heads.ensures.ended _ _ _ r.4 _ _ c.next_head.result r.6.reads k.1 (cc (c.in-Ok-Ended.is, c.in-Ok-Ended.field-0-is)) in
-    let steps = subst (λ s. StepsAgain s c.again.result (state g.R.Source.left g.R.Source.failures c.again.new.self)) e.1 c.again.ensures.steps in
-    let h = again_refused _ _ c.again.result c.in-Err-again.refusal steps (cc (c.in-Err-again.is)) in
+    let e = c.heads.ensures.ended _ _ _ r.4 _ _ c.next_head.result r.6.reads k.1
+    (cc (c.in-Ok-Ended.is, c.in-Ok-Ended.field-0-is)) in
+    let steps = subst (λ s. StepsAgain s c.again.result
+    (state g.R.Source.left g.R.Source.failures c.again.new.self)) e.1 c.again.ensures.steps in
+    let h = again_refused _ _ c.again.result c.in-Err-again.refusal steps (cc (c.in-Err-again.is))
+    in
     let ahead = (let b = rw c.in-Err-again.is at c.again.ensures.byte in b) in
-    count_on _ _ _ _ _ _ _ _ _ (returns-in-Err-again-clause-answer g c) _ _ _ c.refused-in-Err-again.ensures.reason (r.6.reads.bytes.count ∙ none_failed taking _ _ _ _ _ _ _ _ _ r.3) (seen_so _ _ _ ahead (search rules)) (c.rows.ensures.refused 0 _ _ c.in-Err-again.refusal h).1
+    count_on _ _ _ _ _ _ _ _ _ (returns-in-Err-again-clause-answer g c) _ _ _
+    c.refused-in-Err-again.ensures.no.why (r.6.reads.bytes.count ∙ none_failed taking _ _ _ _ _
+    _ _ _ _ r.3) (seen_so _ _ _ ahead (search rules))
+    (c.rows.ensures.refused 0 _ _ c.in-Err-again.refusal h).1
 
 pub instructions-preserved-in-Ok-true : goal.instructions-preserved-in-Ok-true
 instructions-preserved-in-Ok-true g c =
     let taking = c.rows.ensures.taking in
     let k = c.next_head.follows.holds-at-none in
     let r = c.instructions.invariant.row in
-    let e = c.heads.ensures.ended _ _ _ r.4 _ _ c.next_head.result r.6.reads k.1 (cc (c.in-Ok-Ended.is, c.in-Ok-Ended.field-0-is)) in
-    let steps = subst (λ s. StepsAgain s c.again.result (state g.R.Source.left g.R.Source.failures c.again.new.self)) e.1 c.again.ensures.steps in
+    let e = c.heads.ensures.ended _ _ _ r.4 _ _ c.next_head.result r.6.reads k.1
+    (cc (c.in-Ok-Ended.is, c.in-Ok-Ended.field-0-is)) in
+    let steps = subst (λ s. StepsAgain s c.again.result
+    (state g.R.Source.left g.R.Source.failures c.again.new.self)) e.1 c.again.ensures.steps in
     let h = again_true _ _ c.again.result steps (cc (c.in-Ok-true.is, c.in-Ok-true.field-0-test)) in
-    let ahead = (let b = rw (c.in-Ok-true.is, c.in-Ok-true.field-0-test) at c.again.ensures.byte in b) in
+    let ahead = (let b = rw (c.in-Ok-true.is, c.in-Ok-true.field-0-test) at c.again.ensures.byte in
+    b) in
     let s = state g.R.Source.left g.R.Source.failures c.again.new.self in
-    let more = pickle_more taking _ _ _ _ _ _ _ _ _ r.3 r.4 r.5 _ _ _ r.6 e.0 s.source h.0 (restarted c.args.loading.memo c.instructions.machine).knowledge _ c.in-Ok.ensures.apart in
+    let more = pickle_more taking _ _ _ _ _ _ _ _ _ r.3 r.4 r.5 _ _ _ r.6 e.0 s.source h.0
+    (restarted c.args.loading.memo c.instructions.session.machine).knowledge _
+    c.in-Ok.ensures.apart in
     let machine = c.in-Ok.ensures.next in
     let ready = next_ready taking _ _ _ _ _ _ _ _ _ r.3 r.4 r.5 _ _ _ r.6 e.0 in
     let memo = c.args.loading.memo in
     let row = r.2 ++ this r.4 r.5 ∷ [] in
-    let origin : Origin = record { at = s.taken; beginning = begins memo row; known = (restarted memo c.instructions.machine).knowledge } in
+    let origin : Origin = record {
+      at = s.taken;
+      beginning = begins memo row;
+      known =
+          (restarted memo c.instructions.session.machine).knowledge;
+    } in
     record {
       same = search rules;
-      row = (s.source, origin, row, rw h.2 more, [], [], rw (c.new-frames-in-Ok-Ended.ensures, machine) (checked_again _ _ _ s.source r.6.laws c.rows.ensures.begins s h.1 (h.3 ∙ r.6.read_limits) _ _ ready), λ ne. some_ahead ahead.0 _ _ ahead.1);
+      row = (
+        s.source,
+        origin,
+        row,
+        rw h.2 more,
+        [],
+        [],
+        rw machine
+            (checked_again _ _ _ s.source r.6.laws c.rows.ensures.begins s h.1 (h.3 ∙ r.6.read_limits)
+            _ _ ready),
+        λ ne. some_ahead ahead.0 _ _ ahead.1,
+      );
     }
 
 pub returns-in-Ok-false-clause-answer : goal.returns-in-Ok-false-clause-answer
@@ -119,15 +198,24 @@ returns-in-Ok-false-clause-answer g c =
     let taking = c.rows.ensures.taking in
     let k = c.next_head.follows.holds-at-none in
     let r = c.instructions.invariant.row in
-    let e = c.heads.ensures.ended _ _ _ r.4 _ _ c.next_head.result r.6.reads k.1 (cc (c.in-Ok-Ended.is, c.in-Ok-Ended.field-0-is)) in
-    let steps = subst (λ s. StepsAgain s c.again.result (state g.R.Source.left g.R.Source.failures c.again.new.self)) e.1 c.again.ensures.steps in
-    let h = again_false _ _ c.again.result steps (cc (c.in-Ok-false.is, c.in-Ok-false.field-0-test)) in
+    let e = c.heads.ensures.ended _ _ _ r.4 _ _ c.next_head.result r.6.reads k.1
+    (cc (c.in-Ok-Ended.is, c.in-Ok-Ended.field-0-is)) in
+    let steps = subst (λ s. StepsAgain s c.again.result
+    (state g.R.Source.left g.R.Source.failures c.again.new.self)) e.1 c.again.ensures.steps in
+    let h = again_false _ _ c.again.result steps (cc (c.in-Ok-false.is, c.in-Ok-false.field-0-test))
+    in
     let s = state g.R.Source.left g.R.Source.failures c.again.new.self in
-    let ahead = (let b = rw (c.in-Ok-false.is, c.in-Ok-false.field-0-test) at c.again.ensures.byte in b) in
-    let more = pickle_more taking _ _ _ _ _ _ _ _ _ r.3 r.4 r.5 _ _ _ r.6 e.0 s.source h.0 nothing_known _ c.in-Ok.ensures.apart in
+    let ahead = (let b = rw (c.in-Ok-false.is, c.in-Ok-false.field-0-test) at c.again.ensures.byte
+    in b) in
+    let more = pickle_more taking _ _ _ _ _ _ _ _ _ r.3 r.4 r.5 _ _ _ r.6 e.0 s.source h.0
+    nothing_known _ c.in-Ok.ensures.apart in
     let is = c.taken-taken.ensures ∙ ap (λ s. s.taken) e.1 in
     let ready = next_ready taking _ _ _ _ _ _ _ _ _ r.3 r.4 r.5 _ _ _ r.6 e.0 in
-    told_yes _ _ _ _ _ _ _ _ _ _ _ (seen_so _ _ _ ahead (search rules)) refl c.imports_of_row.ensures (row_accepted taking _ _ _ _ _ _ _ _ _ more _ _ (omega arith) h.1 is (subst (λ n. n < all_bytes) (sym is) h.2) (all_listed c.args.loading.memo _ _ _ more.listed (ap (λ m. m.imports) c.in-Ok.ensures.next ∙ ready.imports)))
+    told_yes _ _ _ _ _ _ _ _ _ _ _ (seen_so _ _ _ ahead (search rules)) refl
+    c.imports_of_row.ensures (row_accepted taking _ _ _ _ _ _ _ _ _ more _ _ (omega arith) h.1
+    is (subst (λ n. n < all_bytes) (sym is) h.2)
+    (all_listed c.args.loading.memo _ _ _ more.listed
+    (ap (λ v. v.machine.imports) c.in-Ok.ensures.next ∙ ready.imports)))
 
 pub returns-in-Ok-false-clause-count : goal.returns-in-Ok-false-clause-count
 returns-in-Ok-false-clause-count g c =
@@ -138,77 +226,156 @@ returns-in-Err-judge_passed-clause-answer g c =
     let taking = c.rows.ensures.taking in
     let k = c.next_head.follows.holds-at-none in
     let r = c.instructions.invariant.row in
-    let w = took_passed _ _ _ r.4 _ r.6.reads r.6.read_limits _ c.heads.ensures.passed c.next_head.result c.in-Ok-Passed.at c.in-Ok-Passed.op c.in-Ok-Passed.field-0-2 k.1 (cc (c.in-Ok-Passed.is, c.in-Ok-Passed.field-0-is)) in
+    let w = took_passed _ _ _ r.4 _ r.6.reads r.6.read_limits _ c.heads.ensures.passed
+    c.next_head.result c.in-Ok-Passed.at c.in-Ok-Passed.op c.in-Ok-Passed.field-0-2 k.1
+    (cc (c.in-Ok-Passed.is, c.in-Ok-Passed.field-0-is)) in
     let i : Instruction = instruction c.in-Ok-Passed.op (Counted w.payload) in
     let e = c.refused-in-Err-judge_passed.ensures in
-    told _ _ _ _ _ _ _ _ _ _ _ _ _ _ refl e.pickle e.at e.reason e.pair (row_refused taking _ _ _ _ _ _ _ _ _ r.3 _ _ _ _ (refused_took _ _ _ _ _ r.4 r.5 _ _ _ r.6 _ c.in-Ok-Passed.at i _ w.took (seen_so _ _ _ k.3 (search rules)) (longest c.args.policy.now) _ _ _ (c.in-Err-judge_passed.ensures.err i (long_passed _ _ _ _ _ _ _ _ _ w _ c.taken.ensures)) c.into_off_list.ensures).0 (λ is. r.7))
+    told _ _ _ _ _ _ _ _ _ _ _ _ _ _ refl e.pickle e.no.place e.no.why e.no.pair
+    (row_refused taking _ _ _ _ _ _ _ _ _ r.3 _ _ _ _
+    (refused_took _ _ _ _ _ r.4 r.5 _ _ _ r.6 _ c.in-Ok-Passed.at i _ w.took
+    (seen_so _ _ _ k.3 (search rules)) (longest c.args.policy.now) _ _ _
+    (c.in-Err-judge_passed.ensures.err i (long_passed _ _ _ _ _ _ _ _ _ w _ c.taken.ensures))
+    refl).0 (λ is. r.7))
 
 pub returns-in-Err-judge_passed-clause-count : goal.returns-in-Err-judge_passed-clause-count
 returns-in-Err-judge_passed-clause-count g c =
     let taking = c.rows.ensures.taking in
     let k = c.next_head.follows.holds-at-none in
     let r = c.instructions.invariant.row in
-    let w = took_passed _ _ _ r.4 _ r.6.reads r.6.read_limits _ c.heads.ensures.passed c.next_head.result c.in-Ok-Passed.at c.in-Ok-Passed.op c.in-Ok-Passed.field-0-2 k.1 (cc (c.in-Ok-Passed.is, c.in-Ok-Passed.field-0-is)) in
+    let w = took_passed _ _ _ r.4 _ r.6.reads r.6.read_limits _ c.heads.ensures.passed
+    c.next_head.result c.in-Ok-Passed.at c.in-Ok-Passed.op c.in-Ok-Passed.field-0-2 k.1
+    (cc (c.in-Ok-Passed.is, c.in-Ok-Passed.field-0-is)) in
     let i : Instruction = instruction c.in-Ok-Passed.op (Counted w.payload) in
-    let no = (refused_took _ _ _ _ _ r.4 r.5 _ _ _ r.6 _ c.in-Ok-Passed.at i (sight g.R.Source.left g.R.Source.failures c.next_head.follows.lender-at-none.source.now) w.took (seen_so c.next_head.follows.lender-at-none.core.ahead (sight g.R.Source.left g.R.Source.failures c.next_head.follows.lender-at-none.source.now) (sight g.R.Source.left g.R.Source.failures c.next_head.follows.lender-at-none.source.now) k.3 refl) (longest c.args.policy.now) _ _ _ (c.in-Err-judge_passed.ensures.err i (long_passed _ _ _ _ _ _ _ _ _ w _ c.taken.ensures)) c.into_off_list.ensures).0 in
-    count_on _ _ _ _ _ _ _ _ _ (returns-in-Err-judge_passed-clause-answer g c) _ _ (sight g.R.Source.left g.R.Source.failures c.next_head.follows.lender-at-none.source.now) c.refused-in-Err-judge_passed.ensures.reason (none_failed taking _ _ _ _ _ _ _ _ _ r.3) (search rules) (count_took _ _ _ _ _ r.4 r.5 _ _ _ r.6 _ c.in-Ok-Passed.at i _ _ _ no w.took (seen_so c.next_head.follows.lender-at-none.core.ahead (sight g.R.Source.left g.R.Source.failures c.next_head.follows.lender-at-none.source.now) (sight g.R.Source.left g.R.Source.failures c.next_head.follows.lender-at-none.source.now) k.3 refl) _ (c.in-Err-judge_passed.ensures.err i (long_passed _ _ _ _ _ _ _ _ _ w _ c.taken.ensures)))
+    let no = (refused_took _ _ _ _ _ r.4 r.5 _ _ _ r.6 _ c.in-Ok-Passed.at i
+    (sight g.R.Source.left g.R.Source.failures c.next_head.follows.lender-at-none.source.now)
+    w.took (seen_so c.next_head.follows.lender-at-none.core.ahead
+    (sight g.R.Source.left g.R.Source.failures c.next_head.follows.lender-at-none.source.now)
+    (sight g.R.Source.left g.R.Source.failures c.next_head.follows.lender-at-none.source.now)
+    k.3 refl) (longest c.args.policy.now) _ _ _
+    (c.in-Err-judge_passed.ensures.err i (long_passed _ _ _ _ _ _ _ _ _ w _ c.taken.ensures))
+    refl).0 in
+    count_on _ _ _ _ _ _ _ _ _ (returns-in-Err-judge_passed-clause-answer g c) _ _
+    (sight g.R.Source.left g.R.Source.failures c.next_head.follows.lender-at-none.source.now)
+    c.refused-in-Err-judge_passed.ensures.no.why (none_failed taking _ _ _ _ _ _ _ _ _ r.3)
+    (search rules) (count_took _ _ _ _ _ r.4 r.5 _ _ _ r.6 _ c.in-Ok-Passed.at i _ _ _ _ _ no
+    refl w.took (seen_so c.next_head.follows.lender-at-none.core.ahead
+    (sight g.R.Source.left g.R.Source.failures c.next_head.follows.lender-at-none.source.now)
+    (sight g.R.Source.left g.R.Source.failures c.next_head.follows.lender-at-none.source.now)
+    k.3 refl) _ (c.in-Err-judge_passed.ensures.err i
+    (long_passed _ _ _ _ _ _ _ _ _ w _ c.taken.ensures)))
 
 pub returns-in-Err-judge-clause-answer : goal.returns-in-Err-judge-clause-answer
 returns-in-Err-judge-clause-answer g c =
     let taking = c.rows.ensures.taking in
     let k = c.next_head.follows.holds-at-none in
     let r = c.instructions.invariant.row in
-    let took = took_head _ _ _ r.4 _ r.6.reads r.6.read_limits _ c.heads.ensures.given c.next_head.result c.in-Ok-Inst.at c.in-Ok-Inst.inst k.1 (cc (c.in-Ok-Inst.is, c.in-Ok-Inst.field-0-is)) in
+    let took = took_head _ _ _ r.4 _ r.6.reads r.6.read_limits _ c.heads.ensures.given
+    c.next_head.result c.in-Ok-Inst.at c.in-Ok-Inst.inst k.1
+    (cc (c.in-Ok-Inst.is, c.in-Ok-Inst.field-0-is)) in
     let e = c.refused-in-Err-judge.ensures in
-    told _ _ _ _ _ _ _ _ _ _ _ _ _ _ refl e.pickle e.at e.reason e.pair (row_refused taking _ _ _ _ _ _ _ _ _ r.3 _ _ _ _ (refused_took _ _ _ _ _ r.4 r.5 _ _ _ r.6 _ c.in-Ok-Inst.at (instruction_of c.in-Ok-Inst.inst) _ took (seen_so _ _ _ k.3 (search rules)) (longest c.args.policy.now) _ _ _ c.in-Err-judge.ensures.err c.into_off_list-in-Err-judge.ensures).0 (λ is. r.7))
+    told _ _ _ _ _ _ _ _ _ _ _ _ _ _ refl e.pickle e.no.place e.no.why e.no.pair
+    (row_refused taking _ _ _ _ _ _ _ _ _ r.3 _ _ _ _
+    (refused_took _ _ _ _ _ r.4 r.5 _ _ _ r.6 _ c.in-Ok-Inst.at
+    (instruction_of c.in-Ok-Inst.inst) _ took (seen_so _ _ _ k.3 (search rules))
+    (longest c.args.policy.now) _ _ _ c.in-Err-judge.ensures.err refl).0 (λ is. r.7))
 
 pub returns-in-Err-judge-clause-count : goal.returns-in-Err-judge-clause-count
 returns-in-Err-judge-clause-count g c =
     let taking = c.rows.ensures.taking in
     let k = c.next_head.follows.holds-at-none in
     let r = c.instructions.invariant.row in
-    let took = took_head _ _ _ r.4 _ r.6.reads r.6.read_limits _ c.heads.ensures.given c.next_head.result c.in-Ok-Inst.at c.in-Ok-Inst.inst k.1 (cc (c.in-Ok-Inst.is, c.in-Ok-Inst.field-0-is)) in
-    let no = (refused_took _ _ _ _ _ r.4 r.5 _ _ _ r.6 _ c.in-Ok-Inst.at (instruction_of c.in-Ok-Inst.inst) (sight g.R.Source.left g.R.Source.failures c.next_head.follows.lender-at-none.source.now) took (seen_so c.next_head.follows.lender-at-none.core.ahead (sight g.R.Source.left g.R.Source.failures c.next_head.follows.lender-at-none.source.now) (sight g.R.Source.left g.R.Source.failures c.next_head.follows.lender-at-none.source.now) k.3 refl) (longest c.args.policy.now) _ _ _ c.in-Err-judge.ensures.err c.into_off_list-in-Err-judge.ensures).0 in
-    count_on _ _ _ _ _ _ _ _ _ (returns-in-Err-judge-clause-answer g c) _ _ (sight g.R.Source.left g.R.Source.failures c.next_head.follows.lender-at-none.source.now) c.refused-in-Err-judge.ensures.reason (none_failed taking _ _ _ _ _ _ _ _ _ r.3) (search rules) (count_took _ _ _ _ _ r.4 r.5 _ _ _ r.6 _ c.in-Ok-Inst.at (instruction_of c.in-Ok-Inst.inst) _ _ _ no took (seen_so c.next_head.follows.lender-at-none.core.ahead (sight g.R.Source.left g.R.Source.failures c.next_head.follows.lender-at-none.source.now) (sight g.R.Source.left g.R.Source.failures c.next_head.follows.lender-at-none.source.now) k.3 refl) _ c.in-Err-judge.ensures.err)
+    let took = took_head _ _ _ r.4 _ r.6.reads r.6.read_limits _ c.heads.ensures.given
+    c.next_head.result c.in-Ok-Inst.at c.in-Ok-Inst.inst k.1
+    (cc (c.in-Ok-Inst.is, c.in-Ok-Inst.field-0-is)) in
+    let no = (refused_took _ _ _ _ _ r.4 r.5 _ _ _ r.6 _ c.in-Ok-Inst.at
+    (instruction_of c.in-Ok-Inst.inst) (sight g.R.Source.left g.R.Source.failures
+    c.next_head.follows.lender-at-none.source.now) took
+    (seen_so c.next_head.follows.lender-at-none.core.ahead
+    (sight g.R.Source.left g.R.Source.failures c.next_head.follows.lender-at-none.source.now)
+    (sight g.R.Source.left g.R.Source.failures c.next_head.follows.lender-at-none.source.now)
+    k.3 refl) (longest c.args.policy.now) _ _ _ c.in-Err-judge.ensures.err refl).0 in
+    count_on _ _ _ _ _ _ _ _ _ (returns-in-Err-judge-clause-answer g c) _ _
+    (sight g.R.Source.left g.R.Source.failures c.next_head.follows.lender-at-none.source.now)
+    c.refused-in-Err-judge.ensures.no.why (none_failed taking _ _ _ _ _ _ _ _ _ r.3)
+    (search rules) (count_took _ _ _ _ _ r.4 r.5 _ _ _ r.6 _ c.in-Ok-Inst.at
+    (instruction_of c.in-Ok-Inst.inst) _ _ _ _ _ no refl took
+    (seen_so c.next_head.follows.lender-at-none.core.ahead
+    (sight g.R.Source.left g.R.Source.failures c.next_head.follows.lender-at-none.source.now)
+    (sight g.R.Source.left g.R.Source.failures c.next_head.follows.lender-at-none.source.now)
+    k.3 refl) _ c.in-Err-judge.ensures.err)
 
-pub instructions-preserved-in_default-judge_passed : goal.instructions-preserved-in_default-judge_passed
+pub instructions-preserved-in_default-judge_passed :
+    goal.instructions-preserved-in_default-judge_passed
 instructions-preserved-in_default-judge_passed g c =
     let k = c.next_head.follows.holds-at-none in
     let r = c.instructions.invariant.row in
-    let w = took_passed _ _ _ r.4 _ r.6.reads r.6.read_limits _ c.heads.ensures.passed c.next_head.result c.in-Ok-Passed.at c.in-Ok-Passed.op c.in-Ok-Passed.field-0-2 k.1 (cc (c.in-Ok-Passed.is, c.in-Ok-Passed.field-0-is)) in
+    let w = took_passed _ _ _ r.4 _ r.6.reads r.6.read_limits _ c.heads.ensures.passed
+    c.next_head.result c.in-Ok-Passed.at c.in-Ok-Passed.op c.in-Ok-Passed.field-0-2 k.1
+    (cc (c.in-Ok-Passed.is, c.in-Ok-Passed.field-0-is)) in
     let i : Instruction = instruction c.in-Ok-Passed.op (Counted w.payload) in
     record {
       same = k.0 ∙ c.instructions.invariant.same;
-      row = (_, _, r.2, r.3, _, _, checked_took _ _ _ _ _ r.4 r.5 _ _ _ r.6 _ _ _ c.in-Ok-Passed.at i w.took (c.in_default-judge_passed.ensures.ok i (long_passed _ _ _ _ _ _ _ _ _ w _ c.taken.ensures)), r.7);
+      row = (
+        _,
+        _,
+        r.2,
+        r.3,
+        _,
+        _,
+        checked_took _ _ _ _ _ r.4 r.5 _ _ _ r.6 _ _ _ c.in-Ok-Passed.at
+            i w.took (c.in_default-judge_passed.ensures.ok i
+            (long_passed _ _ _ _ _ _ _ _ _ w _ c.taken.ensures)),
+        r.7,
+      );
     }
 
 pub instructions-preserved : goal.instructions-preserved
 instructions-preserved g c =
     let k = c.next_head.follows.holds-at-none in
     let r = c.instructions.invariant.row in
-    let took = took_head _ _ _ r.4 _ r.6.reads r.6.read_limits _ c.heads.ensures.given c.next_head.result c.in-Ok-Inst.at c.in-Ok-Inst.inst k.1 (cc (c.in-Ok-Inst.is, c.in-Ok-Inst.field-0-is)) in
+    let took = took_head _ _ _ r.4 _ r.6.reads r.6.read_limits _ c.heads.ensures.given
+    c.next_head.result c.in-Ok-Inst.at c.in-Ok-Inst.inst k.1
+    (cc (c.in-Ok-Inst.is, c.in-Ok-Inst.field-0-is)) in
     record {
       same = k.0 ∙ c.instructions.invariant.same;
-      row = (_, _, r.2, r.3, _, _, checked_took _ _ _ _ _ r.4 r.5 _ _ _ r.6 _ _ _ c.in-Ok-Inst.at (instruction_of c.in-Ok-Inst.inst) took c.in_default-judge.ensures.ok, r.7);
+      row = (
+        _,
+        _,
+        r.2,
+        r.3,
+        _,
+        _,
+        checked_took _ _ _ _ _ r.4 r.5 _ _ _ r.6 _ _ _ c.in-Ok-Inst.at
+            (instruction_of c.in-Ok-Inst.inst) took c.in_default-judge.ensures.ok,
+        r.7,
+      );
     }
 
 pub instructions-smaller : goal.instructions-smaller
 instructions-smaller g c =
     let k = c.next_head.follows.holds-at-none in
     let r = c.instructions.invariant.row in
-    let w = (c.heads.ensures.given _ _ _ r.4 _ _ c.next_head.result c.in-Ok-Inst.at c.in-Ok-Inst.inst (λ o. ap (λ l. payload_limit l o) r.6.read_limits) r.6.reads k.1 (cc (c.in-Ok-Inst.is, c.in-Ok-Inst.field-0-is))).1 in
+    let w = (c.heads.ensures.given _ _ _ r.4 _ _ c.next_head.result c.in-Ok-Inst.at
+    c.in-Ok-Inst.inst (λ o. ap (λ l. payload_limit l o) r.6.read_limits) r.6.reads k.1
+    (cc (c.in-Ok-Inst.is, c.in-Ok-Inst.field-0-is))).1 in
     less_to_do _ _ _ _ (instruction_of c.in-Ok-Inst.inst) w.taken w.within
 
 pub judge_passed-requires-clause-passed : goal.judge_passed-requires-clause-passed
 judge_passed-requires-clause-passed g c =
     let k = c.next_head.follows.holds-at-none in
     let r = c.instructions.invariant.row in
-    (took_passed _ _ _ r.4 _ r.6.reads r.6.read_limits _ c.heads.ensures.passed c.next_head.result c.in-Ok-Passed.at c.in-Ok-Passed.op c.in-Ok-Passed.field-0-2 k.1 (cc (c.in-Ok-Passed.is, c.in-Ok-Passed.field-0-is))).one.passed
+    (took_passed _ _ _ r.4 _ r.6.reads r.6.read_limits _ c.heads.ensures.passed c.next_head.result
+    c.in-Ok-Passed.at c.in-Ok-Passed.op c.in-Ok-Passed.field-0-2 k.1
+    (cc (c.in-Ok-Passed.is, c.in-Ok-Passed.field-0-is))).one.passed
 
 pub instructions-smaller-in_default-judge_passed :
     goal.instructions-smaller-in_default-judge_passed
 instructions-smaller-in_default-judge_passed g c =
     let k = c.next_head.follows.holds-at-none in
     let r = c.instructions.invariant.row in
-    let w = c.heads.ensures.passed _ _ _ r.4 _ _ c.next_head.result c.in-Ok-Passed.at c.in-Ok-Passed.op c.in-Ok-Passed.field-0-2 (λ o. ap (λ l. payload_limit l o) r.6.read_limits) r.6.reads k.1 (cc (c.in-Ok-Passed.is, c.in-Ok-Passed.field-0-is)) in
+    let w = c.heads.ensures.passed _ _ _ r.4 _ _ c.next_head.result c.in-Ok-Passed.at
+    c.in-Ok-Passed.op c.in-Ok-Passed.field-0-2
+    (λ o. ap (λ l. payload_limit l o) r.6.read_limits) r.6.reads k.1
+    (cc (c.in-Ok-Passed.is, c.in-Ok-Passed.field-0-is)) in
     less_to_do _ _ _ _ (instruction c.in-Ok-Passed.op (Counted w.0)) w.4 w.5.within

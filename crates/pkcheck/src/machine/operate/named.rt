@@ -1,21 +1,23 @@
 //! The operations that name a pair.
 ghost use Rattle.std.specs.Prelude.{◌≡◌, ◌⊎◌, ◌≤◌, ℕ, List, length, map, option_map, IfOk, IfErr};
 ghost use Rattle.std.specs.Prelude.{OnOk, OnErr, IfSome, Ok};
-ghost use Rattle.pkcheck.specs.Private.Slots.{known, seen, Grows, Sees};
+ghost use Rattle.pkcheck.specs.Private.Slots.{known, seen, HasMoreTexts, Sees};
 ghost use Rattle.pkcheck.specs.Import.{policy_of};
 ghost use Rattle.pkcheck.specs.Private.Noted.{AreNumbered, IsNamedIf, named_asked};
 ghost use Rattle.pkcheck.specs.Knowledge.{Known, learn, within};
 ghost use Rattle.pkcheck.specs.Shape.{and_then};
 ghost use Rattle.pkcheck.specs.Private.Denials.{judged, IsDenied, IsForMemory, MayName, MayOperate};
-ghost use Rattle.pkcheck.specs.Private.Denials.{MayWantMemory, Passes, WellGiven, IsPlain};
+ghost use Rattle.pkcheck.specs.Private.Denials.{MayWantMemory, Proceeds, WellGiven};
+ghost use Rattle.pkcheck.specs.Private.Denials.{IgnoresArgument};
 ghost use Rattle.pkcheck.specs.Private.Actions.{IsOperation};
 ghost use Rattle.pkcheck.specs.Effects.{Operates, effect_of, number_stored};
 ghost use Rattle.pkops.specs.Contents.{IsGood};
 ghost use Rattle.pkops.specs.Operands.{pair_named};
 ghost use Rattle.pkops.specs.Spelling.{Instruction, Pair, instruction};
 
+use crate::effect::{Gives, Names, Takes};
 use crate::import::{Named, asked_by};
-use crate::machine::effects::{Gives, Names, Takes, operation_of};
+use crate::machine::effects::operation_of;
 use crate::machine::ledger::Ledger;
 use crate::machine::operate::Denial;
 use crate::machine::operate::given::give;
@@ -29,7 +31,7 @@ use pkread::Reason;
 use std::alloc::Global;
 
 /// What the receiver and the names say.
-pub fn judge<'a>(
+pub fn permitted_name<'a>(
     alloc: Global,
     names: Names,
     gives: Gives,
@@ -76,8 +78,8 @@ fn names_of<'a>(op: Op, lines: Option<(&'a [u8], &'a [u8])>) -> Option<(&'a str,
     }
 }
 
-/// The same where a pair is named. It is handed the lines in place of the instruction,
-/// which would have to lie in memory then, in every step.
+/// Replaces the operands of an operation that names a pair. It takes the lines instead of the
+/// instruction, which would otherwise need a stack slot in every step.
 fn replace_named(
     alloc: Global,
     stack: &mut Stack,
@@ -92,13 +94,13 @@ fn replace_named(
 ) -> Result<bool, Denial>
     requires within { length stack.old ≤ limits.now.stack }
     requires given { WellGiven gives takes }
-    requires plain { IsPlain gives }
+    requires plain { IgnoresArgument gives }
     requires good { IfSome lines (λ pair. IsGood (instruction op (Pair pair.0.now pair.1.now))) }
     requires sees { Sees ledger.old.texts stack.old (seen ledger.old.texts stack.old) }
     ensures ok { (i : Instruction)
         → option_map (λ pair. (pair.0.now, pair.1.now)) lines.entry ≡ pair_named i
         → (m : List (ℕ × Known))
-        → IfOk result (λ b. Passes (learn (policy_of policy.now) (Operates takes names gives)
+        → IfOk result (λ b. Proceeds (learn (policy_of policy.now) (Operates takes names gives)
         i (record { entries = seen ledger.old.texts stack.old; memo = m }))
         (record { entries = seen ledger.new.texts stack.new; memo = m })
         ledger.old.asked ledger.new.asked b) }
@@ -118,7 +120,7 @@ fn replace_named(
     let found = stack.find(takes)?;
     let operands = stack.operands(found.place);
     let spelled = names_of(op, lines);
-    let named = judge(alloc, names, gives, spelled, policy, ledger, &operands)?;
+    let named = permitted_name(alloc, names, gives, spelled, policy, ledger, &operands)?;
     let value = value_of(gives);
     let count = ledger.len();
     let is_import = ledger.list(named)?;
@@ -149,12 +151,12 @@ pub fn operate_named(
     ensures ok { (i : Instruction)
         → option_map (λ pair. (pair.0.now, pair.1.now)) lines.entry ≡ pair_named i
         → (m : List (ℕ × Known))
-        → IfOk result (λ b. Passes (learn (policy_of policy.now) (effect_of op)
+        → IfOk result (λ b. Proceeds (learn (policy_of policy.now) (effect_of op)
         i (record { entries = seen ledger.old.texts stack.old; memo = m }))
         (record { entries = seen ledger.new.texts stack.new; memo = m })
         ledger.old.asked ledger.new.asked b) }
     ensures sees { OnOk result (Sees ledger.new.texts stack.new (seen ledger.new.texts stack.new)) }
-    ensures grows { OnOk result (Grows ledger.old.texts ledger.new.texts) }
+    ensures grows { OnOk result (HasMoreTexts ledger.old.texts ledger.new.texts) }
     ensures texts { ledger.new.texts ≡ ledger.old.texts }
     ensures room { OnOk result (length stack.new ≤ limits.now.stack) }
     ensures kept { OnErr result ((stack.new ≡ stack.old) × (ledger.new ≡ ledger.old)) }

@@ -1,12 +1,13 @@
 //! The operations that name nothing.
 ghost use Rattle.std.specs.Prelude.{◌≡◌, ◌≤◌, length, IfErr, OnErr, OnOk};
-ghost use Rattle.pkcheck.specs.declared.machine.effects.Names.{Names};
+ghost use Rattle.pkcheck.specs.declared.effect.Names.{Names};
 ghost use Rattle.pkcheck.specs.Effects.{Operates, effect_of};
 ghost use Rattle.pkcheck.specs.Private.Actions.{IsUnnamed};
-ghost use Rattle.pkcheck.specs.Private.Denials.{IsPlain, WellGiven};
+ghost use Rattle.pkcheck.specs.Private.Denials.{IgnoresArgument, WellGiven};
 ghost use Rattle.pkcheck.specs.Private.Replacing.{IsReplaceFault, Replaces, StaysSeen};
 
-use crate::machine::effects::{Gives, Takes, operation_of};
+use crate::effect::{Gives, Takes};
+use crate::machine::effects::operation_of;
 use crate::machine::operate::given::give;
 use crate::machine::operate::receiver::receiver_fault;
 use crate::machine::stack::Stack;
@@ -19,7 +20,7 @@ use pkread::Reason;
 fn replace(stack: &mut Stack, limits: &Limits, takes: Takes, gives: Gives) -> Result<(), Reason>
     requires within { length stack.old ≤ limits.now.stack }
     requires given { WellGiven gives takes }
-    requires plain { IsPlain gives }
+    requires plain { IgnoresArgument gives }
     ensures ok { OnOk result (Replaces (Operates takes Names.NoName gives) stack.old stack.new) }
     ensures sees { OnOk result (StaysSeen stack.old stack.new) }
     ensures room { OnOk result (length stack.new ≤ limits.now.stack) }
@@ -40,7 +41,7 @@ fn replace(stack: &mut Stack, limits: &Limits, takes: Takes, gives: Gives) -> Re
 
 /// Does the operation of an opcode that names nothing.
 #[inline(never)]
-pub fn operate(stack: &mut Stack, limits: &Limits, op: Op) -> Result<(), Reason>
+pub fn operate_unnamed(stack: &mut Stack, limits: &Limits, op: Op) -> Result<(), Reason>
     requires within { length stack.old ≤ limits.now.stack }
     requires unnamed { IsUnnamed (effect_of op) }
     ensures ok { OnOk result (Replaces (effect_of op) stack.old stack.new) }

@@ -55,7 +55,7 @@ fn permits(policy: &Policy, module_name: &str, name: &str) -> bool
     }
 }
 
-/// The same, with the refusal of a pair that may not pass.
+/// Permits the pair, or gives its refusal.
 fn permit_pair(alloc: Global, policy: &Policy, module_name: &str, name: &str) -> Result<(), Denial>
     ensures ok { OnOk result (permitted (policy_of policy.now) module_name.now name.now
         ≡ Ok (Some (AskedPair module_name.now name.now))) }

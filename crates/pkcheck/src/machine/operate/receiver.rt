@@ -4,7 +4,7 @@ ghost use Rattle.pkcheck.specs.Private.Slots.{known};
 ghost use Rattle.pkcheck.specs.Runs.{Plain};
 ghost use Rattle.pkcheck.specs.Knowledge.{suits, wrong_first, wrong_receiver};
 
-use crate::machine::effects::{Class, Gives, Wanted};
+use crate::effect::{Class, Gives, Wanted};
 use crate::machine::stack::Operands;
 use crate::machine::value::Value;
 

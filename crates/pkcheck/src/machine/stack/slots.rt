@@ -9,7 +9,7 @@ ghost use Rattle.std.specs.Prelude.{ℕ, ◌≡◌, List, [], ◌∷◌, ◌<◌
 ghost use Rattle.std.specs.Prelude.{IfOk};
 ghost use Rattle.std.specs.Prelude.{◌++◌, IfErr, IfSome, MatchOption, OnErr, OnOk};
 
-use crate::machine::effects::{SliceRule, Takes};
+use crate::effect::{SliceRule, Takes};
 use crate::machine::pile::Pile;
 use crate::machine::value::Value;
 use pkread::Reason;

@@ -1,7 +1,7 @@
 use Rattle.std.proofs.Common.{◌+◌, ◌*◌, take}
 use Rattle.serde_json.specs.View.{items_view, members_view}
 use Rattle.pkjson.specs.Unfolds.{UnfoldItems, UnfoldMembers}
-use Rattle.pkjson.specs.Private.Nodes.{heap, named}
+use Rattle.pkjson.specs.Private.Nodes.{heap, named_members}
 use Rattle.pkjson.proofs.build.+building.Given as goal
 
 abbrev pub decreases-build : goal.decreases-build
@@ -17,4 +17,4 @@ abbrev pub invariant-build_items-loop-item : goal.invariant-build_items-loop-ite
 invariant-build_items-loop-item l = UnfoldItems (heap l.nodes) (take l.item-index l.items) (items_view l.values.items)
 
 abbrev pub invariant-build_members-loop-key : goal.invariant-build_members-loop-key
-invariant-build_members-loop-key l = UnfoldMembers (heap l.nodes) (named (take l.key-index l.members)) (members_view l.built.entries)
+invariant-build_members-loop-key l = UnfoldMembers (heap l.nodes) (named_members (take l.key-index l.members)) (members_view l.built.entries)

@@ -2,11 +2,11 @@ use Rattle.std.proofs.Common.{refl, ◌∙◌}
 use Rattle.pkjson.proofs.Answering.{blank_trusted, all_deeper, too_many, has_value}
 use Rattle.pkjson.proofs.exporting.judged.Goals as goal
 
-pub judge-requires-clause-trusted : goal.judge-requires-clause-trusted
-judge-requires-clause-trusted c = blank_trusted _ _ _ _ (c.deref_mut.ensures.value ∙ c.in-Ok.ensures)
+pub weigh-requires-clause-trusted : goal.weigh-requires-clause-trusted
+weigh-requires-clause-trusted c = blank_trusted _ _ _ _ (c.deref_mut.ensures.value ∙ c.in-Ok.ensures)
 
-pub returns-in_default-judge-clause-err : goal.returns-in_default-judge-clause-err
-returns-in_default-judge-clause-err c = all_deeper _ _ _ c.in_default-judge.ensures.weight
+pub returns-in_default-weigh-clause-err : goal.returns-in_default-weigh-clause-err
+returns-in_default-weigh-clause-err c = all_deeper _ _ _ c.in_default-weigh.ensures.weight
 
 pub returns-then-weight-most-clause-err : goal.returns-then-weight-most-clause-err
 returns-then-weight-most-clause-err c = too_many _ _ _ _ _ _ refl c.in-Some.ensures.weight c.in-Some.ensures.bounds.depth c.if-weight-most.true

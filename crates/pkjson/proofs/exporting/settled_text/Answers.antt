@@ -11,10 +11,23 @@ pub written-requires-clause-closed : goal.written-requires-clause-closed
 written-requires-clause-closed c = settled_closed (kept_all c.args.arena.now.objects.items) c.deref-2.result.now (settled_there c.args.arena.now.objects.items c.deref.result.now c.in-Ok.nodes.items c.deref-2.result.now c.deref.ensures.value c.deref-2.ensures.value c.in-Ok.ensures)
 
 pub written-requires-clause-place : goal.written-requires-clause-place
-written-requires-clause-place c = subst (λ n. c.args.place < n) (sym (settled_length (kept_all c.args.arena.now.objects.items) (kept_all c.args.arena.now.objects.items) c.deref-2.result.now (settled_there c.args.arena.now.objects.items c.deref.result.now c.in-Ok.nodes.items c.deref-2.result.now c.deref.ensures.value c.deref-2.ensures.value c.in-Ok.ensures))) c.requires.within
+written-requires-clause-place c = subst (λ n. c.args.place < n)
+    (sym (settled_length (kept_all c.args.arena.now.objects.items)
+    (kept_all c.args.arena.now.objects.items) c.deref-2.result.now
+    (settled_there c.args.arena.now.objects.items c.deref.result.now c.in-Ok.nodes.items
+    c.deref-2.result.now c.deref.ensures.value c.deref-2.ensures.value c.in-Ok.ensures)))
+    c.requires.within
 
 pub returns-clause-ok : goal.returns-clause-ok
-returns-clause-ok c = text_held (kept_all c.args.arena.now.objects.items) c.deref-2.result.now (settled_there c.args.arena.now.objects.items c.deref.result.now c.in-Ok.nodes.items c.deref-2.result.now c.deref.ensures.value c.deref-2.ensures.value c.in-Ok.ensures) c.deepest.result c.most.result c.args.limits.now.depth c.args.limits.now.values c.args.place c.deepest.ensures.value c.most.ensures.value c.written.result c.written.ensures.ok
+returns-clause-ok c = text_held (kept_all c.args.arena.now.objects.items) c.deref-2.result.now
+    (settled_there c.args.arena.now.objects.items c.deref.result.now c.in-Ok.nodes.items
+    c.deref-2.result.now c.deref.ensures.value c.deref-2.ensures.value c.in-Ok.ensures)
+    c.deepest.result c.most.result c.args.limits.now.depth c.args.limits.now.values c.args.place
+    c.deepest.ensures.value c.most.ensures.value c.written.result c.written.ensures.ok
 
 pub returns-clause-err : goal.returns-clause-err
-returns-clause-err c = refusal_held (kept_all c.args.arena.now.objects.items) c.deref-2.result.now (settled_there c.args.arena.now.objects.items c.deref.result.now c.in-Ok.nodes.items c.deref-2.result.now c.deref.ensures.value c.deref-2.ensures.value c.in-Ok.ensures) c.deepest.result c.most.result c.args.limits.now.depth c.args.limits.now.values c.args.place c.deepest.ensures.value c.most.ensures.value c.written.result c.written.ensures.err
+returns-clause-err c = refusal_held (kept_all c.args.arena.now.objects.items) c.deref-2.result.now
+    (settled_there c.args.arena.now.objects.items c.deref.result.now c.in-Ok.nodes.items
+    c.deref-2.result.now c.deref.ensures.value c.deref-2.ensures.value c.in-Ok.ensures)
+    c.deepest.result c.most.result c.args.limits.now.depth c.args.limits.now.values c.args.place
+    c.deepest.ensures.value c.most.ensures.value c.written.result c.written.ensures.err

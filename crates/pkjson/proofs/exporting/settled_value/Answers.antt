@@ -14,10 +14,23 @@ pub value_of-requires-clause-ordered : goal.value_of-requires-clause-ordered
 value_of-requires-clause-ordered c = settled_ordered (kept_all c.args.arena.now.objects.items) c.deref-2.result.now (settled_there c.args.arena.now.objects.items c.deref.result.now c.in-Ok.nodes.items c.deref-2.result.now c.deref.ensures.value c.deref-2.ensures.value c.in-Ok.ensures)
 
 pub value_of-requires-clause-place : goal.value_of-requires-clause-place
-value_of-requires-clause-place c = subst (λ n. c.args.place < n) (sym (settled_length (kept_all c.args.arena.now.objects.items) (kept_all c.args.arena.now.objects.items) c.deref-2.result.now (settled_there c.args.arena.now.objects.items c.deref.result.now c.in-Ok.nodes.items c.deref-2.result.now c.deref.ensures.value c.deref-2.ensures.value c.in-Ok.ensures))) c.requires.within
+value_of-requires-clause-place c = subst (λ n. c.args.place < n)
+    (sym (settled_length (kept_all c.args.arena.now.objects.items)
+    (kept_all c.args.arena.now.objects.items) c.deref-2.result.now
+    (settled_there c.args.arena.now.objects.items c.deref.result.now c.in-Ok.nodes.items
+    c.deref-2.result.now c.deref.ensures.value c.deref-2.ensures.value c.in-Ok.ensures)))
+    c.requires.within
 
 pub returns-clause-ok : goal.returns-clause-ok
-returns-clause-ok c = value_held (kept_all c.args.arena.now.objects.items) c.deref-2.result.now (settled_there c.args.arena.now.objects.items c.deref.result.now c.in-Ok.nodes.items c.deref-2.result.now c.deref.ensures.value c.deref-2.ensures.value c.in-Ok.ensures) c.deepest.result c.most.result c.args.limits.now.depth c.args.limits.now.values c.args.place c.deepest.ensures.value c.most.ensures.value c.value_of.result c.value_of.ensures.ok
+returns-clause-ok c = value_held (kept_all c.args.arena.now.objects.items) c.deref-2.result.now
+    (settled_there c.args.arena.now.objects.items c.deref.result.now c.in-Ok.nodes.items
+    c.deref-2.result.now c.deref.ensures.value c.deref-2.ensures.value c.in-Ok.ensures)
+    c.deepest.result c.most.result c.args.limits.now.depth c.args.limits.now.values c.args.place
+    c.deepest.ensures.value c.most.ensures.value c.value_of.result c.value_of.ensures.ok
 
 pub returns-clause-err : goal.returns-clause-err
-returns-clause-err c = refusal_held (kept_all c.args.arena.now.objects.items) c.deref-2.result.now (settled_there c.args.arena.now.objects.items c.deref.result.now c.in-Ok.nodes.items c.deref-2.result.now c.deref.ensures.value c.deref-2.ensures.value c.in-Ok.ensures) c.deepest.result c.most.result c.args.limits.now.depth c.args.limits.now.values c.args.place c.deepest.ensures.value c.most.ensures.value c.value_of.result c.value_of.ensures.err
+returns-clause-err c = refusal_held (kept_all c.args.arena.now.objects.items) c.deref-2.result.now
+    (settled_there c.args.arena.now.objects.items c.deref.result.now c.in-Ok.nodes.items
+    c.deref-2.result.now c.deref.ensures.value c.deref-2.ensures.value c.in-Ok.ensures)
+    c.deepest.result c.most.result c.args.limits.now.depth c.args.limits.now.values c.args.place
+    c.deepest.ensures.value c.most.ensures.value c.value_of.result c.value_of.ensures.err

@@ -1,22 +1,22 @@
 use Rattle.std.proofs.Common.{◌≡◌, ◌≤◌, ◌+◌, ◌*◌, length, take}
-use Rattle.pkjson.specs.Private.Nodes.{heap, named}
+use Rattle.pkjson.specs.Private.Nodes.{heap, named_members}
 use Rattle.pkjson.specs.Private.Weighs.{ItemsWeigh, MembersWeigh, IsTrusted}
 use Rattle.pkjson.proofs.judge.+judging.Given as goal
 
-abbrev pub decreases-judge : goal.decreases-judge
-decreases-judge l = 3 * l.levels + 2
+abbrev pub decreases-weigh : goal.decreases-weigh
+decreases-weigh l = 3 * l.levels + 2
 
-abbrev pub decreases-judge_node : goal.decreases-judge_node
-decreases-judge_node l = 3 * l.levels + 1
+abbrev pub decreases-weigh_node : goal.decreases-weigh_node
+decreases-weigh_node l = 3 * l.levels + 1
 
-abbrev pub decreases-judge_items : goal.decreases-judge_items
-decreases-judge_items l = 3 * l.levels + 3
+abbrev pub decreases-weigh_items : goal.decreases-weigh_items
+decreases-weigh_items l = 3 * l.levels + 3
 
-abbrev pub decreases-judge_members : goal.decreases-judge_members
-decreases-judge_members l = 3 * l.levels + 3
+abbrev pub decreases-weigh_members : goal.decreases-weigh_members
+decreases-weigh_members l = 3 * l.levels + 3
 
-abbrev pub invariant-judge_items-loop-item : goal.invariant-judge_items-loop-item
-invariant-judge_items-loop-item l = record {
+abbrev pub invariant-weigh_items-loop-item : goal.invariant-weigh_items-loop-item
+invariant-weigh_items-loop-item l = record {
   same : length l.done ≡ length l.nodes;
   trusted : IsTrusted (heap l.nodes) l.cap l.done;
   depth : l.sum.depth ≤ l.levels;
@@ -24,11 +24,11 @@ invariant-judge_items-loop-item l = record {
   sum : ItemsWeigh (heap l.nodes) l.cap (take l.item-index l.items) l.sum;
 }
 
-abbrev pub invariant-judge_members-loop-key : goal.invariant-judge_members-loop-key
-invariant-judge_members-loop-key l = record {
+abbrev pub invariant-weigh_members-loop-key : goal.invariant-weigh_members-loop-key
+invariant-weigh_members-loop-key l = record {
   same : length l.done ≡ length l.nodes;
   trusted : IsTrusted (heap l.nodes) l.cap l.done;
   depth : l.sum.depth ≤ l.levels;
   count : l.sum.count ≤ l.cap;
-  sum : MembersWeigh (heap l.nodes) l.cap (named (take l._key-index l.members)) l.sum;
+  sum : MembersWeigh (heap l.nodes) l.cap (named_members (take l._key-index l.members)) l.sum;
 }

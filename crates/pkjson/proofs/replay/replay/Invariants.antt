@@ -1,12 +1,12 @@
 use Rattle.std.proofs.Common.{◌≤◌, ◌-◌, List, length}
 use Rattle.pkops.specs.Spelling.{Instruction}
 use Rattle.pkjson.specs.Export.{AcceptedAs}
-use Rattle.pkjson.specs.Private.Held.{seen}
+use Rattle.pkjson.specs.Private.Held.{parts}
 use Rattle.pkjson.specs.Private.Standing.{Stands}
 use Rattle.pkjson.proofs.replay.replay.Given as goal
 
 abbrev pub invariant-instructions : goal.invariant-instructions
-invariant-instructions l = (length l.rest ≤ length l.bytes) × ((p : List Instruction) → AcceptedAs l.limits l.bytes p → Stands l.limits.counted p l.rest (length l.bytes - length l.rest) (seen l.arena))
+invariant-instructions l = (length l.rest ≤ length l.bytes) × ((p : List Instruction) → AcceptedAs l.limits l.bytes p → Stands l.limits.counted p l.rest (length l.bytes - length l.rest) (parts l.arena))
 
 abbrev pub decreases-instructions : goal.decreases-instructions
 decreases-instructions l = length l.rest

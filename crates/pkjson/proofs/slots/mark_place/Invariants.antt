@@ -1,10 +1,10 @@
 use Rattle.std.proofs.Common.{◌≡◌, ◌≤◌, [], length, take, drop}
-use Rattle.pkjson.specs.Private.Seen.{shown, numbers_of}
+use Rattle.pkjson.specs.Private.Seen.{seen_entries, numbers_of}
 use Rattle.pkcheck.specs.Shape.{slice}
 use Rattle.pkjson.proofs.slots.mark_place.Given as goal
 
 abbrev pub invariant-loop-place : goal.invariant-loop-place
-invariant-loop-place l = (l.place ≤ length l.slots) × (slice (shown l.slots []) [] ≡ slice (shown (take l.place l.slots) []) (numbers_of (drop l.place l.slots)))
+invariant-loop-place l = (l.place ≤ length l.slots) × (slice (seen_entries l.slots []) [] ≡ slice (seen_entries (take l.place l.slots) []) (numbers_of (drop l.place l.slots)))
 
 abbrev pub decreases-loop-place : goal.decreases-loop-place
 decreases-loop-place l = l.place

@@ -5,13 +5,30 @@ use Rattle.std.specs.Cmp.Lexicographic.{slice_cmp}
 use Rattle.std.specs.BTreeMap.{insert_entry}
 use Rattle.pkjson.specs.Private.Arena.{kind_at}
 use Rattle.pkjson.specs.Contents.{paired, standing}
-use Rattle.pkjson.specs.Private.Nodes.{named}
+use Rattle.pkjson.specs.Private.Nodes.{named_members}
 use Rattle.pkjson.specs.Private.Seen.{kept_all}
 use Rattle.pkjson.proofs.Settling.{insert_named, insert_below, two_more, none_left, ascending_found}
 use Rattle.pkjson.proofs.standing.standing_pairs.Goals as goal
 
 pub loop-index-preserved : goal.loop-index-preserved
-loop-index-preserved c = (omega arith, c.loop-index.invariant.1 ∙ ap (standing (named c.loop-index.pairs.entries)) (two_more (kind_at (kept_all c.args.objects.now)) c.args.given.now c.loop-index.index c.loop-index-test.true) ∙ ap (λ es. standing es (paired (kind_at (kept_all c.args.objects.now)) (drop (c.loop-index.index + 2) c.args.given.now))) (sym (ap named c.in_ok-insert.ensures.entries ∙ insert_named c.loop-index.pairs.entries c.text_at.result (get_or c.args.given.now (c.loop-index.index + 1) 0) ∙ ap (λ k. insert_entry (slice_cmp nat_cmp) (named c.loop-index.pairs.entries) k (get_or c.args.given.now (c.loop-index.index + 1) 0)) c.text_at.ensures)), ascending_found c.insert.new.self.entries c.in_ok-insert.ensures.ordered, rw c.in_ok-insert.ensures.entries (insert_below _ c.loop-index.pairs.entries c.text_at.result _ (All-get_or (λ x. x < length c.args.objects.now) c.args.given.now (c.loop-index.index + 1) 0 c.loop-index-test.true c.requires) c.loop-index.invariant.3))
+loop-index-preserved c = (
+  omega arith,
+  c.loop-index.invariant.1 ∙ ap
+      (standing (named_members c.loop-index.pairs.entries)) (two_more
+      (kind_at (kept_all c.args.objects.now)) c.args.given.now c.loop-index.index
+      c.loop-index-test.true) ∙ ap (λ es. standing es (paired (kind_at (kept_all c.args.objects.now))
+      (drop (c.loop-index.index + 2) c.args.given.now)))
+      (sym (ap named_members c.in_ok-insert.ensures.entries ∙ insert_named c.loop-index.pairs.entries
+      c.text_at.result (get_or c.args.given.now (c.loop-index.index + 1) 0) ∙ ap
+      (λ k. insert_entry (slice_cmp nat_cmp) (named_members c.loop-index.pairs.entries) k
+      (get_or c.args.given.now (c.loop-index.index + 1) 0)) c.text_at.ensures)),
+  ascending_found
+      c.insert.new.self.entries c.in_ok-insert.ensures.ordered,
+  rw c.in_ok-insert.ensures.entries
+      (insert_below _ c.loop-index.pairs.entries c.text_at.result _
+      (All-get_or (λ x. x < length c.args.objects.now) c.args.given.now (c.loop-index.index + 1) 0
+      c.loop-index-test.true c.requires) c.loop-index.invariant.3),
+)
 
 pub returns-clause-pairs : goal.returns-clause-pairs
-returns-clause-pairs c = sym (c.loop-index.invariant.1 ∙ ap (standing (named c.loop-index.pairs.entries)) (none_left (kind_at (kept_all c.args.objects.now)) c.args.given.now c.loop-index.index c.loop-index-test.false))
+returns-clause-pairs c = sym (c.loop-index.invariant.1 ∙ ap (standing (named_members c.loop-index.pairs.entries)) (none_left (kind_at (kept_all c.args.objects.now)) c.args.given.now c.loop-index.index c.loop-index-test.false))

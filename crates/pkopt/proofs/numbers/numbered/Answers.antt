@@ -13,7 +13,11 @@ loop-stays-preserved c =
     record {
       count = omega (arith, more, parts, count);
       within = after_within _ c.loop-stays.next c.args.limit c.number_after-next.result c.number_after-next.ensures i.within;
-      each = λ vs writes k. numbers_on vs c.loop-stays.stays-index (c.loop-stays.stays-index + 1) c.args.limit c.loop-stays.next c.number_after-next.result c.loop-stays.numbers.items c.push.new.self.items c.number_if.result _ (omega arith) count (sym (k.each c.loop-stays.stays-index (let e = k.count in omega (arith, e, inside)))) c.number_if.ensures c.number_after-next.ensures grown (i.each vs writes k);
+      each = λ vs writes k. numbers_on vs c.loop-stays.stays-index (c.loop-stays.stays-index + 1)
+          c.args.limit c.loop-stays.next c.number_after-next.result c.loop-stays.numbers.items
+          c.push.new.self.items c.number_if.result _ (omega arith) count
+          (sym (k.each c.loop-stays.stays-index (let e = k.count in omega (arith, e, inside))))
+          c.number_if.ensures c.number_after-next.ensures grown (i.each vs writes k);
     }
 
 pub returns : goal.returns

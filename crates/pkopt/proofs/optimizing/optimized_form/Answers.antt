@@ -46,7 +46,10 @@ returns-then-not-framed-clause-ok c =
     let aims = subst (λ (l : List Place). Aims c.args.bytes.now l x.taken c.in-Ok.plan (pickle t.checks)) (sym c.deref-2.ensures.value) (aims_at c.args.limits.now c.args.bytes.now x c.in-Ok.plan t planned) in
     let framed_so = c.any_frame-framed.ensures ∙ ap (list_any (λ (x : Place). is_frame x.op)) (c.deref.ensures.value ∙ t.tracks.places) ∙ framed_places (pickle t.checks) 0 in
     let room = c.room_for-room.ensures ∙ ap (λ b. cond b 9 0) c.if-not-framed.true in
-    optimizes c.framed.ensures _ _ t.checks c.in-Ok.plan.limit _ slim.items c.any_frame-framed.result slim.items c.in-Ok.ensures.small (short_bytes _ _ _ slim.ok slim.small) c.in-Ok.ensures.limit (c.in-Ok-slim_of.ensures.ok (pickle t.checks) aims) framed_so
+    optimizes c.framed.ensures c.same_ends.ensures.free c.same_ends.ensures.well _ _ t.checks
+    c.in-Ok.plan.limit _ slim.items c.any_frame-framed.result slim.items c.in-Ok.ensures.small
+    (short_bytes _ _ _ slim.ok slim.small) c.in-Ok.ensures.limit
+    (c.in-Ok-slim_of.ensures.ok (pickle t.checks) aims) framed_so
     (inr (c.if-not-framed.true, ap (λ n. drop n slim.items) (sym room)))
 
 pub returns-clause-ok : goal.returns-clause-ok
@@ -58,5 +61,5 @@ returns-clause-ok c =
     let aims = subst (λ (l : List Place). Aims c.args.bytes.now l x.taken c.in-Ok.plan (pickle t.checks)) (sym c.deref-2.ensures.value) (aims_at c.args.limits.now c.args.bytes.now x c.in-Ok.plan t planned) in
     let framed_so = c.any_frame-framed.ensures ∙ ap (list_any (λ (x : Place). is_frame x.op)) (c.deref.ensures.value ∙ t.tracks.places) ∙ framed_places (pickle t.checks) 0 in
     let room = c.room_for-room.ensures ∙ ap (λ b. cond b 9 0) c.if-not-framed.false in
-    optimizes c.framed.ensures _ _ t.checks c.in-Ok.plan.limit _ slim.items c.any_frame-framed.result _ c.in-Ok.ensures.small (short_bytes _ _ _ slim.ok slim.small) c.in-Ok.ensures.limit (c.in-Ok-slim_of.ensures.ok (pickle t.checks) aims) framed_so
+    optimizes c.framed.ensures c.same_ends.ensures.free c.same_ends.ensures.well _ _ t.checks c.in-Ok.plan.limit _ slim.items c.any_frame-framed.result _ c.in-Ok.ensures.small (short_bytes _ _ _ slim.ok slim.small) c.in-Ok.ensures.limit (c.in-Ok-slim_of.ensures.ok (pickle t.checks) aims) framed_so
     (inl (c.if-not-framed.false, c.in-Ok-put_in_frame.ensures ∙ ap (λ n. framed_bytes (drop n slim.items)) (sym room)))

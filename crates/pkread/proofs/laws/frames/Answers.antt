@@ -1,4 +1,4 @@
-use Rattle.pkread.proofs.FramesSoFar.{frames_break, frames_go_on, frames_hold}
+use Rattle.pkread.proofs.Framing.SoFar.{frames_break, frames_go_on, frames_hold}
 use Rattle.pkread.proofs.laws.frames.Goals as goal
 
 pub returns-clause-more : goal.returns-clause-more

@@ -1,4 +1,4 @@
-use Rattle.pkread.proofs.Run.{end_of_heads, head_is_read, passed_is_read, reading_begins, refusal_of_heads}
+use Rattle.pkread.proofs.Loops.Run.{end_of_heads, head_is_read, passed_is_read, reading_begins, refusal_of_heads}
 use Rattle.pkread.proofs.laws.heads.Goals as goal
 
 pub returns-clause-begins : goal.returns-clause-begins

@@ -1,4 +1,4 @@
-use Rattle.pkread.proofs.OneSequence.{one_front, one_sequence, sequence_goes_on}
+use Rattle.pkread.proofs.Loops.OneSequence.{one_front, one_sequence, sequence_goes_on}
 use Rattle.pkread.proofs.laws.one_sequence.Goals as goal
 
 pub returns-clause-front : goal.returns-clause-front

@@ -1,7 +1,7 @@
-use Rattle.pkread.proofs.Again.{no_byte_is_refused}
-use Rattle.pkread.proofs.Gathering.{Takes-more}
-use Rattle.pkread.proofs.Run.{reading_goes_on}
-use Rattle.pkread.proofs.Taking.{takes_none}
+use Rattle.pkread.proofs.Calls.Again.{no_byte_is_refused}
+use Rattle.pkread.proofs.Bytes.Takes.{Takes-more}
+use Rattle.pkread.proofs.Loops.Run.{reading_goes_on}
+use Rattle.pkread.proofs.Bytes.Taken.{takes_none}
 use Rattle.pkread.proofs.laws.rows.Goals as goal
 
 pub returns-clause-begins : goal.returns-clause-begins

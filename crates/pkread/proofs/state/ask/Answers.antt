@@ -1,5 +1,8 @@
-use Rattle.pkread.proofs.Again.{answers_none}
+use Rattle.pkread.proofs.Calls.Again.{answers_none}
 use Rattle.pkread.proofs.state.ask.Goals as goal
 
 pub returns-in-Err-clause-err : goal.returns-in-Err-clause-err
-returns-in-Err-clause-err g c = answers_none _ _ c.args.taken c.in-Err.reason c.none_or.result c.in-Err.ensures.err c.none_or.ensures.err
+returns-in-Err-clause-err g c =
+    answers_none _ _ c.args.gathering.now.taken c.in-Err.reason c.none_or.result
+    c.in-Err.ensures.err
+    c.none_or.ensures.err

@@ -1,8 +1,8 @@
 use Rattle.std.proofs.Common.{sym, ◌∙◌}
 use Rattle.pkread.specs.declared.refusal.Reason.TheVariants.{Truncated}
-use Rattle.pkread.proofs.Gathering.{fault_is_amiss}
-use Rattle.pkread.proofs.Objections.{objection_is_amiss}
-use Rattle.pkread.proofs.OneRow.{alone, amiss_alone}
+use Rattle.pkread.proofs.Bytes.Takes.{fault_is_amiss}
+use Rattle.pkread.proofs.Reasons.Objections.{objection_is_amiss}
+use Rattle.pkread.proofs.Reasons.OneRow.{alone, amiss_alone}
 use Rattle.pkread.proofs.walk.admitted_at_front.Goals as goal
 
 pub returns-in-Some-clause-err : goal.returns-in-Some-clause-err

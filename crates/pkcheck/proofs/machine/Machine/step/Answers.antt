@@ -13,7 +13,20 @@ returns-in-Ok-clause-goes_on c =
     let k : Knowledge = c.advance.new.held.knowledge in (
       record { after = k; import = g.0 },
       rw (← c.self.view_is) g.1,
-      rw (← c.self.view_is) (λ j. record { knowledge = k; limits = c.self.inside.limits; old_strings = c.self.inside.old_strings; imports = g.2 j; off = option_map asked_shown ((c.in-Ok.ensures.off ∙ sym (c.self.invariant.1 c.in_default.is)) j); refused = c.self.inside.refused; stopped = c.is_stopped-self-inside.ensures j; texts = c.in-Ok.ensures.texts j }),
+      rw (← c.self.view_is) (λ j. record {
+        knowledge = k;
+        limits = c.self.inside.limits;
+        old_strings
+            = c.self.inside.old_strings;
+        imports = g.2 j;
+        off = option_map asked_shown
+            ((c.in-Ok.ensures.off ∙ sym (c.self.invariant.1 c.in_default.is)) j);
+        refused =
+            c.self.inside.refused;
+        stopped = c.is_stopped-self-inside.ensures j;
+        texts =
+            c.in-Ok.ensures.texts j;
+      }),
       rw (← c.self.view_is) g.3,
     )
 
@@ -32,13 +45,27 @@ returns-in-Ok-clause-unknown c = unknown_by (policy_of c.args.policy.now) (instr
 pub returns-in-Ok-clause-texts : goal.returns-in-Ok-clause-texts
 returns-in-Ok-clause-texts c =
     let g = c.in-Ok.ensures.ok in
-    rw (← c.self.view_is) (c.in-Ok.ensures.texts ∙ texts_by_setting c.self.inside.old_strings (instruction_of c.args.inst.now) c.self.inside.held.texts (not_raised c.self.inside.old_strings (policy_of c.args.policy.now) c.self.inside.limits (instruction_of c.args.inst.now) c.self.inside.held.knowledge _ g.1))
+    rw (← c.self.view_is) (c.in-Ok.ensures.texts ∙ texts_by_setting c.self.inside.old_strings
+    (instruction_of c.args.inst.now) c.self.inside.held.texts
+    (not_raised c.self.inside.old_strings (policy_of c.args.policy.now) c.self.inside.limits
+    (instruction_of c.args.inst.now) c.self.inside.held.knowledge _ g.1))
 
 pub returns-in-Err-clause-fails : goal.returns-in-Err-clause-fails
 returns-in-Err-clause-fails c fresh =
     let kept = c.in-Err.ensures.kept in
     denied (policy_of c.args.policy.now) (instruction_of c.args.inst.now) c.args.self.now _ _ (option_map asked_shown c.advance.new.off)
-    (rw (← c.self.view_is) (λ j. record { knowledge = (kept j).knowledge; limits = c.self.inside.limits; old_strings = c.self.inside.old_strings; imports = (kept j).imports; off = option_map asked_shown c.advance.new.off; refused = Some c.in-Err.reason; stopped = c.self.inside.stopped; texts = (kept j).texts }))
+    (rw (← c.self.view_is) (λ j. record {
+      knowledge = (kept j).knowledge;
+      limits =
+          c.self.inside.limits;
+      old_strings = c.self.inside.old_strings;
+      imports = (kept j).imports;
+      off = option_map asked_shown c.advance.new.off;
+      refused = Some c.in-Err.reason;
+      stopped =
+          c.self.inside.stopped;
+      texts = (kept j).texts;
+    }))
     (rw (← c.self.view_is) c.in-Err.ensures.err)
 
 pub returns-in-Err-clause-alarm : goal.returns-in-Err-clause-alarm

@@ -18,7 +18,19 @@ returns-in-Ok-clause-step c i same =
     let stack = subst (λ (k : Knowledge). length k.entries ≤ c.self.inside.limits.stack) c.in-Ok.ensures.ok c.in-Ok.ensures.room in
     goes_on p i c.args.self.now _ On
     (passes p i c.args.self.now _ c.class_passed.result e (rw (← c.self.view_is) stack) (rw (← c.self.view_is) (c.self.invariant.0 c.in_default.is).1) c.requires.running
-    (rw (← c.self.view_is) (λ j. record { knowledge = c.in-Ok.ensures.ok j; limits = c.self.inside.limits; old_strings = c.self.inside.old_strings; imports = c.make.ensures.imports j; off = option_map asked_shown c.self.inside.off; refused = c.self.inside.refused; stopped = c.self.inside.stopped; texts = c.in-Ok.ensures.texts j })))
+    (rw (← c.self.view_is) (λ j. record {
+      knowledge = c.in-Ok.ensures.ok j;
+      limits =
+          c.self.inside.limits;
+      old_strings = c.self.inside.old_strings;
+      imports =
+          c.make.ensures.imports j;
+      off = option_map asked_shown c.self.inside.off;
+      refused =
+          c.self.inside.refused;
+      stopped = c.self.inside.stopped;
+      texts = c.in-Ok.ensures.texts j;
+    })))
     (rw (← c.self.view_is) c.in_default.is)
 
 pub returns-in-Err-clause-step : goal.returns-in-Err-clause-step
@@ -28,4 +40,16 @@ returns-in-Err-clause-step c i same =
     let (v, long) = longest c.args.policy.now in
     fails p i c.args.self.now _ c.in-Err.reason v long (passed_admitted i.op i.arg (subst (λ o. IsTrue (is_passed o)) (sym same) c.requires.passed)) (rw (← c.self.view_is) c.in_default.is)
     (lacks_room p i c.args.self.now _ c.class_passed.result e c.in-Err.reason (rw (← c.self.view_is) c.in-Err.ensures.err)
-    (rw (← c.self.view_is) (λ j. record { knowledge = (c.in-Err.ensures.kept j).knowledge; limits = c.self.inside.limits; old_strings = c.self.inside.old_strings; imports = (c.in-Err.ensures.kept j).imports; off = None; refused = Some c.in-Err.reason; stopped = c.self.inside.stopped; texts = (c.in-Err.ensures.kept j).texts })))
+    (rw (← c.self.view_is) (λ j. record {
+      knowledge = (c.in-Err.ensures.kept j).knowledge;
+      limits =
+          c.self.inside.limits;
+      old_strings = c.self.inside.old_strings;
+      imports =
+          (c.in-Err.ensures.kept j).imports;
+      off = None;
+      refused = Some c.in-Err.reason;
+      stopped =
+          c.self.inside.stopped;
+      texts = (c.in-Err.ensures.kept j).texts;
+    })))

@@ -1,5 +1,5 @@
 use Rattle.std.proofs.Common.{refl}
-use Rattle.pkcheck.specs.declared.machine.effects.Move.TheVariants.{PushesMark, Duplicates}
+use Rattle.pkcheck.specs.declared.effect.Move.TheVariants.{PushesMark, Duplicates}
 use Rattle.pkcheck.specs.Shape.{Mark}
 use Rattle.pkcheck.proofs.Stepping.Errs.{err_on}
 use Rattle.pkcheck.proofs.Stepping.Moving.{grown, fault_of}

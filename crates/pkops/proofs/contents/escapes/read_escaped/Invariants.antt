@@ -1,7 +1,7 @@
 use Rattle.std.proofs.Common.{◌≡◌, drop}
 use Rattle.std.specs.Prelude.{string_bytes, encode_utf8_all}
 use Rattle.std.specs.Option.{option_map}
-use Rattle.pkops.specs.Private.EscapeSteps.{IsSmall}
+use Rattle.pkops.specs.Private.EscapeSteps.{IsPointSoFar}
 use Rattle.pkops.specs.Escapes.{points_of}
 use Rattle.pkops.proofs.EscapeLoop.{code_points, joined}
 use Rattle.pkops.proofs.contents.escapes.read_escaped.Given as goal
@@ -10,5 +10,5 @@ use Rattle.pkops.proofs.contents.escapes.read_escaped.Given as goal
 abbrev pub invariant-bytes : goal.invariant-bytes
 invariant-bytes l = record {
   kept : joined (string_bytes l.text) (code_points l.state (drop l.byte-index l.line)) ≡ option_map encode_utf8_all (points_of l.line);
-  small : IsSmall l.state;
+  small : IsPointSoFar l.state;
 }

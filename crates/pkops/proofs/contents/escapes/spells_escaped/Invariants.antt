@@ -1,6 +1,6 @@
 use Rattle.std.proofs.Common.{◌≡◌, drop}
 use Rattle.std.specs.Prelude.{is_some}
-use Rattle.pkops.specs.Private.EscapeSteps.{IsSmall}
+use Rattle.pkops.specs.Private.EscapeSteps.{IsPointSoFar}
 use Rattle.pkops.specs.Escapes.{points_of}
 use Rattle.pkops.proofs.EscapeLoop.{code_points}
 use Rattle.pkops.proofs.contents.escapes.spells_escaped.Given as goal
@@ -8,5 +8,5 @@ use Rattle.pkops.proofs.contents.escapes.spells_escaped.Given as goal
 abbrev pub invariant-bytes : goal.invariant-bytes
 invariant-bytes l = record {
   kept : is_some (code_points l.state (drop l.byte-index l.line)) ≡ is_some (points_of l.line);
-  small : IsSmall l.state;
+  small : IsPointSoFar l.state;
 }

@@ -1,7 +1,7 @@
 use Rattle.std.proofs.Common.{◌≡◌, drop}
 use Rattle.std.specs.Prelude.{is_some}
 use Rattle.pkops.specs.Deciding.{are_items}
-use Rattle.pkops.specs.Private.Places.{IsSmall}
+use Rattle.pkops.specs.Private.Places.{HoldsDigit}
 use Rattle.pkops.proofs.OldStrings.{spelled}
 use Rattle.pkops.proofs.contents.old_string.are_items.Given as goal
 
@@ -9,5 +9,5 @@ use Rattle.pkops.proofs.contents.old_string.are_items.Given as goal
 abbrev pub invariant-bytes : goal.invariant-bytes
 invariant-bytes l = record {
   kept : is_some (spelled l.quote l.place (drop l.byte-index l.inside)) ≡ are_items l.quote l.inside;
-  small : IsSmall l.place;
+  small : HoldsDigit l.place;
 }

@@ -1,6 +1,6 @@
 use Rattle.std.proofs.Common.{◌≡◌, drop}
 use Rattle.pkops.specs.OldBytes.{bytes_between}
-use Rattle.pkops.specs.Private.Places.{IsSmall}
+use Rattle.pkops.specs.Private.Places.{HoldsDigit}
 use Rattle.pkops.proofs.OldStrings.{joined, spelled}
 use Rattle.pkops.proofs.contents.old_string.read_items.Given as goal
 
@@ -8,5 +8,5 @@ use Rattle.pkops.proofs.contents.old_string.read_items.Given as goal
 abbrev pub invariant-bytes : goal.invariant-bytes
 invariant-bytes l = record {
   kept : joined l.bytes.items (spelled l.quote l.place (drop l.byte-index l.inside)) ≡ bytes_between l.quote l.inside;
-  small : IsSmall l.place;
+  small : HoldsDigit l.place;
 }

@@ -1,15 +1,12 @@
-use Rattle.std.proofs.Common.{◌≡◌, ℕ, List, refl, subst}
+use Rattle.std.proofs.Common.{◌≡◌, [], refl, subst}
 use Rattle.std.proofs.lemmas.Result.{err_from_is_err_and}
-use Rattle.pkops.specs.Payloads.{payload_limit_at}
 use Rattle.pkread.specs.Core.{Open}
-use Rattle.pkread.specs.Reading.{state}
-use Rattle.pkread.specs.Heads.{HoldsFew}
 use Rattle.pkread.specs.Held.{most_held}
-use Rattle.pkread.specs.Private.Gathering.{Gathers}
-use Rattle.pkread.specs.Rows.{Refuses}
-use Rattle.pkread.proofs.Given.{is_allowed, seen_so}
-use Rattle.pkread.proofs.HeadSteps.{gives_held, refuses_head, shows_head_open, steps_head_open}
-use Rattle.pkread.proofs.Judging.{found_gathered}
+use Rattle.pkread.specs.Private.Skipping.{HeldWhole, RefusedHead, SkippedOne}
+use Rattle.pkread.specs.Reading.{state}
+use Rattle.pkread.proofs.Calls.Next.{come, is_allowed, seen_so}
+use Rattle.pkread.proofs.Calls.NextHead.{gives_held, gives_skipped, refuses_head, shows_head_open, steps_head_open}
+use Rattle.pkread.proofs.Bytes.Judged.{found_gathered}
 use Rattle.pkread.proofs.reader.Reader+R.next_head.Goals as goal
 
 pub returns-in_err-op : goal.returns-in_err-op
@@ -17,24 +14,91 @@ returns-in_err-op g c =
     let open' : c.args.self.now.core.phase ≡ Open = cc (c.in-Open.ensures.shown) in
     let p = err_from_is_err_and c.from_residual.result c.from_residual.ensures.1 in
     let e = c.in_err-op.ensures in
+    let ends = e.collects.0 in
     let old = state g.R.Source.left g.R.Source.failures c.args.self.now in
     let new = c.collect_head.new.self in
-    let why = subst (λ s. (bytes : List ℕ) × Refuses (payload_limit_at old.limits bytes) old.source s bytes old.taken new.taken c.in_err-op.field-0.0.reason × HoldsFew old.most bytes (most_held new.held)) (seen_so new.ahead _ e.ahead) e.err in (
-      (refl, λ _. tt, (refl, (e.limits, steps_head_open old _ _ open' (rw (p.1, p.2) (refuses_head old _ _ e.place.0 e.least why e.place.1))), (λ ne. absurd (ne open')), e.ahead)),
-      record { shows = shows_head_open old _ open' (rw (p.1, p.2) e.place.0); after = tt },
+    let reason = c.in_err-op.field-0.0.reason in
+    let why = subst (λ s. RefusedHead old.limits (come [] old)
+    (record { bytes = new.held.bytes; source = s; taken = new.taken })
+    old.most (most_held new.held) reason) (seen_so new.ahead _ e.advances.ahead) e.collects.1 in
+    let refuses = refuses_head old _ new.held.bytes _ ends.place e.advances.least why ends.phase in
+    let steps = steps_head_open old _ _ open' (rw (p.1, p.2) refuses) in
+    let shows = shows_head_open old _ open' (rw (p.1, p.2) ends.place) in (
+      (
+        refl,
+        λ _. tt,
+        (
+          refl,
+          (e.advances.limits, steps),
+          (λ ne. absurd (ne open')),
+          e.advances.ahead,
+        ),
+      ),
+      record { shows = shows; after = tt },
+    )
+
+pub instruction-requires : goal.instruction-requires
+instruction-requires g c =
+    let e = c.in_ok-op.ensures in
+    let took = rw c.in-Held.is at e.collects in
+    rw e.advances.limits took.1.found
+
+pub returns-in-Skipped : goal.returns-in-Skipped
+returns-in-Skipped g c =
+    let open' : c.args.self.now.core.phase ≡ Open = cc (c.in-Open.ensures.shown) in
+    let e = c.in_ok-op.ensures in
+    let took = rw c.in-Skipped.is at e.collects in
+    let old = state g.R.Source.left g.R.Source.failures c.args.self.now in
+    let new = c.collect_head.new.self in
+    let op = c.in-Skipped.op in
+    let count = c.in-Skipped.count in
+    let skipped = subst (λ s. SkippedOne old.limits.passed op count (come [] old)
+    (record { bytes = new.held.bytes; source = s; taken = new.taken })
+    old.most (most_held new.held)) (seen_so new.ahead _ e.advances.ahead) took.1 in
+    let gives = gives_skipped old _ _ count op new.held.bytes c.taken-at.ensures skipped
+    e.advances.least e.advances.within took.0 in
+    let shows = shows_head_open old _ open'
+    (c.taken-at.ensures, skipped.passes.payload, skipped.passes.one) in (
+      (
+        refl,
+        λ _. tt,
+        (
+          refl,
+          (e.advances.limits, steps_head_open old _ _ open' gives),
+          (λ ne. absurd (ne open')),
+          e.advances.ahead,
+        ),
+      ),
+      record { shows = shows; after = tt },
     )
 
 pub returns-in-Held : goal.returns-in-Held
 returns-in-Held g c =
     let open' : c.args.self.now.core.phase ≡ Open = cc (c.in-Open.ensures.shown) in
     let e = c.in_ok-op.ensures in
-    let f = rw c.in-Held.is at e.held in
-    let next = rw c.in-Held.is at e.next in
-    let w = found_gathered _ _ _ _ f.0 in
-    let h = c.instruction.ensures f.0.arg (rw e.limits f.0.lies) in
+    let took = rw c.in-Held.is at e.collects in
+    let phase = took.0 in
+    let f = took.1 in
+    let found = c.in-Held.found in
+    let w = found_gathered _ _ _ _ f.found in
+    let h = c.instruction.ensures f.found.arg (rw e.advances.limits f.found.lies) in
     let old = state g.R.Source.left g.R.Source.failures c.args.self.now in
     let new = c.collect_head.new.self in
-    let whole = subst (λ s. Gathers old.limits.counted old.source s new.held.bytes old.taken new.taken) (seen_so new.ahead _ e.ahead) f.3 in (
-      (refl, λ _. tt, (refl, (e.limits, steps_head_open old _ _ open' (gives_held old _ _ new.held.bytes c.in-Held.found.op _ w h f.1 c.taken-at.ensures whole next e.within f.2 f.4)), (λ ne. absurd (ne open')), e.ahead)),
-      record { shows = shows_head_open old _ open' (c.taken-at.ensures, is_allowed _ _ _ _ w h); after = tt },
+    let whole = subst (λ s. HeldWhole old.limits.counted found (come [] old)
+    (record { bytes = new.held.bytes; source = s; taken = new.taken })
+    old.most (most_held new.held)) (seen_so new.ahead _ e.advances.ahead) f in
+    let gives = gives_held old _ _ new.held.bytes found _ w h c.taken-at.ensures whole phase
+    e.advances.within in
+    let shows = shows_head_open old _ open' (c.taken-at.ensures, is_allowed _ _ _ _ w h) in (
+      (
+        refl,
+        λ _. tt,
+        (
+          refl,
+          (e.advances.limits, steps_head_open old _ _ open' gives),
+          (λ ne. absurd (ne open')),
+          e.advances.ahead,
+        ),
+      ),
+      record { shows = shows; after = tt },
     )

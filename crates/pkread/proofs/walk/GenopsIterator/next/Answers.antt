@@ -1,5 +1,5 @@
 use Rattle.std.proofs.Common.{ap, ◌∙◌}
-use Rattle.pkread.proofs.Walking.{gives_item, refuses_item}
+use Rattle.pkread.proofs.Calls.WalkNext.{gives_item, refuses_item}
 use Rattle.pkread.specs.Genops.{is_stop}
 use Rattle.pkread.proofs.walk.GenopsIterator.next.Goals as goal
 

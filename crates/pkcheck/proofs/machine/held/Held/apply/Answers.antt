@@ -15,7 +15,10 @@ invariant_of-self c =
 pub returns-clause-ok : goal.returns-clause-ok
 returns-clause-ok c =
     rw (← c.self.view_is)
-    (ok_on _ _ c.apply.result (λ e. moved_seen c.self.inside.ledger.texts c.args.what (memo_number (instruction_of c.args.inst.now)) (record { entries = c.self.inside.stack; memo = c.self.inside.memo }) c.self.invariant (record { entries = c.apply.new.stack; memo = c.apply.new.memo }) e) c.apply.ensures.ok)
+    (ok_on _ _ c.apply.result (λ e. moved_seen c.self.inside.ledger.texts c.args.what
+    (memo_number (instruction_of c.args.inst.now)) (record
+    { entries = c.self.inside.stack; memo = c.self.inside.memo }) c.self.invariant
+    (record { entries = c.apply.new.stack; memo = c.apply.new.memo }) e) c.apply.ensures.ok)
 
 pub returns-clause-err : goal.returns-clause-err
 returns-clause-err c =

@@ -6,7 +6,10 @@ use Rattle.pkcheck.proofs.Stepping.Errs.{on_err}
 use Rattle.pkcheck.proofs.machine.held.Held.make_text.Goals as goal
 
 pub invariant_of-self : goal.invariant_of-self
-invariant_of-self c = operate_resolves c.make_text.result c.self.inside.ledger c.make_text.new.ledger c.self.inside.stack c.make_text.new.stack c.self.inside.memo c.self.invariant c.make_text.ensures.sees c.make_text.ensures.grows (on_err _ _ c.make_text.result (λ r h. (h.0, h.1)) c.make_text.ensures.err)
+invariant_of-self c = operate_resolves c.make_text.result c.self.inside.ledger
+    c.make_text.new.ledger c.self.inside.stack c.make_text.new.stack c.self.inside.memo
+    c.self.invariant c.make_text.ensures.sees c.make_text.ensures.grows
+    (on_err _ _ c.make_text.result (λ r h. (h.0, h.1)) c.make_text.ensures.err)
 
 pub returns-clause-ok : goal.returns-clause-ok
 returns-clause-ok c =

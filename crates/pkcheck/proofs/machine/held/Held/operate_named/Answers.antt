@@ -1,6 +1,6 @@
 use Rattle.std.proofs.Common.{◌⊎◌, IfErr, IfOk, subst}
 use Rattle.pkcheck.specs.Effects.{effect_of, number_stored}
-use Rattle.pkcheck.specs.Private.Denials.{IsDenied, IsForMemory, MayWantMemory, Passes}
+use Rattle.pkcheck.specs.Private.Denials.{IsDenied, IsForMemory, MayWantMemory, Proceeds}
 use Rattle.pkcheck.specs.Import.{policy_of}
 use Rattle.pkcheck.specs.Knowledge.{learn, within}
 use Rattle.pkcheck.specs.Private.Slots.{remembered, resolved, seen}
@@ -15,13 +15,34 @@ invariant_of-self c = operate_resolves c.operate_named.result c.self.inside.ledg
 pub returns-clause-ok : goal.returns-clause-ok
 returns-clause-ok c =
     rw (← c.self.view_is)
-    (subst (λ o. IfOk c.operate_named.result (λ b. Passes (learn (policy_of c.args.policy.now) (effect_of o) (instruction_of c.args.inst.now) (resolved c.self.inside.ledger.texts (record { entries = c.self.inside.stack; memo = c.self.inside.memo }))) (resolved c.operate_named.new.ledger.texts (record { entries = c.operate_named.new.stack; memo = c.self.inside.memo })) c.self.inside.ledger.asked c.operate_named.new.ledger.asked b)) c.op.ensures.op
+    (subst (λ o. IfOk c.operate_named.result
+    (λ b. Proceeds (learn (policy_of c.args.policy.now) (effect_of o)
+    (instruction_of c.args.inst.now) (resolved c.self.inside.ledger.texts
+    (record { entries = c.self.inside.stack; memo = c.self.inside.memo })))
+    (resolved c.operate_named.new.ledger.texts
+    (record { entries = c.operate_named.new.stack; memo = c.self.inside.memo }))
+    c.self.inside.ledger.asked c.operate_named.new.ledger.asked b)) c.op.ensures.op
     (remembered_on c.operate_named.result c.self.inside.ledger.texts c.operate_named.new.ledger.texts c.self.inside.memo
-    (λ b m. Passes (learn (policy_of c.args.policy.now) (effect_of c.op.result) (instruction_of c.args.inst.now) (record { entries = seen c.self.inside.ledger.texts c.self.inside.stack; memo = remembered c.self.inside.ledger.texts c.self.inside.memo })) (record { entries = seen c.operate_named.new.ledger.texts c.operate_named.new.stack; memo = m }) c.self.inside.ledger.asked c.operate_named.new.ledger.asked b)
+    (λ b m. Proceeds (learn (policy_of c.args.policy.now) (effect_of c.op.result)
+    (instruction_of c.args.inst.now) (record {
+      entries = seen c.self.inside.ledger.texts
+          c.self.inside.stack;
+      memo = remembered c.self.inside.ledger.texts c.self.inside.memo;
+    }))
+    (record {
+      entries = seen c.operate_named.new.ledger.texts c.operate_named.new.stack;
+      memo =
+          m;
+    }) c.self.inside.ledger.asked c.operate_named.new.ledger.asked b)
     c.self.invariant.memo c.operate_named.ensures.grows (c.operate_named.ensures.ok (instruction_of c.args.inst.now) c.lines_of-lines.ensures.named (remembered c.self.inside.ledger.texts c.self.inside.memo))))
 
 pub returns-clause-err : goal.returns-clause-err
 returns-clause-err c =
     rw (← c.self.view_is)
-    (subst (λ o. IfErr c.operate_named.result (λ d. IsDenied (and_then (learn (policy_of c.args.policy.now) (effect_of o) (instruction_of c.args.inst.now) (resolved c.self.inside.ledger.texts (record { entries = c.self.inside.stack; memo = c.self.inside.memo }))) (within c.args.limits.now (number_stored (effect_of o) (instruction_of c.args.inst.now)))) d ⊎ (MayWantMemory (effect_of o) × IsForMemory d))) c.op.ensures.op
+    (subst (λ o. IfErr c.operate_named.result (λ d. IsDenied
+    (and_then (learn (policy_of c.args.policy.now) (effect_of o)
+    (instruction_of c.args.inst.now) (resolved c.self.inside.ledger.texts
+    (record { entries = c.self.inside.stack; memo = c.self.inside.memo })))
+    (within c.args.limits.now (number_stored (effect_of o) (instruction_of c.args.inst.now)))) d
+    ⊎ (MayWantMemory (effect_of o) × IsForMemory d))) c.op.ensures.op
     (c.operate_named.ensures.err (instruction_of c.args.inst.now) c.lines_of-lines.ensures.named (remembered c.self.inside.ledger.texts c.self.inside.memo)))

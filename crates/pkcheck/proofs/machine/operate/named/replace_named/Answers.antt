@@ -1,6 +1,6 @@
 use Rattle.std.proofs.Common.{◌∙◌, ap, inl, inr, option_map, refl, None}
 use Rattle.std.proofs.lemmas.Result.{err_from_is_err_and}
-use Rattle.pkops.specs.declared.op.Op.TheVariants as op
+use Rattle.pkops.specs.declared.Op.TheVariants as op
 use Rattle.pkops.specs.Spelling.{Nothing, instruction}
 use Rattle.pkcheck.specs.Private.Slots.{seen}
 use Rattle.pkcheck.specs.Import.{policy_of}
@@ -14,7 +14,11 @@ use Rattle.pkcheck.proofs.machine.operate.named.replace_named.Goals as goal
 pub returns-in_err-found-clause-err : goal.returns-in_err-found-clause-err
 returns-in_err-found-clause-err c =
     let p = err_from_is_err_and c.from_residual.result c.from_residual.ensures.1 in
-    rw (p.1, p.2) (λ i named m. inl (within_denied _ c.args.limits.now 0 (record { reason = c.in_err-found.field-0.0; pair = None }) (lack_denied (policy_of c.args.policy.now) c.args.takes c.args.names c.args.gives i (record { entries = seen c.args.ledger.now.texts c.args.stack.now; memo = m }) c.in_err-found.field-0.0
+    rw (p.1, p.2) (λ i named m. inl (within_denied _ c.args.limits.now 0
+    (record { reason = c.in_err-found.field-0.0; pair = None })
+    (lack_denied (policy_of c.args.policy.now) c.args.takes c.args.names c.args.gives i
+    (record { entries = seen c.args.ledger.now.texts c.args.stack.now; memo = m })
+    c.in_err-found.field-0.0
     (found_lacks c.args.ledger.now.texts c.args.takes c.args.stack.now c.requires.sees c.in_err-found.field-0.0 c.in_err-found.ensures.err))))
 
 pub returns-in_err-named-clause-err : goal.returns-in_err-named-clause-err
@@ -28,8 +32,8 @@ returns-in_err-named-clause-err c =
       | inr e ↦ inr (inl e.0, e.1)
     ])
 
-pub judge-requires : goal.judge-requires
-judge-requires c =
+pub permitted_name-requires : goal.permitted_name-requires
+permitted_name-requires c =
     let is = found_is c.args.ledger.now.texts c.args.takes c.args.stack.now c.requires.sees _ c.in_ok-found.ensures.ok in
     record { numbered = rw c.operands-operands.ensures (are_numbered c.args.ledger.now.texts _ _ is.operands) }
 

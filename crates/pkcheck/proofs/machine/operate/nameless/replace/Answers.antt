@@ -1,9 +1,9 @@
 use Rattle.std.proofs.Common.{◌∙◌, [], None, ap, inl, refl, sym}
 use Rattle.std.proofs.lemmas.Result.{err_from_is_err_and}
-use Rattle.pkops.specs.declared.op.Op.TheVariants as op
+use Rattle.pkops.specs.declared.Op.TheVariants as op
 use Rattle.pkops.specs.Spelling.{Nothing, instruction}
-use Rattle.pkread.specs.declared.refusal.Reason.TheVariants as reason
-use Rattle.pkcheck.specs.declared.machine.effects.Names.TheVariants.{NoName}
+use Rattle.pkread.specs.declared.Reason.TheVariants as reason
+use Rattle.pkcheck.specs.declared.effect.Names.TheVariants.{NoName}
 use Rattle.pkcheck.specs.Knowledge.{WrongClass}
 use Rattle.pkcheck.specs.Private.Slots.{seen}
 use Rattle.pkcheck.proofs.Places.{length_below}
@@ -14,13 +14,27 @@ use Rattle.pkcheck.proofs.machine.operate.nameless.replace.Goals as goal
 pub returns-in_err-found-clause-err : goal.returns-in_err-found-clause-err
 returns-in_err-found-clause-err c =
     let q = err_from_is_err_and c.from_residual.result c.from_residual.ensures.1 in
-    rw (q.1, q.2) (λ ts sees p i m. inl (within_denied _ c.args.limits.now 0 (record { reason = c.in_err-found.field-0.0; pair = None }) (lack_denied p c.args.takes NoName c.args.gives i (record { entries = seen ts c.args.stack.now; memo = m }) c.in_err-found.field-0.0 (found_lacks ts c.args.takes c.args.stack.now sees c.in_err-found.field-0.0 c.in_err-found.ensures.err))))
+    rw (q.1, q.2) (λ ts sees p i m. inl (within_denied _ c.args.limits.now 0
+    (record { reason = c.in_err-found.field-0.0; pair = None })
+    (lack_denied p c.args.takes NoName c.args.gives i (record
+    { entries = seen ts c.args.stack.now; memo = m }) c.in_err-found.field-0.0
+    (found_lacks ts c.args.takes c.args.stack.now sees c.in_err-found.field-0.0
+    c.in_err-found.ensures.err))))
 
 pub returns-then-receiver_fault-clause-err : goal.returns-then-receiver_fault-clause-err
 returns-then-receiver_fault-clause-err c ts sees p i m =
     let found = found_seen ts c.args.takes c.args.stack.now sees _ c.in_ok-found.ensures.ok in
     let wrong = rw c.operands-operands.ensures at (sym (c.if-receiver_fault.ensures ts)) in
-    inl (within_denied _ c.args.limits.now 0 (record { reason = reason.WrongClass; pair = None }) (judged_denied p c.args.takes NoName c.args.gives i (record { entries = seen ts c.args.stack.now; memo = m }) _ (record { reason = reason.WrongClass; pair = None }) found (WrongClass, judged_wrong p NoName c.args.gives i _ wrong, refl, refl)))
+    inl (within_denied _ c.args.limits.now 0 (record { reason = reason.WrongClass; pair = None })
+    (judged_denied p c.args.takes NoName c.args.gives i (record
+    { entries = seen ts c.args.stack.now; memo = m }) _ (record
+    { reason = reason.WrongClass; pair = None }) found (
+      WrongClass,
+      judged_wrong p NoName
+          c.args.gives i _ wrong,
+      refl,
+      refl,
+    )))
 
 pub give-requires-clause-first : goal.give-requires-clause-first
 give-requires-clause-first c e =

@@ -11,23 +11,39 @@ returns-then-number-len c =
 pub piece-requires-clause-ordered : goal.piece-requires-clause-ordered
 piece-requires-clause-ordered c =
     let many = how_many _ c.self.inside.ends c.self.inside.bytes.items c.self.invariant in
-    let found = lies_by _ c.self.inside.ends c.self.inside.bytes.items c.self.invariant c.args.number c.start_of-start.result c.end_of-end.result (omega (arith, many, c.len.ensures.value)) c.start_of-start.ensures.first (rw c.entries-ends.ensures at c.start_of-start.ensures.next) (rw c.entries-ends.ensures at c.end_of-end.ensures) in
+    let found = lies_by _ c.self.inside.ends c.self.inside.bytes.items c.self.invariant
+    c.args.number c.start_of-start.result c.end_of-end.result
+    (omega (arith, many, c.len.ensures.value)) c.start_of-start.ensures.first
+    (rw c.entries-ends.ensures at c.start_of-start.ensures.next)
+    (rw c.entries-ends.ensures at c.end_of-end.ensures) in
     found.ordered
 
 pub piece-requires-clause-within : goal.piece-requires-clause-within
 piece-requires-clause-within c =
     let many = how_many _ c.self.inside.ends c.self.inside.bytes.items c.self.invariant in
-    let found = lies_by _ c.self.inside.ends c.self.inside.bytes.items c.self.invariant c.args.number c.start_of-start.result c.end_of-end.result (omega (arith, many, c.len.ensures.value)) c.start_of-start.ensures.first (rw c.entries-ends.ensures at c.start_of-start.ensures.next) (rw c.entries-ends.ensures at c.end_of-end.ensures) in
+    let found = lies_by _ c.self.inside.ends c.self.inside.bytes.items c.self.invariant
+    c.args.number c.start_of-start.result c.end_of-end.result
+    (omega (arith, many, c.len.ensures.value)) c.start_of-start.ensures.first
+    (rw c.entries-ends.ensures at c.start_of-start.ensures.next)
+    (rw c.entries-ends.ensures at c.end_of-end.ensures) in
     rw c.deref.ensures.value found.within
 
 pub unreachable-requires : goal.unreachable-requires
 unreachable-requires c =
     let many = how_many _ c.self.inside.ends c.self.inside.bytes.items c.self.invariant in
-    let found = lies_by _ c.self.inside.ends c.self.inside.bytes.items c.self.invariant c.args.number c.start_of-start.result c.end_of-end.result (omega (arith, many, c.len.ensures.value)) c.start_of-start.ensures.first (rw c.entries-ends.ensures at c.start_of-start.ensures.next) (rw c.entries-ends.ensures at c.end_of-end.ensures) in
+    let found = lies_by _ c.self.inside.ends c.self.inside.bytes.items c.self.invariant
+    c.args.number c.start_of-start.result c.end_of-end.result
+    (omega (arith, many, c.len.ensures.value)) c.start_of-start.ensures.first
+    (rw c.entries-ends.ensures at c.start_of-start.ensures.next)
+    (rw c.entries-ends.ensures at c.end_of-end.ensures) in
     c.in_default.ensures.cases.0 (rw (c.piece.ensures, c.deref.ensures.value, found.text) found.utf8)
 
 pub returns : goal.returns
 returns c =
     let many = how_many _ c.self.inside.ends c.self.inside.bytes.items c.self.invariant in
-    let found = lies_by _ c.self.inside.ends c.self.inside.bytes.items c.self.invariant c.args.number c.start_of-start.result c.end_of-end.result (omega (arith, many, c.len.ensures.value)) c.start_of-start.ensures.first (rw c.entries-ends.ensures at c.start_of-start.ensures.next) (rw c.entries-ends.ensures at c.end_of-end.ensures) in
+    let found = lies_by _ c.self.inside.ends c.self.inside.bytes.items c.self.invariant
+    c.args.number c.start_of-start.result c.end_of-end.result
+    (omega (arith, many, c.len.ensures.value)) c.start_of-start.ensures.first
+    (rw c.entries-ends.ensures at c.start_of-start.ensures.next)
+    (rw c.entries-ends.ensures at c.end_of-end.ensures) in
     c.in-Ok.ensures.cases.0 ∙ c.piece.ensures ∙ rw c.deref.ensures.value found.text ∙ ap (λ ts. get_or ts c.args.number []) c.self.view_is

@@ -1,0 +1,7 @@
+use Rattle.std.proofs.Common.{◌≡◌, ◌++◌, map}
+use Rattle.pkcheck.specs.Import.{asked_shown}
+use Rattle.pkcheck.proofs.imports.Imports.to_vec.Given as goal
+
+-- those that are copied and those that are still to come are all
+abbrev pub invariant-loop-import : goal.invariant-loop-import
+invariant-loop-import l = map asked_shown l.copies.items ++ l.import-iterator ≡ l.self

@@ -1,0 +1,131 @@
+//! Imports that are lent by what lists them.
+
+ghost use Rattle.std.specs.List.{slice_get};
+ghost use Rattle.std.specs.Prelude.{◌≡◌, length, map, nat_eq, option_map};
+ghost use Rattle.pkcheck.specs.Import.{import_shown};
+ghost use Rattle.pkcheck.specs.Private.Noted.{entry_asked};
+
+use crate::import::Import;
+use crate::machine::ledger::Entry;
+use crate::machine::texts::Texts;
+use std::marker::Model;
+
+/// Imports, in the order in which a pickle asks for them, lent by what lists them. To read them
+/// takes no memory.
+#[derive(Debug, Drop)]
+pub struct ImportList<'a> {
+    texts: &'a Texts,
+    written: &'a Texts,
+    entries: &'a [Entry],
+}
+
+impl<'a> Model for ImportList<'a> {
+    ghost use Rattle.std.specs.Prelude.{List, map};
+    ghost use Rattle.pkcheck.specs.Knowledge.{Asked};
+    ghost use Rattle.pkcheck.specs.Private.Noted.{entry_asked};
+
+    ghost Value = { List Asked };
+
+    ghost view = { λ l. map (entry_asked l.texts.now l.written.now) l.entries.now };
+}
+
+impl<'a> ImportList<'a> {
+    /// What these entries list, by the texts and by the names that were written out.
+    pub(crate) fn new(texts: &'a Texts, written: &'a Texts, entries: &'a [Entry]) -> ImportList<'a>
+        ensures { result ≡ map (entry_asked texts.entry.now written.entry.now) entries.entry.now }
+    {
+        ImportList {
+            texts,
+            written,
+            entries,
+        }
+    }
+
+    /// The import of a number, counted from 0. `None` past the last.
+    pub fn get(&self, number: usize) -> Option<Import<'a>>
+        ensures { option_map import_shown result ≡ slice_get self.now number }
+    {
+        match self.entries.get(number) {
+            None => None,
+            Some(entry) => Some(shown(self.texts, self.written, *entry)),
+        }
+    }
+
+    /// How many there are.
+    pub fn len(&self) -> usize
+        ensures { result ≡ length self.now }
+    {
+        self.entries.len()
+    }
+
+    /// Whether there are none.
+    pub fn is_empty(&self) -> bool
+        ensures { result ≡ nat_eq (length self.now) 0 }
+    {
+        self.len() == 0
+    }
+
+    /// One after the other.
+    pub fn iter(&self) -> ImportIter<'a>
+        ensures { result ≡ self.now }
+    {
+        ImportIter {
+            texts: self.texts,
+            written: self.written,
+            rest: self.entries,
+        }
+    }
+}
+
+/// The imports of a list that are still to come. Made by `iter`.
+#[derive(Debug, Drop)]
+pub struct ImportIter<'a> {
+    texts: &'a Texts,
+    written: &'a Texts,
+    rest: &'a [Entry],
+}
+
+impl<'a> Model for ImportIter<'a> {
+    ghost use Rattle.std.specs.Prelude.{List, map};
+    ghost use Rattle.pkcheck.specs.Knowledge.{Asked};
+    ghost use Rattle.pkcheck.specs.Private.Noted.{entry_asked};
+
+    ghost Value = { List Asked };
+
+    ghost view = { λ i. map (entry_asked i.texts.now i.written.now) i.rest.now };
+}
+
+impl<'a> Iterator for ImportIter<'a> {
+    ghost use Rattle.std.specs.Iterator.{YieldsFirstBy, item_count};
+    ghost use Rattle.pkcheck.specs.Import.{import_shown};
+
+    type Item = Import<'a>;
+
+    ghost next_gives = { YieldsFirstBy import_shown (λ left. left) };
+
+    ghost remaining = { item_count (λ left. left) };
+
+    /// The next import, until none is left.
+    fn next(&mut self) -> Option<Import<'a>> {
+        let (first, others) = self.rest.split_first()?;
+        self.rest = others;
+        Some(shown(self.texts, self.written, *first))
+    }
+}
+
+/// What an entry says.
+fn shown<'a>(texts: &'a Texts, written: &'a Texts, entry: Entry) -> Import<'a>
+    ensures { import_shown result ≡ entry_asked texts.now written.now entry }
+{
+    match entry {
+        Entry::Unknown => Import::Unknown,
+        Entry::Made(first, second) => Import::Pair {
+            module: texts.get(first as usize),
+            name: texts.get(second as usize),
+        },
+        Entry::Written(first, second) => Import::Pair {
+            module: written.get(first as usize),
+            name: written.get(second as usize),
+        },
+    }
+}

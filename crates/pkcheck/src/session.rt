@@ -1,0 +1,146 @@
+//! The frames and the machine of one check, which judge one instruction at a time.
+
+ghost use Rattle.std.specs.Prelude.{◌≡◌, ◌<◌, IfOk, IfErr, IsTrue, None, OnErr, OnOk, false};
+ghost use Rattle.pkops.specs.Admitted.{is_admitted};
+ghost use Rattle.pkops.specs.Inst.{instruction_of};
+ghost use Rattle.pkops.specs.Payloads.{is_passed};
+ghost use Rattle.pkops.specs.Spelling.{Instruction};
+ghost use Rattle.pkread.specs.Pieces.{number_of, role_of};
+ghost use Rattle.pkcheck.specs.Covers.{Covers};
+ghost use Rattle.pkcheck.specs.Import.{policy_of};
+ghost use Rattle.pkcheck.specs.Private.Judging.{HasLength, IsNoAt, BothGoOn, IsRefused};
+ghost use Rattle.pkcheck.specs.Private.NextPickle.{moved_apart, restarted};
+ghost use Rattle.pkcheck.specs.Runs.{State};
+ghost use Rattle.pkcheck.specs.Shape.{marks_of};
+ghost use Rattle.pkcheck.specs.View.{fresh};
+
+use crate::checking::No;
+use crate::imports::Imports;
+use crate::loading::Memo;
+use crate::machine::Machine;
+use crate::machine::ledger::Ledger;
+use crate::old_strings::OldStrings;
+use crate::policy::Policy;
+use pkops::{Inst, Limits, Op};
+use pkread::{Frames, Reason, frame_argument};
+use std::alloc::{AllocError, Global};
+use std::marker::Model;
+
+/// The frames and the machine of a check. If the frames refuse an instruction, the machine stays
+/// unchanged.
+#[derive(Drop)]
+pub(crate) struct Session {
+    frames: Frames,
+    machine: Machine,
+}
+
+impl Model for Session {
+    ghost use Rattle.pkcheck.specs.Private.Judging.{SessionView};
+
+    ghost Value = { SessionView };
+
+    ghost view = { λ s. record { frame = s.frames; machine = s.machine } };
+}
+
+impl Session {
+    /// The state before the first instruction. It allocates nothing.
+    pub fn new(alloc: Global, limits: &Limits, old_strings: OldStrings) -> Session
+        ensures { result ≡ record { frame = 0; machine = fresh old_strings limits.now } }
+    {
+        Session {
+            frames: Frames::new(),
+            machine: Machine::new_as(alloc, limits, old_strings),
+        }
+    }
+
+    /// Judges an instruction, first by the frames and then by the machine.
+    #[inline(always)]
+    pub fn judge(&mut self, inst: &Inst<'_>, policy: &Policy<'_>) -> Result<(), Reason>
+        requires admitted { IsTrue (is_admitted (instruction_of inst.now)) }
+        requires running { self.old.machine.stopped ≡ false }
+        requires well { self.old.machine.refused ≡ None }
+        ensures ok { IfOk result (λ _. BothGoOn (policy_of policy.now) (instruction_of inst.now)
+            self.old.frame self.old.machine self.new.frame self.new.machine) }
+        ensures err { IfErr result (IsRefused (policy_of policy.now) (instruction_of inst.now)
+            self.old.frame self.old.machine self.new.machine) }
+    {
+        self.frames.take(inst.op(), inst.len(), frame_length(inst))?;
+        self.machine.step(inst, policy)?;
+        Ok(())
+    }
+
+    /// Judges an instruction of this opcode and length whose payload was passed over.
+    pub fn judge_passed(&mut self, op: Op, length: u64, policy: &Policy<'_>) -> Result<(), Reason>
+        requires passed { IsTrue (is_passed op) }
+        requires some { 0 < length }
+        requires running { self.old.machine.stopped ≡ false }
+        requires well { self.old.machine.refused ≡ None }
+        ensures ok { IfOk result (λ _. (i : Instruction) → HasLength i op length
+            → BothGoOn (policy_of policy.now) i self.old.frame self.old.machine
+            self.new.frame self.new.machine) }
+        ensures err { IfErr result (λ reason. (i : Instruction) → HasLength i op length
+            → IsRefused (policy_of policy.now) i self.old.frame self.old.machine
+            self.new.machine reason) }
+    {
+        self.frames.take(op, length, 0)?;
+        self.machine.step_passed(op, policy)?;
+        Ok(())
+    }
+
+    /// The number of open marks, which is the same in every run.
+    pub fn marks(&self) -> usize
+        ensures { (state : State) → Covers self.now.machine.knowledge state
+            → result ≡ marks_of state.shape.entries }
+    {
+        self.machine.marks()
+    }
+
+    /// Continues at the first instruction of another pickle of a row, as the machine does, with no
+    /// frame open.
+    pub fn restart(&mut self, memo: Memo, apart: &mut Ledger) -> Result<(), AllocError>
+        requires { self.old.machine.refused ≡ None }
+        ensures next { OnOk result (self.new ≡ record {
+          frame = 0;
+          machine = restarted memo self.old.machine;
+        }) }
+        ensures apart { OnOk result (apart.new.asked
+            ≡ moved_apart memo apart.old.asked self.old.machine.imports) }
+        ensures kept { OnErr result (self.new ≡ self.old) }
+    {
+        self.machine.restart(memo, apart)?;
+        self.frames = Frames::new();
+        Ok(())
+    }
+
+    /// The answer for a pickle that is refused at this offset, for this reason.
+    pub fn refuse(self, at: u64, reason: Reason) -> No
+        ensures { IsNoAt at reason self.machine.off result }
+    {
+        let Session { machine, .. } = self;
+        No {
+            at,
+            reason,
+            pair: machine.into_off_list(),
+        }
+    }
+
+    /// The imports, consuming the session.
+    pub fn into_imports(self) -> Imports
+        ensures { result ≡ self.machine.imports }
+    {
+        let Session { machine, .. } = self;
+        machine.into_imports()
+    }
+}
+
+/// The length of the frame that a FRAME opens; 0 for any other instruction.
+#[inline]
+fn frame_length(inst: &Inst<'_>) -> u64
+    ensures { role_of (instruction_of inst.now).op result
+        ≡ role_of (instruction_of inst.now).op (number_of (instruction_of inst.now).arg) }
+{
+    match inst.op() {
+        Op::Frame => frame_argument(inst),
+        _ => 0,
+    }
+}

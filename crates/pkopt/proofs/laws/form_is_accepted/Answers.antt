@@ -1,0 +1,5 @@
+use Rattle.pkopt.proofs.FormAccepted.{form_is_accepted}
+use Rattle.pkopt.proofs.laws.form_is_accepted.Goals as goal
+
+pub returns : goal.returns
+returns c = form_is_accepted c.one_sequence.ensures.one c.refused_for_limits.ensures

@@ -1,0 +1,14 @@
+-- A pickle and its optimized form under a check.
+use Rattle.std.specs.Prelude.{List}
+use Rattle.pkops.specs.Limits.{Bounds}
+use Rattle.pkops.specs.Spelling.{Instruction}
+use Rattle.pkcheck.specs.declared.OldStrings.TheVariants.{Unknown}
+use Rattle.pkcheck.specs.ButForLimits.{IsFaultlessButForLimits}
+use Rattle.pkcheck.specs.Knowledge.{Policy}
+
+-- under any policy under which the one has no fault, the other has none, but that limits are passed
+abbrev pub StaysFaultless : List Instruction → List Instruction → Type 0
+StaysFaultless p q =
+    (policy : Policy) (limits : Bounds)
+    → IsFaultlessButForLimits Unknown policy limits p
+    → IsFaultlessButForLimits Unknown policy limits q

@@ -1,0 +1,9 @@
+-- The bytes of one instruction, as they are taken and judged.
+pub mod Takes
+pub mod Taken
+pub mod Behind
+pub mod LinesBehind
+pub mod Judged
+pub mod Texts
+pub mod Plain
+pub mod Skipped

@@ -1,0 +1,5 @@
+-- One call of a reader, or of a walk over a slice.
+pub mod Next
+pub mod NextHead
+pub mod Again
+pub mod WalkNext

@@ -1,0 +1,3 @@
+-- Why bytes are refused, and that no two reasons hold.
+pub mod Objections
+pub mod OneRow

@@ -1,0 +1,25 @@
+use Rattle.std.proofs.lemmas.Result.{err_from_is_err_and}
+use Rattle.pkread.specs.Private.Progress.{intake}
+use Rattle.pkread.proofs.Bytes.Skipped.{payload_skips, payload_stops_skipping}
+use Rattle.pkread.proofs.gathering.Gathering.skip_argument_slowly.Goals as goal
+
+pub returns-in_err-skip_payload-clause-skips : goal.returns-in_err-skip_payload-clause-skips
+returns-in_err-skip_payload-clause-skips g c =
+    let p = err_from_is_err_and c.from_residual-in_err-skip_payload.result
+    c.from_residual-in_err-skip_payload.ensures.1 in
+    let laws = c.growth.ensures in
+    let s = c.in_err-skip_payload.ensures.skips in
+    let new = intake g.R.Source.left g.R.Source.failures c.skip_payload.new.source
+    c.skip_payload.new.self in
+    rw (p.1, p.2, ← c.limit_skipped-limit.ensures) (payload_stops_skipping _ c.in_ok-length.length
+    c.args.op _ _ new c.requires.code c.count_width.ensures c.in_ok-length.ensures.takes laws.begun
+    laws.count _ s.0 s.1)
+
+pub returns-clause-skips : goal.returns-clause-skips
+returns-clause-skips g c =
+    let s = c.in_ok-skip_payload.ensures.skips in
+    let new = intake g.R.Source.left g.R.Source.failures c.skip_payload.new.source
+    c.skip_payload.new.self in
+    rw (← c.limit_skipped-limit.ensures) (payload_skips _ c.in_ok-length.length c.args.op _ _ new
+    c.requires.code c.count_width.ensures c.in_ok-length.ensures.takes c.growth.ensures.count
+    s.0 s.1)

@@ -1,0 +1,259 @@
+//! The instruction begun, and the bytes that it takes from a source.
+
+ghost use Rattle.std.specs.Prelude.{◌≡◌, ◌+◌, ◌∷◌, ◌<◌, ◌≤◌, [], ℕ, List, length, take};
+ghost use Rattle.std.specs.Prelude.{IfErr, IfNone, IfOk, IfSome};
+ghost use Rattle.pkread.specs.Rows.{all_bytes, sight};
+ghost use Rattle.pkread.specs.Held.{most_held, none_held};
+ghost use Rattle.pkread.specs.Private.Progress.{KeepsRest, intake};
+ghost use Rattle.pkread.specs.Private.Taking.{ReadsByte, ReadsNone, TakesAll, TakesBlock};
+ghost use Rattle.pkread.specs.Private.Taking.{TakesByte};
+
+use crate::buffer::Buffer;
+use crate::refusal::Reason;
+use crate::source::Source;
+use pkops::Limits;
+use std::alloc::Global;
+use std::marker::Model;
+
+/// The most bytes that one read asks for.
+const BLOCK: usize = 4096;
+
+/// The bytes of the instruction begun, how many were taken from the source since the first, and
+/// the limits on what an instruction holds.
+#[derive(Debug, Drop)]
+pub(crate) struct Gathering {
+    buffer: Buffer,
+    taken: u64,
+    limits: Limits,
+}
+
+impl Model for Gathering {
+    ghost use Rattle.pkread.specs.Private.Progress.{GatheringView};
+
+    ghost Value = { GatheringView };
+
+    ghost view = { λ g. record { buffer = g.buffer; taken = g.taken; limits = g.limits } };
+}
+
+impl Gathering {
+    /// Before the first byte.
+    pub(crate) fn new(alloc: Global, limits: &Limits) -> Gathering
+        ensures { result ≡ record { buffer = none_held; taken = 0; limits = limits.now } }
+    {
+        Gathering {
+            buffer: Buffer::new(alloc),
+            taken: 0,
+            limits: *limits,
+        }
+    }
+
+    #[inline]
+    pub(crate) fn taken(&self) -> u64
+        ensures { result ≡ self.now.taken }
+    {
+        self.taken
+    }
+
+    /// The limit on a payload that is held.
+    #[inline]
+    pub(crate) fn limit_held(&self) -> u64
+        ensures { result ≡ self.now.limits.counted }
+    {
+        self.limits.counted()
+    }
+
+    /// The limit on a payload that is skipped.
+    #[inline]
+    pub(crate) fn limit_skipped(&self) -> u64
+        ensures { result ≡ self.now.limits.passed }
+    {
+        self.limits.passed()
+    }
+
+    /// The most bytes ever held.
+    pub(crate) fn most(&self) -> usize
+        ensures { result ≡ most_held self.now.buffer }
+    {
+        self.buffer.most()
+    }
+
+    /// The bytes held.
+    #[inline]
+    pub(crate) fn bytes(&self) -> &[u8]
+        ensures { result.now ≡ self.now.buffer.bytes }
+    {
+        self.buffer.bytes()
+    }
+
+    /// The first of the bytes held, if there is one.
+    #[inline]
+    pub(crate) fn first(&self) -> Option<u8>
+        ensures none { IfNone result (self.now.buffer.bytes ≡ []) }
+        ensures some { IfSome result (λ byte.
+            (rest : List ℕ) × (self.now.buffer.bytes ≡ byte ∷ rest)) }
+    {
+        self.buffer.first()
+    }
+
+    /// Forgets the bytes held, and keeps their memory.
+    #[inline]
+    pub(crate) fn clear(&mut self)
+        ensures { self.new ≡ record self.old {
+          buffer = record { bytes = []; peak = most_held self.old.buffer };
+        } }
+    {
+        self.buffer.clear();
+    }
+
+    /// Forgets all but the first of the bytes held.
+    #[inline]
+    pub(crate) fn cut(&mut self, count: usize)
+        requires { count ≤ length self.old.buffer.bytes }
+        ensures { self.new ≡ record self.old {
+          buffer = record {
+            bytes = take count self.old.buffer.bytes;
+            peak = most_held self.old.buffer;
+          };
+        } }
+    {
+        self.buffer.cut(count);
+    }
+
+    /// Counts the byte held, which was taken ahead, as taken.
+    #[inline]
+    pub(crate) fn count_first(&mut self)
+        requires { self.old.taken < all_bytes }
+        ensures { self.new ≡ record self.old { taken = self.old.taken + 1 } }
+    {
+        self.taken += 1;
+    }
+
+    /// Takes one byte.
+    #[inline]
+    pub(crate) fn take_byte<R: Source>(&mut self, source: &mut R) -> Result<u8, Reason>
+        ensures keeps { KeepsRest self.old self.new }
+        ensures takes { TakesByte result
+            (intake R.left R.failures source.old self.old)
+            (intake R.left R.failures source.new self.new) }
+    {
+        let before = self.taken;
+        if before == u64::MAX {
+            return Err(Reason::TooLarge);
+        }
+        let byte = self.buffer.read_byte(source)?;
+        self.taken = before + 1;
+        Ok(byte)
+    }
+
+    /// Takes one byte ahead of the next instruction: it is held, and doesn't count as taken yet.
+    #[inline]
+    pub(crate) fn take_ahead<R: Source>(&mut self, source: &mut R) -> Result<u8, Reason>
+        ensures keeps { KeepsRest self.old self.new }
+        ensures taken { self.new.taken ≡ self.old.taken }
+        ensures ok { IfOk result (λ byte. ReadsByte byte
+            self.old.buffer.bytes (sight R.left R.failures source.old)
+            self.new.buffer.bytes (sight R.left R.failures source.new)) }
+        ensures same { IfErr result (λ _. self.new.buffer.bytes ≡ self.old.buffer.bytes) }
+        ensures err { IfErr result (ReadsNone
+            (sight R.left R.failures source.old) (sight R.left R.failures source.new)) }
+    {
+        self.buffer.read_byte(source)
+    }
+
+    /// One read of so many bytes, of a block at most. Gives how many came.
+    #[inline]
+    pub(crate) fn take_block<R: Source>(
+        &mut self,
+        source: &mut R,
+        left: usize,
+    ) -> Result<usize, Reason>
+        requires { 0 < left }
+        ensures keeps { KeepsRest self.old self.new }
+        ensures takes { TakesBlock left result
+            (intake R.left R.failures source.old self.old)
+            (intake R.left R.failures source.new self.new) }
+    {
+        let room = u64::MAX - self.taken;
+        if room == 0 {
+            return Err(Reason::TooLarge);
+        }
+        let wanted = left.min(BLOCK).min(room as usize);
+        let n = self.buffer.read(source, wanted)?;
+        self.taken += n as u64;
+        Ok(n)
+    }
+
+    /// Takes a field of N bytes, which most often come in one read.
+    #[inline(always)]
+    pub(crate) fn take_field<R: Source, const N: usize>(
+        &mut self,
+        source: &mut R,
+    ) -> Result<(), Reason>
+        requires some { 0 < N }
+        requires few { N ≤ 8 }
+        ensures keeps { KeepsRest self.old self.new }
+        ensures takes { TakesAll N result
+            (intake R.left R.failures source.old self.old)
+            (intake R.left R.failures source.new self.new) }
+    {
+        if u64::MAX - self.taken < N as u64 {
+            return self.take_rest(source, N);
+        }
+        let n = self.buffer.read_field::<R, N>(source)?;
+        self.taken += n as u64;
+        if n == N {
+            return Ok(());
+        }
+        self.take_rest(source, N - n)
+    }
+
+    /// Takes a payload of so many bytes, which most often come in one read.
+    #[inline(always)]
+    pub(crate) fn take_payload<R: Source>(
+        &mut self,
+        source: &mut R,
+        count: usize,
+    ) -> Result<(), Reason>
+        ensures keeps { KeepsRest self.old self.new }
+        ensures takes { TakesAll count result
+            (intake R.left R.failures source.old self.old)
+            (intake R.left R.failures source.new self.new) }
+    {
+        if count == 0 {
+            return Ok(());
+        }
+        let n = self.take_block(source, count)?;
+        if n == count {
+            return Ok(());
+        }
+        self.take_rest(source, count - n)
+    }
+
+    /// Takes so many bytes, where it seldom comes to it.
+    #[inline(always)]
+    fn take_rest<R: Source>(&mut self, source: &mut R, count: usize) -> Result<(), Reason>
+        ensures keeps { KeepsRest self.old self.new }
+        ensures takes { TakesAll count result
+            (intake R.left R.failures source.old self.old)
+            (intake R.left R.failures source.new self.new) }
+    {
+        self.take_rest_slowly(source, count)?;
+        Ok(())
+    }
+
+    #[inline(never)]
+    fn take_rest_slowly<R: Source>(&mut self, source: &mut R, count: usize) -> Result<(), Reason>
+        ensures keeps { KeepsRest self.old self.new }
+        ensures takes { TakesAll count result
+            (intake R.left R.failures source.old self.old)
+            (intake R.left R.failures source.new self.new) }
+    {
+        let mut left = count;
+        'blocks: loop {
+            if left == 0 {
+                return Ok(());
+            }
+            left -= self.take_block(source, left)?;
+        }
+    }
+}

@@ -1,0 +1,102 @@
+//! The imports that a machine and an answer list, and whether two answers are the same.
+
+use pkcheck::{Asked, Import, Machine, Policy, Yes, check};
+use pkops::{Arg, Inst, Limits, Op, Scan, scan};
+use pkopt::optimized_form;
+use pkread::Memory;
+use std::test::Fail;
+
+const PAIR: Import<'_> = Import::Pair {
+    module: "m",
+    name: "f",
+};
+
+fn checked<T: AllocGlobal>(rt: &T, pickle: &[u8]) -> Result<Yes, Fail> {
+    let mut source = Memory::new(pickle);
+    let Ok(yes) = check(
+        rt.alloc(),
+        &mut source,
+        &Policy::AnyImport,
+        &Limits::STANDARD,
+    ) else {
+        return Err(Fail::from("a yes"));
+    };
+    Ok(yes)
+}
+
+#[test]
+fn a_machine_lends_its_imports(rt: HostRuntime) -> Result<(), Fail> {
+    let global = Inst::new(Op::Global, Arg::Pair(b"m", b"f")).ok_or("GLOBAL")?;
+    let mut machine = Machine::new(rt.alloc(), &Limits::STANDARD);
+    assert_eq!(rt; machine.imports().is_empty(), true);
+    if machine.stopped() || !global.admitted() {
+        return Err(Fail::from("a step that may be taken"));
+    }
+    let Ok(_) = machine.step(&global, &Policy::AnyImport) else {
+        return Err(Fail::from("a step that goes on"));
+    };
+    let imports = machine.imports();
+    assert_eq!(rt; imports.len(), 1);
+    assert_eq!(rt; imports.get(0), Some(PAIR));
+    let mut each = imports.iter();
+    assert_eq!(rt; each.next(), Some(PAIR));
+    assert_eq!(rt; each.next(), None);
+    Ok(())
+}
+
+#[test]
+fn imports_are_copied_in_order(rt: HostRuntime) -> Result<(), Fail> {
+    let yes = checked(&rt, b"cm\nf\n)R\x8c\x01b\x93.")?;
+    let mut each = yes.imports.iter();
+    assert_eq!(rt; each.next(), Some(PAIR));
+    assert_eq!(rt; each.next(), Some(Import::Unknown));
+    assert_eq!(rt; each.next(), None);
+    let copies = yes.imports.to_vec(rt.alloc())?;
+    let pair = PAIR.to_asked(rt.alloc())?;
+    assert_eq!(rt; copies.as_slice(), [pair, Asked::Unknown].as_slice());
+    Ok(())
+}
+
+#[test]
+fn answers_are_the_same_by_what_they_list(rt: HostRuntime) -> Result<(), Fail> {
+    let spelled = checked(&rt, b"cm\nff\n.")?;
+    let again = checked(&rt, b"cm\nff\n.")?;
+    let made = checked(&rt, b"\x8c\x01m\x8c\x01f\x93.")?;
+    let written = checked(&rt, b"cm\nf\n.")?;
+    assert_eq!(rt; spelled.same(&again), true);
+    assert_eq!(rt; spelled.same(&made), false);
+    assert_eq!(rt; made.same(&written), false);
+    assert_eq!(rt; made.imports.same(&written.imports), true);
+    assert_eq!(rt; made.imports.same(&spelled.imports), false);
+    Ok(())
+}
+
+#[test]
+fn instructions_are_the_same_by_what_they_say(rt: HostRuntime) -> Result<(), Fail> {
+    let one = Inst::new(Op::BinInt1, Arg::U1(1)).ok_or("BININT1")?;
+    let two = Inst::new(Op::BinInt1, Arg::U1(2)).ok_or("BININT1")?;
+    let get = Inst::new(Op::BinGet, Arg::U1(1)).ok_or("BINGET")?;
+    let Scan::Whole(read, _) = scan(b"K\x01", &Limits::STANDARD) else {
+        return Err(Fail::from("a whole instruction"));
+    };
+    assert_eq!(rt; one.same(&read), true);
+    assert_eq!(rt; one.same(&two), false);
+    assert_eq!(rt; one.same(&get), false);
+    Ok(())
+}
+
+#[test]
+fn forms_are_equal_by_their_bytes(rt: HostRuntime) -> Result<(), Fail> {
+    let Ok(form) = optimized_form(rt.alloc(), b"Nq\x00.", &Limits::STANDARD) else {
+        return Err(Fail::from("a form"));
+    };
+    let Ok(again) = optimized_form(rt.alloc(), b"Nq\x01.", &Limits::STANDARD) else {
+        return Err(Fail::from("a form"));
+    };
+    let Ok(shorter) = optimized_form(rt.alloc(), b"N.", &Limits::STANDARD) else {
+        return Err(Fail::from("a form"));
+    };
+    assert_eq!(rt; form == again, true);
+    assert_eq!(rt; form == shorter, false);
+    Ok(())
+}
