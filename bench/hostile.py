@@ -6,7 +6,6 @@ byte of plain data. The peak memory may be at most 96 MB plus three times the si
 64 times under the limits for large data, because a stack or memo entry takes more than the byte
 that creates it.
 """
-import argparse
 import functools
 import pathlib
 import sys
@@ -76,16 +75,7 @@ def judged(
 
 
 def main() -> int:
-    words = argparse.ArgumentParser(description=__doc__.splitlines()[0])
-    words.add_argument(
-        "--megabytes", type=int, default=16, help="size of the scalable shapes in MB (16)"
-    )
-    words.add_argument(
-        "--rounds", type=int, default=3, help="how often each file is checked (3); the best counts"
-    )
-    words.add_argument(
-        "--only", default="", metavar="WORD", help="only shapes with this word in their names"
-    )
+    words = hostile_shapes.options(__doc__ or "", rounds=3)
     words.add_argument(
         "--large", action="store_true", help="the scalable shapes under the limits for large data"
     )

@@ -3,6 +3,7 @@
 Most are a head, a repeated piece and a tail, and nearly all get a yes, so that the whole file is
 read. Some scale to any size; the others reach a limit of the reader.
 """
+import argparse
 import dataclasses
 import json
 import struct
@@ -27,6 +28,21 @@ class Hostile:
 
     make: Make
     allow: str = NOTHING
+
+
+def options(text: str, rounds: int) -> argparse.ArgumentParser:
+    """The options of a bench that runs commands on these files, and whose docstring this is."""
+    words = argparse.ArgumentParser(description=text.splitlines()[0])
+    words.add_argument(
+        "--megabytes", type=int, default=16, help="size of the scalable shapes in MB (16)"
+    )
+    words.add_argument(
+        "--rounds", type=int, default=rounds, help=f"runs of each; the best counts ({rounds})"
+    )
+    words.add_argument(
+        "--only", default="", metavar="WORD", help="only shapes with this word in their names"
+    )
+    return words
 
 
 def times(piece: bytes, count: int) -> Iterator[bytes]:

@@ -6,7 +6,6 @@ most five times that of a byte of plain data; the peak memory may be at most 96 
 of the file size. A file below a megabyte counts as one. The files include those that cost a check
 much; many of these aren't plain, and `json` refuses them.
 """
-import argparse
 import dataclasses
 import functools
 import pathlib
@@ -86,16 +85,7 @@ def judged(bench: Bench, name: str, make: shapes.Make, plain: float, per_byte: i
 
 
 def main() -> int:
-    words = argparse.ArgumentParser(description=__doc__.splitlines()[0])
-    words.add_argument(
-        "--megabytes", type=int, default=16, help="size of the scalable shapes in MB (16)"
-    )
-    words.add_argument(
-        "--rounds", type=int, default=2, help="how often each command runs (2); the best counts"
-    )
-    words.add_argument(
-        "--only", default="", metavar="WORD", help="only shapes with this word in their names"
-    )
+    words = hostile_shapes.options(__doc__ or "", rounds=2)
     words.add_argument(
         "--command", choices=[command.word for command in COMMANDS], help="only this command"
     )

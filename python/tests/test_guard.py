@@ -390,7 +390,7 @@ class Rows(unittest.TestCase):
                 return self.load()
 
         with self.assertRaises(RuntimeError):
-            Reader(io.BytesIO(b"P1\n.N.")).load()
+            Reader(io.BytesIO(b"Pone\n.N.")).load()
 
 
 class Inherited(unittest.TestCase):
