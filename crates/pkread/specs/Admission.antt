@@ -1,4 +1,4 @@
--- Which instructions are given, and for which reason others are refused.
+-- Which instructions a reader gives, and the reason for which it refuses the others.
 use Rattle.std.specs.Prelude.{ℕ, Option, None, Some, IsTrue, if◌then◌else◌}
 use Rattle.pkops.specs.Admitted.{is_admitted}
 use Rattle.pkops.specs.Contents.{IsGood}
@@ -9,22 +9,22 @@ use Rattle.pkops.specs.declared.Op.TheVariants as op
 use Rattle.pkread.specs.declared.refusal.Reason.{Reason}
 use Rattle.pkread.specs.declared.refusal.Reason.TheVariants.{ExtensionCode, UnsupportedProtocol}
 
--- the reason by which an instruction that is not admitted is refused: it is a PROTO above the
--- highest protocol, or an extension code
+-- the reason for refusing an instruction that isn't admitted: a PROTO above the highest protocol,
+-- or an extension code
 abbrev pub unadmitted_by : Op → Argument → Reason
 unadmitted_by op.Proto (Number width protocol) = UnsupportedProtocol protocol
 unadmitted_by _ _ = ExtensionCode
 
--- why a good instruction is not admitted, if it is not
+-- the reason for refusing a good instruction, or None if it is admitted
 abbrev pub objection : Instruction → Option Reason
 objection i = if is_admitted i then None else Some (unadmitted_by i.op i.arg)
 
--- what a reader gives: a good instruction with a payload within the limit, and admitted
+-- what a reader gives: a good, admitted instruction whose payload is within the limit
 pub record IsAllowed (limit : ℕ) (i : Instruction) : Type 0 where
   pub good : IsGood i
   pub within : IsWithin limit i.arg
   pub admitted : IsTrue (is_admitted i)
 
--- the same, where the limit depends on the opcode
+-- as IsAllowed, with a limit that depends on the opcode
 abbrev pub IsAllowedBy : (Op → ℕ) → Instruction → Type 0
 IsAllowedBy limit i = IsAllowed (limit i.op) i

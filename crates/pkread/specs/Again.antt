@@ -1,4 +1,4 @@
--- What a call of `again` does behind STOP.
+-- What a call of `again` does after STOP.
 use Rattle.std.specs.Prelude.{◌≡◌, ℕ, ◌<◌, Bool, true, false, List, [], ◌∷◌, Option, Result, Ok}
 use Rattle.std.specs.Prelude.{MatchResult}
 use Rattle.std.specs.Io.KnownBytes.{IsAtEnd}
@@ -11,26 +11,27 @@ use Rattle.pkread.specs.declared.refusal.Reason.{Reason}
 use Rattle.pkread.specs.declared.refusal.Reason.TheVariants.{Source, TooLarge, OutOfMemory}
 use Rattle.pkread.specs.declared.refusal.Refusal.{Refusal}
 
--- why no byte came, where the source had not come to its end
+-- why no byte came although the source is not at its end
 abbrev pub WhyNoByte : Sight → Sight → ℕ → Reason → Type 0
 WhyNoByte old new taken Source = Fails old new []
 WhyNoByte old new taken TooLarge = Takes old new [] × (taken ≡ all_bytes)
 WhyNoByte old new taken OutOfMemory = Takes old new []
 WhyNoByte old new taken _ = ⊥
 
--- the reader refuses at the place that it has come to, and for ever
+-- the reader refuses at its current offset, now and on every later call
 pub record RefusesAgain (old : ReaderState) (r : Refusal) (new : ReaderState) : Type 0 where
   pub place : r.at ≡ old.taken
   pub why : WhyNoByte old.source new.source old.taken r.reason
   pub after : new ≡ record old { source = new.source; phase = Refused r }
 
--- the source is at its end, or it is not, and the reader is open to the next instruction
+-- false: the source is at its end and the reader is unchanged; true: another pickle follows and the
+-- reader is open
 abbrev pub AnswersAgain : ReaderState → ReaderState → Bool → Type 0
 AnswersAgain old new false =
     IsAtEnd new.source.left × (new ≡ record old { source = new.source })
 AnswersAgain old new true = new ≡ record old { source = new.source; phase = Open }
 
--- one call of `again`, of a reader that has ended. Where it answers, nothing is counted as taken
+-- one call of `again` on a reader that has ended; an answer counts no byte as taken
 abbrev pub StepsAgain : ReaderState → Result Bool Refusal → ReaderState → Type 0
 StepsAgain old result new =
     MatchResult result
@@ -39,7 +40,8 @@ StepsAgain old result new =
     × AnswersAgain old new more)
     (λ r. RefusesAgain old r new)
 
--- where it answers true, one byte was taken ahead, of the instruction that it begins, and else none
+-- true means that exactly one byte was read ahead, the first of the next instruction; any other
+-- result means that none was
 abbrev pub TakesOneAhead : {R : Type 0} → (R → Option (List ℕ)) → (R → ℕ)
     → Reader R CoreView → Result Bool Refusal → Reader R CoreView → Type 0
 TakesOneAhead left failures old (Ok true) new =
@@ -48,7 +50,8 @@ TakesOneAhead left failures old (Ok true) new =
     (byte ∷ [])
 TakesOneAhead left failures old _ new = new.core.ahead ≡ []
 
--- where it refuses, it refuses the next instruction, of which it took no byte, under any limit
+-- a refusal by `again` is a refusal of the next instruction, with no byte of it taken, under any
+-- limit
 abbrev pub NoByteIsRefused : Type 0
 NoByteIsRefused =
     (limit : ℕ) (old new : ReaderState) (r : Refusal) → RefusesAgain old r new →

@@ -1,4 +1,4 @@
--- What contracts see of a reader, its source aside.
+-- What contracts see of a reader, apart from its source.
 use Rattle.std.specs.Prelude.{◌≡◌, ⊤, ℕ, ◌<◌, Bool, true, false, List, [], ◌∷◌}
 use Rattle.pkops.specs.Limits.{Bounds}
 use Rattle.pkops.specs.declared.Op.{Op}
@@ -8,44 +8,44 @@ use Rattle.pkread.specs.Rows.{all_bytes}
 use Rattle.pkread.specs.declared.state.Phase as declared
 use Rattle.pkread.specs.declared.refusal.Refusal.{Refusal}
 
--- how a reader goes on: with the next instruction, with nothing since it gave STOP, or with the
--- same refusal for ever
+-- what the next call does: read an instruction, report the end because STOP was given, or return
+-- the same refusal
 pub data Phase : Type 0 where
   Open : Phase
   Ended : Phase
   Refused : Refusal → Phase
 
--- what the program keeps of it
+-- the phase that the program's type stands for
 abbrev pub shown_phase : declared.Phase → Phase
 shown_phase declared.TheVariants.Open = Open
 shown_phase declared.TheVariants.Ended = Ended
 shown_phase (declared.TheVariants.Refused refusal) = Refused refusal
 
--- the bytes that were taken ahead of the next instruction: those held, where it is begun
+-- the bytes read ahead of the next instruction: those in the buffer if it has begun
 abbrev pub ahead_of : Bool → List ℕ → List ℕ
 ahead_of true bytes = bytes
 ahead_of false bytes = []
 
--- at most one byte is taken ahead, and it is still to be counted among those taken
+-- at most one byte is read ahead; it isn't counted yet, so there must be room to count it
 abbrev pub AtMostOneAhead : List ℕ → ℕ → Type 0
 AtMostOneAhead [] taken = ⊤
 AtMostOneAhead (byte ∷ []) taken = taken < all_bytes
 AtMostOneAhead (byte ∷ more ∷ bytes) taken = ⊥
 
--- bytes are taken ahead only where the reader goes on with the next instruction
+-- bytes are read ahead only while the reader is open
 abbrev pub NoneIfClosed : Phase → List ℕ → Type 0
 NoneIfClosed Open ahead = ⊤
 NoneIfClosed Ended ahead = ahead ≡ []
 NoneIfClosed (Refused refusal) ahead = ahead ≡ []
 
--- a reader that has given STOP has held bytes
+-- a reader that has given STOP has held at least one byte
 abbrev pub SomeIfEnded : Phase → ℕ → Type 0
 SomeIfEnded Open most = ⊤
 SomeIfEnded Ended most = 0 < most
 SomeIfEnded (Refused refusal) most = ⊤
 
--- the buffer, the bytes taken ahead of the next instruction, the number of bytes taken but for
--- these, the limits, and how the reader goes on
+-- the buffer, the bytes read ahead, the number of bytes taken without those, the limits, and the
+-- phase
 pub record CoreView : Type 0 where
   pub held : Held
   pub ahead : List ℕ
@@ -53,7 +53,7 @@ pub record CoreView : Type 0 where
   pub limits : Bounds
   pub phase : Phase
 
--- how a reader goes on once it has given an instruction of the opcode
+-- the phase after an instruction with this opcode
 abbrev pub phase_after : Op → Phase
 phase_after Stop = Ended
 phase_after _ = Open

@@ -1,4 +1,4 @@
--- The instructions of a slice, one after the other (CPython's `pickletools.genops`).
+-- The instructions of a slice, in order, as CPython's `pickletools.genops` gives them.
 use Rattle.std.specs.Prelude.{◌≡◌, ℕ, ◌+◌, Bool, true, false, cond, List, ◌++◌, length, Option}
 use Rattle.std.specs.Prelude.{None, Result, MatchBool, MatchOption, MatchResult}
 use Rattle.std.specs.Iterator.{Count, at_most}
@@ -15,23 +15,23 @@ use Rattle.pkread.specs.declared.refusal.Reason.TheVariants.{Truncated}
 use Rattle.pkread.specs.declared.refusal.Refusal.{Refusal}
 
 -- what contracts see of the iterator: the bytes from the next instruction on, the offset of the
--- first of them, the limit on payloads, and whether STOP or a refusal was given
+-- first of them, the payload limit, and whether STOP or a refusal was given
 pub record Walk : Type 0 where
   pub bytes : List ℕ
   pub at : ℕ
   pub limit : ℕ
   pub done : Bool
 
--- before the first instruction of the bytes
+-- an iterator at the first instruction
 abbrev pub walk_of : List ℕ → ℕ → Walk
 walk_of bytes limit = record { bytes = bytes; at = 0; limit = limit; done = false }
 
--- it is STOP
+-- the opcode is STOP
 abbrev pub is_stop : Op → Bool
 is_stop Stop = true
 is_stop _ = false
 
--- the instruction given is the one that the next bytes spell, at the place where they begin
+-- the next bytes spell the instruction given, and it is given with the offset of its first byte
 pub record GivesItem (old : Walk) (at : ℕ) (i : Instruction) (new : Walk) : Type 0 where
   pub place : at ≡ old.at
   pub allowed : IsAllowed old.limit i
@@ -40,31 +40,33 @@ pub record GivesItem (old : Walk) (at : ℕ) (i : Instruction) (new : Walk) : Ty
   pub limit : new.limit ≡ old.limit
   pub done : new.done ≡ is_stop i.op
 
--- what each reason says of the bytes that are left: that they end too early, or what is amiss
+-- what each reason means for the remaining bytes: for Truncated, that they end too early; for any
+-- other, what is wrong with them
 abbrev pub EndsOrIsAmiss : ℕ → List ℕ → Reason → Type 0
 EndsOrIsAmiss limit bytes Truncated = Begun limit bytes
 EndsOrIsAmiss limit bytes reason = IsAmiss limit bytes reason
 
--- the bytes from the place on show the reason and no other, and nothing more will be given
+-- the remaining bytes show this reason and no other, and the iterator is finished
 pub record RefusesItem (old : Walk) (r : Refusal) (new : Walk) : Type 0 where
   pub place : r.at ≡ old.at
   pub why : EndsOrIsAmiss old.limit old.bytes r.reason
   pub alone : (other : Reason) → EndsOrIsAmiss old.limit old.bytes other → other ≡ r.reason
   pub after : new ≡ record old { done = true }
 
--- an item is an instruction with its place, or a refusal
+-- an item is an instruction with its offset, or a refusal
 abbrev pub Yields : Walk → Result (ℕ × Inst) Refusal → Walk → Type 0
 Yields old item new =
     MatchResult item
     (λ given. GivesItem old given.0 (instruction_of given.1) new)
     (λ r. RefusesItem old r new)
 
--- one call of `next`: an item where neither STOP nor a refusal was given, and afterwards none, and
--- nothing changes
+-- one call of `next`: an item until STOP or a refusal was given; after that None, and nothing
+-- changes
 abbrev pub Walks : Walk → Option (Result (ℕ × Inst) Refusal) → Walk → Type 0
 Walks old item new =
     MatchBool old.done ((item ≡ None) × (new ≡ old)) (MatchOption item ⊥ (λ x. Yields old x new))
 
--- the most items that are left: each takes a byte at least, and then there may be a refusal
+-- the most items that remain: one for each byte, since an instruction has at least one, and a
+-- refusal
 abbrev pub most_items : Walk → Count
 most_items walk = at_most (cond walk.done 0 (length walk.bytes + 1))

@@ -1,5 +1,5 @@
--- What a call of `next_head` does: a byte payload is taken and not held, and has a limit of its
--- own.
+-- What a call of `next_head` does: it takes byte payloads without holding them, under a limit of
+-- their own.
 use Rattle.std.specs.Prelude.{◌≡◌, ◌⊎◌, ℕ, ◌+◌, ◌≤◌, false, IsTrue, List, length, max, Result, Ok}
 use Rattle.std.specs.Prelude.{Err, MatchResult}
 use Rattle.pkops.specs.Inst.{instruction_of}
@@ -15,13 +15,13 @@ use Rattle.pkread.specs.declared.reader.Head.{Head}
 use Rattle.pkread.specs.declared.reader.Head.TheVariants as head
 use Rattle.pkread.specs.declared.refusal.Refusal.{Refusal}
 
--- the instruction of a passed opcode with this payload is one that a reader gives
+-- the passed opcode with this payload is an instruction that a reader gives
 pub record IsSkipped (limit : ℕ) (op : Op) (count : ℕ) (payload : List ℕ) : Type 0 where
   pub passed : IsTrue (is_passed op)
   pub count_is : length payload ≡ count
   pub allowed : IsAllowed limit (instruction op (Counted payload))
 
--- the bytes taken spell an instruction of the opcode, with some payload of so many bytes
+-- the bytes taken spell an instruction with this opcode and some payload of `count` bytes
 pub record SkipsBy (limit : ℕ) (op : Op) (count : ℕ) (old new : Sight)
     (before after : ℕ) : Type 0 where
   pub payload : List ℕ
@@ -29,15 +29,15 @@ pub record SkipsBy (limit : ℕ) (op : Op) (count : ℕ) (old new : Sight)
   pub bytes : Takes old new (spelling (instruction op (Counted payload)))
   pub taken : after ≡ before + length (spelling (instruction op (Counted payload)))
 
--- the most bytes ever held rise to 131,075 at most, or to 9 and the count where the bytes taken
--- begin an instruction with a counted argument that is not passed
+-- the most bytes ever held rises to at most 131,075, or to the count plus 9 if the bytes taken
+-- begin an instruction that is counted but not passed
 abbrev pub HoldsFew : ℕ → List ℕ → ℕ → Type 0
 HoldsFew old bytes new =
     (new ≤ max old 131_075)
     ⊎ ((op : Op) × (count : ℕ)
     × (is_passed op ≡ false) × HasCount op bytes count × (new ≤ max old (count + 9)))
 
--- a payload was passed over, of the instruction at the place
+-- the instruction at this offset was given and its payload skipped
 pub record Skips (old : ReaderState) (at : ℕ) (op : Op) (count : ℕ) (new : ReaderState)
     : Type 0 where
   pub place : at ≡ old.taken
@@ -47,8 +47,8 @@ pub record Skips (old : ReaderState) (at : ℕ) (op : Op) (count : ℕ) (new : R
   pub most : new.most ≤ max old.most 131_075
   pub phase : new.phase ≡ Open
 
--- the bytes from the place on were taken, and show the reason, as at a refusal of `next`; where
--- they begin an instruction of a passed opcode, under the limit on payloads passed over
+-- the bytes taken from this offset on show the reason, as for `next`; if they begin an instruction
+-- with a passed opcode, the limit on skipped payloads applies
 pub record RefusesHead (old : ReaderState) (r : Refusal) (new : ReaderState) : Type 0 where
   pub place : r.at ≡ old.taken
   pub why : (bytes : List ℕ)
@@ -59,7 +59,7 @@ pub record RefusesHead (old : ReaderState) (r : Refusal) (new : ReaderState) : T
   pub failures : CountsAt r.reason old.source.failures new.source.failures
   pub phase : new.phase ≡ Refused r
 
--- an open reader gives an instruction or passes over one, and never that it has ended
+-- an open reader gives an instruction or skips its payload; it never reports the end
 abbrev pub GivesHead : ReaderState → ReaderState → Head → Type 0
 GivesHead old new (head.Inst at inst) =
     Gives old at (instruction_of inst) new
@@ -68,7 +68,7 @@ GivesHead old new (head.Inst at inst) =
 GivesHead old new (head.Passed at op count) = Skips old at op count new
 GivesHead old new head.Ended = ⊥
 
--- a call goes by the phase, as a call of `next` does
+-- what a call does in each phase, as for `next`
 abbrev pub StepsHeadFrom : Phase → ReaderState → Result Head Refusal → ReaderState → Type 0
 StepsHeadFrom Open old result new =
     MatchResult result (GivesHead old new) (λ r. RefusesHead old r new)
@@ -80,7 +80,7 @@ abbrev pub StepsHead : ReaderState → Result Head Refusal → ReaderState → T
 StepsHead old result new =
     (new.limits ≡ old.limits) × StepsHeadFrom old.phase old result new
 
--- the place is known at once, and that the instruction is allowed
+-- known at once: the offset, and that the instruction is allowed
 abbrev pub ShowsHead : ReaderState → Head → Type 0
 ShowsHead old (head.Inst at inst) =
     (at ≡ old.taken) × IsAllowed old.limits.counted (instruction_of inst)
@@ -88,12 +88,12 @@ ShowsHead old (head.Passed at op count) =
     (at ≡ old.taken) × (payload : List ℕ) × IsSkipped old.limits.passed op count payload
 ShowsHead old head.Ended = ⊥
 
--- the answer by the phase, with no word of the state after
+-- the answer in each phase, without the state after the call
 abbrev pub ShowsHeadFrom : Phase → ReaderState → Result Head Refusal → Type 0
 ShowsHeadFrom Open old result = MatchResult result (ShowsHead old) (λ r. r.at ≡ old.taken)
 ShowsHeadFrom Ended old result = result ≡ Ok head.Ended
 ShowsHeadFrom (Refused r) old result = result ≡ Err r
 
--- what is known of an answer while its instruction is still lent
+-- what is known of an answer while it still borrows from the reader
 abbrev pub ShowsAHead : ReaderState → Result Head Refusal → Type 0
 ShowsAHead old result = ShowsHeadFrom old.phase old result

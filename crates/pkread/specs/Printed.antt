@@ -26,14 +26,14 @@ reason_name reason.LeftOver = codes "LeftOver"
 reason_name reason.NotAscii = codes "NotAscii"
 reason_name reason.OutOfMemory = codes "OutOfMemory"
 
--- its number: a code byte, a protocol or a memo number
+-- the number that a reason carries: a code byte, a protocol or a memo number
 abbrev pub number_told : Reason → Option ℕ
 number_told (reason.UnknownOpcode code) = Some code
 number_told (reason.UnsupportedProtocol version) = Some version
 number_told (reason.MissingMemo number) = Some number
 number_told _ = None
 
--- a name, then a number in parentheses if there is one
+-- a name, followed by its number in parentheses if it has one
 abbrev pub with_number : List ℕ → Option ℕ → List ℕ
 with_number name None = name
 with_number name (Some number) = name ++ (codes "(" ++ (decimal number ++ codes ")"))

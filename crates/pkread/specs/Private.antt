@@ -1,5 +1,5 @@
--- Nobody has to believe these: what the functions that take bytes tell one another. Only private
--- functions cite them, and the contracts of `Reader` follow from them.
+-- Contracts between the private functions that take bytes. They need not be trusted: the contracts
+-- of `Reader` follow from them.
 pub mod Progress
 pub mod Taking
 pub mod Gathering

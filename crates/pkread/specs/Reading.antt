@@ -25,9 +25,9 @@ source_of r = r.source.now
 abbrev pub source_name : {R B : Type 0} → Reader R B → GName
 source_name r = r.source.ghost_name
 
--- the sight of the source, the number of bytes taken, the limits, the most bytes ever held, and how
--- the reader goes on. A byte that was taken ahead counts with the instruction that it begins: until
--- that is taken, the source is seen as before it, and it is not among the bytes taken
+-- the view of the source, the number of bytes taken, the limits, the most bytes ever held, and the
+-- phase. A byte read ahead belongs to the instruction that it begins: until that is taken, the
+-- source is seen as it was before the byte, and the byte isn't counted
 pub record ReaderState : Type 0 where
   pub source : Sight
   pub taken : ℕ
@@ -35,7 +35,7 @@ pub record ReaderState : Type 0 where
   pub most : ℕ
   pub phase : Phase
 
--- the state of a reader, by the ghost members of its source's type
+-- the state of a reader, from the ghost members of its source's type
 abbrev pub state : {R : Type 0} → (R → Option (List ℕ)) → (R → ℕ) → Reader R CoreView → ReaderState
 state left failures r = record {
   source = unread r.core.ahead (sight left failures (source_of r));
@@ -65,19 +65,19 @@ is_ended (Refused r) = false
 abbrev pub has_ended : ReaderState → Bool
 has_ended s = is_ended s.phase
 
--- the reader holds the same `&mut`
+-- the reader still holds the same `&mut`
 abbrev pub KeepsSource : {R : Type 0} → Reader R CoreView → Reader R CoreView → Type 0
 KeepsSource old new = source_name new ≡ source_name old
 
--- nothing is asked of the source once the reader has ended or refused
+-- a reader that has ended or refused doesn't touch its source
 abbrev pub LeavesSource : {R : Type 0} → Reader R CoreView → Reader R CoreView → Type 0
 LeavesSource old new = old.core.phase ≢ Open → source_of new ≡ source_of old
 
--- no byte of a further instruction was taken
+-- no byte of a further instruction was read
 abbrev pub TakesNoneAhead : {R : Type 0} → Reader R CoreView → Type 0
 TakesNoneAhead r = r.core.ahead ≡ []
 
--- the instruction given is the one that the bytes taken spell, at the place where they begin
+-- the bytes taken spell the instruction given, and it is given with the offset of the first of them
 pub record Gives (old : ReaderState) (at : ℕ) (i : Instruction) (new : ReaderState) : Type 0 where
   pub place : at ≡ old.taken
   pub allowed : IsAllowed old.limits.counted i
@@ -87,14 +87,14 @@ pub record Gives (old : ReaderState) (at : ℕ) (i : Instruction) (new : ReaderS
   pub most : new.most ≡ max old.most (length (spelling i))
   pub phase : new.phase ≡ phase_after i.op
 
--- the most bytes ever held, once these were taken for an instruction that is refused
+-- the most bytes ever held, after these bytes were taken for an instruction that is refused
 pub record Raises (old : ℕ) (bytes : List ℕ) (reason : Reason) (new : ℕ) : Type 0 where
   pub exact : reason ≢ OutOfMemory → new ≡ max old (length bytes)
   pub least : old ≤ new
   pub most : new ≤ max old (length bytes)
 
--- the bytes from the place on were taken, and show the reason; the count of failures goes up by one
--- at Source alone
+-- the bytes taken from this offset on show the reason; the count of failures rises by one for
+-- Source and for no other reason
 pub record RefusesAt (old : ReaderState) (r : Refusal) (new : ReaderState) : Type 0 where
   pub place : r.at ≡ old.taken
   pub why : (bytes : List ℕ) ×
@@ -103,13 +103,13 @@ pub record RefusesAt (old : ReaderState) (r : Refusal) (new : ReaderState) : Typ
   pub failures : CountsAt r.reason old.source.failures new.source.failures
   pub phase : new.phase ≡ Refused r
 
--- an open reader gives an instruction, and never that it has ended
+-- an open reader gives an instruction; it never reports the end
 abbrev pub GivesNext : ReaderState → ReaderState → Next → Type 0
 GivesNext old new (next.Inst at inst) = Gives old at (instruction_of inst) new
 GivesNext old new next.Ended = ⊥
 
--- a call goes by the phase: an open reader gives or refuses; after STOP and after a refusal it
--- answers the same for ever, and nothing changes
+-- what a call does in each phase: an open reader gives an instruction or refuses; after STOP or a
+-- refusal every call has the same answer and changes nothing
 abbrev pub StepsFrom : Phase → ReaderState → Result Next Refusal → ReaderState → Type 0
 StepsFrom Open old result new = MatchResult result (GivesNext old new) (λ r. RefusesAt old r new)
 StepsFrom Ended old result new = (result ≡ Ok next.Ended) × (new ≡ old)
@@ -119,18 +119,18 @@ StepsFrom (Refused r) old result new = (result ≡ Err r) × (new ≡ old)
 abbrev pub Steps : ReaderState → Result Next Refusal → ReaderState → Type 0
 Steps old result new = (new.limits ≡ old.limits) × StepsFrom old.phase old result new
 
--- the place is known at once, and that the instruction is allowed
+-- known at once: the offset, and that the instruction is allowed
 abbrev pub ShowsNext : ReaderState → Next → Type 0
 ShowsNext old (next.Inst at inst) =
     (at ≡ old.taken) × IsAllowed old.limits.counted (instruction_of inst)
 ShowsNext old next.Ended = ⊥
 
--- the answer by the phase, with no word of the state after
+-- the answer in each phase, without the state after the call
 abbrev pub ShowsFrom : Phase → ReaderState → Result Next Refusal → Type 0
 ShowsFrom Open old result = MatchResult result (ShowsNext old) (λ r. r.at ≡ old.taken)
 ShowsFrom Ended old result = result ≡ Ok next.Ended
 ShowsFrom (Refused r) old result = result ≡ Err r
 
--- what is known of an answer while its instruction is still lent
+-- what is known of an answer while it still borrows from the reader
 abbrev pub Shows : ReaderState → Result Next Refusal → Type 0
 Shows old result = ShowsFrom old.phase old result

@@ -1,4 +1,4 @@
--- What a loop over a reader's calls knows: the instructions that it was given so far.
+-- What a loop over a reader's calls knows: the instructions given so far.
 use Rattle.std.specs.Prelude.{◌≡◌, ℕ, ◌+◌, List, [], ◌∷◌, ◌++◌, All, length, Result, Ok, Err}
 use Rattle.pkops.specs.Inst.{instruction_of}
 use Rattle.pkops.specs.Limits.{Bounds}
@@ -18,14 +18,15 @@ use Rattle.pkread.specs.declared.reader.Next.{Next}
 use Rattle.pkread.specs.declared.reader.Next.TheVariants as next
 use Rattle.pkread.specs.declared.refusal.Refusal.{Refusal}
 
--- STOP was given last, and only where the reader has ended; a reader that has refused is left alone
+-- STOP is the last instruction if the reader has ended, and absent while it is open; a reader that
+-- has refused is excluded
 abbrev pub SoFar : List Instruction → Phase → Type 0
 SoFar instructions Open = NoStop instructions
 SoFar instructions Ended = StopIsLast instructions
 SoFar instructions (Refused refusal) = ⊥
 
--- a reader in this state has given these instructions, within the limits of their opcodes, from
--- where the source was seen so and `from` bytes were taken
+-- a reader in this state has given these instructions, each within the limit of its opcode, since
+-- the source looked like `start` and `from` bytes were taken
 pub record Reads (start : Sight) (from : ℕ) (limit : Op → ℕ) (instructions : List Instruction)
     (state : ReaderState) : Type 0 where
   pub each : All (IsAllowedBy limit) instructions
@@ -39,26 +40,26 @@ ReadingBegins =
     (start : Sight) (limit : Op → ℕ) (limits : Bounds) →
     Reads start 0 limit [] (begun start limits)
 
--- a reader that is open has given nothing from there on
+-- an open reader has given nothing since its own state
 abbrev pub ReadingGoesOn : Type 0
 ReadingGoesOn =
     (s : ReaderState) (limit : Op → ℕ) → s.phase ≡ Open → Reads s.source s.taken limit [] s
 
--- the limits that `next` goes by: one for all opcodes
+-- the limit that `next` uses: the same for all opcodes
 abbrev pub HoldsTo : ReaderState → (Op → ℕ) → Type 0
 HoldsTo state limit = (op : Op) → state.limits.counted ≡ limit op
 
--- the limits that `next_head` goes by: another one for passed opcodes
+-- the limits that `next_head` uses: passed opcodes have their own
 abbrev pub PassesTo : ReaderState → (Op → ℕ) → Type 0
 PassesTo state limit = (op : Op) → payload_limit state.limits op ≡ limit op
 
--- an instruction more was given
+-- one more instruction was given
 pub record ReadsMore (start : Sight) (from : ℕ) (limit : Op → ℕ) (before : List Instruction)
     (i : Instruction) (after : ReaderState) : Type 0 where
   pub no_stop : NoStop before
   pub reads : Reads start from limit (before ++ i ∷ []) after
 
--- where `next` gives an instruction, it was given behind the others
+-- an instruction that `next` gives follows those given before
 abbrev pub NextIsRead : Type 0
 NextIsRead =
     (start : Sight) (from : ℕ) (limit : Op → ℕ) (p : List Instruction) (old new : ReaderState)
@@ -67,7 +68,7 @@ NextIsRead =
     result ≡ Ok (next.Inst at inst) →
     ReadsMore start from limit p (instruction_of inst) new × Gives old at (instruction_of inst) new
 
--- the same of `next_head`
+-- as NextIsRead, for `next_head`
 abbrev pub HeadIsRead : Type 0
 HeadIsRead =
     (start : Sight) (from : ℕ) (limit : Op → ℕ) (p : List Instruction) (old new : ReaderState)
@@ -76,8 +77,8 @@ HeadIsRead =
     result ≡ Ok (head.Inst at inst) →
     ReadsMore start from limit p (instruction_of inst) new × Gives old at (instruction_of inst) new
 
--- where it passes over a payload, some instruction with a payload of that length was given, which
--- the bytes taken spell
+-- when it skips a payload, the bytes taken spell an instruction with some payload of that length,
+-- which follows those given before
 abbrev pub PassedIsRead : Type 0
 PassedIsRead =
     (start : Sight) (from : ℕ) (limit : Op → ℕ) (p : List Instruction) (old new : ReaderState)
@@ -90,7 +91,7 @@ PassedIsRead =
     × (new.taken ≡ old.taken + length (spelling (instruction op (Counted payload))))
     × Skips old at op count new
 
--- where a call says that the reader has ended, the instructions are a sequence, and nothing changed
+-- when a call reports the end, the instructions are a complete sequence, and nothing changed
 abbrev pub EndIsRead : Type 0
 EndIsRead =
     (start : Sight) (from : ℕ) (limit : Op → ℕ) (p : List Instruction) (old new : ReaderState)
@@ -98,7 +99,7 @@ EndIsRead =
     Reads start from limit p old → Steps old result new → result ≡ Ok next.Ended →
     IsSequence limit p × (new ≡ old)
 
--- the same of `next_head`
+-- as EndIsRead, for `next_head`
 abbrev pub EndOfHeads : Type 0
 EndOfHeads =
     (start : Sight) (from : ℕ) (limit : Op → ℕ) (p : List Instruction) (old new : ReaderState)
@@ -106,7 +107,7 @@ EndOfHeads =
     Reads start from limit p old → StepsHead old result new → result ≡ Ok head.Ended →
     IsSequence limit p × (new ≡ old)
 
--- where a call refuses, it refuses here for the first time, and STOP was not given
+-- a refusal is the first, and STOP was not given before it
 abbrev pub RefusalIsRead : Type 0
 RefusalIsRead =
     (start : Sight) (from : ℕ) (limit : Op → ℕ) (p : List Instruction) (old new : ReaderState)
@@ -114,7 +115,7 @@ RefusalIsRead =
     Reads start from limit p old → Steps old result new → result ≡ Err refusal →
     NoStop p × RefusesAt old refusal new
 
--- the same of `next_head`
+-- as RefusalIsRead, for `next_head`
 abbrev pub RefusalOfHeads : Type 0
 RefusalOfHeads =
     (start : Sight) (from : ℕ) (limit : Op → ℕ) (p : List Instruction) (old new : ReaderState)

@@ -1,4 +1,4 @@
--- Whole sequences of instructions, and the bytes that spell them.
+-- Complete sequences of instructions, and the bytes that spell them.
 use Rattle.std.specs.Prelude.{◌≡◌, ◌≢◌, ℕ, ◌+◌, ◌^◌, ◌%◌, List, [], ◌∷◌, ◌++◌, All, flat_map}
 use Rattle.pkops.specs.Spelling.{Instruction, spelling}
 use Rattle.pkops.specs.declared.Op.{Op}
@@ -7,7 +7,7 @@ use Rattle.pkread.specs.Admission.{IsAllowedBy}
 use Rattle.pkread.specs.declared.refusal.Reason.{Reason}
 use Rattle.pkread.specs.declared.refusal.Reason.TheVariants.{Source}
 
--- the spellings of the instructions, one after the other
+-- the spellings of the instructions, in order
 abbrev pub spellings : List Instruction → List ℕ
 spellings instructions = flat_map spelling instructions
 
@@ -15,19 +15,19 @@ spellings instructions = flat_map spelling instructions
 abbrev pub NoStop : List Instruction → Type 0
 NoStop instructions = All (λ i. i.op ≢ Stop) instructions
 
--- the last is STOP, and no other is
+-- STOP is the last instruction, and occurs nowhere else
 abbrev pub StopIsLast : List Instruction → Type 0
 StopIsLast instructions =
     (front : List Instruction) × (last : Instruction)
     × (instructions ≡ front ++ last ∷ []) × (last.op ≡ Stop) × NoStop front
 
--- each instruction is good, admitted and within the limit of its opcode, the last is STOP, and no
--- other is
+-- each instruction is good, admitted and within the limit of its opcode; STOP is the last, and
+-- occurs nowhere else
 pub record IsSequence (limit : Op → ℕ) (instructions : List Instruction) : Type 0 where
   pub each : All (IsAllowedBy limit) instructions
   pub stops : StopIsLast instructions
 
--- the count of failures goes up by one at Source, and stays at every other reason
+-- the count of failures rises by one for Source, and stays the same for every other reason
 abbrev pub CountsAt : Reason → ℕ → ℕ → Type 0
 CountsAt Source old new = new ≡ (old + 1) % (2 ^ 64)
 CountsAt _ old new = new ≡ old

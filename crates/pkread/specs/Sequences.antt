@@ -6,7 +6,7 @@ use Rattle.pkops.specs.declared.Op.{Op}
 use Rattle.pkread.specs.Admission.{IsAllowedBy}
 use Rattle.pkread.specs.Sequence.{IsSequence, NoStop, spellings}
 
--- bytes have one sequence at their front, whatever the limits on payloads
+-- bytes begin with at most one complete sequence, whatever the payload limits
 abbrev pub OneSequence : Type 0
 OneSequence =
     (limit other : Op → ℕ) (instructions others : List Instruction) (rest more : List ℕ) →
@@ -14,21 +14,21 @@ OneSequence =
     spellings instructions ++ rest ≡ spellings others ++ more →
     (instructions ≡ others) × (rest ≡ more)
 
--- bytes have one instruction at their front
+-- bytes begin with at most one instruction
 abbrev pub OneFront : Type 0
 OneFront =
     (i j : Instruction) (rest more : List ℕ) → IsGood i → IsGood j →
     spelling i ++ rest ≡ spelling j ++ more → (i ≡ j) × (rest ≡ more)
 
--- a sequence begins with these instructions, and one more is spelled behind them
+-- the sequence begins with these instructions and has one more, which is spelled next
 pub record GoesOnBehind (sequence front : List Instruction) (rest more : List ℕ) : Type 0 where
   pub next : Instruction
   pub after : List Instruction
   pub split : sequence ≡ front ++ next ∷ after
   pub bytes : more ≡ spelling next ++ (spellings after ++ rest)
 
--- where bytes have a sequence at their front, it begins with any instructions that they have there
--- and of which none is STOP
+-- if bytes begin with a complete sequence, any instructions without STOP that they begin with are
+-- its first ones
 abbrev pub SequenceGoesOn : Type 0
 SequenceGoesOn =
     (limit other : Op → ℕ) (sequence front : List Instruction) (rest more : List ℕ) →

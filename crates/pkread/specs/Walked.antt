@@ -1,4 +1,4 @@
--- What a loop over `genops` knows: the instructions that it was given so far.
+-- What a loop over `genops` knows: the instructions given so far.
 use Rattle.std.specs.Prelude.{◌≡◌, ℕ, List, [], ◌∷◌, ◌++◌, All, length, Option, Some, None, Result}
 use Rattle.std.specs.Prelude.{Ok, Err, MatchBool}
 use Rattle.pkops.specs.Inst.{instruction_of}
@@ -9,7 +9,8 @@ use Rattle.pkread.specs.Genops.{GivesItem, RefusesItem, Walk, Walks, walk_of}
 use Rattle.pkread.specs.Sequence.{IsSequence, NoStop, StopIsLast, spellings}
 use Rattle.pkread.specs.declared.refusal.Refusal.{Refusal}
 
--- from the front of the bytes on, a walk in this state has given these instructions, and no refusal
+-- an iterator in this state has given these instructions from the start of the bytes, and no
+-- refusal
 pub record HasWalked (bytes : List ℕ) (limit : ℕ) (instructions : List Instruction) (walk : Walk)
     : Type 0 where
   pub same_limit : walk.limit ≡ limit
@@ -18,11 +19,11 @@ pub record HasWalked (bytes : List ℕ) (limit : ℕ) (instructions : List Instr
   pub parts : bytes ≡ spellings instructions ++ walk.bytes
   pub offset : walk.at ≡ length (spellings instructions)
 
--- a new walk has given nothing
+-- a new iterator has given nothing
 abbrev pub WalkBegins : Type 0
 WalkBegins = (bytes : List ℕ) (limit : ℕ) → HasWalked bytes limit [] (walk_of bytes limit)
 
--- an instruction is given behind the others
+-- an instruction follows those given before
 abbrev pub ItemIsWalked : Type 0
 ItemIsWalked =
     (bytes : List ℕ) (limit : ℕ) (p : List Instruction) (old new : Walk)
@@ -31,7 +32,7 @@ ItemIsWalked =
     NoStop p × HasWalked bytes limit (p ++ instruction_of inst ∷ []) new
     × GivesItem old at (instruction_of inst) new
 
--- where nothing more is given, the instructions are a sequence
+-- when nothing more is given, the instructions are a complete sequence
 abbrev pub EndIsWalked : Type 0
 EndIsWalked =
     (bytes : List ℕ) (limit : ℕ) (p : List Instruction) (old new : Walk)
@@ -39,7 +40,7 @@ EndIsWalked =
     HasWalked bytes limit p old → Walks old item new → item ≡ None →
     IsSequence (λ _. limit) p × (new ≡ old)
 
--- a refusal is given, and STOP was not
+-- when a refusal is given, STOP was not
 abbrev pub RefusalIsWalked : Type 0
 RefusalIsWalked =
     (bytes : List ℕ) (limit : ℕ) (p : List Instruction) (old new : Walk)

@@ -1,4 +1,4 @@
-//! Why what was scanned is refused.
+//! Which instructions are refused, and for which reason.
 
 ghost use Rattle.std.specs.Prelude.{◌≡◌, IfErr, IfNone, IfOk, IfSome, MatchBool, false, true};
 ghost use Rattle.std.specs.Str.{IsUtf8};
@@ -14,7 +14,7 @@ ghost use Rattle.pkread.specs.Private.Judging.{fault_reason};
 use crate::refusal::Reason;
 use pkops::{Arg, Fault, Inst, Op, Width, argument_of};
 
-/// The reason of the same name as the fault.
+/// The reason with the same name as the fault.
 pub(crate) fn reason_of(fault: Fault) -> Reason
     ensures { result ≡ fault_reason fault }
 {
@@ -25,7 +25,7 @@ pub(crate) fn reason_of(fault: Fault) -> Reason
     }
 }
 
-/// Why an instruction is not admitted, if it is not.
+/// Why an instruction is not admitted, or `None` if it is.
 pub(crate) fn objection_to(inst: Inst<'_>) -> Option<Reason>
     ensures { result ≡ objection (instruction_of inst.entry) }
 {
@@ -38,8 +38,8 @@ pub(crate) fn objection_to(inst: Inst<'_>) -> Option<Reason>
     }
 }
 
-/// Judges an instruction of known layout: whether it is good and admitted. Its contents are looked
-/// at only where they aren't plain.
+/// Judges whether an instruction is good and admitted. Its contents are checked only if the opcode
+/// doesn't accept every argument.
 #[inline(always)]
 pub(crate) fn judged(op: Op, plain: bool, split: usize, bytes: &[u8]) -> Result<(), Reason>
     requires plain { plain ≡ true → TakesAnyArgument op }
@@ -53,7 +53,7 @@ pub(crate) fn judged(op: Op, plain: bool, split: usize, bytes: &[u8]) -> Result<
     look(op, split, bytes)
 }
 
-/// Judges an instruction whose contents have to be looked at.
+/// Judges an instruction by its contents.
 #[inline(always)]
 fn look(op: Op, split: usize, bytes: &[u8]) -> Result<(), Reason>
     requires { IsSpelled op split bytes.now }
@@ -66,7 +66,7 @@ fn look(op: Op, split: usize, bytes: &[u8]) -> Result<(), Reason>
     }
 }
 
-/// Whether an argument of the opcode's kind is a good one.
+/// Whether an argument is good for its opcode.
 #[inline(never)]
 pub(crate) fn is_good(op: Op, arg: Arg<'_>) -> bool
     requires { Suits (layout_at op) (shown_arg arg) }
@@ -90,7 +90,7 @@ pub(crate) fn is_utf8(payload: &[u8]) -> bool
     }
 }
 
-/// Why it is refused, if it is, whatever the opcode is.
+/// Why an instruction is refused, or `None` if it isn't. Handles every opcode.
 #[inline(never)]
 fn look_slowly(op: Op, split: usize, bytes: &[u8]) -> Option<Reason>
     requires { IsSpelled op split bytes.now }
@@ -104,7 +104,7 @@ fn look_slowly(op: Op, split: usize, bytes: &[u8]) -> Option<Reason>
     objection_to(Inst::known(op, arg))
 }
 
-/// Whether arguments of one byte need no look.
+/// Whether the opcode accepts every argument of one byte.
 #[inline(always)]
 pub(crate) fn byte_is_plain(op: Op) -> bool
     requires { layout_at op ≡ layout.U1 }
@@ -117,7 +117,7 @@ pub(crate) fn byte_is_plain(op: Op) -> bool
     }
 }
 
-/// Whether arguments of two bytes need no look.
+/// Whether the opcode accepts every argument of two bytes.
 #[inline(always)]
 pub(crate) fn two_is_plain(op: Op) -> bool
     requires { layout_at op ≡ layout.U2 }
@@ -129,7 +129,7 @@ pub(crate) fn two_is_plain(op: Op) -> bool
     }
 }
 
-/// Whether signed arguments need no look.
+/// Whether the opcode accepts every signed argument.
 #[inline(always)]
 pub(crate) fn signed_is_plain(op: Op) -> bool
     requires { layout_at op ≡ layout.I4 }
@@ -141,7 +141,7 @@ pub(crate) fn signed_is_plain(op: Op) -> bool
     }
 }
 
-/// Whether counted arguments are good whatever their payload is. Else it is a text.
+/// Whether the opcode accepts every payload. Otherwise its payload is text.
 #[inline(always)]
 pub(crate) fn counted_is_plain(op: Op, width: Width, signed: bool) -> bool
     requires { layout_at op ≡ layout.Counted width signed }

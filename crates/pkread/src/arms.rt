@@ -1,4 +1,4 @@
-//! Takes what stands behind a code.
+//! One arm for each layout of an argument.
 
 ghost use Rattle.std.specs.Prelude.{◌≡◌, ◌∷◌, ◌<◌, ◌≤◌, [], ℕ, length, true};
 ghost use Rattle.pkops.specs.Lying.{IsFixed, field_len};
@@ -26,7 +26,7 @@ pub(crate) struct Count {
 }
 
 impl Gathering {
-    /// Takes an argument of one byte, and looks at it where it isn't plain.
+    /// Takes an argument of one byte, and checks it unless the opcode accepts any.
     #[inline(always)]
     pub(crate) fn one_byte<R: Source>(
         &mut self,
@@ -47,7 +47,7 @@ impl Gathering {
         judged(op, plain, 0, self.bytes())
     }
 
-    /// Takes an argument of N bytes, and looks at them where they aren't plain.
+    /// Takes an argument of N bytes, and checks it unless the opcode accepts any.
     #[inline(always)]
     pub(crate) fn fixed<R: Source, const N: usize>(
         &mut self,
@@ -89,7 +89,7 @@ impl Gathering {
         }
     }
 
-    /// Takes the count behind the code, and gives it where it keeps the limit.
+    /// Takes the count behind the code, and returns it if it is within the limit.
     #[inline(always)]
     pub(crate) fn take_count<R: Source>(
         &mut self,
@@ -163,7 +163,7 @@ impl Gathering {
         Ok(())
     }
 
-    /// Takes a line.
+    /// Takes an argument of one line.
     #[inline(always)]
     pub(crate) fn one_line<R: Source>(
         &mut self,
@@ -205,7 +205,7 @@ impl Gathering {
         Ok(())
     }
 
-    /// Takes two lines, and gives the number of bytes of the first.
+    /// Takes an argument of two lines, and returns the length of the first.
     #[inline(always)]
     pub(crate) fn two_lines<R: Source>(
         &mut self,

@@ -1,4 +1,4 @@
-//! The bytes of the instruction begun, and the most that were ever held.
+//! The bytes of the current instruction, and the most that the buffer has ever held.
 
 ghost use Rattle.std.specs.Prelude.{◌≡◌, ◌+◌, ◌++◌, ◌∷◌, ◌<◌, ◌≤◌, ◌%◌, ◌^◌, [], ℕ, List};
 ghost use Rattle.std.specs.Prelude.{IfOk, IfErr, IfNone, IfSome, length, take};
@@ -12,13 +12,14 @@ use crate::source::{ReadFailed, Source};
 use std::alloc::{AllocError, Global};
 use std::marker::Model;
 
-/// Bytes that grow at the end, and know how many they have been at most: they are counted where
-/// some of them are forgotten. The store never shrinks, so that no read clears memory first.
+/// A byte buffer that appends at the end and records its high-water mark. `peak` is updated when
+/// bytes are dropped, not on every append. `store` never shrinks, so a read never has to zero
+/// memory first.
 #[derive(Debug, Drop)]
 pub(crate) struct Buffer {
     store: Vec<u8>,
     held: usize,
-    /// The most that were held where some were forgotten.
+    /// The most bytes held at any time when some were dropped.
     peak: usize,
 }
 
@@ -34,7 +35,7 @@ impl Model for Buffer {
 }
 
 impl Buffer {
-    /// No bytes, and none ever held.
+    /// An empty buffer.
     pub(crate) fn new(alloc: Global) -> Buffer
         ensures { result ≡ none_held }
     {
@@ -60,7 +61,7 @@ impl Buffer {
         &self.store[..self.held]
     }
 
-    /// The first of the bytes held, if there is one.
+    /// The first byte held, if any.
     #[inline]
     pub(crate) fn first(&self) -> Option<u8>
         ensures none { IfNone result (self.now.bytes ≡ []) }
@@ -73,7 +74,7 @@ impl Buffer {
         Some(self.store[0])
     }
 
-    /// Forgets the bytes, and keeps their memory.
+    /// Drops all bytes and keeps their memory.
     #[inline]
     pub(crate) fn clear(&mut self)
         ensures bytes { self.new.bytes ≡ [] }
@@ -83,7 +84,7 @@ impl Buffer {
         self.held = 0;
     }
 
-    /// Forgets all but the first of the bytes.
+    /// Keeps the first `count` bytes and drops the rest.
     pub(crate) fn cut(&mut self, count: usize)
         requires { count ≤ length self.old.bytes }
         ensures bytes { self.new.bytes ≡ take count self.old.bytes }
@@ -93,7 +94,8 @@ impl Buffer {
         self.held = count;
     }
 
-    /// Counts the bytes held, before some are forgotten. It seldom writes, and does that apart.
+    /// Updates the peak before bytes are dropped. The peak rarely rises, so the write is out of
+    /// line.
     #[inline(always)]
     fn count(&mut self)
         ensures bytes { self.new.bytes ≡ self.old.bytes }
@@ -113,8 +115,8 @@ impl Buffer {
         self.peak = self.held;
     }
 
-    /// One read of a byte, which stands behind the others then. It goes through an array of one:
-    /// a copy of a known length to a known place is a move.
+    /// Reads one byte and appends it. The byte passes through an array of one, because the compiler
+    /// turns a copy of known length to a known place into a move.
     #[inline]
     pub(crate) fn read_byte<R: Source>(&mut self, source: &mut R) -> Result<u8, Reason>
         ensures peak { self.new.peak ≡ self.old.peak }
@@ -137,8 +139,8 @@ impl Buffer {
         Ok(one[0])
     }
 
-    /// One read of at most N bytes, which stand behind the others then. It goes through an array of
-    /// so many, as that of a byte does.
+    /// Makes one read of at most N bytes and appends them. They pass through a local array, as in
+    /// `read_byte`.
     #[inline(always)]
     pub(crate) fn read_field<R: Source, const N: usize>(
         &mut self,
@@ -166,7 +168,7 @@ impl Buffer {
         Ok(count)
     }
 
-    /// One read of at most so many bytes, which stand behind the others then.
+    /// Makes one read of at most `wanted` bytes and appends them.
     #[inline]
     pub(crate) fn read<R: Source>(&mut self, source: &mut R, wanted: usize) -> Result<usize, Reason>
         requires some { 0 < wanted }
@@ -190,7 +192,7 @@ impl Buffer {
     }
 }
 
-/// Puts a byte at a place of a store.
+/// Writes a byte to the store at `at`.
 #[inline]
 fn put(store: &mut Vec<u8>, at: usize, byte: u8)
     requires { at < length store.old.items }
@@ -201,7 +203,7 @@ fn put(store: &mut Vec<u8>, at: usize, byte: u8)
     store[at] = byte;
 }
 
-/// Puts bytes at a place of a store.
+/// Writes the bytes of a field to the store at `at`.
 #[inline(always)]
 fn put_field<const N: usize>(store: &mut Vec<u8>, at: usize, field: &[u8; N])
     requires { at + N ≤ length store.old.items }
@@ -212,7 +214,7 @@ fn put_field<const N: usize>(store: &mut Vec<u8>, at: usize, field: &[u8; N])
     store[at..at + N].copy_from_slice(field);
 }
 
-/// Makes a store long enough.
+/// Makes room for `wanted` bytes behind the first `from`.
 #[inline]
 fn make_room(store: &mut Vec<u8>, from: usize, wanted: usize) -> Result<(), AllocError>
     requires within { from ≤ length store.old.items }
@@ -238,7 +240,7 @@ fn make_room_slowly(store: &mut Vec<u8>, from: usize, wanted: usize) -> Result<(
     store.resize(from + wanted.max(64), 0)
 }
 
-/// One read of at most so many bytes into a store.
+/// Makes one read of at most `wanted` bytes into the store at `from`.
 #[inline]
 fn pull_into<R: Source>(
     source: &mut R,

@@ -1,4 +1,4 @@
-//! The frame rules, by the number of bytes left in the open frame.
+//! The frame rules of PEP 3154, decided from the number of bytes left in the open frame.
 
 ghost use Rattle.std.specs.Prelude.{◌≡◌, ◌<◌, ℕ};
 ghost use Rattle.pkops.specs.Inst.{instruction_of};
@@ -8,13 +8,13 @@ ghost use Rattle.pkread.specs.Pieces.{number_of, role_of};
 use pkops::{Arg, Inst, Op};
 use std::marker::Model;
 
-/// An instruction breaks the frame rules: it is a FRAME inside a frame, it crosses the end of a
+/// The instruction breaks the frame rules: it is a FRAME inside a frame, it crosses the end of a
 /// frame, or it is a STOP before the end of its frame.
 #[derive(Clone, Copy, Debug, Drop, PartialEq, Eq)]
 pub struct BrokenFrame;
 
 /// Follows the frames of a pickle (PEP 3154), one instruction at a time. Contracts see the number
-/// of bytes left in the open frame, 0 outside any frame.
+/// of bytes left in the open frame, and 0 outside any frame.
 #[derive(Debug, Drop)]
 pub struct Frames {
     open: u64,
@@ -36,9 +36,9 @@ impl Frames {
         Frames { open: 0 }
     }
 
-    /// Takes the next instruction: its opcode, its length in bytes, and the argument of a FRAME, as
-    /// `frame_argument` gives it (`arg` is ignored for any other opcode). An instruction that
-    /// breaks the frame rules is refused and changes nothing.
+    /// Takes the next instruction: its opcode, its length in bytes, and its frame argument, as
+    /// `frame_argument` returns it (ignored unless the opcode is FRAME). An instruction that breaks
+    /// the frame rules is refused and changes nothing.
     #[inline(always)]
     pub fn take(&mut self, op: Op, length: u64, arg: u64) -> Result<(), BrokenFrame>
         requires { 0 < length }
@@ -70,8 +70,8 @@ impl Frames {
     }
 }
 
-/// The last argument of `Frames::take` for an instruction: the unsigned number in its argument, or
-/// 0 if there is none.
+/// The last argument of `Frames::take`: the number in the instruction's argument if that is
+/// unsigned, otherwise 0.
 #[inline]
 pub fn frame_argument(inst: &Inst<'_>) -> u64
     ensures { result ≡ number_of (instruction_of inst.now).arg }

@@ -17,7 +17,7 @@ use crate::source::Source;
 use pkops::laws::{growth, one_answer};
 use pkops::{Layout, Op, layout_of_op, op_of_byte};
 
-/// What was gathered: an opcode, and the number of bytes of the first of two lines.
+/// What was gathered: an opcode and, for an argument of two lines, the length of the first.
 #[derive(Clone, Copy, Debug)]
 pub(crate) struct Found {
     pub(crate) op: Op,
@@ -25,9 +25,9 @@ pub(crate) struct Found {
 }
 
 impl Gathering {
-    /// Takes the argument behind a code, judges the instruction, and gives the number of bytes of
-    /// the first of two lines. Each layout has an arm that judges what it takes, so that nothing is
-    /// left of it where any argument is good.
+    /// Takes the argument behind a code and judges the instruction. Returns the length of the first
+    /// of two lines, or 0. Each layout has its own arm, so an opcode that accepts any argument pays
+    /// for no check.
     #[inline(always)]
     fn behind_code<R: Source>(
         &mut self,
@@ -66,7 +66,7 @@ impl Gathering {
         Ok(0)
     }
 
-    /// Takes the first byte of an instruction, which the buffer holds where it was taken ahead.
+    /// Takes the code of an instruction. The buffer already holds it if it was read ahead.
     #[inline]
     fn take_code<R: Source>(&mut self, source: &mut R) -> Result<u8, Reason>
         requires { AtMostOneAhead self.old.buffer.bytes self.old.taken }
@@ -82,7 +82,7 @@ impl Gathering {
         Ok(byte)
     }
 
-    /// Takes a code, and gives its opcode.
+    /// Takes a code and returns its opcode.
     #[inline]
     pub(crate) fn take_op<R: Source>(&mut self, source: &mut R) -> Result<Op, Reason>
         requires { AtMostOneAhead self.old.buffer.bytes self.old.taken }
@@ -101,7 +101,7 @@ impl Gathering {
         Ok(op)
     }
 
-    /// Takes what stands behind a code, and gives the opcode with it.
+    /// Reads the argument of an opcode and returns both.
     #[inline(always)]
     pub(crate) fn gather_behind<R: Source>(
         &mut self,
@@ -121,7 +121,7 @@ impl Gathering {
         Ok(Found { op, split })
     }
 
-    /// Takes an instruction, and says no more of it than its parts do.
+    /// Takes an instruction, with a contract that only joins those of its parts.
     #[inline]
     fn gather_parts<R: Source>(&mut self, source: &mut R) -> Result<Found, Reason>
         requires { AtMostOneAhead self.old.buffer.bytes self.old.taken }
@@ -134,8 +134,8 @@ impl Gathering {
         self.gather_behind(source, op, layout_of_op(op))
     }
 
-    /// Takes bytes until they spell an instruction: its code alone, where the buffer does not hold
-    /// it yet, then what its layout needs.
+    /// Takes bytes until they spell an instruction: first the code, unless the buffer already holds
+    /// it, then what its layout needs.
     #[inline]
     pub(crate) fn gather<R: Source>(&mut self, source: &mut R) -> Result<Found, Reason>
         requires { AtMostOneAhead self.old.buffer.bytes self.old.taken }

@@ -1,4 +1,4 @@
-//! Takes the bytes of one instruction from a source, and holds no byte payload.
+//! Takes the bytes of one instruction from a source without holding byte payloads.
 
 ghost use Rattle.std.specs.Prelude.{◌≡◌, ◌∷◌, ◌≤◌, [], false, length, max, true};
 ghost use Rattle.pkops.specs.Payloads.{is_passed};
@@ -19,15 +19,14 @@ use crate::source::Source;
 use pkops::laws::{growth, one_answer, one_code};
 use pkops::{Layout, Op, Width, layout_of_op};
 
-/// What was gathered: all of an instruction, or the length of a payload that is gone.
+/// What was gathered: a whole instruction, or the length of a payload that was skipped.
 #[derive(Clone, Copy, Debug)]
 pub(crate) enum Gathered {
     Skipped { op: Op, count: u64 },
     Held(Found),
 }
 
-/// How many bytes the count of an opcode has whose payload is skipped. None of these counts has a
-/// sign.
+/// The width of the count of an opcode whose payload is skipped. All of these counts are unsigned.
 #[inline]
 fn count_width(op: Op) -> Width
     requires { is_passed op ≡ true }
@@ -40,8 +39,8 @@ fn count_width(op: Op) -> Width
     }
 }
 
-/// Whether the payload of the opcode, of this layout, is skipped. The opcode is asked for only
-/// where the argument is counted: most layouts are told apart once, and know it.
+/// Whether the payload of an opcode is skipped. Only counted layouts have to look at the opcode;
+/// for all others the layout, which the caller has already matched, decides.
 #[inline(always)]
 fn is_skipped(op: Op, layout: Layout) -> bool
     requires { layout ≡ layout_at op }
@@ -54,7 +53,7 @@ fn is_skipped(op: Op, layout: Layout) -> bool
 }
 
 impl Gathering {
-    /// Takes so many bytes, and forgets them, where it seldom comes to it.
+    /// Skips the rest of a payload. Rarely needed, so the loop is out of line.
     #[inline(always)]
     fn skip_rest<R: Source>(&mut self, source: &mut R, count: usize) -> Result<(), Reason>
         requires { length self.old.buffer.bytes ≤ 9 }
@@ -88,7 +87,7 @@ impl Gathering {
         }
     }
 
-    /// Takes a payload of so many bytes, which most often come in one read, and forgets them.
+    /// Skips a payload of `count` bytes, which usually arrives in one read.
     #[inline(always)]
     fn skip_payload<R: Source>(&mut self, source: &mut R, count: usize) -> Result<(), Reason>
         requires { length self.old.buffer.bytes ≤ 9 }
@@ -110,8 +109,7 @@ impl Gathering {
         self.skip_rest(source, count - n)
     }
 
-    /// Takes the argument behind the code of an opcode whose payload is skipped, and gives the
-    /// length of that.
+    /// Takes the count of a skipped payload, skips the payload, and returns its length.
     #[inline(always)]
     fn skip_argument<R: Source>(&mut self, source: &mut R, op: Op) -> Result<u64, Reason>
         requires code { self.old.buffer.bytes ≡ code_of op ∷ [] }

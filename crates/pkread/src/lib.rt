@@ -6,9 +6,9 @@
 //! [`Frames`] enforces the frame rules. Refusals are a [`Refusal`]: an offset and a [`Reason`].
 #![tactic(auto)]
 
-// What is seldom run is out of line: `X` is inlined, and calls `X_slowly` where it comes to that.
-// `X` takes the answer of `X_slowly` apart and makes it anew, since else the answers of all such
-// calls are one place in memory, which each instruction clears.
+// Rare paths are kept out of line: `X` is inlined, and calls `X_slowly` when it has to. It unpacks
+// the result with `?` and wraps it again, because otherwise all such results share one stack slot,
+// which the compiler zeroes on every instruction.
 
 mod admission;
 mod arms;

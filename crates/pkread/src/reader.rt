@@ -13,17 +13,17 @@ use crate::state::{Core, Phase};
 use pkops::{Inst, Limits, Op};
 use std::alloc::Global;
 
-/// What a reader gives.
+/// What `Reader::next` returns.
 #[derive(Clone, Copy, Debug)]
 pub enum Next<'a> {
-    /// An instruction, and the offset of its first byte, counted from the first byte taken. Its
-    /// argument is borrowed from the reader's buffer.
+    /// An instruction and the offset of its first byte, counted from the first byte taken. Its
+    /// argument borrows from the reader's buffer.
     Inst { at: u64, inst: Inst<'a> },
-    /// STOP was given before.
+    /// STOP was already given.
     Ended,
 }
 
-/// What a reader gives that does not hold byte payloads.
+/// What `Reader::next_head` returns.
 #[derive(Clone, Copy, Debug)]
 pub enum Head<'a> {
     /// An instruction, as in `Next`. Its opcode is not a passed one.
@@ -31,11 +31,11 @@ pub enum Head<'a> {
     /// An instruction with a passed opcode, and the offset of its first byte. Its payload of
     /// `count` bytes was taken and discarded.
     Passed { at: u64, op: Op, count: u64 },
-    /// STOP was given before.
+    /// STOP was already given.
     Ended,
 }
 
-/// Gives the instructions of a source, and takes no byte after STOP. A read requests only bytes
+/// Reads the instructions of a source, and takes no byte after STOP. A read requests only bytes
 /// that the current instruction is known to need, and at most 4,096 of them, so buffer a source
 /// whose reads are expensive.
 ///
@@ -83,7 +83,7 @@ impl<'r, R: Source> Reader<'r, R> {
     ghost use Rattle.pkread.specs.Reading.{KeepsSource, LeavesSource, Shows, Steps, TakesNoneAhead};
     ghost use Rattle.pkread.specs.Reading.{begun, has_ended, state};
 
-    /// A reader of the source that has taken nothing yet.
+    /// A reader at the front of the source.
     pub fn new(alloc: Global, source: &'r mut R, limits: &Limits) -> Reader<'r, R>
         ensures source { source_name result ≡ source.entry.ghost_name }
         ensures state { state R.left R.failures result
@@ -146,9 +146,9 @@ impl<'r, R: Source> Reader<'r, R> {
     }
 
     /// Takes the next instruction as `next` does, but does not hold the payload of a passed opcode:
-    /// it takes the payload in blocks, and reports only its length. The limit on such a payload is
+    /// it takes the payload in blocks and reports only its length. The limit on such a payload is
     /// `passed` instead of `counted`. Otherwise refusals, their offsets and the bytes taken are
-    /// those of `next`, except when an allocation is refused. Calls of both may be mixed.
+    /// those of `next`, except when an allocation is refused. Calls of the two may be mixed.
     ///
     /// One call raises `most_held` to at most 131,075, or to the count plus 9 of an instruction
     /// whose payload is held.
@@ -181,8 +181,8 @@ impl<'r, R: Source> Reader<'r, R> {
     ///
     /// # Errors
     ///
-    /// `Source`, `OutOfMemory`, or `TooLarge` without reading once 2^64 - 1 bytes were taken. From
-    /// then on `next` and `next_head` return the same refusal.
+    /// `Source`, `OutOfMemory`, or `TooLarge` without reading once 2^64 - 1 bytes were taken. After
+    /// an error, `next` and `next_head` return the same refusal.
     pub fn again(&mut self) -> Result<bool, Refusal>
         requires { has_ended (state R.left R.failures self.old) ≡ true }
         ensures source { KeepsSource self.old self.new }

@@ -1,4 +1,4 @@
-//! What a reader keeps beside its source: the bytes of an instruction, and how it goes on.
+//! The state of a reader apart from its source: the bytes of an instruction, and what comes next.
 
 ghost use Rattle.std.specs.Prelude.{◌≡◌, ◌≢◌, ◌<◌, ◌≤◌, [], IfErr, IfOk, false, length, true};
 ghost use Rattle.pkops.specs.Inst.{instruction_of};
@@ -25,24 +25,24 @@ use pkops::{Inst, Limits, Op};
 use std::alloc::Global;
 use std::marker::Model;
 
-/// How a reader goes on.
+/// What the next call does.
 #[derive(Clone, Copy, Debug, Drop)]
 pub(crate) enum Phase {
-    /// With the next instruction.
+    /// Reads the next instruction.
     Open,
-    /// STOP was given.
+    /// Reports the end: STOP was given.
     Ended,
-    /// With the same refusal, for ever.
+    /// Returns the same refusal, on this call and every later one.
     Refused(Refusal),
 }
 
-/// What a reader keeps beside its source. It stands apart so that a reader can be let go with
-/// the source still known.
+/// The state of a reader apart from its source. It is a struct of its own so that dropping a reader
+/// leaves the final state of its source known.
 #[derive(Debug, Drop)]
 pub struct Core {
     gathering: Gathering,
     phase: Phase,
-    /// Whether the bytes held were taken ahead of the next instruction.
+    /// Whether the buffer holds a byte that was read ahead of the next instruction.
     begun: bool,
 }
 
@@ -111,7 +111,7 @@ impl Core {
         self.gathering.most()
     }
 
-    /// Goes on behind an instruction of the opcode.
+    /// Sets the phase after an instruction with this opcode.
     #[inline]
     fn give(&mut self, op: Op)
         requires open { self.old.phase ≡ phase.Open }
@@ -125,7 +125,7 @@ impl Core {
         }
     }
 
-    /// Goes on behind what was gathered.
+    /// Sets the phase after what was gathered.
     #[inline(always)]
     fn give_head(&mut self, head: Gathered)
         requires open { self.old.phase ≡ phase.Open }
@@ -139,7 +139,7 @@ impl Core {
         }
     }
 
-    /// Refuses, now and for ever.
+    /// Refuses this call and every later one.
     #[inline(always)]
     fn refuse(&mut self, at: u64, reason: Reason) -> Refusal
         requires { self.old.ahead ≡ [] }
@@ -151,8 +151,8 @@ impl Core {
         refusal
     }
 
-    /// The instruction that was gathered, without a second look at its contents: its argument lies
-    /// in the buffer, and none is made of it.
+    /// The gathered instruction. Its contents were judged when they were taken, so this neither
+    /// checks them again nor decodes the argument, which stays in the buffer.
     #[inline(always)]
     pub(crate) fn instruction(&self, found: Found) -> Inst<'_>
         requires { IsFound self.now.limits.counted self.now.held.bytes found.op found.split }
@@ -184,7 +184,7 @@ impl Core {
         }
     }
 
-    /// Takes the bytes of the next instruction, and holds no byte payload.
+    /// Takes the bytes of the next instruction without holding byte payloads.
     #[inline(always)]
     pub(crate) fn collect_head<R: Source>(&mut self, source: &mut R) -> Result<Gathered, Refusal>
         requires { self.old.phase ≡ phase.Open }
@@ -206,7 +206,7 @@ impl Core {
         }
     }
 
-    /// Asks for the first byte of a further instruction. Gives whether there is one.
+    /// Reads the first byte of another instruction, and returns whether there was one.
     pub(crate) fn again<R: Source>(&mut self, source: &mut R) -> Result<bool, Refusal>
         requires { self.old.phase ≡ phase.Ended }
         ensures none { self.old.ahead ≡ [] }
@@ -238,8 +238,8 @@ impl Core {
     }
 }
 
-/// Holds what was taken ahead of the next instruction, where that is begun. Nothing is ahead of the
-/// one behind it.
+/// Keeps a byte that was read ahead of this instruction, and clears the buffer otherwise. Nothing
+/// is read ahead of the instruction after it.
 #[inline(always)]
 fn keep(gathering: &mut Gathering, begun: &mut bool)
     requires { length (ahead_of begun.old gathering.old.buffer.bytes) ≤ gathering.old.buffer.peak }
@@ -258,7 +258,7 @@ fn keep(gathering: &mut Gathering, begun: &mut bool)
     }
 }
 
-/// How a reader goes on behind STOP: with the next instruction, if there is a byte of one.
+/// The phase behind STOP: open if another byte follows.
 fn phase_of(more: bool) -> Phase
     ensures open { more ≡ true → shown_phase result ≡ phase.Open }
     ensures ended { more ≡ false → shown_phase result ≡ phase.Ended }
@@ -266,7 +266,7 @@ fn phase_of(more: bool) -> Phase
     if more { Phase::Open } else { Phase::Ended }
 }
 
-/// Asks for one byte, which is held then. Gives whether it came.
+/// Reads one byte ahead, and returns whether it came.
 fn ask<R: Source>(source: &mut R, gathering: &mut Gathering) -> Result<bool, Reason>
     requires { gathering.old.buffer.bytes ≡ [] }
     ensures keeps { KeepsRest gathering.old gathering.new }
@@ -289,7 +289,7 @@ fn ask<R: Source>(source: &mut R, gathering: &mut Gathering) -> Result<bool, Rea
     }
 }
 
-/// That no byte came, where the source had come to its end.
+/// Turns `Truncated` into "no byte came", and passes on any other reason.
 fn none_or(reason: Reason) -> Result<bool, Reason>
     ensures end { IfOk result (λ more. (more ≡ false) × (reason ≡ Reason.Truncated)) }
     ensures err { IfErr result (λ r. (r ≡ reason) × (reason ≢ Reason.Truncated)) }

@@ -1,4 +1,4 @@
-//! A walk over the instructions of a slice.
+//! An iterator over the instructions of a slice.
 
 ghost use Rattle.std.specs.Prelude.{◌≡◌, IfOk, IfErr, length};
 ghost use Rattle.pkops.specs.Answer.{IsWhole};
@@ -38,7 +38,7 @@ impl<'a> Model for Genops<'a> {
 }
 
 impl<'a> Genops<'a> {
-    /// Before the first instruction of the bytes.
+    /// An iterator at the first instruction.
     pub(crate) fn new(bytes: &'a [u8], limits: &Limits) -> Genops<'a>
         ensures { result ≡ walk_of bytes.now limits.now.counted }
     {
@@ -89,7 +89,7 @@ fn is_stop(op: Op) -> bool
     matches!(op, Op::Stop)
 }
 
-/// The instruction at the front of the bytes, and its length in bytes.
+/// The admitted instruction at the front of the bytes, and its length.
 fn admitted_at_front<'a>(bytes: &'a [u8], limits: &Limits) -> Result<(Inst<'a>, usize), Reason>
     ensures ok { IfOk result (λ given.
         IsWhole limits.now.counted bytes.now (instruction_of given.0) given.1

@@ -1,4 +1,4 @@
--- What a reader does that is open, its source aside.
+-- What an open reader does, apart from its source.
 use Rattle.std.specs.Io.KnownBytes.{IsAtEnd}
 use Rattle.std.specs.Prelude.{◌≡◌, ◌≤◌, ℕ, List, [], ◌∷◌, Option, length, max, ⊤, Result}
 use Rattle.std.specs.Prelude.{MatchResult}
@@ -23,7 +23,7 @@ module _ {R : Type 0} (left : R → Option (List ℕ)) (failures : R → ℕ) wh
     taken = core.taken;
   }
 
-  -- behind it
+  -- after it
   abbrev pub behind_next : R → CoreView → Intake
   behind_next source core = record {
     bytes = core.held.bytes;
@@ -31,14 +31,14 @@ module _ {R : Type 0} (left : R → Option (List ℕ)) (failures : R → ℕ) wh
     taken = core.taken;
   }
 
--- whatever comes of it, nothing is taken ahead of the instruction behind
+-- whatever the result, nothing is read ahead of the following instruction
 pub record Advances (old new : CoreView) : Type 0 where
   pub limits : new.limits ≡ old.limits
   pub ahead : new.ahead ≡ []
   pub within : new.taken ≤ all_bytes
   pub least : most_held old.held ≤ most_held new.held
 
--- a refusal is told at the place of the instruction, and stays
+-- a refusal carries the offset of its instruction and is permanent
 pub record Ends (old new : CoreView) (r : Refusal) : Type 0 where
   pub place : r.at ≡ old.taken
   pub phase : new.phase ≡ Refused r
@@ -49,7 +49,7 @@ pub record Collected (old new : CoreView) (before after : Intake) (f : Found) : 
   pub gathers : Gathers old.limits.counted before after
   pub phase : new.phase ≡ phase_after f.op
 
--- an open reader gathers the next instruction, or refuses it
+-- an open reader gathers the next instruction or refuses it
 abbrev pub Collects
     : Result Found Refusal → CoreView → CoreView → Intake → Intake → Type 0
 Collects result old new before after =
@@ -59,17 +59,17 @@ Collects result old new before after =
     (λ r. Ends old new r × Refuses old.limits.counted
     before.source after.source after.bytes before.taken after.taken r.reason)
 
--- how a reader goes on behind what it gathered
+-- the phase after what was gathered
 abbrev pub phase_behind : Gathered → Phase
 phase_behind (gathered.Held f) = phase_after f.op
 phase_behind (gathered.Skipped op count) = Open
 
--- what holds where all of an instruction is held
+-- A holds if the whole instruction is held
 abbrev pub IfHeld : Gathered → Type 0 → Type 0
 IfHeld (gathered.Held f) A = A
 IfHeld (gathered.Skipped op count) A = ⊤
 
--- an open reader gathers the next instruction, but holds no payload of bytes, or refuses it
+-- an open reader gathers the next instruction without holding a byte payload, or refuses it
 abbrev pub CollectsHead
     : Result Gathered Refusal → CoreView → CoreView → Intake → Intake → Type 0
 CollectsHead result old new before after =
@@ -79,21 +79,21 @@ CollectsHead result old new before after =
     (λ r. Ends old new r
     × RefusedHead old.limits before after (most_held old.held) (most_held new.held) r.reason)
 
--- a byte came, and it is held
+-- a byte came, and the buffer holds it
 abbrev pub ByteCame : Sight → Sight → List ℕ → Type 0
 ByteCame old new held = (byte : ℕ) × (held ≡ byte ∷ []) × Takes old new (byte ∷ [])
 
--- the source had come to its end
+-- no byte came: the source is at its end
 abbrev pub NoneCame : Sight → Sight → List ℕ → Type 0
 NoneCame old new held = (held ≡ []) × Takes old new [] × IsAtEnd new.left
 
--- a byte taken ahead counts with the instruction that it begins
+-- a byte read ahead is counted with the instruction that it begins
 abbrev pub Waits : CoreView → CoreView → Type 0
 Waits old new =
     (most_held new.held ≡ most_held old.held)
     × (new.taken ≡ old.taken)
     × (new.limits ≡ old.limits)
 
--- no byte is taken ahead, and the refusal stays
+-- no byte is read ahead, and the refusal is permanent
 abbrev pub EndsHere : CoreView → CoreView → Refusal → Type 0
 EndsHere old new r = (r.at ≡ old.taken) × (new.ahead ≡ []) × (new.phase ≡ Refused r)

@@ -1,4 +1,4 @@
--- The bytes of one instruction, as its arms take them.
+-- The bytes of one instruction, as the arms take them.
 use Rattle.std.specs.Prelude.{◌≡◌, ◌≢◌, ◌⊎◌, ℕ, ◌+◌, ◌<◌, ◌≤◌, Bool, List, [], ◌∷◌, ◌++◌, length}
 use Rattle.std.specs.Prelude.{None, Result, MatchResult}
 use Rattle.std.specs.List.{AllByRecursion}
@@ -19,14 +19,14 @@ use Rattle.pkread.specs.declared.refusal.Reason.{Reason}
 use Rattle.pkread.specs.declared.refusal.Reason.TheVariants.{Source, Truncated, TooLarge}
 use Rattle.pkread.specs.declared.refusal.Reason.TheVariants.{OutOfMemory}
 
--- all bytes of an instruction were taken, and each shorter front only begins one
+-- the bytes of an instruction were taken, and no shorter prefix is a whole one
 pub record Gathers (limit : ℕ) (old new : Intake) : Type 0 where
   pub taken : new.taken ≡ old.taken + length new.bytes
   pub fronts : FrontsBegin limit new.bytes
   pub source : Takes old.source new.source new.bytes
 
--- the row of a reason, where only the run was taken between the sights, behind other bytes of the
--- instruction
+-- what a reason means where `bytes` are those of the instruction so far, and only `run`, at their
+-- end, was taken between the two views of the source
 abbrev pub RowBehind : ℕ → Sight → Sight → List ℕ → List ℕ → ℕ → Reason → Type 0
 RowBehind limit before after run bytes taken Source = Fails before after run × Begun limit bytes
 RowBehind limit before after run bytes taken Truncated =
@@ -39,14 +39,14 @@ RowBehind limit before after run bytes taken OutOfMemory =
 RowBehind limit before after run bytes taken reason =
     Takes before after run × IsAmiss limit bytes reason
 
--- bytes were taken behind the old ones, and now they are the opcode with an argument
+-- bytes were appended, and the result spells the opcode with an argument
 pub record Grows (limit : ℕ) (op : Op) (split : ℕ) (old new : Intake) : Type 0 where
   pub bytes : List ℕ
   pub took : Took bytes old new
   pub arg : Argument
   pub lies : Lies limit op arg split new.bytes
 
--- bytes were taken behind the old ones, and no more, for the reason
+-- bytes were appended up to the one that shows the reason
 pub record Stops (limit : ℕ) (old new : Intake) (reason : Reason) : Type 0 where
   pub bytes : List ℕ
   pub held : new.bytes ≡ old.bytes ++ bytes
@@ -54,7 +54,7 @@ pub record Stops (limit : ℕ) (old new : Intake) (reason : Reason) : Type 0 whe
   pub fronts : FrontsBegin limit new.bytes
   pub row : RowBehind limit old.source new.source bytes new.bytes new.taken reason
 
--- a count was taken, and it keeps the limit
+-- a count was taken, and it is within the limit
 pub record Counts (c : Count) (n : ℕ) (old new : Intake) : Type 0 where
   pub field : List ℕ
   pub took : Took field old new
@@ -63,13 +63,13 @@ pub record Counts (c : Count) (n : ℕ) (old new : Intake) : Type 0 where
   pub under : n < count_limit c.width c.signed
   pub within : n ≤ c.limit
 
--- a line was taken, of at most so many bytes
+-- a line of at most `most` bytes was taken
 pub record TookLine (most : ℕ) (old new : Intake) : Type 0 where
   pub text : List ℕ
   pub took : Took (text ++ line_feed ∷ []) old new
   pub line : IsLine most text
 
--- why no line was: one byte more could not be taken, or none may follow
+-- why no line was taken: the next byte could not be read, or the line is at its longest
 abbrev pub LineRow : ℕ → Sight → Sight → List ℕ → ℕ → Reason → Type 0
 LineRow most before after bytes u TooLarge =
     Takes before after bytes
@@ -77,7 +77,7 @@ LineRow most before after bytes u TooLarge =
 LineRow most before after bytes u reason =
     (length bytes ≤ most) × LackRow before after bytes u reason
 
--- bytes with no line end among them were taken, and no line
+-- bytes without a line end were taken, and no line
 pub record LacksLine (most : ℕ) (old new : Intake) (reason : Reason) : Type 0 where
   pub bytes : List ℕ
   pub fit : AreAllBytes bytes
@@ -86,52 +86,52 @@ pub record LacksLine (most : ℕ) (old new : Intake) (reason : Reason) : Type 0 
   pub endless : AllByRecursion (λ byte. byte ≢ line_feed) bytes
   pub row : LineRow most old.source new.source bytes new.taken reason
 
--- the bytes are the opcode with a good argument, and admitted; its first line ends there
+-- the bytes spell the opcode with an argument that is good and admitted; `split` is where its first
+-- line ends
 pub record IsFound (limit : ℕ) (bytes : List ℕ) (op : Op) (split : ℕ) : Type 0 where
   pub arg : Argument
   pub lies : Lies limit op arg split bytes
   pub good : IsGood (instruction op arg)
   pub admitted : objection (instruction op arg) ≡ None
 
--- bytes were taken behind the old ones, and now they are the opcode with a good argument, and
--- admitted
+-- bytes were appended, and the result spells the opcode with an argument that is good and admitted
 pub record Finds (limit : ℕ) (op : Op) (split : ℕ) (old new : Intake) : Type 0 where
   pub bytes : List ℕ
   pub took : Took bytes old new
   pub found : IsFound limit new.bytes op split
 
--- a line is taken, or none
+-- takes a line, or says why not
 abbrev pub TakesLine : {A : Type 0} → ℕ → Result A Reason → Intake → Intake → Type 0
 TakesLine most result old new =
     MatchResult result (λ _. TookLine most old new) (LacksLine most old new)
 
--- a count is taken, or why none is
+-- takes a count, or says why not
 abbrev pub TakesCount : Count → Result ℕ Reason → Intake → Intake → Type 0
 TakesCount c result old new = MatchResult result (λ n. Counts c n old new) (Stops c.limit old new)
 
--- the argument behind the opcode is taken and judged, or why none is
+-- takes and judges the argument of an opcode, or says why not
 abbrev pub TakesArgument : {A : Type 0} → ℕ → Op → Result A Reason → Intake → Intake → Type 0
 TakesArgument limit op result old new =
     MatchResult result (λ _. Finds limit op 0 old new) (Stops limit old new)
 
--- an argument is, of which the first line ends at the place given
+-- as TakesArgument, and returns where the first line ends
 abbrev pub TakesSplit : ℕ → Op → Result ℕ Reason → Intake → Intake → Type 0
 TakesSplit limit op result old new =
     MatchResult result (λ split. Finds limit op split old new) (Stops limit old new)
 
--- a code is taken, or why none is, under any limit
+-- takes a code, or says why not, under any limit
 abbrev pub TakesOp : Result Op Reason → Intake → Intake → Type 0
 TakesOp result old new =
     MatchResult result
     (λ op. Took (code_of op ∷ []) old new)
     (λ reason. (limit : ℕ) → Stops limit old new reason)
 
--- an instruction is taken, or why none is
+-- takes an instruction, or says why not
 abbrev pub TakesFound : ℕ → Result Found Reason → Intake → Intake → Type 0
 TakesFound limit result old new =
     MatchResult result (λ f. Finds limit f.op f.split old new) (Stops limit old new)
 
--- all of an instruction is taken, or why it is refused
+-- takes a whole instruction, or says why it is refused
 abbrev pub TakesWhole : ℕ → Result Found Reason → Intake → Intake → Type 0
 TakesWhole limit result old new =
     MatchResult result

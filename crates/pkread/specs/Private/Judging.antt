@@ -1,4 +1,4 @@
--- How the code judges an instruction that is whole.
+-- How the code judges a whole instruction.
 use Rattle.std.specs.Prelude.{◌≡◌, ℕ, List, None}
 use Rattle.pkops.specs.Contents.{IsGood, rule_of}
 use Rattle.pkops.specs.Lying.{Lies}
@@ -12,18 +12,18 @@ use Rattle.pkread.specs.Rows.{IsAmiss}
 use Rattle.pkread.specs.declared.refusal.Reason.{Reason}
 use Rattle.pkread.specs.declared.refusal.Reason.TheVariants.{BadArgument, TooLarge, UnknownOpcode}
 
--- the reason of the same name
+-- the reason with the same name
 abbrev pub fault_reason : Fault → Reason
 fault_reason (fault.UnknownOpcode code) = UnknownOpcode code
 fault_reason fault.BadArgument = BadArgument
 fault_reason fault.TooLarge = TooLarge
 
--- any argument of the opcode's layout is good and admitted
+-- every argument of the opcode's layout is good and admitted
 pub record TakesAnyArgument (o : Op) : Type 0 where
   pub contents : rule_of o ≡ rule.Anything
   pub admitted : (arg : Argument) → objection (instruction o arg) ≡ None
 
--- the argument of the opcode is good where its payload is UTF-8, and then it is admitted
+-- an argument of the opcode is good if its payload is UTF-8, and then it is admitted
 pub record TakesUtf8 (o : Op) : Type 0 where
   pub contents : rule_of o ≡ rule.Utf8
   pub admitted : (arg : Argument) → objection (instruction o arg) ≡ None
@@ -32,13 +32,13 @@ pub record TakesUtf8 (o : Op) : Type 0 where
 abbrev pub IsSpelled : Op → ℕ → List ℕ → Type 0
 IsSpelled o split bytes = (limit : ℕ) × (arg : Argument) × Lies limit o arg split bytes
 
--- the argument that they spell is good, and admitted
+-- the argument is good and admitted
 abbrev pub IsFine : Op → ℕ → List ℕ → Type 0
 IsFine o split bytes =
     (limit : ℕ) (arg : Argument) → Lies limit o arg split bytes →
     IsGood (instruction o arg) × (objection (instruction o arg) ≡ None)
 
--- what they spell is amiss, for the reason
+-- the argument is refused for this reason
 abbrev pub IsFaulty : Op → ℕ → List ℕ → Reason → Type 0
 IsFaulty o split bytes reason =
     (limit : ℕ) (arg : Argument) → Lies limit o arg split bytes → IsAmiss limit bytes reason

@@ -1,4 +1,4 @@
--- Bytes that are taken and not held: they are spoken of as if they stood behind those held.
+-- Bytes that are taken but not held. Contracts describe them as if the buffer held them.
 use Rattle.std.specs.Prelude.{◌≡◌, ◌≤◌, ℕ, List, length, max, Result, MatchResult, false}
 use Rattle.pkops.specs.Limits.{Bounds}
 use Rattle.pkops.specs.Lying.{Lies}
@@ -15,19 +15,18 @@ use Rattle.pkread.specs.declared.heads.Gathered.{Gathered}
 use Rattle.pkread.specs.declared.heads.Gathered.TheVariants as gathered
 use Rattle.pkread.specs.declared.refusal.Reason.{Reason}
 
--- as if these bytes were held
+-- as if the buffer held these bytes
 abbrev pub holding : List ℕ → Intake → Intake
 holding bytes p = record p { bytes = bytes }
 
--- so many bytes are taken, or fewer, and none of them is held
+-- `count` bytes or fewer are taken, and none of them is held
 abbrev pub SkipsAll : {A : Type 0} → ℕ → Result A Reason → Intake → Intake → Type 0
 SkipsAll count result old new =
     MatchResult result
     (λ _. (bytes : List ℕ) × TookAll count old (holding bytes new))
     (λ reason. (bytes : List ℕ) × LacksSome count old (holding bytes new) reason)
 
--- bytes were taken behind the old ones, which with them are the opcode with a payload of so many
--- bytes
+-- bytes were taken that, together with those held, spell the opcode with a payload of `count` bytes
 pub record GrowsSkipping (limit : ℕ) (op : Op) (count : ℕ) (old new : Intake) : Type 0 where
   pub bytes : List ℕ
   pub run : List ℕ
@@ -36,24 +35,24 @@ pub record GrowsSkipping (limit : ℕ) (op : Op) (count : ℕ) (old new : Intake
   pub count_is : length payload ≡ count
   pub lies : Lies limit op (Counted payload) 0 bytes
 
--- bytes were taken behind the old ones, and no more, for the reason
+-- bytes were taken up to the one that shows the reason
 abbrev pub StopsSkipping : ℕ → Intake → Intake → Reason → Type 0
 StopsSkipping limit old new reason =
     (bytes : List ℕ) × Stops limit old (holding bytes new) reason
 
--- the argument behind the opcode is taken, and its payload is skipped, or why none is
+-- takes the argument of the opcode and skips its payload, or says why not
 abbrev pub SkipsArgument : ℕ → Op → Result ℕ Reason → Intake → Intake → Type 0
 SkipsArgument limit op result old new =
     MatchResult result (λ count. GrowsSkipping limit op count old new) (StopsSkipping limit old new)
 
--- the most bytes ever held never fall, and rise by the bytes of a block and of a head alone
+-- the most bytes ever held never falls, and rises by at most a block and a head
 pub record RisesLittle (old new : GatheringView) : Type 0 where
   pub least : old.buffer.peak ≤ new.buffer.peak
   pub most : new.buffer.peak ≤ max old.buffer.peak 131_075
   pub limits : new.limits ≡ old.limits
 
--- all of an instruction is held, whose opcode is none of those skipped; the most bytes ever held
--- were `most`, and now are `after`
+-- the whole instruction is held, and its opcode isn't skipped; the most bytes ever held changes
+-- from `most` to `after`
 pub record HeldWhole (limit : ℕ) (f : Found) (old new : Intake) (most after : ℕ) : Type 0 where
   pub found : IsFound limit new.bytes f.op f.split
   pub kept : is_passed f.op ≡ false
@@ -67,12 +66,12 @@ pub record SkippedOne (limit : ℕ) (op : Op) (count : ℕ) (old new : Intake) (
   pub passes : SkipsBy limit op count old.source new.source old.taken new.taken
   pub few : after ≤ max most 131_075
 
--- either
+-- one or the other
 abbrev pub TookHead : Bounds → Gathered → Intake → Intake → ℕ → ℕ → Type 0
 TookHead limits (gathered.Held f) = HeldWhole limits.counted f
 TookHead limits (gathered.Skipped op count) = SkippedOne limits.passed op count
 
--- an instruction is refused, for what bytes that were taken show
+-- the instruction is refused because of the bytes taken
 pub record RefusedHead (limits : Bounds) (old new : Intake) (most after : ℕ) (reason : Reason)
     : Type 0 where
   pub bytes : List ℕ
@@ -80,7 +79,7 @@ pub record RefusedHead (limits : Bounds) (old new : Intake) (most after : ℕ) (
       old.source new.source bytes old.taken new.taken reason
   pub few : HoldsFew most bytes after
 
--- an instruction is taken, and no payload of bytes is held
+-- takes an instruction and holds no byte payload, or says why it is refused
 abbrev pub TakesHead
     : Bounds → Result Gathered Reason → Intake → Intake → ℕ → ℕ → Type 0
 TakesHead limits result old new most after =

@@ -8,11 +8,11 @@ use Rattle.pkread.specs.declared.refusal.Reason.{Reason}
 use Rattle.pkread.specs.declared.refusal.Reason.TheVariants.{Source, Truncated, TooLarge}
 use Rattle.pkread.specs.declared.refusal.Reason.TheVariants.{OutOfMemory}
 
--- each is a byte
+-- each number is a byte
 abbrev pub AreAllBytes : List ℕ → Type 0
 AreAllBytes bytes = (i : ℕ) → get_or bytes i 0 < 256
 
--- n bytes, one at least, were read and stand behind the others
+-- n bytes, at least one, were read and appended
 pub record ReadsSome (wanted n : ℕ) (old : List ℕ) (before : Sight) (new : List ℕ)
     (after : Sight) : Type 0 where
   pub bytes : List ℕ
@@ -23,34 +23,34 @@ pub record ReadsSome (wanted n : ℕ) (old : List ℕ) (before : Sight) (new : L
   pub within : n ≤ wanted
   pub count : length bytes ≡ n
 
--- a byte was read and stands behind the others
+-- one byte was read and appended
 pub record ReadsByte (byte : ℕ) (old : List ℕ) (before : Sight) (new : List ℕ)
     (after : Sight) : Type 0 where
   pub fit : byte < 256
   pub held : new ≡ old ++ byte ∷ []
   pub taken : Takes before after (byte ∷ [])
 
--- why a read gave none
+-- why a read returned no byte
 abbrev pub ReadsNone : Sight → Sight → Reason → Type 0
 ReadsNone before after Source = after.failures ≡ (before.failures + 1) % (2 ^ 64)
 ReadsNone before after Truncated = Takes before after [] × IsAtEnd after.left
 ReadsNone before after OutOfMemory = Takes before after []
 ReadsNone before after _ = ⊥
 
--- the bytes were taken and are held behind the others
+-- the bytes were taken and appended to those held
 pub record Took (bytes : List ℕ) (old new : Intake) : Type 0 where
   pub fit : AreAllBytes bytes
   pub held : new.bytes ≡ old.bytes ++ bytes
   pub source : Takes old.source new.source bytes
   pub count : new.taken ≡ old.taken + length bytes
 
--- so many were
+-- `count` bytes were taken
 pub record TookAll (count : ℕ) (old new : Intake) : Type 0 where
   pub bytes : List ℕ
   pub took : Took bytes old new
   pub all : length bytes ≡ count
 
--- n were, of so many that are wanted, and of a block at most
+-- n of the `wanted` bytes were taken, at most a block
 pub record TookBlock (wanted n : ℕ) (old new : Intake) : Type 0 where
   pub bytes : List ℕ
   pub took : Took bytes old new
@@ -59,7 +59,7 @@ pub record TookBlock (wanted n : ℕ) (old new : Intake) : Type 0 where
   pub block : n ≤ 4096
   pub count : length bytes ≡ n
 
--- why these bytes and no more were taken
+-- why no more than these bytes were taken
 abbrev pub LackRow : Sight → Sight → List ℕ → ℕ → Reason → Type 0
 LackRow before after bytes u Source = Fails before after bytes
 LackRow before after bytes u Truncated =
@@ -68,7 +68,7 @@ LackRow before after bytes u TooLarge = Takes before after bytes × (u ≡ all_b
 LackRow before after bytes u OutOfMemory = Takes before after bytes
 LackRow before after bytes u _ = ⊥
 
--- fewer were
+-- fewer than `count` bytes were taken
 pub record LacksSome (count : ℕ) (old new : Intake) (reason : Reason) : Type 0 where
   pub bytes : List ℕ
   pub fit : AreAllBytes bytes
@@ -77,24 +77,24 @@ pub record LacksSome (count : ℕ) (old new : Intake) (reason : Reason) : Type 0
   pub lacks : length bytes < count
   pub row : LackRow old.source new.source bytes new.taken reason
 
--- a byte is taken, or none
+-- takes a byte, or says why not
 abbrev pub TakesByte : Result ℕ Reason → Intake → Intake → Type 0
 TakesByte result old new =
     MatchResult result (λ byte. Took (byte ∷ []) old new) (LacksSome 1 old new)
 
--- so many bytes are taken, or fewer
+-- takes `count` bytes, or fewer and says why
 abbrev pub TakesAll : {A : Type 0} → ℕ → Result A Reason → Intake → Intake → Type 0
 TakesAll count result old new =
     MatchResult result (λ _. TookAll count old new) (LacksSome count old new)
 
--- some of so many bytes are taken, a block at most, or none
+-- takes at least one of `wanted` bytes and at most a block, or says why not
 abbrev pub TakesBlock : ℕ → Result ℕ Reason → Intake → Intake → Type 0
 TakesBlock wanted result old new =
     MatchResult result
     (λ n. TookBlock wanted n old new)
     (λ reason. (new.bytes ≡ old.bytes) × LacksSome wanted old new reason)
 
--- a read put n bytes at a place of a store
+-- a read wrote n bytes into a store at `from`
 pub record PulledInto (wanted n from : ℕ) (old new : List ℕ) (before after : Sight) : Type 0 where
   pub same : take from new ≡ take from old
   pub size : length new ≡ length old
