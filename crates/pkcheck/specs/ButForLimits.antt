@@ -1,4 +1,4 @@
--- A pickle that a check refuses for nothing but its size.
+-- A pickle that only its size can get refused.
 use Rattle.std.specs.Prelude.{◌≡◌, ◌≢◌, ◌≤◌, ℕ, List, ◌∷◌, ◌++◌, length, Option, Some}
 use Rattle.pkops.specs.Limits.{Bounds}
 use Rattle.pkops.specs.Payloads.{payload_limit}
@@ -13,7 +13,7 @@ use Rattle.pkcheck.specs.Knowledge.{Policy, Asked}
 use Rattle.pkcheck.specs.Refused.{Refused}
 use Rattle.pkcheck.specs.RunFaults.{HasRunFault, RunsBehind}
 
--- no instruction of the list has a fault other than a passed limit
+-- no instruction of the list has a fault, except that it may exceed a limit
 abbrev pub IsFaultlessButForLimits :
     OldStrings → Policy → Bounds → List Instruction → Type 0
 IsFaultlessButForLimits setting policy limits instructions =
@@ -24,8 +24,8 @@ IsFaultlessButForLimits setting policy limits instructions =
     → HasRunFault policy limits before (everyone (RunsBehind setting before)) instruction reason
     → ⊥
 
--- bytes that begin with such a sequence are refused for nothing but a passed limit, a refused
--- allocation or a failed read
+-- bytes that begin with such a sequence are refused only because of a limit, a refused allocation
+-- or a failed read
 abbrev pub RefusedForLimits : Type 0
 RefusedForLimits =
     (setting : OldStrings) (policy : Policy) (limits : Bounds)

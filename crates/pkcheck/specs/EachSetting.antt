@@ -1,12 +1,12 @@
--- What holds of the runs of a pickle whatever old strings become.
+-- What holds for every decoding of old strings.
 use Rattle.std.specs.Prelude.{ℕ, Bool, List}
 use Rattle.pkops.specs.Spelling.{Instruction}
 use Rattle.pkcheck.specs.declared.old_strings.OldStrings.{OldStrings}
 use Rattle.pkcheck.specs.declared.old_strings.OldStrings.TheVariants.{Unknown}
 use Rattle.pkcheck.specs.WholeRuns.{Sound}
 
--- if all runs end well while old strings may decode as anything, so do those of each setting: it
--- picks one of the objects that an old string may have become
+-- if all runs end well while old strings may decode to anything, they end well under each setting,
+-- because a setting only picks one of those objects
 abbrev pub SoundInEach : Type 0
 SoundInEach =
     (setting : OldStrings) (instructions : List Instruction) (list : List ℕ → List ℕ → Bool) →

@@ -1,4 +1,4 @@
--- Runs with the same end, and what the end of one says of the end of the other.
+-- Runs that end the same way, and what the end of one says about the other.
 use Rattle.std.specs.Prelude.{◌≡◌, ℕ, ⊤, Bool, List, []}
 use Rattle.pkcheck.specs.Knowledge.{Asked}
 use Rattle.pkcheck.specs.Listing.{ImportsAreListed}
@@ -10,7 +10,7 @@ pub record SameHistory (s t : State) : Type 0 where
   pub objects : s.objects ≡ t.objects
   pub events : s.events ≡ t.events
 
--- neither is stuck: both go on with the same stack, stop with the same object, or raise, with the
+-- neither run is stuck: both reach the same stack, stop with the same object, or raise, with the
 -- same history
 abbrev pub SameEnd : Ended → Ended → Type 0
 SameEnd (Reached s) (Reached t) = (s.shape.entries ≡ t.shape.entries) × SameHistory s t
@@ -19,7 +19,7 @@ SameEnd (EndedBy (Stopped x s)) (EndedBy (Stopped y t)) =
 SameEnd (EndedBy (Raised s)) (EndedBy (Raised t)) = SameHistory s t
 SameEnd a b = ⊥
 
--- a run that isn't stuck
+-- the run isn't stuck
 abbrev pub IsFree : Ended → Type 0
 IsFree (Reached state) = ⊤
 IsFree (EndedBy (WentOn state)) = ⊥
@@ -27,7 +27,7 @@ IsFree (EndedBy (Raised state)) = ⊤
 IsFree (EndedBy (Stopped result state)) = ⊤
 IsFree (EndedBy (Stuck breach)) = ⊥
 
--- the events of a run up to its end; one that is stuck ends in no state
+-- the events of a run up to its end; a stuck run has no final state, and so none
 abbrev pub events_at : Ended → List Event
 events_at (Reached state) = state.events
 events_at (EndedBy (WentOn state)) = state.events
@@ -35,15 +35,15 @@ events_at (EndedBy (Raised state)) = state.events
 events_at (EndedBy (Stopped result state)) = state.events
 events_at (EndedBy (Stuck breach)) = []
 
--- an end that isn't stuck is the same as itself
+-- SameEnd is reflexive for runs that aren't stuck
 abbrev pub SameAsItself : Type 0
 SameAsItself = (end : Ended) → IsFree end → SameEnd end end
 
--- the relation is symmetric
+-- SameEnd is symmetric
 abbrev pub SameEitherWay : Type 0
 SameEitherWay = (first second : Ended) → SameEnd first second → SameEnd second first
 
--- and transitive
+-- SameEnd is transitive
 abbrev pub SameAcross : Type 0
 SameAcross =
     (first second third : Ended) → SameEnd first second → SameEnd second third
@@ -63,7 +63,7 @@ WellCarriesOver =
     (list : List ℕ → List ℕ → Bool) (first second : Ended)
     → SameEnd first second → EndsWell list first → EndsWell list second
 
--- if the imports of one are listed, so are those of the other
+-- if the imports of one of two runs with the same end are listed, so are those of the other
 abbrev pub ListedCarriesOver : Type 0
 ListedCarriesOver =
     (listed : List Asked) (first second : Ended)

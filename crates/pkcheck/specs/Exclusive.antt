@@ -1,4 +1,4 @@
--- A pickle is accepted or refused, and not both.
+-- No pickle is both accepted and refused.
 use Rattle.std.specs.Prelude.{◌≡◌, ◌≢◌, ℕ, ◌≤◌, List, Option, Some}
 use Rattle.pkops.specs.Limits.{Bounds}
 use Rattle.pkread.specs.Rows.{Sight, all_bytes}
@@ -9,9 +9,9 @@ use Rattle.pkcheck.specs.Knowledge.{Policy, Asked}
 use Rattle.pkcheck.specs.Accepted.{Accepted}
 use Rattle.pkcheck.specs.Refused.{Refused}
 
--- where bytes begin with a pickle that is accepted, of no more bytes than are ever taken, no check
--- of the same bytes refuses under the same policy, limits and setting, but for want of memory or
--- for a read that failed
+-- if bytes begin with an accepted pickle that isn't longer than a reader can take, no check of
+-- these bytes under the same policy, limits and setting refuses them, unless an allocation is
+-- refused or a read fails
 abbrev pub YesExcludesNo : Type 0
 YesExcludesNo =
     (setting : OldStrings) (policy : Policy) (limits : Bounds) (bytes : List ℕ)

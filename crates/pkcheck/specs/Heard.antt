@@ -1,5 +1,5 @@
--- What is heard of a check: each instruction that was read whole and admitted, with its place and
--- the marks that are open before it.
+-- What a listener hears of a check: each instruction that was read whole and admitted, with its
+-- offset and the number of marks on the stack before it.
 use Rattle.std.specs.Prelude.{◌≡◌, ⊤, ℕ, List, [], ◌∷◌, ◌++◌, length, map, All}
 use Rattle.std.specs.Prelude.{Result, Ok, Err, Option}
 use Rattle.pkops.specs.Limits.{Bounds}
@@ -23,25 +23,25 @@ use Rattle.pkcheck.specs.Shape.{marks_of}
 use Rattle.pkcheck.specs.declared.checking.Yes.{Yes}
 use Rattle.pkcheck.specs.declared.checking.No.{No}
 
--- an instruction, the offset of its first byte, and the number of marks that are open before it
+-- an instruction, the offset of its first byte, and the number of marks on the stack before it
 pub record Heard : Type 0 where
   pub at : ℕ
   pub instruction : Instruction
   pub marks : ℕ
 
--- the same, of its parts
+-- a Heard made of its parts
 abbrev pub heard : ℕ → Instruction → ℕ → Heard
 heard at instruction marks = record { at = at; instruction = instruction; marks = marks }
 
--- what is heard of an instruction behind others
+-- what is heard of an instruction that follows these
 pub record IsHeardOf (before : List Instruction) (i : Instruction) (h : Heard) : Type 0 where
   pub same : h.instruction ≡ i
   pub place : h.at ≡ length (spellings before)
-  -- some run gets there, and in each that does as many marks are open
+  -- some run reaches the instruction, and in every run that does this many marks are on the stack
   pub marks :
       InEachRun (RunsBehind Unknown before) (λ state. h.marks ≡ marks_of state.shape.entries)
 
--- what is heard of instructions behind others: of each of them, in order
+-- what is heard of the instructions that follow these: one item for each, in order
 abbrev pub AreHeardBehind : List Instruction → List Instruction → List Heard → Type 0
 AreHeardBehind before [] [] = ⊤
 AreHeardBehind before (i ∷ is) (h ∷ hs) =
@@ -49,7 +49,7 @@ AreHeardBehind before (i ∷ is) (h ∷ hs) =
 AreHeardBehind before [] (h ∷ hs) = ⊥
 AreHeardBehind before (i ∷ is) [] = ⊥
 
--- the refused instruction, where it was read whole and admitted
+-- the refused instruction, if it was read whole and admitted
 abbrev pub refused_instruction : {setting : OldStrings} {beginning : Beginning} {policy : Policy}
     {limits : Bounds} {before : List Instruction} {here new : Sight} {at : ℕ} {reason : Reason}
     {pair : Option Asked} → Why setting beginning policy limits before here new at reason pair
@@ -65,27 +65,26 @@ instructions_of policy limits old new (Ok accepted) right = right.instructions
 instructions_of policy limits old new (Err refused) right =
     right.instructions ++ refused_instruction right.why
 
--- the answer is right, and this was heard on the way to it: of each instruction that it is about,
--- in order
+-- the answer is right, and the listener heard every instruction that it is about, in order
 pub record IsRightAndHeard (policy : Policy) (limits : Bounds) (old new : Sight)
     (answer : Result Yes No) (hs : List Heard) : Type 0 where
   pub right : IsRightAnswer Unknown policy limits old new answer
   pub each : AreHeardBehind [] (instructions_of policy limits old new answer right) hs
 
--- the listener's own error ended the check: these were heard, and the listener failed at one more
--- instruction, which was read whole and is admitted
+-- the listener's own error ended the check: it heard these, and failed at one more instruction that
+-- was read whole and admitted
 pub record IsCutShort (policy : Policy) (limits : Bounds) (old new : Sight) (hs : List Heard)
     : Type 0 where
-  -- there are instructions before it, none of which is STOP: each is good, admitted and within the
-  -- limit of its opcode, and so is the one at which the listener failed
+  -- the instructions before it contain no STOP; each is good, admitted and within the limit of its
+  -- opcode, and so is the one at which the listener failed
   pub before : List Instruction
   pub instruction : Instruction
   pub goes_on : NoStop before
   pub admitted : All (IsAllowedBy (payload_limit limits)) (before ++ instruction ∷ [])
   -- exactly the bytes that spell them were taken
   pub bytes : Takes old new (spellings (before ++ instruction ∷ []))
-  -- each of those before lies whole within its frame, and none has a fault
+  -- each of those before obeys the frame rules, and none has a fault
   pub framed : Framed (map piece_of before)
   pub faultless : IsFaultless Unknown Afresh policy limits before
-  -- those before were heard, in order, and nothing else
+  -- the listener heard those before, in order, and nothing else
   pub each : AreHeardBehind [] before hs

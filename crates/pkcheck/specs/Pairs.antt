@@ -1,4 +1,4 @@
--- A list as an array of pairs.
+-- A list given as an array of pairs.
 use Rattle.std.specs.Prelude.{◌≡◌, ℕ, zero, suc, ◌+◌, ◌-◌, ◌/◌, nat_lt, List, Bool, true, false}
 use Rattle.std.specs.Prelude.{◌&&◌, if◌then◌else◌, length, Option, Some, None, option_map}
 use Rattle.std.specs.Prelude.{slice_get}
@@ -11,30 +11,30 @@ use Rattle.std.specs.Ordering.{nat_cmp, ordering_then}
 use Rattle.std.specs.Str.{bytes_eq}
 use Rattle.pkcheck.specs.declared.pairs.Pair.{Pair}
 
--- one of the pairs is of this module and this name
+-- one of the pairs has this module and this name
 abbrev pub have : List Pair → List ℕ → List ℕ → Bool
 have pairs module_name name =
     list_any (λ p. bytes_eq p.module_name.now module_name && bytes_eq p.name.now name) pairs
 
--- how a pair stands to this module and this name: by module, and then by name, byte for byte
+-- how a pair compares with this module and name: by module, then by name, byte for byte
 abbrev pub order_to : List ℕ → List ℕ → Pair → Ordering
 order_to module_name name pair =
     ordering_then (slice_cmp nat_cmp pair.module_name.now module_name)
     (slice_cmp nat_cmp pair.name.now name)
 
--- the pairs are in that order
+-- the pairs are sorted in that order
 abbrev pub AreInOrder : List Pair → Type 0
 AreInOrder pairs = IsSorted (λ a b. order_to b.module_name.now b.name.now a) pairs
 
--- what halving answers by the pair in the middle: it is the one, or the half above it or the half
--- below it has the answer
+-- what the middle pair says to a binary search: it is the one, or the upper or lower half has the
+-- answer
 abbrev pub by_middle : Option Ordering → (above below : Bool) → Bool
 by_middle (Some Less) above below = above
 by_middle (Some Equal) above below = true
 by_middle (Some Greater) above below = below
 by_middle None above below = false
 
--- halving between two places comes to the pair, in at most so many steps
+-- a binary search between two indices finds the pair within this many steps
 abbrev pub comes_to : (Pair → Ordering) → List Pair → (steps low high : ℕ) → Bool
 comes_to order pairs zero low high = false
 comes_to order pairs (suc steps) low high =
@@ -44,12 +44,12 @@ comes_to order pairs (suc steps) low high =
     (comes_to order pairs steps low (low + (high - low) / 2))
     else false
 
--- halving finds the pair of this module and this name
+-- a binary search finds the pair with this module and name
 abbrev pub found : List Pair → List ℕ → List ℕ → Bool
 found pairs module_name name =
     comes_to (order_to module_name name) pairs (length pairs) 0 (length pairs)
 
--- halving finds no pair that isn't there, and finds each where they are in order
+-- a hit by binary search is valid whatever the order; in a sorted array every pair is hit
 pub record HalvingIsRight : Type 0 where
   pub no_more : (pairs : List Pair) (module_name name : List ℕ)
       → found pairs module_name name ≡ true → have pairs module_name name ≡ true

@@ -1,5 +1,5 @@
--- Nobody has to believe these: what the parts of the machine hold and answer, which only private
--- functions cite. The lemmas of `proofs/` show that they come to what the other definitions say.
+-- Contracts of the private parts of the machine. They need not be trusted: the lemmas in `proofs/`
+-- derive the public definitions from them.
 pub mod Places
 pub mod Slots
 pub mod Noted

@@ -1,4 +1,4 @@
--- What an answer of `check_all` says of pickles that stand one after the other in a source.
+-- What an answer of `check_all` means for pickles that follow each other in a source.
 use Rattle.std.specs.Prelude.{◌≡◌, ◌≢◌, ◌<◌, ℕ, List, [], ◌∷◌, ◌++◌, length, flat_map, All, Option}
 use Rattle.std.specs.Prelude.{Some, Result, MatchResult, option_map}
 use Rattle.std.specs.Io.KnownBytes.{IsAtEnd}
@@ -21,24 +21,23 @@ use Rattle.pkcheck.specs.RowRuns.{Beginning, Afresh, Behind, Pickle, imports_of_
 use Rattle.pkcheck.specs.declared.row_of_pickles.YesAll.{YesAll}
 use Rattle.pkcheck.specs.declared.row_of_pickles.NoAll.{NoAll}
 
--- one or more sequences, and the bytes that spell them, one after the other
+-- one or more complete sequences, and the bytes that spell them in order
 pub record IsRow (limit : Op → ℕ) (sequences : List (List Instruction)) (bytes : List ℕ)
     : Type 0 where
   pub some : sequences ≢ []
   pub each : All (IsSequence limit) sequences
   pub spelled : bytes ≡ flat_map spellings sequences
 
--- the bytes of all
+-- the bytes of all pickles
 abbrev pub bytes_of_all : List Pickle → List ℕ
 bytes_of_all pickles = flat_map spellings (sequences_of pickles)
 
--- where the runs of the pickle behind these begin
+-- where the runs of the next pickle begin
 abbrev pub begins : Memo → List Pickle → Beginning
 begins Fresh before = Afresh
 begins Kept before = Behind before
 
--- what `check` says of an accepted pickle holds of this one behind those before it, with these
--- instructions and imports
+-- `check` would accept this pickle, with these instructions and imports, after the ones before it
 abbrev pub IsAcceptedBehind : Loading → Policy → Bounds → Sight → Sight → List Pickle → Pickle
     → Type 0
 IsAcceptedBehind loading policy limits old new before pickle =
@@ -46,7 +45,7 @@ IsAcceptedBehind loading policy limits old new before pickle =
     (length (spellings pickle.instructions)) pickle.imports)
     × (accepted.instructions ≡ pickle.instructions)
 
--- it holds of each of these, which stand behind those before and were taken one after the other
+-- each of these pickles is accepted in turn, after those before
 abbrev pub AreAccepted :
     Loading → Policy → Bounds → Sight → Sight → List Pickle → List Pickle → Type 0
 AreAccepted loading policy limits old new before [] = Takes old new []
@@ -54,41 +53,41 @@ AreAccepted loading policy limits old new before (pickle ∷ pickles) =
     (between : Sight) × IsAcceptedBehind loading policy limits old between before pickle
     × AreAccepted loading policy limits between new (before ++ pickle ∷ []) pickles
 
--- a row was accepted, of `taken` bytes and so many pickles, with these imports
+-- a row of this many pickles was accepted, with `taken` bytes and these imports
 pub record AcceptedRow (loading : Loading) (policy : Policy) (limits : Bounds) (old new : Sight)
     (taken pickles : ℕ) (imports : List Asked) : Type 0 where
   pub row : List Pickle
-  -- the source has come to its end, and a row is all that it had
+  -- the source is at its end, and its bytes were exactly a row
   pub ends : IsAtEnd new.left
   pub is_row : IsRow (payload_limit limits) (sequences_of row) (bytes_of_all row)
   pub bytes : Takes old new (bytes_of_all row)
   pub count : taken ≡ length (bytes_of_all row)
-  -- a further byte could still be asked for: where none can be, the answer is TooLarge
+  -- one more byte could still be counted; if none can, the answer is TooLarge
   pub within : taken < all_bytes
   pub number : pickles ≡ length row
-  -- each pickle of it is accepted, and the imports are theirs, in order
+  -- each pickle is accepted, and the imports are theirs, in order
   pub each : AreAccepted loading policy limits old new [] row
   pub listed : imports ≡ imports_of_all row
 
--- a byte is left, where the source tells what is left
+-- the source isn't at its end, as far as it reveals its bytes
 abbrev pub HasMore : Sight → Type 0
 HasMore here = here.left ≢ Some []
 
--- the pickle of this number, counted from 0, was refused, and those before it were accepted
+-- the pickle with this index, counted from 0, was refused, and those before it were accepted
 pub record RefusedInRow (loading : Loading) (policy : Policy) (limits : Bounds) (old new : Sight)
     (pickle at : ℕ) (reason : Reason) (pair : Option Asked) : Type 0 where
   pub before : List Pickle
   pub number : pickle ≡ length before
-  -- where the source was as it is seen here, they had been taken
+  -- the source after the pickles before it
   pub here : Sight
   pub each : AreAccepted loading policy limits old here [] before
   pub refused : RefusedFrom (length (bytes_of_all before)) loading.old_strings
       (begins loading.memo before) policy limits here new at reason pair
-  -- where the source ended, a further byte stands behind those before: a row that ends there is
-  -- accepted
+  -- a refusal because the source ended means that another pickle had begun: a row may end after a
+  -- pickle
   pub more : reason ≡ Truncated → before ≢ [] → HasMore here
 
--- the answer is right of a source that was seen so before the check and after it
+-- the answer is right, given how the source looked before the check and after it
 abbrev pub IsRightOfRow : Loading → Policy → Bounds → Sight → Sight → Result YesAll NoAll → Type 0
 IsRightOfRow loading policy limits old new answer =
     MatchResult answer
@@ -96,8 +95,7 @@ IsRightOfRow loading policy limits old new answer =
     (λ all. RefusedInRow loading policy limits old new all.pickle all.no.at all.no.reason
     (option_map asked_shown all.no.pair))
 
--- the count of failed reads goes up by one where the reason is Source, and stays at every other
--- answer
+-- the count of failed reads rises by one if the reason is Source, and otherwise stays the same
 abbrev pub CountsInRow : ℕ → ℕ → Result YesAll NoAll → Type 0
 CountsInRow old new answer =
     MatchResult answer (λ _. new ≡ old) (λ all. CountsAt all.no.reason old new)

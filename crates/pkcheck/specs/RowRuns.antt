@@ -1,5 +1,5 @@
--- Where the runs of a pickle begin: with nothing, or behind other pickles of a row, under one
--- Unpickler that keeps its memo from pickle to pickle.
+-- Where the runs of a pickle begin: with nothing, or after other pickles of a row, under one
+-- Unpickler that keeps its memo.
 use Rattle.std.specs.Prelude.{◌≡◌, All, List, [], ◌∷◌, map, flat_map, Option, Some, None}
 use Rattle.pkops.specs.Spelling.{Instruction}
 use Rattle.pkcheck.specs.declared.old_strings.OldStrings.{OldStrings}
@@ -12,23 +12,23 @@ pub record Pickle : Type 0 where
   pub instructions : List Instruction
   pub imports : List Asked
 
--- the instructions of each
+-- the instructions of each pickle
 abbrev pub sequences_of : List Pickle → List (List Instruction)
 sequences_of pickles = map (λ pickle. pickle.instructions) pickles
 
--- the imports of all, in order
+-- the imports of all pickles, in order
 abbrev pub imports_of_all : List Pickle → List Asked
 imports_of_all pickles = flat_map (λ pickle. pickle.imports) pickles
 
--- where a pickle stopped, the next begins with the stack empty, and with the memo, the objects and
--- the events as they are. One that raised or was stuck ends the row
+-- after a pickle stops, the next one begins with an empty stack and the same memo, objects and
+-- events; a pickle that raises or is stuck ends the row
 abbrev pub next_from : Ended → (State → Option State) → Option State
 next_from (EndedBy (Stopped result state)) next =
     next (record state { shape = record { entries = []; memo = state.shape.memo } })
 next_from ended next = None
 
--- the run of pickles under one Unpickler, each under outcomes of its own: the state in which the
--- next pickle begins, if it comes to one
+-- the run of pickles under one Unpickler, each with its own outcomes: the state in which the next
+-- pickle begins, if it gets there
 abbrev pub run_row : OldStrings → List (List Instruction) → List (List Outcome) → State
     → Option State
 run_row setting [] outcomes state = Some state
@@ -36,37 +36,37 @@ run_row setting (pickle ∷ pickles) [] state = None
 run_row setting (pickle ∷ pickles) (first ∷ others) state =
     next_from (run_as setting pickle first state) (run_row setting pickles others)
 
--- where the runs of a pickle begin: with nothing, or where runs of these pickles have come to
+-- where the runs of a pickle begin: with nothing, or where the runs of these pickles ended
 pub data Beginning : Type 0 where
   Afresh : Beginning
   Behind : List Pickle → Beginning
 
--- some run of these pickles comes to this state, in which the next begins
+-- some run of these pickles leads to this state, in which the next begins
 abbrev pub ComesTo : OldStrings → List Pickle → State → Type 0
 ComesTo setting pickles state =
     (outcomes : List (List Outcome))
     × (run_row setting (sequences_of pickles) outcomes start ≡ Some state)
 
--- some run of these pickles, all of whose outcomes can come, comes to it
+-- as ComesTo, with only outcomes that are possible
 abbrev pub CanComeTo : OldStrings → List Pickle → State → Type 0
 CanComeTo setting pickles state =
     (outcomes : List (List Outcome))
     × All (All CanCome) outcomes
     × (run_row setting (sequences_of pickles) outcomes start ≡ Some state)
 
--- some run of a pickle that begins so gets behind these of its instructions, to this state
+-- some run of a pickle that begins like this executes these instructions and reaches this state
 abbrev pub Arrives : OldStrings → Beginning → List Instruction → State → Type 0
 Arrives setting Afresh before state = GetsTo setting before start state
 Arrives setting (Behind pickles) before state =
     (first : State) × ComesTo setting pickles first × GetsTo setting before first state
 
--- some run of it, all of whose outcomes can come, gets there
+-- as Arrives, with only outcomes that are possible
 abbrev pub CanArrive : OldStrings → Beginning → List Instruction → State → Type 0
 CanArrive setting Afresh before state = CanGetTo setting before start state
 CanArrive setting (Behind pickles) before state =
     (first : State) × CanComeTo setting pickles first × CanGetTo setting before first state
 
--- this holds of where each run of these instructions has come to that begins so
+-- this holds of every run of these instructions that begins like this
 abbrev pub InEachRunFrom : OldStrings → Beginning → List Instruction → (Ended → Type 0) → Type 0
 InEachRunFrom setting Afresh instructions Holds =
     (outcomes : List Outcome) → Holds (run_as setting instructions outcomes start)
@@ -75,7 +75,7 @@ InEachRunFrom setting (Behind pickles) instructions Holds =
     → ComesTo setting pickles first
     → Holds (run_as setting instructions outcomes first)
 
--- the imports that were listed before
+-- the imports of earlier pickles
 abbrev pub listed_before : Beginning → List Asked
 listed_before Afresh = []
 listed_before (Behind pickles) = imports_of_all pickles

@@ -16,35 +16,34 @@ use Rattle.pkcheck.specs.Import.{asks_more}
 use Rattle.pkcheck.specs.Memory.{WantsNoMemory}
 use Rattle.pkcheck.specs.View.{View, moved_as, stopped_by, texts_after, off_pair}
 
--- a machine that refused before answers the same reason, and stays as it is
+-- a machine that has refused answers the same reason and stays as it is
 abbrev pub AnswersAsBefore : View → View → Result Moved Reason → Type 0
 AnswersAsBefore before after answer =
     IfSome before.refused (λ reason. (answer ≡ Err reason) × (after ≡ before))
 
--- this holds of the reason where a machine refuses that had not refused before
+-- this holds of the reason when a machine refuses for the first time
 abbrev pub IfFirst : View → Result Moved Reason → (Reason → Type 0) → Type 0
 IfFirst before answer P = before.refused ≡ None → IfErr answer P
 
--- an import, if there is one, that the policy permits: under a list, it is one of the list's pairs
+-- the policy permits the import, if there is one: a list must contain its pair
 abbrev pub IsPermitted : Policy → Option Asked → Type 0
 IsPermitted (Some list) (Some (AskedPair module_name name)) = list module_name name ≡ true
 IsPermitted (Some list) (Some AskedUnknown) = ⊥
 IsPermitted _ _ = ⊤
 
--- the imports after are those before, or one more, which the policy permits
+-- the step appends at most one import, which the policy permits
 abbrev pub AppendsPermitted : Policy → List Asked → List Asked → Type 0
 AppendsPermitted policy before after =
     (import : Option Asked) × (after ≡ asks_more import before) × IsPermitted policy import
 
--- a refusal leaves the imports and what is known, and its reason is the one that is answered from
--- then on
+-- a refusal keeps the imports and the knowledge, and its reason is the answer to every later step
 pub record RefusesForGood (before after : View) (reason : Reason) : Type 0 where
   pub imports : after.imports ≡ before.imports
   pub knowledge : after.knowledge ≡ before.knowledge
   pub refused : after.refused ≡ Some reason
 
--- the states that a knowledge covers, as runs that get to an instruction. In one that is claimed,
--- what was answered can be
+-- the states that the knowledge covers, as runs that reach an instruction; in the state of a
+-- witness, every answered object is possible
 abbrev pub CoveredBy : OldStrings → Knowledge → Arrivals
 CoveredBy setting known = record {
   setting = setting;
@@ -54,8 +53,7 @@ CoveredBy setting known = record {
 }
 
 module _ (policy : Policy) (instruction : Instruction) (before after : View) where
-  -- the step goes on: what is known after it, its import and what it says are those of the
-  -- instruction
+  -- the step goes on, and its knowledge, its import and its answer are those of the instruction
   abbrev pub GoesOn : Moved → Type 0
   GoesOn moved =
       (progress : Progress)
@@ -68,7 +66,7 @@ module _ (policy : Policy) (instruction : Instruction) (before after : View) whe
       })
       × (moved ≡ moved_as (effect_as before.old_strings instruction) progress.import)
 
-  -- the instruction is refused for this reason, which changes nothing else
+  -- the instruction is refused for this reason, and nothing else changes
   abbrev pub RefusesStep : Reason → Type 0
   RefusesStep reason =
       (refusal : Refusal)
@@ -76,20 +74,20 @@ module _ (policy : Policy) (instruction : Instruction) (before after : View) whe
       × (reason ≡ reason_of refusal)
       × (after ≡ record before { refused = Some reason; off = off_pair refusal })
 
-  -- there is no memory for the step, which changes nothing else. Of some opcodes the step wants
-  -- none
+  -- an allocation for the step was refused, and nothing else changes; the step is one that
+  -- allocates
   abbrev pub StepWantsMemory : Reason → Type 0
   StepWantsMemory reason =
       (¬ WantsNoMemory instruction.op)
       × (reason ≡ OutOfMemory)
       × (after ≡ record before { refused = Some reason; off = None })
 
-  -- the one or the other
+  -- the step is refused, for a fault or an allocation
   abbrev pub FailsStep : Reason → Type 0
   FailsStep reason = RefusesStep reason ⊎ StepWantsMemory reason
 
-  -- what going on means in a state that is covered: the step finds what it needs, an import there
-  -- is the one appended, STOP takes the one object that is there, and the state after is covered
+  -- what going on means in a covered state: the step of the run finds what it needs, its import is
+  -- the one appended, STOP takes the only object, and the new state is covered
   abbrev pub MeansIn : State → Outcome → Type 0
   MeansIn state outcome =
       (progress : Progress)
@@ -98,35 +96,35 @@ module _ (policy : Policy) (instruction : Instruction) (before after : View) whe
       × IsPermitted policy progress.import
       × Follows progress state (step_as before.old_strings instruction state outcome)
 
-  -- that, in every state that is covered and for every outcome there
+  -- this holds in every covered state and for every outcome
   abbrev pub MeansInEachRun : Type 0
   MeansInEachRun =
       (state : State) (outcome : Outcome) → Covers before.knowledge state → MeansIn state outcome
 
-  -- no fault of the instruction is passed by
+  -- the step goes on only if the instruction has no fault
   abbrev pub PassesNoFault : Type 0
   PassesNoFault =
       HasNoFault policy before.limits (CoveredBy before.old_strings before.knowledge) instruction
 
-  -- an import is listed as Unknown only where two runs ask for different pairs
+  -- an import is listed as Unknown only if two runs import different pairs
   abbrev pub UnknownIsNeeded : Type 0
   UnknownIsNeeded =
       after.imports ≡ before.imports ++ AskedUnknown ∷ []
       → AsksForTwo (CoveredBy before.old_strings before.knowledge) instruction
 
-  -- the reason names the first fault of the instruction, in the states that are covered, or want of
-  -- memory
+  -- the reason names the first fault of the instruction in the covered states, or a refused
+  -- allocation
   abbrev pub IsNoFalseAlarm : Reason → Type 0
   IsNoFalseAlarm reason =
       IsFirstFault policy before.limits (CoveredBy before.old_strings before.knowledge)
       instruction reason after.off
       ⊎ (reason ≡ OutOfMemory)
 
-  -- want of memory is no reason where the step wants none
+  -- OutOfMemory is never the answer to a step that doesn't allocate
   abbrev pub MayLackMemory : Reason → Type 0
   MayLackMemory reason = WantsNoMemory instruction.op → reason ≢ OutOfMemory
 
--- all that is said of a step over an instruction: what each of these means stands beside it
+-- the whole contract of a step
 pub record IsStep (policy : Policy) (instruction : Instruction) (before after : View)
     (answer : Result Moved Reason) : Type 0 where
   pub again : AnswersAsBefore before after answer

@@ -6,8 +6,7 @@ use Rattle.pkcheck.specs.declared.old_strings.OldStrings.{OldStrings}
 use Rattle.pkcheck.specs.declared.old_strings.OldStrings.TheVariants.{Ascii}
 use Rattle.pkops.specs.declared.Op.TheVariants as op
 
--- whether the opcode makes a text (the notes of `UNICODE` and its binary forms in CPython's
--- `pickletools`)
+-- the opcode makes a text (see `UNICODE` and its binary forms in CPython's `pickletools`)
 abbrev pub makes_text : Op → Bool
 makes_text op.Unicode = true
 makes_text op.ShortBinUnicode = true
@@ -15,12 +14,12 @@ makes_text op.BinUnicode = true
 makes_text op.BinUnicode8 = true
 makes_text _ = false
 
--- whether an instruction of the opcode that goes on makes a text: one of an old string does where
--- these are read as ASCII
+-- an instruction with this opcode makes a text if it goes on; an old string makes one if it is
+-- decoded as ASCII
 abbrev pub makes_text_as : OldStrings → Op → Bool
 makes_text_as Ascii op = makes_text op || is_old_string op
 makes_text_as setting op = makes_text op
 
--- how many there are after an instruction of the opcode that goes on
+-- the number of texts after an instruction with this opcode
 abbrev pub texts_then : OldStrings → Op → ℕ → ℕ
 texts_then setting op count = if makes_text_as setting op then suc count else count

@@ -1,4 +1,4 @@
--- The machine as contracts see it.
+-- What contracts see of the machine.
 use Rattle.std.specs.Prelude.{ℕ, suc, Bool, true, false, List, [], Option, Some, None}
 use Rattle.pkops.specs.Limits.{Bounds}
 use Rattle.pkread.specs.declared.Reason.{Reason}
@@ -11,9 +11,9 @@ use Rattle.pkcheck.specs.declared.machine.stepping.Moved.{Moved}
 use Rattle.pkcheck.specs.declared.machine.stepping.Moved.TheVariants.{On, Import, Stopped}
 use Rattle.pkcheck.specs.Knowledge.{Knowledge, Asked, AskedPair, Refusal, OffList, nothing_known}
 
--- what the machine knows, its limits, what old strings become, the imports so far, the pair that
--- was off the list, the reason of its refusal, whether STOP was accepted, and how many texts are in
--- the table
+-- the knowledge, the limits, the decoding of old strings, the imports so far, the pair that was off
+-- the list, the reason of the refusal, whether STOP was accepted, and the number of texts in the
+-- table
 pub record View : Type 0 where
   pub knowledge : Knowledge
   pub limits : Bounds
@@ -24,7 +24,7 @@ pub record View : Type 0 where
   pub stopped : Bool
   pub texts : ℕ
 
--- a machine at its start
+-- a new machine
 abbrev pub fresh : OldStrings → Bounds → View
 fresh setting limits = record {
   knowledge = nothing_known;
@@ -37,23 +37,23 @@ fresh setting limits = record {
   texts = 0;
 }
 
--- what a step says: STOP, an import, or neither
+-- what a step reports: STOP, an import, or neither
 abbrev pub moved_as : Effect → Option Asked → Moved
 moved_as Stops import = Stopped
 moved_as effect (Some asked) = Import
 moved_as effect None = On
 
--- whether it says STOP
+-- the step reports STOP
 abbrev pub stopped_by : Moved → Bool
 stopped_by Stopped = true
 stopped_by _ = false
 
--- how many texts are in the table after an operation that gives this
+-- the number of texts after an operation that gives this
 abbrev pub texts_given : Gives → ℕ → ℕ
 texts_given MakesText count = suc count
 texts_given _ count = count
 
--- how many texts are in the table after a step that goes on: one more, where it made one
+-- the number of texts after a step that goes on: one more if it made one
 abbrev pub texts_after : Effect → ℕ → ℕ
 texts_after (Operates takes names gives) count = texts_given gives count
 texts_after _ count = count
@@ -63,7 +63,7 @@ abbrev pub off_pair : Refusal → Option Asked
 off_pair (OffList module_name name) = Some (AskedPair module_name name)
 off_pair _ = None
 
--- whether a machine that has this refusal, or none, names a pair that is off the list
+-- a machine with this refusal, if any, names a pair that is off the list
 abbrev pub has_off_list : Option Reason → Bool
 has_off_list (Some ImportOffList) = true
 has_off_list _ = false

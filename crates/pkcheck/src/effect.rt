@@ -1,6 +1,6 @@
-//! The parts of what an opcode does, as the definitions write it.
+//! The parts of an opcode's effect, as in the specification.
 
-/// The classes of objects that opcodes make, texts aside.
+/// The classes of objects that opcodes make, except text.
 #[derive(Clone, Copy)]
 pub enum Class {
     None,
@@ -16,7 +16,7 @@ pub enum Class {
     FrozenSet,
 }
 
-/// What a slice has to be.
+/// What a slice must contain.
 #[derive(Clone, Copy)]
 pub enum SliceRule {
     AnySlice,
@@ -24,7 +24,7 @@ pub enum SliceRule {
     FullSlice,
 }
 
-/// What an operation takes.
+/// What an operation takes from the stack.
 #[derive(Clone, Copy)]
 pub enum Takes {
     Objects(u8),
@@ -40,7 +40,7 @@ pub enum Names {
     OfOperands,
 }
 
-/// The class that a receiver has to have.
+/// The class that a receiver must have.
 #[derive(Clone, Copy)]
 pub enum Wanted {
     WantsAny,
@@ -60,7 +60,7 @@ pub enum Gives {
     Leaves(Wanted),
 }
 
-/// What looks at no object.
+/// An effect that looks at no object.
 #[derive(Clone, Copy)]
 pub enum Move {
     PushesMark,

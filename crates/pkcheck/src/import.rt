@@ -16,7 +16,7 @@ use std::alloc::{AllocError, Global};
 /// An import that owns its names.
 #[derive(Debug, Drop, PartialEq, Eq)]
 pub enum Asked {
-    /// A pair, as the pickle writes it.
+    /// A pair, with the names that the pickle contains.
     Pair {
         /// The module.
         module: String,
@@ -30,7 +30,7 @@ pub enum Asked {
 /// An import that borrows its names.
 #[derive(Clone, Copy, Debug, PartialEq, Eq)]
 pub enum Import<'a> {
-    /// A pair, as the pickle writes it.
+    /// A pair, with the names that the pickle contains.
     Pair {
         /// The module.
         module: &'a str,
@@ -57,18 +57,18 @@ impl<'a> Import<'a> {
     }
 }
 
-/// What a step names.
+/// The names of an import, as a step finds them.
 #[derive(Clone, Copy)]
 pub enum Named<'a> {
     /// A pair that the pickle does not show.
     Unknown,
-    /// The texts of these numbers: the module and the name.
+    /// The numbers of two texts: the module and the name.
     Made(u32, u32),
-    /// The module and the name, as the instruction spells them.
+    /// The module and the name, from the instruction's argument.
     Written(&'a str, &'a str),
 }
 
-/// A pair of these names.
+/// An import of this pair.
 pub fn pair_of(alloc: Global, module_name: &str, name: &str) -> Result<Asked, AllocError>
     ensures { IfOk result (λ a. asked_shown a ≡ AskedPair module_name.now name.now) }
 {
@@ -105,7 +105,7 @@ pub fn operands_named<'a>(module_name: Value, name: Value) -> Result<Named<'a>, 
     }
 }
 
-/// What the operation asks for, where its argument names these.
+/// The import of an operation, given the names in its argument.
 pub fn asked_by<'a>(
     names: Names,
     spelled: Option<(&'a str, &'a str)>,

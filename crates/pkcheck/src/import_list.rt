@@ -1,4 +1,4 @@
-//! Imports that are lent by what lists them.
+//! Imports borrowed from their owner.
 
 ghost use Rattle.std.specs.List.{slice_get};
 ghost use Rattle.std.specs.Prelude.{◌≡◌, length, map, nat_eq, option_map};
@@ -10,8 +10,8 @@ use crate::machine::ledger::Entry;
 use crate::machine::texts::Texts;
 use std::marker::Model;
 
-/// Imports, in the order in which a pickle asks for them, lent by what lists them. To read them
-/// takes no memory.
+/// Imports in the order in which a pickle makes them, borrowed from their owner. Reading them
+/// allocates nothing.
 #[derive(Debug, Drop)]
 pub struct ImportList<'a> {
     texts: &'a Texts,
@@ -30,7 +30,7 @@ impl<'a> Model for ImportList<'a> {
 }
 
 impl<'a> ImportList<'a> {
-    /// What these entries list, by the texts and by the names that were written out.
+    /// The imports that these entries stand for, given the texts and the names kept beside them.
     pub(crate) fn new(texts: &'a Texts, written: &'a Texts, entries: &'a [Entry]) -> ImportList<'a>
         ensures { result ≡ map (entry_asked texts.entry.now written.entry.now) entries.entry.now }
     {
@@ -41,7 +41,7 @@ impl<'a> ImportList<'a> {
         }
     }
 
-    /// The import of a number, counted from 0. `None` past the last.
+    /// An import by its number, counted from 0; `None` past the last.
     pub fn get(&self, number: usize) -> Option<Import<'a>>
         ensures { option_map import_shown result ≡ slice_get self.now number }
     {
@@ -51,7 +51,7 @@ impl<'a> ImportList<'a> {
         }
     }
 
-    /// How many there are.
+    /// The number of imports.
     pub fn len(&self) -> usize
         ensures { result ≡ length self.now }
     {
@@ -65,7 +65,7 @@ impl<'a> ImportList<'a> {
         self.len() == 0
     }
 
-    /// One after the other.
+    /// Iterates over the imports, in order.
     pub fn iter(&self) -> ImportIter<'a>
         ensures { result ≡ self.now }
     {
@@ -77,7 +77,7 @@ impl<'a> ImportList<'a> {
     }
 }
 
-/// The imports of a list that are still to come. Made by `iter`.
+/// The remaining imports of a list. Made by `iter`.
 #[derive(Debug, Drop)]
 pub struct ImportIter<'a> {
     texts: &'a Texts,
@@ -105,7 +105,7 @@ impl<'a> Iterator for ImportIter<'a> {
 
     ghost remaining = { item_count (λ left. left) };
 
-    /// The next import, until none is left.
+    /// The next import, or `None` after the last.
     fn next(&mut self) -> Option<Import<'a>> {
         let (first, others) = self.rest.split_first()?;
         self.rest = others;
@@ -113,7 +113,7 @@ impl<'a> Iterator for ImportIter<'a> {
     }
 }
 
-/// What an entry says.
+/// The import that an entry stands for.
 fn shown<'a>(texts: &'a Texts, written: &'a Texts, entry: Entry) -> Import<'a>
     ensures { import_shown result ≡ entry_asked texts.now written.now entry }
 {

@@ -27,8 +27,8 @@ pub fn yes_excludes_no()
     one_sequence();
 }
 
-/// Bytes that begin with a sequence whose only faults are passed limits are refused for nothing but
-/// a passed limit, a refused allocation or a failed read.
+/// A pickle whose only faults are exceeded limits is refused only for a limit, a refused allocation
+/// or a failed read.
 #[inline]
 pub fn refused_for_limits()
     ensures { RefusedForLimits }
@@ -38,7 +38,7 @@ pub fn refused_for_limits()
     one_sequence();
 }
 
-/// If all runs of a pickle end well when Python 2 strings may decode as anything, they end well
+/// If all runs of a pickle end well when Python 2 strings may decode to anything, they end well
 /// under each setting of `old_strings`.
 #[inline]
 pub fn sound_in_each()

@@ -1,4 +1,4 @@
-//! Decides which imports a pickle makes, and whether it can go wrong, whatever its operations may
+//! Decides which imports a pickle makes and whether it can go wrong, whatever its operations
 //! answer.
 #![tactic(auto)]
 

@@ -1,4 +1,4 @@
-//! A check with a listener, which hears each instruction on the way to the answer.
+//! A check with a listener, which hears each instruction before it is judged.
 
 ghost use Rattle.std.specs.Prelude.{◌≡◌, ◌∷◌, ◌++◌, [], List, Result};
 ghost use Rattle.std.specs.Prelude.{IfErr, IfOk, MatchResult, OnOk};
@@ -23,7 +23,7 @@ pub trait Listener {
     /// Why the listener stops.
     type Error;
 
-    // From the first of the two to the second, exactly these were heard, in order.
+    // What was heard between two states of the listener, in order.
     ghost hears: { Self → Self → List Heard → Type 0 };
 
     /// Hears an admitted instruction before it is judged: the offset of its first byte, counted

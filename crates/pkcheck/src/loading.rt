@@ -2,21 +2,21 @@
 
 use crate::old_strings::OldStrings;
 
-/// What becomes of the memo from one pickle of a row to the next.
+/// The memo at the start of each pickle of a row after the first.
 #[derive(Clone, Copy, Debug, PartialEq, Eq)]
 pub enum Memo {
-    /// Each pickle begins with an empty one, as where `pickle.load` is called for each.
+    /// Empty, as with a call of `pickle.load` for each pickle.
     Fresh,
-    /// Each pickle begins with what those before it stored, as where one `pickle.Unpickler` is
-    /// asked for `load()` again and again.
+    /// As the pickles before it left it, as with one `pickle.Unpickler` and several calls of
+    /// `load()`.
     Kept,
 }
 
-/// How the pickles of a row are loaded: the settings of whoever reads it.
+/// How the pickles of a row are loaded, as set by whoever unpickles them.
 #[derive(Clone, Copy, Debug, PartialEq, Eq)]
 pub struct Loading {
-    /// What becomes of the memo.
+    /// The memo between pickles.
     pub memo: Memo,
-    /// What becomes of old strings.
+    /// The decoding of Python 2 strings.
     pub old_strings: OldStrings,
 }

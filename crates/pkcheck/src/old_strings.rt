@@ -1,12 +1,12 @@
 //! How Python 2 strings are decoded.
 
-/// How the reader decodes a Python 2 string (type `str`): STRING, BINSTRING and SHORT_BINSTRING. In
-/// Python 3 it is the `encoding` of an `Unpickler`.
+/// How an unpickler decodes a Python 2 string (type `str`): STRING, BINSTRING and SHORT_BINSTRING.
+/// In Python 3 this is the `encoding` of an `Unpickler`.
 #[derive(Clone, Copy, Debug, PartialEq, Eq)]
 pub enum OldStrings {
-    /// Unspecified: it may become any object, or raise.
+    /// Unspecified: it may decode to any object, or raise.
     Unknown,
-    /// As a text, if all its bytes are ASCII; otherwise it raises.
+    /// As text if all its bytes are ASCII; otherwise it raises.
     Ascii,
     /// As bytes.
     Bytes,

@@ -21,7 +21,7 @@ use std::alloc::Global;
 /// An accepted row of pickles.
 #[derive(Debug, Drop)]
 pub struct YesAll {
-    /// The number of bytes taken from the source: all that it had.
+    /// The number of bytes taken from the source: all it had.
     pub taken: u64,
     /// The number of pickles.
     pub pickles: u64,
@@ -38,16 +38,16 @@ pub struct NoAll {
     pub no: No,
 }
 
-/// Reads one pickle after the other, up to the end of the source, and checks each as
-/// [`check_as`](crate::check_as) does. Its time is linear in the number of bytes, however many
-/// pickles they are.
+/// Reads one pickle after another, up to the end of the source, and checks each as
+/// [`check_as`](crate::check_as) does. The time is linear in the number of bytes, however many
+/// pickles there are.
 ///
-/// With [`Memo::Fresh`] nothing is kept from one pickle to the next. It takes memory for the
-/// largest of them and for the names of the imports.
+/// With [`Memo::Fresh`] nothing is kept from one pickle to the next. Memory is that for the largest
+/// pickle and for the names of the imports.
 ///
 /// With [`Memo::Kept`] each pickle begins with an empty stack, and with the memo, the objects and
 /// the events of those before it. The answer about a pickle holds for every run of the row that
-/// reaches it. It takes memory for the whole row.
+/// reaches it. Memory is that for the whole row.
 ///
 /// A `YesAll` covers at least one pickle. A `NoAll` names the first refused pickle; if it is
 /// unknown whether another pickle begins, because the source failed or 2^64 - 1 bytes were taken,
@@ -118,7 +118,7 @@ fn imports_of_row(memo: Memo, apart: Ledger, session: Session) -> Imports
     }
 }
 
-/// The answer for a row whose pickle is refused at this offset, for this reason.
+/// The refusal of a row at this pickle, offset and reason.
 fn refused(pickle: u64, session: Session, at: u64, reason: Reason) -> NoAll
     ensures pickle { result.pickle ≡ pickle }
     ensures no { IsNoAt at reason session.machine.off result.no }

@@ -26,8 +26,8 @@ use pkread::{Frames, Reason, frame_argument};
 use std::alloc::{AllocError, Global};
 use std::marker::Model;
 
-/// The frames and the machine of a check. If the frames refuse an instruction, the machine stays
-/// unchanged.
+/// The frame rules and the machine of a check. If the frame rules refuse an instruction, the
+/// machine stays unchanged.
 #[derive(Drop)]
 pub(crate) struct Session {
     frames: Frames,
@@ -43,7 +43,7 @@ impl Model for Session {
 }
 
 impl Session {
-    /// The state before the first instruction. It allocates nothing.
+    /// The state before the first instruction. Allocates nothing.
     pub fn new(alloc: Global, limits: &Limits, old_strings: OldStrings) -> Session
         ensures { result ≡ record { frame = 0; machine = fresh old_strings limits.now } }
     {
@@ -53,7 +53,7 @@ impl Session {
         }
     }
 
-    /// Judges an instruction, first by the frames and then by the machine.
+    /// Judges an instruction, first by the frame rules and then by the machine.
     #[inline(always)]
     pub fn judge(&mut self, inst: &Inst<'_>, policy: &Policy<'_>) -> Result<(), Reason>
         requires admitted { IsTrue (is_admitted (instruction_of inst.now)) }
@@ -69,7 +69,7 @@ impl Session {
         Ok(())
     }
 
-    /// Judges an instruction of this opcode and length whose payload was passed over.
+    /// Judges an instruction with this opcode and length whose payload was skipped.
     pub fn judge_passed(&mut self, op: Op, length: u64, policy: &Policy<'_>) -> Result<(), Reason>
         requires passed { IsTrue (is_passed op) }
         requires some { 0 < length }
@@ -87,7 +87,7 @@ impl Session {
         Ok(())
     }
 
-    /// The number of open marks, which is the same in every run.
+    /// The number of marks on the stack, which is the same in every run.
     pub fn marks(&self) -> usize
         ensures { (state : State) → Covers self.now.machine.knowledge state
             → result ≡ marks_of state.shape.entries }
@@ -95,8 +95,7 @@ impl Session {
         self.machine.marks()
     }
 
-    /// Continues at the first instruction of another pickle of a row, as the machine does, with no
-    /// frame open.
+    /// Continues at the first instruction of another pickle of a row, with no frame open.
     pub fn restart(&mut self, memo: Memo, apart: &mut Ledger) -> Result<(), AllocError>
         requires { self.old.machine.refused ≡ None }
         ensures next { OnOk result (self.new ≡ record {
@@ -112,7 +111,7 @@ impl Session {
         Ok(())
     }
 
-    /// The answer for a pickle that is refused at this offset, for this reason.
+    /// The refusal of a pickle at this offset, for this reason.
     pub fn refuse(self, at: u64, reason: Reason) -> No
         ensures { IsNoAt at reason self.machine.off result }
     {

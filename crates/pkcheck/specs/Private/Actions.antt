@@ -1,4 +1,4 @@
--- What the machine does at an opcode, by the effect that it stands for.
+-- What the machine does for an opcode, as one of the effects.
 use Rattle.std.specs.Prelude.{◌<◌, Bool, true, false, ⊤}
 use Rattle.pkcheck.specs.declared.machine.effects.Action.{Action}
 use Rattle.pkcheck.specs.declared.machine.effects.Action.TheVariants as action
@@ -18,7 +18,8 @@ use Rattle.pkops.specs.declared.Op.{Op}
 abbrev pub effect_in : Operation → Effect
 effect_in o = Operates o.takes o.names o.gives
 
--- the effect of an opcode, where nothing is said of old strings: an operation has a row of its own
+-- the effect of an opcode if the decoding of old strings isn't set; operations take theirs from
+-- their own row
 abbrev pub effect_by : Op → Action → Effect
 effect_by o (action.Makes c) = pushes c
 effect_by o action.MakesIntOrBool = Operates (Objects 0) NoName gives.MakesIntOrBool
@@ -28,39 +29,39 @@ effect_by o (action.Moves m) = Moves m
 effect_by o action.Stops = Stops
 effect_by o _ = effect_of o
 
--- it reads an old string
+-- the action reads an old string
 abbrev pub is_reading : Action → Bool
 is_reading action.ReadsOldString = true
 is_reading _ = false
 
--- something is taken, be it an empty slice
+-- the operation takes something, even if that is an empty slice
 abbrev pub TakesSome : Takes → Type 0
 TakesSome (Objects k) = 0 < k
 TakesSome takes = ⊤
 
--- it does more than to push a new object
+-- the operation does more than push a new object
 abbrev pub IsNoPush : Takes → Gives → Type 0
 IsNoPush takes (gives.Makes c) = TakesSome takes
 IsNoPush takes g = ⊤
 
--- an operation, which does more than to push: of what the instruction itself says it looks at its
--- names alone, and one that leaves its receiver takes one
+-- an operation that does more than push a new object, uses nothing of its argument but the names,
+-- and takes a receiver if it leaves one
 abbrev pub IsOperation : Effect → Type 0
 IsOperation (Operates takes names g) = IsNoPush takes g × IgnoresArgument g × WellGiven g takes
 IsOperation _ = ⊥
 
--- one that names nothing
+-- as IsOperation, for one that names nothing
 abbrev pub IsUnnamed : Effect → Type 0
 IsUnnamed (Operates takes NoName g) = IsNoPush takes g × IgnoresArgument g × WellGiven g takes
 IsUnnamed _ = ⊥
 
--- what is said to be an operation is one
+-- an action that stands for an operation belongs to an opcode with such an effect
 abbrev pub IsWell : Op → Action → Type 0
 IsWell o action.Operates = IsUnnamed (effect_of o)
 IsWell o action.Imports = IsOperation (effect_of o)
 IsWell o _ = ⊤
 
--- what is read as a text has a payload or a line
+-- an opcode read as text has a payload or a line
 abbrev pub MaySpell : Action → Layout → Type 0
 MaySpell action.MakesText l = IsTextLayout l
 MaySpell action.ReadsOldString l = IsTextLayout l

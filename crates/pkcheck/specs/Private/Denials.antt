@@ -1,4 +1,4 @@
--- What the parts of a step answer, by what the checker knows.
+-- What the parts of a step answer, in terms of the checker's knowledge.
 use Rattle.std.specs.Prelude.{ℕ, ◌≡◌, ◌<◌, ◌≤◌, ◌⊎◌, Bool, List, ◌∷◌, length, Option, Some, None}
 use Rattle.std.specs.Prelude.{Result, Ok, Err, option_map, if◌then◌else◌, is_some, ⊤}
 use Rattle.pkcheck.specs.declared.effect.Takes.{Takes}
@@ -25,11 +25,11 @@ use Rattle.pkcheck.specs.Knowledge.{unknown_pair, wrong_receiver, asked_of}
 use Rattle.pkcheck.specs.Import.{asked_shown, asks_more}
 use Rattle.pkcheck.specs.View.{off_pair, moved_as}
 
--- the reason of a breach
+-- the reason for something that is missing
 abbrev pub IsLack : {A : Type 0} → Result A Breach → Reason → Type 0
 IsLack x r = (b : Breach) × (x ≡ Err b) × (r ≡ reason_of (Lacks b))
 
--- a move that only takes away, or changes nothing, wants no memory
+-- whether a move may allocate: one that only removes entries or changes nothing doesn't
 abbrev pub MoveMayWantMemory : Move → Type 0
 MoveMayWantMemory move.Pops = ⊥
 MoveMayWantMemory move.PopsMark = ⊥
@@ -37,27 +37,27 @@ MoveMayWantMemory move.Passes = ⊥
 MoveMayWantMemory move.Extends = ⊥
 MoveMayWantMemory m = ⊤
 
--- there is no room for one more than these, or no memory for it
+-- one more entry would exceed the limit, or its allocation is refused
 abbrev pub WantsRoom : ℕ → ℕ → Reason → Type 0
 WantsRoom limit count r = ((r ≡ reason.TooLarge) × (limit ≤ count)) ⊎ (r ≡ reason.OutOfMemory)
 
--- these would be too many, or there is no memory for them
+-- the memo would exceed its limit, or its allocation is refused
 abbrev pub WantsMemo : {A : Type 0} → ℕ → List (ℕ × A) → Reason → Type 0
 WantsMemo limit cells r =
     ((r ≡ reason.TooLarge) × (limit < length cells)) ⊎ (r ≡ reason.OutOfMemory)
 
--- it leaves more than the limits, or this number is above its limit
+-- the result exceeds the limits, or this memo number does
 abbrev pub LeavesTooMuch : {A : Type 0} → Bounds → ℕ → Result (Shape A) Breach → Type 0
 LeavesTooMuch {A} l n x =
     (k : Shape A) × (x ≡ Ok k)
     × ((l.stack < length k.entries) ⊎ ((l.memo < length k.memo) ⊎ (l.numbers < n)))
 
--- the reason of a breach, or of want of room
+-- something is missing, a limit is exceeded, or an allocation is refused
 abbrev pub IsFault : {A : Type 0} → Bounds → ℕ → Result (Shape A) Breach → Reason → Type 0
 IsFault l n x r =
     IsLack x r ⊎ (((r ≡ reason.TooLarge) × LeavesTooMuch l n x) ⊎ (r ≡ reason.OutOfMemory))
 
--- the same of a move with this number, where only some moves may want memory
+-- as IsFault, for a move with this memo number; only some moves may allocate
 abbrev pub IsFaultOf : {A : Type 0} → Move → Bounds → ℕ → Result (Shape A) Breach → Reason
     → Type 0
 IsFaultOf m l n x r =
@@ -65,27 +65,27 @@ IsFaultOf m l n x r =
     ⊎ (((r ≡ reason.TooLarge) × LeavesTooMuch l (number_moved m n) x)
     ⊎ (MoveMayWantMemory m × (r ≡ reason.OutOfMemory)))
 
--- what the policy makes of it
+-- what the policy says about an import
 abbrev pub ruled : Policy → Asked → Result (Option Asked) Refusal
 ruled p (AskedPair m n) = permitted p m n
 ruled p AskedUnknown = unknown_pair p
 
--- an import may want memory for its names
+-- naming an import may allocate
 abbrev pub MayName : Names → Type 0
 MayName NoName = ⊥
 MayName names = ⊤
 
--- what the receiver and the names say of these operands
+-- the check of the receiver, then of the names
 abbrev pub judged : Policy → Names → Gives → Instruction → List Known
     → Result (Option Asked) Refusal
 judged p names gives i ks =
     if wrong_receiver gives ks then Err WrongClass else asked_of p names i ks
 
--- the pair of a denial
+-- the pair that a denial carries
 abbrev pub pair_denied : Denial → Option Asked
 pair_denied d = option_map (λ b. asked_shown b.value) d.pair
 
--- it is refused for this reason, with this pair
+-- the step is refused for this reason and with this pair
 abbrev pub IsRefusedFor : {A : Type 0} → Result A Refusal → Reason → Option Asked → Type 0
 IsRefusedFor x r pair =
     (f : Refusal) × (x ≡ Err f) × (r ≡ reason_of f) × (pair ≡ off_pair f)
@@ -93,14 +93,14 @@ IsRefusedFor x r pair =
 abbrev pub IsDenied : {A : Type 0} → Result A Refusal → Denial → Type 0
 IsDenied x d = IsRefusedFor x d.reason (pair_denied d)
 
--- it is refused for want of memory, with no pair
+-- the step is refused because an allocation was, without a pair
 abbrev pub IsWantOfMemory : Reason → Option Asked → Type 0
 IsWantOfMemory r pair = (r ≡ reason.OutOfMemory) × (pair ≡ None)
 
 abbrev pub IsForMemory : Denial → Type 0
 IsForMemory d = IsWantOfMemory d.reason (pair_denied d)
 
--- it passes: this is known after it, and these imports are listed
+-- the step goes on with this knowledge and these imports
 abbrev pub Proceeds : Result Progress Refusal → Knowledge → List Asked → List Asked → Bool → Type 0
 Proceeds x after before now b =
     (a : Option Asked)
@@ -108,33 +108,33 @@ Proceeds x after before now b =
     × (now ≡ asks_more a before)
     × (b ≡ is_some a)
 
--- an operation that only leaves its receiver wants no memory
+-- an operation that only leaves its receiver doesn't allocate
 abbrev pub MayGive : Gives → Type 0
 MayGive (Leaves w) = ⊥
 MayGive gives = ⊤
 
--- an operation may want memory for its import or for what it gives
+-- an operation may allocate for its import or for the object that it gives
 abbrev pub MayOperate : Names → Gives → Type 0
 MayOperate names gives = MayName names ⊎ MayGive gives
 
--- an operation that takes one or more
+-- an operation that takes at least one object
 abbrev pub HasFirst : Takes → Type 0
 HasFirst (Objects k) = 0 < k
 HasFirst (Slice rule) = ⊥
 HasFirst (SliceAndReceiver rule) = ⊤
 
--- what is left is there
+-- a receiver that is left was taken
 abbrev pub WellGiven : Gives → Takes → Type 0
 WellGiven (Leaves w) takes = HasFirst takes
 WellGiven gives takes = ⊤
 
--- what is given is the same whatever the argument of the instruction
+-- the object given doesn't depend on the instruction's argument
 abbrev pub IgnoresArgument : Gives → Type 0
 IgnoresArgument MakesText = ⊥
 IgnoresArgument MakesIntOrBool = ⊥
 IgnoresArgument gives = ⊤
 
--- it goes on: this is known after it, and these imports are listed
+-- the step goes on with this knowledge and these imports, and reports this
 abbrev pub GoesTo : Effect → Result Progress Refusal → Knowledge → List Asked → List Asked
     → Moved → Type 0
 GoesTo e x after before now v =
@@ -147,21 +147,21 @@ GoesTo e x after before now v =
 abbrev pub IsStopFault : Result Progress Refusal → Reason → Type 0
 IsStopFault x r = (f : Refusal) × (x ≡ Err f) × (r ≡ reason_of f) × (off_pair f ≡ None)
 
--- whether the step may want memory
+-- whether the step may allocate
 abbrev pub MayWantMemory : Effect → Type 0
 MayWantMemory (Operates takes names gives) = MayOperate names gives
 MayWantMemory (Moves m) = MoveMayWantMemory m
 MayWantMemory Stops = ⊥
 MayWantMemory Raises = ⊤
 
--- no more entries of the stack and of the memo than the limits
+-- the stack and the memo are within their limits
 abbrev pub FitsLimits : Bounds → Knowledge → Type 0
 FitsLimits limits known = (length known.entries ≤ limits.stack) × (length known.memo ≤ limits.memo)
 
--- with an object on top of which this is known
+-- the knowledge with one more object on top of the stack
 abbrev pub with_item : Known → Knowledge → Knowledge
 with_item v known = record known { entries = Item v ∷ known.entries }
 
--- with a new object of this class on top
+-- the knowledge with a new object of this class on top of the stack
 abbrev pub with_made : Class → Knowledge → Knowledge
 with_made class known = with_item (Some (Plain class)) known

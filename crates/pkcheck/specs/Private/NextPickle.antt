@@ -1,4 +1,4 @@
--- What a machine is left with for the next pickle of a row.
+-- What a machine keeps for the next pickle of a row.
 use Rattle.std.specs.Prelude.{false, List, [], ◌++◌}
 use Rattle.pkcheck.specs.declared.loading.Memo.{Memo}
 use Rattle.pkcheck.specs.declared.loading.Memo.TheVariants.{Fresh, Kept}
@@ -6,7 +6,7 @@ use Rattle.pkcheck.specs.Knowledge.{Asked}
 use Rattle.pkcheck.specs.RowRuns.{Pickle, imports_of_all}
 use Rattle.pkcheck.specs.View.{View, fresh}
 
--- a machine at the first instruction of the next pickle: nothing is left, or all but the stack
+-- the machine at the start of the next pickle: new, or with all but its stack kept
 abbrev pub restarted : Memo → View → View
 restarted Fresh view = fresh view.old_strings view.limits
 restarted Kept view = record view {
@@ -14,17 +14,18 @@ restarted Kept view = record view {
   stopped = false;
 }
 
--- the imports that are listed apart, once the machine restarts: those that it forgets go there
+-- the imports kept outside the machine after a restart; a machine that starts afresh hands over its
+-- own
 abbrev pub moved_apart : Memo → List Asked → List Asked → List Asked
 moved_apart Fresh apart own = apart ++ own
 moved_apart Kept apart own = apart
 
--- those that are listed apart where these pickles stand before
+-- the imports kept outside the machine after these pickles
 abbrev pub listed_apart : Memo → List Pickle → List Asked
 listed_apart Fresh before = imports_of_all before
 listed_apart Kept before = []
 
--- the imports of a row, which stand apart or in the machine
+-- the imports of a row, which are kept outside the machine or inside it
 abbrev pub listed_in : Memo → List Asked → List Asked → List Asked
 listed_in Fresh apart own = apart
 listed_in Kept apart own = own

@@ -1,4 +1,4 @@
--- What a ledger holds: the texts that a pickle made, and the imports that it asked for.
+-- What a ledger holds: the texts that a pickle made, and the imports it asked for.
 use Rattle.std.specs.Prelude.{ℕ, ◌<◌, List, [], ◌∷◌, Option, Some, None, get_or, length, ◌≡◌, ⊤}
 use Rattle.pkcheck.specs.declared.import.Named.{Named}
 use Rattle.pkcheck.specs.declared.import.Named.TheVariants as named
@@ -13,46 +13,46 @@ pub record Noted : Type 0 where
   pub texts : List (List ℕ)
   pub asked : List Asked
 
--- what an import names, by the texts
+-- the import that a name stands for, given the texts
 abbrev pub named_asked : List (List ℕ) → Named → Asked
 named_asked ts named.Unknown = AskedUnknown
 named_asked ts (named.Made m n) = AskedPair (get_or ts m []) (get_or ts n [])
 named_asked ts (named.Written m n) = AskedPair m.now n.now
 
--- it names no text past the last of so many
+-- the name refers only to the first `count` texts
 abbrev pub IsNamed : ℕ → Named → Type 0
 IsNamed count (named.Made m n) = (m < count) × (n < count)
 IsNamed count name = ⊤
 
--- the same, where there is one
+-- as IsNamed, if there is a name
 abbrev pub IsNamedIf : ℕ → Option Named → Type 0
 IsNamedIf count (Some name) = IsNamed count name
 IsNamedIf count None = ⊤
 
--- an entry, by the texts and by the names that were written out
+-- the import that an entry stands for, given the texts and the names kept beside them
 abbrev pub entry_asked : List (List ℕ) → List (List ℕ) → Entry → Asked
 entry_asked ts ws entry.Unknown = AskedUnknown
 entry_asked ts ws (entry.Made m n) = AskedPair (get_or ts m []) (get_or ts n [])
 entry_asked ts ws (entry.Written m n) = AskedPair (get_or ws m []) (get_or ws n [])
 
--- it names no text past the last of so many, and no name past the last of so many
+-- the entry refers only to the first `made` texts and the first `written` names
 abbrev pub IsEntry : ℕ → ℕ → Entry → Type 0
 IsEntry made written entry.Unknown = ⊤
 IsEntry made written (entry.Made m n) = (m < made) × (n < made)
 IsEntry made written (entry.Written m n) = (m < written) × (n < written)
 
--- none of these does
+-- all entries refer only to those
 abbrev pub AreEntries : ℕ → ℕ → List Entry → Type 0
 AreEntries made written [] = ⊤
 AreEntries made written (e ∷ es) = IsEntry made written e × AreEntries made written es
 
--- each number that stands here under that of a text is that of the same text, written out
+-- if `copies` has a number for a text, the name with that number in `written` equals the text
 abbrev pub AreCopies : List (Option ℕ) → List (List ℕ) → List (List ℕ) → Type 0
 AreCopies copies texts written =
     (number copy : ℕ) → get_or copies number None ≡ Some copy →
     (copy < length written) × (get_or written copy [] ≡ get_or texts number [])
 
--- none of these objects is a text past the last of so many
+-- these objects refer only to the first `count` texts
 abbrev pub AreNumbered : ℕ → List Value → Type 0
 AreNumbered count [] = ⊤
 AreNumbered count (v ∷ vs) = IsNumbered count v × AreNumbered count vs

@@ -1,4 +1,4 @@
--- What an operation that names nothing does to the stack, whatever the texts and the memo are.
+-- What an operation without a name does to the stack. It doesn't depend on the texts or the memo.
 use Rattle.std.specs.Prelude.{ℕ, ◌⊎◌, List, false, None}
 use Rattle.pkcheck.specs.declared.machine.value.Value.{Value}
 use Rattle.pkcheck.specs.Effects.{Effect, number_stored}
@@ -10,7 +10,7 @@ use Rattle.pkcheck.specs.Knowledge.{Asked, Known, Policy, learn, within}
 use Rattle.pkcheck.specs.Private.Denials.{IsDenied, IsForMemory, MayWantMemory, Proceeds}
 use Rattle.pkcheck.specs.Private.Slots.{Sees, seen}
 
--- by this effect these entries become those, and no import is listed
+-- the effect turns the old entries into the new, and lists no import
 abbrev pub Replaces : Effect → List (Entry Value) → List (Entry Value) → Type 0
 Replaces e old new =
     (ts : List (List ℕ))
@@ -19,12 +19,12 @@ Replaces e old new =
     → Proceeds (learn p e i (record { entries = seen ts old; memo = m }))
     (record { entries = seen ts new; memo = m }) listed listed false
 
--- what is known of them stays true
+-- what is known of the objects stays true
 abbrev pub StaysSeen : List (Entry Value) → List (Entry Value) → Type 0
 StaysSeen old new =
     (ts : List (List ℕ)) → Sees ts old (seen ts old) → Sees ts new (seen ts new)
 
--- it is refused for this reason
+-- the operation is refused for this reason
 abbrev pub IsReplaceFault : Bounds → Effect → List (Entry Value) → Reason → Type 0
 IsReplaceFault limits e old r =
     (ts : List (List ℕ))

@@ -1,4 +1,4 @@
--- What the fields of the stack, the memo and the table of texts say.
+-- What the fields of the stack, the memo and the text table stand for.
 use Rattle.std.specs.Prelude.{ℕ, suc, ◌<◌, List, [], ◌∷◌, ◌++◌, Option, Some, None, map, get_or}
 use Rattle.std.specs.Prelude.{◌≡◌, length, ⊤, drop, take}
 use Rattle.pkcheck.specs.declared.machine.value.Value.{Value}
@@ -17,12 +17,12 @@ abbrev pub entry_of : Slot → Entry Value
 entry_of slot.Mark = Mark
 entry_of (slot.Object v) = Item v
 
--- these entries, the last of them on top, over the others
+-- these entries, the last of them on top, above the others
 abbrev pub shown : List Slot → List (Entry Value) → List (Entry Value)
 shown [] below = below
 shown (s ∷ ss) below = shown ss (entry_of s ∷ below)
 
--- the objects among them, in order
+-- the objects among the entries, in order
 abbrev pub values_of : List Slot → List Value
 values_of [] = []
 values_of (slot.Mark ∷ ss) = values_of ss
@@ -35,52 +35,52 @@ taken_from place slots = record {
   below = shown (take place slots) [];
 }
 
--- the places of the marks among them, counted from n
+-- the places of the marks, counted from n
 abbrev pub bars : ℕ → List Slot → List ℕ
 bars n [] = []
 bars n (slot.Mark ∷ ss) = n ∷ bars (suc n) ss
 bars n (slot.Object v ∷ ss) = bars (suc n) ss
 
--- each with its number, counted from n
+-- each element with its number, counted from n
 abbrev pub numbered : {A : Type 0} → ℕ → List A → List (ℕ × A)
 numbered n [] = []
 numbered n (x ∷ xs) = (n, x) ∷ numbered (suc n) xs
 
--- the entry of number 0, where there is one
+-- the memo entry with number 0, if there is one
 abbrev pub zeroth : {A : Type 0} → Option A → List (ℕ × A)
 zeroth None = []
 zeroth (Some x) = (0, x) ∷ []
 
--- none of these is of number 0
+-- none of these entries has number 0
 abbrev pub ArePositive : {A : Type 0} → List (ℕ × A) → Type 0
 ArePositive [] = ⊤
 ArePositive (e ∷ es) = (0 < e.0) × ArePositive es
 
--- none of these is a mark
+-- none of these entries is a mark
 abbrev pub AllObjects : List Slot → Type 0
 AllObjects [] = ⊤
 AllObjects (slot.Mark ∷ ss) = ⊥
 AllObjects (slot.Object v ∷ ss) = AllObjects ss
 
--- the first of these is an object
+-- the first of these entries is an object
 abbrev pub FirstObject : List Slot → Type 0
 FirstObject (slot.Object v ∷ ss) = ⊤
 FirstObject ss = ⊥
 
--- which of these are objects
+-- the entries that must be objects for this operation are
 abbrev pub StartsWell : Takes → List Slot → Type 0
 StartsWell (Objects k) ss = (length ss ≡ k) × AllObjects ss
 StartsWell (Slice rule) ss = ⊤
 StartsWell (SliceAndReceiver rule) ss = FirstObject ss
 
--- a text has one of the first so many numbers
+-- the number of a text is below `count`
 abbrev pub IsNumbered : ℕ → Value → Type 0
 IsNumbered count (value.Text n) = n < count
 IsNumbered count v = ⊤
 
--- by a table of texts
+-- given a table of texts
 module _ (ts : List (List ℕ)) where
-  -- what is known of an object, as the definitions have it
+  -- what is known of an object, in the terms of the public definitions
   abbrev pub known : Value → Known
   known value.Unknown = None
   known (value.Made c) = Some (Plain c)
@@ -102,33 +102,33 @@ module _ (ts : List (List ℕ)) where
   abbrev pub resolved : Shape Value → Knowledge
   resolved h = record { entries = seen h.entries; memo = remembered h.memo }
 
-  -- this is known of an object, and it names no text that isn't in the table
+  -- this is known of the object, and it refers only to texts in the table
   pub record StandsAs (v : Value) (k : Known) : Type 0 where
     pub is : known v ≡ k
     pub numbered : IsNumbered (length ts) v
 
-  -- the same, where there is one
+  -- as StandsAs, if there is an object
   abbrev pub StandsIf : Option Value → Option Known → Type 0
   StandsIf None None = ⊤
   StandsIf (Some v) (Some k) = StandsAs v k
   StandsIf None (Some k) = ⊥
   StandsIf (Some v) None = ⊥
 
-  -- the same of the stack
+  -- as StandsAs, for every entry of the stack
   abbrev pub Sees : List (Entry Value) → List (Entry Known) → Type 0
   Sees es ks = Pointwise (AlikeEntry StandsAs) es ks
 
-  -- the same of both
+  -- as StandsAs, for the stack and the memo
   abbrev pub Resolves : Shape Value → Type 0
   Resolves h = Alike StandsAs h (resolved h)
 
--- what is known, how many texts are in the table, and the imports so far
+-- the knowledge, the number of texts in the table, and the imports so far
 pub record Holding : Type 0 where
   pub knowledge : Knowledge
   pub texts : ℕ
   pub imports : List Asked
 
--- the table after is the one before, with others behind
+-- the new table begins with the old one
 pub record HasMoreTexts (before after : List (List ℕ)) : Type 0 where
   pub more : List (List ℕ)
   pub is : after ≡ before ++ more

@@ -10,7 +10,7 @@ IsSpelled (Counted payload) = ⊤
 IsSpelled (Line line) = ⊤
 IsSpelled _ = ⊥
 
--- the layout of one of these
+-- the layout of a payload or a line
 abbrev pub IsTextLayout : Layout → Type 0
 IsTextLayout (layout.Counted size signed) = ⊤
 IsTextLayout (layout.Line most) = ⊤
