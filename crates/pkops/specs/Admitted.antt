@@ -13,8 +13,8 @@ abbrev is_known : Argument → Bool
 is_known (Number width protocol) = nat_le protocol highest_protocol
 is_known _ = false
 
--- every instruction except EXT1, EXT2 and EXT4, whose registry (PEP 307) belongs to the reader, and
--- a PROTO of an unknown protocol
+-- every instruction except EXT1, EXT2 and EXT4, whose registry (PEP 307, The extension registry)
+-- lies outside the pickle, and a PROTO of an unknown protocol
 abbrev pub is_admitted_by : Op → Argument → Bool
 is_admitted_by op.Ext1 _ = false
 is_admitted_by op.Ext2 _ = false

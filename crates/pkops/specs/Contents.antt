@@ -33,7 +33,7 @@ rule_of op.Inst = rule.Names
 rule_of op.PersId = rule.Ascii
 rule_of _ = rule.Anything
 
--- the argument keeps the rule
+-- the argument obeys the rule
 abbrev pub Keeps : Rule → Argument → Type 0
 Keeps rule.Anything _ = ⊤
 Keeps rule.Int (Line line) = IsIntLine line
@@ -47,7 +47,7 @@ Keeps rule.Names (Pair first second) = IsName first × IsName second
 Keeps rule.Ascii (Line line) = IsAscii line
 Keeps _ _ = ⊥
 
--- the argument has the opcode's kind and keeps the opcode's rule
+-- the argument has the opcode's kind and obeys the opcode's rule
 pub record IsGood (i : Instruction) : Type 0 where
   pub suits : Suits (layout_at i.op) i.arg
   pub contents : Keeps (rule_of i.op) i.arg

@@ -1,4 +1,5 @@
--- What a prefix of an instruction is as more bytes arrive, for readers that take bytes themselves.
+-- What a prefix of an instruction becomes as more bytes arrive, for readers that take the bytes
+-- themselves.
 use Rattle.std.specs.Prelude.{◌≡◌, ◌⊎◌, ◌<◌, ◌≤◌, ◌+◌, [], ◌∷◌, ◌++◌, Bool, List, length, take, ℕ}
 use Rattle.pkops.specs.Lying.{AreBytes, IsCountField, IsFixed, Lies, count_in, field_len}
 use Rattle.pkops.specs.Payloads.{HasCount}

@@ -1,4 +1,4 @@
--- The numbers of a set of limits.
+-- The values of a set of limits.
 use Rattle.std.specs.Prelude.{ℕ, ◌≤◌}
 
 -- limits on what is read, kept and written
@@ -13,12 +13,12 @@ pub record Bounds : Type 0 where
   pub depth : ℕ
   -- JSON values
   pub values : ℕ
-  -- bytes in a payload that is passed over
+  -- bytes in a payload that is skipped
   pub passed : ℕ
   -- the greatest memo number that PUT, BINPUT or LONG_BINPUT may store under
   pub numbers : ℕ
 
--- the limits with these numbers
+-- the limits with these values
 abbrev pub bounds : (counted stack memo depth values passed numbers : ℕ) → Bounds
 bounds counted stack memo depth values passed numbers = record {
   counted = counted;
@@ -34,11 +34,11 @@ bounds counted stack memo depth values passed numbers = record {
 abbrev pub standard : Bounds
 standard = bounds 16_777_216 1_000_000 1_000_000 100 1_000_000 16_777_216 4_294_967_295
 
--- the greatest limits without large data: the default ones, except for payloads passed over
+-- the greatest limits without large data: the default ones, except for skipped payloads
 abbrev pub greatest : Bounds
 greatest = record standard { passed = 1_099_511_627_776 }
 
--- the default limits for large data: memo entries as many as 32-bit numbers name, and the same
+-- the default limits for large data: as many memo entries as 32-bit numbers can name, and the same
 -- number of stack entries and payload bytes
 abbrev pub large : Bounds
 large = record standard {

@@ -28,7 +28,7 @@ abbrev pub IsNumeral : List ℕ → Type 0
 IsNumeral text =
     IsNatural text ⊎ ((digits : List ℕ) × IsPositive digits × (text ≡ codes "-" ++ digits))
 
--- how INT spells False and True for readers of protocol 0 (PEP 307 gave them opcodes)
+-- how INT spells False and True in protocols 0 and 1 (PEP 307, Pickling bools, gave them opcodes)
 abbrev pub is_bool_line : List ℕ → Bool
 is_bool_line line = bytes_eq line (codes "00") || bytes_eq line (codes "01")
 

@@ -1,4 +1,4 @@
--- What the arguments of some instructions name.
+-- What the arguments of some instructions name: memo entries, bools, and pairs.
 use Rattle.std.specs.Prelude.{ℕ, Bool, true, false, if◌then◌else◌, List, Option, Some, None}
 use Rattle.std.specs.Prelude.{unwrap_or}
 use Rattle.std.specs.Str.Parse.{digits_value}

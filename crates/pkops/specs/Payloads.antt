@@ -1,4 +1,4 @@
--- Counted payloads, and which of them a reader may pass over.
+-- Counted payloads, and which of them a reader may skip.
 use Rattle.std.specs.Prelude.{◌≡◌, ℕ, ◌==◌, ◌≤◌, ◌||◌, Bool, true, false, List, [], ◌∷◌, length}
 use Rattle.std.specs.Prelude.{if◌then◌else◌}
 use Rattle.pkops.specs.declared.layout.Layout.TheVariants as layout
@@ -10,8 +10,7 @@ use Rattle.pkops.specs.Lying.{count_in}
 use Rattle.pkops.specs.Spelling.{layout_at, size_of}
 use Rattle.pkops.specs.Table.{code_of}
 
--- opcodes with a byte payload, for bytes and for a bytearray (PEP 574); the payload may hold any
--- bytes
+-- opcodes with a byte payload, for bytes or a bytearray (PEP 574), which may contain any bytes
 abbrev pub is_passed : Op → Bool
 is_passed op.BinBytes = true
 is_passed op.ShortBinBytes = true
@@ -19,17 +18,17 @@ is_passed op.BinBytes8 = true
 is_passed op.ByteArray8 = true
 is_passed _ = false
 
--- the limit on the opcode's payload, for a reader that passes byte payloads over
+-- the limit on the opcode's payload, for a reader that skips byte payloads
 abbrev pub payload_limit : Bounds → Op → ℕ
 payload_limit limits op = if is_passed op then limits.passed else limits.counted
 
--- the byte is the code of such an opcode
+-- the byte is the code of an opcode whose payload may be skipped
 abbrev pub is_passed_code : ℕ → Bool
 is_passed_code code =
     (code_of op.BinBytes == code) || (code_of op.ShortBinBytes == code)
     || (code_of op.BinBytes8 == code) || (code_of op.ByteArray8 == code)
 
--- the limit on the payload of an instruction, by its bytes or a prefix of them
+-- the limit on the payload of an instruction, found from its bytes or a prefix of them
 abbrev pub payload_limit_at : Bounds → List ℕ → ℕ
 payload_limit_at limits [] = limits.counted
 payload_limit_at limits (code ∷ behind) =

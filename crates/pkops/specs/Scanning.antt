@@ -33,8 +33,8 @@ abbrev pub count_len : Layout → ℕ
 count_len (layout.Counted size signed) = size_of size
 count_len _ = 0
 
--- an argument that the bytes may begin: it has the layout, and is within the limit once its count
--- is complete
+-- an argument that the bytes may begin: it has the layout, and once its count is complete it is
+-- within the limit
 pub record MayBegin (limit : ℕ) (lay : Layout) (arg : Argument) (bytes : List ℕ) : Type 0 where
   pub suits : Suits lay arg
   pub within : count_len lay ≤ length bytes → IsWithin limit arg

@@ -1,4 +1,4 @@
--- Instructions and their spelling: a code, then an argument laid out by its kind, after the
+-- Instructions and their spelling: a code, then an argument laid out by its kind, as in the
 -- argument descriptors of CPython's `pickletools` (`read_uint1` to `read_unicodestring8`). An
 -- argument is kept as it was spelled, so an instruction has exactly one spelling. The 25 kinds have
 -- ten layouts; `Contents` says which contents are good beyond the layout.
@@ -51,8 +51,8 @@ shown_arg (arg.Line text) = Line text.now
 shown_arg (arg.Pair first second) = Pair first.now second.now
 shown_arg (arg.Counted payload) = Counted payload.now
 
--- the layout of each kind; a line has at most 1,024 bytes for an int or a memo number, and at most
--- 65,536 otherwise (limits of this project)
+-- the layout of each kind; this project limits a line to 1,024 bytes for an int or a memo number,
+-- and to 65,536 bytes otherwise
 abbrev pub layout_of : Kind → Layout
 layout_of kind.None = layout.Nothing
 layout_of kind.Uint1 = layout.U1

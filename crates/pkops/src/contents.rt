@@ -71,7 +71,7 @@ impl Rule {
     }
 }
 
-/// Whether the argument keeps the rule.
+/// Whether the argument obeys the rule.
 pub fn keeps(rule: Rule, arg: Arg<'_>) -> bool
     ensures { MatchBool result
         (Keeps rule (shown_arg arg.entry)) (¬ (Keeps rule (shown_arg arg.entry))) }

@@ -5,7 +5,7 @@
 pub enum Fault {
     /// The first byte is no opcode's code.
     UnknownOpcode(u8),
-    /// A count is negative, or the argument breaks the rule for its contents.
+    /// A count is negative, or the argument breaks its content rule.
     BadArgument,
     /// A count is above the limit, or a line is longer than its kind allows.
     TooLarge,

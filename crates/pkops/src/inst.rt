@@ -19,7 +19,7 @@ use crate::lending::{argument_apart, is_bool_behind, memo_number_behind};
 use crate::op::Op;
 use crate::table::kind;
 
-/// An instruction: an opcode with an argument of its kind, whose contents keep the opcode's rule.
+/// An instruction: an opcode with an argument of its kind, whose contents obey the opcode's rule.
 #[derive(Clone, Copy, Debug)]
 pub struct Inst<'a> {
     op: Op,
@@ -39,7 +39,7 @@ impl<'a> Inst<'a> {
 
     /// The instruction with this opcode and argument. `None` unless the argument has the opcode's
     /// kind, its lines are within their limits, its count fits the count field and its contents
-    /// keep the opcode's rule.
+    /// obey the opcode's rule.
     pub fn new(op: Op, arg: Arg<'a>) -> Option<Inst<'a>>
         ensures { SomeIff (option_map instruction_of result)
             (IsGood (instruction op (shown_arg arg.entry))) (instruction op (shown_arg arg.entry)) }
@@ -55,7 +55,7 @@ impl<'a> Inst<'a> {
     }
 
     /// The instruction with this opcode and an argument of its kind. `None` unless the contents of
-    /// the argument keep the opcode's rule.
+    /// the argument obey the opcode's rule.
     pub fn judged(op: Op, arg: Arg<'a>) -> Option<Inst<'a>>
         requires { Suits (layout_at op) (shown_arg arg) }
         ensures { SomeIff (option_map instruction_of result)
@@ -84,7 +84,7 @@ impl<'a> Inst<'a> {
     }
 
     /// The instruction that these bytes spell, which is known to be good. `split` is the length of
-    /// the first of two lines, else 0.
+    /// the first of two lines, otherwise 0.
     #[inline]
     pub fn spelled(op: Op, split: usize, bytes: &'a [u8]) -> Inst<'a>
         requires { (limit : ℕ) × (arg : Argument)

@@ -34,8 +34,8 @@ pub fn one_code()
     ensures { (a b : Op) → code_of a ≡ code_of b → a ≡ b }
 {}
 
-/// What a prefix is as more bytes arrive: which bytes begin an instruction, and what a code is with
-/// its field, or with its count and payload.
+/// What a prefix becomes as more bytes arrive: which bytes begin an instruction, and what a code is
+/// with its field, or with its count and payload.
 #[inline]
 pub fn growth()
     ensures begun { BegunLaws }
@@ -43,19 +43,19 @@ pub fn growth()
     ensures count { CountLaws }
 {}
 
-/// Each content rule holds exactly when its test, which computes, is true.
+/// Each content rule is equivalent to its test, which computes.
 #[inline]
 pub fn rules_are_computed()
     ensures { (rule : Rule) (arg : Argument) → Keeps rule arg ↔ (passes rule arg ≡ true) }
 {}
 
-/// The text that `text_of` answers is the one that the instruction names.
+/// The text that `text_of` returns is the one that the instruction names.
 #[inline]
 pub fn text_is_named()
     ensures { (i : Instruction) (text : List ℕ) → NamesText i text ↔ (text_bytes i ≡ Some text) }
 {}
 
-/// The bytes that `old_bytes_of` answers are those of the Python 2 string that the instruction
+/// The bytes that `old_bytes_of` returns are those of the Python 2 string that the instruction
 /// names.
 #[inline]
 pub fn old_bytes_are_named()

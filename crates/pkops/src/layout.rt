@@ -1,5 +1,5 @@
-//! The layout of an argument, by its kind: it says where the argument ends, not what it may
-//! contain.
+//! The layout of an argument, which follows from its kind. It says where the argument ends, not
+//! what it may contain.
 
 ghost use Rattle.std.specs.Prelude.{◌≡◌, nat_lt};
 ghost use Rattle.pkops.specs.Spelling.{count_limit, layout_of, size_of};

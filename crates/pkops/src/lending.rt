@@ -1,4 +1,4 @@
-//! Decodes the argument of bytes whose layout is known, without searching for line ends.
+//! Decodes an argument whose layout is known, without searching for line ends.
 
 ghost use Rattle.std.specs.Prelude.{◌≡◌, ◌+◌, ◌-◌, ◌≤◌, ℕ, Some, length, take, drop, true};
 ghost use Rattle.std.specs.Str.Parse.{digits_value};
@@ -18,8 +18,7 @@ use crate::table::layout_of_op;
 use byteorder::{ByteOrder, LittleEndian};
 
 /// The argument in the bytes of a whole instruction of this opcode. `split` is the length of the
-/// first of two lines. It is inlined everywhere, so that callers need no stack slot for the
-/// argument.
+/// first of two lines. Inlined everywhere, so that callers need no stack slot for the argument.
 #[inline(always)]
 pub fn argument_of<'a>(op: Op, split: usize, bytes: &'a [u8]) -> Arg<'a>
     requires { (limit : ℕ) × (arg : Argument) × Lies limit op arg split bytes.now }
@@ -53,8 +52,8 @@ pub fn argument_apart<'a>(op: Op, split: usize, bytes: &'a [u8]) -> Arg<'a>
     argument_of(op, split, bytes)
 }
 
-/// The memo number after the code. It makes no `Arg`, whose stack slot would be most of the cost of
-/// such an instruction.
+/// The memo number after the code. It makes no `Arg`, because filling the stack slot of one would
+/// cost more than the rest of such an instruction.
 #[inline(always)]
 pub fn memo_number_behind(op: Op, bytes: &[u8]) -> u32
     requires names { names_memo_entry op ≡ true }

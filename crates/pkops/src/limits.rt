@@ -6,8 +6,8 @@ ghost use Rattle.pkops.specs.Limits.{large, standard};
 
 use std::marker::Model;
 
-/// Limits on what is read, kept and written. Each is at most its standard number, except the limit
-/// on payloads that are passed over and the limits for large data.
+/// Limits on what is read, kept and written. Each is at most its standard value, except the limit
+/// on skipped payloads and the limits for large data.
 #[derive(Clone, Copy, Debug, PartialEq, Eq)]
 pub struct Limits {
     counted: u64,
@@ -42,9 +42,9 @@ impl Model for Limits {
 }
 
 impl Limits {
-    /// The default limits: payloads of 16,777,216 bytes, held or passed over; 1,000,000 stack
-    /// entries; 1,000,000 memo entries; JSON values nested 100 deep, and 1,000,000 of them; and
-    /// memo numbers up to 4,294,967,295, all that an instruction can spell.
+    /// The default limits: payloads of 16,777,216 bytes, held or skipped; 1,000,000 stack entries;
+    /// 1,000,000 memo entries; JSON values nested 100 deep, and 1,000,000 of them; and memo numbers
+    /// up to 4,294,967,295, the greatest that an instruction can spell.
     pub const STANDARD: Limits = Limits {
         counted: 16_777_216,
         stack: 1_000_000,
@@ -56,7 +56,7 @@ impl Limits {
     };
 
     /// The greatest limits without large data: the default ones, with 1,099,511,627,776 bytes for
-    /// payloads that are passed over.
+    /// skipped payloads.
     pub const GREATEST: Limits = Limits {
         passed: 1_099_511_627_776,
         ..Limits::STANDARD
@@ -71,15 +71,15 @@ impl Limits {
         ..Limits::STANDARD
     };
 
-    /// The greatest limits of all: those for large data, with 1,099,511,627,776 bytes for payloads
-    /// that are passed over.
+    /// The greatest limits of all: those for large data, with 1,099,511,627,776 bytes for skipped
+    /// payloads.
     pub const GREATEST_LARGE: Limits = Limits {
         passed: 1_099_511_627_776,
         ..Limits::LARGE
     };
 
-    /// Limits with these numbers, or `None` if one of them is above [`Limits::STANDARD`]. The
-    /// limits on payloads passed over and on memo numbers are the standard ones.
+    /// Limits with these values, or `None` if one of them is above [`Limits::STANDARD`]. The limits
+    /// on skipped payloads and on memo numbers are the standard ones.
     pub fn new(counted: u64, stack: u64, memo: u64, depth: u64, values: u64) -> Option<Limits>
         ensures { SomeIff result
             (AreWithin (bounds counted stack memo depth values standard.passed standard.numbers)
@@ -96,7 +96,7 @@ impl Limits {
         }
     }
 
-    /// Limits for large data with these numbers, or `None` if one of them is above
+    /// Limits for large data with these values, or `None` if one of them is above
     /// [`Limits::LARGE`]. Memory stays bounded by what was read: no payload, stack or memo is
     /// allocated before its bytes arrive.
     pub fn large(counted: u64, stack: u64, memo: u64, depth: u64, values: u64) -> Option<Limits>
@@ -124,8 +124,7 @@ impl Limits {
         }
     }
 
-    /// These limits with another one on payloads that are passed over, in bytes; `None` above
-    /// 1,099,511,627,776.
+    /// These limits with another one on skipped payloads, in bytes; `None` above 1,099,511,627,776.
     pub fn with_passed(self, passed: u64) -> Option<Limits>
         ensures { SomeIff result (passed ≤ greatest.passed) (record self { passed = passed }) }
     {
@@ -136,9 +135,9 @@ impl Limits {
         }
     }
 
-    /// These limits with another one on memo numbers; `None` above 4,294,967,295. A reader whose
-    /// memo is an array, like CPython's, allocates memory up to the greatest number that a pickle
-    /// stores under.
+    /// These limits with another one on memo numbers; `None` above 4,294,967,295. An unpickler
+    /// whose memo is an array, like CPython's, allocates memory up to the greatest number that a
+    /// pickle stores under.
     pub fn with_numbers(self, numbers: u64) -> Option<Limits>
         ensures { SomeIff result (numbers ≤ greatest.numbers) (record self { numbers = numbers }) }
     {
@@ -200,8 +199,8 @@ impl Limits {
         self.values
     }
 
-    /// The most bytes in a payload that is passed over: one of bytes or of a bytearray, of which
-    /// only the length is told.
+    /// The most bytes in a payload that is skipped: one of bytes or of a bytearray, of which only
+    /// the length is reported.
     pub fn passed(&self) -> u64
         ensures is { result ≡ self.now.passed }
         ensures most { result ≤ greatest_large.passed }

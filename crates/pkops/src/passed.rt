@@ -1,4 +1,4 @@
-//! Opcodes whose payload a reader may pass over.
+//! Opcodes whose payload a reader may skip.
 
 ghost use Rattle.std.specs.Prelude.{◌≡◌};
 ghost use Rattle.pkops.specs.Payloads.{is_passed};

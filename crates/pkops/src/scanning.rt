@@ -16,10 +16,10 @@ use crate::table::kind;
 ///
 /// A fault is reported as soon as it is certain: an unknown opcode at its code; a negative count,
 /// or one above the limit, once the count is complete; a line that is too long at its first excess
-/// byte; bad contents once the argument is complete. It allocates nothing.
+/// byte; bad contents once the argument is complete. Allocates nothing.
 pub fn scan<'a>(bytes: &'a [u8], limits: &Limits) -> Scan<'a>
     ensures answer { Answers limits.now.counted bytes.now (shown_scan result) }
-    // Any other answer would be wrong.
+    // This is the only right answer.
     ensures only { (other : Answer) →
         Answers limits.now.counted bytes.now other → other ≡ shown_scan result }
 {

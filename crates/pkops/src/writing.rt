@@ -66,8 +66,8 @@ fn write_argument<W: Write>(op: Op, arg: Arg<'_>, to: &mut W) -> Result<(), io::
     }
 }
 
-/// Writes the spelling of an instruction. It allocates nothing and fails only when the writer
-/// fails; how much was written then is unspecified.
+/// Writes the spelling of an instruction. Allocates nothing, and fails only if the writer fails; it
+/// is then unspecified how much was written.
 pub fn write_inst<W: Write>(inst: &Inst<'_>, to: &mut W) -> Result<(), io::Error>
     ensures { OnOk result
         (Appends (W.contents to.old) (W.contents to.new) (spelling (instruction_of inst.now))) }
@@ -77,7 +77,7 @@ pub fn write_inst<W: Write>(inst: &Inst<'_>, to: &mut W) -> Result<(), io::Error
     write_argument(op, inst.arg(), to)
 }
 
-/// The spellings of instructions, one after the other. Fails only if an allocation is refused.
+/// The spellings of instructions, in order. Fails only if an allocation is refused.
 pub fn assemble(alloc: Global, insts: &[Inst<'_>]) -> Result<Vec<u8>, AllocError>
     ensures { IfOk result (λ out.
         out.items ≡ flat_map (λ inst. spelling (instruction_of inst)) insts.now) }
