@@ -19,8 +19,8 @@ use Rattle.pkopt.specs.Limit.{IsPastLimit}
 use Rattle.pkopt.specs.OneFrame.{optimized}
 use Rattle.pkopt.specs.RunsAlike.{RunsAlike, AllRead}
 
--- a check under any import, with one limit for all payloads, accepts the pickle at the front of the
--- bytes
+-- a check that permits every import, with one limit for all payloads, accepts the pickle at the
+-- front of the bytes
 pub record Checks (limits : Bounds) (bytes : List ℕ) : Type 0 where
   pub rest : List ℕ
   pub taken : ℕ
@@ -28,7 +28,7 @@ pub record Checks (limits : Bounds) (bytes : List ℕ) : Type 0 where
   pub accepted : Accepted Unknown None (holding_all limits) (in_memory bytes) (in_memory rest)
       taken imports
 
--- a check of the bytes under any import takes this many bytes
+-- such a check accepts this many bytes
 abbrev pub TakesAsChecked : Bounds → List ℕ → ℕ → Type 0
 TakesAsChecked limits bytes taken =
     (after : Sight) × (imports : List Asked)
@@ -42,33 +42,33 @@ pickle checks = checks.accepted.instructions
 pub record Optimizes (limits : Bounds) (bytes out : List ℕ) : Type 0 where
   -- the pickle passes the check
   pub checks : Checks limits bytes
-  -- the output spells its slim form, in one frame if the pickle had any
+  -- the output spells its slim form, inside one frame if the pickle had any
   pub spelled : out ≡ spellings (optimized (pickle checks))
   -- whatever operations answer, both do the same things in the same order, with the same operands
-  -- and results, and end alike
+  -- and results, and end the same way
   pub alike : RunsAlike (pickle checks) (optimized (pickle checks))
   -- every memo write of the output is read
   pub read : AllRead (optimized (pickle checks))
-  -- the output is a sequence of its own, and each instruction lies within one frame
+  -- the output is a complete sequence of its own, and its instructions obey the frame rules
   pub sequence : IsSequence (λ _. limits.counted) (optimized (pickle checks))
   pub framed : Framed (map piece_of (optimized (pickle checks)))
   -- whatever operations answer, each step of the output finds what it needs, and STOP leaves
   -- nothing but the result
   pub sound : Sound Unknown (optimized (pickle checks)) (permitted_by None)
-  -- under any policy a check of the output finds no fault where it finds none in the pickle, apart
-  -- from passed limits
+  -- under every policy, if a check finds no fault in the pickle, it finds none in the output except
+  -- exceeded limits
   pub faultless : StaysFaultless (pickle checks) (optimized (pickle checks))
-  -- no write needs a number as large as the limit
+  -- no write that is read would need the limit, or more, as its number
   pub fits : (before : List Instruction) → IsPastLimit limits.memo (pickle checks) before → ⊥
 
--- the check refuses the pickle, at this offset and for this reason
+-- the check refuses the pickle at this offset, for this reason
 pub record FailsCheck (limits : Bounds) (bytes : List ℕ) (refusal : Refusal) : Type 0 where
   pub rest : List ℕ
   pub pair : Option Asked
   pub refused : Refused Unknown None (holding_all limits)
       (in_memory bytes) (in_memory rest) refusal.at refusal.reason pair
 
--- the pickle passes the check, and the write at this offset is read and would need the limit as its
+-- the pickle passes the check, but the write at this offset is read and would need the limit as its
 -- number
 pub record PassesLimit (limits : Bounds) (bytes : List ℕ) (refusal : Refusal) : Type 0 where
   pub checks : Checks limits bytes
@@ -83,7 +83,7 @@ pub record LacksMemory (limits : Bounds) (bytes : List ℕ) (refusal : Refusal) 
   pub place : refusal.at ≡ 0
   pub reason : refusal.reason ≡ OutOfMemory
 
--- one of these three
+-- one of these three holds
 abbrev pub IsNotOptimized : Bounds → List ℕ → Refusal → Type 0
 IsNotOptimized limits bytes refusal =
     FailsCheck limits bytes refusal

@@ -1,4 +1,4 @@
--- A pickle and its optimized form under a check.
+-- A pickle and its optimized form under the same check.
 use Rattle.std.specs.Prelude.{List}
 use Rattle.pkops.specs.Limits.{Bounds}
 use Rattle.pkops.specs.Spelling.{Instruction}
@@ -6,7 +6,7 @@ use Rattle.pkcheck.specs.declared.OldStrings.TheVariants.{Unknown}
 use Rattle.pkcheck.specs.ButForLimits.{IsFaultlessButForLimits}
 use Rattle.pkcheck.specs.Knowledge.{Policy}
 
--- under any policy under which the one has no fault, the other has none, but that limits are passed
+-- under every policy for which the first has no fault, the second has none except exceeded limits
 abbrev pub StaysFaultless : List Instruction → List Instruction → Type 0
 StaysFaultless p q =
     (policy : Policy) (limits : Bounds)

@@ -1,4 +1,4 @@
--- What holds of the definitions alone.
+-- Laws of the definitions.
 use Rattle.std.specs.Prelude.{◌≡◌, ◌≢◌, ◌≤◌, ◌++◌, ℕ, List, length, Option}
 use Rattle.pkops.specs.Limits.{Bounds}
 use Rattle.pkread.specs.Rows.{Sight, all_bytes, in_memory}
@@ -10,8 +10,8 @@ use Rattle.pkcheck.specs.Knowledge.{Policy, Asked}
 use Rattle.pkcheck.specs.Refused.{Refused}
 use Rattle.pkopt.specs.Answer.{Optimizes}
 
--- where a check under a policy and limits accepts a pickle, the same check refuses its optimized
--- form for nothing but a passed limit, a refused allocation or a failed read
+-- if a check accepts a pickle, the same check refuses its optimized form only for a limit, a
+-- refused allocation or a failed read
 abbrev pub FormIsAccepted : Type 0
 FormIsAccepted =
     (optimizing : Bounds) (bytes form : List ℕ)

@@ -1,4 +1,4 @@
--- Internal definitions, cited by private functions alone; they need not be trusted. The contract of
+-- Definitions that only private functions cite. They need not be trusted: the contract of
 -- `optimize` follows from them.
 pub mod Traces
 pub mod Fronts

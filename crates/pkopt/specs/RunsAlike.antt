@@ -6,7 +6,7 @@ use Rattle.pkcheck.specs.Runs.{Outcome, start}
 use Rattle.pkcheck.specs.WholeRuns.{run}
 use Rattle.pkopt.specs.Writers.{sources, is_read, after_all}
 
--- whatever operations answer, the two do the same and end alike
+-- whatever operations answer, the two do the same and end the same way
 abbrev pub RunsAlike : List Instruction → List Instruction → Type 0
 RunsAlike p q = (os : List Outcome) → SameEnd (run p os start) (run q os start)
 

@@ -43,8 +43,8 @@ abbrev pub is_frame : Op → Bool
 is_frame op.Frame = true
 is_frame o = false
 
--- what is left of an instruction with this effect after the writes `ws`, where `vs` is what all
--- reads read
+-- what is left of an instruction with this effect after the writes `ws`, where `vs` lists the
+-- writes that all reads read
 abbrev pub left_of : List (Option ℕ) → Writes → Effect → Instruction → List Instruction
 left_of vs ws (Moves Stores) i =
     cond (is_read (length ws) vs) (renumbered (new_number vs (length ws)) i ∷ []) []

@@ -1,4 +1,4 @@
-//! What becomes of each instruction in the slim form.
+//! What happens to each instruction in the slim form.
 
 ghost use Rattle.std.specs.Prelude.{◌≡◌, None, slice_index_or};
 ghost use Rattle.pkopt.specs.Private.Fates.{fate_in, fetched_fate, kept_fate};
@@ -7,14 +7,14 @@ ghost use Rattle.pkopt.specs.Private.Fates.{next_fate, passed_fate, stored_fate}
 use crate::memo::{MemoUse, memo_use};
 use pkops::Op;
 
-/// What becomes of an instruction.
+/// What happens to an instruction.
 #[derive(Clone, Copy)]
 pub(crate) enum Fate {
     /// It is dropped.
     Goes,
-    /// It stays unchanged.
+    /// It stays as it is.
     Stays,
-    /// It stays, with this number.
+    /// It stays, with this memo number.
     Gets(u32),
     /// It is a write that is read, and its number would be the limit.
     IsPast,
@@ -69,7 +69,7 @@ fn stored_fate(number: Option<u32>, limit: u32) -> Fate
     }
 }
 
-/// The fate of a write under the number of entries.
+/// The fate of a write under the number of memo entries.
 fn next_fate(number: Option<u32>, limit: u32) -> Fate
     ensures { result ≡ next_fate limit number }
 {

@@ -11,14 +11,14 @@ use std::alloc::{AllocError, Global};
 /// The length of a FRAME instruction in bytes.
 const ROOM: usize = 9;
 
-/// The room to leave for a FRAME: its length if there is to be one, else 0.
+/// The room to leave for a FRAME: its length, or 0 without one.
 pub(crate) fn room_for(framed: bool) -> usize
     ensures { result ≡ cond framed 9 0 }
 {
     if framed { ROOM } else { 0 }
 }
 
-/// The number of bytes before the frame: the two of a leading PROTO, else 0.
+/// The number of bytes before the frame: two for a leading PROTO, otherwise 0.
 fn head_length(bytes: &[u8]) -> usize
     ensures is { result ≡ head_length bytes.now }
     ensures fits { result ≤ length bytes.now }
@@ -57,7 +57,7 @@ fn write_over(out: &mut [u8], front: &[u8])
     out[..front.len()].copy_from_slice(front);
 }
 
-/// Puts a pickle into one frame, except a leading PROTO. The pickle follows room for a FRAME.
+/// Puts a pickle into one frame, except a leading PROTO. The buffer begins with room for a FRAME.
 pub(crate) fn put_in_frame(alloc: Global, out: &mut Vec<u8>) -> Result<(), AllocError>
     requires { 9 ≤ length out.old.items }
     ensures { OnOk result (out.new.items ≡ framed_bytes (drop 9 out.old.items)) }

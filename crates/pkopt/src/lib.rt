@@ -1,5 +1,5 @@
-//! Makes pickles smaller: drops memo writes that nothing reads, and uses one frame. It is proved
-//! that every run of the result is a run of the original.
+//! Makes pickles smaller: drops memo writes that nothing reads, and uses one frame. Every run of
+//! the result is proved to be a run of the original.
 #![tactic(auto)]
 
 mod fate;

@@ -14,7 +14,7 @@ use std::collections::BTreeMap;
 pub(crate) enum MemoUse {
     /// It writes under the number that it names.
     Stores,
-    /// It writes under the number of entries.
+    /// It writes under the number of memo entries.
     StoresNext,
     /// It reads the number that it names.
     Fetches,
@@ -61,7 +61,7 @@ impl Drop for Memo {
 }
 
 impl Memo {
-    /// An empty memo, before the first write. It allocates nothing.
+    /// An empty memo, before the first write. Allocates nothing.
     pub(crate) fn new(alloc: Global) -> Memo
         ensures ordered { result.ordered.items ≡ [] }
         ensures rest { result.rest.entries ≡ [] }

@@ -44,7 +44,8 @@ fn number_after(stays: bool, next: u32, limit: u32) -> u32
     }
 }
 
-/// Numbers the writes that stay. From the limit on they all get the limit.
+/// Numbers the writes that stay. Once the numbers reach the limit, all further writes get the
+/// limit.
 fn numbered(alloc: Global, kept: &[bool], limit: u32) -> Result<Vec<Option<u32>>, AllocError>
     ensures { IfOk result (λ numbers. (vs : List (Option ℕ)) (writes : ℕ) →
         AreKept vs writes kept.now → AreNumbers vs writes limit numbers.items) }

@@ -21,7 +21,7 @@ use pkread::laws::framed;
 use pkread::{Memory, Reason, Refusal};
 use std::alloc::{AllocError, Global};
 
-/// The refusal when an allocation outside the check was refused.
+/// The refusal after a refused allocation outside the check.
 fn lacks_memory() -> Refusal
     ensures at { result.at ≡ 0 }
     ensures reason { result.reason ≡ reason.OutOfMemory }
@@ -32,7 +32,7 @@ fn lacks_memory() -> Refusal
     }
 }
 
-/// Plans what becomes of the memo instructions of a pickle.
+/// Plans what happens to the memo instructions of a pickle.
 fn plan_of(
     alloc: Global,
     sources: Vec<Option<u32>>,
@@ -53,8 +53,8 @@ fn plan_of(
     })
 }
 
-/// Checks the pickle at the front of the bytes under any import. All its payloads are held, under
-/// one limit.
+/// Checks the pickle at the front of the bytes, permitting every import. It holds all payloads,
+/// under one limit.
 fn checked(alloc: Global, bytes: &[u8], limits: &Limits) -> Result<(), Refusal>
     ensures ok { OnOk result (Checks limits.now bytes.now) }
     ensures err { IfErr result (λ refusal. FailsCheck limits.now bytes.now refusal) }
@@ -74,7 +74,7 @@ fn checked(alloc: Global, bytes: &[u8], limits: &Limits) -> Result<(), Refusal>
     }
 }
 
-/// An accepted pickle, with what is known about its memo and its frames.
+/// An accepted pickle, with what the second pass needs to know about its memo and its frames.
 #[derive(Drop)]
 struct Traced {
     /// Its length in bytes.
@@ -117,7 +117,7 @@ pub struct Form {
     pub bytes: Vec<u8>,
 }
 
-/// The optimized form, as `optimize` gives it, with the length of the original.
+/// The optimized form, as `optimize` returns it, and the length of the original.
 ///
 /// # Errors
 ///
@@ -158,9 +158,10 @@ pub fn optimized_form(alloc: Global, bytes: &[u8], limits: &Limits) -> Result<Fo
 /// Optimizes the pickle at the front of the bytes: drops memo writes that nothing reads, renumbers
 /// the others from 0, and uses one frame if the pickle had any. Bytes after STOP are ignored.
 ///
-/// The pickle is checked first, as by `check` under any import, with `counted` as the limit on all
-/// payloads. Every run of the result is a run of the pickle, whatever operations answer: it does
-/// the same things in the same order, with the same operands and results, and ends alike.
+/// The pickle is checked first, as by `check` with every import permitted and with `counted` as the
+/// limit on all payloads. Every run of the result is a run of the pickle, whatever operations
+/// answer: it does the same things in the same order, with the same operands and results, and ends
+/// the same way.
 ///
 /// # Errors
 ///

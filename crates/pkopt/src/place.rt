@@ -1,4 +1,4 @@
-//! The places of the instructions in a pickle that may change.
+//! The offsets of the instructions in a pickle that may change.
 
 ghost use Rattle.std.specs.Prelude.{◌≡◌, false};
 ghost use Rattle.pkops.specs.Inst.{instruction_of};
@@ -8,7 +8,7 @@ ghost use Rattle.std.specs.List.{list_any};
 
 use pkops::{Inst, Op};
 
-/// The place of an instruction that is not plain.
+/// The place of an instruction that may change.
 #[derive(Clone, Copy)]
 pub(crate) struct Place {
     /// The offset of its first byte.
@@ -19,7 +19,7 @@ pub(crate) struct Place {
     pub op: Op,
 }
 
-/// Whether instructions of this opcode never change: they do not use the memo and are no FRAME.
+/// Whether instructions with this opcode never change: they don't use the memo and aren't FRAME.
 #[inline]
 pub(crate) fn is_plain(op: Op) -> bool
     ensures { result ≡ stays_as_is op }
@@ -37,7 +37,7 @@ pub(crate) fn is_plain(op: Op) -> bool
     }
 }
 
-/// Whether one of them is a FRAME.
+/// Whether one of the places is that of a FRAME.
 pub(crate) fn any_frame(places: &[Place]) -> bool
     ensures { result ≡ list_any (λ place. is_frame place.op) places.now }
 {
@@ -51,7 +51,8 @@ fn is_frame(op: Op) -> bool
     matches!(op, Op::Frame)
 }
 
-/// The place of an instruction. Its length is small: its line, if it has one, is a number.
+/// The place of an instruction that may change. Its length fits, because its only possible line is
+/// a number.
 #[inline]
 pub(crate) fn place_of(at: u64, inst: &Inst<'_>) -> Place
     requires { stays_as_is (instruction_of inst.now).op ≡ false }

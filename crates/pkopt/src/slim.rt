@@ -19,14 +19,15 @@ use std::alloc::{AllocError, Global};
 /// The slim form of a pickle, as far as it is written.
 #[derive(Drop)]
 pub(crate) struct Slim {
-    /// How many memo writes the pickle had so far.
+    /// The number of memo writes so far in the pickle.
     writes: usize,
-    /// How many memo reads it had so far.
+    /// The number of memo reads so far.
     reads: usize,
     /// Room for a FRAME if there is to be one, then the bytes of the slim form, except those not
     /// copied yet.
     pub bytes: Vec<u8>,
-    /// The offset in the pickle of the bytes not copied yet, which end where the pass is.
+    /// The offset in the pickle of the first byte not copied yet. Those bytes end at the current
+    /// instruction.
     from: usize,
 }
 
@@ -73,7 +74,7 @@ impl Slim {
         })
     }
 
-    /// Copies the unchanged bytes up to `here`, and skips those up to `there`.
+    /// Copies the unchanged bytes up to `here`, and skips the bytes from there to `there`.
     fn copy(&mut self, bytes: &[u8], here: usize, there: usize) -> Result<(), AllocError>
         requires low { self.old.from ≤ here }
         requires high { here ≤ length bytes.now }
@@ -110,7 +111,7 @@ impl Slim {
         }
     }
 
-    /// Processes one more instruction that is not plain.
+    /// Processes one more instruction that may change.
     fn add(&mut self, plan: &Plan, place: Place, bytes: &[u8]) -> Result<(), Reason>
         requires writes { self.old.writes < 2 ^ 63 }
         requires reads { self.old.reads < 2 ^ 63 }
@@ -144,8 +145,8 @@ fn refused(at: u64, reason: Reason) -> Refusal
     }
 }
 
-/// The slim form of the pickle at the front of the bytes, after `room` zero bytes. `places` are
-/// those of its instructions that are not plain.
+/// The slim form of the pickle at the front of the bytes, after `room` zero bytes. `places` has
+/// those of its instructions that may change.
 #[inline(never)]
 pub(crate) fn slim_of(
     alloc: Global,

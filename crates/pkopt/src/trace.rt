@@ -19,16 +19,17 @@ fn number_of(inst: &Inst<'_>) -> usize
     inst.memo_number().unwrap_or(0) as usize
 }
 
-/// What is known so far about the memo and the frames of a pickle.
+/// What the first pass has learned about the memo and the frames of a pickle.
 #[derive(Drop)]
 pub(crate) struct Trace {
     /// The last write of each number.
     pub memo: Memo,
-    /// The number of writes. It fits: with 2^32 writes the other fields would take some 100 GB.
+    /// The number of writes. It can't overflow: with 2^32 writes the other fields would take some
+    /// 100 GB.
     pub writes: u32,
     /// For each read, the write that it reads.
     pub sources: Vec<Option<u32>>,
-    /// The places of the instructions that are not plain.
+    /// The places of the instructions that may change.
     pub places: Vec<Place>,
 }
 

@@ -1,4 +1,4 @@
--- What becomes of each instruction in the slim form, as the second pass finds it.
+-- What happens to each instruction in the slim form, as the second pass decides it.
 use Rattle.std.specs.Prelude.{◌≡◌, ◌≢◌, ◌⊎◌, ℕ, ◌+◌, ◌-◌, ◌≤◌, true, cond, nat_eq, List, [], ◌++◌}
 use Rattle.std.specs.Prelude.{length, take, drop, replicate, Option, None, Some, slice_index_or}
 use Rattle.pkops.specs.declared.Op.{Op}
@@ -26,7 +26,7 @@ abbrev pub stored_fate : ℕ → Option ℕ → Fate
 stored_fate limit None = Goes
 stored_fate limit (Some n) = cond (nat_eq n limit) IsPast (Gets n)
 
--- the fate of a write under the number of entries
+-- the fate of a write under the number of memo entries
 abbrev pub next_fate : ℕ → Option ℕ → Fate
 next_fate limit None = Goes
 next_fate limit (Some n) = cond (nat_eq n limit) IsPast Stays
@@ -106,7 +106,7 @@ abbrev pub refusal_at : ℕ → Reason → Refusal
 refusal_at at reason.OutOfMemory = record { at = 0; reason = reason.OutOfMemory }
 refusal_at at r = record { at = at; reason = r }
 
--- the plan is right for this pickle
+-- the plan fits this pickle
 pub record IsPlanFor (p : List Instruction) (plan : Plan) : Type 0 where
   pub reads : plan.sources.items ≡ sources [] p
   pub writes : AreNumbers (sources [] p) (length (after_all p [])) plan.limit plan.numbers.items
@@ -117,7 +117,7 @@ pub record IsSlim (p : List Instruction) (limit room : ℕ) (out : List ℕ) : T
   pub fits : new_number (sources [] p) (length (after_all p [])) ≤ limit
 
 -- the input of the second pass: bytes that begin with the pickle, the places of its instructions
--- that are not plain, its length in bytes, and a plan
+-- that may change, its length in bytes, and a plan
 pub record Aims (bytes : List ℕ) (places : List Place) (taken : ℕ) (plan : Plan)
     (p : List Instruction) : Type 0 where
   pub rest : List ℕ

@@ -3,7 +3,7 @@ use Rattle.std.specs.Prelude.{ℕ, ◌-◌, cond, nat_eq, List, ◌∷◌, ◌++
 use Rattle.pkops.specs.declared.Op.TheVariants.{Frame}
 use Rattle.pkops.specs.Spelling.{Number, instruction, spelling}
 
--- the bytes before the frame: the two of a leading PROTO, else none
+-- the number of bytes before the frame: two for a leading PROTO, otherwise 0
 abbrev pub head_length : List ℕ → ℕ
 head_length (code ∷ protocol ∷ bytes) = cond (nat_eq code 128) 2 0
 head_length bytes = 0

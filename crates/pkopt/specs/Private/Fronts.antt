@@ -1,4 +1,4 @@
--- The instructions of a pickle, as the passes see them.
+-- The instructions of a pickle, as the two passes see them.
 use Rattle.std.specs.Prelude.{◌≡◌, ◌≢◌, ◌⊎◌, ℕ, List, [], ◌∷◌}
 use Rattle.pkops.specs.declared.Op.TheVariants.{Stop}
 use Rattle.pkops.specs.Spelling.{Instruction}

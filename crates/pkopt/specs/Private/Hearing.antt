@@ -1,4 +1,4 @@
--- What is heard of consecutive instructions adds up.
+-- Listening to one part of a pickle after another is the same as listening to the whole.
 use Rattle.std.proofs.Common.{◌≡◌, ℕ, Bool, true, false, cond, List, [], ◌∷◌, ◌++◌, Option}
 use Rattle.std.proofs.Common.{refl, sym, ap, subst, ◌∙◌, append_assoc, append-nil}
 use Rattle.pkops.specs.Operands.{memo_number}

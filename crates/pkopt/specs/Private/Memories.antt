@@ -6,7 +6,7 @@ use Rattle.pkopt.specs.declared.memo.Memo.{Memo}
 use Rattle.pkopt.specs.Private.Traces.{Rising}
 use Rattle.pkopt.specs.Writers.{Writes, last_write, different}
 
--- the last write of a number, kept in the row of consecutive numbers or among the rest
+-- the last write of a number, which is either in the row of consecutive numbers or among the rest
 abbrev pub write_held : ℕ → List ℕ → List (ℕ × ℕ) → ℕ → Option ℕ
 write_held first row rest n =
     cond (ltb n first) (recalled n rest)

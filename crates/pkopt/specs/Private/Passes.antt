@@ -38,7 +38,7 @@ pub record FollowsWrites (ws : Writes) (t : Trace) : Type 0 where
   pub holds : HoldsWrites ws t.memo
   pub count : t.writes ≡ length ws
 
--- the effect of one more instruction on the memo was recorded
+-- what one more instruction does to the memo was recorded
 abbrev pub NotesStep : Instruction → Trace → Trace → Type 0
 NotesStep i old new = (ws : Writes) → FollowsWrites ws old →
     FollowsWrites (after i ws) new
@@ -53,8 +53,8 @@ pub record HearsBehind (ws : Writes) (old new : Trace) (hs : List Heard) : Type 
 abbrev pub Hears : Trace → Trace → List Heard → Type 0
 Hears old new hs = (ws : Writes) → FollowsWrites ws old → HearsBehind ws old new hs
 
--- what is known of a whole pickle: the write that each read reads, the number of writes, and the
--- places
+-- the trace of a whole pickle: the write that each read reads, the number of writes, and the places
+-- of the instructions that may change
 pub record Tracks (p : List Instruction) (t : Trace) : Type 0 where
   pub reads : t.sources.items ≡ sources [] p
   pub writes : t.writes ≡ length (after_all p [])

@@ -1,4 +1,4 @@
--- The places of the instructions in a pickle that may change.
+-- The offsets of the instructions in a pickle that may change.
 use Rattle.std.specs.Prelude.{ℕ, ◌+◌, Bool, true, false, cond, List, [], ◌∷◌, length}
 use Rattle.pkops.specs.declared.Op.{Op}
 use Rattle.pkops.specs.declared.Op.TheVariants as op
@@ -6,7 +6,7 @@ use Rattle.pkops.specs.Spelling.{Instruction, spelling}
 use Rattle.pkcheck.specs.Heard.{Heard}
 use Rattle.pkopt.specs.declared.place.Place.{Place}
 
--- instructions of this opcode never change: they do not use the memo and are no FRAME
+-- instructions with this opcode never change: they don't use the memo and aren't FRAME
 abbrev pub stays_as_is : Op → Bool
 stays_as_is op.Put = false
 stays_as_is op.BinPut = false
@@ -22,7 +22,7 @@ stays_as_is o = true
 abbrev pub place_of : ℕ → Instruction → Place
 place_of at i = record { at = at; size = length (spelling i); op = i.op }
 
--- the places of the instructions that are not plain; the first instruction is at this offset
+-- the places of the instructions that may change, if the first instruction is at this offset
 abbrev pub places_from : ℕ → List Instruction → List Place
 places_from at [] = []
 places_from at (i ∷ is) =
@@ -34,7 +34,7 @@ abbrev pub told : List Heard → List Instruction
 told [] = []
 told (h ∷ hs) = h.instruction ∷ told hs
 
--- the places of the heard instructions that are not plain
+-- the places of the heard instructions that may change
 abbrev pub places_told : List Heard → List Place
 places_told [] = []
 places_told (h ∷ hs) =
