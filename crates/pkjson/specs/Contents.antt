@@ -1,4 +1,4 @@
--- What each object of a run holds at the end, computed from the events.
+-- What each object of a run contains at the end, computed from the events.
 use Rattle.std.specs.Prelude.{◌==◌, ℕ, zero, suc, Bool, true, false, cond, List, [], ◌∷◌, ◌++◌}
 use Rattle.std.specs.Prelude.{Option, Some, None, option_map, unwrap_or}
 use Rattle.std.specs.Ordering.{nat_cmp}
@@ -26,7 +26,7 @@ same zero zero = true
 same (suc m) (suc n) = same m n
 same m n = false
 
--- what an event gives to object n: what it is made from, or what it receives
+-- the objects that an event gives to object n: those it is made from, or those it receives
 abbrev pub given_to : ℕ → Event → List ℕ
 given_to n (Did i xs (Some m)) = cond (same m n) xs []
 given_to n (Did i (r ∷ xs) None) = cond (same r n) xs []
@@ -74,7 +74,8 @@ int_value i =
 abbrev pub text_named : Instruction → List ℕ
 text_named i = unwrap_or (text_bytes i) []
 
--- the kind of object, by what the opcode gives; plain instructions make no other class
+-- the kind of an object, from what its opcode gives; plain instructions make objects of no other
+-- class
 abbrev pub kind_given : Gives → Instruction → Kind
 kind_given (Makes class.List) i = OfItems
 kind_given (Makes class.Tuple) i = OfItems
@@ -98,7 +99,7 @@ abbrev pub characters : Option Kind → List ℕ
 characters (Some (OfValue (string t))) = t
 characters k = []
 
--- keys paired with their values; the keys are texts
+-- keys paired with their values; every key is text
 abbrev pub paired : (ℕ → Option Kind) → List ℕ → List (List ℕ × ℕ)
 paired kinds (k ∷ x ∷ xs) = (characters (kinds k), x) ∷ paired kinds xs
 paired kinds xs = []
@@ -108,12 +109,12 @@ abbrev pub standing : List (List ℕ × ℕ) → List (List ℕ × ℕ) → List
 standing before [] = before
 standing before (p ∷ ps) = standing (insert_entry (slice_cmp nat_cmp) before p.0 p.1) ps
 
--- what an object of this kind holds after it was given these
+-- what an object of this kind contains after it was given these
 abbrev pub held_by : (ℕ → Option Kind) → List ℕ → Kind → Content
 held_by kinds xs OfItems = Sequence xs
 held_by kinds xs OfPairs = Pairs (standing [] (paired kinds xs))
 held_by kinds xs (OfValue v) = Scalar v
 
--- what each object holds
+-- what each object contains
 abbrev pub contents : List Event → Heap
 contents es n = option_map (held_by (kinds es) (all_given n es)) (kinds es n)

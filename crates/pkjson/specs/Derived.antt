@@ -1,4 +1,4 @@
--- What an object unfolds to, by derivation.
+-- What an object unfolds to, as derivations.
 use Rattle.std.specs.Prelude.{◌≡◌, ℕ, suc, ◌+◌, max, List, [], ◌∷◌, Some}
 use Rattle.serde_json.specs.Data.{Data, array, object, Items, no_items, item, Members, no_members}
 use Rattle.serde_json.specs.Data.{member}
@@ -9,7 +9,7 @@ IsFlat (array vs) = ⊥
 IsFlat (object ms) = ⊥
 IsFlat v = Unit {0}
 
--- an object, its value, the depth of the value and its number of values
+-- an object, its value, the depth of the value and the number of values in it
 mutual
   pub data Derives (h : Heap) : ℕ → Data → ℕ → ℕ → Type 0 where
     scalar : (x : ℕ) (v : Data) → h x ≡ Some (Scalar v) → IsFlat v → Derives h x v 0 1

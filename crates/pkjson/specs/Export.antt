@@ -1,4 +1,4 @@
--- The answers of an export.
+-- What the answers of an export mean.
 use Rattle.std.specs.Prelude.{◌≡◌, ◌≢◌, ℕ, ◌<◌, ◌≤◌, false, List, Option, Some, None}
 use Rattle.serde_json.specs.Data.{Data, depth}
 use Rattle.serde_json.specs.Written.{compact_text, has_float}
@@ -19,8 +19,8 @@ use Rattle.pkjson.specs.Unfolds.{Unfolds, count}
 use Rattle.pkjson.specs.Contents.{contents}
 use Rattle.pkjson.specs.Plain.{Fault, OtherOpcode, OtherKey, LargeNumber, plain_run, first_fault}
 
--- a check under any import, with one limit for all payloads, accepts the pickle at the front of the
--- bytes, and these are its instructions
+-- a check that permits every import, with one limit for all payloads, accepts the pickle at the
+-- front of the bytes; these are its instructions
 pub record AcceptedAs (limits : Bounds) (bytes : List ℕ) (p : List Instruction) : Type 0 where
   pub new : Sight
   pub taken : ℕ
@@ -39,7 +39,7 @@ FaultsAt limits bytes at fault =
     × AcceptedAs limits bytes p
     × (first_fault 0 p start ≡ Some (at, fault))
 
--- the accepted pickle is plain, and its plain run ends with this object after these events
+-- the accepted pickle is plain data, and its plain run ends with this object after these events
 pub record Results (limits : Bounds) (bytes : List ℕ) (x : ℕ) (events : List Event) : Type 0 where
   pub instructions : List Instruction
   pub accepted : AcceptedAs limits bytes instructions
@@ -56,21 +56,21 @@ pub record IsValueOf (limits : Bounds) (bytes : List ℕ) (v : Data) : Type 0 wh
   pub unfolds : Unfolds (contents events) object v
   pub shallow : depth v ≤ limits.depth
   pub few : count v ≤ limits.values
-  -- it has no float, so that serde_json's `to_string` gives its text as `compact_text` says it
+  -- it contains no float, so serde_json's `to_string` and `compact_text` agree on its text
   pub floatless : has_float v ≡ false
 
 -- the compact JSON text of that value
 abbrev pub IsTextOf : Bounds → List ℕ → List ℕ → Type 0
 IsTextOf limits bytes text = (v : Data) × IsValueOf limits bytes v × (text ≡ compact_text v)
 
--- the result has no value within the depth limit: it contains itself, or its value is deeper
+-- the result has no value within the depth limit, because it contains itself or nests too deeply
 pub record IsTooDeep (limits : Bounds) (bytes : List ℕ) : Type 0 where
   pub object : ℕ
   pub events : List Event
   pub results : Results limits bytes object events
   pub deep : (v : Data) → Unfolds (contents events) object v → limits.depth < depth v
 
--- the result has a value within the depth limit, but of too many values
+-- the result has a value within the depth limit, but with too many values in it
 pub record HasTooMany (limits : Bounds) (bytes : List ℕ) : Type 0 where
   pub object : ℕ
   pub events : List Event

@@ -3,7 +3,7 @@ use Rattle.std.specs.Prelude.{ℕ, ◌-◌, ◌*◌, ◌+◌, ◌^◌, ltb, nat_
 use Rattle.std.specs.Prelude.{negsuc, neg_ℤ, List, [], ◌∷◌, Option, Some, None}
 use Rattle.pkops.specs.Spelling.{Argument, Number, Signed, Line, Counted}
 
--- the digits read after those of n, up to the L that may end a line of LONG
+-- the digits after those of n, up to the L that may end a line of LONG
 abbrev pub decimal_after : ℕ → List ℕ → ℕ
 decimal_after n [] = n
 decimal_after n (c ∷ cs) = cond (nat_eq c 76) n (decimal_after (n * 10 + (c - 48)) cs)
@@ -25,8 +25,8 @@ abbrev pub natural : Bool → List ℕ → ℕ
 natural flip [] = 0
 natural flip (b ∷ bs) = cond flip (255 - b) b + natural flip bs * 256
 
--- little-endian two's complement (CPython's `pickletools.decode_long`): if the sign bit is set, the
--- complements of the bytes spell the distance from -1
+-- little-endian two's complement, as CPython's `pickletools.decode_long` reads it: if the sign bit
+-- is set, the complements of the bytes spell the distance from -1
 abbrev pub twos_complement : List ℕ → ℤ
 twos_complement bs =
     cond (has_sign bs) (negsuc (natural (has_sign bs) bs)) (pos (natural (has_sign bs) bs))

@@ -12,7 +12,8 @@ use Rattle.pkjson.specs.Derived.{Derives}
 abbrev pub OneValue : Type 0
 OneValue = (h : Heap) (x : ℕ) (v w : Data) → Unfolds h x v → Unfolds h x w → w ≡ v
 
--- an object unfolds to a value by a finite derivation with the depth and count of that value
+-- if an object unfolds to a value, a finite derivation shows it, with the depth and count of that
+-- value
 abbrev pub AreDerivations : Type 0
 AreDerivations =
     (h : Heap) (x : ℕ) (v : Data)

@@ -1,4 +1,4 @@
--- the subject
+-- what plain data is, and what it means
 pub mod Integers
 pub mod Unfolds
 pub mod Derived

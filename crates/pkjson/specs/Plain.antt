@@ -1,4 +1,4 @@
--- Plain instructions, and the run of a plain pickle.
+-- Plain data: its instructions, and the run of a plain pickle.
 use Rattle.std.specs.Prelude.{ℕ, ◌+◌, Bool, true, false, cond, List, [], ◌∷◌, length, Option, Some}
 use Rattle.std.specs.Prelude.{None, Result, Ok, Err}
 use Rattle.pkops.specs.declared.Op.{Op}
@@ -62,8 +62,8 @@ is_plain_data op.Memoize = true
 is_plain_data op.Stop = true
 is_plain_data _ = false
 
--- why an instruction is not plain data: its opcode, a dict key that is not text, or an integer that
--- does not fit 64 signed bits
+-- why an instruction is not plain data: its opcode, a dict key that isn't text, or an integer that
+-- doesn't fit 64 signed bits
 pub data Fault : Type 0 where
   OtherOpcode : Op → Fault
   OtherKey : Fault
@@ -121,7 +121,7 @@ fault_of i s =
     (Some OtherKey))
     (Some (OtherOpcode i.op))
 
--- the outcome that goes on
+-- the outcome without a raise
 abbrev pub goes_on : Outcome
 goes_on = Go 0 Foreign
 
@@ -135,7 +135,7 @@ abbrev pub fault_after : Stepped → (State → Option (ℕ × Fault)) → Optio
 fault_after (WentOn s) f = f s
 fault_after st f = None
 
--- the fault of this instruction, or else the first one after it
+-- the fault of this instruction, otherwise the first one after it
 abbrev pub fault_here : Option Fault → ℕ → Option (ℕ × Fault) → Option (ℕ × Fault)
 fault_here (Some f) at later = Some (at, f)
 fault_here None at later = later

@@ -1,5 +1,5 @@
--- Internal definitions, cited by private functions alone; they need not be trusted. The contract of
--- `export` follows from them.
+-- Definitions that only private functions cite. They need not be trusted: the contract of `export`
+-- follows from them.
 pub mod Arena
 pub mod Acting
 pub mod Mirrors

@@ -3,7 +3,7 @@ use Rattle.std.specs.Prelude.{◌≡◌, ℕ, suc, ◌+◌, List, [], ◌∷◌,
 use Rattle.serde_json.specs.Data.{Data, null, boolean, number, string, array, object, Items}
 use Rattle.serde_json.specs.Data.{no_items, item, Members, no_members, member}
 
--- the contents of an object at the end
+-- the contents of an object in its final state
 pub data Content : Type 0 where
   Scalar : Data → Content
   Sequence : List ℕ → Content
@@ -13,7 +13,7 @@ pub data Content : Type 0 where
 abbrev pub Heap : Type 0
 Heap = ℕ → Option Content
 
--- the value that an object unfolds to. Values are finite, so an object that contains itself has
+-- the value that an object unfolds to; values are finite, so an object that contains itself has
 -- none
 abbrev mutual
   pub Unfolds : Heap → ℕ → Data → Type 0
@@ -37,7 +37,7 @@ abbrev mutual
   UnfoldMembers h [] (member k v ms) = ⊥
   UnfoldMembers h (p ∷ ps) no_members = ⊥
 
--- the number of values in a value, without keys
+-- the number of values in a value; keys don't count
 abbrev mutual
   pub count : Data → ℕ
   count (array vs) = suc (items_count vs)

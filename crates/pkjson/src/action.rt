@@ -9,8 +9,8 @@ ghost use Rattle.pkjson.specs.Private.Acting.{ActsAs, KindsAgree};
 
 use pkops::Op;
 
-/// What an action takes from the stack: a number of objects, or the topmost mark and everything
-/// above it.
+/// What an action takes from the stack: this many objects, or the topmost mark and everything above
+/// it.
 #[derive(Clone, Copy)]
 pub enum Takes {
     Objects(u8),

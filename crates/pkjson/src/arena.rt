@@ -54,7 +54,7 @@ impl<'a> Arena<'a> {
         }
     }
 
-    /// The number of the object on top, or `None` if the top is no object.
+    /// The number of the object on top of the stack; `None` if the top is a mark or missing.
     pub fn top(&self) -> Option<usize>
         ensures { MatchOption result (IsLacking (top (parts self.now).shape.entries))
             (λ n. top (parts self.now).shape.entries
@@ -63,7 +63,7 @@ impl<'a> Arena<'a> {
         top(&self.stack)
     }
 
-    /// Whether the keys that an action sets are texts.
+    /// Whether the keys that an action sets are text.
     fn sets_texts(&self, action: Action) -> bool
         ensures { result ≡ are_text_kinds (parts self.now).kept
             (keys_acted action (parts self.now).shape.entries) }
@@ -75,7 +75,7 @@ impl<'a> Arena<'a> {
         }
     }
 
-    /// Whether the keys among the operands are texts.
+    /// Whether the keys among the operands are text.
     fn texts_above(&self, takes: Takes) -> bool
         ensures { result ≡ are_text_kinds (parts self.now).kept
             (every_other true (taken (picked takes (parts self.now).shape.entries))) }

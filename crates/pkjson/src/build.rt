@@ -10,7 +10,7 @@ use crate::node::Node;
 use serde_json::{Map, Value};
 use std::alloc::{AllocError, Global};
 
-/// The value of an object. The object must have one of at most this many levels.
+/// The value of an object, which must have one of at most this depth.
 #[cycle(building)]
 pub fn build(
     alloc: Global,

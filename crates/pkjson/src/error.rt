@@ -8,7 +8,7 @@ use thiserror::Error;
 /// of an instruction's first byte, counted from the first byte of the pickle.
 #[derive(Clone, Copy, Debug, PartialEq, Eq, Error)]
 pub enum ExportError {
-    /// `check` refuses the pickle, even under any import.
+    /// `check` refuses the pickle even with every import permitted.
     #[error("the pickle is refused")]
     Check(Refusal),
     /// The instruction at this offset, with this opcode, is not plain data.

@@ -31,7 +31,7 @@ use std::alloc::{AllocError, Global};
 /// after the pickle's STOP are ignored.
 ///
 /// A list or dict with several references is copied at each of them, in its final state. The last
-/// value of a key wins. No number is a float, so `to_string` of the value is the text of
+/// value of a key wins. The value contains no float, so its `to_string` is the text of
 /// `export_text`.
 ///
 /// # Errors
@@ -49,7 +49,7 @@ pub fn export(alloc: Global, bytes: &[u8], limits: &Limits) -> Result<Value, Exp
     settled_value(alloc, &arena, place, limits)
 }
 
-/// The JSON text of the value that `export` gives, in UTF-8 and without spaces. It is written
+/// The JSON text of the value that `export` returns, in UTF-8 and without spaces. It is written
 /// without building that value, which needs several times the memory.
 ///
 /// # Errors
@@ -120,7 +120,7 @@ fn most(limits: &Limits) -> u32
     limits.values() as u32
 }
 
-/// Checks the pickle under any import. All its payloads are held, under one limit.
+/// Checks the pickle, permitting every import. It holds all payloads, under one limit.
 fn accept(alloc: Global, bytes: &[u8], limits: &Limits) -> Result<(), ExportError>
     ensures ok { IfOk result (λ _. IsAccepted limits.now bytes.now) }
     ensures err { IfErr result (IsNotExported limits.now bytes.now) }
@@ -147,7 +147,7 @@ fn refusal_of(at: u64, reason: Reason) -> ExportError
     }
 }
 
-/// No weight yet, for each of `count` objects.
+/// A missing weight for each of `count` objects.
 fn no_weights(alloc: Global, count: usize) -> Result<Vec<Option<Weight>>, AllocError>
     ensures { IfOk result (λ v. v.items ≡ replicate count None) }
 {

@@ -1,13 +1,13 @@
-//! Why an instruction is not applied.
+//! Why an instruction cannot be applied.
 
-/// Why an instruction is not applied.
+/// Why an instruction cannot be applied.
 #[derive(Clone, Copy)]
 pub enum Halt {
-    /// A dict key is not text.
+    /// A dict key isn't text.
     OtherKey,
-    /// The integer does not fit 64 signed bits.
+    /// The integer doesn't fit 64 signed bits.
     LargeNumber,
-    /// The stack or the memo lacks something, which `check` rules out.
+    /// Something is missing from the stack or the memo, which `check` rules out.
     Lacks,
     /// An allocation was refused.
     OutOfMemory,

@@ -25,7 +25,7 @@ pub fn integer(arg: Arg<'_>) -> Option<i64>
     }
 }
 
-/// The number as it is.
+/// The number itself.
 fn positive(number: u64) -> Option<i64>
     ensures { result ≡ word_of (pos number) }
 {
@@ -71,7 +71,8 @@ fn of_line(line: &[u8]) -> Option<i64>
     }
 }
 
-/// The number in the digits, up to an L: exact up to 2^63, and above 2^63 if the number is.
+/// The number in the digits, up to an L. Exact up to 2^63; a greater number gives some value above
+/// 2^63.
 fn decimal(digits: &[u8]) -> u64
     ensures { IsCapped (2 ^ 63) (decimal_after 0 digits.now) result }
 {
@@ -109,8 +110,8 @@ fn has_sign(bytes: &[u8]) -> bool
     }
 }
 
-/// The natural number of the bytes, or of their complements if `flip` is set: exact below 2^63, and
-/// at least 2^63 if the number is.
+/// The natural number of the bytes, or of their complements if `flip` is set. Exact below 2^63; a
+/// greater number gives some value of at least 2^63.
 fn natural(bytes: &[u8], flip: bool) -> u64
     ensures { IsCapped (2 ^ 63 - 1) (natural flip bytes.now) result }
 {

@@ -9,7 +9,7 @@ ghost use Rattle.pkjson.specs.Private.Weighs.{MembersDeeper, IsTrusted, IsBounde
 
 use crate::node::Node;
 
-/// A depth, and a count of values that stops at a cap.
+/// The depth of a value, and the number of values in it, which stops at a cap.
 #[derive(Clone, Copy)]
 pub struct Weight {
     pub depth: u32,
@@ -45,8 +45,8 @@ fn raised(inner: Weight, cap: u32) -> Weight
     }
 }
 
-/// The object's weight, if it has at most this many levels. Each object is weighed once; `done`
-/// keeps the results.
+/// The object's weight, if its depth is at most this many levels. Each object is weighed once, and
+/// `done` keeps the results.
 #[cycle(judging)]
 pub fn weigh(
     nodes: &[Node<'_>],
@@ -82,7 +82,7 @@ pub fn weigh(
     }
 }
 
-/// The weight of an object that `done` has no result for.
+/// The weight of an object that isn't in `done`.
 #[cycle(judging)]
 fn weigh_node(
     nodes: &[Node<'_>],
@@ -127,7 +127,7 @@ fn weigh_node(
     }
 }
 
-/// The greatest depth and the sum of the counts of these objects, if none has more levels.
+/// The greatest depth and the sum of the counts of these objects, if none is too deep.
 #[cycle(judging)]
 fn weigh_items(
     nodes: &[Node<'_>],
@@ -160,7 +160,7 @@ fn weigh_items(
     Some(sum)
 }
 
-/// The greatest depth and the sum of the counts of the members' values, if none has more levels.
+/// The greatest depth and the sum of the counts of the members' values, if none is too deep.
 #[cycle(judging)]
 fn weigh_members(
     nodes: &[Node<'_>],

@@ -7,8 +7,8 @@ use std::alloc::{AllocError, Global};
 use std::collections::BTreeMap;
 use std::marker::Model;
 
-/// Object numbers, by memo number. Most pickles store under 0, 1, 2 and so on, and these entries
-/// are found by index.
+/// Object numbers by memo number. Most pickles store under 0, 1, 2 and so on, and these entries are
+/// found by index.
 pub struct Memo {
     /// The entries from number 0 on that were stored in order.
     ordered: Vec<usize>,

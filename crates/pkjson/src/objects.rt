@@ -28,7 +28,7 @@ pub enum Object<'a> {
     Decoded(String),
 }
 
-/// An object of this kind that is given the objects among these entries.
+/// An object of this kind, made from the objects among these entries.
 fn object_of<'a>(alloc: Global, kind: Kind<'a>, slots: &[Slot]) -> Result<Object<'a>, AllocError>
     ensures { IfOk result (λ object. kept_of object ≡ record {
       kind = kind_seen kind.entry;
@@ -84,7 +84,7 @@ fn receive(object: &mut Object<'_>, slots: &[Slot]) -> Result<(), AllocError>
     }
 }
 
-/// Gives an object everything above it.
+/// Gives an object everything above it on the stack.
 pub fn fill(
     stack: &mut Vec<Slot>,
     objects: &mut Vec<Object<'_>>,

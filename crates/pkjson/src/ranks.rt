@@ -1,4 +1,4 @@
-//! Ranks of long keys, so that each is compared a few times, however often it is set.
+//! Ranks of long keys. A long key is compared only a few times, however often it is set.
 
 ghost use Rattle.std.specs.Prelude.{◌≡◌, ◌<◌, length, All, IfOk, IfSome};
 ghost use Rattle.std.specs.Map.{values_of};
@@ -13,7 +13,7 @@ use std::alloc::{AllocError, Global};
 use std::cmp::Ordering;
 use std::collections::{BTreeMap, BTreeSet};
 
-/// A text of more bytes is long. Shorter keys are compared byte by byte wherever they are set.
+/// A text with more bytes is long. Shorter keys are compared byte by byte wherever they are set.
 const LONG: usize = 64;
 
 /// The distinct texts of keys in byte order, and for each object the position of its text among
@@ -128,7 +128,7 @@ fn places_of(
     Ok(places)
 }
 
-/// The position of a text in an ascending list, if the list has it.
+/// The position of a text in an ascending list, if it is there.
 #[tactic(auto, using(crate::proofs::Ranking::same_text))]
 fn place_of(texts: &[(&str, usize)], text: &str) -> Option<usize>
     ensures { IfSome result (StandsIn texts.now text.now) }

@@ -1,4 +1,4 @@
-//! Replays an accepted pickle, as far as it is plain.
+//! Replays an accepted pickle for as long as it is plain data.
 
 ghost use Rattle.std.specs.Prelude.{ℕ, IfOk, IfErr, IfSome, Some};
 ghost use Rattle.pkjson.specs.Export.{IsAccepted, IsNotExported};
@@ -13,8 +13,8 @@ use pkops::laws::one_code;
 use pkops::{Arg, Inst, Layout, Limits, Scan, layout_of_op, op_of_byte, scan};
 use std::alloc::Global;
 
-/// The instruction at the front of the bytes, if its opcode has no argument. Most have none and
-/// need no scan.
+/// The instruction at the front of the bytes, if its opcode has no argument. Most instructions have
+/// none, and need no scan.
 #[inline]
 fn bare_at_front<'a>(bytes: &[u8]) -> Option<Inst<'a>>
     ensures { IfSome result (λ inst. (limit : ℕ) → IsFront limit bytes.now (Some (inst, 1))) }
@@ -47,7 +47,7 @@ fn whole_at_front<'a>(bytes: &'a [u8], limits: &Limits) -> Option<(Inst<'a>, usi
 }
 
 /// The objects at the STOP of a pickle and the number of its result, or the first fault that shows
-/// it is not plain data.
+/// that it isn't plain data.
 pub fn replay<'a>(
     alloc: Global,
     bytes: &'a [u8],

@@ -1,4 +1,4 @@
-//! The members that a dict ends with, by the texts of their keys.
+//! The members of a dict in its final state.
 
 ghost use Rattle.std.specs.Prelude.{◌≡◌, ◌<◌, [], length, All, IfOk};
 ghost use Rattle.pkjson.specs.Private.Arena.{kind_at};

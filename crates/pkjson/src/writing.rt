@@ -10,7 +10,7 @@ use serde::{Described, Serialize, Serializer};
 use serde_json::Number;
 use std::alloc::Global;
 
-/// The text of the value of an object. The object must have one of at most this many levels.
+/// The text of the value of an object, which must have one of at most this depth.
 pub fn text_of(
     alloc: Global,
     nodes: &[Node<'_>],
@@ -30,7 +30,7 @@ pub fn text_of(
     serde_json::to_vec(alloc, &value)
 }
 
-/// An object that serializes as the value it unfolds to, of at most this many levels.
+/// An object that serializes as the value it unfolds to, of at most this depth.
 #[derive(Drop)]
 struct Unfolded<'n, 'a> {
     nodes: &'n [Node<'a>],
@@ -54,7 +54,7 @@ impl<'n, 'a> Serialize for Unfolded<'n, 'a> {
     }
 }
 
-/// Serializes the value of an object. The object must have one of at most this many levels.
+/// Serializes the value of an object, which must have one of at most this depth.
 #[cycle(sending)]
 fn send<S: Serializer>(
     nodes: &[Node<'_>],

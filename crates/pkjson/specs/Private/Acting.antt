@@ -41,7 +41,7 @@ picked Slice es = slice es []
 abbrev pub found_above : Takes → List (Entry ℕ) → Result (Taken ℕ) Breach
 found_above t es = and_then (picked t es) (λ t. items 1 t.below t.operands)
 
--- a new object replaces the operands
+-- the operands are replaced by a new object
 abbrev pub made_of : Kind → Taken ℕ → Arena → Arena
 made_of kind t a = record {
   shape = record { entries = Item (length a.kept) ∷ t.below; memo = a.shape.memo };
@@ -92,18 +92,18 @@ keys_acted (Makes t made.Pairs) es = every_other true (taken (picked t es))
 keys_acted (Fills t filled.Pairs) es = every_other true (taken (picked t es))
 keys_acted a es = []
 
--- the integer that is made, if one is, fits 64 signed bits
+-- if an integer is made, it fits 64 signed bits
 abbrev pub number_made : Made → Instruction → Bool
 number_made made.Int i = fits_word (integer_named i.arg)
 number_made made.IntOrTruth i = cond (names_bool i) true (fits_word (integer_named i.arg))
 number_made m i = true
 
--- the integer that the action makes, if it makes one, fits 64 signed bits
+-- if the action makes an integer, it fits 64 signed bits
 abbrev pub number_acted : Action → Instruction → Bool
 number_acted (Makes t m) i = number_made m i
 number_acted a i = true
 
--- why the instruction is not plain data, if it is not
+-- why the instruction is not plain data, or None if it is
 abbrev pub fault_acted : Action → Instruction → Arena → Option Fault
 fault_acted action i a =
     cond (are_text_kinds a.kept (keys_acted action a.shape.entries))
@@ -116,7 +116,7 @@ TakesSame (Objects k) (takes.Objects n) = n ≡ k
 TakesSame Slice (takes.Slice rule) = Unit {0}
 TakesSame t u = ⊥
 
--- the machine takes these operands and the receiver
+-- the machine takes these operands and the receiver below them
 abbrev pub TakesAbove : Takes → TakesOf → Type 0
 TakesAbove (Objects k) (takes.Objects n) = n ≡ suc k
 TakesAbove Slice (takes.SliceAndReceiver rule) = Unit {0}
@@ -154,6 +154,6 @@ abbrev pub KindsAgree : Action → Instruction → Kind → Type 0
 KindsAgree (Makes t m) i kind = kind ≡ kind_made m i
 KindsAgree a i kind = Unit {0}
 
--- the operation lacks something
+-- the operation is missing something
 abbrev pub IsLacking : {A : Type 0} → Result A Breach → Type 0
 IsLacking x = (b : Breach) × (x ≡ Err b)

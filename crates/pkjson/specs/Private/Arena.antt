@@ -44,11 +44,11 @@ given_in None = []
 abbrev pub given_at : List Kept → ℕ → List ℕ
 given_at ks n = given_in (slice_get ks n)
 
--- what each object holds
+-- what each object contains
 abbrev pub holds : List Kept → Heap
 holds ks n = option_map (held_by (kind_at ks) (given_at ks n)) (kind_at ks n)
 
--- the object after it is given more
+-- the object after it receives more
 abbrev pub more_given : List ℕ → Kept → Kept
 more_given xs k = record { kind = k.kind; given = kept_by k.kind (k.given ++ xs) }
 

@@ -1,4 +1,4 @@
--- What a `Halt` says about its step.
+-- What a `Halt` means for its step.
 use Rattle.std.specs.Prelude.{◌≡◌, Bool, false, Some, Result}
 use Rattle.pkcheck.specs.Shape.{Breach}
 use Rattle.pkjson.specs.declared.halt.Halt.{Halt}
@@ -15,13 +15,13 @@ IsNoKind fits LargeNumber = fits ≡ false
 IsNoKind fits OutOfMemory = Unit {0}
 IsNoKind fits halt = ⊥
 
--- the stack or the memo lacks something, or an allocation was refused
+-- something is missing from the stack or the memo, or an allocation was refused
 abbrev pub IsWant : {A : Type 0} → Result A Breach → Halt → Type 0
 IsWant x Lacks = IsLacking x
 IsWant x OutOfMemory = Unit {0}
 IsWant x halt = ⊥
 
--- a key or an integer is at fault, something is missing, or an allocation was refused
+-- the key isn't text, the integer doesn't fit, something is missing, or an allocation was refused
 abbrev pub IsHalted : Action → Instruction → Arena → Halt → Type 0
 IsHalted action i a OtherKey = fault_acted action i a ≡ Some fault.OtherKey
 IsHalted action i a LargeNumber = fault_acted action i a ≡ Some fault.LargeNumber

@@ -6,7 +6,7 @@ use Rattle.pkjson.specs.Contents.{kinds, all_given}
 use Rattle.pkjson.specs.Plain.{is_known_text}
 use Rattle.pkjson.specs.Private.Arena.{Kept, Arena, kind_at, given_at, kept_in, is_text_kind}
 
--- each object has the kind, and keeps what it was given, as the events say
+-- each object has the kind that the events say, and keeps what they say it was given
 pub record Mirrors (ks : List Kept) (es : List Event) : Type 0 where
   pub kinds : (n : ℕ) → kind_at ks n ≡ kinds es n
   pub given : (n : ℕ) → given_at ks n ≡ kept_in (kind_at ks n) (all_given n es)

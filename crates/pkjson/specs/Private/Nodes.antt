@@ -1,4 +1,4 @@
--- The contents of the settled objects.
+-- The contents of objects in their final state.
 use Rattle.std.specs.Prelude.{◌≡◌, ℕ, ◌<◌, List, [], ◌∷◌, length, map, All, Some, option_map}
 use Rattle.std.specs.Prelude.{slice_get}
 use Rattle.std.specs.Borrow.{Bor}
@@ -24,7 +24,7 @@ content (Text t) = Scalar (string t.now)
 content (Items v) = Sequence v.now
 content (Dict v) = Pairs (named_members v.items)
 
--- what each object holds
+-- what each object contains
 abbrev pub heap : List Node → Heap
 heap ns x = option_map content (slice_get ns x)
 

@@ -9,7 +9,7 @@ use Rattle.pkjson.specs.Export.{Results}
 use Rattle.pkjson.specs.Private.Held.{parts}
 use Rattle.pkjson.specs.Private.Settled.{AreGivenBelow}
 
--- the arena holds what the objects hold after the run, and the result is one of them
+-- the arena contains what the objects contain after the run, and the result is one of them
 pub record Replays (limits : Bounds) (bytes : List ℕ) (a : Arena) (x : ℕ) : Type 0 where
   pub events : List Event
   pub results : Results limits bytes x events

@@ -29,7 +29,7 @@ IsTooLarge h deepest most x TooMany =
 IsTooLarge h deepest most x OutOfMemory = Unit {0}
 IsTooLarge h deepest most x e = ⊥
 
--- the error for a refusal; a refused allocation has an error of its own
+-- the error for a refusal; a refused allocation has its own
 abbrev pub TellsRefusal : ℕ → Reason → ExportError → Type 0
 TellsRefusal at why e =
     (e ≡ OutOfMemory)

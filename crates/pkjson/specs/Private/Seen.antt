@@ -43,7 +43,7 @@ numbers_of [] = []
 numbers_of (slot.Mark ∷ ss) = numbers_of ss
 numbers_of (slot.Object n ∷ ss) = n ∷ numbers_of ss
 
--- what a place divides the stack into: the slots from it on, and those below it
+-- the stack, split at a place: the slots from it on, and those below it
 abbrev pub taken_at : ℕ → List Slot → Taken ℕ
 taken_at place ss =
     record { operands = numbers_of (drop place ss); below = seen_entries (take place ss) [] }
@@ -53,8 +53,8 @@ abbrev pub FindsPlace : Result (Taken ℕ) Breach → List Slot → Option ℕ �
 FindsPlace x ss None = IsLacking x
 FindsPlace x ss (Some n) = (n ≤ length ss) × (x ≡ Ok (taken_at n ss))
 
--- the place where the operands begin, with the object of this number at the place; or `None` if
--- something is missing
+-- the place where the operands begin, with the number of the object there, or `None` if something
+-- is missing
 abbrev pub FindsObject : Result (Taken ℕ) Breach → List Slot → Option (ℕ × ℕ) → Type 0
 FindsObject x ss None = IsLacking x
 FindsObject x ss (Some p) =

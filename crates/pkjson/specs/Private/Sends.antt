@@ -1,4 +1,4 @@
--- The events that serde receives for an object's value, and the text they give.
+-- The events that serde receives for an object's value, and the text they produce.
 use Rattle.std.specs.Prelude.{◌≡◌, ℕ, List}
 use Rattle.serde.specs.Event.{Log}
 use Rattle.serde_json.specs.Data.{Data, array, object, Items, Members}

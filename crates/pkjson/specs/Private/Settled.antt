@@ -1,4 +1,4 @@
--- Settled objects.
+-- Objects in their final state.
 use Rattle.std.specs.Prelude.{◌≡◌, ◌<◌, ℕ, List, [], ◌∷◌, All, length}
 use Rattle.pkjson.specs.declared.node.Node.{Node}
 use Rattle.pkjson.specs.Contents.{held_by}
@@ -9,13 +9,13 @@ use Rattle.pkjson.specs.Private.Nodes.{content, IsBelow, IsOrdered}
 abbrev pub AreGivenBelow : ℕ → List Kept → Type 0
 AreGivenBelow n ks = All (λ k. All (λ x. x < n) k.given) ks
 
--- the node says what the object holds
+-- the node has what the object contains
 pub record Settles (all : List Kept) (k : Kept) (node : Node) : Type 0 where
   pub content : content node ≡ held_by (kind_at all) k.given k.kind
   pub below : IsBelow (length all) node
   pub ordered : IsOrdered node
 
--- each node says what its object holds
+-- each node has what its object contains
 abbrev pub AreSettled : List Kept → List Kept → List Node → Type 0
 AreSettled all [] [] = Unit {0}
 AreSettled all (k ∷ ks) (n ∷ ns) = Settles all k n × AreSettled all ks ns

@@ -1,4 +1,4 @@
--- How far a plain pickle was replayed.
+-- How far a plain pickle has been replayed.
 use Rattle.std.specs.Prelude.{◌≡◌, ◌⊎◌, ℕ, Bool, List, [], ◌∷◌, ◌++◌, length, All, Option, Some}
 use Rattle.std.specs.Prelude.{None}
 use Rattle.pkops.specs.declared.Inst.{Inst}
@@ -26,8 +26,8 @@ IsFront limit bytes (Some p) =
     (i : Instruction) (more : List ℕ) → bytes ≡ spelling i ++ more → IsAllowed limit i
     → (instruction_of p.0 ≡ i) × (p.1 ≡ length (spelling i))
 
--- the pickle p was replayed up to the bytes `rest`, at this offset; these are its objects, and no
--- fault was found
+-- the pickle p was replayed up to the bytes `rest`, which are at this offset; these are its
+-- objects, and no fault was found
 pub record Stands (limit : ℕ) (p : List Instruction) (rest : List ℕ) (at : ℕ)
     (a : Arena) : Type 0 where
   pub after : List Instruction
@@ -42,7 +42,7 @@ pub record Stands (limit : ℕ) (p : List Instruction) (rest : List ℕ) (at : �
   pub fault : first_fault 0 p start ≡ first_fault at after state
   pub mirrors : MirrorsState a state
 
--- the same position, with the next instruction
+-- as Stands, with the next instruction
 pub record StandsAt (limit : ℕ) (p : List Instruction) (rest : List ℕ) (at : ℕ) (a : Arena)
     (i : Instruction) : Type 0 where
   pub after : List Instruction

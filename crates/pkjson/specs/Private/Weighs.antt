@@ -1,4 +1,4 @@
--- The depth of a value and its number of values.
+-- The depth of a value, and the number of values in it.
 use Rattle.std.specs.Prelude.{◌≡◌, ℕ, ◌^◌, min, ◌<◌, ◌≤◌, List, Option, Some, slice_get}
 use Rattle.serde_json.specs.Data.{Data, depth, Items, items_depth, Members, members_depth}
 use Rattle.pkjson.specs.declared.judge.Weight.{Weight}
@@ -9,7 +9,7 @@ use Rattle.pkjson.specs.Unfolds.{members_count}
 unfoldable pub Weighs : Heap → ℕ → ℕ → Weight → Type 0
 Weighs h cap x w = (v : Data) × Unfolds h x v × (w.depth ≡ depth v) × (w.count ≡ min cap (count v))
 
--- the object has no value within this many levels
+-- the object has no value within this depth
 unfoldable pub IsDeeper : Heap → ℕ → ℕ → Type 0
 IsDeeper h levels x = (v : Data) → Unfolds h x v → levels < depth v
 
@@ -21,7 +21,7 @@ ItemsWeigh h cap xs w =
     × (w.depth ≡ items_depth vs)
     × (w.count ≡ min cap (items_count vs))
 
--- these items together have no values within this many levels
+-- not all of these items have a value within this depth
 unfoldable pub AreDeeper : Heap → ℕ → List ℕ → Type 0
 AreDeeper h levels xs = (vs : Items) → UnfoldItems h xs vs → levels < items_depth vs
 
@@ -33,7 +33,7 @@ MembersWeigh h cap ps w =
     × (w.depth ≡ members_depth ms)
     × (w.count ≡ min cap (members_count ms))
 
--- these members together have no values within this many levels
+-- not all of these members have a value within this depth
 unfoldable pub MembersDeeper : Heap → ℕ → List (List ℕ × ℕ) → Type 0
 MembersDeeper h levels ps = (ms : Members) → UnfoldMembers h ps ms → levels < members_depth ms
 
@@ -41,12 +41,12 @@ MembersDeeper h levels ps = (ms : Members) → UnfoldMembers h ps ms → levels 
 unfoldable pub IsTrusted : Heap → ℕ → List (Option Weight) → Type 0
 IsTrusted h cap done = (x : ℕ) (w : Weight) → slice_get done x ≡ Some (Some w) → Weighs h cap x w
 
--- a weight of at most this many levels, with a count up to the cap
+-- a weight of at most this depth, with a count up to the cap
 pub record IsBounded (levels cap : ℕ) (w : Weight) : Type 0 where
   pub depth : w.depth ≤ levels
   pub count : w.count ≤ cap
 
--- the sum of two counts, and one more level, fit 32 bits
+-- the sum of two counts, and one more level, fit in 32 bits
 pub record HaveRoom (levels cap : ℕ) : Type 0 where
   pub some : 0 < cap
   pub small : cap < 2 ^ 31
