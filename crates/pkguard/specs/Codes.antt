@@ -1,4 +1,4 @@
--- Numbers for C, which never change.
+-- The numbers that C sees. They never change.
 use Rattle.std.specs.Prelude.{ℕ}
 use Rattle.pkread.specs.declared.Reason.{Reason}
 use Rattle.pkread.specs.declared.Reason.TheVariants as reason

@@ -1,4 +1,4 @@
--- The encoding of pairs in the caller's buffer.
+-- How pairs are encoded in the caller's buffer.
 use Rattle.std.specs.Prelude.{◌++◌, ◌-◌, ◌^◌, ℕ, List, length, min, flat_map}
 use Rattle.std.specs.Int.{to_le_bytes, w64}
 use Rattle.pkcheck.specs.Knowledge.{Asked, AskedPair, AskedUnknown}
@@ -11,17 +11,17 @@ greatest_number = 2 ^ 64 - 1
 abbrev pub eight_bytes : ℕ → List ℕ
 eight_bytes number = to_le_bytes w64 number
 
--- a text after its length
+-- a text, preceded by its length
 abbrev pub encoded_text : List ℕ → List ℕ
 encoded_text text = eight_bytes (length text) ++ text
 
--- an import: the text of its module, then that of its name. For an import whose pair is unknown,
--- both lengths are the greatest number and there is no text
+-- an import: the text of its module, then that of its name. If the pair is unknown, both lengths
+-- are the greatest number and there is no text
 abbrev pub encoded : Asked → List ℕ
 encoded (AskedPair module_name name) = encoded_text module_name ++ encoded_text name
 encoded AskedUnknown = eight_bytes greatest_number ++ eight_bytes greatest_number
 
--- imports, one after the other
+-- imports, in order
 abbrev pub encoded_all : List Asked → List ℕ
 encoded_all imports = flat_map encoded imports
 

@@ -27,7 +27,7 @@ use Rattle.pkguard.specs.Settings.{old_strings_in}
 abbrev pub memory : List ℕ → Sight
 memory bytes = record { left = Some bytes; failures = 0 }
 
--- a verdict without information
+-- an empty verdict
 abbrev pub nothing_told : Verdict
 nothing_told = record {
   status = 0;
@@ -42,7 +42,7 @@ nothing_told = record {
   pickles = 0;
 }
 
--- the verdict for a yes to this many pickles
+-- the verdict if this many pickles are accepted
 abbrev pub verdict_of_yes : (taken imports pickles : ℕ) → Verdict
 verdict_of_yes taken imports pickles = record nothing_told {
   taken = taken;
@@ -50,7 +50,7 @@ verdict_of_yes taken imports pickles = record nothing_told {
   pickles = pickles;
 }
 
--- the verdict for a no after this many accepted pickles
+-- the verdict for a refusal after this many accepted pickles
 abbrev no_alone : ℕ → Reason → ℕ → Verdict
 no_alone at reason pickles = record nothing_told {
   status = 1;
@@ -60,7 +60,7 @@ no_alone at reason pickles = record nothing_told {
   pickles = pickles;
 }
 
--- the verdict for a no, with the lengths of the names in its pair, if it has one
+-- the verdict for a refusal, with the lengths of the names in its pair, if it has one
 abbrev pub verdict_of_no : ℕ → Reason → Option Asked → ℕ → Verdict
 verdict_of_no at reason (Some (AskedPair module_name name)) pickles =
     record (no_alone at reason pickles) {
@@ -88,7 +88,7 @@ abbrev pub names_placed : Option Asked → List ℕ → List ℕ
 names_placed (Some (AskedPair module_name name)) room = placed (module_name ++ name) room
 names_placed _ room = room
 
--- the pickle at the front of the bytes is accepted, when Python 2 strings are decoded as `old` says
+-- the pickle at the front of the bytes is accepted, with Python 2 strings decoded as `old` says
 pub record IsYes (old : OldStrings) (policy : Policy) (limits : Bounds)
     (pickle before after : List ℕ) (verdict : Verdict) : Type 0 where
   pub rest : List ℕ
@@ -108,7 +108,7 @@ pub record IsNo (old : OldStrings) (policy : Policy) (limits : Bounds)
   pub told : verdict ≡ verdict_of_no verdict.at why pair 0
   pub room : after ≡ names_placed pair before
 
--- the bytes are one or more pickles, one after the other, and each is accepted
+-- the bytes are one or more pickles in a row, and each is accepted
 pub record IsYesOfRow (loading : Loading) (policy : Policy) (limits : Bounds)
     (pickles before after : List ℕ) (verdict : Verdict) : Type 0 where
   pub rest : List ℕ
@@ -129,12 +129,12 @@ pub record IsNoOfRow (loading : Loading) (policy : Policy) (limits : Bounds)
   pub told : verdict ≡ verdict_of_no verdict.at why pair verdict.pickles
   pub room : after ≡ names_placed pair before
 
--- why the text is no list file: it breaks a rule; or an allocation was refused, which cannot happen
--- for a text of spaces, line ends and comments
+-- why the text is not a list file: it breaks a rule, or an allocation was refused. The latter
+-- cannot happen for a text of spaces, line ends and comments
 abbrev pub IsNoListText : List ℕ → AllowError → Type 0
 IsNoListText text error = (list_of text ≡ Err error) ⊎ ((error ≡ OutOfMemory) × (¬ IsBlank text))
 
--- why the bytes are no list file: they are not UTF-8, or their text is none
+-- why the bytes are not a list file: they are not UTF-8, or their text is not one
 abbrev pub IsNoList : List ℕ → AllowError → Type 0
 IsNoList bytes error =
     ((¬ IsUtf8 bytes) × (error ≡ Syntax)) ⊎ (IsUtf8 bytes × IsNoListText bytes error)
@@ -152,8 +152,8 @@ pub record IsUsage (settings : Settings) (before after : List ℕ) (verdict : Ve
   pub told : verdict ≡ verdict_of_usage
   pub room : after ≡ before
 
--- the pickle at the front of the bytes is accepted under any import, and its imports are in the
--- buffer if it has room for all of them
+-- the pickle at the front of the bytes is accepted with every import permitted, and its imports are
+-- in the buffer if it has room for all of them
 pub record IsImports (old : OldStrings) (limits : Bounds) (pickle before after : List ℕ)
     (wanted : ℕ) (verdict : Verdict) : Type 0 where
   pub rest : List ℕ

@@ -1,4 +1,4 @@
--- The pairs and limits of a list file, as they are reported to C.
+-- The pairs and limits of a list file, as reported to C.
 use Rattle.std.specs.Prelude.{◌++◌, ◌&&◌, nat_le, Bool, if◌then◌else◌, List, [], ◌∷◌, ℕ, codes}
 use Rattle.std.specs.Prelude.{Option, Some}
 use Rattle.toml.specs.Data.{Data, string, table, array, Items, no_items, item, Members, no_members}

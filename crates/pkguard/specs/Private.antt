@@ -1,2 +1,2 @@
--- Internal definitions, cited by private functions alone.
+-- Definitions that only private functions cite. They need not be trusted.
 pub mod Written

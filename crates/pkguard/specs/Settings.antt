@@ -10,19 +10,19 @@ use Rattle.pkcheck.specs.declared.Pair.{Pair}
 use Rattle.pkcheck.specs.Pairs.{AreInOrder, found, have}
 use Rattle.pkguard.specs.declared.settings.Settings.{Settings}
 
--- each limit of the settings, at most the other one
+-- each limit of the settings, capped by the other one
 abbrev pub limits_within : Bounds → Settings → Bounds
 limits_within most settings =
     bounds (min settings.counted most.counted) (min settings.stack most.stack)
     (min settings.memo most.memo) most.depth most.values (min settings.passed most.passed)
     (min settings.numbers most.numbers)
 
--- the limits of a check under pairs: each at most the greatest, for large data or not
+-- the limits of a check under pairs, capped by the greatest ones, for large data or not
 abbrev pub limits_by : Settings → Bounds
 limits_by settings =
     limits_within (if settings.large == 1 then greatest_large else greatest) settings
 
--- how the pickles of a row are loaded, when Python 2 strings are decoded as `old` says
+-- how the pickles of a row are loaded, with Python 2 strings decoded as `old` says
 abbrev pub loading_by : Settings → OldStrings → Loading
 loading_by settings old = record {
   memo = if settings.row_memo == 1 then Kept else Fresh;
@@ -57,7 +57,7 @@ Sets settings P = (old : OldStrings) × (old_strings_in settings ≡ Some old) �
 abbrev pub listed_by : Settings → List Pair → List ℕ → List ℕ → Bool
 listed_by settings pairs = if settings.sorted == 1 then found pairs else have pairs
 
--- only pairs of the array are permitted, and all of them are if the caller's promise of order holds
+-- only pairs of the array are permitted, and all of them if the caller's promise of order holds
 pub record PermitsPairs (settings : Settings) (pairs : List Pair) : Type 0 where
   pub no_more : (module_name name : List ℕ) → listed_by settings pairs module_name name ≡ true
       → have pairs module_name name ≡ true

@@ -1,5 +1,5 @@
-//! Numbers for C. They never change, because C programs are compiled with them. A new reason or
-//! error gets the next number, whatever its place in the order.
+//! The numbers that C sees. They never change, because C programs are compiled with them. A new
+//! reason or error gets the next free number, whatever its position in the order.
 ghost use Rattle.std.specs.Prelude.{◌≡◌};
 ghost use Rattle.pkguard.specs.Codes.{fault_code, reason_code, reason_number};
 

@@ -1,5 +1,5 @@
-//! Writes pairs to the caller's buffer. They are written twice: first to an empty buffer, which
-//! gives the number of bytes they need, and then to the caller's, if it has room for them.
+//! Writes pairs to the caller's buffer. They are written twice: first to an empty buffer, to count
+//! the bytes they need, and then to the caller's, if it has room for them.
 ghost use Rattle.std.specs.Prelude.{◌≡◌, ◌++◌, ℕ, List};
 ghost use Rattle.pkcheck.specs.Import.{import_shown};
 ghost use Rattle.pkguard.specs.Encoding.{eight_bytes, encoded, encoded_all};

@@ -1,9 +1,9 @@
 //! The checker for C: a static library whose functions check pickles in memory.
 //!
-//! `python/storklocker.c` calls them without null pointers, and `python/storklocker/storklocker.h`
-//! declares the functions that it makes of them for C. They need nothing from their arguments
-//! beyond their C types, so none has a `requires`. They keep no state and leave nothing to free, so
-//! any number of threads may call them and share pairs, lists and settings.
+//! `python/storklocker/storklocker.h` declares the C API. `python/storklocker.c` implements it with
+//! these functions, and never passes a null pointer. They need nothing from their arguments beyond
+//! their C types, so none has a `requires`. They keep no state and leave nothing to free, so any
+//! number of threads may call them and share pairs, lists and settings.
 #![tactic(auto)]
 
 mod codes;
@@ -32,8 +32,8 @@ pub use verdict::Verdict;
 ///
 /// If the pairs are sorted by module and then by name, a listed pair is found in logarithmic time;
 /// any other order gives the same answer. If the caller vouches for the order, an unlisted pair is
-/// also refused in logarithmic time. `room` receives the module and the name of a refused pair, one
-/// after the other, if both fit, and otherwise stays unchanged.
+/// also refused in logarithmic time. If a pair is refused and `room` is large enough, its module
+/// and its name are written there, one after the other; otherwise `room` stays unchanged.
 #[unsafe(no_mangle)]
 pub extern "C" fn pkguard_check_pairs(
     alloc: Global,
@@ -67,7 +67,7 @@ pub extern "C" fn pkguard_check_pairs(
     out.status
 }
 
-/// Like `pkguard_check_pairs`, under the text of a list file, which is parsed at each call. The
+/// Like `pkguard_check_pairs`, with the text of a list file, which is parsed on every call. The
 /// limits of the list and of the settings both apply: each limit is the smaller of the two.
 #[unsafe(no_mangle)]
 pub extern "C" fn pkguard_check_list(
@@ -133,8 +133,8 @@ pub extern "C" fn pkguard_check_row(
     out.status
 }
 
-/// Reads a list file: its limits, and its pairs, which go to `room` if all of them fit. They are in
-/// the byte order of their modules, and within a module in the order of its array.
+/// Reads a list file: its limits, and its pairs, which are written to `room` if all of them fit.
+/// They are in the byte order of their modules, and within a module in the order of its array.
 #[unsafe(no_mangle)]
 pub extern "C" fn pkguard_read_list(
     alloc: Global,
@@ -164,8 +164,8 @@ pub extern "C" fn pkguard_read_list(
     out.status
 }
 
-/// Checks the pickle at the front of `pickle` under any import. Its imports go to `room`, in order,
-/// if all of them fit.
+/// Checks the pickle at the front of `pickle`, permitting every import. Its imports are written to
+/// `room`, in order, if all of them fit.
 #[unsafe(no_mangle)]
 pub extern "C" fn pkguard_imports(
     alloc: Global,
@@ -222,7 +222,7 @@ fn read(
     }
 }
 
-/// The verdict of `check` under any import, and the imports of a yes.
+/// The verdict of `check` with every import permitted, and the imports if it accepts.
 fn imported(
     alloc: Global,
     limits: &Limits,

@@ -1,4 +1,4 @@
-//! Settings of a check.
+//! The settings of a check.
 ghost use Rattle.std.specs.Prelude.{◌≡◌, ◌==◌, Some};
 ghost use Rattle.pkcheck.specs.Import.{policy_of};
 ghost use Rattle.pkguard.specs.Listed.{are_usual, settings_with};
@@ -9,7 +9,7 @@ use pkcheck::{Loading, Memo, OldStrings, Pair, Policy};
 use pkops::Limits;
 use std::cmp;
 
-/// Settings of a check, for C. A limit above its greatest value means that value.
+/// The settings of a check, for C. A limit above its greatest value means that value.
 #[repr(C)]
 #[derive(Clone, Copy, Debug)]
 pub struct Settings {
@@ -21,7 +21,7 @@ pub struct Settings {
     pub stack: u64,
     /// The most memo entries.
     pub memo: u64,
-    /// The most bytes in a payload of bytes, which is passed over.
+    /// The most bytes in a byte payload, which is skipped.
     pub passed: u64,
     /// The greatest memo number that an instruction may write to.
     pub numbers: u64,
@@ -30,17 +30,17 @@ pub struct Settings {
     /// Whether a row of pickles shares its memo: 0 if each pickle starts with an empty one, 1 if it
     /// is kept.
     pub row_memo: u32,
-    /// Whether the limits may be those for large data: 1 if they may, else 0.
+    /// Whether the limits may be those for large data: 1 if they may, otherwise 0.
     pub large: u32,
-    /// Whether the caller vouches for the order of its pairs: 1 if it does, else 0.
+    /// Whether the caller vouches for the order of its pairs: 1 if it does, otherwise 0.
     pub sorted: u32,
 }
 
 /// The size of this version's settings in bytes.
 const SETTINGS_SIZE: u64 = 64;
 
-/// Whether the settings have the size of this version, and each flag is 0 or 1. How Python 2
-/// strings are decoded is checked elsewhere.
+/// Whether the settings have the size of this version, and each flag is 0 or 1. The decoding of
+/// Python 2 strings is checked separately.
 fn is_served(settings: &Settings) -> bool
     ensures { result ≡ is_served settings.now }
 {
@@ -115,7 +115,7 @@ pub fn policy_by<'a>(settings: &Settings, pairs: &'a [Pair<'a>]) -> Policy<'a>
     }
 }
 
-/// How the pickles of a row are loaded, when Python 2 strings are decoded as `old_strings` says.
+/// How the pickles of a row are loaded, with Python 2 strings decoded as `old_strings` says.
 pub fn loading_by(settings: &Settings, old_strings: OldStrings) -> Loading
     ensures { result ≡ loading_by settings.now old_strings }
 {

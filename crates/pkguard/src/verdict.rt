@@ -11,7 +11,8 @@ use pkcheck::{AllowError, Asked, Imports, No};
 #[repr(C)]
 #[derive(Clone, Copy, Debug, Drop)]
 pub struct Verdict {
-    /// 0 for a yes, 1 for a no, 2 for a list file that cannot be read, 3 for unsupported settings.
+    /// 0 if accepted, 1 if refused, 2 for a list file that cannot be read, 3 for unsupported
+    /// settings.
     pub status: u32,
     /// The number of the reason at status 1, or of the list's error at status 2.
     pub reason: u32,
@@ -33,7 +34,7 @@ pub struct Verdict {
     pub pickles: u64,
 }
 
-/// A verdict without information.
+/// An empty verdict.
 const NOTHING: Verdict = Verdict {
     status: 0,
     reason: 0,
@@ -75,7 +76,7 @@ pub fn of_usage() -> Verdict
     }
 }
 
-/// The verdict for a yes to this many pickles.
+/// The verdict if this many pickles are accepted.
 pub fn of_yes(taken: u64, imports: &Imports, pickles: u64) -> Verdict
     ensures { result ≡ verdict_of_yes taken (length imports.now) pickles }
 {
@@ -87,8 +88,8 @@ pub fn of_yes(taken: u64, imports: &Imports, pickles: u64) -> Verdict
     }
 }
 
-/// The verdict for a no after this many accepted pickles. The names of its pair go to the front of
-/// `room`, if both fit.
+/// The verdict for a refusal after this many accepted pickles. The names of its pair are written to
+/// the front of `room`, if both fit.
 pub fn of_no(no: &No, pickles: u64, room: &mut [u8]) -> Verdict
     ensures told { result
         ≡ verdict_of_no no.now.at no.now.reason (option_map asked_shown no.now.pair) pickles }

@@ -1,4 +1,4 @@
--- How far the caller's buffer is written.
+-- How much of the caller's buffer is written.
 use Rattle.std.specs.Prelude.{◌≡◌, ◌≤◌, ◌++◌, ℕ, List, length, drop, min}
 use Rattle.pkguard.specs.Encoding.{greatest_number}
 
