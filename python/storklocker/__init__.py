@@ -1,26 +1,26 @@
-"""Checks a pickle by a proved checker, in this process, before `pickle` sees a byte of it.
+"""Checks pickles with a proved checker, in this process, before `pickle` sees a byte of them.
 
     import storklocker
 
     guard = storklocker.Guard(storklocker.AllowList({"collections": ["OrderedDict"]}))
-    job = guard.loads(data)              # raises storklocker.Refused where the answer is a no
+    job = guard.loads(data)              # raises storklocker.Refused if the pickle is refused
 
-A `Guard` stands wherever the module `pickle` stood: `load`, `loads`, `dump`, `dumps`, `Pickler`,
-`Unpickler`. What is checked is what is loaded: one immutable `bytes` object.
+A `Guard` replaces the module `pickle`: it has `load`, `loads`, `dump`, `dumps`, `Pickler` and
+`Unpickler`. It loads exactly the bytes that it checked, one immutable `bytes` object.
 
-    check, check_row     the Verdict of a pickle, or of a row of pickles, of which nothing is loaded
-    loads                a guarded load by one call
-    imports, missing     every name that a pickle would import, or those off a list
-    AllowList            what may be imported: from pairs, from a dict, from a list file
+    check, check_row     check a pickle, or a row of pickles, without loading anything
+    loads                a guarded load in one call
+    imports, missing     every name that a pickle would import, or only those off a list
+    AllowList            what may be imported: from pairs, from a dict, or from a list file
     Limits, STANDARD     what a pickle may cost
-    Verdict, Reason      an answer, and why it is a no
-    Refused, MoreBytes   what a guarded load raises; both are pickle.UnpicklingError
-    ListFault            what a text that is no list file raises; a ValueError
-    Refusal, context     what on_refusal is told, and how a service says what it loads
+    Verdict, Reason      the answer of a check, and the reason of a refusal
+    Refused, MoreBytes   raised by a guarded load; both are pickle.UnpicklingError
+    ListFault            raised for a text that is not a list file; a ValueError
+    Refusal, context     what on_refusal receives, and how a service names what it loads
 
-A yes covers every run of the pickle machine: each import is on the list, each step finds what it
-needs, and one object is left. It doesn't say that the listed names are harmless, nor that loading
-succeeds. docs/PYTHON.md has the rest.
+An accepted pickle is safe in every run of the pickle machine: each import is on the list, each step
+finds what it needs, and exactly one object is left. This doesn't mean that the listed names are
+harmless, or that loading succeeds. See docs/PYTHON.md.
 """
 
 from __future__ import annotations
@@ -62,7 +62,7 @@ __all__ = [
 
 
 def __getattr__(name: str) -> Any:
-    """What few services ask for is imported when they do."""
+    """Imports rarely used names on first use."""
     if name not in ("Refusal", "context"):
         raise AttributeError(f"module {__name__!r} has no attribute {name!r}")
     from . import _refusal

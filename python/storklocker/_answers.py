@@ -1,4 +1,4 @@
-"""What a check answers, and what a refusal raises."""
+"""Answers of the checker, and the exceptions for refusals."""
 
 from __future__ import annotations
 
@@ -7,13 +7,13 @@ import functools
 import pickle
 from collections import namedtuple
 
-TYPE_CHECKING = False  # (`typing` would cost half of what importing the package costs)
+TYPE_CHECKING = False  # importing `typing` would take half the time of importing the package
 if TYPE_CHECKING:
     from typing import Any, Dict, Optional, Tuple
 
 
 class Reason(enum.IntEnum):
-    """Why a pickle is refused. Names and numbers are those of the program, and frozen."""
+    """Why a pickle is refused. Names and numbers match the program's, and never change."""
 
     Source = 1
     Truncated = 2
@@ -37,7 +37,7 @@ class Reason(enum.IntEnum):
 
 
 REASONS = (None, *Reason)
-"""Each reason at its number."""
+"""The reasons, indexed by number."""
 
 LIST_FAULTS = {
     1: "Syntax",
@@ -54,11 +54,11 @@ LIST_FAULTS = {
 }
 
 SHOWN = 64
-"""How many bytes of a name the text of a refusal shows."""
+"""The number of bytes of a name that the text of a refusal shows."""
 
 
 class Import(namedtuple("Import", "module name")):
-    """An import that a pickle makes. Both are None where the pickle doesn't show what."""
+    """An import of a pickle. Both fields are None if the pickle doesn't reveal the pair."""
 
     __slots__ = ()
 
@@ -73,30 +73,30 @@ class Verdict(
         defaults=(0, 0, 0, None, None, None, 0),
     )
 ):
-    """What the checker answers. It is true where the pickle is accepted.
+    """The answer of the checker. It is true if the pickle is accepted.
 
-    Its text is the line that the program prints.
+    `str` gives the line that the program prints.
     """
 
     accepted: bool
     taken: int
-    """At a yes: how many bytes were accepted, up to and with STOP."""
+    """If accepted: the number of bytes, up to and including STOP."""
     imports: int
-    """At a yes: how many imports they make."""
+    """If accepted: the number of imports."""
     at: int
-    """At a no: the offset of the refused instruction."""
+    """If refused: the offset of the refused instruction."""
     reason: Optional[Reason]
-    """At a no: why."""
+    """If refused: the reason."""
     number: Optional[int]
-    """The code byte of UnknownOpcode, the protocol of UnsupportedProtocol, the entry of
+    """The code byte of UnknownOpcode, the protocol of UnsupportedProtocol, or the memo number of
     MissingMemo.
     """
     pair: Optional[Tuple[str, str]]
-    """The module and the name of ImportOffList, at which the check ended."""
+    """The module and the name that ended the check, for ImportOffList."""
     pickles: int
-    """How many pickles are accepted: of a row at a no too."""
+    """The number of accepted pickles. In a refused row, those before the refused one."""
     _asked: Tuple[Any, ...] = ()
-    """What the checker was asked, where the refusal is of an import."""
+    """The arguments of the check, if it refused an import; `missing` needs them."""
     _missing: Optional[Tuple[Import, ...]] = None
 
     def __bool__(self) -> bool:
@@ -107,10 +107,10 @@ class Verdict(
 
     @property
     def missing(self) -> Tuple[Import, ...]:
-        """Each import off the list, once, in order: looked for when it is asked for, in one pass.
+        """Each import off the list, once, in order. Found on first access, in one pass.
 
-        It is `pair` alone where the pickle is no good under any list, of a row, and in a copy that
-        was made before it was asked for.
+        It contains only `pair` if no list makes the pickle acceptable, for a row of pickles, and in
+        a copy that was made before the first access.
         """
         asked = self._asked
         if self._missing is None:
@@ -125,11 +125,13 @@ class Verdict(
         return self._missing
 
     def __getstate__(self) -> Optional[Dict[str, Any]]:
-        # (a copy has what was found, and not the bytes)
+        # A copy keeps the imports that were found, but not the bytes.
         return {"_missing": self._missing} if self._missing else None
 
     def line(self, most: Optional[int] = None) -> str:
-        """The program's line. With `most` a name shows so many bytes, and how many more it has."""
+        """The program's line. With `most`, a longer name is cut after that many bytes, followed by
+        the number of bytes left out.
+        """
         if self.accepted:
             return f"yes: {self.taken} bytes, {self.imports} imports"
         return f"no at {self.at}: {self._reason(most)}"
@@ -144,36 +146,35 @@ class Verdict(
 
 
 class RowVerdict(Verdict):
-    """What the checker answers of a row of pickles."""
+    """The answer of the checker for a row of pickles."""
 
     def line(self, most: Optional[int] = None) -> str:
-        """The program's line of a row."""
+        """The program's line for a row."""
         if self.accepted:
             return f"yes: {self.taken} bytes, {self.pickles} pickles, {self.imports} imports"
         return f"no in pickle {self.pickles} at {self.at}: {self._reason(most)}"
 
 
 class Refused(pickle.UnpicklingError):
-    """A pickle was refused, and nothing of it was loaded.
+    """A pickle was refused, and none of it was loaded.
 
-    Its text, made when it is asked for, is the program's line, with names shortened to 64 bytes and
-    how many more, and a hint where there is one. `verdict`, `at`, `reason`, `number` and `pair` are
-    whole.
+    `str` gives the program's line, with names cut after 64 bytes, and a hint if there is one. It is
+    built only on demand. `verdict`, `at`, `reason`, `number` and `pair` have the full data.
     """
 
-    if TYPE_CHECKING:  # (none of its own makes one that is raised in less time)
+    if TYPE_CHECKING:  # without an `__init__` of its own the exception is faster to raise
 
         def __init__(self, verdict: Verdict, hint: str = "") -> None: ...
 
     @property
     def verdict(self) -> Verdict:
-        """What the checker answered."""
+        """The answer of the checker."""
         verdict: Verdict = self.args[0]
         return verdict
 
     @property
     def hint(self) -> str:
-        """What to do about it, or nothing."""
+        """What to do about it, or an empty string."""
         hint: str = self.args[1] if len(self.args) > 1 else ""
         return hint
 
@@ -195,7 +196,7 @@ class Refused(pickle.UnpicklingError):
 
     @property
     def number(self) -> Optional[int]:
-        """The number that the reason has."""
+        """The number that the reason carries."""
         return self.verdict.number
 
     @property
@@ -205,9 +206,9 @@ class Refused(pickle.UnpicklingError):
 
 
 class MoreBytes(Refused):
-    """The pickle is accepted, but bytes stand behind it that belong to none. Nothing was loaded.
+    """The pickle is accepted, but more bytes follow it. Nothing was loaded.
 
-    `taken` is how many bytes the pickle has, `length` how many there are.
+    `taken` is the length of the pickle, `length` that of all bytes.
     """
 
     if TYPE_CHECKING:
@@ -222,18 +223,19 @@ class MoreBytes(Refused):
 
     @property
     def length(self) -> int:
-        """How many bytes there are."""
+        """The length of all bytes."""
         length: int = self.args[1]
         return length
 
     @property
     def taken(self) -> int:
-        """How many bytes the pickle has."""
+        """The length of the pickle."""
         return self.verdict.taken
 
 
 class ListFault(ValueError):
-    """A text is no list file. `fault` says why, in the program's words, such as `Shape(Imports)`.
+    """A text is not a list file. `fault` is the program's name for the reason, such as
+    `Shape(Imports)`.
     """
 
     def __init__(self, fault: str) -> None:
@@ -246,7 +248,7 @@ class ListFault(ValueError):
 
 @functools.lru_cache(maxsize=None)
 def _shown_as() -> Dict[int, str]:
-    """How the program quotes each byte."""
+    """The program's spelling of each byte in quotes."""
     return {
         byte: chr(byte) if 32 <= byte <= 126 and byte not in b'"\\' else f"\\x{byte:02x}"
         for byte in range(256)
@@ -254,7 +256,7 @@ def _shown_as() -> Dict[int, str]:
 
 
 def _quoted(text: str, most: Optional[int]) -> str:
-    """The text as the program quotes it, up to `most` bytes of it and how many more."""
+    """The text in quotes, as the program prints it, cut after `most` bytes."""
     data = text.encode()
     shown = data if most is None else data[:most]
     more = f" and {len(data) - len(shown)} more bytes" if len(shown) < len(data) else ""

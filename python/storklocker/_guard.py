@@ -1,4 +1,4 @@
-"""What stands where the module `pickle` stood."""
+"""The guard, a replacement for the module `pickle`."""
 
 from __future__ import annotations
 
@@ -18,7 +18,7 @@ if TYPE_CHECKING:
     from ._unpickler import GuardedUnpickler
 
 ASYNC_FROM = 1 << 16
-"""From so many bytes on `loads_async` loads in a thread."""
+"""The least size in bytes for which `loads_async` uses a thread."""
 
 _FRONT = 4096
 _NOTHING = AllowList([])
@@ -28,10 +28,10 @@ _loads = pickle.loads
 def imports(
     data: bytes, *, limits: Optional[Limits] = None, old_strings: str = "unknown"
 ) -> List[Import]:
-    """Every import that any run of the pickle would make, in order, each as often as it is made.
+    """The imports of the pickle in any run, in order, each as often as it is made.
 
-    One that the pickle doesn't show is `Import(None, None)`. Raises Refused where the pickle is no
-    good under any list.
+    An import that the pickle doesn't reveal is `Import(None, None)`. Raises Refused if no list
+    makes the pickle acceptable.
     """
     verdict, room = imports_of(data, _NOTHING, limits, old_strings)
     if not verdict:
@@ -46,8 +46,8 @@ def missing(
     limits: Optional[Limits] = None,
     old_strings: str = "unknown",
 ) -> List[Import]:
-    """The imports of `imports` that the list doesn't permit, each once, within the limits of the
-    list too. Empty where the pickle is no good under any list.
+    """The imports of the pickle that the list doesn't permit, each once. The limits of the list
+    apply. Empty if no list makes the pickle acceptable.
     """
     _, room = imports_of(data, allow, limits, old_strings)
     return imports_in(it for it in dict.fromkeys(records(room)) if not allow._has(it))
@@ -64,11 +64,11 @@ def loads(
     errors: Optional[str] = None,
     buffers: Optional[Iterable[Any]] = None,
 ) -> Any:
-    """`pickle.loads`, where the checker accepts the pickle: `Guard(allow, ..).loads(data, ..)`.
+    """`pickle.loads` for untrusted input: short for `Guard(allow, ..).loads(data, ..)`.
 
-    Raises Refused where it doesn't, MoreBytes where bytes stand behind the pickle, and else what
-    `pickle.loads` raises. What isn't a `bytes` object is copied into one first, so what is checked
-    is what is loaded.
+    Raises Refused if the pickle is refused, MoreBytes if more bytes follow it, and otherwise what
+    `pickle.loads` raises. A buffer other than `bytes` is copied first, so that exactly the checked
+    bytes are loaded.
     """
     if limits is None and old_strings == "unknown" and not fix_imports:
         guard = _plain_guard(allow)
@@ -78,7 +78,7 @@ def loads(
 
 
 def _plain_guard(allow: AllowList) -> "Guard":
-    """The guard of a list alone, which the list keeps."""
+    """The guard of a list without other settings, which the list caches."""
     if isinstance(allow, AllowList) and allow._guard is not None:
         held: Guard = allow._guard
         return held
@@ -88,7 +88,7 @@ def _plain_guard(allow: AllowList) -> "Guard":
 
 
 def _hint(pair: Optional[Tuple[str, str]], allow: AllowList, fix_imports: bool) -> str:
-    """What to do where a pair has another name in Python 3."""
+    """The hint for a pair that Python 3 has renamed."""
     if pair is None or fix_imports or pair[0] not in _names.RENAMED:
         return ""
     new = _names.renamed(pair)
@@ -100,7 +100,7 @@ def _hint(pair: Optional[Tuple[str, str]], allow: AllowList, fix_imports: bool) 
 
 
 class Guard:
-    """A module `pickle` that loads nothing before a proved checker has accepted it.
+    """A replacement for the module `pickle` that loads only what a proved checker has accepted.
 
         guard = storklocker.Guard(storklocker.AllowList({"collections": ["OrderedDict"]}))
         job = guard.loads(data)          # raises storklocker.Refused, an UnpicklingError
@@ -108,21 +108,21 @@ class Guard:
             job = guard.load(file)
         cache = SomeCache(serializer=guard)
 
-    It has what `pickle` has: `load`, `loads`, `dump`, `dumps`, `Pickler`, `Unpickler`, the errors
-    and the protocols. It doesn't change, and can be shared by threads, copied, pickled and sent to
-    workers (with an `on_refusal` that can be).
+    It has the names of `pickle`: `load`, `loads`, `dump`, `dumps`, `Pickler`, `Unpickler`, the
+    errors and the protocols. A guard is immutable. Threads may share it, and it can be copied,
+    pickled and sent to workers (if `on_refusal` can be).
 
     allow: the AllowList.
-    limits: Limits beside those of the list.
-    old_strings: what strings of Python 2 become, as for `check`: under "ascii" and "bytes" pickles
-        are loaded so, and an `encoding` or `errors` that says otherwise is a ValueError.
-    fix_imports: whether pickles of protocols 0 to 2 name modules as Python 2 did. Each pair is then
-        permitted exactly where the pair that CPython makes of it is on the list. It holds whatever
-        a call says of `fix_imports`.
-    on_refusal: called with a `Refusal` before Refused is raised. What it raises is raised in place
-        of it.
-    enforce: with False what is refused is told to `on_refusal`, and LOADED ALL THE SAME: to learn
-        what a list lacks.
+    limits: Limits in addition to those of the list.
+    old_strings: how Python 2 strings are decoded, as for `check`. With "ascii" and "bytes" pickles
+        are also loaded that way, and a different `encoding` or `errors` raises ValueError.
+    fix_imports: whether pickles of protocols 0 to 2 use the module names of Python 2. A pair is
+        then permitted exactly if the pair that CPython maps it to is on the list. This overrides
+        the `fix_imports` of a call.
+    on_refusal: called with a `Refusal` before Refused is raised. An exception that it raises
+        replaces Refused.
+    enforce: False reports a refusal to `on_refusal` and LOADS THE PICKLE ANYWAY. Use it to find out
+        what a list is missing.
     """
 
     PickleError = pickle.PickleError
@@ -160,7 +160,7 @@ class Guard:
         on_refusal: Optional[Callable[[Refusal], Any]] = None,
         enforce: bool = True,
     ) -> None:
-        # whether each is what it must be
+        # Validates the arguments.
         check(b"N.", allow, limits=limits, old_strings=old_strings)
         if on_refusal is not None and not callable(on_refusal):
             raise TypeError(f"on_refusal is called with a Refusal: {on_refusal!r} can't be")
@@ -176,12 +176,12 @@ class Guard:
 
     @property
     def allow(self) -> AllowList:
-        """What may be imported."""
+        """The allow list."""
         return self._allow
 
     @property
     def enforce(self) -> bool:
-        """Whether what is refused isn't loaded."""
+        """Whether refused pickles are left unloaded."""
         return self._enforce
 
     def __repr__(self) -> str:
@@ -211,10 +211,10 @@ class Guard:
         errors: Optional[str] = None,
         buffers: Optional[Iterable[Any]] = None,
     ) -> Any:
-        """The object of a pickle that is all of `data`, bytes or any buffer, which is copied first.
+        """The object of the pickle in `data`, which must contain nothing else.
 
-        Raises Refused, or MoreBytes where bytes stand behind it, and else what `pickle.loads`
-        raises.
+        `data` is bytes or a buffer, which is copied first. Raises Refused, MoreBytes if more bytes
+        follow the pickle, and otherwise what `pickle.loads` raises.
         """
         if type(data) is not bytes:
             data = self._copied(data)
@@ -239,16 +239,16 @@ class Guard:
         errors: Optional[str] = None,
         buffers: Optional[Iterable[Any]] = None,
     ) -> Any:
-        """The object of the pickle at the place of a file, which stands behind the pickle then.
+        """The object of the next pickle in a file. Leaves the file right after the pickle.
 
-        Raises EOFError where the file is at its end, Refused with the file where it was (if it can
-        seek), and else what `pickle.load` raises.
+        Raises EOFError at the end of the file, Refused (and seeks back, if the file can), and
+        otherwise what `pickle.load` raises.
         """
         return self.Unpickler(file, encoding=encoding, errors=errors, buffers=buffers).load()
 
     async def loads_async(self, data: Any, /, **named: Any) -> Any:
-        """`loads`, in a thread where there are 65,536 bytes or more: the check of these lets the
-        event loop go on.
+        """`loads`, which runs in a thread from 65,536 bytes on, so that the check of a large pickle
+        doesn't block the event loop.
         """
         if memoryview(data).nbytes < ASYNC_FROM:
             return self.loads(data, **named)
@@ -260,14 +260,14 @@ class Guard:
         return await asyncio.get_running_loop().run_in_executor(None, call)
 
     def check(self, data: bytes) -> Verdict:
-        """The Verdict of the pickle at the front of `data`, which is bytes, as `loads` asks."""
+        """Checks the pickle at the front of `data`, a bytes object, as `loads` does."""
         return check(
             data, self._listed_for(data), limits=self._limits, old_strings=self._old_strings
         )
 
     @property
     def Unpickler(self) -> "Type[GuardedUnpickler]":
-        """The class that stands where `pickle.Unpickler` stood. It can be inherited from."""
+        """The guarded replacement for `pickle.Unpickler`. It can be subclassed."""
         if self._unpickler is None:
             from ._unpickler import GuardedUnpickler, OldUnpickler
 
@@ -283,17 +283,18 @@ class Guard:
         return context(value)
 
     def _has_old_names(self, data: bytes) -> bool:
-        """Whether the names of a pickle are taken for those of Python 2: its first instruction says
-        so.
+        """Whether the pickle uses the names of Python 2, which follows from its first instruction.
         """
         return self._fix_imports and _names.are_old(data)
 
     def _listed_for(self, data: bytes) -> AllowList:
-        """The list that holds for a pickle."""
+        """The list that applies to a pickle."""
         return self._old if self._has_old_names(data) else self._new
 
     def _decoding(self, encoding: Optional[str], errors: Optional[str]) -> Tuple[str, str]:
-        """How old strings are read: as `old_strings` says, or else as the caller does."""
+        """The encoding and errors for Python 2 strings: those of `old_strings`, or if that is
+        unknown those of the caller.
+        """
         if self._old_strings == "unknown":
             return (encoding or "ASCII", errors or "strict")
         held = "bytes" if self._old_strings == "bytes" else "ASCII"
@@ -305,7 +306,7 @@ class Guard:
         return (held, "strict")
 
     def _told(self, verdict: Verdict, data: bytes) -> Refused:
-        """The error of a refusal, which `on_refusal` has heard of."""
+        """Reports a refusal to `on_refusal`, and returns its exception."""
         if self._on_refusal is not None:
             from ._refusal import Refusal, context_now
 
@@ -315,19 +316,21 @@ class Guard:
         return Refused(verdict, _hint(verdict.pair, self._allow, self._fix_imports))
 
     def _refuse(self, verdict: Verdict, data: bytes) -> None:
-        """Tells of a refusal, and raises it if it is enforced."""
+        """Reports a refusal, and raises it unless it isn't enforced."""
         refused = self._told(verdict, data)
         if self._enforce:
             raise refused
 
     def _refusal_of(self, data: bytes) -> Optional[Refused]:
-        """The error, which `on_refusal` has heard of, unless `data` is one accepted pickle."""
+        """The exception for `data`, reported to `on_refusal`, or None if it is one accepted pickle.
+        """
         listed = self._listed_for(data)
         verdict = verdict_unless_whole(data, listed, self._limits, self._old_strings)
         return None if verdict is None else self._told(verdict, data)
 
     def _copied(self, data: Any) -> bytes:
-        """What a buffer holds, as bytes. Of a long one the front is looked at first."""
+        """A copy of a buffer as bytes. Checks the front of a long buffer before copying all of it.
+        """
         view = memoryview(data)
         if view.nbytes > 2 * _FRONT and view.c_contiguous:
             front = bytes(view.cast("B")[:_FRONT])
@@ -343,7 +346,7 @@ class Guard:
         errors: Optional[str],
         buffers: Optional[Iterable[Any]],
     ) -> Any:
-        """`loads` under `fix_imports`."""
+        """`loads` with `fix_imports`."""
         refused = self._refusal_of(data)
         if refused is not None and self._enforce:
             raise refused

@@ -1,4 +1,4 @@
-"""What the extension module makes answers of, each at the place that `_storklocker.c` names."""
+"""Objects that the extension module needs for its answers, at the indexes in `_storklocker.c`."""
 
 from ._answers import REASONS, RowVerdict, Verdict
 from ._limits import Limits

@@ -1,4 +1,4 @@
-"""What a check may cost: a value that doesn't change."""
+"""The limits of a check."""
 
 from __future__ import annotations
 
@@ -10,23 +10,23 @@ if TYPE_CHECKING:
     from typing import Any, Tuple
 
 UNBOUND = (1 << 32) - 1
-"""The greatest number of a memo entry."""
+"""The greatest memo number."""
 
 
 class Limits(namedtuple("Limits", "counted stack memo passed numbers large")):
-    """The limits of a check: a value that doesn't change.
+    """The limits of a check. Immutable.
 
-    A number above the greatest that a limit may be stands for that.
+    A limit above its greatest value means that value.
 
-    counted: bytes of the payload of a counted argument; 16,777,216 and at most that.
-    stack: entries of the stack, marks included; 1,000,000 and at most that.
-    memo: entries of the memo; 1,000,000 and at most that.
-    passed: bytes of a payload of bytes, which is not looked at; 16,777,216 and at most
+    counted: bytes in the payload of a counted argument; default and greatest 16,777,216.
+    stack: stack entries, marks included; default and greatest 1,000,000.
+    memo: memo entries; default and greatest 1,000,000.
+    passed: bytes in a byte payload, which is skipped; default 16,777,216, greatest
         1,099,511,627,776.
-    numbers: the greatest number that a pickle may give a memo entry; 1,000,000 and at most
-        4,294,967,295. CPython takes 16 bytes for each number up to it, so that 7 bytes could cost
-        the loading process 64 GB.
-    large: whether counted, stack and memo may be up to 4,294,967,295.
+    numbers: the greatest memo number; default 1,000,000, greatest 4,294,967,295. CPython allocates
+        16 bytes for each number up to the greatest one used, so 7 bytes of a pickle could make the
+        loading process allocate 64 GB.
+    large: raises the greatest value of counted, stack and memo to 4,294,967,295.
     """
 
     __slots__ = ()
@@ -69,7 +69,7 @@ def _limit(number: int) -> int:
 
 
 def limits_of(counted: int, stack: int, memo: int, passed: int, numbers: int, large: int) -> Limits:
-    """The limits of six numbers."""
+    """Limits with these values."""
     return Limits(
         counted=counted, stack=stack, memo=memo, passed=passed, numbers=numbers, large=bool(large)
     )

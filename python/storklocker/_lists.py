@@ -1,4 +1,4 @@
-"""What a pickle may import, and what it may cost: values that don't change."""
+"""Allow lists."""
 
 from __future__ import annotations
 
@@ -21,23 +21,23 @@ if TYPE_CHECKING:
     Names = Tuple[Optional[bytes], Optional[bytes]]
 
 _MOST = 1 << 30
-"""The most bytes that the names of a list or of the imports of a pickle may have."""
+"""The most bytes for the names in a list or in the imports of a pickle."""
 
 STANDARD = Limits()
 
 
 class AllowList(_Pairs):
-    """The pairs of a module and a name that a pickle may import: a value that doesn't change.
+    """The pairs of a module and a name that a pickle may import. Immutable.
 
         AllowList([("collections", "OrderedDict"), ("a.b", "C")])
         AllowList({"collections": ["OrderedDict", "deque"], "datetime": ["datetime"]})
         AllowList.from_file("list.toml")
 
-    It is iterated in order, and has `in`, `len`, `|`, `==` and a hash; it can be copied, pickled
-    and shared by threads. A pair is looked up in logarithmic time, so a long list costs little.
-    `limits` are those of its list file, which hold in each check under it; None of pairs.
+    It supports iteration in order, `in`, `len`, `|`, `==` and `hash`. It can be copied, pickled and
+    shared by threads. Lookup takes logarithmic time, so a long list costs little. `limits` are
+    those of its list file, which apply to every check under it; None for a list made from pairs.
 
-    A name permits what it names alone: `("os", "path")` doesn't permit `("os", "path.join")`.
+    A pair permits only itself: `("os", "path")` doesn't permit `("os", "path.join")`.
     """
 
     __slots__ = ("_limits", "_loaded", "_fixed", "_guard", "__weakref__")
@@ -59,9 +59,9 @@ class AllowList(_Pairs):
 
     @classmethod
     def from_text(cls, text: Union[str, bytes]) -> "AllowList":
-        """The list of a list file's text. Raises ListFault where the text is none.
+        """Parses the text of a list file. Raises ListFault if it is not one.
 
-        Where its limits leave out `numbers`, that of `STANDARD` holds.
+        If its limits leave out `numbers`, the limit of `STANDARD` applies.
         """
         if not isinstance(text, (str, bytes, bytearray)):
             raise TypeError(f"the text of a list file is a str or bytes, not {type(text)!r}")
@@ -77,15 +77,13 @@ class AllowList(_Pairs):
 
     @classmethod
     def from_file(cls, file: Union[str, "os.PathLike[str]"]) -> "AllowList":
-        """The list of a list file. Raises ListFault where it is none, and OSError where it can't be
-        read.
-        """
+        """Reads a list file. Raises ListFault if it is not one, and OSError if reading fails."""
         with open(file, "rb") as opened:
             return cls.from_text(opened.read())
 
     @property
     def limits(self) -> Optional[Limits]:
-        """The limits of its list file; None where it was made of pairs."""
+        """The limits of its list file; None for a list made from pairs."""
         return self._limits
 
     def __iter__(self) -> Iterator[Pair]:
@@ -101,14 +99,16 @@ class AllowList(_Pairs):
         return self._has(_bytes_of_pair(pair))
 
     def _has(self, names: Names) -> bool:
-        """Whether it has a pair, as bytes. No list has the names of an import that isn't shown."""
+        """Whether it contains a pair of encoded names. The names of an unknown import are None, and
+        no list contains them.
+        """
         if names[0] is None:
             return False
         place = bisect.bisect_left(self._pairs, names)
         return place < len(self._pairs) and self._pairs[place] == names
 
     def __or__(self, other: object) -> "AllowList":
-        """What either permits, within the limits of both."""
+        """The union of the pairs, under the limits of both."""
         if not isinstance(other, AllowList):
             return NotImplemented
         return type(self)._of(self._pairs + other._pairs, _within(self._limits, other._limits))
@@ -132,7 +132,7 @@ class AllowList(_Pairs):
         return (_list_of, (type(self), self._pairs, self._limits))
 
     def _for_loading(self) -> "AllowList":
-        """The pairs that can be imported as they are: without those whose module only Python 2 has.
+        """The pairs that this Python can import, without those of modules that only Python 2 has.
         """
         if self._loaded is None:
             lost = [pair for pair in self if _names.is_lost(pair)]
@@ -140,7 +140,7 @@ class AllowList(_Pairs):
         return self if self._loaded is _AS_IT_IS else self._loaded
 
     def _for_old_names(self) -> "AllowList":
-        """The pairs for which CPython takes a pair of this list, under `fix_imports`."""
+        """The pairs that CPython maps to a pair of this list, with `fix_imports`."""
         if self._fixed is None:
             pairs = (_bytes_of_pair(old) for pair in self for old in _names.old_names(pair))
             self._fixed = self._of(pairs, self._limits)
@@ -164,7 +164,7 @@ def _within(one: Optional[Limits], other: Optional[Limits]) -> Optional[Limits]:
 
 
 def _bytes_of(text: str) -> bytes:
-    """The text in UTF-8; what has no UTF-8 is in no list."""
+    """The text in UTF-8. Lone surrogates are encoded too, and no list contains them."""
     return text.encode("utf-8", "surrogatepass")
 
 
@@ -182,7 +182,7 @@ def _is_pair(pair: Any) -> bool:
 
 
 def _pairs_in(given: Any) -> Iterator[Any]:
-    """The items of what was given, each with the words for it."""
+    """The items of the argument, each with its description for errors."""
     if not isinstance(given, Mapping):
         for place, pair in enumerate(given):
             yield (f"item {place}", pair)
@@ -210,7 +210,8 @@ def _encoded(given: Any) -> Iterator[Tuple[bytes, bytes]]:
 
 
 def with_room(call: Callable[[int], Tuple[Any, ...]]) -> Tuple[Any, bytes]:
-    """What a call says that is told how much room it has, and what it puts there."""
+    """Calls with growing room until the answer fits. Returns the answer and the bytes in the room.
+    """
     size = 4096
     while True:
         *said, wanted, room = call(size)
@@ -224,14 +225,15 @@ def with_room(call: Callable[[int], Tuple[Any, ...]]) -> Tuple[Any, bytes]:
 def imports_of(
     data: bytes, allow: AllowList, limits: Optional[Limits], old_strings: str
 ) -> Tuple[Verdict, bytes]:
-    """The Verdict under any import, within the limits of the list too, and room with the imports.
+    """Checks a pickle, permitting every import. The limits of the list apply. Returns the Verdict
+    and the encoded imports.
     """
     (verdict,), room = with_room(lambda size: _imports(data, allow, limits, old_strings, size))
     return verdict, room
 
 
 def records(room: bytes) -> Iterator[Names]:
-    """The pairs that the library gave in a room; None of an import that it can't tell."""
+    """Decodes the pairs that the library wrote; both names of an unknown import are None."""
     at = 0
     while at < len(room):
         texts: List[Optional[bytes]] = []
@@ -247,7 +249,7 @@ def records(room: bytes) -> Iterator[Names]:
 
 
 def imports_in(names: Iterable[Names]) -> List[Import]:
-    """The imports of these names."""
+    """The imports with these names."""
     return [
         Import(None, None)
         if module is None or name is None

@@ -1,4 +1,4 @@
-"""What CPython makes of the names of Python 2, by its own tables."""
+"""How CPython maps the names of Python 2 to those of Python 3, from its own tables."""
 
 from __future__ import annotations
 
@@ -12,16 +12,16 @@ if TYPE_CHECKING:
     Pair = Tuple[str, str]
 
 RENAMED = frozenset(module for module, _ in tables.NAME_MAPPING).union(tables.IMPORT_MAPPING)
-"""The modules of Python 2 of which Python 3 has some name elsewhere."""
+"""The modules of Python 2 with at least one name that Python 3 has moved."""
 
 
 def are_old(data: bytes) -> bool:
-    """Whether a pickle is of protocol 0 to 2, by its first instruction."""
+    """Whether the first instruction of a pickle implies protocol 0, 1 or 2."""
     return data[:1] != b"\x80" or data[1:2] < b"\x03"
 
 
 def renamed(pair: Pair) -> Pair:
-    """The pair that CPython imports for this one, in a pickle of protocol 0 to 2 under
+    """The pair that CPython imports for this one from a pickle of protocol 0 to 2, with
     `fix_imports`.
     """
     if pair in tables.NAME_MAPPING:
@@ -32,7 +32,7 @@ def renamed(pair: Pair) -> Pair:
 
 @functools.lru_cache(maxsize=None)
 def _backwards() -> Tuple[Dict[Pair, List[Pair]], Dict[str, List[str]]]:
-    """The two tables, from new to old."""
+    """The two tables, inverted."""
     pairs: Dict[Pair, List[Pair]] = {}
     for old, new in tables.NAME_MAPPING.items():
         pairs.setdefault(new, []).append(old)
@@ -43,7 +43,7 @@ def _backwards() -> Tuple[Dict[Pair, List[Pair]], Dict[str, List[str]]]:
 
 
 def old_names(pair: Pair) -> Iterator[Pair]:
-    """Each pair of which `renamed` makes this one."""
+    """Each pair that `renamed` maps to this one."""
     pairs, modules = _backwards()
     yield from pairs.get(pair, ())
     for module in (pair[0], *modules.get(pair[0], ())):
@@ -52,8 +52,7 @@ def old_names(pair: Pair) -> Iterator[Pair]:
 
 
 def is_lost(pair: Pair) -> bool:
-    """Whether Python 3 has another name for the pair, and this Python no module of the pair's name.
-    """
+    """Whether Python 3 has renamed the pair, and this Python has no module with the old name."""
     if renamed(pair) == pair:
         return False
     from importlib.util import find_spec

@@ -1,4 +1,4 @@
-"""How the bytes of a pickle come from a file, before anyone has looked at them."""
+"""Reads the bytes of a pickle from a file, before they are checked."""
 
 from __future__ import annotations
 
@@ -6,13 +6,13 @@ import functools
 from typing import Any, Callable, Dict, List
 
 FIRST_BLOCK = 4096
-"""How many bytes are read at first. Each further block has as many as there are by then."""
+"""The size of the first block. Each further block doubles what was read."""
 
 _PIECE = 1 << 16
 
 
 def block_of(read: Callable[..., Any], count: int) -> bytes:
-    """What a file gives where `count` bytes are asked for; nothing at its end."""
+    """Reads up to `count` bytes; returns none at the end of the file."""
     given = read(count)
     if given is None:
         raise BlockingIOError("the file has no bytes yet: a pickle is read from one that blocks")
@@ -22,9 +22,10 @@ def block_of(read: Callable[..., Any], count: int) -> bytes:
 
 
 def can_step_back(file: Any) -> bool:
-    """Whether a file can be put back to where a pickle ended, and cheaply.
+    """Whether a file can seek back to the end of a pickle cheaply.
 
-    One that has `peek` and no `raw`, such as of gzip, would read all that is before the place anew.
+    A file with `peek` and without `raw`, such as `gzip.GzipFile`, would start over from its first
+    byte.
     """
     if hasattr(file, "peek") and not hasattr(file, "raw"):
         return False
@@ -36,19 +37,18 @@ def can_step_back(file: Any) -> bool:
 
 @functools.lru_cache(maxsize=None)
 def _arguments() -> Dict[bytes, Any]:
-    """How long the argument of an opcode is, as `pickletools` says by its code."""
+    """The argument descriptor of each opcode in `pickletools`, by code; it has the length."""
     import pickletools
 
     return {op.code.encode("latin-1"): op.arg for op in pickletools.opcodes}
 
 
 class Walk:
-    """Takes just the instructions of one pickle from a file that can't step back, without judging
-    them.
+    """Takes exactly one pickle from a file that can't seek back, without judging it.
 
-    Where an instruction is none, or a file ends, it ends too, and a check of what was taken says
-    why. So does it before a payload that is longer than all before it where `is_refused` says so of
-    that.
+    It stops at an invalid instruction and at the end of the file; a check of the bytes taken then
+    reports why. Before a payload that is longer than everything before it, it asks `is_refused`,
+    and stops if those bytes are already refused.
     """
 
     def __init__(self, file: Any, is_refused: Callable[[bytes], bool]) -> None:
@@ -58,7 +58,7 @@ class Walk:
         self._length = 0
 
     def taken(self) -> bytes:
-        """The bytes of a pickle, up to its STOP."""
+        """Takes a pickle, up to its STOP."""
         codes = _arguments()
         while True:
             code = self._piece(1)
@@ -66,7 +66,7 @@ class Walk:
                 return b"".join(self._taken)
 
     def _argument(self, kind: Any) -> bool:
-        """Takes the argument of an instruction; false where there can be no further one."""
+        """Takes the argument of an instruction; False if no instruction can follow it."""
         if kind is None:
             return True
         if kind.n == -1:
@@ -85,7 +85,7 @@ class Walk:
         return piece
 
     def _piece(self, count: int) -> bytes:
-        """Up to `count` bytes, fewer at the end of the file alone."""
+        """Takes `count` bytes, or fewer at the end of the file."""
         found = block_of(self._read, count)
         while 0 < len(found) < count:
             more = block_of(self._read, count - len(found))

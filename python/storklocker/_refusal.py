@@ -1,4 +1,4 @@
-"""What a service is told of a refusal."""
+"""Reports of refusals to a service."""
 
 from __future__ import annotations
 
@@ -14,14 +14,14 @@ _context: "contextvars.ContextVar[Any]" = contextvars.ContextVar(
 
 
 class Refusal:
-    """What `on_refusal` is told: a value that can be pickled.
+    """The argument of `on_refusal`. It can be pickled.
 
-    verdict: the checker's answer; accepted where bytes stood behind the pickle.
-    size: how many bytes of the pickle were read.
-    sha256: the SHA-256 of these bytes, in hexadecimal; computed when it is asked for.
+    verdict: the answer of the checker. It is an acceptance if more bytes followed the pickle.
+    size: the number of bytes of the pickle that were read.
+    sha256: the SHA-256 of these bytes, in hexadecimal; computed on first access.
     missing: `missing` of the verdict.
-    context: what `context` says around the call.
-    enforced: whether the pickle was left unloaded.
+    context: the value of `context` around the call.
+    enforced: False if the pickle is loaded in spite of the refusal.
     """
 
     __slots__ = ("verdict", "size", "context", "enforced", "_data", "_sha256")
@@ -44,14 +44,14 @@ class Refusal:
 
     @property
     def missing(self) -> Tuple[Import, ...]:
-        """The imports that the list doesn't permit."""
+        """The imports off the list."""
         return self.verdict.missing
 
     def __repr__(self) -> str:
         return f"Refusal({self.verdict.line(64)!r}, size={self.size}, context={self.context!r})"
 
     def __reduce__(self) -> Tuple[Any, ...]:
-        self.missing  # (the verdict keeps it)
+        self.missing  # makes the verdict keep it
         words = (self.verdict, self.size, self.sha256, self.context, self.enforced)
         return (_refusal_of, words)
 
@@ -66,8 +66,8 @@ def _refusal_of(
 
 @contextlib.contextmanager
 def context(value: Any) -> Iterator[None]:
-    """Says what is being loaded, such as the key of a cache, for the `Refusal` of any guard within
-    the block.
+    """Sets the `context` of refusals within the block, for every guard: what is being loaded, such
+    as the key of a cache entry.
     """
     token = _context.set(value)
     try:
@@ -77,5 +77,5 @@ def context(value: Any) -> Iterator[None]:
 
 
 def context_now() -> Any:
-    """What `context` says here."""
+    """The current value of `context`."""
     return _context.get()

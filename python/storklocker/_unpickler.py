@@ -1,4 +1,4 @@
-"""What stands where `pickle.Unpickler` stood."""
+"""The guarded replacement for `pickle.Unpickler`."""
 
 from __future__ import annotations
 
@@ -17,10 +17,10 @@ if TYPE_CHECKING:
 
 
 class _Renaming(pickle.Unpickler):
-    """Imports each pair by the name that Python 3 has for it.
+    """Imports each pair under its Python 3 name.
 
-    `pickle` would do so by the protocol at that place, which a pickle may change, and then the list
-    would be another.
+    `pickle` renames by the current protocol, which a second PROTO can change. Then the names that
+    are loaded would not be those that were checked.
     """
 
     def find_class(self, module: str, name: str, /) -> Any:
@@ -28,13 +28,13 @@ class _Renaming(pickle.Unpickler):
 
 
 def loads_renaming(data: bytes, **named: Any) -> Any:
-    """`pickle.loads`, where each pair is imported by the name that Python 3 has for it."""
+    """`pickle.loads`, which imports each pair under its Python 3 name."""
     return _Renaming(io.BytesIO(data), **named).load()
 
 
 class _Feed(io.BytesIO):
-    """Where the superclass reads: bytes that were accepted. `end` is the end of the pickle where it
-    is known.
+    """The file of the superclass: bytes that were accepted. `end` is the end of the pickle, if
+    known.
     """
 
     end = 0
@@ -45,12 +45,12 @@ class _Feed(io.BytesIO):
 
 
 class GuardedUnpickler(pickle.Unpickler):
-    """`pickle.Unpickler`, of which each `load` checks a pickle before it reads it.
+    """`pickle.Unpickler` with a check before each `load`.
 
-    It has `persistent_load`, `find_class` and `buffers` as `pickle` has them, and keeps its memo
-    from one `load` to the next: the pickles that it loads are checked as a row under one Unpickler.
-    It keeps what it has read, and may have read ahead of the pickle that it loaded; the file stands
-    behind that pickle. One whose `load` failed is spent.
+    `persistent_load`, `find_class` and `buffers` work as in `pickle`. The memo is kept from one
+    `load` to the next, so the pickles are checked as a row under one Unpickler. It keeps all bytes
+    that it has read, and may read ahead of the pickle that it loads, but leaves the file right
+    after that pickle. After a failed `load` it can't be used again.
     """
 
     guard: Guard
@@ -75,15 +75,15 @@ class GuardedUnpickler(pickle.Unpickler):
         self._steps_back = steps_back
         self._lock = threading.Lock()
         self._is_spent = False
-        self._bytes = b""  # of all pickles that were loaded, and what was read ahead
-        self._taken = 0  # how many of these were loaded
-        self._pickles = 0  # how many pickles these are
-        self._accepted: Dict[bool, int] = {}  # how many are accepted with and without old names
-        self._kinds: Set[bool] = set()  # of which of the two the pickles are
-        self._shift: Optional[int] = None  # from a place in these bytes to the file's
+        self._bytes = b""  # all pickles loaded so far, and what was read ahead
+        self._taken = 0  # the number of bytes loaded
+        self._pickles = 0  # the number of pickles loaded
+        self._accepted: Dict[bool, int] = {}  # the pickles accepted with and without old names
+        self._kinds: Set[bool] = set()  # whether there are pickles with and without old names
+        self._shift: Optional[int] = None  # the offset in the file minus that in these bytes
 
     def load(self) -> Any:
-        """The object of the next pickle of the file."""
+        """The object of the next pickle in the file."""
         if self._feed is None:
             raise pickle.UnpicklingError(
                 f"Unpickler.__init__() was not called by {type(self).__name__}.__init__()"
@@ -113,8 +113,8 @@ class GuardedUnpickler(pickle.Unpickler):
         return loaded
 
     def _admitted(self) -> int:
-        """Reads until the next pickle is accepted. Answers where it ends, or its start where that
-        isn't known.
+        """Reads until the next pickle is accepted. Returns the offset of its end, or of its start
+        if the end isn't known.
         """
         self._find_place()
         if self._steps_back and len(self._bytes) == self._taken:
@@ -131,18 +131,16 @@ class GuardedUnpickler(pickle.Unpickler):
             return verdict.taken if self._pickles == 0 else self._taken
         self._put_back()
         guard, data = self.guard, self._bytes[self._taken :]
-        if self._pickles:  # (by itself, it has more to say than as one of a row)
+        if self._pickles:  # lets `missing` check the pickle on its own, not as part of the row
             asked = (data, guard._listed_for(data), guard._limits, guard._old_strings)
             verdict._asked = asked
         guard._refuse(verdict, data)
-        while self._read_on():  # (not enforced: whatever is there is loaded)
+        while self._read_on():  # not enforced: everything is loaded
             pass
         return self._taken
 
     def _judged(self) -> Verdict:
-        """A yes where the next pickle is accepted under each list under which it must be, else a
-        no.
-        """
+        """Checks the next pickle under each list that applies, up to the first refusal."""
         verdict = Verdict(True)
         for is_old in self._kinds:
             if self._accepted.get(is_old, 0) <= self._pickles:
@@ -153,7 +151,7 @@ class GuardedUnpickler(pickle.Unpickler):
         return verdict if self._pickles == 0 else Verdict(True)
 
     def _asked(self, data: bytes, is_old: bool) -> Verdict:
-        """A check of the pickles that were loaded and what is behind them."""
+        """Checks the pickles loaded so far and the bytes after them."""
         guard = self.guard
         allow = guard._old if is_old else guard._new
         if self._pickles == 0:
@@ -163,7 +161,7 @@ class GuardedUnpickler(pickle.Unpickler):
         )
 
     def _find_place(self) -> None:
-        """What was read ahead counts where the file is still where the last pickle ended."""
+        """Drops what was read ahead if the file is no longer at the end of the last pickle."""
         if self._steps_back:
             place = self._file.tell()
             if self._shift is not None and place != self._shift + self._taken:
@@ -172,12 +170,12 @@ class GuardedUnpickler(pickle.Unpickler):
             self._shift = place - self._taken
 
     def _put_back(self) -> None:
-        """Puts the file behind the pickles that were loaded."""
+        """Seeks the file to the end of the last pickle loaded."""
         if self._steps_back and self._shift is not None:
             self._file.seek(self._shift + self._taken)
 
     def _read_on(self) -> bool:
-        """Reads a block, of as many bytes as there are already. False at the end of the file."""
+        """Reads a block, doubling what was read. Returns False at the end of the file."""
         if not self._steps_back or self._shift is None:
             return False
         self._file.seek(self._shift + len(self._bytes))
@@ -186,7 +184,7 @@ class GuardedUnpickler(pickle.Unpickler):
         return bool(block)
 
     def _walk(self) -> None:
-        """Reads just the next pickle of a file that can't step back."""
+        """Reads exactly the next pickle from a file that can't seek back."""
         walk = Walk(self._file, self._is_hopeless)
         self._bytes += walk.taken()
 
@@ -198,7 +196,7 @@ class GuardedUnpickler(pickle.Unpickler):
 
 
 class OldUnpickler(GuardedUnpickler):
-    """Under `fix_imports`."""
+    """`GuardedUnpickler` with `fix_imports`."""
 
     def find_class(self, module: str, name: str, /) -> Any:
         if _names.are_old(self._bytes[self._taken : self._taken + 2]):

@@ -1,4 +1,4 @@
-"""How many pickles a guard accepted and refused, in the text form that Prometheus reads.
+"""Counts the pickles that a guard accepts and refuses, in Prometheus's text format.
 
     from storklocker.metrics import CountingGuard
 
@@ -20,7 +20,7 @@ if TYPE_CHECKING:
 
 
 class Counts:
-    """How many pickles were accepted, and how many refused by reason. Threads may share it."""
+    """The number of accepted pickles, and of refused ones by reason. Threads may share it."""
 
     def __init__(self) -> None:
         self._lock = threading.Lock()
@@ -29,29 +29,31 @@ class Counts:
 
     @property
     def accepted(self) -> int:
-        """How many were accepted, those among them whose load raised."""
+        """The number of accepted pickles, including those whose load raised."""
         return self._accepted
 
     @property
     def refused(self) -> Dict[str, int]:
-        """How many were refused, by the reason's name; `MoreBytes` where bytes stood behind."""
+        """The number of refused pickles by the name of the reason; `MoreBytes` if more bytes
+        followed.
+        """
         with self._lock:
             return dict(self._refused)
 
     def accept(self) -> None:
-        """Counts one that was accepted."""
+        """Counts an accepted pickle."""
         with self._lock:
             self._accepted += 1
 
     def refuse(self, refusal: Refusal) -> None:
-        """Counts one that was refused: what `on_refusal` of any guard takes."""
+        """Counts a refused pickle. Can be the `on_refusal` of any guard."""
         reason = refusal.verdict.reason
         name = "MoreBytes" if reason is None else reason.name
         with self._lock:
             self._refused[name] = self._refused.get(name, 0) + 1
 
     def text(self) -> str:
-        """The counts in Prometheus's text form, version 0.0.4."""
+        """The counts in Prometheus's text format, version 0.0.4."""
         lines = [
             "# HELP storklocker_accepted_total Pickles that the guard accepted.",
             "# TYPE storklocker_accepted_total counter",
@@ -65,7 +67,7 @@ class Counts:
 
 
 class CountingGuard(Guard):
-    """A `Guard` that counts in `counts`. A copy in another process counts there, from 0."""
+    """A `Guard` that counts in `counts`. A copy in another process has its own counts, from 0."""
 
     __slots__ = ("counts", "_hook", "_here")
 
@@ -96,7 +98,7 @@ class CountingGuard(Guard):
 
     @property
     def Unpickler(self) -> "Type[GuardedUnpickler]":
-        """`Guard.Unpickler`, of which each `load` is counted."""
+        """`Guard.Unpickler`, with each `load` counted."""
         if self._unpickler is None:
             plain: Any = super().Unpickler
 
@@ -111,7 +113,7 @@ class CountingGuard(Guard):
         return self._unpickler
 
     def _count(self) -> None:
-        """Counts what was accepted. (With enforce=False what was refused is loaded too.)"""
+        """Counts a load as accepted unless it was refused, as enforce=False loads refused ones."""
         if not self._here.refused:
             self.counts.accept()
 

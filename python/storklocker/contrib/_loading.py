@@ -1,4 +1,4 @@
-"""What every adapter of a cache does where a pickle cannot be loaded."""
+"""Error handling that the adapters share, for pickles that cannot be loaded."""
 
 from __future__ import annotations
 
@@ -9,12 +9,12 @@ from .. import Guard
 
 
 class Unloadable(pickle.UnpicklingError):
-    """A pickle was accepted, and what it calls raised an exception. `__cause__` has it."""
+    """A pickle was accepted, but something it called raised an exception, now in `__cause__`."""
 
 
 class Loader:
-    """A guard that stands for the module `pickle` and raises nothing but `UnpicklingError` and
-    `EOFError` when it loads: whoever writes a pickle can make a listed callable raise anything.
+    """A guard in the role of the module `pickle`. It turns exceptions of loaded objects into
+    `UnpicklingError`, because a hostile pickle can make a listed callable raise anything.
     """
 
     def __init__(self, guard: Guard) -> None:
@@ -24,11 +24,11 @@ class Loader:
         return getattr(self._guard, name)
 
     def load(self, file: Any, **words: Any) -> Any:
-        """`pickle.load`, behind the guard."""
+        """`pickle.load` through the guard."""
         return _tried(self._guard.load, file, words)
 
     def loads(self, data: Any, **words: Any) -> Any:
-        """`pickle.loads`, behind the guard."""
+        """`pickle.loads` through the guard."""
         return _tried(self._guard.loads, data, words)
 
 

@@ -1,4 +1,4 @@
-"""Classes of other libraries, whose methods read a name of their module as something else."""
+"""Subclasses of other libraries' classes, with some global names of their methods replaced."""
 
 from __future__ import annotations
 
@@ -9,12 +9,12 @@ T = TypeVar("T")
 
 
 def rebound(cls: Type[T], names: Mapping[str, object]) -> Type[T]:
-    """A subclass of `cls` in whose methods these global names stand for these objects.
+    """A subclass of `cls` whose methods see these objects under these global names.
 
-    Every method of `cls`, or of a class it inherits from, that reads one of the names as a global
-    is made anew over a copy of its module's names. Nothing else of the library changes, and other
-    users of `cls` are left as they are. Raises TypeError where no method reads a name: then the
-    library has changed, and nothing would be guarded.
+    Every method of `cls` or of a base class that reads one of the names as a global is copied, with
+    a changed copy of its module's globals. Nothing else in the library changes, and other users of
+    `cls` are unaffected. Raises TypeError if no method reads one of the names, because the library
+    has then changed and nothing would be guarded.
     """
     methods: Dict[str, object] = {}
     read: Set[str] = set()
@@ -41,7 +41,7 @@ def _function_of(member: object) -> Optional[types.FunctionType]:
 
 
 def _names_read(code: types.CodeType) -> Iterator[str]:
-    """The names that a function reads, those of the functions within it too."""
+    """The names that a function reads, including those of nested functions."""
     yield from code.co_names
     for constant in code.co_consts:
         if isinstance(constant, types.CodeType):

@@ -1,4 +1,4 @@
-"""What becomes of many pickles that have keys: the core of the adapters of Dask and Spark."""
+"""Checks and loads many pickles with keys. The adapters of Dask and Spark share it."""
 
 from __future__ import annotations
 
@@ -9,24 +9,24 @@ from ._loading import Loader
 
 
 class Row(NamedTuple):
-    """What became of a pickle."""
+    """The result for one pickle."""
 
     key: Any
     accepted: bool
-    """Whether the guard accepts it, and, where it was loaded, whether its load went well."""
+    """Whether the guard accepts it and, if it was to be loaded, loading succeeded."""
     why: Optional[str] = None
-    """The refusal's line, where there is one."""
+    """The text of the error, if there was one."""
     value: Any = None
-    """What it holds, where it was loaded."""
+    """The value, if it was loaded."""
 
 
 def checked(pairs: Iterable[Tuple[Any, Any]], guard: Guard) -> List[Row]:
-    """A row for each pair of a key and the bytes of a pickle."""
+    """A row for each pair of a key and a pickle, which is only checked."""
     return [_checked(key, data, guard) for key, data in pairs]
 
 
 def loaded(pairs: Iterable[Tuple[Any, Any]], guard: Guard) -> List[Row]:
-    """A row for each pair, with what it holds."""
+    """A row for each pair of a key and a pickle, with its value."""
     loader = Loader(guard)
     return [_loaded(key, data, loader) for key, data in pairs]
 

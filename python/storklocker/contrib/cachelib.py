@@ -1,4 +1,4 @@
-"""cachelib's serializers behind a guard, for Flask-Caching too.
+"""cachelib's serializers behind a guard, which also serve Flask-Caching.
 
     from storklocker.contrib import cachelib as guarded
 
@@ -8,7 +8,7 @@
     cache = cachelib.RedisCache("localhost")
     cache.serializer = guarded.redis_serializer(guard)
 
-What the guard refuses is a miss, and a warning of cachelib's.
+A refused entry is a miss, and cachelib logs a warning.
 """
 
 from __future__ import annotations
@@ -21,14 +21,14 @@ from ._rebinding import rebound
 
 
 def serializer(guard: Guard) -> Any:
-    """The serializer of caches in memory, in files and in uWSGI."""
+    """The serializer for caches in memory, in files and in uWSGI."""
     from cachelib.serializers import BaseSerializer
 
     return _serializer(BaseSerializer, guard)
 
 
 def redis_serializer(guard: Guard) -> Any:
-    """The serializer of `RedisCache`."""
+    """The serializer for `RedisCache`."""
     from cachelib.serializers import RedisSerializer
 
     return _serializer(RedisSerializer, guard)
@@ -37,7 +37,7 @@ def redis_serializer(guard: Guard) -> Any:
 def _serializer(plain: Any, guard: Guard) -> Any:
     made = rebound(plain, {"pickle": Loader(guard)})()
 
-    # a file may be empty, which pickle tells as the end of a file
+    # An empty file makes pickle raise EOFError, which cachelib doesn't treat as a miss.
     class Serializer(type(made)):  # type: ignore[misc]
         def load(self, file: Any) -> Any:
             try:

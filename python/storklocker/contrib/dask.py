@@ -1,4 +1,4 @@
-"""Bags of pickles in Dask, checked or loaded where they lie.
+"""Bags of pickles in Dask, checked or loaded on the workers.
 
     from storklocker.contrib.dask import check_bag, load_bag
 
@@ -6,8 +6,8 @@
     refused = check_bag(bag, guard).filter(lambda row: not row.accepted).compute()
     values = load_bag(bag, guard)               # of a key and the value, or the refusal
 
-The guard travels to the workers, so its hook must be picklable. Nothing is dropped: each entry has
-its row.
+The guard is sent to the workers, so its hook must be picklable. Nothing is dropped: each entry
+yields a row.
 """
 
 from __future__ import annotations
@@ -19,10 +19,10 @@ from ._rows import checked, loaded
 
 
 def check_bag(bag: Any, guard: Guard) -> Any:
-    """A bag of a `Row` for each pair of a key and a pickle: accepted or not, and why."""
+    """A bag with a `Row` for each pair of a key and a pickle: accepted or not, and why."""
     return bag.map_partitions(checked, guard)
 
 
 def load_bag(bag: Any, guard: Guard) -> Any:
-    """A bag of a `Row` for each pair, with the value that was loaded where it was accepted."""
+    """A bag with a `Row` for each pair, and its value if it was accepted and loaded."""
     return bag.map_partitions(loaded, guard)

@@ -1,9 +1,9 @@
-"""diskcache's disk behind a guard: values, in rows and in files, and keys.
+"""diskcache's disk behind a guard: values in rows and in files, and keys.
 
     from storklocker.contrib import diskcache as guarded
 
     cache = diskcache.Cache("cache", disk=guarded.disk(guard))
-    value = cache["key"]        # Refused where the guard refuses it
+    value = cache["key"]        # raises Refused if the guard refuses it
 """
 
 from __future__ import annotations
@@ -16,7 +16,7 @@ from ._rebinding import rebound
 
 
 def disk(guard: Guard) -> Type[Any]:
-    """The class that `diskcache.Cache` takes as `disk`."""
+    """The class for the argument `disk` of `diskcache.Cache`."""
     from diskcache.core import Disk
 
     return rebound(Disk, {"pickle": Loader(guard)})

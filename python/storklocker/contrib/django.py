@@ -6,10 +6,10 @@
         "OPTIONS": {"GUARD": "project.pickles.guard"},
     }}
 
-`GUARD` is a `Guard`, or the dotted name of one. What the guard refuses is a miss: `get` gives its
-default, `incr` raises ValueError, `touch` and `has_key` answer False. With `"FORGET": True` a
-refused entry is deleted too. The pickle that stands in front of a file's value, its expiry, goes
-through the guard like the value.
+`GUARD` is a `Guard`, or the dotted name of one. A refused entry is a miss: `get` returns its
+default, `incr` raises ValueError, `touch` and `has_key` return False. With `"FORGET": True` a
+refused entry is also deleted. In a file, the expiry is a pickle before that of the value, and both
+go through the guard.
 """
 
 from __future__ import annotations
@@ -58,7 +58,7 @@ def RedisCache(location: Any, params: Dict[str, Any]) -> Any:
 
 
 class _RedisSerializer:
-    """What django-redis takes as `SERIALIZER`."""
+    """The `SERIALIZER` for django-redis."""
 
     def __init__(self, options: Dict[str, Any]) -> None:
         guard: Guard = options["GUARD"]
@@ -67,7 +67,7 @@ class _RedisSerializer:
 
 
 class _FileLoader(Loader):
-    """What files hold: in front of the value stands its expiry, a time or None."""
+    """Loads the expiry of a file's value, a number or None, which precedes the value."""
 
     def load(self, file: Any, **words: Any) -> Any:
         expiry = super().load(file, **words)
@@ -97,7 +97,7 @@ def _settings_of(params: Dict[str, Any]) -> Tuple[Guard, bool, Dict[str, Any]]:
 
 
 class _Missing:
-    """What stands in front of a backend: a refused entry is one that is not there."""
+    """A mixin for backends that treats a refused entry as missing."""
 
     _forget: bool
 
@@ -135,11 +135,11 @@ class _Missing:
         except _REFUSED:
             if len(keys) == 1:
                 return self._forgotten({}, keys[0], version)
-        # (one by one, so that a refused entry takes no other with it)
+        # One by one, so that a refused entry doesn't make the others fail.
         found = [self.get_many([key], version=version, **more) for key in keys]
         return {key: value for each in found for key, value in each.items()}
 
 
 def _missing(plain: Type[Any], forget: bool) -> Type[Any]:
-    """The backend, where a refused entry is one that is not there."""
+    """The backend with refused entries treated as missing."""
     return type(plain.__name__, (_Missing, plain), {"_forget": forget, "__module__": __name__})

@@ -5,7 +5,7 @@
     region = make_region(**guarded.serialization(guard))
     region.configure("dogpile.cache.redis", wrap=[guarded.proxy(guard)])
 
-What the guard refuses is a miss: `get` gives NO_VALUE, and `get_or_create` makes the value anew.
+A refused entry is a miss: `get` returns NO_VALUE, and `get_or_create` creates the value again.
 """
 
 from __future__ import annotations
@@ -17,19 +17,19 @@ from ._loading import Loader
 
 
 def serialization(guard: Guard) -> Dict[str, Callable[[Any], Any]]:
-    """The words of `make_region` that name a region's serializer and deserializer."""
+    """The arguments of `make_region` for the serializer and the deserializer."""
     return {"serializer": guard.dumps, "deserializer": Loader(guard).loads}
 
 
 def proxy(guard: Guard) -> Type[Any]:
-    """The class that `configure` takes in `wrap`: it drops what the guard refuses."""
+    """The class for the argument `wrap` of `configure`, which drops what the guard refuses."""
     from dogpile.cache.api import NO_VALUE
     from dogpile.cache.proxy import ProxyBackend
 
     loader = Loader(guard)
 
     def kept(stored: Any) -> Any:
-        # (a region writes its own facts as JSON, a bar, and the value)
+        # A region stores its metadata as JSON, a vertical bar, and the pickle of the value.
         if not isinstance(stored, bytes):
             return stored
         try:

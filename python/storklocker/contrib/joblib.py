@@ -1,12 +1,12 @@
-"""What to do with joblib's files.
+"""A replacement for joblib's files.
 
-joblib writes the numbers of an array raw between the instructions of a pickle. So its files are no
-pickles, and no check of one holds of what joblib's reader does with it.
+joblib writes the bytes of arrays raw between the instructions of a pickle. Such a file is not a
+pickle, so a check of it says nothing about what joblib's reader does.
 
     from storklocker.contrib.joblib import dump_joblib_as_pickle, load_joblib
 
-    dump_joblib_as_pickle(model, "model.pickle")    # where the file is made, and trusted
-    model = guard.load(open("model.pickle", "rb"))  # where it is used
+    dump_joblib_as_pickle(model, "model.pickle")    # on the trusted side, which makes the file
+    model = guard.load(open("model.pickle", "rb"))  # on the side that uses it
 """
 
 from __future__ import annotations
@@ -19,7 +19,7 @@ from .. import Guard
 
 
 def load_joblib(path: Union[str, Path], guard: Guard) -> Any:
-    """Always raises UnpicklingError, which says why and what to do."""
+    """Always raises UnpicklingError, which says why and what to do instead."""
     raise guard.UnpicklingError(
         f"{path}: a file of joblib's can't be vouched for, since arrays stand raw between its"
         " instructions; write it with dump_joblib_as_pickle and load it by the guard"
@@ -27,8 +27,8 @@ def load_joblib(path: Union[str, Path], guard: Guard) -> Any:
 
 
 def dump_joblib_as_pickle(value: Any, path: Union[str, Path]) -> None:
-    """Writes a value as a plain pickle, which a guard can check. Arrays of NumPy take the room that
-    they take in joblib's files without compression.
+    """Writes a value as a regular pickle, which a guard can check. NumPy arrays take as much space
+    as in an uncompressed file of joblib.
     """
     with Path(path).open("wb") as file:
         pickle.dump(value, file, protocol=4)

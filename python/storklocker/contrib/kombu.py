@@ -6,9 +6,9 @@
     app.conf.update(task_serializer="pickle", accept_content=["pickle"])
     register(guard, app)
 
-Messages and results of the type `application/x-python-serialize` are loaded by the guard from then
-on, in workers, in clients and in result backends. With a Celery application a refused message is
-rejected and not put back, its body is not logged, and the guard's hook gets the task's name and id.
+From then on the guard loads messages and results of type `application/x-python-serialize` in
+workers, clients and result backends. With a Celery application a refused message is rejected
+without requeueing, its body isn't logged, and the guard's hook gets the task's name and id.
 """
 
 from __future__ import annotations
@@ -23,7 +23,8 @@ CONTENT_TYPE = "application/x-python-serialize"
 
 
 def register(guard: Guard, app: Optional[Any] = None) -> None:
-    """Puts the guard in the place of kombu's pickle codec, and in front of the tasks of `app`."""
+    """Replaces kombu's pickle codec by the guard, and rejects refused messages to tasks of `app`.
+    """
     from kombu import serialization
 
     loader = Loader(guard)
@@ -37,7 +38,7 @@ def register(guard: Guard, app: Optional[Any] = None) -> None:
 
 
 def _strategy(guard: Guard, task: Any, app: Any, consumer: Any, **named: Any) -> Callable[..., Any]:
-    """Celery's own way with a task's messages, which rejects those that the guard refuses."""
+    """Celery's default strategy for a task, which also rejects messages that the guard refuses."""
     from celery.exceptions import InvalidTaskError
     from celery.worker.strategy import default
     from kombu.exceptions import DecodeError
@@ -50,7 +51,7 @@ def _strategy(guard: Guard, task: Any, app: Any, consumer: Any, **named: Any) ->
             with guard.context({"task": headers.get("task"), "id": headers.get("id")}):
                 return handle(message, *given, **named)
         except DecodeError as error:
-            # (Celery logs the body of what it rejects)
+            # Celery logs the body of a rejected message.
             message.body = b""
             raise InvalidTaskError(f"the message was refused: {error}") from None
 

@@ -8,8 +8,8 @@
     guarded.register(guard, "guarded")
     Manager(address, authkey=key, serializer="guarded").connect()
 
-`recv` raises Refused where the guard refuses what came; the connection goes on behind it. A manager
-sends its own `multiprocessing.managers.Token`, which the list must have.
+`recv` raises Refused if the guard refuses a message; the connection stays usable. A manager sends
+its own `multiprocessing.managers.Token`, which must be on the list.
 """
 
 from __future__ import annotations
@@ -21,7 +21,7 @@ from .. import Guard
 
 
 class Listener(connection.Listener):
-    """`multiprocessing.connection.Listener`, whose connections load through the guard."""
+    """`multiprocessing.connection.Listener` with connections that load through the guard."""
 
     def __init__(self, address: Any, guard: Guard, **named: Any) -> None:
         super().__init__(address, **named)
@@ -32,12 +32,12 @@ class Listener(connection.Listener):
 
 
 def Client(address: Any, guard: Guard, **named: Any) -> Any:
-    """`multiprocessing.connection.Client`, whose connection loads through the guard."""
+    """`multiprocessing.connection.Client` with a connection that loads through the guard."""
     return _guarded(connection.Client(address, **named), guard)
 
 
 def register(guard: Guard, name: str) -> None:
-    """Makes `serializer=name` of managers a serializer behind the guard."""
+    """Makes `serializer=name` of a manager load through the guard."""
 
     def listener(address: Any = None, backlog: int = 1, authkey: Any = None) -> Any:
         return Listener(address, guard, backlog=backlog, authkey=authkey)

@@ -5,8 +5,8 @@
     array = load_npy("array.npy", guard)
     arrays = load_npz("arrays.npz", guard)
 
-An array of objects is a pickle behind a header. The file is read once: what is checked is what is
-loaded. Arrays of numbers hold no pickle.
+An array of objects is a header followed by a pickle. The file is read once, so exactly the checked
+bytes are loaded. Arrays of numbers contain no pickle.
 """
 
 from __future__ import annotations
@@ -22,12 +22,12 @@ Source = Union[str, Path, BinaryIO]
 
 
 def load_npy(source: Source, guard: Guard) -> Any:
-    """The array of an `.npy` file. Raises Refused where its pickle is refused."""
+    """The array in an `.npy` file. Raises Refused if its pickle is refused."""
     return _array_of(bytes_of(source), guard)
 
 
 def load_npz(source: Source, guard: Guard) -> Dict[str, Any]:
-    """The arrays of an `.npz` file by their names. One that is refused refuses the file."""
+    """The arrays in an `.npz` file, by name. Raises Refused if the pickle of any is refused."""
     with zipfile.ZipFile(io.BytesIO(bytes_of(source))) as archive:
         names = archive.namelist()
         if len(set(names)) != len(names):
@@ -36,7 +36,7 @@ def load_npz(source: Source, guard: Guard) -> Dict[str, Any]:
 
 
 def bytes_of(source: Source) -> bytes:
-    """All bytes of a file, by its name or opened."""
+    """All bytes of a file, given by name or open."""
     return Path(source).read_bytes() if isinstance(source, (str, Path)) else source.read()
 
 

@@ -5,9 +5,9 @@
     Queue, Worker = guarded.classes(guard)
     Worker([Queue("jobs", connection=redis)], connection=redis).work()
 
-RQ also imports what a job names as a text: its function and its callbacks. No check of a pickle's
-imports sees these names, so they must be on the guard's list as well, and are refused before RQ
-imports anything: `("project.jobs", "resize")` permits the function `project.jobs.resize`.
+RQ also imports names that a job holds as strings: its function and its callbacks. A check of the
+pickle's imports doesn't see them. So they must be on the guard's list too, and are refused before
+RQ imports anything: `("project.jobs", "resize")` permits the function `project.jobs.resize`.
 """
 
 from __future__ import annotations
@@ -20,13 +20,13 @@ from ._loading import Loader
 
 
 class NameRefused(pickle.UnpicklingError):
-    """A job names a function, a method or a callback that is not on the list."""
+    """A job names a function, a method or a callback that isn't on the list."""
 
 
 def serializer(guard: Guard) -> Type[Any]:
-    """The class that RQ takes as `serializer`: pickles go through the guard, and so does the name
-    of a job's function. A result that has the shape of a job (a text, anything, a tuple, a dict)
-    is judged as one.
+    """The class for RQ's `serializer`. Pickles go through the guard, and so does the name of a
+    job's function. A result that has the shape of a job (a string, anything, a tuple, a dict) is
+    checked like one.
     """
     loader = Loader(guard)
 
@@ -44,8 +44,8 @@ def serializer(guard: Guard) -> Type[Any]:
 
 
 def classes(guard: Guard, worker: Optional[Type[Any]] = None) -> Tuple[Type[Any], Type[Any]]:
-    """A queue and a worker whose jobs go through the guard, callbacks included. `worker` is the
-    class to build on where it is not `rq.Worker`, such as `rq.SimpleWorker`.
+    """Classes of queues and workers whose jobs go through the guard, callbacks included. `worker`
+    is the base class if it isn't `rq.Worker`, such as `rq.SimpleWorker`.
     """
     import rq
     from rq.job import Job
@@ -81,7 +81,7 @@ def classes(guard: Guard, worker: Optional[Type[Any]] = None) -> Tuple[Type[Any]
 
 
 def _is_job(value: object) -> bool:
-    """Whether RQ may have written it as a job: function, instance, arguments, named arguments."""
+    """Whether it has the shape of RQ's jobs: function, instance, arguments, keyword arguments."""
     return (
         type(value) is tuple
         and len(value) == 4
@@ -97,13 +97,13 @@ def _path_of(name: str, instance: object) -> str:
 
 
 def _judge(guard: Guard, path: Optional[str]) -> None:
-    """Refuses a name that RQ would import, unless the list has it."""
+    """Refuses a name that RQ would import unless it is on the list."""
     if path is not None and not any(pair in guard.allow for pair in _pairs_of(path)):
         raise NameRefused(f"{path!r} is not on the list")
 
 
 def _pairs_of(path: str) -> Iterator[Tuple[str, str]]:
-    """The pairs that a dotted name may mean: it does not say where the module ends."""
+    """The pairs that a dotted name can mean, since it doesn't say where the module ends."""
     words = path.split(".")
     for count in range(1, len(words)):
         yield ".".join(words[:count]), ".".join(words[count:])

@@ -3,7 +3,7 @@
     from storklocker.contrib import shelve
 
     with shelve.open("jobs", guard) as shelf:
-        shelf["a"]                  # Refused where the guard refuses it
+        shelf["a"]                  # raises Refused if the guard refuses it
 """
 
 from __future__ import annotations
@@ -24,6 +24,6 @@ def open(
     protocol: Optional[int] = None,
     writeback: bool = False,
 ) -> "plain.Shelf[Any]":
-    """`shelve.open`, where every value goes through the guard. Keys are texts and no pickles."""
+    """`shelve.open` with every value loaded through the guard. Keys are strings, not pickles."""
     shelf = rebound(plain.DbfilenameShelf, {"Unpickler": guard.Unpickler})
     return shelf(os.fspath(path), flag, protocol, writeback)

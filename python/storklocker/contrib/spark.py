@@ -1,10 +1,10 @@
-"""Pickles in a column of Spark, checked where they lie.
+"""Pickles in a column of Spark, checked or loaded on the workers.
 
     from storklocker.contrib.spark import check_rows
 
     refused = rdd.mapPartitions(check_rows(guard)).filter(lambda row: not row.accepted)
 
-`rdd` has pairs of a key and the bytes of a pickle. Nothing is dropped: each entry has its row.
+`rdd` has pairs of a key and the bytes of a pickle. Nothing is dropped: each entry yields a row.
 """
 
 from __future__ import annotations
@@ -19,12 +19,12 @@ Partition = Callable[[Iterable[Tuple[Any, Any]]], Iterator[Row]]
 
 
 def check_rows(guard: Guard) -> Partition:
-    """What `mapPartitions` takes: a `Row` for each pair, accepted or not, and why."""
+    """A function for `mapPartitions`. Yields a `Row` for each pair: accepted or not, and why."""
     return functools.partial(_rows, checked, guard)
 
 
 def load_rows(guard: Guard) -> Partition:
-    """The same, with the value that was loaded where the pickle was accepted."""
+    """Like `check_rows`, with the value of each pickle that was accepted and loaded."""
     return functools.partial(_rows, loaded, guard)
 
 

@@ -4,9 +4,9 @@
 
     state = load_torch("model.pt", guard)
 
-The file is read once. Exactly one member of it may be called `data.pkl`; that one is checked, and
-loaded by the guard, while PyTorch's own reader brings the tensors' storages. `torch.load` itself is
-not called: some versions replace the `pickle_module` that they are given.
+The file is read once. It must contain exactly one member called `data.pkl`, which the guard checks
+and loads; PyTorch's own reader supplies the storages of tensors. `torch.load` itself isn't called,
+because some versions replace the `pickle_module` that they are given.
 """
 
 from __future__ import annotations
@@ -20,8 +20,8 @@ from .numpy import Source, bytes_of
 
 
 def load_torch(source: Source, guard: Guard, *, map_location: Optional[Any] = None) -> Any:
-    """What `torch.save` wrote as a zip file. Raises Refused where its pickle is refused, and
-    UnpicklingError where the file is none of that form.
+    """Loads a zip file written by `torch.save`. Raises Refused if its pickle is refused, and
+    UnpicklingError if the file doesn't have that format.
     """
     data = bytes_of(source)
     check_archive(data, guard)
@@ -32,7 +32,7 @@ def load_torch(source: Source, guard: Guard, *, map_location: Optional[Any] = No
 
 
 def check_archive(data: bytes, guard: Guard) -> None:
-    """Checks the one pickle of a checkpoint without loading it: PyTorch is not wanted for that."""
+    """Checks the pickle of a checkpoint without loading it. Doesn't need PyTorch."""
     try:
         with zipfile.ZipFile(io.BytesIO(data)) as archive:
             members = [name for name in archive.namelist() if _is_pickle(name)]

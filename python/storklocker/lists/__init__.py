@@ -1,4 +1,4 @@
-"""Allow lists to begin with. They add up: `lists.STANDARD_TYPES | lists.DATETIME`.
+"""Ready-made allow lists. Combine them with `|`: `lists.STANDARD_TYPES | lists.DATETIME`.
 
     STANDARD_TYPES   values of builtins, array, decimal, fractions, ipaddress and uuid
     DATETIME         datetimes, dates, times and fixed time zones
@@ -8,8 +8,8 @@
     SCIKIT_LEARN     fitted estimators of scikit-learn
     TORCH_TENSORS    state dicts of PyTorch
 
-Each is a TOML file in this folder, which says with which versions it was made and tried. A list
-permits what these libraries write, and says nothing of what the objects do when they are used.
+Each is a TOML file in this folder, which names the versions that it was made and tested with. A
+list permits what these libraries write. It doesn't cover what the objects do when they are used.
 """
 
 from __future__ import annotations
@@ -39,7 +39,7 @@ TORCH_TENSORS: AllowList
 
 
 def __getattr__(name: str) -> AllowList:
-    """A list, read when it is asked for first."""
+    """Reads a list on first use."""
     if name not in __all__:
         raise AttributeError(f"module {__name__!r} has no attribute {name!r}")
     made = AllowList.from_file(Path(__file__).with_name(f"{name.lower()}.toml"))

@@ -1,12 +1,12 @@
-"""What files hold, what their pickles would import, and what is wrong with that.
+"""Finds the pickles in files, lists what they would import, and points out what is dangerous.
 
-    report.py       what is said of a file or a member
-    containers.py   what a file is, by its content, and the members that it holds
-    judging.py      the report of each piece
+    report.py       the report on a file or a member
+    containers.py   the type of a file, from its content, and its members
+    judging.py      makes the report on each member
     scan.py         many files, in several processes
     formats.py      reports as a table, as JSON and as SARIF
     html.py         reports as one page
-    dangers.py      names that amount to any command
-    learning.py     list files written from what trusted files import
+    dangers.py      names that give an attacker control
+    learning.py     writes list files from trusted files
     command.py      the command line
 """

@@ -30,7 +30,7 @@ _LIST = "the list file of permitted names"
 
 
 def main(words: Optional[Sequence[str]] = None) -> int:
-    """Runs the command with these words, and gives its status."""
+    """Runs the command with these arguments, and returns its status."""
     asked = _parser().parse_args(words)
     try:
         status: int = asked.run(asked)
@@ -138,14 +138,14 @@ def _scan(asked: argparse.Namespace) -> int:
 
 
 class _Told:
-    """What the status of a scan depends on."""
+    """Collects what the status of a scan depends on."""
 
     def __init__(self, fail_on: str) -> None:
         self._fail_on = fail_on
         self._refused = self._unreadable = False
 
     def heard(self, reports: Iterable[Report]) -> Iterator[Report]:
-        """The reports, looked at as they pass."""
+        """Passes on the reports, and notes what they say."""
         for report in reports:
             self._unreadable |= report.status == UNREADABLE
             self._refused |= report.status == REFUSED
@@ -153,7 +153,7 @@ class _Told:
             yield report
 
     def status(self) -> int:
-        """The status, once all have passed."""
+        """The status, after the last report."""
         if self._refused and self._fail_on != "never":
             return NO
         return FAULT if self._unreadable else YES

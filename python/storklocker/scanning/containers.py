@@ -1,4 +1,4 @@
-"""What a file is, by its content, and the pieces that it holds. Nothing is written to disk."""
+"""Identifies a file from its content, and opens containers. Nothing is written to disk."""
 
 from __future__ import annotations
 
@@ -15,21 +15,23 @@ import zlib
 from typing import Any, BinaryIO, Callable, Dict, Iterator, NamedTuple, Optional, Union
 
 DEPTH = 4
-"""How deep containers may stand in one another."""
+"""The most containers inside one another."""
 MEMBERS = 20_000
-"""How many members of a file are looked at."""
+"""The most members of a file that are read."""
 UNPACKED = 1 << 30
-"""How many bytes of a file are unpacked, over all of its members."""
+"""The most bytes that are unpacked from a file, over all of its members."""
 
 RATIO, PROBED = 200, 1 << 26
-"""What unpacks to so many bytes, and so many times its size, is a finding, whatever it holds."""
+"""Unpacking to more than `PROBED` bytes and more than `RATIO` times the size is a finding, whatever
+the content.
+"""
 
 _FRONT = 1 << 16
 _TAR_MAGIC = slice(257, 262)
 
 
 class Piece(NamedTuple):
-    """Something that may be a pickle: where it is, what is around it, its bytes as they come."""
+    """Something that may be a pickle: its path, what contains it, and its bytes."""
 
     path: str
     kind: str
@@ -37,7 +39,7 @@ class Piece(NamedTuple):
 
 
 class Finding(NamedTuple):
-    """Something that could not be looked at, and why."""
+    """Something that could not be examined, and why."""
 
     path: str
     kind: str
@@ -45,37 +47,37 @@ class Finding(NamedTuple):
 
 
 class TooMuch(Exception):
-    """A file unpacks to more than may be unpacked."""
+    """A file unpacks to more than the limit."""
 
 
 class Budget:
-    """What may still be unpacked of a file."""
+    """The bytes and members that may still be unpacked from a file."""
 
     def __init__(self) -> None:
         self.bytes, self.members = UNPACKED, MEMBERS
 
     def spend(self, count: int) -> None:
-        """Counts bytes that were unpacked."""
+        """Counts unpacked bytes."""
         self.bytes -= count
         if self.bytes < 0:
             raise TooMuch(f"it unpacks to more than {UNPACKED:,} bytes")
 
 
 class Stream:
-    """Bytes as they come, of which the first can be looked at before they are taken."""
+    """A stream of bytes that allows a look at the first ones."""
 
     def __init__(self, file: Any, budget: Optional[Budget] = None) -> None:
         self._file, self._budget, self._front = file, budget, b""
         self.taken = 0
 
     def front(self) -> bytes:
-        """The first bytes, some 65,536 of them, which stay to be read."""
+        """The first 65,536 bytes or so, which remain unread."""
         if not self._front:
             self._front = self._take(_FRONT)
         return self._front
 
     def read(self, count: int = -1) -> bytes:
-        """The next bytes, fewer only at the end."""
+        """The next `count` bytes, or fewer at the end."""
         front, self._front = self._front, b""
         if 0 <= count <= len(front):
             self._front = front[count:]
@@ -101,7 +103,7 @@ Found = Iterator[Union[Piece, Finding]]
 
 
 def pieces_of(path: str, file: BinaryIO) -> Found:
-    """The pieces of a file, containers opened."""
+    """The pieces in a file, with containers opened."""
     yield from _opened(path, "", Stream(file), file, Budget(), DEPTH)
 
 
@@ -197,7 +199,7 @@ def _twice(path: str, entries: Any) -> Found:
 def _member(
     path: str, kind: str, name: str, budget: Budget, depth: int, opened: Callable[[], Any]
 ) -> Found:
-    """A member of an archive: what goes wrong with it is its own finding."""
+    """Opens a member of an archive. An error there is a finding on that member alone."""
     budget.members -= 1
     if budget.members < 0:
         yield Finding(path, kind, f"it has more than {MEMBERS:,} members: the rest was not read")
@@ -239,7 +241,7 @@ def _unpacker(wrap: Callable[[Any], Any], kind: str) -> Callable[..., Found]:
 
 
 def _bomb(path: str, kind: str, packed: Stream, unpacked: Stream) -> Found:
-    """The finding where a stream unpacks to very many times its size."""
+    """The finding for a stream that unpacks to many times its size."""
     while unpacked.taken < PROBED and unpacked.read(_FRONT):
         pass
     if unpacked.taken >= PROBED and unpacked.taken > RATIO * packed.taken:
@@ -247,7 +249,7 @@ def _bomb(path: str, kind: str, packed: Stream, unpacked: Stream) -> Found:
 
 
 class _Zlib:
-    """A stream of zlib, as a file."""
+    """A zlib stream as a file."""
 
     def __init__(self, stream: Stream) -> None:
         self._stream, self._unpacked = stream, zlib.decompressobj()
@@ -266,7 +268,7 @@ class _Zlib:
 def _open_zlib(
     path: str, stream: Stream, seekable: Optional[BinaryIO], budget: Budget, depth: int
 ) -> Found:
-    # (two bytes make no zlib: what does not unpack at all is looked at as it is)
+    # The two magic bytes prove little: examine data that isn't zlib as it is.
     try:
         zlib.decompressobj().decompress(stream.front(), 1)
     except zlib.error:
@@ -291,7 +293,7 @@ def _open_npy(
 
 
 def _has_objects(kind: Any) -> bool:
-    """Whether the type of an array's items has objects, which are pickled."""
+    """Whether the type of an array's items contains objects, which are pickled."""
     if isinstance(kind, str):
         return "O" in kind
     if isinstance(kind, (list, tuple)):

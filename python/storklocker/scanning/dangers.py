@@ -1,6 +1,6 @@
-"""Names that amount to any command, or change what other code does.
+"""Names that let a pickle run any command or change what other code does.
 
-The table says what is known, and no more: a name that is not in it may be as harmful.
+The table is not complete: a name that isn't in it may be just as harmful.
 """
 
 from __future__ import annotations
@@ -28,7 +28,7 @@ _FILES = "It writes, moves or deletes files."
 _NETWORK = "It opens a connection."
 _MEMORY = "It reads or writes memory by address."
 
-# The pattern of `module.name`, what is wrong with it, an example. The first that fits is told.
+# A pattern for `module.name`, why it is dangerous, an example. The first match counts.
 _TABLE: Tuple[Tuple[str, str, str], ...] = (
     ("builtins.getattr", _REACHES, "getattr(datetime, 'sys').modules['os'].system('id')"),
     ("builtins.setattr", "It replaces attributes of a listed object.", "setattr(json, 'loads', f)"),
@@ -140,12 +140,12 @@ _TABLE: Tuple[Tuple[str, str, str], ...] = (
     ("lib2to3.*", _LOADS, "lib2to3.pgen2.grammar.Grammar().loads(..)"),
 )
 
-# Modules whose objects BUILD may change: what a pickle sets there other code uses.
+# Modules that other code uses, and whose objects a pickle may change with BUILD.
 _CHANGED = ("os.path", "posixpath", "ntpath", "site", "linecache", "copyreg", "json", "ssl")
 
 
 def _by_top() -> Dict[str, List[Tuple[str, str, str]]]:
-    """The rows by the first word of their module, so that a name meets few of them."""
+    """The rows by the top-level name of their module, so that a lookup tries few of them."""
     rows: Dict[str, List[Tuple[str, str, str]]] = {}
     for row in _TABLE:
         rows.setdefault(row[0].partition(".")[0], []).append(row)
@@ -157,7 +157,7 @@ _ROWS = _by_top()
 
 @functools.lru_cache(maxsize=4096)
 def danger_of(module: Optional[str], name: Optional[str]) -> Optional[Danger]:
-    """What is known of a name, if anything."""
+    """The danger of a name, if it is known."""
     if module is None or name is None:
         return None
     word = f"{module}.{name}"
@@ -170,6 +170,6 @@ def danger_of(module: Optional[str], name: Optional[str]) -> Optional[Danger]:
 
 
 def dangers_in(pairs: Iterable[Tuple[Optional[str], Optional[str]]]) -> List[Danger]:
-    """What is known of these names."""
+    """The known dangers among these names."""
     found = (danger_of(module, name) for module, name in pairs)
     return [danger for danger in found if danger is not None]

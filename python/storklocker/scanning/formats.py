@@ -16,7 +16,7 @@ _RULES = {
 
 
 def table(reports: Iterable[Report]) -> Iterator[str]:
-    """A line for each file or member that is a pickle or a finding; the last line counts."""
+    """A line for each file or member that is a pickle or a finding, then a line of totals."""
     kept: List[Report] = []
     for report in reports:
         kept.append(report._replace(imports=(), listing=()))
@@ -40,7 +40,7 @@ def as_json(reports: Iterable[Report]) -> Iterator[str]:
 
 
 def as_sarif(reports: Iterable[Report], version: str) -> Iterator[str]:
-    """A log of SARIF 2.1.0 with a result for each finding."""
+    """A SARIF 2.1.0 log with a result for each finding."""
     results = [result for report in reports for result in _results(report)]
     rules = [{"id": name, "shortDescription": {"text": text}} for name, text in _RULES.items()]
     driver = {"name": "storklocker", "version": version, "rules": rules}

@@ -1,4 +1,4 @@
-"""Reports as one page with no outside links."""
+"""Reports as one self-contained HTML page."""
 
 from __future__ import annotations
 

@@ -1,4 +1,4 @@
-"""The report of a piece: whether it is a pickle, what it would import, what a list says of it."""
+"""Makes the report on a member: whether it is a pickle, what it would import, and the verdict."""
 
 from __future__ import annotations
 
@@ -16,11 +16,11 @@ from .dangers import dangers_in
 from .report import ACCEPTED, NO_PICKLE, REFUSED, UNREADABLE, UNVOUCHED, Listed, Pair, Report
 
 AROUND = 10
-"""How many instructions of a listing stand before the place of a refusal, and from it on."""
+"""The number of instructions that a listing shows before a refusal, and from there on."""
 
 _NOTHING = AllowList(())
 _FIRST = 4096
-"""How many bytes are looked at first; sixteen times as many each time the pickle goes on."""
+"""The size of the first window; it grows sixteenfold until it contains the whole pickle."""
 _LISTED = 1 << 22
 _IMPORTING = (Reason.ImportOffList, Reason.UnknownImport, Reason.ExtensionCode)
 _JOBLIB = "joblib.numpy_pickle"
@@ -28,7 +28,7 @@ _LARGE = Limits(passed=1 << 40)
 
 
 def reports_of(path: str, file: BinaryIO, allow: Optional[AllowList]) -> Iterator[Report]:
-    """The reports of a file: one for each piece that may be a pickle, one for each finding."""
+    """The reports on a file: one for each piece that may be a pickle, and one for each finding."""
     for found in pieces_of(path, file):
         if isinstance(found, Finding):
             yield Report(found.path, found.kind, UNREADABLE, found.why)
@@ -69,12 +69,14 @@ def _judged(piece: Piece, allow: Optional[AllowList]) -> Report:
 
 
 def _is_claimed(front: bytes) -> bool:
-    """Whether the first bytes say that it is a pickle: PROTO, with a protocol that there is."""
+    """Whether the first bytes identify a pickle: PROTO with a known protocol."""
     return len(front) > 1 and front[0] == 0x80 and front[1] <= 5
 
 
 def _may_be_pickle(front: bytes) -> bool:
-    """Whether these first bytes claim to be a pickle, or a reader would get to an import or on."""
+    """Whether these first bytes identify a pickle, or an unpickler would reach an import, STOP or
+    the end of the window.
+    """
     if _is_claimed(front):
         return True
     verdict = check(front, _NOTHING)
@@ -82,12 +84,13 @@ def _may_be_pickle(front: bytes) -> bool:
 
 
 class Row:
-    """The pickles that stand one after the other in a stream, up to the first that is refused.
+    """The pickles that follow one another in a stream, up to the first that is refused.
 
-    imports: what they would import, each pair once; of the refused one what it imports up to there.
-    refusal: the verdict of the first that is refused, with its place in the stream.
-    number: which one that is, counted from 0.
-    pickles, taken: how many are accepted, and of how many bytes.
+    imports: what they would import, each pair once; for the refused one, the imports before it is
+        refused.
+    refusal: the verdict on the first that is refused, with its offset in the stream.
+    number: the index of that one, counted from 0.
+    pickles, taken: the number of accepted pickles, and their length in bytes.
     size, sha256: of all bytes that were read.
     """
 
@@ -113,7 +116,7 @@ class Row:
             within, room = imports_of(piece, self._listed, _LARGE, "unknown")
             found = within
             if not within and within.reason is not Reason.Truncated and self._allow is not None:
-                # (what it imports is told where the limits of the list alone refuse it)
+                # If only the limits of the list refuse it, report its imports anyway.
                 found, room = imports_of(piece, _NOTHING, _LARGE, "unknown")
             if found.reason is Reason.Truncated and len(piece) == window:
                 window *= 16
@@ -135,11 +138,11 @@ class Row:
         return data + more
 
     def _judge(self, piece: bytes, found: Verdict, is_listed: bool) -> None:
-        """Keeps the refusal of a pickle, where it is the first: by the list, or by any. One that is
-        accepted under any import and imports listed names alone is accepted under the list.
+        """Keeps the first refusal. A pickle that is accepted with every import permitted, and whose
+        imports are all listed, needs no second check under the list.
         """
         if not found:
-            # (a reader runs what stands before the place: what it imports first is told)
+            # An unpickler runs the instructions before a fault, so report the first import.
             first = check(piece, _NOTHING, limits=_LARGE)
             if first.pair is not None:
                 self.imports[first.pair] = None
@@ -153,7 +156,7 @@ class Row:
 
 
 def _listing(data: bytes, at: int, offset: int) -> Iterator[Listed]:
-    """The instructions around a place, in `pktool dis`'s words, as `pickletools` reads them."""
+    """The instructions around an offset, read by `pickletools` and printed like `pktool dis`."""
     if at > _LISTED:
         return
     before: Deque[Listed] = Deque(maxlen=AROUND)
@@ -175,7 +178,7 @@ def _lines(data: bytes, offset: int) -> Iterator[Listed]:
             code = ord(opcode.code)
             yield Listed(at, f"{at}: {code:02x} {opcode.name}{_shown(argument)}")
     except Exception:
-        # (pickletools raises what it meets: the verdict has said what is wrong there)
+        # pickletools raises at the fault, which the verdict has already reported.
         return
 
 

@@ -1,4 +1,4 @@
-"""List files written from what trusted files import."""
+"""Writes list files from the imports of trusted files."""
 
 from __future__ import annotations
 
@@ -10,14 +10,14 @@ _SHOWN = 5
 
 
 class Learned:
-    """What trusted files import: the pairs, each with the files that want it."""
+    """The pairs that trusted files import, each with the files that need it."""
 
     def __init__(self) -> None:
         self.pairs: Dict[Tuple[str, str], List[str]] = {}
         self.left_out: List[Report] = []
 
     def add(self, reports: Iterable[Report]) -> None:
-        """Takes what the files import. What can't be read, and what is unknown, is left out."""
+        """Adds the imports of files. Leaves out unreadable files and unknown imports."""
         for report in reports:
             if report.status == ACCEPTED:
                 for module, name in report.imports:
@@ -29,7 +29,7 @@ class Learned:
                 self.left_out.append(report)
 
     def lines(self) -> Iterator[str]:
-        """The list file: sorted, each pair with the files that want it."""
+        """The list file: sorted, each pair with the files that need it."""
         yield "# Learned from trusted files: look through it before it is used."
         yield "version = 1"
         yield ""
@@ -45,7 +45,7 @@ class Learned:
 
 
 def quoted(text: str) -> str:
-    """A text as TOML quotes it, in ASCII but for letters and digits of any script."""
+    """A TOML string. Characters that aren't printable are escaped."""
     return '"' + "".join(map(_quoted_character, text)) + '"'
 
 

@@ -1,4 +1,4 @@
-"""What is said of a file, or of a member of one."""
+"""The report on a file, or on a member of one."""
 
 from __future__ import annotations
 
@@ -23,36 +23,36 @@ class Listed(NamedTuple):
 
 
 class Report(NamedTuple):
-    """What is said of a file, or of a member of one."""
+    """The report on a file, or on a member of one."""
 
     path: str
-    """Where it is: the file, and behind each `!` the member."""
+    """The path of the file, and after each `!` the member."""
     kind: str
-    """What it is, by its content, such as `pickle`."""
+    """The type, from the content, such as `pickle`."""
     status: str
     """`accepted`, `refused`, `unvouched` (no check can vouch for it), `unreadable`, `no pickle`."""
     why: str = ""
-    """The verdict's line, or what is wrong."""
+    """The line of the verdict, or what went wrong."""
     size: int = 0
-    """How many bytes it has, as far as it was read."""
+    """The number of bytes that were read."""
     sha256: str = ""
-    """The SHA-256 of these bytes, where it is a pickle."""
+    """The SHA-256 of these bytes, if it is a pickle."""
     pickles: int = 0
-    """How many pickles stand in it, one after the other."""
+    """The number of pickles in it, one after another."""
     imports: Tuple[Pair, ...] = ()
-    """What they would import, each pair once; (None, None) is a name that isn't shown."""
+    """What they would import, each pair once; (None, None) is a name that isn't revealed."""
     missing: Tuple[Pair, ...] = ()
-    """Those that the list doesn't have."""
+    """The imports off the list."""
     dangers: Tuple[Danger, ...] = ()
-    """The names among the imports that are known to amount to any command."""
+    """The imports that are known to be dangerous."""
     listing: Tuple[Listed, ...] = ()
-    """The instructions around the place of a refusal."""
+    """The instructions around a refusal."""
     at: int = 0
-    """The place of a refusal: an offset in the file or member."""
+    """The offset of a refusal in the file or member."""
 
     @property
     def is_finding(self) -> bool:
-        """Whether somebody should look at it."""
+        """Whether somebody should look into it."""
         return self.status not in (ACCEPTED, NO_PICKLE) or bool(self.dangers)
 
     def as_dict(self) -> Dict[str, Any]:
@@ -66,12 +66,12 @@ class Report(NamedTuple):
 
 
 def dotted(pair: Pair) -> str:
-    """A pair as one word."""
+    """A pair as one dotted name."""
     return "an unknown name" if pair[0] is None else f"{pair[0]}.{pair[1]}"
 
 
 def shown(text: str, most: int = 200) -> str:
-    """A text as a terminal may print it: nothing that moves the cursor or turns the line round."""
+    """A text that is safe for a terminal: nothing in it moves the cursor or reverses the line."""
     kept = text if len(text) <= most else f"{text[:most]}... and {len(text) - most} more"
     return "".join(it if it.isprintable() else _escaped(it) for it in kept)
 
@@ -82,7 +82,7 @@ def _escaped(character: str) -> str:
 
 
 def counts(reports: List[Report]) -> Dict[str, int]:
-    """How many reports there are of each status."""
+    """The number of reports with each status."""
     found: Dict[str, int] = {}
     for report in reports:
         found[report.status] = found.get(report.status, 0) + 1

@@ -1,4 +1,4 @@
-"""Many files, in several processes."""
+"""Scans many files, in several processes."""
 
 from __future__ import annotations
 
@@ -14,13 +14,14 @@ from .judging import reports_of
 from .report import UNREADABLE, Report
 
 _FILES, _BYTES = 32, 1 << 18
-"""How many files a process gets at once, or of how many bytes: few large ones are spread."""
+"""The most files and bytes in the batch of a process. The latter spreads a few large files."""
 _AHEAD = 4
-"""How many batches may wait for each process: bounded, so that millions of files cost no memory."""
+"""The most batches that wait for each process. Bounded, so that millions of files cost no memory.
+"""
 
 
 def files_in(paths: Iterable[str], recursive: bool) -> Iterator[str]:
-    """The files that are named, and those of folders: all below them where `recursive`."""
+    """The files among the paths, and those in the folders; with `recursive`, in subfolders too."""
     for path in paths:
         if path != "-" and os.path.isdir(path):
             yield from _files_of(path, recursive)
@@ -33,7 +34,7 @@ def _files_of(folder: str, recursive: bool) -> Iterator[str]:
         with os.scandir(folder) as found:
             entries = sorted(found, key=lambda entry: entry.name)
     except OSError:
-        yield folder  # (it can't be read, and is a finding like a file that can't)
+        yield folder  # reported as unreadable, like a file
         return
     for entry in entries:
         if entry.is_file():
@@ -44,7 +45,7 @@ def _files_of(folder: str, recursive: bool) -> Iterator[str]:
 
 
 def scan_file(path: str, allow: Optional[AllowList]) -> List[Report]:
-    """The reports of a file; `-` is standard input."""
+    """The reports on a file; `-` is standard input."""
     try:
         if path == "-":
             return list(reports_of("standard input", sys.stdin.buffer, allow))
@@ -64,7 +65,7 @@ def scan(
     jobs: int = 1,
     progress: Optional[TextIO] = None,
 ) -> Iterator[Report]:
-    """The reports of all files, in the order of their names, as they come."""
+    """Yields the reports on all files, in the order of their names."""
     told = _Progress(progress)
     files = files_in(paths, recursive)
     one_by_one = (scan_file(path, allow) for path in files)
@@ -106,7 +107,7 @@ def _side_by_side(
 
 
 class _Progress:
-    """A line on a terminal: files, bytes, files a second."""
+    """A progress line on a terminal: files, bytes, files a second."""
 
     def __init__(self, out: Optional[TextIO]) -> None:
         self._out = out if out is not None and out.isatty() else None
