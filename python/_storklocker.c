@@ -1,5 +1,5 @@
-/* The extension module of the package storklocker: the calls of storklocker.h by Python's stable ABI. It takes
-   arguments and hands on answers, and decides nothing. */
+/* The extension module of the package storklocker, for Python's stable ABI. It passes arguments to
+   the functions of storklocker.h and converts their answers. It decides nothing. */
 #define PY_SSIZE_T_CLEAN
 #define Py_LIMITED_API 0x03080000
 #include <Python.h>
@@ -7,10 +7,10 @@
 
 #include "storklocker.h"
 
-#define LOCK_KEPT_BELOW 65536 /* so many bytes are checked sooner than the lock is taken again */
+#define LOCK_KEPT_BELOW 65536 /* checking fewer bytes costs less than releasing the GIL */
 #define ROOM 512              /* names up to this length need no second call */
 
-/* What `HELD` of storklocker._held has at each place. */
+/* The indexes of `HELD` in storklocker._held. */
 enum { VERDICT, ROW_VERDICT, LIMITS, REASONS, TUPLE_NEW, ASKED, UNKNOWN };
 #define HELD(state, place) PyTuple_GetItem((state)->held, place)
 struct state {
@@ -19,14 +19,14 @@ struct state {
 
 typedef struct {
     PyObject_HEAD
-    PyObject *kept; /* a tuple of pairs of bytes, to which `pairs` points */
+    PyObject *kept; /* a tuple of pairs of bytes objects, which `pairs` points into */
     struct storklocker_pair *pairs;
     size_t count;
     struct storklocker_settings settings;
-    int is_bound; /* whether these settings hold beside others */
+    int is_bound; /* whether these limits apply in addition to those of a call */
 } Pairs;
 
-/* A call: what it was given, the caller's references, and what became of that. */
+/* The arguments of a call, borrowed from the caller, and what they are converted to. */
 struct request {
     PyObject *data, *allow, *limits, *old_strings;
     const Pairs *list;
@@ -35,7 +35,7 @@ struct request {
     size_t length;
 };
 
-/* The settings of the six numbers of a `Limits`. The package has looked at each, and its pairs are in order. */
+/* Converts the fields of a `Limits`, which the package has validated. It sorts its pairs, too. */
 static int has_settings(PyObject *numbers, struct storklocker_settings *s) {
     int large;
     *s = (struct storklocker_settings)STORKLOCKER_STANDARD;
@@ -94,7 +94,7 @@ static int is_wrong(const char *wanted, PyObject *given) {
     return 0;
 }
 
-/* The limits that are given, or else those of the list. Where the list has its own, both hold. */
+/* Sets the limits of the call, by default the list's. If the list is from a file, both apply. */
 #define NARROW(limit) r->settings.limit = own->limit < r->settings.limit ? own->limit : r->settings.limit
 static int has_limits(const struct state *state, struct request *r) {
     const struct storklocker_settings *own = &r->list->settings;
@@ -110,7 +110,7 @@ static int has_limits(const struct state *state, struct request *r) {
     return 1;
 }
 
-/* Looks at what was given. */
+/* Validates and converts the arguments. */
 static int is_ready(const struct state *state, struct request *r) {
     uint32_t code = STORKLOCKER_OLD_UNKNOWN;
     if (!PyBytes_CheckExact(r->data))
@@ -141,7 +141,7 @@ static void ask(
         PyEval_RestoreThread(thread);
 }
 
-/* A verdict of one of the two kinds. No pair is null. */
+/* A Verdict or a RowVerdict. `pair` is NULL if there is none. */
 static PyObject *verdict_of(
     const struct state *state, int kind, const struct storklocker_verdict *v, PyObject *pair) {
     int is_numbered = v->reason == STORKLOCKER_UNKNOWN_OPCODE || v->reason == STORKLOCKER_UNSUPPORTED_PROTOCOL
@@ -158,8 +158,8 @@ static PyObject *verdict_of(
     return made;
 }
 
-/* The answer of a call; none where `is_short` and the pickle is accepted and all of the bytes. Names that want more
-   room than there was are asked for once more. A verdict keeps what was asked where `missing` may ask for more. */
+/* The answer of a call; None if `is_short` and one accepted pickle is all of the bytes. Calls again
+   if the names don't fit. The verdict on a refused import keeps the arguments for `missing`. */
 static PyObject *answered(
     const struct state *state, call_of_pairs *call, const struct request *r, int kind, int is_short) {
     struct storklocker_verdict v;

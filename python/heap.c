@@ -1,6 +1,6 @@
-/* The memory of a Rattle archive, which leaves it to these three calls. No block has fewer than
-   LEAST bytes, so that the small vectors of a short pickle seldom grow. Where memory is refused
-   `block` points to a byte that nobody owns. */
+/* The allocator of a Rattle archive, which calls these three functions. No block has fewer than
+   LEAST bytes, so that the small vectors of a short pickle rarely have to grow. If an allocation is
+   refused, `block` points to a byte that nobody uses. */
 #include <stdbool.h>
 #include <stddef.h>
 #include <stdlib.h>
@@ -24,7 +24,7 @@ static struct tried answer(void *block) {
     return (struct tried){block != NULL, block != NULL ? block : &nobodys};
 }
 
-/* Alignments divide 16, as malloc's does. */
+/* malloc aligns to 16 bytes, a multiple of every alignment that is requested. */
 struct tried rattle_alloc(size_t size, size_t alignment) {
     (void)alignment;
     return answer(malloc(size < LEAST ? LEAST : size));

@@ -1,23 +1,23 @@
-/* The calls of storklocker.h, over proved ones that take no null pointer: a null becomes some
-   address, and settings are converted to this library's. Nothing is decided here. */
+/* The C API of storklocker.h. It wraps proved functions that take no null pointers: it replaces
+   null by a valid address, and converts settings to this library's version. It decides nothing. */
 #include "storklocker.h"
 
 #include <string.h>
 
-/* exported by the crate pkguard */
+/* Exported by the crate pkguard. */
 extern __typeof__(storklocker_check_pairs) pkguard_check_pairs;
 extern __typeof__(storklocker_check_list) pkguard_check_list;
 extern __typeof__(storklocker_check_row) pkguard_check_row;
 extern __typeof__(storklocker_read_list) pkguard_read_list;
 extern __typeof__(storklocker_imports) pkguard_imports;
 
-/* A null pointer has length 0, so nothing is read or written there. */
+/* A valid address in place of null. Its length is 0, so nothing is read or written there. */
 static void *or_nothing(const void *given) {
     static uint64_t nothing;
     return given != NULL ? (void *)given : &nothing;
 }
 
-/* The fields that the caller's header has, and standard values for the others. */
+/* The settings that the caller's header has, with standard values for the others. */
 static struct storklocker_settings settings_of(const struct storklocker_settings *given) {
     struct storklocker_settings settings = STORKLOCKER_STANDARD;
     if (given != NULL) {

@@ -7,7 +7,7 @@
 
 #define BYTES(text) (const uint8_t *)(text), sizeof(text) - 1
 
-/* sorted by module, then by name */
+/* Sorted by module, then by name. */
 static const struct storklocker_pair permitted[] = {
     {BYTES("collections"), BYTES("OrderedDict")},
     {BYTES("datetime"), BYTES("datetime")},
@@ -39,7 +39,7 @@ static uint32_t check(const uint8_t *pickle, size_t length, uint8_t *room, size_
     return storklocker_check_pairs(permitted, count, NULL, pickle, length, room, size, verdict);
 }
 
-/* A stranger chooses the names: only printable ASCII may reach a terminal or a log. */
+/* The names are untrusted input: only printable ASCII may reach a terminal or a log. */
 static void print_quoted(const uint8_t *name, uint64_t length) {
     putchar('"');
     for (uint64_t i = 0; i < length; i++)
@@ -50,7 +50,7 @@ static void print_quoted(const uint8_t *name, uint64_t length) {
     putchar('"');
 }
 
-/* The pair of a refusal. The first call gave its lengths, and a second one writes it. */
+/* Prints the pair of a refusal. The first call returned its lengths, and a second one writes it. */
 static void print_pair(
     const uint8_t *pickle, size_t length, const struct storklocker_verdict *verdict) {
     size_t size = verdict->module_length + verdict->name_length;

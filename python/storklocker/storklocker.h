@@ -1,27 +1,26 @@
 /*
- * The checker of untrusted pickles, for C and for languages that call C. Link with -lstorklocker.
+ * Checks untrusted pickles, from C and from languages that call C. Link with -lstorklocker.
  *
- * Status 0 means that the pickle is accepted: whatever its objects answer when it is loaded, it
- * imports only listed pairs and leaves one object. No part of it is executed.
+ * Status 0 means that the pickle is accepted: whatever its objects do when it is loaded, it imports
+ * only listed pairs and leaves exactly one object. The check executes no part of it.
  *
- * Arguments. A pointer parameter may be null if the length beside it is 0. Null settings are the
- * standard ones; a null `verdict`, `wanted` or `limits` receives nothing. The two pointers inside a
- * pair are never null: for an empty name pass any other pointer. A length is at most PTRDIFF_MAX.
- * Structures are aligned as C aligns them; bytes need no alignment. Nothing that is passed changes
- * during a call, and the memory that the call writes to (`room`, `verdict`, `wanted`, `limits`)
- * overlaps no other argument.
+ * Arguments. A pointer parameter may be null if its length is 0. Null settings are the standard
+ * ones, and nothing is written to a null `verdict`, `wanted` or `limits`. The two pointers inside a
+ * pair must not be null: for an empty name pass any other pointer. A length is at most PTRDIFF_MAX.
+ * Structures have C's alignment; bytes need none. The arguments must not change during a call, and
+ * the memory that the call writes to (`room`, `verdict`, `wanted`, `limits`) must not overlap any
+ * other argument.
  *
  * Threads and processes. A call keeps nothing: no state, no lock, no memory. Any number of threads
  * may call at the same time, and share pairs, lists, settings and pickles. A call uses `malloc`,
- * `realloc` and `free`, and frees all that it allocates. So it is allowed where these are: not in a
- * signal handler, and not in a child that a multithreaded process forked, before it calls `exec`,
- * because another thread may have held a lock of `malloc` at the fork. A worker forked before its
- * parent started a second thread, as by a prefork server, may call.
+ * `realloc` and `free`, and frees all that it allocates, so it has their restrictions. Don't call
+ * from a signal handler, or between `fork` and `exec` in the child of a multithreaded process,
+ * because another thread may have held a lock of `malloc` at the fork. A worker that was forked
+ * before its parent started a second thread, as by a prefork server, may call.
  *
- * Cost. The time of a check is linear in the length of the pickle, and each import takes time
- * logarithmic in the number of pairs, if these are sorted. The pair of a refusal is searched for
- * among all of them, unless `sorted` is set. Memory is bounded by the length of the pickle, and by
- * the limits.
+ * Cost. The time of a check is linear in the length of the pickle. If the pairs are sorted, the
+ * lookup of an import is logarithmic in their number; a miss falls back to a scan of all pairs,
+ * unless `sorted` is set. Memory is bounded by the length of the pickle and by the limits.
  */
 #ifndef STORKLOCKER_H
 #define STORKLOCKER_H
@@ -37,8 +36,8 @@ extern "C" {
 /* The version of the running library; STORKLOCKER_VERSION is the version of this header. */
 const char *storklocker_version(void);
 
-/* A pair of a module and a name, in UTF-8. A pair in another encoding permits nothing. The caller
-   owns the bytes. */
+/* A pair of a module and a name, in UTF-8. A pair that isn't UTF-8 permits nothing. The caller owns
+   the bytes. */
 struct storklocker_pair {
     const uint8_t *module_name;
     size_t module_length;
@@ -46,38 +45,39 @@ struct storklocker_pair {
     size_t name_length;
 };
 
-/* How the reader whose runs are checked decodes Python 2 strings. The numbers never change. */
+/* How the unpickler decodes Python 2 strings. The numbers never change. */
 enum storklocker_old_strings {
-    STORKLOCKER_OLD_UNKNOWN = 0, /* as any object: a yes holds for every reader */
-    STORKLOCKER_OLD_ASCII = 1,   /* as texts; a byte above 7f is refused */
+    STORKLOCKER_OLD_UNKNOWN = 0, /* as anything: the answer holds for every unpickler */
+    STORKLOCKER_OLD_ASCII = 1,   /* as text; a byte above 7f is refused */
     STORKLOCKER_OLD_BYTES = 2    /* as bytes */
 };
 
 /* Whether the pickles of a row share a memo. The numbers never change. */
 enum storklocker_row_memo {
-    STORKLOCKER_MEMO_FRESH = 0, /* no: a new Unpickler reads each pickle */
-    STORKLOCKER_MEMO_KEPT = 1   /* yes: one Unpickler reads all of them, one `load` each */
+    STORKLOCKER_MEMO_FRESH = 0, /* no: each pickle is loaded by a new Unpickler */
+    STORKLOCKER_MEMO_KEPT = 1   /* yes: all are loaded by one Unpickler, one `load` each */
 };
 
 /* The settings of a check, with the standard value of each. A limit above its greatest value means
-   that value, which is the standard one, except 1,099,511,627,776 for `passed`, and 4,294,967,295
-   for `counted`, `stack` and `memo` if `large` is 1. */
+   that value. The greatest value is the standard one, except 1,099,511,627,776 for `passed`, and
+   4,294,967,295 for `counted`, `stack` and `memo` if `large` is 1. */
 struct storklocker_settings {
-    uint64_t size;        /* sizeof(struct storklocker_settings): tells the library which fields
-                             the caller's header has. Later versions add fields at the end, and use
-                             the standard values for missing ones */
+    uint64_t size;        /* sizeof(struct storklocker_settings), which tells the library what
+                             fields the caller's header has. Later versions add fields at the end,
+                             and use the standard values for missing ones */
     uint64_t counted;     /* bytes in the payload of a counted argument; 16,777,216 */
     uint64_t stack;       /* stack entries, marks included; 1,000,000 */
     uint64_t memo;        /* memo entries; 1,000,000 */
-    uint64_t passed;      /* bytes in a payload of bytes, which is passed over; 16,777,216 */
+    uint64_t passed;      /* bytes in a byte payload, which is skipped; 16,777,216 */
     uint64_t numbers;     /* the greatest memo number of PUT, BINPUT or LONG_BINPUT; CPython
                              allocates a table up to it; 4,294,967,295 */
     uint32_t old_strings; /* one of enum storklocker_old_strings */
     uint32_t row_memo;    /* one of enum storklocker_row_memo; ignored for a single pickle */
     uint32_t large;       /* 1: limits may be those for large data; 0 */
     uint32_t sorted;      /* 1: the pairs are sorted by module and then by name, byte for byte, and
-                             an unlisted one is refused in logarithmic time. If they are not
-                             sorted, a yes is still right, but a listed pair may be refused.
+                             an unlisted one is refused in logarithmic time. If they aren't sorted
+                             after all, nothing unlisted is accepted, but a listed pair may be
+                             refused.
                              0: the pairs are in any order, and a miss of the binary search falls
                              back to a scan */
 };
@@ -89,23 +89,23 @@ struct storklocker_settings {
 /* The answer of the checker. Fields that do not apply to its status are 0. */
 struct storklocker_verdict {
     uint32_t status;        /* one of enum storklocker_status */
-    uint32_t reason;        /* for a no enum storklocker_reason, for status 2 storklocker_fault */
+    uint32_t reason;        /* status 1: enum storklocker_reason; status 2: storklocker_fault */
     uint32_t number;        /* the code byte, protocol or memo number that the reason carries */
     uint32_t has_pair;      /* 1 if the reason is ImportOffList, which has a pair */
-    uint64_t at;            /* for a no: the offset of the refused instruction */
-    uint64_t taken;         /* for a yes: the number of accepted bytes, STOP included */
-    uint64_t imports;       /* for a yes: the number of imports in them */
+    uint64_t at;            /* status 1: the offset of the refused instruction */
+    uint64_t taken;         /* status 0: the number of accepted bytes, STOP included */
+    uint64_t imports;       /* status 0: the number of imports in them */
     uint64_t module_length; /* the lengths of the pair's module and name in bytes; both are at */
     uint64_t name_length;   /* the front of `room`, one after the other, if both fit */
-    uint64_t pickles;       /* the number of accepted pickles: 1 for a yes to a single pickle */
+    uint64_t pickles;       /* the number of accepted pickles; 1 for a single accepted pickle */
 };
 
 enum storklocker_status {
     STORKLOCKER_YES = 0,
     STORKLOCKER_NO = 1,
     STORKLOCKER_NO_LIST = 2, /* the list file cannot be read */
-    STORKLOCKER_USAGE = 3    /* the settings have a size or a value that this library does not
-                                support: nothing was checked */
+    STORKLOCKER_USAGE = 3    /* nothing was checked, because this library doesn't support the size
+                                or a value of the settings */
 };
 
 /* Why a pickle is refused. The numbers never change. */
@@ -148,9 +148,9 @@ enum storklocker_fault {
 
 /* Each call returns the status, which is also in the verdict. */
 
-/* Checks the pickle at the front of some bytes under pairs. Bytes after its STOP are ignored. If
-   the pairs are sorted by module and then by name, byte for byte, a listed pair is found in
-   logarithmic time; any other order gives the same answer, unless `sorted` is set. Never returns
+/* Checks the pickle at the front of the bytes under pairs. Bytes after its STOP are ignored. If the
+   pairs are sorted by module and then by name, byte for byte, a listed pair is found in logarithmic
+   time; any other order gives the same answer, unless `sorted` is set. Never returns
    STORKLOCKER_NO_LIST. */
 uint32_t storklocker_check_pairs(
     const struct storklocker_pair *pairs, size_t pair_count,
@@ -159,9 +159,9 @@ uint32_t storklocker_check_pairs(
     uint8_t *room, size_t room_length,
     struct storklocker_verdict *verdict);
 
-/* Like storklocker_check_pairs, under the text of a list file, which is parsed at each call; to
+/* Like storklocker_check_pairs, with the text of a list file, which is parsed on every call; to
    parse it once, use storklocker_read_list. Each limit is the smaller of the list's and the
-   settings', whose `large` and `sorted` are ignored. */
+   settings'. The `large` and `sorted` of the settings are ignored. */
 uint32_t storklocker_check_list(
     const uint8_t *list, size_t list_length,
     const struct storklocker_settings *settings,
@@ -169,9 +169,10 @@ uint32_t storklocker_check_list(
     uint8_t *room, size_t room_length,
     struct storklocker_verdict *verdict);
 
-/* Checks one or more pickles that follow one another up to the end of the bytes. For a yes `taken`
-   is the number of all bytes, and `imports` that of all imports. For a no `pickles` of them were
-   accepted, and `at` counts from the first byte. Never returns STORKLOCKER_NO_LIST. */
+/* Checks one or more pickles that follow one another up to the end of the bytes. If all are
+   accepted, `taken` is the number of all bytes, and `imports` that of all imports. If one is
+   refused, `pickles` were accepted before it, and `at` counts from the first byte. Never returns
+   STORKLOCKER_NO_LIST. */
 uint32_t storklocker_check_row(
     const struct storklocker_pair *pairs, size_t pair_count,
     const struct storklocker_settings *settings,
@@ -180,16 +181,16 @@ uint32_t storklocker_check_row(
     struct storklocker_verdict *verdict);
 
 /*
- * Pairs in the `room` of the two calls below. Each is the length of its module as eight
+ * The two calls below write pairs to `room`. A pair is the length of its module as eight
  * little-endian bytes, the module, the length of its name as eight such bytes, and the name.
- * `wanted` is the number of bytes that all of them need, at most UINT64_MAX. If `room` has fewer,
- * it stays unchanged: the caller allocates a larger one and calls again.
+ * `wanted` receives the number of bytes that all pairs need, at most UINT64_MAX. If `room` is
+ * smaller, it stays unchanged: allocate a larger one and call again.
  */
 
 /* Reads the text of a list file, and returns STORKLOCKER_YES, or STORKLOCKER_NO_LIST with the
-   fault. The pairs are in the byte order of their modules, and the names of a module as in its
-   array, repetitions included. `limits` receives the limits of the list; the caller sets its `size`
-   before, and its other fields become standard. */
+   fault. The pairs are in the byte order of their modules, and within a module in the order of its
+   array, repetitions included. `limits` receives the limits of the list; set its `size` before the
+   call. Its other fields receive their standard values. */
 uint32_t storklocker_read_list(
     const uint8_t *list, size_t list_length,
     uint8_t *room, size_t room_length,
@@ -197,11 +198,12 @@ uint32_t storklocker_read_list(
     uint64_t *wanted,
     struct storklocker_verdict *verdict);
 
-/* Checks the pickle at the front of some bytes under any import, and for a yes returns its imports
-   in order, each as often as it occurs. An import whose pair the pickle does not show has
-   UINT64_MAX for both lengths, and no bytes. A pickle of a megabyte may need gigabytes, because a
-   text that it names a thousand times is copied a thousand times: bound `wanted` before you
-   allocate. At any other status `wanted` is 0. Never returns STORKLOCKER_NO_LIST. */
+/* Checks the pickle at the front of the bytes, permitting every import. If it is accepted, writes
+   its imports in order, each as often as it occurs. An import whose pair the pickle doesn't reveal
+   has UINT64_MAX for both lengths, and no bytes. Check `wanted` against a bound before you
+   allocate: a pickle of a megabyte may need gigabytes, because a text that it names a thousand
+   times is copied a thousand times. At any other status, `wanted` is 0. Never returns
+   STORKLOCKER_NO_LIST. */
 uint32_t storklocker_imports(
     const struct storklocker_settings *settings,
     const uint8_t *pickle, size_t pickle_length,
