@@ -102,7 +102,7 @@ static int has_limits(const struct state *state, struct request *r) {
     if (r->limits == Py_None)
         return 1;
     if (PyObject_IsInstance(r->limits, HELD(state, LIMITS)) != 1)
-        return is_wrong("limits is a storklocker.Limits or None", r->limits);
+        return is_wrong("limits must be a storklocker.Limits or None", r->limits);
     if (!has_settings(r->limits, &r->settings) || !r->list->is_bound)
         return !PyErr_Occurred();
     NARROW(counted), NARROW(stack), NARROW(memo), NARROW(passed), NARROW(numbers);
@@ -114,9 +114,9 @@ static int has_limits(const struct state *state, struct request *r) {
 static int is_ready(const struct state *state, struct request *r) {
     uint32_t code = STORKLOCKER_OLD_UNKNOWN;
     if (!PyBytes_CheckExact(r->data))
-        return is_wrong("data is a bytes object, since what can change could change behind the check", r->data);
+        return is_wrong("data must be bytes, which cannot change after the check", r->data);
     if (!PyObject_TypeCheck(r->allow, (PyTypeObject *)state->pairs))
-        return is_wrong("allow is a storklocker.AllowList", r->allow);
+        return is_wrong("allow must be a storklocker.AllowList", r->allow);
     r->bytes = (const uint8_t *)PyBytes_AsString(r->data);
     r->length = (size_t)PyBytes_Size(r->data);
     r->list = (const Pairs *)r->allow;
@@ -126,7 +126,7 @@ static int is_ready(const struct state *state, struct request *r) {
            && PyObject_RichCompareBool(r->old_strings, HELD(state, UNKNOWN + code), Py_EQ) != 1)
         code++;
     if (code > STORKLOCKER_OLD_BYTES && !PyErr_Occurred())
-        PyErr_Format(PyExc_ValueError, "old_strings is 'unknown', 'ascii' or 'bytes', not %R", r->old_strings);
+        PyErr_Format(PyExc_ValueError, "old_strings must be 'unknown', 'ascii' or 'bytes', not %R", r->old_strings);
     r->settings.old_strings = code;
     return !PyErr_Occurred();
 }
@@ -258,19 +258,19 @@ static PyObject *imports(PyObject *module, PyObject *args) {
 static PyMethodDef methods[] = {
     {"check", (PyCFunction)(void (*)(void))check, METH_VARARGS | METH_KEYWORDS,
      "check($module, data, allow, *, limits=None, old_strings='unknown')\n--\n\n"
-     "Checks the pickle at the front of `data`, a bytes object, without running it: a Verdict.\n\n"
-     "What stands behind its STOP isn't looked at. Without `limits` those of the list hold, or STANDARD; beside\n"
-     "those of a list file the smaller of the two. `old_strings` is what the strings of Python 2 become: 'ascii'\n"
-     "texts, where a byte above 7f is refused; 'bytes' bytes; 'unknown' any object. Raises MemoryError."},
+     "Checks the pickle at the front of `data`, a bytes object, without running it.\n\n"
+     "Returns a Verdict; ignores bytes after STOP. `limits` defaults to the list's, or STANDARD; both\n"
+     "apply if the list is from a file. `old_strings` says how Python 2 strings are decoded: 'ascii' to\n"
+     "text (a byte above 7f is refused), 'bytes' to bytes, 'unknown' to anything. Raises MemoryError."},
     {"check_row", (PyCFunction)(void (*)(void))check_row, METH_VARARGS | METH_KEYWORDS,
      "check_row($module, data, allow, *, one_unpickler=False, limits=None, old_strings='unknown')\n--\n\n"
-     "Checks pickles that stand one after the other, up to the end of `data`: a RowVerdict.\n\n"
-     "`pickles` are accepted; at a no, `at` counts from the first byte. With `one_unpickler` one Unpickler\n"
-     "reads them all, and its memo stays from pickle to pickle."},
+     "Checks pickles that follow one another up to the end of `data`. Returns a RowVerdict.\n\n"
+     "Its `pickles` counts the accepted ones, and `at` counts from the first byte.\n"
+     "`one_unpickler` means that one Unpickler loads them all and keeps its memo."},
     {"verdict_unless_whole", verdict_unless_whole, METH_VARARGS,
-     "None where the pickle is accepted and is all of the bytes, else its Verdict."},
-    {"read_list", read_list, METH_VARARGS, "Fault or 0, limits, bytes wanted for the pairs, and room with them."},
-    {"imports", imports, METH_VARARGS, "The Verdict under any import, bytes wanted, and room with the imports."},
+     "None if the pickle is accepted and is all of the bytes, otherwise its Verdict."},
+    {"read_list", read_list, METH_VARARGS, "Fault or 0, limits, bytes needed, and the pairs."},
+    {"imports", imports, METH_VARARGS, "Verdict with every import permitted, bytes needed, imports."},
     {NULL, NULL, 0, NULL}};
 
 static int filled(PyObject *module) {

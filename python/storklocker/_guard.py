@@ -163,7 +163,7 @@ class Guard:
         # Validates the arguments.
         check(b"N.", allow, limits=limits, old_strings=old_strings)
         if on_refusal is not None and not callable(on_refusal):
-            raise TypeError(f"on_refusal is called with a Refusal: {on_refusal!r} can't be")
+            raise TypeError(f"on_refusal must be callable, not {on_refusal!r}")
         self._allow = allow
         self._limits = limits
         self._old_strings = old_strings
@@ -300,8 +300,8 @@ class Guard:
         held = "bytes" if self._old_strings == "bytes" else "ASCII"
         if encoding not in (None, held) or errors not in (None, "strict"):
             raise ValueError(
-                f"old strings were checked as {self._old_strings!r}: "
-                f"encoding is {held!r} and errors 'strict'"
+                f"old_strings={self._old_strings!r} requires encoding={held!r} "
+                "and errors='strict'"
             )
         return (held, "strict")
 

@@ -65,7 +65,7 @@ class Limits(namedtuple("Limits", "counted stack memo passed numbers large")):
 def _limit(number: int) -> int:
     if 0 <= operator.index(number) < 1 << 64:
         return int(number)
-    raise ValueError("a limit is a number from 0 to 2 ** 64 - 1")
+    raise ValueError("a limit must be a number from 0 to 2 ** 64 - 1")
 
 
 def limits_of(counted: int, stack: int, memo: int, passed: int, numbers: int, large: int) -> Limits:

@@ -64,7 +64,7 @@ class AllowList(_Pairs):
         If its limits leave out `numbers`, the limit of `STANDARD` applies.
         """
         if not isinstance(text, (str, bytes, bytearray)):
-            raise TypeError(f"the text of a list file is a str or bytes, not {type(text)!r}")
+            raise TypeError(f"the text of a list file must be str or bytes, not {type(text)!r}")
         data = text.encode() if isinstance(text, str) else bytes(text)
         (fault, numbers), room = with_room(lambda size: read_list(data, size))
         if fault != 0:
@@ -190,7 +190,7 @@ def _pairs_in(given: Any) -> Iterator[Any]:
     for module, names in given.items():
         if isinstance(names, (str, bytes)):
             raise TypeError(
-                f"the names of module {module!r} are a list of texts, not {names!r:.80}"
+                f"the names of module {module!r} must be a list of strings, not {names!r:.80}"
             )
         for name in names:
             yield (f"a name of module {module!r}", (module, name))
@@ -199,11 +199,11 @@ def _pairs_in(given: Any) -> Iterator[Any]:
 def _encoded(given: Any) -> Iterator[Tuple[bytes, bytes]]:
     if isinstance(given, (str, bytes)) or not hasattr(given, "__iter__"):
         raise TypeError(
-            f"an AllowList is made of pairs or of modules with their names, not of {given!r:.80}"
+            f"an AllowList takes pairs, or a mapping of modules to names, not {given!r:.80}"
         )
     for words, pair in _pairs_in(given):
         if not _is_pair(pair):
-            raise TypeError(f"{words} is no pair of two texts, a module and a name: {pair!r:.80}")
+            raise TypeError(f"{words} is not a pair of a module and a name: {pair!r:.80}")
         if not (pair[0] and pair[1]):
             raise ValueError(f"{words} has an empty module or name: {pair!r:.80}")
         yield (pair[0].encode(), pair[1].encode())
@@ -218,7 +218,7 @@ def with_room(call: Callable[[int], Tuple[Any, ...]]) -> Tuple[Any, bytes]:
         if wanted <= size:
             return said, room[:wanted]
         if wanted > _MOST:
-            raise MemoryError(f"the names have {wanted} bytes, more than 2 ** 30")
+            raise MemoryError(f"the names take {wanted} bytes, which is more than 2 ** 30")
         size = wanted
 
 

@@ -15,10 +15,10 @@ def block_of(read: Callable[..., Any], count: int) -> bytes:
     """Reads up to `count` bytes; returns none at the end of the file."""
     given = read(count)
     if given is None:
-        raise BlockingIOError("the file has no bytes yet: a pickle is read from one that blocks")
+        raise BlockingIOError("the file has no bytes yet: use a file in blocking mode")
     if isinstance(given, (bytes, bytearray, memoryview)):
         return bytes(given)
-    raise TypeError(f"a file opened for bytes is wanted: this one gave {type(given)!r}")
+    raise TypeError(f"the file must be open in binary mode: it returned {type(given)!r}")
 
 
 def can_step_back(file: Any) -> bool:
@@ -113,5 +113,5 @@ class Walk:
     def _line(self) -> bool:
         line = self._readline()
         if not isinstance(line, bytes):
-            raise TypeError(f"a file opened for bytes is wanted: this one gave {type(line)!r}")
+            raise TypeError(f"the file must be open in binary mode: it returned {type(line)!r}")
         return self._keep(line).endswith(b"\n")

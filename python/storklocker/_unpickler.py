@@ -89,7 +89,7 @@ class GuardedUnpickler(pickle.Unpickler):
                 f"Unpickler.__init__() was not called by {type(self).__name__}.__init__()"
             )
         if not self._lock.acquire(blocking=False):
-            raise RuntimeError("one load of an Unpickler runs at a time, and none within itself")
+            raise RuntimeError("this Unpickler is already loading: wait until its load returns")
         try:
             return self._load(self._feed)
         finally:
@@ -97,7 +97,7 @@ class GuardedUnpickler(pickle.Unpickler):
 
     def _load(self, feed: _Feed) -> Any:
         if self._is_spent:
-            raise pickle.UnpicklingError("a load of this Unpickler failed: make another one")
+            raise pickle.UnpicklingError("a load of this Unpickler failed: create a new one")
         end = self._admitted()
         feed.__init__(self._bytes)  # type: ignore[misc]
         feed.seek(self._taken)

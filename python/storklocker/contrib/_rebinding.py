@@ -30,7 +30,7 @@ def rebound(cls: Type[T], names: Mapping[str, object]) -> Type[T]:
                 methods[word] = _like(member, _over(function, names))
     if read != names.keys():
         missing = ", ".join(sorted(names.keys() - read))
-        raise TypeError(f"{cls.__module__}.{cls.__qualname__} does not use {missing} any more")
+        raise TypeError(f"{cls.__module__}.{cls.__qualname__} no longer uses {missing}")
     made: Dict[str, Any] = {"__module__": __name__, **methods}
     return cast(Type[T], type(cls.__name__, (cls,), made))
 

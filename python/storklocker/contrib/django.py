@@ -73,7 +73,7 @@ class _FileLoader(Loader):
         expiry = super().load(file, **words)
         if expiry is None or isinstance(expiry, (int, float)):
             return expiry
-        raise Unloadable("the expiry is no time")
+        raise Unloadable("the expiry is not a number")
 
 
 def _made(
@@ -92,7 +92,7 @@ def _settings_of(params: Dict[str, Any]) -> Tuple[Guard, bool, Dict[str, Any]]:
 
         guard = import_string(guard)
     if not isinstance(guard, Guard):
-        raise TypeError('OPTIONS["GUARD"] is a storklocker.Guard, or the dotted name of one')
+        raise TypeError('OPTIONS["GUARD"] must be a storklocker.Guard, or the dotted name of one')
     return guard, forget, {**params, "OPTIONS": options}
 
 

@@ -21,8 +21,8 @@ from .. import Guard
 def load_joblib(path: Union[str, Path], guard: Guard) -> Any:
     """Always raises UnpicklingError, which says why and what to do instead."""
     raise guard.UnpicklingError(
-        f"{path}: a file of joblib's can't be vouched for, since arrays stand raw between its"
-        " instructions; write it with dump_joblib_as_pickle and load it by the guard"
+        f"{path}: a joblib file can't be checked, because it has raw arrays between instructions;"
+        " write it with dump_joblib_as_pickle, and load that with the guard"
     )
 
 

@@ -31,7 +31,7 @@ def load_npz(source: Source, guard: Guard) -> Dict[str, Any]:
     with zipfile.ZipFile(io.BytesIO(bytes_of(source))) as archive:
         names = archive.namelist()
         if len(set(names)) != len(names):
-            raise guard.UnpicklingError("two members of the file have one name")
+            raise guard.UnpicklingError("two members of the file have the same name")
         return {name[:-4]: _array_of(archive.read(name), guard) for name in names}
 
 

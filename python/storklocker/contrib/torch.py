@@ -40,7 +40,7 @@ def check_archive(data: bytes, guard: Guard) -> None:
                 raise guard.UnpicklingError(f"{len(members)} members are called data.pkl, not one")
             refused = guard._refusal_of(archive.read(members[0]))
     except zipfile.BadZipFile as error:
-        raise guard.UnpicklingError("this is no checkpoint in a zip file") from error
+        raise guard.UnpicklingError("this is not a checkpoint in zip format") from error
     if refused is not None and guard.enforce:
         raise refused
 

@@ -21,11 +21,11 @@ YES, NO, FAULT = 0, 1, 2
 _STATUSES = """status:
   0  nothing is refused
   1  something is refused, or dangerous with --fail-on danger
-  2  a file can't be read, or the command line, the list or the output is at fault
+  2  a file can't be read, or the command line, the list or the output has an error
 """
 
 
-_PATH = "a file, a folder, or - for a pipe"
+_PATH = "a file, a folder, or - for standard input"
 _LIST = "the list file of permitted names"
 
 
@@ -49,7 +49,7 @@ def main(words: Optional[Sequence[str]] = None) -> int:
 def _parser() -> argparse.ArgumentParser:
     parser = argparse.ArgumentParser(
         "storklocker",
-        description="Says what pickles would import, before anything opens them.",
+        description="Lists what pickles would import, before anything loads them.",
         epilog=_STATUSES,
         formatter_class=argparse.RawDescriptionHelpFormatter,
     )
@@ -68,7 +68,9 @@ def _add_scan(commands: "argparse._SubParsersAction[argparse.ArgumentParser]") -
     it.add_argument("paths", nargs="+", metavar="PATH", help=_PATH)
     it.add_argument("--allow", metavar="LIST", help=_LIST)
     it.add_argument("--recursive", action="store_true", help="descend into subfolders")
-    it.add_argument("--jobs", type=_jobs, default=1, metavar="N", help="number of processes; 1")
+    it.add_argument(
+        "--jobs", type=_jobs, default=1, metavar="N", help="number of processes; 1 by default"
+    )
     it.add_argument("--format", choices=("table", "json", "sarif", "html"), default="table")
     it.add_argument(
         "--fail-on",
@@ -81,14 +83,14 @@ def _add_scan(commands: "argparse._SubParsersAction[argparse.ArgumentParser]") -
 
 def _add_check(commands: "argparse._SubParsersAction[argparse.ArgumentParser]") -> None:
     it = commands.add_parser("check", help="says whether files import only listed names")
-    it.add_argument("paths", nargs="+", metavar="FILE", help="a file, or - for a pipe")
+    it.add_argument("paths", nargs="+", metavar="FILE", help="a file, or - for standard input")
     it.add_argument("--allow", metavar="LIST", required=True, help=_LIST)
     it.set_defaults(run=_check)
 
 
 def _add_imports(commands: "argparse._SubParsersAction[argparse.ArgumentParser]") -> None:
     it = commands.add_parser("imports", help="lists the names that files would import")
-    it.add_argument("paths", nargs="+", metavar="FILE", help="a file, or - for a pipe")
+    it.add_argument("paths", nargs="+", metavar="FILE", help="a file, or - for standard input")
     it.set_defaults(run=_imports)
 
 
@@ -100,7 +102,7 @@ def _add_learn(commands: "argparse._SubParsersAction[argparse.ArgumentParser]") 
 
 
 def _add_lint(commands: "argparse._SubParsersAction[argparse.ArgumentParser]") -> None:
-    it = commands.add_parser("lint", help="lists the names in a list that can permit everything")
+    it = commands.add_parser("lint", help="lists the dangerous names in a list")
     it.add_argument("list", metavar="LIST", help=_LIST)
     it.set_defaults(run=_lint)
 
@@ -203,9 +205,7 @@ def _lint_lines(pairs: Iterable[Tuple[str, str]]) -> Iterator[str]:
     dangers = dangers_in(pairs)
     for danger in dangers:
         yield f"{shown(danger.name)}: {danger.why} Example: {danger.example}"
-    yield (
-        f"{len(dangers)} names are known to be dangerous; no other name is thereby harmless"
-    )
+    yield f"{len(dangers)} names are known to be dangerous; the others may be dangerous too"
 
 
 if __name__ == "__main__":

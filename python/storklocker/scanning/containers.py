@@ -114,7 +114,7 @@ def _opened(
     if kind is None:
         yield Piece(path, around or "pickle", stream)
     elif depth == 0:
-        yield Finding(path, kind, f"containers stand more than {DEPTH} deep in one another")
+        yield Finding(path, kind, f"containers are more than {DEPTH} deep in one another")
     else:
         try:
             yield from _OPENERS[kind](path, stream, seekable, budget, depth - 1)
@@ -167,7 +167,7 @@ def _open_zip(
             if entry.is_dir():
                 continue
             if entry.file_size > max(PROBED, RATIO * entry.compress_size):
-                why = f"it unpacks to {entry.file_size:,} bytes, {RATIO} times its size and more"
+                why = f"it unpacks to {entry.file_size:,} bytes, more than {RATIO} times its size"
                 yield Finding(_inside(path, entry.filename), "zip", why)
             opener = _zip_opener(archive, entry)
             yield from _member(path, "zip", entry.filename, budget, depth, opener)
@@ -261,7 +261,7 @@ class _Zlib:
             if part:
                 return part
             if not packed:
-                raise EOFError("it ends before it is whole")
+                raise EOFError("it is truncated")
         return b""
 
 

@@ -11,7 +11,7 @@ _RULES = {
     "refused": "The pickle is refused",
     "unvouched": "No check can vouch for the file",
     "unreadable": "The file or member can't be read",
-    "danger": "The pickle imports a name that amounts to any command",
+    "danger": "The pickle imports a dangerous name",
 }
 
 

@@ -30,7 +30,7 @@ class Learned:
 
     def lines(self) -> Iterator[str]:
         """The list file: sorted, each pair with the files that need it."""
-        yield "# Learned from trusted files: look through it before it is used."
+        yield "# Learned from trusted files: review it before use."
         yield "version = 1"
         yield ""
         yield "[imports]"

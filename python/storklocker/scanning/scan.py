@@ -54,7 +54,7 @@ def scan_file(path: str, allow: Optional[AllowList]) -> List[Report]:
     except OSError as error:
         return [Report(path, "file", UNREADABLE, error.strerror or str(error))]
     except MemoryError:
-        return [Report(path, "file", UNREADABLE, "there is no memory for it")]
+        return [Report(path, "file", UNREADABLE, "out of memory")]
 
 
 def scan(
