@@ -11,8 +11,8 @@
 #define ROOM 512              /* names up to this length need no second call */
 
 /* The indexes of `HELD` in storklocker._held. */
-enum { VERDICT, ROW_VERDICT, LIMITS, REASONS, TUPLE_NEW, ASKED, UNKNOWN };
-#define HELD(state, place) PyTuple_GetItem((state)->held, place)
+enum { VERDICT, ROW_VERDICT, REASONS };
+
 struct state {
     PyObject *held, *pairs;
 };
@@ -22,27 +22,28 @@ typedef struct {
     PyObject *kept; /* a tuple of pairs of bytes objects, which `pairs` points into */
     struct storklocker_pair *pairs;
     size_t count;
-    struct storklocker_settings settings;
-    int is_bound; /* whether these limits apply in addition to those of a call */
+    struct storklocker_settings settings; /* for calls that pass none */
 } Pairs;
 
 /* The arguments of a call, borrowed from the caller, and what they are converted to. */
 struct request {
-    PyObject *data, *allow, *limits, *old_strings;
+    PyObject *data, *allow, *size;
     const Pairs *list;
     struct storklocker_settings settings;
     const uint8_t *bytes;
     size_t length;
 };
 
-/* Converts the fields of a `Limits`, which the package has validated. It sorts its pairs, too. */
-static int has_settings(PyObject *numbers, struct storklocker_settings *s) {
-    int large;
-    *s = (struct storklocker_settings)STORKLOCKER_STANDARD;
-    if (!PyArg_ParseTuple(numbers, "KKKKKp", &s->counted, &s->stack, &s->memo, &s->passed, &s->numbers, &large))
-        return 0;
-    s->large = (uint32_t)large;
-    s->sorted = 1;
+static int is_wrong(const char *wanted, PyObject *given) {
+    PyErr_Format(PyExc_TypeError, "%s, not %R", wanted, (PyObject *)Py_TYPE(given));
+    return 0;
+}
+
+/* Copies settings, which the package has made as bytes. */
+static int has_settings(PyObject *made, struct storklocker_settings *settings) {
+    if (!PyBytes_Check(made) || (size_t)PyBytes_Size(made) != sizeof *settings)
+        return is_wrong("settings must be the bytes of a struct storklocker_settings", made);
+    memcpy(settings, PyBytes_AsString(made), sizeof *settings);
     return 1;
 }
 
@@ -55,171 +56,186 @@ static void pairs_dealloc(PyObject *self) {
 }
 
 static PyObject *pairs_new(PyTypeObject *type, PyObject *args, PyObject *Py_UNUSED(kwargs)) {
-    PyObject *kept, *numbers, *module, *name;
-    int is_bound;
+    PyObject *kept, *made, *module, *name;
     struct storklocker_settings settings;
-    if (!PyArg_ParseTuple(args, "O!O!p", &PyTuple_Type, &kept, &PyTuple_Type, &numbers, &is_bound)
-        || !has_settings(numbers, &settings))
+    if (!PyArg_ParseTuple(args, "O!O", &PyTuple_Type, &kept, &made)
+        || !has_settings(made, &settings))
+        return NULL;
+    Pairs *self = (Pairs *)PyType_GenericAlloc(type, 0);
+    if (self == NULL)
         return NULL;
     size_t count = (size_t)PyTuple_Size(kept);
-    Pairs *made = (Pairs *)((allocfunc)PyType_GetSlot(type, Py_tp_alloc))(type, 0);
-    if (made == NULL)
-        return NULL;
     Py_INCREF(kept);
-    made->kept = kept;
-    made->settings = settings;
-    made->is_bound = is_bound;
-    made->pairs = PyMem_Malloc((count + 1) * sizeof *made->pairs);
-    if (made->pairs == NULL)
+    self->kept = kept;
+    self->settings = settings;
+    self->pairs = PyMem_New(struct storklocker_pair, count + 1);
+    if (self->pairs == NULL)
         PyErr_NoMemory();
-    for (; made->count < count && !PyErr_Occurred(); made->count++)
-        if (PyArg_ParseTuple(PyTuple_GetItem(kept, (Py_ssize_t)made->count), "SS", &module, &name))
-            made->pairs[made->count] = (struct storklocker_pair){
+    for (; self->count < count && !PyErr_Occurred(); self->count++) {
+        PyObject *pair = PyTuple_GetItem(kept, (Py_ssize_t)self->count);
+        if (PyArg_ParseTuple(pair, "SS", &module, &name))
+            self->pairs[self->count] = (struct storklocker_pair){
                 (const uint8_t *)PyBytes_AsString(module), (size_t)PyBytes_Size(module),
                 (const uint8_t *)PyBytes_AsString(name), (size_t)PyBytes_Size(name)};
+    }
     if (PyErr_Occurred())
-        Py_CLEAR(made);
-    return (PyObject *)made;
+        Py_CLEAR(self);
+    return (PyObject *)self;
 }
 
 static PyMemberDef pairs_members[] = {
     {"_pairs", T_OBJECT_EX, offsetof(Pairs, kept), READONLY, NULL}, {NULL, 0, 0, 0, NULL}};
 static PyType_Slot pairs_slots[] = {
-    {Py_tp_new, pairs_new}, {Py_tp_dealloc, pairs_dealloc}, {Py_tp_members, pairs_members}, {0, NULL}};
+    {Py_tp_new, pairs_new},
+    {Py_tp_dealloc, pairs_dealloc},
+    {Py_tp_members, pairs_members},
+    {0, NULL}};
 static PyType_Spec pairs_spec = {
-    "storklocker._storklocker.Pairs", sizeof(Pairs), 0, Py_TPFLAGS_DEFAULT | Py_TPFLAGS_BASETYPE, pairs_slots};
+    "storklocker._storklocker.Pairs", sizeof(Pairs), 0, Py_TPFLAGS_DEFAULT | Py_TPFLAGS_BASETYPE,
+    pairs_slots};
 
-static int is_wrong(const char *wanted, PyObject *given) {
-    PyErr_Format(PyExc_TypeError, "%s, not %R", wanted, (PyObject *)Py_TYPE(given));
-    return 0;
-}
-
-/* Sets the limits of the call, by default the list's. If the list is from a file, both apply. */
-#define NARROW(limit) r->settings.limit = own->limit < r->settings.limit ? own->limit : r->settings.limit
-static int has_limits(const struct state *state, struct request *r) {
-    const struct storklocker_settings *own = &r->list->settings;
-    r->settings = *own;
-    if (r->limits == Py_None)
-        return 1;
-    if (PyObject_IsInstance(r->limits, HELD(state, LIMITS)) != 1)
-        return is_wrong("limits must be a storklocker.Limits or None", r->limits);
-    if (!has_settings(r->limits, &r->settings) || !r->list->is_bound)
-        return !PyErr_Occurred();
-    NARROW(counted), NARROW(stack), NARROW(memo), NARROW(passed), NARROW(numbers);
-    r->settings.large &= own->large;
-    return 1;
-}
-
-/* Validates and converts the arguments. */
-static int is_ready(const struct state *state, struct request *r) {
-    uint32_t code = STORKLOCKER_OLD_UNKNOWN;
+/* Reads the bytes, the list, its settings or None for the list's own, and for some calls a size. */
+static int is_taken(const struct state *state, PyObject *args, struct request *r) {
+    PyObject *settings;
+    r->size = NULL;
+    if (!PyArg_UnpackTuple(args, "a call", 3, 4, &r->data, &r->allow, &settings, &r->size))
+        return 0;
     if (!PyBytes_CheckExact(r->data))
-        return is_wrong("data must be bytes, which cannot change after the check", r->data);
+        return is_wrong(
+            "data must be bytes, which cannot change after the check", r->data);
     if (!PyObject_TypeCheck(r->allow, (PyTypeObject *)state->pairs))
         return is_wrong("allow must be a storklocker.AllowList", r->allow);
     r->bytes = (const uint8_t *)PyBytes_AsString(r->data);
     r->length = (size_t)PyBytes_Size(r->data);
     r->list = (const Pairs *)r->allow;
-    if (!has_limits(state, r))
-        return 0;
-    while (code <= STORKLOCKER_OLD_BYTES
-           && PyObject_RichCompareBool(r->old_strings, HELD(state, UNKNOWN + code), Py_EQ) != 1)
-        code++;
-    if (code > STORKLOCKER_OLD_BYTES && !PyErr_Occurred())
-        PyErr_Format(PyExc_ValueError, "old_strings must be 'unknown', 'ascii' or 'bytes', not %R", r->old_strings);
-    r->settings.old_strings = code;
-    return !PyErr_Occurred();
+    r->settings = r->list->settings;
+    return settings == Py_None || has_settings(settings, &r->settings);
+}
+
+/* Releases the GIL if there are many bytes to check. */
+static PyThreadState *lock_released(const struct request *r) {
+    return r->length >= LOCK_KEPT_BELOW ? PyEval_SaveThread() : NULL;
+}
+
+static void take_lock(PyThreadState *thread) {
+    if (thread != NULL)
+        PyEval_RestoreThread(thread);
 }
 
 typedef __typeof__(storklocker_check_pairs) call_of_pairs;
 
 static void ask(
-    call_of_pairs *call, const struct request *r, uint8_t *room, size_t size, struct storklocker_verdict *v) {
-    PyThreadState *thread = r->length >= LOCK_KEPT_BELOW ? PyEval_SaveThread() : NULL;
+    call_of_pairs *call, const struct request *r, uint8_t *room, size_t size,
+    struct storklocker_verdict *v) {
+    PyThreadState *thread = lock_released(r);
     call(r->list->pairs, r->list->count, &r->settings, r->bytes, r->length, room, size, v);
-    if (thread != NULL)
-        PyEval_RestoreThread(thread);
+    take_lock(thread);
 }
 
-/* A Verdict or a RowVerdict. `pair` is NULL if there is none. */
+/* A Verdict or a RowVerdict. It steals the reference to the pair. */
 static PyObject *verdict_of(
     const struct state *state, int kind, const struct storklocker_verdict *v, PyObject *pair) {
-    int is_numbered = v->reason == STORKLOCKER_UNKNOWN_OPCODE || v->reason == STORKLOCKER_UNSUPPORTED_PROTOCOL
-        || v->reason == STORKLOCKER_MISSING_MEMO;
-    if (v->reason == STORKLOCKER_OUT_OF_MEMORY)
-        return PyErr_NoMemory();
-    PyObject *fields = Py_BuildValue(
-        "OKKKONOK", v->status == STORKLOCKER_YES ? Py_True : Py_False, v->taken, v->imports, v->at,
-        PyTuple_GetItem(HELD(state, REASONS), (Py_ssize_t)v->reason),
-        is_numbered ? PyLong_FromUnsignedLong(v->number) : Py_BuildValue(""), pair ? pair : Py_None, v->pickles);
-    PyObject *made = fields == NULL
-        ? NULL : PyObject_CallFunctionObjArgs(HELD(state, TUPLE_NEW), HELD(state, kind), fields, NULL);
-    Py_XDECREF(fields);
+    PyTypeObject *type = (PyTypeObject *)PyTuple_GetItem(state->held, kind);
+    PyObject *reasons = PyTuple_GetItem(state->held, REASONS);
+    int is_numbered = v->reason == STORKLOCKER_UNKNOWN_OPCODE
+        || v->reason == STORKLOCKER_UNSUPPORTED_PROTOCOL || v->reason == STORKLOCKER_MISSING_MEMO;
+    PyObject *fields[] = {
+        PyBool_FromLong(v->status == STORKLOCKER_YES),
+        PyLong_FromUnsignedLongLong(v->taken),
+        PyLong_FromUnsignedLongLong(v->imports),
+        PyLong_FromUnsignedLongLong(v->at),
+        PySequence_GetItem(reasons, (Py_ssize_t)v->reason),
+        is_numbered ? PyLong_FromUnsignedLong(v->number) : Py_BuildValue(""),
+        pair,
+        PyLong_FromUnsignedLongLong(v->pickles)};
+    Py_ssize_t count = sizeof fields / sizeof *fields;
+    PyObject *made = v->reason == STORKLOCKER_OUT_OF_MEMORY ? PyErr_NoMemory()
+                                                            : PyType_GenericAlloc(type, count);
+    for (Py_ssize_t k = 0; k < count; k++) {
+        if (made != NULL)
+            PyTuple_SetItem(made, k, fields[k]);
+        else
+            Py_XDECREF(fields[k]);
+    }
+    if (PyErr_Occurred())
+        Py_CLEAR(made);
     return made;
+}
+
+/* The pair off the list, whose names the room begins with, or None. */
+static PyObject *pair_of(const struct storklocker_verdict *v, const uint8_t *room) {
+    if (!v->has_pair)
+        Py_RETURN_NONE;
+    const char *module = (const char *)room, *name = module + v->module_length;
+    return Py_BuildValue(
+        "s#s#", module, (Py_ssize_t)v->module_length, name, (Py_ssize_t)v->name_length);
+}
+
+/* Keeps the arguments in a verdict, for its `missing`. */
+static PyObject *keeping(PyObject *verdict, const struct request *r) {
+    PyObject *asked = Py_BuildValue(
+        "OOy#", r->data, r->allow, (const char *)&r->settings, (Py_ssize_t)sizeof r->settings);
+    if (asked == NULL || PyObject_SetAttrString(verdict, "_asked", asked) < 0)
+        Py_CLEAR(verdict);
+    Py_XDECREF(asked);
+    return verdict;
 }
 
 /* The answer of a call; None if `is_short` and one accepted pickle is all of the bytes. Calls again
-   if the names don't fit. The verdict on a refused import keeps the arguments for `missing`. */
+   if the names don't fit. */
 static PyObject *answered(
-    const struct state *state, call_of_pairs *call, const struct request *r, int kind, int is_short) {
+    PyObject *module, PyObject *args, call_of_pairs *call, int kind, int is_short) {
+    const struct state *state = PyModule_GetState(module);
+    struct request r;
     struct storklocker_verdict v;
     uint8_t few[ROOM], *room = few;
-    ask(call, r, room, ROOM, &v);
-    if (is_short && v.status == STORKLOCKER_YES && v.taken == r->length)
+    if (!is_taken(state, args, &r))
+        return NULL;
+    ask(call, &r, room, ROOM, &v);
+    if (is_short && v.status == STORKLOCKER_YES && v.taken == r.length)
         Py_RETURN_NONE;
-    if (v.has_pair && v.module_length + v.name_length > ROOM) {
-        if ((room = PyMem_Malloc((size_t)(v.module_length + v.name_length))) == NULL)
+    size_t wanted = (size_t)(v.module_length + v.name_length);
+    if (wanted > ROOM) {
+        if ((room = PyMem_Malloc(wanted)) == NULL)
             return PyErr_NoMemory();
-        ask(call, r, room, (size_t)(v.module_length + v.name_length), &v);
+        ask(call, &r, room, wanted, &v);
     }
-    const char *names = (const char *)room;
-    PyObject *pair = !v.has_pair ? NULL : Py_BuildValue(
-        "s#s#", names, (Py_ssize_t)v.module_length, names + v.module_length, (Py_ssize_t)v.name_length);
+    PyObject *made = verdict_of(state, kind, &v, pair_of(&v, room));
     if (room != few)
         PyMem_Free(room);
-    PyObject *made = v.has_pair && pair == NULL ? NULL : verdict_of(state, kind, &v, pair);
-    Py_XDECREF(pair);
-    int is_import = v.reason == STORKLOCKER_IMPORT_OFF_LIST || v.reason == STORKLOCKER_UNKNOWN_IMPORT;
-    if (made == NULL || kind != VERDICT || !is_import)
-        return made;
-    PyObject *asked = PyTuple_Pack(4, r->data, r->allow, r->limits, r->old_strings);
-    if (asked == NULL || PyObject_SetAttr(made, HELD(state, ASKED), asked) < 0)
-        Py_CLEAR(made);
-    Py_XDECREF(asked);
-    return made;
+    int is_import =
+        v.reason == STORKLOCKER_IMPORT_OFF_LIST || v.reason == STORKLOCKER_UNKNOWN_IMPORT;
+    return made != NULL && kind == VERDICT && is_import ? keeping(made, &r) : made;
 }
 
-static PyObject *check(PyObject *module, PyObject *args, PyObject *kwargs) {
-    static char *words[] = {"data", "allow", "limits", "old_strings", NULL};
-    const struct state *state = PyModule_GetState(module);
-    struct request r = {.limits = Py_None, .old_strings = HELD(state, UNKNOWN)};
-    if (!PyArg_ParseTupleAndKeywords(
-            args, kwargs, "OO|$OO:check", words, &r.data, &r.allow, &r.limits, &r.old_strings)
-        || !is_ready(state, &r))
-        return NULL;
-    return answered(state, storklocker_check_pairs, &r, VERDICT, 0);
-}
-
-static PyObject *check_row(PyObject *module, PyObject *args, PyObject *kwargs) {
-    static char *words[] = {"data", "allow", "one_unpickler", "limits", "old_strings", NULL};
-    const struct state *state = PyModule_GetState(module);
-    struct request r = {.limits = Py_None, .old_strings = HELD(state, UNKNOWN)};
-    int is_kept = 0;
-    if (!PyArg_ParseTupleAndKeywords(
-            args, kwargs, "OO|$pOO:check_row", words, &r.data, &r.allow, &is_kept, &r.limits, &r.old_strings)
-        || !is_ready(state, &r))
-        return NULL;
-    r.settings.row_memo = is_kept ? STORKLOCKER_MEMO_KEPT : STORKLOCKER_MEMO_FRESH;
-    return answered(state, storklocker_check_row, &r, ROW_VERDICT, 0);
+static PyObject *verdict(PyObject *module, PyObject *args) {
+    return answered(module, args, storklocker_check_pairs, VERDICT, 0);
 }
 
 static PyObject *verdict_unless_whole(PyObject *module, PyObject *args) {
+    return answered(module, args, storklocker_check_pairs, VERDICT, 1);
+}
+
+static PyObject *row_verdict(PyObject *module, PyObject *args) {
+    return answered(module, args, storklocker_check_row, ROW_VERDICT, 0);
+}
+
+static PyObject *imports(PyObject *module, PyObject *args) {
     const struct state *state = PyModule_GetState(module);
-    struct request r = {0};
-    if (!PyArg_UnpackTuple(args, "verdict_unless_whole", 4, 4, &r.data, &r.allow, &r.limits, &r.old_strings)
-        || !is_ready(state, &r))
+    struct request r;
+    struct storklocker_verdict v;
+    uint64_t wanted = 0;
+    if (!is_taken(state, args, &r))
         return NULL;
-    return answered(state, storklocker_check_pairs, &r, VERDICT, 1);
+    Py_ssize_t size = PyLong_AsSsize_t(r.size);
+    PyObject *room = PyErr_Occurred() ? NULL : PyBytes_FromStringAndSize(NULL, size);
+    if (room == NULL)
+        return NULL;
+    uint8_t *start = (uint8_t *)PyBytes_AsString(room);
+    PyThreadState *thread = lock_released(&r);
+    storklocker_imports(&r.settings, r.bytes, r.length, start, (size_t)size, &wanted, &v);
+    take_lock(thread);
+    return Py_BuildValue("NKN", verdict_of(state, VERDICT, &v, Py_BuildValue("")), wanted, room);
 }
 
 static PyObject *read_list(PyObject *Py_UNUSED(module), PyObject *args) {
@@ -233,67 +249,48 @@ static PyObject *read_list(PyObject *Py_UNUSED(module), PyObject *args) {
     PyObject *room = PyBytes_FromStringAndSize(NULL, size);
     if (room == NULL)
         return NULL;
+    uint8_t *start = (uint8_t *)PyBytes_AsString(room);
     storklocker_read_list(
-        (const uint8_t *)list, (size_t)length, (uint8_t *)PyBytes_AsString(room), (size_t)size, &s, &wanted, &v);
+        (const uint8_t *)list, (size_t)length, start, (size_t)size, &s, &wanted, &v);
     return Py_BuildValue(
-        "I(KKKKKI)KN", v.reason, s.counted, s.stack, s.memo, s.passed, s.numbers, s.large, wanted, room);
-}
-
-static PyObject *imports(PyObject *module, PyObject *args) {
-    const struct state *state = PyModule_GetState(module);
-    struct request r = {0};
-    struct storklocker_verdict v;
-    Py_ssize_t size;
-    uint64_t wanted = 0;
-    if (!PyArg_ParseTuple(args, "OOOOn", &r.data, &r.allow, &r.limits, &r.old_strings, &size) || !is_ready(state, &r))
-        return NULL;
-    PyObject *room = PyBytes_FromStringAndSize(NULL, size);
-    if (room == NULL)
-        return NULL;
-    storklocker_imports(
-        &r.settings, r.bytes, r.length, (uint8_t *)PyBytes_AsString(room), (size_t)size, &wanted, &v);
-    return Py_BuildValue("NKN", verdict_of(state, VERDICT, &v, NULL), wanted, room);
+        "I(KKKKKI)KN", v.reason, s.counted, s.stack, s.memo, s.passed, s.numbers, s.large, wanted,
+        room);
 }
 
 static PyMethodDef methods[] = {
-    {"check", (PyCFunction)(void (*)(void))check, METH_VARARGS | METH_KEYWORDS,
-     "check($module, data, allow, *, limits=None, old_strings='unknown')\n--\n\n"
-     "Checks the pickle at the front of `data`, a bytes object, without running it.\n\n"
-     "Returns a Verdict; ignores bytes after STOP. `limits` defaults to the list's, or STANDARD; both\n"
-     "apply if the list is from a file. `old_strings` says how Python 2 strings are decoded: 'ascii' to\n"
-     "text (a byte above 7f is refused), 'bytes' to bytes, 'unknown' to anything. Raises MemoryError."},
-    {"check_row", (PyCFunction)(void (*)(void))check_row, METH_VARARGS | METH_KEYWORDS,
-     "check_row($module, data, allow, *, one_unpickler=False, limits=None, old_strings='unknown')\n--\n\n"
-     "Checks pickles that follow one another up to the end of `data`. Returns a RowVerdict.\n\n"
-     "Its `pickles` counts the accepted ones, and `at` counts from the first byte.\n"
-     "`one_unpickler` means that one Unpickler loads them all and keeps its memo."},
+    {"verdict", verdict, METH_VARARGS, "The Verdict of the pickle at the front of the bytes."},
     {"verdict_unless_whole", verdict_unless_whole, METH_VARARGS,
      "None if the pickle is accepted and is all of the bytes, otherwise its Verdict."},
-    {"read_list", read_list, METH_VARARGS, "Fault or 0, limits, bytes needed, and the pairs."},
-    {"imports", imports, METH_VARARGS, "Verdict with every import permitted, bytes needed, imports."},
+    {"row_verdict", row_verdict, METH_VARARGS, "The RowVerdict of all pickles in the bytes."},
+    {"imports", imports, METH_VARARGS,
+     "The Verdict with every import permitted, bytes needed, and the imports."},
+    {"read_list", read_list, METH_VARARGS,
+     "Fault or 0, limits, bytes needed, and the pairs."},
     {NULL, NULL, 0, NULL}};
 
 static int filled(PyObject *module) {
     struct state *state = PyModule_GetState(module);
     PyObject *package = PyImport_ImportModule("storklocker._held");
     state->held = package != NULL ? PyObject_GetAttrString(package, "HELD") : NULL;
-    state->pairs = PyType_FromSpec(&pairs_spec);
     Py_XDECREF(package);
-    Py_XINCREF(state->pairs);
-    if (state->held == NULL || state->pairs == NULL || PyModule_AddObject(module, "Pairs", state->pairs) < 0)
+    state->pairs = state->held != NULL ? PyType_FromSpec(&pairs_spec) : NULL;
+    if (state->pairs == NULL || PyObject_SetAttrString(module, "Pairs", state->pairs) < 0)
         return -1;
     return PyModule_AddStringConstant(module, "version", storklocker_version());
 }
 
 static void freed(void *module) {
     struct state *state = PyModule_GetState(module);
-    Py_CLEAR(state->held);
-    Py_CLEAR(state->pairs);
+    if (state != NULL) {
+        Py_CLEAR(state->held);
+        Py_CLEAR(state->pairs);
+    }
 }
 
 static PyModuleDef_Slot slots[] = {{Py_mod_exec, filled}, {0, NULL}};
 static struct PyModuleDef definition = {
-    PyModuleDef_HEAD_INIT, "_storklocker", NULL, sizeof(struct state), methods, slots, NULL, NULL, freed};
+    PyModuleDef_HEAD_INIT, "_storklocker", NULL, sizeof(struct state), methods, slots, NULL, NULL,
+    freed};
 
 __attribute__((visibility("default"))) PyMODINIT_FUNC PyInit__storklocker(void) {
     return PyModuleDef_Init(&definition);

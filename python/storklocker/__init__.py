@@ -26,10 +26,10 @@ harmless, or that loading succeeds. See docs/PYTHON.md.
 from __future__ import annotations
 
 from ._answers import Import, ListFault, MoreBytes, Reason, Refused, RowVerdict, Verdict
+from ._checking import check, check_row
 from ._limits import Limits
 from ._lists import STANDARD, AllowList
 from ._guard import Guard, imports, loads, missing
-from ._storklocker import check, check_row
 from ._storklocker import version as __version__
 
 TYPE_CHECKING = False

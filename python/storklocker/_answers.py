@@ -116,10 +116,9 @@ class Verdict(
         if self._missing is None:
             found: Tuple[Import, ...] = ()
             if asked:
-                from ._guard import missing
+                from ._lists import missing_of
 
-                data, allow, limits, old_strings = asked
-                found = tuple(missing(data, allow, limits=limits, old_strings=old_strings))
+                found = tuple(missing_of(*asked))
             self._missing = found or (() if self.pair is None else (Import(*self.pair),))
             self._asked = ()
         return self._missing

@@ -6,9 +6,10 @@ import pickle
 
 from . import _names
 from ._answers import Import, MoreBytes, Reason, Refused, Verdict
+from ._checking import check
 from ._limits import Limits
-from ._lists import AllowList, imports_in, imports_of, records
-from ._storklocker import check, verdict_unless_whole
+from ._lists import AllowList, imports_in, imports_of, missing_of, records, settings_of
+from ._storklocker import verdict_unless_whole
 
 TYPE_CHECKING = False
 if TYPE_CHECKING:
@@ -49,8 +50,7 @@ def missing(
     """The imports of the pickle that the list doesn't permit, each once. The limits of the list
     apply. Empty if no list makes the pickle acceptable.
     """
-    _, room = imports_of(data, allow, limits, old_strings)
-    return imports_in(it for it in dict.fromkeys(records(room)) if not allow._has(it))
+    return missing_of(data, allow, settings_of(allow, limits, old_strings))
 
 
 def loads(
@@ -141,6 +141,7 @@ class Guard:
         "_allow",
         "_limits",
         "_old_strings",
+        "_settings",
         "_fix_imports",
         "_on_refusal",
         "_enforce",
@@ -160,13 +161,13 @@ class Guard:
         on_refusal: Optional[Callable[[Refusal], Any]] = None,
         enforce: bool = True,
     ) -> None:
-        # Validates the arguments.
-        check(b"N.", allow, limits=limits, old_strings=old_strings)
+        settings = settings_of(allow, limits, old_strings)
         if on_refusal is not None and not callable(on_refusal):
             raise TypeError(f"on_refusal must be callable, not {on_refusal!r}")
         self._allow = allow
         self._limits = limits
         self._old_strings = old_strings
+        self._settings = settings
         self._fix_imports = bool(fix_imports)
         self._on_refusal = on_refusal
         self._enforce = bool(enforce)
@@ -220,7 +221,7 @@ class Guard:
             data = self._copied(data)
         if self._fix_imports:
             return self._loads_old(data, encoding, errors, buffers)
-        verdict = verdict_unless_whole(data, self._new, self._limits, self._old_strings)
+        verdict = verdict_unless_whole(data, self._new, self._settings)
         if verdict is not None:
             refused = self._told(verdict, data)
             if self._enforce:
@@ -325,7 +326,7 @@ class Guard:
         """The exception for `data`, reported to `on_refusal`, or None if it is one accepted pickle.
         """
         listed = self._listed_for(data)
-        verdict = verdict_unless_whole(data, listed, self._limits, self._old_strings)
+        verdict = verdict_unless_whole(data, listed, self._settings)
         return None if verdict is None else self._told(verdict, data)
 
     def _copied(self, data: Any) -> bytes:

@@ -2,7 +2,9 @@
 
 from __future__ import annotations
 
+import functools
 import operator
+import struct
 from collections import namedtuple
 
 TYPE_CHECKING = False
@@ -11,6 +13,11 @@ if TYPE_CHECKING:
 
 UNBOUND = (1 << 32) - 1
 """The greatest memo number."""
+
+OLD_STRINGS = ("unknown", "ascii", "bytes")
+"""What the strings of Python 2 may become, each at its number."""
+
+_SETTINGS = struct.Struct("=6Q4I")
 
 
 class Limits(namedtuple("Limits", "counted stack memo passed numbers large")):
@@ -73,3 +80,11 @@ def limits_of(counted: int, stack: int, memo: int, passed: int, numbers: int, la
     return Limits(
         counted=counted, stack=stack, memo=memo, passed=passed, numbers=numbers, large=bool(large)
     )
+
+
+@functools.lru_cache(maxsize=64)
+def packed(limits: Limits, old_strings: str, keeps_memo: bool) -> bytes:
+    """`struct storklocker_settings` of a check whose pairs are in order."""
+    *numbers, large = limits_of(*limits)
+    words = (OLD_STRINGS.index(old_strings), keeps_memo, large, True)
+    return _SETTINGS.pack(_SETTINGS.size, *numbers, *words)

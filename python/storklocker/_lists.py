@@ -8,7 +8,7 @@ from collections.abc import Mapping
 
 from . import _names
 from ._answers import LIST_FAULTS, Import, ListFault, Verdict
-from ._limits import UNBOUND, Limits, limits_of
+from ._limits import OLD_STRINGS, UNBOUND, Limits, limits_of, packed
 from ._storklocker import Pairs as _Pairs
 from ._storklocker import imports as _imports
 from ._storklocker import read_list
@@ -51,8 +51,8 @@ class AllowList(_Pairs):
 
     @classmethod
     def _of(cls, pairs: Iterable[Tuple[bytes, bytes]], limits: Optional[Limits]) -> "AllowList":
-        held = STANDARD if limits is None else limits
-        made = super().__new__(cls, tuple(sorted(set(pairs))), held, limits is not None)
+        settings = packed(STANDARD if limits is None else limits, "unknown", False)
+        made = super().__new__(cls, tuple(sorted(set(pairs))), settings)
         made._limits = limits
         made._loaded = made._fixed = made._guard = None
         return made
@@ -222,14 +222,37 @@ def with_room(call: Callable[[int], Tuple[Any, ...]]) -> Tuple[Any, bytes]:
         size = wanted
 
 
+def settings_of(
+    allow: AllowList, limits: Optional[Limits], old_strings: str, keeps_memo: bool = False
+) -> bytes:
+    """The settings of a check, as the library takes them: within the limits of the list too."""
+    if not isinstance(allow, AllowList):
+        raise TypeError(f"allow is a storklocker.AllowList, not {type(allow)!r}")
+    if limits is not None and not isinstance(limits, Limits):
+        raise TypeError(f"limits is a storklocker.Limits or None, not {type(limits)!r}")
+    if old_strings not in OLD_STRINGS:
+        raise ValueError(f"old_strings is 'unknown', 'ascii' or 'bytes', not {old_strings!r}")
+    return packed(_within(limits, allow._limits) or STANDARD, old_strings, keeps_memo)
+
+
 def imports_of(
     data: bytes, allow: AllowList, limits: Optional[Limits], old_strings: str
 ) -> Tuple[Verdict, bytes]:
     """Checks a pickle, permitting every import. The limits of the list apply. Returns the Verdict
     and the encoded imports.
     """
-    (verdict,), room = with_room(lambda size: _imports(data, allow, limits, old_strings, size))
+    return _imports_under(data, allow, settings_of(allow, limits, old_strings))
+
+
+def _imports_under(data: bytes, allow: AllowList, settings: bytes) -> Tuple[Verdict, bytes]:
+    (verdict,), room = with_room(lambda size: _imports(data, allow, settings, size))
     return verdict, room
+
+
+def missing_of(data: bytes, allow: AllowList, settings: bytes) -> List[Import]:
+    """The imports that the list doesn't permit, each once."""
+    _, room = _imports_under(data, allow, settings)
+    return imports_in(it for it in dict.fromkeys(records(room)) if not allow._has(it))
 
 
 def records(room: bytes) -> Iterator[Names]:

@@ -1,38 +1,23 @@
 from typing import Optional, Tuple, Type, TypeVar
 
 from ._answers import RowVerdict, Verdict
-from ._limits import Limits
 
 _P = TypeVar("_P", bound="Pairs")
-_Numbers = Tuple[int, int, int, int, int, int]
 
 version: str
 
 class Pairs:
     _pairs: Tuple[Tuple[bytes, bytes], ...]
-    def __new__(
-        cls: Type[_P], pairs: Tuple[Tuple[bytes, bytes], ...], limits: _Numbers, is_bound: bool
-    ) -> _P: ...
+    def __new__(cls: Type[_P], pairs: Tuple[Tuple[bytes, bytes], ...], settings: bytes) -> _P: ...
 
-def check(
-    data: bytes,
-    allow: Pairs,
-    *,
-    limits: Optional[Limits] = None,
-    old_strings: str = "unknown",
-) -> Verdict: ...
-def check_row(
-    data: bytes,
-    allow: Pairs,
-    *,
-    one_unpickler: bool = False,
-    limits: Optional[Limits] = None,
-    old_strings: str = "unknown",
-) -> RowVerdict: ...
+def verdict(data: bytes, allow: Pairs, settings: Optional[bytes]) -> Verdict: ...
 def verdict_unless_whole(
-    data: bytes, allow: Pairs, limits: Optional[Limits], old_strings: str
+    data: bytes, allow: Pairs, settings: Optional[bytes]
 ) -> Optional[Verdict]: ...
-def read_list(text: bytes, size: int) -> Tuple[int, _Numbers, int, bytes]: ...
+def row_verdict(data: bytes, allow: Pairs, settings: Optional[bytes]) -> RowVerdict: ...
 def imports(
-    data: bytes, allow: Pairs, limits: Optional[Limits], old_strings: str, size: int
+    data: bytes, allow: Pairs, settings: Optional[bytes], size: int
 ) -> Tuple[Verdict, int, bytes]: ...
+def read_list(
+    text: bytes, size: int
+) -> Tuple[int, Tuple[int, int, int, int, int, int], int, bytes]: ...

@@ -9,8 +9,8 @@ from typing import TYPE_CHECKING, Any, Dict, Iterable, Optional, Set
 
 from . import _names
 from ._answers import Reason, Verdict
+from ._checking import check, check_row
 from ._reading import FIRST_BLOCK, Walk, block_of, can_step_back
-from ._storklocker import check, check_row
 
 if TYPE_CHECKING:
     from ._guard import Guard
@@ -132,8 +132,7 @@ class GuardedUnpickler(pickle.Unpickler):
         self._put_back()
         guard, data = self.guard, self._bytes[self._taken :]
         if self._pickles:  # lets `missing` check the pickle on its own, not as part of the row
-            asked = (data, guard._listed_for(data), guard._limits, guard._old_strings)
-            verdict._asked = asked
+            verdict._asked = (data, guard._listed_for(data), guard._settings)
         guard._refuse(verdict, data)
         while self._read_on():  # not enforced: everything is loaded
             pass

@@ -1,4 +1,5 @@
-/* Memory for the archive that can be refused and is counted. Linked with --wrap=malloc,--wrap=realloc,--wrap=free. */
+/* Memory for the archive that can be refused and is counted. Linked with
+   --wrap=malloc,--wrap=realloc,--wrap=free. */
 #include <stddef.h>
 
 void *__real_malloc(size_t size);
@@ -20,8 +21,8 @@ __attribute__((visibility("default"))) void grant(long count) {
         blocks = 0;
 }
 
-/* How many blocks are held that were not at the last `grant` of a number; -1 where there are none and all that was
-   granted is used up. */
+/* How many blocks are held that were not at the last `grant` of a number; -1 where there are none
+   and all that was granted is used up. */
 __attribute__((visibility("default"))) long are_left(void) {
     return blocks == 0 && granted == 0 ? -1 : blocks;
 }

@@ -4,15 +4,17 @@ and its memory.
 
 import os
 import re
+import struct
 import subprocess
 import sys
 import tempfile
 import unittest
 from pathlib import Path
 
-from common import ARCHIVE, COMPILER, GUARD, PACKAGE, PYTHON, ROOT, python
-from storklocker import Reason, __version__, _storklocker
+from common import ARCHIVE, BY_PAIRS, COMPILER, GUARD, PACKAGE, PYTHON, ROOT, python
+from storklocker import Limits, Reason, __version__, _storklocker
 from storklocker._answers import LIST_FAULTS
+from storklocker._limits import packed
 
 REASONS = (
     "Source Truncated UnknownOpcode BadArgument TooLarge ExtensionCode UnsupportedProtocol "
@@ -94,6 +96,17 @@ class Numbers(unittest.TestCase):
         ):
             self.assertEqual(fields_of_crate(file, name), fields_of_header(header))
 
+    def test_settings_are_packed_as_the_header_has_them(self):
+        fields = fields_of_header("storklocker_settings")
+        letters = {"u64": "Q", "u32": "I"}
+        shape = "@" + "".join(letters[bits] for _, bits in fields)
+        limits = Limits(counted=1, stack=2, memo=3, passed=4, numbers=5, large=True)
+        given = struct.unpack(shape, packed(limits, "bytes", True))
+        wanted = {**limits._asdict(), "size": struct.calcsize(shape), "sorted": 1}
+        wanted.update(old_strings=numbers_in("old_strings")["OLD_BYTES"])
+        wanted.update(row_memo=numbers_in("row_memo")["MEMO_KEPT"])
+        self.assertEqual(dict(zip((name for name, _ in fields), given)), wanted)
+
     def test_one_version(self):
         project = (PYTHON / "pyproject.toml").read_text()
         self.assertIn(f'version = "{__version__}"', project)
@@ -118,7 +131,23 @@ class Module(unittest.TestCase):
         self.assertNotIn("PyUnstable", said)
 
     def test_it_is_as_short_as_it_was_promised(self):
-        self.assertLessEqual(len((PYTHON / "_storklocker.c").read_text().splitlines()), 300)
+        lines = (PYTHON / "_storklocker.c").read_text().splitlines()
+        self.assertLessEqual(len(lines), 300)
+        self.assertLessEqual(max(map(len, lines)), 100)
+
+    def test_what_it_does_not_take(self):
+        settings = packed(Limits(), "unknown", False)
+        for given in (b"", settings + b"\0", bytearray(settings), 5):
+            for call in (
+                lambda: _storklocker.verdict(b"N.", BY_PAIRS, given),
+                lambda: _storklocker.imports(b"N.", BY_PAIRS, given, 5),
+                lambda: _storklocker.Pairs((), given),
+            ):
+                with self.subTest(given=given), self.assertRaises(TypeError):
+                    call()
+        for pairs in ([], ("a",), ((b"a",),), (("a", "b"),), ((b"a", b"b"), None)):
+            with self.subTest(pairs=pairs), self.assertRaises((TypeError, SystemError)):
+                _storklocker.Pairs(pairs, settings)
 
     def test_the_same_bytes_in_another_folder(self):
         with tempfile.TemporaryDirectory() as folder:
@@ -193,7 +222,7 @@ class Module(unittest.TestCase):
             "class Guard",
             "class AllowList",
             "class Limits",
-            "check(data, allow, *, limits=None",
+            "check(data: 'bytes', allow: 'AllowList', *, limits: ",
             "loads(",
         ):
             self.assertIn(word, page)

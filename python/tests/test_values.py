@@ -196,6 +196,8 @@ class LimitsOfAll(unittest.TestCase):
                     Limits(**{word: number})
         with self.assertRaises(TypeError):
             Limits(heap=1)
+        with self.assertRaises(ValueError):
+            storklocker.check(b"N.", BY_PAIRS, limits=FEW._replace(memo=-1))
 
     def test_what_is_written(self):
         self.assertEqual(eval(repr(FEW)), FEW)

@@ -8,9 +8,9 @@ import pickletools
 from typing import Any, BinaryIO, Deque, Dict, Iterator, List, Optional
 
 from .._answers import Reason, Verdict
+from .._checking import check
 from .._limits import Limits
 from .._lists import AllowList, imports_in, imports_of, records
-from .._storklocker import check
 from .containers import Finding, Piece, Stream, pieces_of
 from .dangers import dangers_in
 from .report import ACCEPTED, NO_PICKLE, REFUSED, UNREADABLE, UNVOUCHED, Listed, Pair, Report
