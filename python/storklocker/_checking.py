@@ -1,4 +1,4 @@
-"""The check of bytes in memory, of which nothing is loaded."""
+"""Checks of bytes in memory. They load nothing."""
 
 from __future__ import annotations
 
@@ -21,12 +21,12 @@ def check(
     limits: Optional[Limits] = None,
     old_strings: str = "unknown",
 ) -> Verdict:
-    """Checks the pickle at the front of `data`, a bytes object, without running it: a Verdict.
+    """Checks the pickle at the front of `data`, a bytes object, without running it.
 
-    What stands behind its STOP isn't looked at. Without `limits` those of the list hold, or
-    STANDARD; beside those of a list file the smaller of the two. `old_strings` is what the strings
-    of Python 2 become: "ascii" texts, where a byte above 7f is refused; "bytes" bytes; "unknown"
-    any object. Raises MemoryError.
+    Returns a Verdict; ignores bytes after STOP. `limits` defaults to the list's, or STANDARD; both
+    apply if the list is from a file. `old_strings` says how Python 2 strings are decoded: "ascii"
+    to text (a byte above 7f is refused), "bytes" to bytes, "unknown" to anything. Raises
+    MemoryError.
     """
     if limits is None and old_strings == "unknown":
         return verdict(data, allow, None)
@@ -41,10 +41,10 @@ def check_row(
     limits: Optional[Limits] = None,
     old_strings: str = "unknown",
 ) -> RowVerdict:
-    """Checks pickles that stand one after the other, up to the end of `data`: a RowVerdict.
+    """Checks pickles that follow one another up to the end of `data`. Returns a RowVerdict.
 
-    `pickles` are accepted; at a no, `at` counts from the first byte. With `one_unpickler` one
-    Unpickler reads them all, and its memo stays from pickle to pickle.
+    Its `pickles` counts the accepted ones, and `at` counts from the first byte. `one_unpickler`
+    means that one Unpickler loads them all and keeps its memo.
     """
     settings = settings_of(allow, limits, old_strings, bool(one_unpickler))
     return row_verdict(data, allow, settings)

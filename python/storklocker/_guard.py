@@ -306,14 +306,16 @@ class Guard:
             )
         return (held, "strict")
 
-    def _told(self, verdict: Verdict, data: bytes) -> Refused:
-        """Reports a refusal to `on_refusal`, and returns its exception."""
+    def _told(self, verdict: Verdict, data: bytes, length: int = 0) -> Refused:
+        """Reports a refusal to `on_refusal`, and returns its exception. `length` is the number of
+        bytes of the input if `data` is only its front.
+        """
         if self._on_refusal is not None:
             from ._refusal import Refusal, context_now
 
             self._on_refusal(Refusal(verdict, data, context_now(), self._enforce))
         if verdict.accepted:
-            return MoreBytes(verdict, len(data))
+            return MoreBytes(verdict, length or len(data))
         return Refused(verdict, _hint(verdict.pair, self._allow, self._fix_imports))
 
     def _refuse(self, verdict: Verdict, data: bytes) -> None:
@@ -334,10 +336,10 @@ class Guard:
         """
         view = memoryview(data)
         if view.nbytes > 2 * _FRONT and view.c_contiguous:
-            front = bytes(view.cast("B")[:_FRONT])
+            front = bytes(pickle.PickleBuffer(data).raw()[:_FRONT])
             verdict = self.check(front)
-            if not verdict and verdict.reason is not Reason.Truncated and self._enforce:
-                self._refuse(verdict, front)
+            if verdict.reason is not Reason.Truncated and self._enforce:
+                raise self._told(verdict, front, view.nbytes)
         return bytes(view)
 
     def _loads_old(

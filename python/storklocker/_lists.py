@@ -227,9 +227,9 @@ def settings_of(
 ) -> bytes:
     """The settings of a check, as the library takes them: within the limits of the list too."""
     if not isinstance(allow, AllowList):
-        raise TypeError(f"allow is a storklocker.AllowList, not {type(allow)!r}")
+        raise TypeError(f"allow must be a storklocker.AllowList, not {type(allow)!r}")
     if limits is not None and not isinstance(limits, Limits):
-        raise TypeError(f"limits is a storklocker.Limits or None, not {type(limits)!r}")
+        raise TypeError(f"limits must be a storklocker.Limits or None, not {type(limits)!r}")
     if old_strings not in OLD_STRINGS:
         raise ValueError(f"old_strings is 'unknown', 'ascii' or 'bytes', not {old_strings!r}")
     return packed(_within(limits, allow._limits) or STANDARD, old_strings, keeps_memo)

@@ -1,9 +1,11 @@
 """A guard stands where the module `pickle` stands, and loads nothing that wasn't accepted."""
 
+import array
 import asyncio
 import bz2
 import collections
 import contextlib
+import ctypes
 import gzip
 import io
 import lzma
@@ -186,6 +188,31 @@ class Loads(unittest.TestCase):
         words = memoryview(pickle.dumps("abc", 2)).tolist()
         every_other = memoryview(bytes(it for pair in zip(words, words) for it in pair))[::2]
         self.assertEqual(GUARD.loads(every_other), "abc")
+
+    def test_buffers_of_every_format(self):
+        data = pickle.dumps("a" * 20_000, 4)
+        data += bytes(8 - len(data) % 8)
+        for given in (
+            (ctypes.c_ubyte * len(data)).from_buffer_copy(data),
+            (ctypes.c_uint64 * (len(data) // 8)).from_buffer_copy(data),
+            array.array("Q", data),
+            memoryview(data).cast("B", (len(data) // 8, 8)),
+        ):
+            with self.subTest(given=type(given)):
+                with self.assertRaises(storklocker.MoreBytes) as raised:
+                    GUARD.loads(given)
+                self.assertEqual(raised.exception.length, len(data))
+                self.assertEqual(Guard(BY_PAIRS, enforce=False).loads(given), "a" * 20_000)
+
+    def test_what_is_refused_by_its_front_is_not_copied(self):
+        told = []
+        guard = Guard(BY_PAIRS, on_refusal=told.append)
+        for front, error in ((HOSTILE, Refused), (b"N.", storklocker.MoreBytes)):
+            given = bytearray(front + bytes(1 << 20))
+            with self.subTest(front=front), self.assertRaises(error) as raised:
+                guard.loads(given)
+            self.assertLess(told.pop().size, 1 << 16)
+        self.assertEqual((raised.exception.taken, raised.exception.length), (2, 2 + (1 << 20)))
 
     def test_old_strings(self):
         guard = Guard(BY_PAIRS, old_strings="bytes")
