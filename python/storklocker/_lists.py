@@ -231,7 +231,7 @@ def settings_of(
     if limits is not None and not isinstance(limits, Limits):
         raise TypeError(f"limits must be a storklocker.Limits or None, not {type(limits)!r}")
     if old_strings not in OLD_STRINGS:
-        raise ValueError(f"old_strings is 'unknown', 'ascii' or 'bytes', not {old_strings!r}")
+        raise ValueError(f"old_strings must be 'unknown', 'ascii' or 'bytes', not {old_strings!r}")
     return packed(_within(limits, allow._limits) or STANDARD, old_strings, keeps_memo)
 
 

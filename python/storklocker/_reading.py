@@ -3,6 +3,7 @@
 from __future__ import annotations
 
 import functools
+import io
 from typing import Any, Callable, Dict, List
 
 FIRST_BLOCK = 4096
@@ -53,6 +54,7 @@ class Walk:
 
     def __init__(self, file: Any, is_refused: Callable[[bytes], bool]) -> None:
         self._read, self._readline = file.read, file.readline
+        self._gives_pieces = isinstance(file, io.IOBase)  # (others may take no length of a line)
         self._is_refused = is_refused
         self._taken: List[bytes] = []
         self._length = 0
@@ -111,7 +113,12 @@ class Walk:
         return True
 
     def _line(self) -> bool:
-        line = self._readline()
-        if not isinstance(line, bytes):
-            raise TypeError(f"the file must be open in binary mode: it returned {type(line)!r}")
-        return self._keep(line).endswith(b"\n")
+        """Reads a line, in pieces if the file allows it, so that an endless one is refused early."""
+        while True:
+            line = self._readline(_PIECE) if self._gives_pieces else self._readline()
+            if not isinstance(line, bytes):
+                raise TypeError(f"the file must be open in binary mode: it returned {type(line)!r}")
+            if self._keep(line).endswith(b"\n"):
+                return True
+            if len(line) < _PIECE or not self._gives_pieces or self._is_hopeless(self._length + 1):
+                return False

@@ -292,6 +292,26 @@ class Files(unittest.TestCase):
                 NOTHING.load(file)
             self.assertLess(file.inner.tell(), 1 << 18)
 
+    def test_a_line_without_an_end(self):
+        for front in (b"I", b"V", b"P", b"cposix\n"):
+            inner = Piped(front + b"1" * (1 << 20), 1 << 14)
+            for file in (inner, io.BufferedReader(inner)):
+                inner.inner.seek(0)
+                with self.subTest(front=front, file=file), self.assertRaises(Refused):
+                    NOTHING.load(file)
+                self.assertLess(inner.inner.tell(), 1 << 18)
+        with gzip.GzipFile(fileobj=io.BytesIO(gzip.compress(b"V" + bytes(1 << 24)))) as file:
+            with self.assertRaises(Refused) as raised:
+                NOTHING.load(file)
+            self.assertIs(raised.exception.reason, Reason.TooLarge)
+        line = b"V" + b"a" * 65_536 + b"\n."
+        self.assertEqual(NOTHING.load(Piped(line, 100)), "a" * 65_536)
+        told = []
+        line = b"V" + b"a" * 200_000 + b"\n."
+        guard = Guard(AllowList([]), on_refusal=told.append, enforce=False)
+        self.assertEqual(guard.load(Piped(line, 1 << 14)), "a" * 200_000)
+        self.assertEqual([it.verdict.reason for it in told], [Reason.TooLarge])
+
     def test_a_pickle_in_front_of_much(self):
         with tempfile.TemporaryFile() as file:
             file.write(pickle.dumps([1, 2]))
