@@ -78,7 +78,7 @@ class AllowList(_Pairs):
     @classmethod
     def from_file(cls, file: Union[str, "os.PathLike[str]"]) -> "AllowList":
         """Reads a list file. Raises ListFault if it is not one, and OSError if reading fails."""
-        with open(file, "rb") as opened:
+        with open(os.fspath(file), "rb") as opened:
             return cls.from_text(opened.read())
 
     @property
@@ -188,7 +188,7 @@ def _pairs_in(given: Any) -> Iterator[Any]:
             yield (f"item {place}", pair)
         return
     for module, names in given.items():
-        if isinstance(names, (str, bytes)):
+        if isinstance(names, (str, bytes)) or not hasattr(names, "__iter__"):
             raise TypeError(
                 f"the names of module {module!r} must be a list of strings, not {names!r:.80}"
             )

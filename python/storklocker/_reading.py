@@ -54,7 +54,7 @@ class Walk:
 
     def __init__(self, file: Any, is_refused: Callable[[bytes], bool]) -> None:
         self._read, self._readline = file.read, file.readline
-        self._gives_pieces = isinstance(file, io.IOBase)  # (others may take no length of a line)
+        self._gives_pieces = isinstance(file, io.IOBase)  # other readers may not accept a length
         self._is_refused = is_refused
         self._taken: List[bytes] = []
         self._length = 0
@@ -113,7 +113,7 @@ class Walk:
         return True
 
     def _line(self) -> bool:
-        """Reads a line, in pieces if the file allows it, so that an endless one is refused early."""
+        """Reads a line, in pieces if possible, so that an endless one is refused early."""
         while True:
             line = self._readline(_PIECE) if self._gives_pieces else self._readline()
             if not isinstance(line, bytes):

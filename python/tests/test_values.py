@@ -3,6 +3,7 @@ processes.
 """
 
 import copy
+import io
 import multiprocessing
 import pickle
 import threading
@@ -91,6 +92,7 @@ class Lists(unittest.TestCase):
             (None, "None"),
             (5, "5"),
             ({"a": "b"}, "module 'a'"),
+            ({"a": None}, "module 'a'"),
             ({"a": [1]}, "module 'a'"),
             ({1: ["a"]}, "module 1"),
             (LISTED[0], "item 0 "),
@@ -106,6 +108,9 @@ class Lists(unittest.TestCase):
                 AllowList.from_text(given)
         with self.assertRaises(OSError):
             AllowList.from_file("no such file")
+        for given in (None, 0, [], io.BytesIO()):
+            with self.subTest(given=given), self.assertRaises(TypeError):
+                AllowList.from_file(given)
 
     def test_what_is_written_of_a_list(self):
         self.assertEqual(repr(AllowList([("a", "b")])), "AllowList([('a', 'b')])")
