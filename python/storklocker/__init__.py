@@ -34,7 +34,7 @@ from ._storklocker import version as __version__
 
 TYPE_CHECKING = False
 if TYPE_CHECKING:
-    from typing import Any
+    from typing import Any, List
 
     from ._refusal import Refusal, context
 
@@ -68,3 +68,8 @@ def __getattr__(name: str) -> Any:
     from . import _refusal
 
     return getattr(_refusal, name)
+
+
+def __dir__() -> List[str]:
+    """What `help` shows."""
+    return sorted({*globals(), *__all__})

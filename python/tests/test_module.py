@@ -222,6 +222,8 @@ class Module(unittest.TestCase):
             "class Guard",
             "class AllowList",
             "class Limits",
+            "class Refusal",
+            "context(value",
             "check(data: 'bytes', allow: 'AllowList', *, limits: ",
             "loads(",
         ):
