@@ -3,6 +3,8 @@
 from __future__ import annotations
 
 import argparse
+import contextlib
+import io
 import os
 import sys
 from typing import Iterable, Iterator, Optional, Sequence, Tuple
@@ -13,8 +15,8 @@ from .._lists import AllowList
 from . import formats, html
 from .dangers import dangers_in
 from .learning import Learned, quoted
-from .report import REFUSED, UNREADABLE, Report, shown
-from .scan import scan
+from .report import NO_PICKLE, REFUSED, UNREADABLE, Report, shown
+from .scan import Files, scan
 
 YES, NO, FAULT = 0, 1, 2
 
@@ -32,6 +34,10 @@ _LIST = "the list file of permitted names"
 def main(words: Optional[Sequence[str]] = None) -> int:
     """Runs the command with these arguments, and returns its status."""
     asked = _parser().parse_args(words)
+    if isinstance(sys.stdout, io.TextIOWrapper):
+        # (reports and lists are UTF-8 wherever they are written; a terminal has what it has)
+        encoding = None if sys.stdout.isatty() else "utf-8"
+        sys.stdout.reconfigure(encoding=encoding, errors="backslashreplace")
     try:
         status: int = asked.run(asked)
         sys.stdout.flush()
@@ -41,7 +47,7 @@ def main(words: Optional[Sequence[str]] = None) -> int:
         return FAULT
     except KeyboardInterrupt:
         return 130
-    except (ListFault, OSError, UnicodeDecodeError) as error:
+    except OSError as error:
         print(f"storklocker: {shown(str(error))}", file=sys.stderr)
         return FAULT
 
@@ -108,35 +114,47 @@ def _add_lint(commands: "argparse._SubParsersAction[argparse.ArgumentParser]") -
 
 
 def _jobs(word: str) -> int:
-    count = int(word)
-    if not 1 <= count <= 256:
+    if not word.isdecimal() or not 1 <= int(word[:4]) <= 256:
         raise argparse.ArgumentTypeError("expected a number from 1 to 256")
-    return count
+    return int(word)
+
+
+def _list_of(path: str) -> AllowList:
+    try:
+        return AllowList.from_file(path)
+    except (ListFault, UnicodeDecodeError) as error:
+        raise OSError(f"{path} is no list file: {error}") from None
+
+
+@contextlib.contextmanager
+def _files_of(asked: argparse.Namespace) -> Iterator[Files]:
+    """The files that are asked for; at the end it says which folders were left out."""
+    files = Files(asked.paths, getattr(asked, "recursive", False))
+    yield files
+    if files.left_out:
+        count = f"{files.left_out} folder{'s' * (files.left_out > 1)}"
+        print(f"storklocker: {count} left out: scan descends with --recursive", file=sys.stderr)
 
 
 def _scan(asked: argparse.Namespace) -> int:
-    allow = None if asked.allow is None else AllowList.from_file(asked.allow)
+    allow = None if asked.allow is None else _list_of(asked.allow)
     told = _Told(asked.fail_on)
-    reports = told.heard(
-        scan(
-            asked.paths,
-            allow,
-            recursive=asked.recursive,
-            jobs=asked.jobs,
-            progress=sys.stderr,
-        )
-    )
-    if asked.format == "table":
+    with _files_of(asked) as files:
+        _print_reports(asked.format, told.heard(scan(files, allow, asked.jobs, sys.stderr)))
+    return told.status()
+
+
+def _print_reports(form: str, reports: Iterator[Report]) -> None:
+    if form == "table":
         lines = formats.table(reports)
-    elif asked.format == "json":
+    elif form == "json":
         lines = formats.as_json(reports)
-    elif asked.format == "sarif":
+    elif form == "sarif":
         lines = formats.as_sarif(reports, __version__)
     else:
         lines = html.page(reports, __version__)
     for line in lines:
         print(line)
-    return told.status()
 
 
 class _Told:
@@ -162,29 +180,36 @@ class _Told:
 
 
 def _check(asked: argparse.Namespace) -> int:
-    told = _Told("refused")
-    several = len(asked.paths) > 1
-    for report in told.heard(scan(asked.paths, AllowList.from_file(asked.allow))):
-        front = f"{shown(report.path)}: " if several or "!" in report.path else ""
-        print(front + (shown(report.why, 1000) or report.status))
-    return told.status()
+    told, allow, status = _Told("refused"), _list_of(asked.allow), YES
+    for path in asked.paths:
+        is_pickle = False
+        with _files_of(argparse.Namespace(paths=[path])) as files:
+            for report in told.heard(scan(files, allow)):
+                is_named = len(asked.paths) > 1 or report.path != report.file
+                front = f"{shown(report.path)}: " if is_named else ""
+                print(front + (shown(report.why, 1000) or report.status))
+                is_pickle |= report.status != NO_PICKLE
+        status = status if is_pickle else NO
+    return told.status() or status
 
 
 def _imports(asked: argparse.Namespace) -> int:
     told = _Told("refused")
-    for report in told.heard(scan(asked.paths, None)):
-        for module, name in report.imports:
-            if module is None or name is None:
-                print("unknown")
-            else:
-                print(quoted(module), quoted(name))
-        print(f"{shown(report.path)}: {shown(report.why, 1000) or report.status}")
+    with _files_of(asked) as files:
+        for report in told.heard(scan(files, None)):
+            for module, name in report.imports:
+                if module is None or name is None:
+                    print("unknown")
+                else:
+                    print(quoted(module), quoted(name))
+            print(f"{shown(report.path)}: {shown(report.why, 1000) or report.status}")
     return told.status()
 
 
 def _learn(asked: argparse.Namespace) -> int:
     learned = Learned()
-    learned.add(scan(asked.paths, None, recursive=asked.recursive, progress=sys.stderr))
+    with _files_of(asked) as files:
+        learned.add(scan(files, None, progress=sys.stderr))
     for line in learned.lines():
         print(line)
     for report in learned.left_out:
@@ -195,7 +220,7 @@ def _learn(asked: argparse.Namespace) -> int:
 
 
 def _lint(asked: argparse.Namespace) -> int:
-    lines = list(_lint_lines(AllowList.from_file(asked.list)))
+    lines = list(_lint_lines(_list_of(asked.list)))
     for line in lines:
         print(line)
     return NO if len(lines) > 1 else YES

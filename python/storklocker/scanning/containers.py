@@ -8,11 +8,11 @@ import contextlib
 import gzip
 import io
 import lzma
-import struct
+import re
 import tarfile
 import zipfile
 import zlib
-from typing import Any, BinaryIO, Callable, Dict, Iterator, NamedTuple, Optional, Union
+from typing import Any, BinaryIO, Callable, Dict, Generator, NamedTuple, Optional, Union
 
 DEPTH = 4
 """The most containers inside one another."""
@@ -28,6 +28,7 @@ the content.
 
 _FRONT = 1 << 16
 _TAR_MAGIC = slice(257, 262)
+_ZIP_END = b"PK\x05\x06"
 
 
 class Piece(NamedTuple):
@@ -99,12 +100,31 @@ class Stream:
         return data
 
 
-Found = Iterator[Union[Piece, Finding]]
+Found = Generator[Union[Piece, Finding], None, None]
 
 
 def pieces_of(path: str, file: BinaryIO) -> Found:
-    """The pieces in a file, with containers opened."""
-    yield from _opened(path, "", Stream(file), file, Budget(), DEPTH)
+    """The pieces in a file, with containers opened. An exception thrown in at a piece becomes a
+    finding about the container around it.
+    """
+    stream, budget = Stream(file), Budget()
+    front, seekable = stream.front(), file if file.seekable() else None
+    yield from _opened(path, "", stream, seekable, budget, DEPTH)
+    if seekable and (len(front) == _FRONT or _ZIP_END in front):
+        if _kind_of(front) not in ("zip", "tar") and zipfile.is_zipfile(seekable):
+            yield from _behind(path, seekable, budget)
+
+
+def _behind(path: str, file: BinaryIO, budget: Budget) -> Found:
+    """The members of a zip file that has something else in front of it."""
+    try:
+        archive = zipfile.ZipFile(file)
+    except Exception:
+        return  # some other file that contains the signature of a zip file's end
+    try:
+        yield from _members_of(path, archive, budget, DEPTH - 1)
+    except TooMuch as error:
+        yield Finding(path, "zip", str(error))
 
 
 def _opened(
@@ -113,6 +133,8 @@ def _opened(
     kind = _kind_of(stream.front())
     if kind is None:
         yield Piece(path, around or "pickle", stream)
+    elif kind not in _OPENERS:
+        yield Finding(path, kind, "it is packed in a way that is not unpacked here")
     elif depth == 0:
         yield Finding(path, kind, f"containers are more than {DEPTH} deep in one another")
     else:
@@ -120,21 +142,14 @@ def _opened(
             yield from _OPENERS[kind](path, stream, seekable, budget, depth - 1)
         except TooMuch as error:
             yield Finding(path, kind, str(error))
-        except _BROKEN as error:
+        except Exception as error:  # (whatever a reader of the library raises)
             yield Finding(path, kind, f"it is broken: {type(error).__name__}: {error}")
 
 
-_BROKEN = (
-    OSError, EOFError, ValueError, RuntimeError, NotImplementedError, struct.error, SyntaxError,
-    zipfile.BadZipFile, tarfile.TarError, lzma.LZMAError, zlib.error, MemoryError, RecursionError,
-)
-
-
 def _kind_of(front: bytes) -> Optional[str]:
-    for kind, magic in _MAGIC.items():
-        if front.startswith(magic):
-            return kind
-    if front[_TAR_MAGIC] == b"ustar":
+    if front.startswith(_MAGICS):
+        return next(kind for kind, magic in _MAGIC.items() if front.startswith(magic))
+    if front[_TAR_MAGIC] == b"ustar" or _is_old_tar(front):
         return "tar"
     if front[:1] == b"x" and len(front) > 2 and int.from_bytes(front[:2], "big") % 31 == 0:
         return "zlib"
@@ -147,7 +162,27 @@ _MAGIC = {
     "bzip2": b"BZh",
     "xz": b"\xfd7zXZ\x00",
     "npy": b"\x93NUMPY",
+    "lzma": b"]\0\0",
+    "7z": b"7z\xbc\xaf\x27\x1c",
+    "rar": b"Rar!\x1a\x07",
+    "zstd": b"\x28\xb5\x2f\xfd",
+    "lz4": b"\x04\x22\x4d\x18",
 }
+_MAGICS = tuple(_MAGIC.values())
+
+
+def _is_old_tar(front: bytes) -> bool:
+    """Whether it begins with the header of a tar file from before POSIX, which has no magic."""
+    if len(front) < 512 or not _OCTAL.fullmatch(front[_CHECKSUM]):
+        return False
+    try:
+        return bool(tarfile.TarInfo.frombuf(front[:512], "utf-8", "surrogateescape").name)
+    except tarfile.HeaderError:
+        return False
+
+
+_CHECKSUM = slice(148, 156)
+_OCTAL = re.compile(rb" *[0-7]+[ \0]*")
 
 
 def _inside(path: str, name: str) -> str:
@@ -161,18 +196,22 @@ def _open_zip(
         seekable = io.BytesIO(stream.read())
     seekable.seek(0)
     with zipfile.ZipFile(seekable) as archive:
-        entries = archive.infolist()
-        yield from _twice(path, entries)
-        for entry in entries:
-            if entry.is_dir():
-                continue
-            if entry.file_size > max(PROBED, RATIO * entry.compress_size):
-                why = f"it unpacks to {entry.file_size:,} bytes, more than {RATIO} times its size"
-                yield Finding(_inside(path, entry.filename), "zip", why)
-            opener = _zip_opener(archive, entry)
-            yield from _member(path, "zip", entry.filename, budget, depth, opener)
-            if budget.members < 0:
-                return
+        yield from _members_of(path, archive, budget, depth)
+
+
+def _members_of(path: str, archive: zipfile.ZipFile, budget: Budget, depth: int) -> Found:
+    entries = archive.infolist()
+    yield from _twice(path, entries)
+    for entry in entries:
+        if entry.is_dir() and not entry.file_size:
+            continue
+        if entry.file_size > max(PROBED, RATIO * entry.compress_size):
+            why = f"it unpacks to {entry.file_size:,} bytes, more than {RATIO} times its size"
+            yield Finding(_inside(path, entry.filename), "zip", why)
+        opener = _zip_opener(archive, entry)
+        yield from _member(path, "zip", entry.filename, budget, depth, opener)
+        if budget.members < 0:
+            return
 
 
 def _zip_opener(archive: zipfile.ZipFile, entry: zipfile.ZipInfo) -> Callable[[], Any]:
@@ -211,22 +250,36 @@ def _member(
             yield from _opened(inside, f"{kind} member", stream, None, budget, depth)
     except TooMuch:
         raise
-    except _BROKEN as error:
-        yield Finding(inside, kind, f"it can't be read: {error}")
+    except Exception as error:
+        yield Finding(inside, kind, f"cannot read it: {error}")
 
 
 def _open_tar(
     path: str, stream: Stream, seekable: Optional[BinaryIO], budget: Budget, depth: int
 ) -> Found:
     file: Any = stream
-    with tarfile.open(fileobj=file, mode="r|") as archive:
+    with tarfile.open(fileobj=file, mode="r|", tarinfo=_Header, ignore_zeros=True) as archive:
         for entry in archive:
-            if entry.isfile():
+            # (readers take an unknown type for a file)
+            if entry.isreg() or entry.type not in tarfile.SUPPORTED_TYPES:
                 yield from _member(
                     path, "tar", entry.name, budget, depth, lambda: archive.extractfile(entry)
                 )
             if budget.members < 0:
                 return
+
+
+class _Header(tarfile.TarInfo):
+    """A header of a tar file. `tarfile` would end in silence at a broken one."""
+
+    @classmethod
+    def frombuf(cls, buf: Any, encoding: str, errors: str) -> Any:
+        try:
+            return super().frombuf(buf, encoding, errors)
+        except tarfile.HeaderError as error:
+            if not buf.strip(b"\0"):  # (the end)
+                raise
+            raise tarfile.ReadError(f"{error}: the rest was not read") from None
 
 
 def _unpacker(wrap: Callable[[Any], Any], kind: str) -> Callable[..., Found]:
@@ -246,6 +299,19 @@ def _bomb(path: str, kind: str, packed: Stream, unpacked: Stream) -> Found:
         pass
     if unpacked.taken >= PROBED and unpacked.taken > RATIO * packed.taken:
         yield Finding(path, kind, f"it unpacks to more than {RATIO} times its size")
+
+
+def _open_lzma(
+    path: str, stream: Stream, seekable: Optional[BinaryIO], budget: Budget, depth: int
+) -> Found:
+    # (its magic is short: what does not unpack at all is looked at as it is)
+    found = b""
+    with contextlib.suppress(lzma.LZMAError):
+        found = lzma.LZMADecompressor(lzma.FORMAT_ALONE).decompress(stream.front(), 1)
+    if not found:
+        yield Piece(path, "pickle", stream)
+        return
+    yield from _unpacker(lzma.LZMAFile, "lzma")(path, stream, seekable, budget, depth)
 
 
 class _Zlib:
@@ -287,8 +353,11 @@ def _open_npy(
     length = int.from_bytes(stream.read(width), "little")
     if length > _FRONT:
         raise ValueError("its header is too long")
-    header: Dict[str, Any] = ast.literal_eval(stream.read(length).decode("latin-1"))
-    if _has_objects(header["descr"]):
+    try:
+        kind = ast.literal_eval(stream.read(length).decode("latin-1"))["descr"]
+    except Exception as error:
+        raise ValueError(f"its header can't be read ({type(error).__name__})") from None
+    if _has_objects(kind):
         yield Piece(path, "npy", stream)
 
 
@@ -307,6 +376,7 @@ _OPENERS: Dict[str, Callable[..., Found]] = {
     "gzip": _unpacker(lambda stream: gzip.GzipFile(fileobj=stream), "gzip"),
     "bzip2": _unpacker(bz2.BZ2File, "bzip2"),
     "xz": _unpacker(lzma.LZMAFile, "xz"),
+    "lzma": _open_lzma,
     "zlib": _open_zlib,
     "npy": _open_npy,
 }

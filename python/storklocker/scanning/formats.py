@@ -3,9 +3,12 @@
 from __future__ import annotations
 
 import json
-from typing import Any, Dict, Iterable, Iterator, List
+import re
+from typing import Any, Dict, Iterable, Iterator
 
-from .report import ACCEPTED, NO_PICKLE, REFUSED, Report, counts, dotted, shown
+from .report import (
+    NO_PICKLE, REFUSED, UNREADABLE, UNVOUCHED, Pair, Report, dotted, shown
+)
 
 _RULES = {
     "refused": "The pickle is refused",
@@ -16,18 +19,26 @@ _RULES = {
 
 
 def table(reports: Iterable[Report]) -> Iterator[str]:
-    """A line for each file or member that is a pickle or a finding, then a line of totals."""
-    kept: List[Report] = []
+    """Lines for each file or member that is a pickle or a finding, then a line of totals."""
+    found: Dict[str, int] = {}
     for report in reports:
-        kept.append(report._replace(imports=(), listing=()))
-        if report.status != NO_PICKLE:
-            yield f"{report.status:10}  {shown(report.path)}  {report.kind}  {shown(report.why)}"
-            for pair in report.missing:
-                yield f"            off the list: {shown(dotted(pair))}"
-            for danger in report.dangers:
-                yield f"            dangerous: {shown(danger.name)}: {danger.why}"
-    found = ", ".join(f"{count} {status}" for status, count in sorted(counts(kept).items()))
-    yield found or "no files"
+        found[report.status] = found.get(report.status, 0) + 1
+        if report.status == NO_PICKLE:
+            continue
+        yield f"{report.status:10}  {shown(report.path)}  {report.kind}  {shown(report.why)}"
+        missing = set(report.missing)
+        for pair in report.imports:
+            yield f"{_INDENT}{'off the list' if pair in missing else 'imports'}: {_named(pair)}"
+        for danger in report.dangers:
+            yield f"{_INDENT}dangerous: {shown(danger.name)}: {danger.why}"
+    yield ", ".join(f"{count} {status}" for status, count in sorted(found.items())) or "no files"
+
+
+_INDENT = " " * 12
+
+
+def _named(pair: Pair) -> str:
+    return shown(dotted(pair))
 
 
 def as_json(reports: Iterable[Report]) -> Iterator[str]:
@@ -53,7 +64,7 @@ _SCHEMA = "https://json.schemastore.org/sarif-2.1.0.json"
 
 
 def _results(report: Report) -> Iterator[Dict[str, Any]]:
-    if report.status not in (ACCEPTED, NO_PICKLE):
+    if report.status in (REFUSED, UNVOUCHED, UNREADABLE):
         missing = ", ".join(dotted(pair) for pair in report.missing)
         text = f"{report.why}; off the list: {missing}" if missing else report.why
         level = "error" if report.status == REFUSED else "warning"
@@ -63,19 +74,18 @@ def _results(report: Report) -> Iterator[Dict[str, Any]]:
 
 
 def _result(report: Report, rule: str, level: str, text: str) -> Dict[str, Any]:
-    file, _, member = report.path.partition("!")
-    place: Dict[str, Any] = {
-        "physicalLocation": {
-            "artifactLocation": {"uri": _uri(file)},
-            "region": {"byteOffset": report.at, "byteLength": 1},
-        }
-    }
-    if member:
+    file: Dict[str, Any] = {"artifactLocation": {"uri": _uri(report.file)}}
+    place: Dict[str, Any] = {"physicalLocation": file}
+    if report.path != report.file:
+        member = report.path[len(report.file) + 1 :]
         place["logicalLocations"] = [{"fullyQualifiedName": member, "kind": "member"}]
+    elif report.kind in ("pickle", "row of pickles"):  # (else the place is not one of the file)
+        file["region"] = {"byteOffset": report.at, "byteLength": 1}
     return {
         "ruleId": rule,
         "level": level,
-        "message": {"text": shown(text, 1000)},
+        # (brackets would make links)
+        "message": {"text": re.sub(r"([\\\[\]])", r"\\\1", shown(text, 1000))},
         "locations": [place],
     }
 

@@ -11,9 +11,13 @@ from .._answers import Reason, Verdict
 from .._checking import check
 from .._limits import Limits
 from .._lists import AllowList, imports_in, imports_of, records
-from .containers import Finding, Piece, Stream, pieces_of
+from .._checking import check
+from .containers import UNPACKED, Finding, Piece, Stream, pieces_of
 from .dangers import dangers_in
-from .report import ACCEPTED, NO_PICKLE, REFUSED, UNREADABLE, UNVOUCHED, Listed, Pair, Report
+from .reaching import READERS_STOP, reaches
+from .report import (
+    ACCEPTED, NO_PICKLE, REFUSED, UNJUDGED, UNREADABLE, UNVOUCHED, Listed, Pair, Report
+)
 
 AROUND = 10
 """The number of instructions that a listing shows before a refusal, and from there on."""
@@ -29,29 +33,43 @@ _LARGE = Limits(passed=1 << 40)
 
 def reports_of(path: str, file: BinaryIO, allow: Optional[AllowList]) -> Iterator[Report]:
     """The reports on a file: one for each piece that may be a pickle, and one for each finding."""
-    for found in pieces_of(path, file):
+    pieces = pieces_of(path, file)
+    broken: Optional[Exception] = None
+    while True:
+        try:
+            # the container of a piece reports what is wrong with it
+            found = next(pieces) if broken is None else pieces.throw(broken)
+        except StopIteration:
+            return
+        broken = None
         if isinstance(found, Finding):
             yield Report(found.path, found.kind, UNREADABLE, found.why)
+            continue
+        try:
+            row = _row_of(found, allow)
+        except Exception as error:
+            broken = error
         else:
-            yield _judged(found, allow)
+            broken = None if row is None else row.broken
+            yield _judged(found, row, allow)
 
 
-def _judged(piece: Piece, allow: Optional[AllowList]) -> Report:
-    front = piece.stream.front()
-    if piece.kind != "npy" and not _may_be_pickle(front):
-        return Report(piece.path, piece.kind, NO_PICKLE, size=len(front))
-    row = Row(piece.stream, allow)
-    verdict, why = row.refusal, f"yes: {row.taken} bytes, {len(row.imports)} names"
+def _judged(piece: Piece, row: "Optional[Row]", allow: Optional[AllowList]) -> Report:
+    if row is None or not row.is_reached:
+        size = len(piece.stream.front()) if row is None else row.size
+        return Report(piece.path, piece.kind, NO_PICKLE, size=size)
+    verdict, why = row.refusal, f"{row.taken} bytes, {len(row.imports)} names"
     if verdict is not None:
         why = verdict.line(64)
         if row.number:
             why = why.replace("no at", f"no in pickle {row.number} at", 1)
-        elif not _is_claimed(front) and not row.imports:
-            return Report(piece.path, piece.kind, NO_PICKLE, size=row.size)
+    elif allow is not None:
+        why = f"yes: {why}"
+    accepted = UNJUDGED if allow is None else ACCEPTED
     report = Report(
         piece.path,
-        "row of pickles" if row.pickles > 1 else piece.kind,
-        ACCEPTED if verdict is None else REFUSED,
+        _kind_of(piece, row),
+        accepted if verdict is None else REFUSED,
         why,
         row.size,
         row.sha256,
@@ -68,19 +86,21 @@ def _judged(piece: Piece, allow: Optional[AllowList]) -> Report:
     return report
 
 
-def _is_claimed(front: bytes) -> bool:
-    """Whether the first bytes identify a pickle: PROTO with a known protocol."""
-    return len(front) > 1 and front[0] == 0x80 and front[1] <= 5
+def _kind_of(piece: Piece, row: "Row") -> str:
+    if row.pickles < 2:
+        return piece.kind
+    return "row of pickles" if piece.kind == "pickle" else f"{piece.kind}, row of pickles"
 
 
-def _may_be_pickle(front: bytes) -> bool:
-    """Whether these first bytes identify a pickle, or an unpickler would reach an import, STOP or
-    the end of the window.
-    """
-    if _is_claimed(front):
-        return True
-    verdict = check(front, _NOTHING)
-    return verdict.accepted or verdict.reason in _IMPORTING or verdict.reason is Reason.Truncated
+def _row_of(piece: Piece, allow: Optional[AllowList]) -> "Optional[Row]":
+    """The row, if the bytes claim to be a pickle, or a reader may get as far as an import."""
+    front = piece.stream.front()
+    is_claimed = piece.kind == "npy" or len(front) > 1 and front[0] == 0x80 and front[1] <= 5
+    if not is_claimed:
+        reason = check(front, _NOTHING).reason
+        if reason is not Reason.Truncated and reason in READERS_STOP:
+            return None
+    return Row(piece.stream, allow, is_claimed)
 
 
 class Row:
@@ -91,19 +111,22 @@ class Row:
     refusal: the verdict on the first that is refused, with its offset in the stream.
     number: the index of that one, counted from 0.
     pickles, taken: the number of accepted pickles, and their length in bytes.
-    size, sha256: of all bytes that were read.
+    is_reached: whether it claims to be a pickle, or a reader may get to an import or to its end.
+    size, sha256: of all bytes that were read; no SHA-256 if very many follow a refusal.
+    broken: the exception raised while the bytes behind a refusal were read.
     """
 
-    def __init__(self, stream: Stream, allow: Optional[AllowList]) -> None:
+    def __init__(self, stream: Stream, allow: Optional[AllowList], is_claimed: bool) -> None:
         self._stream, self._allow, self._digest = stream, allow, hashlib.sha256()
         self._listed = _NOTHING if allow is None else allow
         self.imports: Dict[Pair, None] = {}
         self.refusal: Optional[Verdict] = None
-        self._is_read = False
+        self._is_read, self.is_reached = False, is_claimed
         self.listing: List[Listed] = []
         self.number = self.pickles = self.taken = self.size = 0
+        self.broken: Optional[Exception] = None
         self._read_all()
-        self.sha256 = self._digest.hexdigest()
+        self.sha256 = self._digest.hexdigest() if self._is_digested() else ""
 
     def _read_all(self) -> None:
         data, at, window = b"", 0, _FIRST
@@ -124,10 +147,27 @@ class Row:
             names = dict.fromkeys(records(room))
             self._judge(piece, found, bool(within) and all(map(self._listed._has, names)))
             if not found:
+                self._reach(found, data[at:])
                 return
             self.imports.update((it, None) for it in imports_in(names))
-            self.pickles += 1
+            self.pickles, self.is_reached = self.pickles + 1, True
             at, self.taken, window = at + found.taken, self.taken + found.taken, _FIRST
+
+    def _reach(self, found: Verdict, data: bytes) -> None:
+        """Looks whether a reader may get further than the checker."""
+        if self.imports or found.reason in _IMPORTING:
+            self.is_reached = True
+        elif not self.is_reached and found.reason not in READERS_STOP:
+            self.is_reached = reaches(data, lambda: self._grown(b"", 1 << 20))
+
+    def _is_digested(self) -> bool:
+        """Reads what stands behind a refusal, if that is worth its while."""
+        try:
+            while not self._is_read and self.is_reached and self.size < UNPACKED:
+                self._grown(b"", 1 << 20)
+        except Exception as error:
+            self.broken = error
+        return self._is_read
 
     def _grown(self, data: bytes, wanted: int) -> bytes:
         count = max(wanted - len(data), _FIRST)

@@ -4,7 +4,7 @@ from __future__ import annotations
 
 from typing import Dict, Iterable, Iterator, List, Tuple
 
-from .report import ACCEPTED, UNVOUCHED, Report, shown
+from .report import ACCEPTED, REFUSED, UNJUDGED, UNREADABLE, UNVOUCHED, Report, shown
 
 _SHOWN = 5
 
@@ -19,13 +19,11 @@ class Learned:
     def add(self, reports: Iterable[Report]) -> None:
         """Adds the imports of files. Leaves out unreadable files and unknown imports."""
         for report in reports:
-            if report.status == ACCEPTED:
+            if report.status in (ACCEPTED, UNJUDGED):
                 for module, name in report.imports:
                     if module is not None and name is not None:
                         self.pairs.setdefault((module, name), []).append(report.path)
-            if report.status not in (ACCEPTED, UNVOUCHED) and report.is_finding:
-                self.left_out.append(report)
-            elif report.status == UNVOUCHED or (None, None) in report.imports:
+            if report.status in (REFUSED, UNREADABLE, UNVOUCHED) or (None, None) in report.imports:
                 self.left_out.append(report)
 
     def lines(self) -> Iterator[str]:

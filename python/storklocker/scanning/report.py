@@ -9,6 +9,7 @@ from .dangers import Danger
 Pair = Tuple[Optional[str], Optional[str]]
 
 ACCEPTED = "accepted"
+UNJUDGED = "unjudged"
 REFUSED = "refused"
 UNVOUCHED = "unvouched"
 UNREADABLE = "unreadable"
@@ -30,7 +31,9 @@ class Report(NamedTuple):
     kind: str
     """The type, from the content, such as `pickle`."""
     status: str
-    """`accepted`, `refused`, `unvouched` (no check can vouch for it), `unreadable`, `no pickle`."""
+    """`accepted`, `refused`, `unjudged` (there is no list), `unvouched` (no check can vouch for
+    it), `unreadable` or `no pickle`.
+    """
     why: str = ""
     """The line of the verdict, or what went wrong."""
     size: int = 0
@@ -49,11 +52,13 @@ class Report(NamedTuple):
     """The instructions around a refusal."""
     at: int = 0
     """The offset of a refusal in the file or member."""
+    file: str = ""
+    """The path of the file, without the member."""
 
     @property
     def is_finding(self) -> bool:
         """Whether somebody should look into it."""
-        return self.status not in (ACCEPTED, NO_PICKLE) or bool(self.dangers)
+        return self.status not in (ACCEPTED, UNJUDGED, NO_PICKLE) or bool(self.dangers)
 
     def as_dict(self) -> Dict[str, Any]:
         """The report for JSON."""

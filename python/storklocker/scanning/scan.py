@@ -3,15 +3,24 @@
 from __future__ import annotations
 
 import concurrent.futures
+import concurrent.futures.process
 import contextlib
+import multiprocessing
+import multiprocessing.connection
 import os
+import signal
+import stat
 import sys
+import threading
 import time
-from typing import Deque, Iterable, Iterator, List, Optional, TextIO
+from typing import (
+    BinaryIO, Callable, ContextManager, Deque, Iterable, Iterator, List, NamedTuple, Optional,
+    TextIO
+)
 
 from .._lists import AllowList
 from .judging import reports_of
-from .report import UNREADABLE, Report
+from .report import NO_PICKLE, UNREADABLE, Report
 
 _FILES, _BYTES = 32, 1 << 18
 """The most files and bytes in the batch of a process. The latter spreads a few large files."""
@@ -20,72 +29,126 @@ _AHEAD = 4
 """
 
 
-def files_in(paths: Iterable[str], recursive: bool) -> Iterator[str]:
-    """The files among the paths, and those in the folders; with `recursive`, in subfolders too."""
-    for path in paths:
-        if path != "-" and os.path.isdir(path):
-            yield from _files_of(path, recursive)
-        else:
-            yield path
+class File(NamedTuple):
+    """A file to scan."""
+
+    path: str
+    is_opened: bool = True
+    """Whether to open it: it is a regular file, or it was named on the command line."""
 
 
-def _files_of(folder: str, recursive: bool) -> Iterator[str]:
+class Files:
+    """The files that are named, and those of folders: all below them where `recursive`.
+
+    left_out: how many folders were met and left out, since it is not `recursive`.
+    """
+
+    def __init__(self, paths: Iterable[str], recursive: bool = False) -> None:
+        self._paths, self._recursive = list(paths), recursive
+        self._roots = [os.path.realpath(path) for path in self._paths if os.path.isdir(path)]
+        self.left_out = 0
+
+    def __iter__(self) -> Iterator[File]:
+        for path in self._paths:
+            if path != "-" and os.path.isdir(path):
+                yield from self._files_of(path)
+            else:
+                yield File(path)
+
+    def _files_of(self, folder: str) -> Iterator[File]:
+        try:
+            with os.scandir(folder) as found:
+                entries = sorted(found, key=lambda entry: entry.name)
+        except OSError:
+            yield File(folder)  # reported as unreadable, like a file
+            return
+        below = []
+        for entry in entries:
+            if _is(entry.is_file):
+                yield File(entry.path)
+            elif not _is(entry.is_dir):
+                yield File(entry.path, False)
+            elif not self._recursive:
+                self.left_out += 1
+            elif not entry.is_symlink():
+                below.append(entry.path)
+            elif not self._has(entry.path):
+                yield File(entry.path, False)
+        for path in below:
+            yield from self._files_of(path)
+
+    def _has(self, link: str) -> bool:
+        """Whether what a link leads to is scanned anyway."""
+        target = os.path.realpath(link)
+        return any(os.path.commonpath((root, target)) == root for root in self._roots)
+
+
+def _is(question: Callable[[], bool]) -> bool:
     try:
-        with os.scandir(folder) as found:
-            entries = sorted(found, key=lambda entry: entry.name)
-    except OSError:
-        yield folder  # reported as unreadable, like a file
-        return
-    for entry in entries:
-        if entry.is_file():
-            yield entry.path
-    for entry in entries:
-        if recursive and entry.is_dir(follow_symlinks=False):
-            yield from _files_of(entry.path, recursive)
+        return question()
+    except OSError:  # a link to itself
+        return False
 
 
-def scan_file(path: str, allow: Optional[AllowList]) -> List[Report]:
+def scan_file(file: File, allow: Optional[AllowList]) -> List[Report]:
     """The reports on a file; `-` is standard input."""
+    name = "standard input" if file.path == "-" else file.path
+    reports: List[Report] = []
     try:
-        if path == "-":
-            return list(reports_of("standard input", sys.stdin.buffer, allow))
-        with open(path, "rb") as file:
-            return list(reports_of(path, file, allow))
-    except OSError as error:
-        return [Report(path, "file", UNREADABLE, error.strerror or str(error))]
+        with _opened(file) as opened:
+            for report in reports_of(name, opened, allow):
+                reports.append(report._replace(file=name))
+        return reports
     except MemoryError:
-        return [Report(path, "file", UNREADABLE, "out of memory")]
+        why = "out of memory"
+    except OSError as error:
+        why = error.strerror or str(error)
+    except Exception as error:  # one file must not stop the scan of the others
+        why = f"cannot read it: {type(error).__name__}: {error}"
+    return [*reports, Report(name, "file", UNREADABLE, why, file=name)]
+
+
+def _opened(file: File) -> ContextManager[BinaryIO]:
+    if file.path == "-":
+        return contextlib.nullcontext(sys.stdin.buffer)
+    if file.is_opened:
+        return open(file.path, "rb")
+    if stat.S_ISDIR(os.stat(file.path).st_mode):
+        raise OSError("a link to a folder, which is not followed")
+    raise OSError("not a regular file")  # a pipe could block forever
 
 
 def scan(
-    paths: Iterable[str],
+    files: Iterable[File],
     allow: Optional[AllowList],
-    *,
-    recursive: bool = False,
     jobs: int = 1,
     progress: Optional[TextIO] = None,
 ) -> Iterator[Report]:
     """Yields the reports on all files, in the order of their names."""
     told = _Progress(progress)
-    files = files_in(paths, recursive)
-    one_by_one = (scan_file(path, allow) for path in files)
-    for reports in one_by_one if jobs == 1 else _side_by_side(allow, files, jobs):
-        told.add(reports)
-        yield from reports
-    told.end()
+    one_by_one = (scan_file(file, allow) for file in files)
+    try:
+        for reports in one_by_one if jobs == 1 else _side_by_side(allow, files, jobs):
+            told.add(reports)
+            yield from reports
+    finally:
+        told.end()
 
 
-def _scan_files(paths: List[str], allow: Optional[AllowList]) -> List[List[Report]]:
-    return [scan_file(path, allow) for path in paths]
+Batch = List[File]
 
 
-def _batches(files: Iterator[str]) -> Iterator[List[str]]:
-    batch: List[str] = []
+def _scan_files(files: Batch, allow: Optional[AllowList]) -> List[List[Report]]:
+    return [scan_file(file, allow) for file in files]
+
+
+def _batches(files: Iterable[File]) -> Iterator[Batch]:
+    batch: Batch = []
     size = 0
-    for path in files:
-        batch.append(path)
+    for file in files:
+        batch.append(file)
         with contextlib.suppress(OSError):
-            size += os.stat(path).st_size
+            size += os.stat(file.path).st_size
         if len(batch) >= _FILES or size >= _BYTES:
             yield batch
             batch, size = [], 0
@@ -94,16 +157,48 @@ def _batches(files: Iterator[str]) -> Iterator[List[str]]:
 
 
 def _side_by_side(
-    allow: Optional[AllowList], files: Iterator[str], jobs: int
+    allow: Optional[AllowList], files: Iterable[File], jobs: int
 ) -> Iterator[List[Report]]:
-    with concurrent.futures.ProcessPoolExecutor(jobs) as pool:
+    with concurrent.futures.ProcessPoolExecutor(jobs, initializer=_begin) as pool:
         waiting: Deque["concurrent.futures.Future[List[List[Report]]]"] = Deque()
-        for batch in _batches(files):
-            waiting.append(pool.submit(_scan_files, batch, allow))
-            if len(waiting) >= _AHEAD * jobs:
-                yield from waiting.popleft().result()
-        for future in waiting:
-            yield from future.result()
+        try:
+            for batch in _batches(files):
+                waiting.append(_submitted(pool, batch, allow))
+                if len(waiting) >= _AHEAD * jobs:
+                    yield from waiting.popleft().result()
+            for future in waiting:
+                yield from future.result()
+        except BaseException as error:
+            for child in multiprocessing.active_children():
+                child.terminate()
+            if isinstance(error, concurrent.futures.process.BrokenProcessPool):
+                why = "one of the processes ended; there may be no memory for so many"
+                raise ChildProcessError(why) from None
+            raise
+
+
+def _submitted(
+    pool: concurrent.futures.Executor, batch: Batch, allow: Optional[AllowList]
+) -> "concurrent.futures.Future[List[List[Report]]]":
+    if all(file.path != "-" for file in batch):
+        return pool.submit(_scan_files, batch, allow)
+    # (other processes have no standard input)
+    done: "concurrent.futures.Future[List[List[Report]]]" = concurrent.futures.Future()
+    done.set_result(_scan_files(batch, allow))
+    return done
+
+
+def _begin() -> None:
+    """Begins a process: the first one alone hears of Ctrl-C, and none outlives it."""
+    signal.signal(signal.SIGINT, signal.SIG_IGN)
+    parent = multiprocessing.parent_process()
+    if parent is not None:
+        threading.Thread(target=_end_with, args=(parent.sentinel,), daemon=True).start()
+
+
+def _end_with(sentinel: int) -> None:
+    multiprocessing.connection.wait([sentinel])
+    os._exit(1)
 
 
 class _Progress:
@@ -111,26 +206,38 @@ class _Progress:
 
     def __init__(self, out: Optional[TextIO]) -> None:
         self._out = out if out is not None and out.isatty() else None
-        self._files = self._bytes = 0
+        self._is_shared = sys.stdout.isatty()
+        self._files = self._bytes = self._width = 0
         self._began = self._told = time.monotonic()
 
     def add(self, reports: List[Report]) -> None:
-        """Counts a file."""
+        """Counts a file. The line makes way for what is printed of it."""
         self._files += 1
         self._bytes += sum(report.size for report in reports)
-        if self._out is not None and time.monotonic() - self._told > 0.2:
+        if self._out is None:
+            return
+        if self._is_shared and any(report.status != NO_PICKLE for report in reports):
+            self._clear()
+        elif time.monotonic() - self._told > 0.2:
             self._told = time.monotonic()
-            self._write("\r")
+            self._write()
 
     def end(self) -> None:
         """Ends the line."""
         if self._out is not None:
-            self._write("\r")
+            self._write()
             self._out.write("\n")
 
-    def _write(self, front: str) -> None:
+    def _clear(self) -> None:
+        if self._out is not None and self._width:
+            self._out.write("\r" + " " * self._width + "\r")
+            self._out.flush()
+            self._width = 0
+
+    def _write(self) -> None:
         if self._out is not None:
             pace = self._files / max(time.monotonic() - self._began, 0.001)
             told = f"{self._files} files, {self._bytes:,} bytes, {pace:.0f} a second "
-            self._out.write(front + told)
+            self._width = max(self._width, len(told))
+            self._out.write("\r" + told)
             self._out.flush()
