@@ -8,7 +8,7 @@ from pathlib import Path
 
 import common
 
-NEEDS = ("celery", "redis", "$redis-server")
+NEEDS = ("celery", "redis", "sqlalchemy", "$redis-server")
 
 
 def publish(app, body):
@@ -64,6 +64,8 @@ def run():
         for number in range(common.HOSTILE):
             hostile_result(celery_app.app, number)
         common.nothing_ran()
+        try_database(folder)
+        common.nothing_ran()
         try_kombu(port)
         common.nothing_ran()
         results.clear()  # (a result asks Redis when it goes)
@@ -79,6 +81,29 @@ def hostile_result(app, number):
     said = common.raises(lambda: result.get(timeout=5), DecodeError)
     assert common.SAID[number % 5] in said, said
     app.backend.remove_pending_result(result)
+
+
+def try_database(folder):
+    """Results in a database, whose columns SQLAlchemy unpickles by itself."""
+    import sqlite3
+
+    import celery
+
+    from storklocker.contrib.kombu import register_database
+
+    register_database(common.guard())
+    path = Path(folder, "results.db")
+    app = celery.Celery("results", backend=f"db+sqlite:///{path}")
+    app.conf.update(result_serializer="pickle", accept_content=["pickle"])
+    for number in range(common.HOSTILE):
+        app.backend.store_result(f"id{number}", common.good(number), "SUCCESS")
+        assert app.AsyncResult(f"id{number}").result == common.good(number)
+        with sqlite3.connect(path) as database:
+            words = (common.hostile(number), f"id{number}")
+            database.execute("UPDATE celery_taskmeta SET result = ? WHERE task_id = ?", words)
+        app.backend._cache.clear()
+        said = common.raises(lambda: app.AsyncResult(f"id{number}").result)
+        assert common.SAID[number % 5] in said, said
 
 
 def try_kombu(port):

@@ -52,7 +52,14 @@ def run():
 
 def try_connection(port):
     """Each side loads what the other sends."""
-    client = connected(port)
+    with connected(port) as client:
+        assert not client.closed and client.readable
+        talk(client)
+    assert client.closed
+
+
+def talk(client):
+    """What is good comes back, and what is hostile is refused."""
     for number in range(common.GOOD):
         client.send(common.good(number))
         assert client.recv() == ("got", common.good(number))

@@ -8,7 +8,9 @@
 
 from __future__ import annotations
 
+import os
 import threading
+import weakref
 from typing import TYPE_CHECKING, Any, Callable, Dict, Optional, Tuple, Type, cast
 
 from ._answers import Refused
@@ -19,11 +21,24 @@ if TYPE_CHECKING:
     from ._unpickler import GuardedUnpickler
 
 
+_all: "weakref.WeakSet[Counts]" = weakref.WeakSet()
+
+
+def _renew_locks() -> None:
+    for counts in list(_all):
+        counts._lock = threading.Lock()
+
+
+if hasattr(os, "register_at_fork"):  # (a thread that isn't in the child may hold a lock)
+    os.register_at_fork(after_in_child=_renew_locks)
+
+
 class Counts:
     """The number of accepted pickles, and of refused ones by reason. Threads may share it."""
 
     def __init__(self) -> None:
         self._lock = threading.Lock()
+        _all.add(self)
         self._accepted = 0
         self._refused: Dict[str, int] = {}
 

@@ -2,7 +2,9 @@
 
 import contextlib
 import io
+import os
 import pickle
+import signal
 import sys
 import unittest
 
@@ -31,6 +33,16 @@ class Metrics(unittest.TestCase):
         self.assertEqual(guard.counts.accepted, 2 * len(ways))  # N)R. is accepted, and raises
         wanted = {"ImportOffList": len(ways), "Truncated": len(ways), "MoreBytes": 1}
         self.assertEqual(guard.counts.refused, wanted)
+
+    def test_a_child_counts_whatever_other_threads_did(self):
+        guard = CountingGuard(BY_PAIRS)
+        with guard.counts._lock:  # as a thread may hold it that the child doesn't have
+            child = os.fork()
+            if not child:
+                signal.alarm(10)
+                guard.loads(b"N.")
+                os._exit(guard.counts.accepted - 1)
+        self.assertEqual(os.waitpid(child, 0)[1], 0)
 
     def test_what_is_no_pickle_is_not_counted(self):
         guard = CountingGuard(BY_PAIRS)

@@ -37,6 +37,19 @@ def register(guard: Guard, app: Optional[Any] = None) -> None:
         app.Task.Strategy = functools.partial(_strategy, guard)
 
 
+def register_database(guard: Guard) -> None:
+    """Puts the guard in front of the columns of Celery's result backend `db+`, which SQLAlchemy
+    pickles by itself.
+    """
+    from celery.backends.database import models
+    from sqlalchemy.types import PickleType
+
+    for model in (models.Task, models.TaskSet):
+        for column in model.__table__.columns:
+            if isinstance(column.type, PickleType):
+                column.type.pickler = Loader(guard)
+
+
 def _strategy(guard: Guard, task: Any, app: Any, consumer: Any, **named: Any) -> Callable[..., Any]:
     """Celery's default strategy for a task, which also rejects messages that the guard refuses."""
     from celery.exceptions import InvalidTaskError

@@ -48,6 +48,23 @@ def register(guard: Guard, name: str) -> None:
     managers.listener_client[name] = (listener, client)  # type: ignore[attr-defined]
 
 
+_Wrapper: Any = getattr(connection, "ConnectionWrapper")
+
+
+class _Connection(_Wrapper):  # type: ignore[misc]
+    """A connection that does what a plain one does, and loads through the guard."""
+
+    def __getattr__(self, name: str) -> Any:
+        if name == "_conn":  # (a copy that isn't made yet)
+            raise AttributeError(name)
+        return getattr(self._conn, name)
+
+    def __enter__(self) -> "_Connection":
+        return self
+
+    def __exit__(self, *raised: object) -> None:
+        self.close()
+
+
 def _guarded(plain: Any, guard: Guard) -> Any:
-    wrapper: Any = getattr(connection, "ConnectionWrapper")
-    return wrapper(plain, guard.dumps, guard.loads)
+    return _Connection(plain, guard.dumps, guard.loads)

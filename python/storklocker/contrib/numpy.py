@@ -50,5 +50,8 @@ def _array_of(data: bytes, guard: Guard) -> Any:
     read = layout.read_array_header_1_0 if version == (1, 0) else layout.read_array_header_2_0
     _, _, kind = read(stream)
     if kind.hasobject:
-        return guard.loads(data[stream.tell() :])
+        array = guard.loads(data[stream.tell() :])
+        if not isinstance(array, numpy.ndarray):
+            raise guard.UnpicklingError(f"the pickle is no array: {type(array).__name__}")
+        return array
     return numpy.load(io.BytesIO(data), allow_pickle=False)

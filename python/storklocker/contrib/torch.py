@@ -12,6 +12,7 @@ because some versions replace the `pickle_module` that they are given.
 from __future__ import annotations
 
 import io
+import pickle
 import zipfile
 from typing import Any, Optional
 
@@ -38,9 +39,12 @@ def check_archive(data: bytes, guard: Guard) -> None:
             members = [name for name in archive.namelist() if _is_pickle(name)]
             if len(members) != 1:
                 raise guard.UnpicklingError(f"{len(members)} members are called data.pkl, not one")
-            refused = guard._refusal_of(archive.read(members[0]))
-    except zipfile.BadZipFile as error:
-        raise guard.UnpicklingError("this is not a checkpoint in zip format") from error
+            pickled = archive.read(members[0])
+    except pickle.UnpicklingError:
+        raise
+    except Exception as error:  # a damaged or encrypted archive may raise anything
+        raise guard.UnpicklingError(f"this is not a checkpoint in zip format: {error}") from error
+    refused = guard._refusal_of(pickled)
     if refused is not None and guard.enforce:
         raise refused
 
