@@ -124,17 +124,24 @@ def try_cache(cache, write, guard):
         assert cache.get(key, "miss") == "miss"
         assert cache.get(key) is None  # it is forgotten
     assert guard.counts.refused == common.refused(), guard.counts.refused
-    cache.set("bad", 1)
-    write("bad", common.hostile(0))
-    try:
-        cache.incr("bad")
-    except ValueError:
-        pass
-    else:
-        raise AssertionError("a hostile entry was counted up")
+    for count in (cache.incr, cache.decr, cache.incr_version, cache.decr_version):
+        cache.set("bad", 1)
+        write("bad", common.hostile(0))
+        try:
+            count("bad")
+        except ValueError:
+            continue
+        raise AssertionError("a hostile entry was counted")
+    for ask in (cache.touch, cache.has_key, cache.__contains__):
+        cache.set("bad", 1)
+        write("bad", common.hostile(0))
+        assert ask("bad") is False and cache.add("bad", 2)  # it is forgotten
     cache.set("count", 1)
-    assert cache.incr("count") == 2 and cache.get("count") == 2
+    assert cache.incr("count") == 2 and cache.decr("count", 2) == 0 and cache.get("count") == 0
+    assert cache.incr_version("count") == 2 and cache.get("count", version=2) == 0
+    assert cache.decr_version("count", version=2) == 1 and cache.get("count") == 0
     assert cache.touch("good1") and cache.get("good1") == common.good(1)
+    assert cache.touch("good1", 99, 1) and not cache.touch("good1", 99, 2) and "good1" in cache
 
 
 def expiry_is_guarded(cache):

@@ -24,6 +24,7 @@ from ._rebinding import rebound
 
 
 _REFUSED = (pickle.UnpicklingError, zlib.error)
+_ABSENT = object()
 
 
 def LocMemCache(location: str, params: Dict[str, Any]) -> Any:
@@ -116,14 +117,29 @@ class _Missing:
     def get(self, key: Any, default: Any = None, version: Any = None, **more: Any) -> Any:
         return self._or(default, "get", key, default, version=version, **more)
 
-    def touch(self, key: Any, *given: Any, **named: Any) -> Any:
-        return self._or(False, "touch", key, *given, **named)
+    def has_key(self, key: Any, version: Any = None, **more: Any) -> bool:
+        return self.get(key, _ABSENT, version, **more) is not _ABSENT
 
-    def has_key(self, key: Any, *given: Any, **named: Any) -> Any:
-        return self._or(False, "has_key", key, *given, **named)
+    def touch(self, key: Any, *given: Any, **named: Any) -> bool:
+        # (some backends don't load what they touch)
+        version = given[1] if len(given) > 1 else named.get("version")
+        plain: Any = getattr(super(), "touch")
+        return self.has_key(key, version) and bool(plain(key, *given, **named))
 
     def incr(self, key: Any, delta: int = 1, version: Any = None, **more: Any) -> Any:
-        value = self._or(None, "incr", key, delta, version=version, **more)
+        return self._counted("incr", key, delta, version, more)
+
+    def decr(self, key: Any, delta: int = 1, version: Any = None, **more: Any) -> Any:
+        return self.incr(key, -delta, version, **more)
+
+    def incr_version(self, key: Any, delta: int = 1, version: Any = None, **more: Any) -> Any:
+        return self._counted("incr_version", key, delta, version, more)
+
+    def decr_version(self, key: Any, delta: int = 1, version: Any = None, **more: Any) -> Any:
+        return self.incr_version(key, -delta, version, **more)
+
+    def _counted(self, name: str, key: Any, delta: int, version: Any, more: Any) -> Any:
+        value = self._or(None, name, key, delta, version=version, **more)
         if value is None:
             raise ValueError(f"Key {key!r} not found")
         return value
