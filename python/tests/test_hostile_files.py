@@ -17,7 +17,8 @@ import zlib
 
 import test_scanning
 from common import PYTHON
-from test_scanning import BAD, GOOD, npy, tarred, zipped
+from storklocker.scanning import judging
+from test_scanning import BAD, GOOD, LIST, npy, tarred, zipped
 
 LARGE = pickle.dumps([random.Random(1).getrandbits(8 * 300_000).to_bytes(300_000, "little")], 4)
 BEHIND = BAD + bytes(300_000)
@@ -97,6 +98,31 @@ class HostileFiles(unittest.TestCase):
         status, reports = self.scanned("file", packed + packer.flush())
         self.assertEqual(status, 2)
         self.assertIn("unpacks to more", str(reports))
+
+    def test_a_name_of_joblib_excuses_nothing(self):
+        name = b"cjoblib.numpy_pickle\nNumpyArrayWrapper\n0"
+        listed = LIST + 'joblib.numpy_pickle = ["NumpyArrayWrapper"]\n'
+        listed = listed.replace("joblib.numpy_pickle", '"joblib.numpy_pickle"')
+        both = self.put("both.toml", listed.encode())
+        for data, words, status, verdict in (
+            (name + BAD, (), 1, "refused"), (name + b"N.", (), 1, "refused"),
+            (name + BAD[2:], ("--allow", both), 1, "refused"),
+            (name + b"N.", ("--allow", both), 2, "unvouched"),
+        ):
+            found, reports = self.scanned("file", data, *words)
+            self.assertEqual((found, reports[""]["status"]), (status, verdict), data)
+            self.assertEqual(reports[""]["kind"], "joblib")
+
+    def test_a_row_of_very_many(self):
+        kept, judging.PICKLES = judging.PICKLES, 50
+        try:
+            for data, status in ((b"N." * 50, 0), (b"N." * 51, 2), (BAD + b"N." * 50, 1)):
+                for wrap in (bytes, gzip.compress, lambda data: zipped(("a", data), ("b", GOOD))):
+                    found, reports = self.scanned("file", wrap(data))
+                    self.assertEqual(found, status, reports)
+                    self.assertEqual("more than 50 pickles" in str(reports), status > 0)
+        finally:
+            judging.PICKLES = kept
 
     def test_tar_files(self):
         broken = bytearray(tarred(("a", GOOD), ("b", BAD)))

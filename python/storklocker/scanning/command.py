@@ -15,7 +15,7 @@ from .._lists import AllowList
 from . import formats, html
 from .dangers import dangers_in
 from .learning import Learned, quoted
-from .report import NO_PICKLE, REFUSED, UNREADABLE, Report, shown
+from .report import NO_PICKLE, REFUSED, UNREADABLE, UNVOUCHED, Report, shown
 from .scan import Files, scan
 
 YES, NO, FAULT = 0, 1, 2
@@ -23,7 +23,7 @@ YES, NO, FAULT = 0, 1, 2
 _STATUSES = """status:
   0  nothing is refused
   1  something is refused, or dangerous with --fail-on danger
-  2  a file can't be read, or the command line, the list or the output has an error
+  2  a file can't be read or judged, or the command line, the list or the output has an error
 """
 
 
@@ -167,7 +167,7 @@ class _Told:
     def heard(self, reports: Iterable[Report]) -> Iterator[Report]:
         """Passes on the reports, and notes what they say."""
         for report in reports:
-            self._unreadable |= report.status == UNREADABLE
+            self._unreadable |= report.status in (UNREADABLE, UNVOUCHED)
             self._refused |= report.status == REFUSED
             self._refused |= self._fail_on == "danger" and bool(report.dangers)
             yield report

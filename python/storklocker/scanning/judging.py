@@ -22,6 +22,9 @@ from .report import (
 AROUND = 10
 """The number of instructions that a listing shows before a refusal, and from there on."""
 
+PICKLES = 1_000_000
+"""How many pickles of a row are looked at."""
+
 _NOTHING = AllowList(())
 _FIRST = 4096
 """The size of the first window; it grows sixteenfold until it contains the whole pickle."""
@@ -82,7 +85,8 @@ def _judged(piece: Piece, row: "Optional[Row]", allow: Optional[AllowList]) -> R
     )
     if any((pair[0] or "").endswith(_JOBLIB) for pair in row.imports):
         raw = "joblib writes arrays raw between instructions: no check vouches for them"
-        return report._replace(kind="joblib", status=UNVOUCHED, why=f"{raw}; what was read: {why}")
+        status = REFUSED if report.missing else UNVOUCHED
+        return report._replace(kind="joblib", status=status, why=f"{raw}; what was read: {why}")
     return report
 
 
@@ -113,7 +117,7 @@ class Row:
     pickles, taken: the number of accepted pickles, and their length in bytes.
     is_reached: whether it claims to be a pickle, or a reader may get to an import or to its end.
     size, sha256: of all bytes that were read; no SHA-256 if very many follow a refusal.
-    broken: the exception raised while the bytes behind a refusal were read.
+    broken: why the rest was not read: an exception behind a refusal, or too many pickles.
     """
 
     def __init__(self, stream: Stream, allow: Optional[AllowList], is_claimed: bool) -> None:
@@ -135,6 +139,9 @@ class Row:
                 data, at = self._grown(data[at:], window), 0
             piece: bytes = data[at : at + window]
             if not piece and self.pickles:
+                return
+            if self.pickles == PICKLES:
+                self.broken = OSError(f"more than {PICKLES:,} pickles: the rest was not read")
                 return
             within, room = imports_of(piece, self._listed, _LARGE, "unknown")
             found = within
