@@ -252,7 +252,11 @@ class Scanning(unittest.TestCase):
                      "functools.partial", "torch.storage._load_from_bytes", "pickle.loads",
                      "importlib.import_module", "numpy.testing._private.utils.runstring"):
             self.assertIsNotNone(danger_of(*name.rsplit(".", 1)), name)
-        self.assertIsNone(danger_of("collections", "OrderedDict"))
+        for pair in (("random", "_os.system"), ("collections", "abc.sys.modules")):
+            self.assertIsNotNone(danger_of(*pair), pair)
+        for pair in (("collections", "OrderedDict"), ("collections", "OrderedDict.fromkeys")):
+            self.assertIsNone(danger_of(*pair), pair)
+        self.assertIsNone(danger_of("a", "b." * 1_000_000))
 
     def test_usage(self):
         for words in (("scan",), ("scan", "x", "--jobs", "0"), ("fly",), ()):

@@ -155,12 +155,34 @@ def _by_top() -> Dict[str, List[Tuple[str, str, str]]]:
 _ROWS = _by_top()
 
 
-@functools.lru_cache(maxsize=4096)
 def danger_of(module: Optional[str], name: Optional[str]) -> Optional[Danger]:
     """The danger of a name, if it is known."""
     if module is None or name is None:
         return None
+    # (long names are not worth the memory of keeping them)
+    if len(module) + len(name) > _LONG:
+        return _looked_up(module, name)
+    return _kept(module, name)
+
+
+_LONG, _WORDS = 1000, 32
+
+
+def _looked_up(module: str, name: str) -> Optional[Danger]:
     word = f"{module}.{name}"
+    found = _known(module, word)
+    words = name.split(".", _WORDS)
+    for at in range(len(words) - 1):
+        # (a dotted name goes through a module that the first one has imported)
+        inner = ".".join(words[at:]).lstrip("_")
+        found = found or _known(inner, inner)
+    return found and found._replace(name=word)
+
+
+_kept = functools.lru_cache(maxsize=4096)(_looked_up)
+
+
+def _known(module: str, word: str) -> Optional[Danger]:
     for pattern, why, example in _ROWS.get(module.partition(".")[0], ()):
         if fnmatch.fnmatchcase(word, pattern):
             return Danger(word, why, example)
