@@ -143,6 +143,11 @@ class HostileFiles(unittest.TestCase):
             self.assertEqual(self.scanned("file", data)[0], 1)
         for data in (b"PK\x05\x06" + bytes(18), b"text PK\x05\x06" + b"x" * 18, b"]\0\0 text"):
             self.assertEqual(self.scanned("file", data)[0], 0)
+        hidden = zipped(("a", BAD))
+        hidden = hidden[: hidden.index(b"PK\x01\x02")] + zipped(("b", GOOD))
+        status, reports = self.scanned("file", hidden)
+        self.assertEqual(status, 2)
+        self.assertIn("first bytes are of no member", reports[""]["why"])
         archive = zipped(("m/data.pkl", BAD))
         self.assertEqual(told("scan", "-", "--allow", self.list, given=archive)[0], 1)
 

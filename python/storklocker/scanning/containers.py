@@ -196,6 +196,8 @@ def _open_zip(
         seekable = io.BytesIO(stream.read())
     seekable.seek(0)
     with zipfile.ZipFile(seekable) as archive:
+        if min((entry.header_offset for entry in archive.infolist()), default=0) > 0:
+            yield Finding(path, "zip", "its first bytes are of no member: readers differ")
         yield from _members_of(path, archive, budget, depth)
 
 
