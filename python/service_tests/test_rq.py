@@ -42,7 +42,7 @@ def work(kind, count, port, log):
     half = count // 2
     assert [it.result for it in done] == [*range(1, half + 1), *map(common.good, range(half))]
     assert [job.get_status() for job in bad] == ["failed"] * len(bad)
-    for number, job in enumerate(bad[: common.HOSTILE]):
+    for number, job in enumerate(bad[: 2 * common.HOSTILE]):
         job.refresh()
         assert common.SAID[number % 5] in job.exc_info, job.exc_info
 
@@ -52,10 +52,13 @@ def hostile_jobs(queue, connection):
     jobs = [queue.enqueue("jobs.add", 1, 1) for _ in range(common.HOSTILE)]
     for number, job in enumerate(jobs):
         connection.hset(job.key, "data", zlib.compress(common.hostile(number)))
+    described = [queue.enqueue("jobs.add", 1, 1) for _ in range(common.HOSTILE)]
+    for number, job in enumerate(described):
+        connection.hset(job.key, "meta", common.hostile(number))
     named = [
         queue.enqueue("os.system", f"touch {common.MARKS / 'named'}"),
         queue.enqueue("tripwire.Trip"),
         queue.enqueue("jobs.add", 1, 1),
     ]
     connection.hset(named[2].key, "success_callback_name", "tripwire.Trip")
-    return jobs + named
+    return jobs + described + named

@@ -7,7 +7,8 @@
 
 RQ also imports names that a job holds as strings: its function and its callbacks. A check of the
 pickle's imports doesn't see them. So they must be on the guard's list too, and are refused before
-RQ imports anything: `("project.jobs", "resize")` permits the function `project.jobs.resize`.
+RQ imports anything: `("project.jobs", "resize")` permits the function `project.jobs.resize`. A job
+whose metadata is refused fails.
 """
 
 from __future__ import annotations
@@ -54,6 +55,21 @@ def classes(guard: Guard, worker: Optional[Type[Any]] = None) -> Tuple[Type[Any]
     plain: Any = worker or rq.Worker
 
     class GuardedJob(Job):  # type: ignore[misc]
+        _refused: Optional[Exception] = None
+
+        def restore(self, raw_data: Any) -> None:
+            # (RQ's worker would end where it can't read a job's metadata)
+            try:
+                super().restore(raw_data)
+            except pickle.UnpicklingError as error:
+                self._refused = error
+                super().restore({key: raw_data[key] for key in raw_data if key != b"meta"})
+
+        def perform(self) -> Any:
+            if self._refused is not None:
+                raise self._refused
+            return super().perform()
+
         @property
         def success_callback(self) -> Any:
             _judge(guard, self._success_callback_name)
