@@ -40,6 +40,15 @@ def told(*words, given=b"", **named):
     return began.returncode, out.decode("utf-8"), errors.decode("utf-8")
 
 
+def told_from(other, *words):
+    """The same, where standard input is the output of another process."""
+    began = command(*words, stdin=other.stdout)
+    other.stdout.close()
+    out, errors = began.communicate(timeout=60)
+    other.wait()
+    return began.returncode, out.decode("utf-8"), errors.decode("utf-8")
+
+
 def opened_for_writing(pipe):
     """The pipe, once somebody reads from it."""
     for _ in range(400):
@@ -150,6 +159,10 @@ class HostileFiles(unittest.TestCase):
         self.assertIn("first bytes are of no member", reports[""]["why"])
         archive = zipped(("m/data.pkl", BAD))
         self.assertEqual(told("scan", "-", "--allow", self.list, given=archive)[0], 1)
+        endless = subprocess.Popen(["sh", "-c", "printf 'PK\\3\\4'; cat /dev/zero"], stdout=-1)
+        status, out, _ = told_from(endless, "scan", "-")
+        self.assertEqual(status, 2)
+        self.assertIn("comes from a pipe", out)
 
     def test_other_packers(self):
         packed = lzma.compress(BAD, format=lzma.FORMAT_ALONE)

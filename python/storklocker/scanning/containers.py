@@ -193,7 +193,10 @@ def _open_zip(
     path: str, stream: Stream, seekable: Optional[BinaryIO], budget: Budget, depth: int
 ) -> Found:
     if seekable is None:
-        seekable = io.BytesIO(stream.read())
+        held = stream.read(UNPACKED + 1)
+        if len(held) > UNPACKED:
+            raise TooMuch(f"it has more than {UNPACKED:,} bytes, and comes from a pipe")
+        seekable = io.BytesIO(held)
     seekable.seek(0)
     with zipfile.ZipFile(seekable) as archive:
         if min((entry.header_offset for entry in archive.infolist()), default=0) > 0:
