@@ -11,7 +11,6 @@ from .._answers import Reason, Verdict
 from .._checking import check
 from .._limits import Limits
 from .._lists import AllowList, imports_in, imports_of, records
-from .._checking import check
 from .containers import UNPACKED, Finding, Piece, Stream, pieces_of
 from .dangers import dangers_in
 from .reaching import READERS_STOP, reaches
