@@ -148,7 +148,8 @@ class HostileFiles(unittest.TestCase):
             self.assertEqual(self.scanned("file", bytes(data))[0], 1)
 
     def test_zip_files(self):
-        for data in (b"MZ" + bytes(99) + zipped(("a", BAD)), zipped(("a/", BAD))):
+        nameless = zipped(("QQ", GOOD), ("b", BAD)).replace(b"QQ", b"\0\0")
+        for data in (b"MZ" + bytes(99) + zipped(("a", BAD)), zipped(("a/", BAD)), nameless):
             self.assertEqual(self.scanned("file", data)[0], 1)
         for data in (b"PK\x05\x06" + bytes(18), b"text PK\x05\x06" + b"x" * 18, b"]\0\0 text"):
             self.assertEqual(self.scanned("file", data)[0], 0)

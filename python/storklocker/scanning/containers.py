@@ -125,6 +125,8 @@ def _behind(path: str, file: BinaryIO, budget: Budget) -> Found:
         yield from _members_of(path, archive, budget, DEPTH - 1)
     except TooMuch as error:
         yield Finding(path, "zip", str(error))
+    except Exception as error:
+        yield Finding(path, "zip", f"it is broken: {type(error).__name__}: {error}")
 
 
 def _opened(
@@ -208,7 +210,7 @@ def _members_of(path: str, archive: zipfile.ZipFile, budget: Budget, depth: int)
     entries = archive.infolist()
     yield from _twice(path, entries)
     for entry in entries:
-        if entry.is_dir() and not entry.file_size:
+        if entry.filename.endswith("/") and not entry.file_size:
             continue
         if entry.file_size > max(PROBED, RATIO * entry.compress_size):
             why = f"it unpacks to {entry.file_size:,} bytes, more than {RATIO} times its size"
