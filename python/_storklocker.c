@@ -10,7 +10,7 @@
 #define LOCK_KEPT_BELOW 65536 /* checking fewer bytes costs less than releasing the GIL */
 #define ROOM 512              /* names up to this length need no second call */
 
-/* The indexes of `HELD` in storklocker._held. */
+/* The indexes of `HELD` in storklocker._answers. */
 enum { VERDICT, ROW_VERDICT, REASONS };
 
 struct state {
@@ -270,7 +270,7 @@ static PyMethodDef methods[] = {
 
 static int filled(PyObject *module) {
     struct state *state = PyModule_GetState(module);
-    PyObject *package = PyImport_ImportModule("storklocker._held");
+    PyObject *package = PyImport_ImportModule("storklocker._answers");
     state->held = package != NULL ? PyObject_GetAttrString(package, "HELD") : NULL;
     Py_XDECREF(package);
     state->pairs = state->held != NULL ? PyType_FromSpec(&pairs_spec) : NULL;

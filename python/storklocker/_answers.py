@@ -154,6 +154,10 @@ class RowVerdict(Verdict):
         return f"no in pickle {self.pickles} at {self.at}: {self._reason(most)}"
 
 
+HELD = (Verdict, RowVerdict, REASONS)
+"""What the extension module makes answers of, each at the place that `_storklocker.c` names."""
+
+
 class Refused(pickle.UnpicklingError):
     """A pickle was refused, and none of it was loaded.
 
