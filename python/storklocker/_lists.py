@@ -2,7 +2,6 @@
 
 from __future__ import annotations
 
-import bisect
 import os
 from collections.abc import Mapping
 
@@ -104,7 +103,9 @@ class AllowList(_Pairs):
         """
         if names[0] is None:
             return False
-        place = bisect.bisect_left(self._pairs, names)
+        from bisect import bisect_left
+
+        place = bisect_left(self._pairs, names)
         return place < len(self._pairs) and self._pairs[place] == names
 
     def __or__(self, other: object) -> "AllowList":

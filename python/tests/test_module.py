@@ -186,6 +186,7 @@ class Module(unittest.TestCase):
         said = [python(code).split() for _ in range(5)]
         for module in (
             "asyncio",
+            "bisect",
             "contextvars",
             "ctypes",
             "hashlib",
