@@ -7,6 +7,98 @@ ghost use Rattle.pkops.specs.Spelling.{layout_at};
 use crate::layout::Layout;
 use crate::op::{Kind, Op, Row};
 
+/// One cell of a row.
+macro_rules! cell {
+    (code, $code:literal, $name:literal, $kind:ident, $proto:literal) => {
+        $code
+    };
+    (name, $code:literal, $name:literal, $kind:ident, $proto:literal) => {
+        $name
+    };
+    (kind, $code:literal, $name:literal, $kind:ident, $proto:literal) => {
+        Kind::$kind
+    };
+    (proto, $code:literal, $name:literal, $kind:ident, $proto:literal) => {
+        $proto
+    };
+}
+
+/// One column of the table, at an opcode.
+macro_rules! column_of {
+    ($column:ident, $op:ident) => {
+        match $op {
+            Op::Int => cell!($column, 0x49, "INT", DecimalnlShort, 0),
+            Op::BinInt => cell!($column, 0x4a, "BININT", Int4, 1),
+            Op::BinInt1 => cell!($column, 0x4b, "BININT1", Uint1, 1),
+            Op::BinInt2 => cell!($column, 0x4d, "BININT2", Uint2, 1),
+            Op::Long => cell!($column, 0x4c, "LONG", DecimalnlLong, 0),
+            Op::Long1 => cell!($column, 0x8a, "LONG1", Long1, 2),
+            Op::Long4 => cell!($column, 0x8b, "LONG4", Long4, 2),
+            Op::String => cell!($column, 0x53, "STRING", Stringnl, 0),
+            Op::BinString => cell!($column, 0x54, "BINSTRING", String4, 1),
+            Op::ShortBinString => cell!($column, 0x55, "SHORT_BINSTRING", String1, 1),
+            Op::BinBytes => cell!($column, 0x42, "BINBYTES", Bytes4, 3),
+            Op::ShortBinBytes => cell!($column, 0x43, "SHORT_BINBYTES", Bytes1, 3),
+            Op::BinBytes8 => cell!($column, 0x8e, "BINBYTES8", Bytes8, 4),
+            Op::ByteArray8 => cell!($column, 0x96, "BYTEARRAY8", Bytearray8, 5),
+            Op::NextBuffer => cell!($column, 0x97, "NEXT_BUFFER", None, 5),
+            Op::ReadonlyBuffer => cell!($column, 0x98, "READONLY_BUFFER", None, 5),
+            Op::None => cell!($column, 0x4e, "NONE", None, 0),
+            Op::NewTrue => cell!($column, 0x88, "NEWTRUE", None, 2),
+            Op::NewFalse => cell!($column, 0x89, "NEWFALSE", None, 2),
+            Op::Unicode => cell!($column, 0x56, "UNICODE", Unicodestringnl, 0),
+            Op::ShortBinUnicode => cell!($column, 0x8c, "SHORT_BINUNICODE", Unicodestring1, 4),
+            Op::BinUnicode => cell!($column, 0x58, "BINUNICODE", Unicodestring4, 1),
+            Op::BinUnicode8 => cell!($column, 0x8d, "BINUNICODE8", Unicodestring8, 4),
+            Op::Float => cell!($column, 0x46, "FLOAT", Floatnl, 0),
+            Op::BinFloat => cell!($column, 0x47, "BINFLOAT", Float8, 1),
+            Op::EmptyList => cell!($column, 0x5d, "EMPTY_LIST", None, 1),
+            Op::Append => cell!($column, 0x61, "APPEND", None, 0),
+            Op::Appends => cell!($column, 0x65, "APPENDS", None, 1),
+            Op::List => cell!($column, 0x6c, "LIST", None, 0),
+            Op::EmptyTuple => cell!($column, 0x29, "EMPTY_TUPLE", None, 1),
+            Op::Tuple => cell!($column, 0x74, "TUPLE", None, 0),
+            Op::Tuple1 => cell!($column, 0x85, "TUPLE1", None, 2),
+            Op::Tuple2 => cell!($column, 0x86, "TUPLE2", None, 2),
+            Op::Tuple3 => cell!($column, 0x87, "TUPLE3", None, 2),
+            Op::EmptyDict => cell!($column, 0x7d, "EMPTY_DICT", None, 1),
+            Op::Dict => cell!($column, 0x64, "DICT", None, 0),
+            Op::SetItem => cell!($column, 0x73, "SETITEM", None, 0),
+            Op::SetItems => cell!($column, 0x75, "SETITEMS", None, 1),
+            Op::EmptySet => cell!($column, 0x8f, "EMPTY_SET", None, 4),
+            Op::AddItems => cell!($column, 0x90, "ADDITEMS", None, 4),
+            Op::FrozenSet => cell!($column, 0x91, "FROZENSET", None, 4),
+            Op::Pop => cell!($column, 0x30, "POP", None, 0),
+            Op::Dup => cell!($column, 0x32, "DUP", None, 0),
+            Op::Mark => cell!($column, 0x28, "MARK", None, 0),
+            Op::PopMark => cell!($column, 0x31, "POP_MARK", None, 1),
+            Op::Get => cell!($column, 0x67, "GET", DecimalnlShort, 0),
+            Op::BinGet => cell!($column, 0x68, "BINGET", Uint1, 1),
+            Op::LongBinGet => cell!($column, 0x6a, "LONG_BINGET", Uint4, 1),
+            Op::Put => cell!($column, 0x70, "PUT", DecimalnlShort, 0),
+            Op::BinPut => cell!($column, 0x71, "BINPUT", Uint1, 1),
+            Op::LongBinPut => cell!($column, 0x72, "LONG_BINPUT", Uint4, 1),
+            Op::Memoize => cell!($column, 0x94, "MEMOIZE", None, 4),
+            Op::Ext1 => cell!($column, 0x82, "EXT1", Uint1, 2),
+            Op::Ext2 => cell!($column, 0x83, "EXT2", Uint2, 2),
+            Op::Ext4 => cell!($column, 0x84, "EXT4", Int4, 2),
+            Op::Global => cell!($column, 0x63, "GLOBAL", StringnlNoescapePair, 0),
+            Op::StackGlobal => cell!($column, 0x93, "STACK_GLOBAL", None, 4),
+            Op::Reduce => cell!($column, 0x52, "REDUCE", None, 0),
+            Op::Build => cell!($column, 0x62, "BUILD", None, 0),
+            Op::Inst => cell!($column, 0x69, "INST", StringnlNoescapePair, 0),
+            Op::Obj => cell!($column, 0x6f, "OBJ", None, 1),
+            Op::NewObj => cell!($column, 0x81, "NEWOBJ", None, 2),
+            Op::NewObjEx => cell!($column, 0x92, "NEWOBJ_EX", None, 4),
+            Op::Proto => cell!($column, 0x80, "PROTO", Uint1, 2),
+            Op::Stop => cell!($column, 0x2e, "STOP", None, 0),
+            Op::Frame => cell!($column, 0x95, "FRAME", Uint8, 4),
+            Op::PersId => cell!($column, 0x50, "PERSID", StringnlNoescape, 0),
+            Op::BinPersid => cell!($column, 0x51, "BINPERSID", None, 1),
+        }
+    };
+}
+
 /// The opcode's row in the table of `pickletools`.
 pub fn row(op: Op) -> Row
     ensures { shown_row result ≡ row_of op }
@@ -31,76 +123,7 @@ pub fn layout_of_op(op: Op) -> Layout
 pub fn code(op: Op) -> u8
     ensures { result ≡ code_of op }
 {
-    match op {
-        Op::Int => 0x49,
-        Op::BinInt => 0x4a,
-        Op::BinInt1 => 0x4b,
-        Op::BinInt2 => 0x4d,
-        Op::Long => 0x4c,
-        Op::Long1 => 0x8a,
-        Op::Long4 => 0x8b,
-        Op::String => 0x53,
-        Op::BinString => 0x54,
-        Op::ShortBinString => 0x55,
-        Op::BinBytes => 0x42,
-        Op::ShortBinBytes => 0x43,
-        Op::BinBytes8 => 0x8e,
-        Op::ByteArray8 => 0x96,
-        Op::NextBuffer => 0x97,
-        Op::ReadonlyBuffer => 0x98,
-        Op::None => 0x4e,
-        Op::NewTrue => 0x88,
-        Op::NewFalse => 0x89,
-        Op::Unicode => 0x56,
-        Op::ShortBinUnicode => 0x8c,
-        Op::BinUnicode => 0x58,
-        Op::BinUnicode8 => 0x8d,
-        Op::Float => 0x46,
-        Op::BinFloat => 0x47,
-        Op::EmptyList => 0x5d,
-        Op::Append => 0x61,
-        Op::Appends => 0x65,
-        Op::List => 0x6c,
-        Op::EmptyTuple => 0x29,
-        Op::Tuple => 0x74,
-        Op::Tuple1 => 0x85,
-        Op::Tuple2 => 0x86,
-        Op::Tuple3 => 0x87,
-        Op::EmptyDict => 0x7d,
-        Op::Dict => 0x64,
-        Op::SetItem => 0x73,
-        Op::SetItems => 0x75,
-        Op::EmptySet => 0x8f,
-        Op::AddItems => 0x90,
-        Op::FrozenSet => 0x91,
-        Op::Pop => 0x30,
-        Op::Dup => 0x32,
-        Op::Mark => 0x28,
-        Op::PopMark => 0x31,
-        Op::Get => 0x67,
-        Op::BinGet => 0x68,
-        Op::LongBinGet => 0x6a,
-        Op::Put => 0x70,
-        Op::BinPut => 0x71,
-        Op::LongBinPut => 0x72,
-        Op::Memoize => 0x94,
-        Op::Ext1 => 0x82,
-        Op::Ext2 => 0x83,
-        Op::Ext4 => 0x84,
-        Op::Global => 0x63,
-        Op::StackGlobal => 0x93,
-        Op::Reduce => 0x52,
-        Op::Build => 0x62,
-        Op::Inst => 0x69,
-        Op::Obj => 0x6f,
-        Op::NewObj => 0x81,
-        Op::NewObjEx => 0x92,
-        Op::Proto => 0x80,
-        Op::Stop => 0x2e,
-        Op::Frame => 0x95,
-        Op::PersId => 0x50,
-        Op::BinPersid => 0x51,
-    }
+    column_of!(code, op)
 }
 
 /// The kind of the opcode's argument.
@@ -108,202 +131,19 @@ pub fn code(op: Op) -> u8
 pub fn kind(op: Op) -> Kind
     ensures { result ≡ kind_of op }
 {
-    match op {
-        Op::Int => Kind::DecimalnlShort,
-        Op::BinInt => Kind::Int4,
-        Op::BinInt1 => Kind::Uint1,
-        Op::BinInt2 => Kind::Uint2,
-        Op::Long => Kind::DecimalnlLong,
-        Op::Long1 => Kind::Long1,
-        Op::Long4 => Kind::Long4,
-        Op::String => Kind::Stringnl,
-        Op::BinString => Kind::String4,
-        Op::ShortBinString => Kind::String1,
-        Op::BinBytes => Kind::Bytes4,
-        Op::ShortBinBytes => Kind::Bytes1,
-        Op::BinBytes8 => Kind::Bytes8,
-        Op::ByteArray8 => Kind::Bytearray8,
-        Op::NextBuffer => Kind::None,
-        Op::ReadonlyBuffer => Kind::None,
-        Op::None => Kind::None,
-        Op::NewTrue => Kind::None,
-        Op::NewFalse => Kind::None,
-        Op::Unicode => Kind::Unicodestringnl,
-        Op::ShortBinUnicode => Kind::Unicodestring1,
-        Op::BinUnicode => Kind::Unicodestring4,
-        Op::BinUnicode8 => Kind::Unicodestring8,
-        Op::Float => Kind::Floatnl,
-        Op::BinFloat => Kind::Float8,
-        Op::EmptyList => Kind::None,
-        Op::Append => Kind::None,
-        Op::Appends => Kind::None,
-        Op::List => Kind::None,
-        Op::EmptyTuple => Kind::None,
-        Op::Tuple => Kind::None,
-        Op::Tuple1 => Kind::None,
-        Op::Tuple2 => Kind::None,
-        Op::Tuple3 => Kind::None,
-        Op::EmptyDict => Kind::None,
-        Op::Dict => Kind::None,
-        Op::SetItem => Kind::None,
-        Op::SetItems => Kind::None,
-        Op::EmptySet => Kind::None,
-        Op::AddItems => Kind::None,
-        Op::FrozenSet => Kind::None,
-        Op::Pop => Kind::None,
-        Op::Dup => Kind::None,
-        Op::Mark => Kind::None,
-        Op::PopMark => Kind::None,
-        Op::Get => Kind::DecimalnlShort,
-        Op::BinGet => Kind::Uint1,
-        Op::LongBinGet => Kind::Uint4,
-        Op::Put => Kind::DecimalnlShort,
-        Op::BinPut => Kind::Uint1,
-        Op::LongBinPut => Kind::Uint4,
-        Op::Memoize => Kind::None,
-        Op::Ext1 => Kind::Uint1,
-        Op::Ext2 => Kind::Uint2,
-        Op::Ext4 => Kind::Int4,
-        Op::Global => Kind::StringnlNoescapePair,
-        Op::StackGlobal => Kind::None,
-        Op::Reduce => Kind::None,
-        Op::Build => Kind::None,
-        Op::Inst => Kind::StringnlNoescapePair,
-        Op::Obj => Kind::None,
-        Op::NewObj => Kind::None,
-        Op::NewObjEx => Kind::None,
-        Op::Proto => Kind::Uint1,
-        Op::Stop => Kind::None,
-        Op::Frame => Kind::Uint8,
-        Op::PersId => Kind::StringnlNoescape,
-        Op::BinPersid => Kind::None,
-    }
+    column_of!(kind, op)
 }
 
 /// The name in `pickletools`.
 fn name(op: Op) -> &'static str
     ensures { result.now ≡ (row_of op).name }
 {
-    match op {
-        Op::Int => "INT",
-        Op::BinInt => "BININT",
-        Op::BinInt1 => "BININT1",
-        Op::BinInt2 => "BININT2",
-        Op::Long => "LONG",
-        Op::Long1 => "LONG1",
-        Op::Long4 => "LONG4",
-        Op::String => "STRING",
-        Op::BinString => "BINSTRING",
-        Op::ShortBinString => "SHORT_BINSTRING",
-        Op::BinBytes => "BINBYTES",
-        Op::ShortBinBytes => "SHORT_BINBYTES",
-        Op::BinBytes8 => "BINBYTES8",
-        Op::ByteArray8 => "BYTEARRAY8",
-        Op::NextBuffer => "NEXT_BUFFER",
-        Op::ReadonlyBuffer => "READONLY_BUFFER",
-        Op::None => "NONE",
-        Op::NewTrue => "NEWTRUE",
-        Op::NewFalse => "NEWFALSE",
-        Op::Unicode => "UNICODE",
-        Op::ShortBinUnicode => "SHORT_BINUNICODE",
-        Op::BinUnicode => "BINUNICODE",
-        Op::BinUnicode8 => "BINUNICODE8",
-        Op::Float => "FLOAT",
-        Op::BinFloat => "BINFLOAT",
-        Op::EmptyList => "EMPTY_LIST",
-        Op::Append => "APPEND",
-        Op::Appends => "APPENDS",
-        Op::List => "LIST",
-        Op::EmptyTuple => "EMPTY_TUPLE",
-        Op::Tuple => "TUPLE",
-        Op::Tuple1 => "TUPLE1",
-        Op::Tuple2 => "TUPLE2",
-        Op::Tuple3 => "TUPLE3",
-        Op::EmptyDict => "EMPTY_DICT",
-        Op::Dict => "DICT",
-        Op::SetItem => "SETITEM",
-        Op::SetItems => "SETITEMS",
-        Op::EmptySet => "EMPTY_SET",
-        Op::AddItems => "ADDITEMS",
-        Op::FrozenSet => "FROZENSET",
-        Op::Pop => "POP",
-        Op::Dup => "DUP",
-        Op::Mark => "MARK",
-        Op::PopMark => "POP_MARK",
-        Op::Get => "GET",
-        Op::BinGet => "BINGET",
-        Op::LongBinGet => "LONG_BINGET",
-        Op::Put => "PUT",
-        Op::BinPut => "BINPUT",
-        Op::LongBinPut => "LONG_BINPUT",
-        Op::Memoize => "MEMOIZE",
-        Op::Ext1 => "EXT1",
-        Op::Ext2 => "EXT2",
-        Op::Ext4 => "EXT4",
-        Op::Global => "GLOBAL",
-        Op::StackGlobal => "STACK_GLOBAL",
-        Op::Reduce => "REDUCE",
-        Op::Build => "BUILD",
-        Op::Inst => "INST",
-        Op::Obj => "OBJ",
-        Op::NewObj => "NEWOBJ",
-        Op::NewObjEx => "NEWOBJ_EX",
-        Op::Proto => "PROTO",
-        Op::Stop => "STOP",
-        Op::Frame => "FRAME",
-        Op::PersId => "PERSID",
-        Op::BinPersid => "BINPERSID",
-    }
+    column_of!(name, op)
 }
 
 /// The first protocol with this opcode.
 fn least_protocol(op: Op) -> u8
     ensures { result ≡ (row_of op).proto }
 {
-    match op {
-        Op::BinInt
-        | Op::BinInt1
-        | Op::BinInt2
-        | Op::BinString
-        | Op::ShortBinString
-        | Op::BinUnicode
-        | Op::BinFloat
-        | Op::EmptyList
-        | Op::Appends
-        | Op::EmptyTuple
-        | Op::EmptyDict
-        | Op::SetItems
-        | Op::PopMark
-        | Op::BinGet
-        | Op::LongBinGet
-        | Op::BinPut
-        | Op::LongBinPut
-        | Op::Obj
-        | Op::BinPersid => 1,
-        Op::Long1
-        | Op::Long4
-        | Op::NewTrue
-        | Op::NewFalse
-        | Op::Tuple1
-        | Op::Tuple2
-        | Op::Tuple3
-        | Op::Ext1
-        | Op::Ext2
-        | Op::Ext4
-        | Op::NewObj
-        | Op::Proto => 2,
-        Op::BinBytes | Op::ShortBinBytes => 3,
-        Op::BinBytes8
-        | Op::ShortBinUnicode
-        | Op::BinUnicode8
-        | Op::EmptySet
-        | Op::AddItems
-        | Op::FrozenSet
-        | Op::Memoize
-        | Op::StackGlobal
-        | Op::NewObjEx
-        | Op::Frame => 4,
-        Op::ByteArray8 | Op::NextBuffer | Op::ReadonlyBuffer => 5,
-        _ => 0,
-    }
+    column_of!(proto, op)
 }
