@@ -1,7 +1,6 @@
 //! Opcodes by code byte.
 
 ghost use Rattle.std.specs.Prelude.{◌≡◌, ◌≢◌, IfSome, IfNone};
-ghost use Rattle.pkops.specs.Private.Codes.{ops_from};
 ghost use Rattle.pkops.specs.Table.{code_of};
 ghost use Rattle.pkops.specs.declared.op.Op.{Op};
 
@@ -13,288 +12,62 @@ pub fn op_of_byte(byte: u8) -> Option<Op>
     ensures found { IfSome result (λ op. code_of op ≡ byte) }
     ensures none { IfNone result ((op : Op) → code_of op ≢ byte) }
 {
-    opcodes()[usize::from(byte)]
+    OPCODES[usize::from(byte)]
 }
 
-fn opcodes() -> &'static [Option<Op>; 256]
-    ensures { result.now ≡ ops_from 0 256 }
-{
-    &OPCODES
+/// The entry of the table for an opcode, or for none.
+macro_rules! entry {
+    (_) => {
+        None
+    };
+    ($name:ident) => {
+        Some(Op::$name)
+    };
+}
+
+/// The table with these entries.
+macro_rules! entries {
+    ($($name:tt)*) => {
+        [$(entry!($name)),*]
+    };
 }
 
 /// The opcode of each code byte, in order. A table in memory is faster than a match, which LLVM
 /// compiles to an indirect jump.
-static OPCODES: [Option<Op>; 256] = [
+static OPCODES: [Option<Op>; 256] = entries! {
     // 0x00
-    None,
-    None,
-    None,
-    None,
-    None,
-    None,
-    None,
-    None,
-    None,
-    None,
-    None,
-    None,
-    None,
-    None,
-    None,
-    None,
+    _ _ _ _ _ _ _ _ _ _ _ _ _ _ _ _
     // 0x10
-    None,
-    None,
-    None,
-    None,
-    None,
-    None,
-    None,
-    None,
-    None,
-    None,
-    None,
-    None,
-    None,
-    None,
-    None,
-    None,
+    _ _ _ _ _ _ _ _ _ _ _ _ _ _ _ _
     // 0x20
-    None,
-    None,
-    None,
-    None,
-    None,
-    None,
-    None,
-    None,
-    Some(Op::Mark),
-    Some(Op::EmptyTuple),
-    None,
-    None,
-    None,
-    None,
-    Some(Op::Stop),
-    None,
+    _ _ _ _ _ _ _ _ Mark EmptyTuple _ _ _ _ Stop _
     // 0x30
-    Some(Op::Pop),
-    Some(Op::PopMark),
-    Some(Op::Dup),
-    None,
-    None,
-    None,
-    None,
-    None,
-    None,
-    None,
-    None,
-    None,
-    None,
-    None,
-    None,
-    None,
+    Pop PopMark Dup _ _ _ _ _ _ _ _ _ _ _ _ _
     // 0x40
-    None,
-    None,
-    Some(Op::BinBytes),
-    Some(Op::ShortBinBytes),
-    None,
-    None,
-    Some(Op::Float),
-    Some(Op::BinFloat),
-    None,
-    Some(Op::Int),
-    Some(Op::BinInt),
-    Some(Op::BinInt1),
-    Some(Op::Long),
-    Some(Op::BinInt2),
-    Some(Op::None),
-    None,
+    _ _ BinBytes ShortBinBytes _ _ Float BinFloat _ Int BinInt BinInt1 Long BinInt2 None _
     // 0x50
-    Some(Op::PersId),
-    Some(Op::BinPersid),
-    Some(Op::Reduce),
-    Some(Op::String),
-    Some(Op::BinString),
-    Some(Op::ShortBinString),
-    Some(Op::Unicode),
-    None,
-    Some(Op::BinUnicode),
-    None,
-    None,
-    None,
-    None,
-    Some(Op::EmptyList),
-    None,
-    None,
+    PersId BinPersid Reduce String BinString ShortBinString Unicode _
+    BinUnicode _ _ _ _ EmptyList _ _
     // 0x60
-    None,
-    Some(Op::Append),
-    Some(Op::Build),
-    Some(Op::Global),
-    Some(Op::Dict),
-    Some(Op::Appends),
-    None,
-    Some(Op::Get),
-    Some(Op::BinGet),
-    Some(Op::Inst),
-    Some(Op::LongBinGet),
-    None,
-    Some(Op::List),
-    None,
-    None,
-    Some(Op::Obj),
+    _ Append Build Global Dict Appends _ Get BinGet Inst LongBinGet _ List _ _ Obj
     // 0x70
-    Some(Op::Put),
-    Some(Op::BinPut),
-    Some(Op::LongBinPut),
-    Some(Op::SetItem),
-    Some(Op::Tuple),
-    Some(Op::SetItems),
-    None,
-    None,
-    None,
-    None,
-    None,
-    None,
-    None,
-    Some(Op::EmptyDict),
-    None,
-    None,
+    Put BinPut LongBinPut SetItem Tuple SetItems _ _ _ _ _ _ _ EmptyDict _ _
     // 0x80
-    Some(Op::Proto),
-    Some(Op::NewObj),
-    Some(Op::Ext1),
-    Some(Op::Ext2),
-    Some(Op::Ext4),
-    Some(Op::Tuple1),
-    Some(Op::Tuple2),
-    Some(Op::Tuple3),
-    Some(Op::NewTrue),
-    Some(Op::NewFalse),
-    Some(Op::Long1),
-    Some(Op::Long4),
-    Some(Op::ShortBinUnicode),
-    Some(Op::BinUnicode8),
-    Some(Op::BinBytes8),
-    Some(Op::EmptySet),
+    Proto NewObj Ext1 Ext2 Ext4 Tuple1 Tuple2 Tuple3
+    NewTrue NewFalse Long1 Long4 ShortBinUnicode BinUnicode8 BinBytes8 EmptySet
     // 0x90
-    Some(Op::AddItems),
-    Some(Op::FrozenSet),
-    Some(Op::NewObjEx),
-    Some(Op::StackGlobal),
-    Some(Op::Memoize),
-    Some(Op::Frame),
-    Some(Op::ByteArray8),
-    Some(Op::NextBuffer),
-    Some(Op::ReadonlyBuffer),
-    None,
-    None,
-    None,
-    None,
-    None,
-    None,
-    None,
+    AddItems FrozenSet NewObjEx StackGlobal Memoize Frame ByteArray8 NextBuffer
+    ReadonlyBuffer _ _ _ _ _ _ _
     // 0xa0
-    None,
-    None,
-    None,
-    None,
-    None,
-    None,
-    None,
-    None,
-    None,
-    None,
-    None,
-    None,
-    None,
-    None,
-    None,
-    None,
+    _ _ _ _ _ _ _ _ _ _ _ _ _ _ _ _
     // 0xb0
-    None,
-    None,
-    None,
-    None,
-    None,
-    None,
-    None,
-    None,
-    None,
-    None,
-    None,
-    None,
-    None,
-    None,
-    None,
-    None,
+    _ _ _ _ _ _ _ _ _ _ _ _ _ _ _ _
     // 0xc0
-    None,
-    None,
-    None,
-    None,
-    None,
-    None,
-    None,
-    None,
-    None,
-    None,
-    None,
-    None,
-    None,
-    None,
-    None,
-    None,
+    _ _ _ _ _ _ _ _ _ _ _ _ _ _ _ _
     // 0xd0
-    None,
-    None,
-    None,
-    None,
-    None,
-    None,
-    None,
-    None,
-    None,
-    None,
-    None,
-    None,
-    None,
-    None,
-    None,
-    None,
+    _ _ _ _ _ _ _ _ _ _ _ _ _ _ _ _
     // 0xe0
-    None,
-    None,
-    None,
-    None,
-    None,
-    None,
-    None,
-    None,
-    None,
-    None,
-    None,
-    None,
-    None,
-    None,
-    None,
-    None,
+    _ _ _ _ _ _ _ _ _ _ _ _ _ _ _ _
     // 0xf0
-    None,
-    None,
-    None,
-    None,
-    None,
-    None,
-    None,
-    None,
-    None,
-    None,
-    None,
-    None,
-    None,
-    None,
-    None,
-    None,
-];
+    _ _ _ _ _ _ _ _ _ _ _ _ _ _ _ _
+};

@@ -1,9 +1,9 @@
-use Rattle.std.proofs.Common.{arith}
-use Rattle.pkops.proofs.OpcodesFound.{is_of, is_none_of, read_at}
+use Rattle.std.proofs.Common.{refl}
+use Rattle.pkops.proofs.OpcodesFound.{is_of, is_none}
 use Rattle.pkops.proofs.codes.op_of_byte.Goals as goal
 
 pub returns-clause-found : goal.returns-clause-found
-returns-clause-found c = is_of _ _ (read_at _ _ _ c.opcodes.ensures c.from.ensures (omega arith))
+returns-clause-found c = is_of _ _ _ refl c.from.ensures
 
 pub returns-clause-none : goal.returns-clause-none
-returns-clause-none c = is_none_of _ _ (read_at _ _ _ c.opcodes.ensures c.from.ensures (omega arith))
+returns-clause-none c = is_none _ _ _ refl c.from.ensures
