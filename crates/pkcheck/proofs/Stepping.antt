@@ -5,9 +5,7 @@ pub mod Past
 pub mod Moving
 pub mod Judged
 pub mod Going
-pub mod Memory
 pub mod Extensions
-pub mod TextsMade
 pub mod Settings
 pub mod Stops
 pub mod CoveredStep

@@ -1,5 +1,5 @@
 -- What an instruction does, by what old strings become.
-use Rattle.std.proofs.Common.{◌≡◌, ◌≢◌, ℕ, Bool, true, false, ◌||◌, cond, [], Option, Some, None, Ok, refl, sym, ◌∙◌}
+use Rattle.std.proofs.Common.{◌≡◌, ◌≢◌, ℕ, Bool, true, false, ◌||◌, cond, [], Option, Some, None, Ok, ◌⊎◌, inl, inr, refl, sym, ◌∙◌}
 use Rattle.std.specs.Prelude.{IsTrue, unwrap_or}
 use Rattle.std.specs.List.{list_all}
 use Rattle.std.specs.Char.{is_ascii}
@@ -25,8 +25,6 @@ use Rattle.pkcheck.specs.Memory.{WantsNoMemory}
 use Rattle.pkcheck.specs.Private.Denials.{MayWantMemory}
 use Rattle.pkcheck.specs.Texts.{makes_text, texts_then}
 use Rattle.pkcheck.specs.View.{moved_as, stopped_by, texts_after}
-use Rattle.pkcheck.proofs.Stepping.Memory.{wants_none}
-use Rattle.pkcheck.proofs.Stepping.TextsMade.{texts_by_opcode}
 
 abbrev makes_text_effect : Effect
 makes_text_effect = Operates (Objects 0) NoName MakesText
@@ -98,6 +96,24 @@ wants_no_registry setting i h = by_setting (λ x. x ≡ Moves Extends → ⊥) s
 
 -- ---- memory
 
+neither : ⊥ ⊎ ⊥ → ⊥
+neither (inl h) = h
+neither (inr h) = h
+
+wants_none : (o : Op) → WantsNoMemory o → MayWantMemory (effect_of o) → ⊥
+wants_none op.Append b h = neither h
+wants_none op.Appends b h = neither h
+wants_none op.SetItem b h = neither h
+wants_none op.SetItems b h = neither h
+wants_none op.AddItems b h = neither h
+wants_none op.Build b h = neither h
+wants_none op.Pop b h = h
+wants_none op.PopMark b h = h
+wants_none op.Proto b h = h
+wants_none op.Frame b h = h
+wants_none op.Stop b h = h
+wants_none _ b h = b
+
 old_wants : (o : Op) → is_old_string o ≡ true → WantsNoMemory o → ⊥
 old_wants op.String e h = h
 old_wants op.BinString e h = h
@@ -122,6 +138,10 @@ pub passed_effect : (setting : OldStrings) (i : Instruction) → IsTrue (is_pass
 passed_effect setting i h = by_setting (λ x. x ≡ effect_of i.op) setting i refl (not_both i.op h) (not_both i.op h) (not_both i.op h)
 
 -- ---- texts
+
+texts_by_opcode : (o : Op) (count : ℕ) → texts_after (effect_of o) count ≡ texts_then Unknown o count
+texts_by_opcode op.Int count = refl
+texts_by_opcode _ count = refl
 
 no_text : (o : Op) → is_old_string o ≡ true → makes_text o ≡ false
 no_text op.String e = refl
