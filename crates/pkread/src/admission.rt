@@ -5,14 +5,11 @@ ghost use Rattle.std.specs.Str.{IsUtf8};
 ghost use Rattle.pkops.specs.Contents.{IsGood};
 ghost use Rattle.pkops.specs.Inst.{instruction_of};
 ghost use Rattle.pkops.specs.Spelling.{Suits, instruction, layout_at, shown_arg};
-ghost use Rattle.pkops.specs.declared.Layout.TheVariants as layout;
 ghost use Rattle.pkread.specs.Admission.{objection};
-ghost use Rattle.pkread.specs.Private.Judging.{IsFaulty, IsFine, TakesAnyArgument, IsSpelled};
-ghost use Rattle.pkread.specs.Private.Judging.{TakesUtf8};
-ghost use Rattle.pkread.specs.Private.Judging.{fault_reason};
+ghost use Rattle.pkread.specs.Private.Judging.{IsFaulty, IsFine, IsSpelled, fault_reason, is_plain};
 
 use crate::refusal::Reason;
-use pkops::{Arg, Fault, Inst, Op, Width, argument_of};
+use pkops::{Arg, Fault, Inst, Op, Rule, argument_of};
 
 /// The reason with the same name as the fault.
 pub(crate) fn reason_of(fault: Fault) -> Reason
@@ -41,13 +38,12 @@ pub(crate) fn objection_to(inst: Inst<'_>) -> Option<Reason>
 /// Judges whether an instruction is good and admitted. Its contents are checked only if the opcode
 /// doesn't accept every argument.
 #[inline(always)]
-pub(crate) fn judged(op: Op, plain: bool, split: usize, bytes: &[u8]) -> Result<(), Reason>
-    requires plain { plain ≡ true → TakesAnyArgument op }
-    requires lies { IsSpelled op split bytes.now }
+pub(crate) fn judged(op: Op, split: usize, bytes: &[u8]) -> Result<(), Reason>
+    requires { IsSpelled op split bytes.now }
     ensures ok { IfOk result (λ _. IsFine op split bytes.now) }
     ensures err { IfErr result (IsFaulty op split bytes.now) }
 {
-    if plain {
+    if is_plain(op) {
         return Ok(());
     }
     look(op, split, bytes)
@@ -104,54 +100,13 @@ fn look_slowly(op: Op, split: usize, bytes: &[u8]) -> Option<Reason>
     objection_to(Inst::known(op, arg))
 }
 
-/// Whether the opcode accepts every argument of one byte.
+/// Whether the opcode accepts every argument of its layout.
 #[inline(always)]
-pub(crate) fn byte_is_plain(op: Op) -> bool
-    requires { layout_at op ≡ layout.U1 }
-    ensures { result ≡ true → TakesAnyArgument op }
+pub(crate) fn is_plain(op: Op) -> bool
+    ensures { result ≡ is_plain op }
 {
     match op {
-        Op::Proto => false,
-        Op::Ext1 => false,
-        _ => true,
-    }
-}
-
-/// Whether the opcode accepts every argument of two bytes.
-#[inline(always)]
-pub(crate) fn two_is_plain(op: Op) -> bool
-    requires { layout_at op ≡ layout.U2 }
-    ensures { result ≡ true → TakesAnyArgument op }
-{
-    match op {
-        Op::Ext2 => false,
-        _ => true,
-    }
-}
-
-/// Whether the opcode accepts every signed argument.
-#[inline(always)]
-pub(crate) fn signed_is_plain(op: Op) -> bool
-    requires { layout_at op ≡ layout.I4 }
-    ensures { result ≡ true → TakesAnyArgument op }
-{
-    match op {
-        Op::Ext4 => false,
-        _ => true,
-    }
-}
-
-/// Whether the opcode accepts every payload. Otherwise its payload is text.
-#[inline(always)]
-pub(crate) fn counted_is_plain(op: Op, width: Width, signed: bool) -> bool
-    requires { layout_at op ≡ layout.Counted width signed }
-    ensures plain { result ≡ true → TakesAnyArgument op }
-    ensures text { result ≡ false → TakesUtf8 op }
-{
-    match op {
-        Op::ShortBinUnicode => false,
-        Op::BinUnicode => false,
-        Op::BinUnicode8 => false,
-        _ => true,
+        Op::Proto | Op::Ext1 | Op::Ext2 | Op::Ext4 => false,
+        _ => matches!(Rule::of(op), Rule::Anything),
     }
 }

@@ -1,16 +1,15 @@
 //! One arm for each layout of an argument.
 
-ghost use Rattle.std.specs.Prelude.{◌≡◌, ◌∷◌, ◌<◌, ◌≤◌, [], ℕ, length, true};
+ghost use Rattle.std.specs.Prelude.{◌≡◌, ◌∷◌, ◌<◌, ◌≤◌, [], ℕ, length};
 ghost use Rattle.pkops.specs.Lying.{IsFixed, field_len};
 ghost use Rattle.pkops.specs.Spelling.{layout_at, size_of};
 ghost use Rattle.pkops.specs.Table.{code_of};
 ghost use Rattle.pkops.specs.declared.Layout.TheVariants as layout;
-ghost use Rattle.pkread.specs.Private.Judging.{TakesAnyArgument};
 ghost use Rattle.pkread.specs.Private.Gathering.{TakesArgument, TakesCount, TakesSplit};
 ghost use Rattle.pkread.specs.Private.Progress.{KeepsRest, intake};
 ghost use Rattle.pkread.specs.Private.Taking.{TakesAll};
 
-use crate::admission::{counted_is_plain, is_good, is_utf8, judged};
+use crate::admission::{is_good, is_plain, is_utf8, judged};
 use crate::gathering::Gathering;
 use crate::refusal::Reason;
 use crate::source::Source;
@@ -28,15 +27,9 @@ pub(crate) struct Count {
 impl Gathering {
     /// Takes an argument of one byte, and checks it unless the opcode accepts any.
     #[inline(always)]
-    pub(crate) fn one_byte<R: Source>(
-        &mut self,
-        source: &mut R,
-        op: Op,
-        plain: bool,
-    ) -> Result<(), Reason>
+    pub(crate) fn one_byte<R: Source>(&mut self, source: &mut R, op: Op) -> Result<(), Reason>
         requires code { self.old.buffer.bytes ≡ code_of op ∷ [] }
         requires lay { layout_at op ≡ layout.U1 }
-        requires plain { plain ≡ true → TakesAnyArgument op }
         ensures keeps { KeepsRest self.old self.new }
         ensures takes { (limit : ℕ) → TakesArgument limit op result
             (intake R.left R.failures source.old self.old)
@@ -44,7 +37,7 @@ impl Gathering {
     {
         growth();
         self.take_byte(source)?;
-        judged(op, plain, 0, self.bytes())
+        judged(op, 0, self.bytes())
     }
 
     /// Takes an argument of N bytes, and checks it unless the opcode accepts any.
@@ -53,14 +46,12 @@ impl Gathering {
         &mut self,
         source: &mut R,
         op: Op,
-        plain: bool,
     ) -> Result<(), Reason>
         requires code { self.old.buffer.bytes ≡ code_of op ∷ [] }
         requires fixed { IsFixed (layout_at op) }
         requires width { N ≡ field_len (layout_at op) }
         requires some { 0 < N }
         requires few { N ≤ 8 }
-        requires plain { plain ≡ true → TakesAnyArgument op }
         ensures keeps { KeepsRest self.old self.new }
         ensures takes { (limit : ℕ) → TakesArgument limit op result
             (intake R.left R.failures source.old self.old)
@@ -68,7 +59,7 @@ impl Gathering {
     {
         growth();
         self.take_field::<R, N>(source)?;
-        judged(op, plain, 0, self.bytes())
+        judged(op, 0, self.bytes())
     }
 
     /// Takes the bytes of a count.
@@ -154,7 +145,7 @@ impl Gathering {
         let length = self.take_count(source, op, count)?;
         let head = self.bytes().len();
         self.take_payload(source, length)?;
-        if counted_is_plain(op, count.width, count.signed) {
+        if is_plain(op) {
             return Ok(());
         }
         if !is_utf8(&self.bytes()[head..]) {
@@ -241,7 +232,7 @@ impl Gathering {
         self.take_line(source, most)?;
         let split = self.bytes().len() - 2;
         self.take_line(source, most)?;
-        judged(op, false, split, self.bytes())?;
+        judged(op, split, self.bytes())?;
         Ok(split)
     }
 }

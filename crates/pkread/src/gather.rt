@@ -9,7 +9,6 @@ ghost use Rattle.pkread.specs.Private.Gathering.{TakesFound, TakesOp, TakesSplit
 ghost use Rattle.pkread.specs.Private.Progress.{KeepsRest, intake, intake_start};
 ghost use Rattle.pkread.specs.Private.Taking.{TakesByte};
 
-use crate::admission::{byte_is_plain, signed_is_plain, two_is_plain};
 use crate::arms::Count;
 use crate::gathering::Gathering;
 use crate::refusal::Reason;
@@ -45,12 +44,12 @@ impl Gathering {
         growth();
         match layout {
             Layout::Nothing => {}
-            Layout::U1 => self.one_byte(source, op, byte_is_plain(op))?,
-            Layout::U2 => self.fixed::<R, 2>(source, op, two_is_plain(op))?,
-            Layout::I4 => self.fixed::<R, 4>(source, op, signed_is_plain(op))?,
-            Layout::U4 => self.fixed::<R, 4>(source, op, true)?,
-            Layout::U8 => self.fixed::<R, 8>(source, op, true)?,
-            Layout::F8 => self.fixed::<R, 8>(source, op, true)?,
+            Layout::U1 => self.one_byte(source, op)?,
+            Layout::U2 => self.fixed::<R, 2>(source, op)?,
+            Layout::I4 => self.fixed::<R, 4>(source, op)?,
+            Layout::U4 => self.fixed::<R, 4>(source, op)?,
+            Layout::U8 => self.fixed::<R, 8>(source, op)?,
+            Layout::F8 => self.fixed::<R, 8>(source, op)?,
             Layout::Line(most) => self.one_line(source, op, most)?,
             Layout::Pair(most) => return self.two_lines(source, op, most),
             Layout::Counted(width, signed) => {

@@ -1,98 +1,54 @@
 -- Opcodes whose arguments need no look, and those whose payload is not passed.
-use Rattle.std.proofs.Common.{◌≡◌, Bool, false, refl, sym, ap, ◌∙◌}
-use Rattle.pkops.specs.Lying.{IsFixed}
+use Rattle.std.proofs.Common.{◌≡◌, ℕ, Bool, true, false, List, None, refl}
+use Rattle.pkops.specs.Contents.{rule_of}
 use Rattle.pkops.specs.Payloads.{is_passed}
-use Rattle.pkops.specs.Spelling.{layout_at}
-use Rattle.pkops.specs.declared.Layout.{Layout}
+use Rattle.pkops.specs.Spelling.{Argument, instruction, layout_at}
 use Rattle.pkops.specs.declared.Layout.TheVariants as layout
 use Rattle.pkops.specs.declared.Width.{Width}
 use Rattle.pkops.specs.declared.Width.TheVariants as width
 use Rattle.pkops.specs.declared.Op.{Op}
 use Rattle.pkops.specs.declared.Op.TheVariants as op
-use Rattle.pkread.specs.Private.Judging.{TakesAnyArgument}
+use Rattle.pkops.specs.declared.Rule.TheVariants as rule
+use Rattle.pkread.specs.Admission.{objection}
+use Rattle.pkread.specs.Private.Judging.{IsFine, TakesAnyArgument, TakesUtf8, is_plain}
 
--- an argument of a fixed length is plain, but for those of PROTO and of the extension codes
-pub plain_fixed : (o : Op) → IsFixed (layout_at o) → (o ≡ op.Proto → ⊥) → (o ≡ op.Ext1 → ⊥) →
-    (o ≡ op.Ext2 → ⊥) → (o ≡ op.Ext4 → ⊥) → TakesAnyArgument o
-plain_fixed op.Int f h0 h1 h2 h3 = absurd f
-plain_fixed op.Long f h0 h1 h2 h3 = absurd f
-plain_fixed op.String f h0 h1 h2 h3 = absurd f
-plain_fixed op.Unicode f h0 h1 h2 h3 = absurd f
-plain_fixed op.Float f h0 h1 h2 h3 = absurd f
-plain_fixed op.Get f h0 h1 h2 h3 = absurd f
-plain_fixed op.Put f h0 h1 h2 h3 = absurd f
-plain_fixed op.Global f h0 h1 h2 h3 = absurd f
-plain_fixed op.Inst f h0 h1 h2 h3 = absurd f
-plain_fixed op.PersId f h0 h1 h2 h3 = absurd f
-plain_fixed op.Proto f h0 h1 h2 h3 = absurd (h0 refl)
-plain_fixed op.Ext1 f h0 h1 h2 h3 = absurd (h1 refl)
-plain_fixed op.Ext2 f h0 h1 h2 h3 = absurd (h2 refl)
-plain_fixed op.Ext4 f h0 h1 h2 h3 = absurd (h3 refl)
-plain_fixed op.ShortBinUnicode f h0 h1 h2 h3 = absurd f
-plain_fixed op.BinUnicode f h0 h1 h2 h3 = absurd f
-plain_fixed op.BinUnicode8 f h0 h1 h2 h3 = absurd f
-plain_fixed _ f h0 h1 h2 h3 = record { contents = refl; admitted = λ arg. refl }
+pub any_rule : (o : Op) → is_plain o ≡ true → rule_of o ≡ rule.Anything
+any_rule op.Int e = cc
+any_rule _ e = cc
 
--- an opcode of one layout is none of another
-other : {o : Op} {a : Layout} → layout_at o ≡ a → (p : Op) → (layout_at p ≡ a → ⊥) → o ≡ p → ⊥
-other {o} {a} e p ne s = ne (ap layout_at (sym s) ∙ e)
+any_admitted : (o : Op) (arg : Argument) → is_plain o ≡ true → objection (instruction o arg) ≡ None
+any_admitted op.Int arg e = cc
+any_admitted _ arg e = cc
 
-pub plain_nothing : (o : Op) → layout_at o ≡ layout.Nothing → TakesAnyArgument o
-plain_nothing o e =
-    plain_fixed o (rw e tt) (other e op.Proto (λ s. cc)) (other e op.Ext1 (λ s. cc))
-    (other e op.Ext2 (λ s. cc)) (other e op.Ext4 (λ s. cc))
+pub takes_any : (o : Op) → is_plain o ≡ true → TakesAnyArgument o
+takes_any o e = record { contents = any_rule o e; admitted = λ arg. any_admitted o arg e }
 
-pub plain_byte : (o : Op) → layout_at o ≡ layout.U1 → (o ≡ op.Proto → ⊥) → (o ≡ op.Ext1 → ⊥) →
-    TakesAnyArgument o
-plain_byte o e h0 h1 =
-    plain_fixed o (rw e tt) h0 h1 (other e op.Ext2 (λ s. cc)) (other e op.Ext4 (λ s. cc))
+pub fine : (o : Op) (split : ℕ) (bytes : List ℕ) → is_plain o ≡ true → IsFine o split bytes
+fine o split bytes e limit arg lies =
+    (record { suits = lies.laid.suits; contents = rw (any_rule o e) tt }, any_admitted o arg e)
 
-pub plain_two : (o : Op) → layout_at o ≡ layout.U2 → (o ≡ op.Ext2 → ⊥) → TakesAnyArgument o
-plain_two o e h0 =
-    plain_fixed o (rw e tt) (other e op.Proto (λ s. cc)) (other e op.Ext1 (λ s. cc)) h0
-    (other e op.Ext4 (λ s. cc))
+-- no argument needs a look
+pub plain_nothing : (o : Op) → layout_at o ≡ layout.Nothing → is_plain o ≡ true
+plain_nothing op.Int e = cc
+plain_nothing _ e = cc
 
-pub plain_signed : (o : Op) → layout_at o ≡ layout.I4 → (o ≡ op.Ext4 → ⊥) → TakesAnyArgument o
-plain_signed o e h0 =
-    plain_fixed o (rw e tt) (other e op.Proto (λ s. cc)) (other e op.Ext1 (λ s. cc))
-    (other e op.Ext2 (λ s. cc)) h0
+-- a counted argument that does is a text
+text_rule : (o : Op) (size : Width) (signed : Bool) → layout_at o ≡ layout.Counted size signed →
+    is_plain o ≡ false → rule_of o ≡ rule.Utf8
+text_rule op.Int size signed lay e = cc
+text_rule _ size signed lay e = cc
 
-pub plain_four : (o : Op) → layout_at o ≡ layout.U4 → TakesAnyArgument o
-plain_four o e =
-    plain_fixed o (rw e tt) (other e op.Proto (λ s. cc)) (other e op.Ext1 (λ s. cc))
-    (other e op.Ext2 (λ s. cc)) (other e op.Ext4 (λ s. cc))
+text_admitted : (o : Op) (size : Width) (signed : Bool) (arg : Argument) →
+    layout_at o ≡ layout.Counted size signed → objection (instruction o arg) ≡ None
+text_admitted op.Int size signed arg lay = cc
+text_admitted _ size signed arg lay = cc
 
-pub plain_eight : (o : Op) → layout_at o ≡ layout.U8 → TakesAnyArgument o
-plain_eight o e =
-    plain_fixed o (rw e tt) (other e op.Proto (λ s. cc)) (other e op.Ext1 (λ s. cc))
-    (other e op.Ext2 (λ s. cc)) (other e op.Ext4 (λ s. cc))
-
-pub plain_float : (o : Op) → layout_at o ≡ layout.F8 → TakesAnyArgument o
-plain_float o e =
-    plain_fixed o (rw e tt) (other e op.Proto (λ s. cc)) (other e op.Ext1 (λ s. cc))
-    (other e op.Ext2 (λ s. cc)) (other e op.Ext4 (λ s. cc))
-
-pub plain_counted : (o : Op) (size : Width) (signed : Bool) →
-    layout_at o ≡ layout.Counted size signed → (o ≡ op.ShortBinUnicode → ⊥) → (o ≡ op.BinUnicode →
-    ⊥) → (o ≡ op.BinUnicode8 → ⊥) → TakesAnyArgument o
-plain_counted op.Int size signed e h0 h1 h2 = absurd cc
-plain_counted op.Long size signed e h0 h1 h2 = absurd cc
-plain_counted op.String size signed e h0 h1 h2 = absurd cc
-plain_counted op.Unicode size signed e h0 h1 h2 = absurd cc
-plain_counted op.Float size signed e h0 h1 h2 = absurd cc
-plain_counted op.Get size signed e h0 h1 h2 = absurd cc
-plain_counted op.Put size signed e h0 h1 h2 = absurd cc
-plain_counted op.Global size signed e h0 h1 h2 = absurd cc
-plain_counted op.Inst size signed e h0 h1 h2 = absurd cc
-plain_counted op.PersId size signed e h0 h1 h2 = absurd cc
-plain_counted op.Proto size signed e h0 h1 h2 = absurd cc
-plain_counted op.Ext1 size signed e h0 h1 h2 = absurd cc
-plain_counted op.Ext2 size signed e h0 h1 h2 = absurd cc
-plain_counted op.Ext4 size signed e h0 h1 h2 = absurd cc
-plain_counted op.ShortBinUnicode size signed e h0 h1 h2 = absurd (h0 refl)
-plain_counted op.BinUnicode size signed e h0 h1 h2 = absurd (h1 refl)
-plain_counted op.BinUnicode8 size signed e h0 h1 h2 = absurd (h2 refl)
-plain_counted _ size signed e h0 h1 h2 = record { contents = refl; admitted = λ arg. refl }
+pub takes_utf8 : (o : Op) (size : Width) (signed : Bool) →
+    layout_at o ≡ layout.Counted size signed → is_plain o ≡ false → TakesUtf8 o
+takes_utf8 o size signed lay e = record {
+  contents = text_rule o size signed lay e;
+  admitted = λ arg. text_admitted o size signed arg lay;
+}
 
 -- an opcode whose payload is passed has a counted argument
 pub not_passed : (o : Op) → ((size : Width) (signed : Bool) →

@@ -1,6 +1,6 @@
 -- Payloads that are skipped.
 use Rattle.std.proofs.Common.{◌≡◌, ℕ, ◌+◌, ◌-◌, ◌<◌, ◌≤◌, true, false, List, [], ◌∷◌, ◌++◌, length, take, drop, refl, sym, ap, subst, ◌∙◌, inl, inr, arith, length-append, Result, Ok, Err}
-use Rattle.std.specs.Prelude.{IfErr, IfOk, IsTrue, max, Bool, if◌then◌else◌}
+use Rattle.std.specs.Prelude.{IsTrue, max, Bool, if◌then◌else◌}
 use Rattle.std.proofs.lemmas.List.{length-take, take-append-drop}
 use Rattle.pkops.specs.Admitted.{is_admitted_by}
 use Rattle.pkops.specs.Growth.{BegunLaws, CountLaws}
@@ -9,18 +9,18 @@ use Rattle.pkops.specs.Payloads.{HasCount, is_passed, is_passed_code, payload_li
 use Rattle.pkops.specs.Spelling.{Argument, Counted, instruction, layout_at, spelling}
 use Rattle.pkops.specs.Table.{code_of}
 use Rattle.pkops.specs.declared.Layout.TheVariants as layout
-use Rattle.pkops.specs.declared.Width.{Width}
 use Rattle.pkops.specs.declared.Width.TheVariants as width
 use Rattle.pkops.specs.declared.Op.{Op}
 use Rattle.pkops.specs.declared.Op.TheVariants as op
 use Rattle.pkread.proofs.Bytes.Behind.{payload_lie, payload_stops, payload_took}
 use Rattle.pkread.proofs.Bytes.Judged.{refuses_of}
 use Rattle.pkread.proofs.Bytes.LinesBehind.{stops_more}
+use Rattle.pkread.proofs.Bytes.Plain.{any_rule}
 use Rattle.pkread.proofs.Reasons.OneRow.{OneAnswer}
 use Rattle.pkread.proofs.Bytes.Taken.{lacks_after, took_both, took_none}
 use Rattle.pkread.specs.Heads.{HoldsFew, SkipsBy}
 use Rattle.pkread.specs.Private.Gathering.{Counts, Finds, Stops}
-use Rattle.pkread.specs.Private.Judging.{TakesAnyArgument}
+use Rattle.pkread.specs.Private.Judging.{is_plain}
 use Rattle.pkread.specs.Private.Progress.{Intake}
 use Rattle.pkread.specs.Private.Skipping.{GrowsSkipping, HeldWhole, RefusedHead, SkipsAll, StopsSkipping, holding}
 use Rattle.pkread.specs.Private.Taking.{LacksSome, Took, TookAll, TookBlock}
@@ -30,28 +30,20 @@ use Rattle.pkread.specs.declared.gather.Found.{Found}
 use Rattle.pkread.specs.declared.refusal.Reason.{Reason}
 
 -- the argument of a passed opcode needs no look
-pub passed_plain : (o : Op) → is_passed o ≡ true → TakesAnyArgument o
-passed_plain op.BinBytes e = record { contents = refl; admitted = λ arg. refl }
-passed_plain op.ShortBinBytes e = record { contents = refl; admitted = λ arg. refl }
-passed_plain op.BinBytes8 e = record { contents = refl; admitted = λ arg. refl }
-passed_plain op.ByteArray8 e = record { contents = refl; admitted = λ arg. refl }
-passed_plain _ e = absurd cc
+passed_plain : (o : Op) → is_passed o ≡ true → is_plain o ≡ true
+passed_plain op.Int e = cc
+passed_plain _ e = cc
 
 passed_admitted : (o : Op) (arg : Argument) → is_passed o ≡ true → IsTrue (is_admitted_by o arg)
-passed_admitted op.BinBytes arg e = refl
-passed_admitted op.ShortBinBytes arg e = refl
-passed_admitted op.BinBytes8 arg e = refl
-passed_admitted op.ByteArray8 arg e = refl
-passed_admitted _ arg e = absurd cc
+passed_admitted op.Int arg e = cc
+passed_admitted _ arg e = cc
 
 -- the other two have counts of eight bytes
 pub passed_wide : (o : Op) → is_passed o ≡ true → (o ≡ op.ShortBinBytes → ⊥) → (o ≡ op.BinBytes →
     ⊥) → layout_at o ≡ layout.Counted width.Eight false
 passed_wide op.BinBytes e h0 h1 = absurd (h1 refl)
 passed_wide op.ShortBinBytes e h0 h1 = absurd (h0 refl)
-passed_wide op.BinBytes8 e h0 h1 = refl
-passed_wide op.ByteArray8 e h0 h1 = refl
-passed_wide _ e h0 h1 = absurd cc
+passed_wide _ e h0 h1 = cc
 
 -- bytes that were taken behind others, as if those were held
 pub took_over : (c d : List ℕ) (old mid new : Intake) →
@@ -167,7 +159,7 @@ passes_by limit count o old mid new e q k g =
         allowed = record {
           good = record {
             suits = g.lies.laid.suits;
-            contents = rw (passed_plain o q).contents tt;
+            contents = rw (any_rule o (passed_plain o q)) tt;
           };
           within = g.lies.laid.within;
           admitted = passed_admitted o (Counted g.payload) q;

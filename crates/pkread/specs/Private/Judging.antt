@@ -1,12 +1,14 @@
 -- How the code judges a whole instruction.
-use Rattle.std.specs.Prelude.{◌≡◌, ℕ, List, None}
+use Rattle.std.specs.Prelude.{◌≡◌, ℕ, Bool, true, false, List, None}
 use Rattle.pkops.specs.Contents.{IsGood, rule_of}
 use Rattle.pkops.specs.Lying.{Lies}
 use Rattle.pkops.specs.Spelling.{Argument, instruction}
+use Rattle.pkops.specs.declared.Rule.{Rule}
 use Rattle.pkops.specs.declared.Rule.TheVariants as rule
 use Rattle.pkops.specs.declared.Fault.{Fault}
 use Rattle.pkops.specs.declared.Fault.TheVariants as fault
 use Rattle.pkops.specs.declared.Op.{Op}
+use Rattle.pkops.specs.declared.Op.TheVariants as op
 use Rattle.pkread.specs.Admission.{objection}
 use Rattle.pkread.specs.Rows.{IsAmiss}
 use Rattle.pkread.specs.declared.refusal.Reason.{Reason}
@@ -17,6 +19,18 @@ abbrev pub fault_reason : Fault → Reason
 fault_reason (fault.UnknownOpcode code) = UnknownOpcode code
 fault_reason fault.BadArgument = BadArgument
 fault_reason fault.TooLarge = TooLarge
+
+abbrev is_anything : Rule → Bool
+is_anything rule.Anything = true
+is_anything _ = false
+
+-- the opcode accepts every argument of its layout
+abbrev pub is_plain : Op → Bool
+is_plain op.Proto = false
+is_plain op.Ext1 = false
+is_plain op.Ext2 = false
+is_plain op.Ext4 = false
+is_plain o = is_anything (rule_of o)
 
 -- every argument of the opcode's layout is good and admitted
 pub record TakesAnyArgument (o : Op) : Type 0 where

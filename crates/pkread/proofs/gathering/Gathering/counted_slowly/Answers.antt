@@ -1,6 +1,8 @@
+use Rattle.std.proofs.Common.{sym, ◌∙◌, arith}
 use Rattle.std.proofs.lemmas.Result.{err_from_is_err_and}
 use Rattle.pkread.proofs.Bytes.Behind.{payload_grows, payload_stops}
 use Rattle.pkread.proofs.Bytes.Judged.{plain_finds}
+use Rattle.pkread.proofs.Bytes.Plain.{takes_any, takes_utf8}
 use Rattle.pkread.proofs.Bytes.Texts.{payload_in, text_finds, text_stops}
 use Rattle.pkread.proofs.gathering.Gathering.counted_slowly.Goals as goal
 
@@ -13,9 +15,9 @@ returns-in_err-take_payload-clause-takes g c =
     c.requires.lay c.in_ok-length.ensures.takes laws.begun laws.count _
     c.in_err-take_payload.ensures.takes)
 
-pub returns-then-counted_is_plain-clause-takes : goal.returns-then-counted_is_plain-clause-takes
-returns-then-counted_is_plain-clause-takes g c =
-    let plain = c.counted_is_plain.ensures.plain c.if-counted_is_plain.true in
+pub returns-then-is_plain-clause-takes : goal.returns-then-is_plain-clause-takes
+returns-then-is_plain-clause-takes g c =
+    let plain = takes_any c.args.op (sym c.is_plain.ensures ∙ c.if-is_plain.true) in
     plain_finds c.args.count.limit c.args.op 0 _ _ plain
     (payload_grows c.args.count c.in_ok-length.length c.args.op _ _ _ c.requires.code
     c.requires.lay c.in_ok-length.ensures.takes c.growth.ensures.count
@@ -23,7 +25,8 @@ returns-then-counted_is_plain-clause-takes g c =
 
 pub returns-then-not-is_utf8-clause-takes : goal.returns-then-not-is_utf8-clause-takes
 returns-then-not-is_utf8-clause-takes g c =
-    let text = c.counted_is_plain.ensures.text c.if-counted_is_plain.false in
+    let text = takes_utf8 c.args.op _ _ c.requires.lay
+    (let e = c.is_plain.ensures in let f = c.if-is_plain.false in grind (arith)) in
     let laws = c.growth.ensures in
     let k = c.in_ok-length.ensures.takes in
     let s = c.in_ok-take_payload.ensures.takes in
@@ -36,7 +39,8 @@ returns-then-not-is_utf8-clause-takes g c =
 
 pub returns-clause-takes : goal.returns-clause-takes
 returns-clause-takes g c =
-    let text = c.counted_is_plain.ensures.text c.if-counted_is_plain.false in
+    let text = takes_utf8 c.args.op _ _ c.requires.lay
+    (let e = c.is_plain.ensures in let f = c.if-is_plain.false in grind (arith)) in
     let laws = c.growth.ensures in
     let k = c.in_ok-length.ensures.takes in
     let s = c.in_ok-take_payload.ensures.takes in

@@ -13,8 +13,8 @@ returns-in_err-take_field-clause-takes g c =
     c.requires.code
     c.requires.width why)
 
-pub judged-requires-clause-lies : goal.judged-requires-clause-lies
-judged-requires-clause-lies g c =
+pub judged-requires : goal.judged-requires
+judged-requires g c =
     let k = field_grows c.growth.ensures.field 0 g.row.N c.args.op _ _ c.requires.code
     c.requires.fixed c.requires.width c.in_ok-take_field.ensures.takes in
     (0, k.arg, rw c.bytes.ensures k.lies)

@@ -17,8 +17,8 @@ returns-in_err-take_byte-clause-takes g c =
     c.requires.code
     w why)
 
-pub judged-requires-clause-lies : goal.judged-requires-clause-lies
-judged-requires-clause-lies g c =
+pub judged-requires : goal.judged-requires
+judged-requires g c =
     let w : 1 ≡ field_len (layout_at c.args.op) = rw c.requires.lay refl in
     let f : IsFixed (layout_at c.args.op) = rw c.requires.lay tt in
     let one = took_one _ _ _ c.in_ok-take_byte.ensures.takes in

@@ -20,8 +20,8 @@ returns-in_err-take_line-2-clause-takes g c =
     rw (p.1, p.2) (λ limit. second_stops limit c.args.most c.args.op _ _ _ c.requires.code
     c.requires.lay first c.growth.ensures.begun _ why)
 
-pub judged-requires-clause-lies : goal.judged-requires-clause-lies
-judged-requires-clause-lies g c =
+pub judged-requires : goal.judged-requires
+judged-requires g c =
     let k = both_grow 0 c.args.most c.args.op _ _ _ c.requires.code c.requires.lay
     c.in_ok-take_line.ensures.takes _ c.bytes.result.now c.bytes.ensures refl
     c.in_ok-take_line-2.ensures.takes in
