@@ -1,5 +1,5 @@
 use Rattle.std.proofs.Common.{refl}
-use Rattle.pkops.proofs.OpcodesFound.{is_of, is_none}
+use Rattle.pkops.proofs.OneOfEach.OneCode.{is_of, is_none}
 use Rattle.pkops.proofs.codes.op_of_byte.Goals as goal
 
 pub returns-clause-found : goal.returns-clause-found

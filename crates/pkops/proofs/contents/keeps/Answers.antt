@@ -1,5 +1,5 @@
 use Rattle.pkops.specs.Spelling.{shown_arg}
-use Rattle.pkops.proofs.Decided.{decided}
+use Rattle.pkops.proofs.ContentsRules.Decided.{decided}
 use Rattle.pkops.proofs.contents.keeps.Goals as goal
 
 pub returns : goal.returns

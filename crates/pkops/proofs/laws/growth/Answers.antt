@@ -1,8 +1,8 @@
-use Rattle.pkops.proofs.Counts.{begun_is_counted}
-use Rattle.pkops.proofs.Fronts.{fronts_begin}
-use Rattle.pkops.proofs.Growing.{count_large, count_negative, field_begun, field_lies, lies_begun, payload_begun, payload_lies}
-use Rattle.pkops.proofs.Scans.{nothing_begun}
-use Rattle.pkops.proofs.Sizes.{begun_is_short}
+use Rattle.pkops.proofs.Begun.Counts.{begun_is_counted}
+use Rattle.pkops.proofs.Begun.Fronts.{fronts_begin}
+use Rattle.pkops.proofs.Begun.Growth.{count_large, count_negative, field_begun, field_lies, lies_begun, payload_begun, payload_lies}
+use Rattle.pkops.proofs.ExactReaders.Scans.{nothing_begun}
+use Rattle.pkops.proofs.Begun.Sizes.{begun_is_short}
 use Rattle.pkops.proofs.laws.growth.Goals as goal
 
 pub returns-clause-begun : goal.returns-clause-begun

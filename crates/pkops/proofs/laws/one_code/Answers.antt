@@ -1,4 +1,4 @@
-use Rattle.pkops.proofs.OpcodesFound.{one_code}
+use Rattle.pkops.proofs.OneOfEach.OneCode.{one_code}
 use Rattle.pkops.proofs.laws.one_code.Goals as goal
 
 pub returns : goal.returns

@@ -1,4 +1,4 @@
-use Rattle.pkops.proofs.Decided.{keeps_is, passes_of}
+use Rattle.pkops.proofs.ContentsRules.Decided.{keeps_is, passes_of}
 use Rattle.pkops.proofs.laws.rules_are_computed.Goals as goal
 
 pub returns : goal.returns

@@ -1,4 +1,4 @@
-use Rattle.pkops.proofs.TextNamed.{text_is_named}
+use Rattle.pkops.proofs.Instructions.TextNamed.{text_is_named}
 use Rattle.pkops.proofs.laws.text_is_named.Goals as goal
 
 pub returns : goal.returns

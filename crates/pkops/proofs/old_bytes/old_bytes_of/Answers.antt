@@ -1,6 +1,6 @@
 use Rattle.std.proofs.lemmas.Result.{IfOk-weaker}
 use Rattle.pkops.specs.Inst.{instruction_of}
-use Rattle.pkops.proofs.OldBytesNamed.{answered}
+use Rattle.pkops.proofs.Instructions.OldBytesNamed.{answered}
 use Rattle.pkops.proofs.old_bytes.old_bytes_of.Goals as goal
 
 pub returns-clause-named : goal.returns-clause-named

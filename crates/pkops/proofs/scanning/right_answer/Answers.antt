@@ -2,7 +2,7 @@ use Rattle.std.proofs.Common.{◌≡◌, [], ap, arith}
 use Rattle.std.proofs.lemmas.List.{nil_from_length}
 use Rattle.std.specs.Option.{option_map}
 use Rattle.pkops.specs.Inst.{instruction_of}
-use Rattle.pkops.proofs.Scans.{nothing_begun, all_rest_le, all_broken, read_is, unread_is, made_is}
+use Rattle.pkops.proofs.ExactReaders.Scans.{nothing_begun, all_rest_le, all_broken, read_is, unread_is, made_is}
 use Rattle.pkops.proofs.scanning.right_answer.Goals as goal
 
 pub returns-in_default : goal.returns-in_default

@@ -1,7 +1,7 @@
 use Rattle.std.specs.Prelude.{string_bytes}
 use Rattle.std.proofs.lemmas.Result.{IfOk-weaker}
 use Rattle.pkops.specs.Inst.{instruction_of}
-use Rattle.pkops.proofs.TextNamed.{answered}
+use Rattle.pkops.proofs.Instructions.TextNamed.{answered}
 use Rattle.pkops.proofs.text.text_of.Goals as goal
 
 pub returns-clause-named : goal.returns-clause-named

@@ -1,8 +1,8 @@
 use Rattle.std.proofs.Common.{Some, sym, ap, ◌∙◌, arith}
 use Rattle.std.specs.Prelude.{string_bytes}
 use Rattle.std.proofs.lemmas.List.{append-nil}
-use Rattle.pkops.proofs.EscapeLoop.{joined, not_ended, stops, kept_on, kept_last}
-use Rattle.pkops.proofs.EscapesRead.{joined_is}
+use Rattle.pkops.proofs.ContentsRules.EscapeLoop.{joined, not_ended, stops, kept_on, kept_last}
+use Rattle.pkops.proofs.ContentsRules.EscapesRead.{joined_is}
 use Rattle.pkops.proofs.contents.escapes.read_escaped.Goals as goal
 use Rattle.pkops.proofs.contents.escapes.read_escaped.Goals.{in-Some-character+in_ok-push, in_default-character}
 

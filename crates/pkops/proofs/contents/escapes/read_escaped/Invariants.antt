@@ -3,7 +3,7 @@ use Rattle.std.specs.Prelude.{string_bytes, encode_utf8_all}
 use Rattle.std.specs.Option.{option_map}
 use Rattle.pkops.specs.Private.EscapeSteps.{IsPointSoFar}
 use Rattle.pkops.specs.Escapes.{points_of}
-use Rattle.pkops.proofs.EscapeLoop.{code_points, joined}
+use Rattle.pkops.proofs.ContentsRules.EscapeLoop.{code_points, joined}
 use Rattle.pkops.proofs.contents.escapes.read_escaped.Given as goal
 
 -- the text so far and what is left give what all names

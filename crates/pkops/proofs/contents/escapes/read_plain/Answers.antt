@@ -1,5 +1,5 @@
 use Rattle.std.proofs.lemmas.Str.{IsUtf8-from_ascii}
-use Rattle.pkops.proofs.EscapesPlain.{plain_ascii}
+use Rattle.pkops.proofs.ContentsRules.EscapesPlain.{plain_ascii}
 use Rattle.pkops.proofs.contents.escapes.read_plain.Goals as goal
 
 pub unreachable-requires : goal.unreachable-requires

@@ -1,6 +1,6 @@
 use Rattle.std.proofs.Common.{sym, ◌∙◌}
 use Rattle.std.proofs.lemmas.Result.{IfOk-weaker}
-use Rattle.pkops.proofs.EscapesPlain.{plain_text}
+use Rattle.pkops.proofs.ContentsRules.EscapesPlain.{plain_text}
 use Rattle.pkops.proofs.contents.escapes.read_text.Goals as goal
 
 pub returns-then-is_plain : goal.returns-then-is_plain

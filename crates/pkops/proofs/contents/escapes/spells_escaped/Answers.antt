@@ -1,7 +1,7 @@
 use Rattle.std.proofs.Common.{sym, ap, ◌∙◌, arith}
 use Rattle.std.specs.Prelude.{is_some}
-use Rattle.pkops.proofs.EscapeLoop.{not_ended, stops, some_at_end, some_goes_on}
-use Rattle.pkops.proofs.EscapesRead.{named_is}
+use Rattle.pkops.proofs.ContentsRules.EscapeLoop.{not_ended, stops, some_at_end, some_goes_on}
+use Rattle.pkops.proofs.ContentsRules.EscapesRead.{named_is}
 use Rattle.pkops.proofs.contents.escapes.spells_escaped.Goals as goal
 
 pub bytes-init : goal.bytes-init

@@ -1,6 +1,6 @@
 use Rattle.std.proofs.Common.{ap, sym, ◌∙◌}
 use Rattle.std.specs.Prelude.{is_some}
-use Rattle.pkops.proofs.EscapesPlain.{plain_points}
+use Rattle.pkops.proofs.ContentsRules.EscapesPlain.{plain_points}
 use Rattle.pkops.proofs.contents.escapes.spells_text.Goals as goal
 
 pub returns-then-is_plain : goal.returns-then-is_plain

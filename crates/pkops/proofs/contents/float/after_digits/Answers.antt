@@ -1,5 +1,5 @@
 use Rattle.std.proofs.Common.{sym, ◌∙◌}
-use Rattle.pkops.proofs.Floats.{after_end, no_end}
+use Rattle.pkops.proofs.ContentsRules.Floats.{after_end, no_end}
 use Rattle.pkops.proofs.contents.float.after_digits.Goals as goal
 
 pub returns-in-Some : goal.returns-in-Some

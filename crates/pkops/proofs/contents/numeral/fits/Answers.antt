@@ -3,7 +3,7 @@ use Rattle.std.specs.Str.Parse.{digits_value}
 use Rattle.std.proofs.lemmas.Bool.{le-ltb, lt-ltb}
 use Rattle.std.proofs.lemmas.List.{take_all}
 use Rattle.std.proofs.lemmas.Str.Parse.{digits_value-take-le}
-use Rattle.pkops.proofs.Numerals.{one_more}
+use Rattle.pkops.proofs.ContentsRules.Numerals.{one_more}
 use Rattle.pkops.proofs.contents.numeral.fits.Goals as goal
 
 pub returns-in_default : goal.returns-in_default

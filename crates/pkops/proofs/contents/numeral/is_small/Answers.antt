@@ -1,6 +1,6 @@
 use Rattle.std.proofs.Common.{◌∙◌, sym}
 use Rattle.std.proofs.lemmas.Bool.{lt-ltb}
-use Rattle.pkops.proofs.Numerals.{few_digits}
+use Rattle.pkops.proofs.ContentsRules.Numerals.{few_digits}
 use Rattle.pkops.proofs.contents.numeral.is_small.Goals as goal
 
 pub returns-then-digits-lt10 : goal.returns-then-digits-lt10

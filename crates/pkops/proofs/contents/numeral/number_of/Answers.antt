@@ -1,5 +1,5 @@
 use Rattle.std.proofs.Common.{◌+◌, ◌*◌, ap, arith, refl}
-use Rattle.pkops.proofs.Numerals.{one_more, one_more_small}
+use Rattle.pkops.proofs.ContentsRules.Numerals.{one_more, one_more_small}
 use Rattle.pkops.proofs.contents.numeral.number_of.Goals as goal
 
 pub overflow_mul-number : goal.overflow_mul-number

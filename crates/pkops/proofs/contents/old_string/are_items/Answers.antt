@@ -1,6 +1,6 @@
 use Rattle.std.proofs.Common.{sym, ap, ◌∙◌, arith}
 use Rattle.std.specs.Prelude.{is_some}
-use Rattle.pkops.proofs.OldStrings.{not_ended, stops, some_at_end, some_goes_on, some_is}
+use Rattle.pkops.proofs.ContentsRules.OldStrings.{not_ended, stops, some_at_end, some_goes_on, some_is}
 use Rattle.pkops.proofs.contents.old_string.are_items.Goals as goal
 
 pub bytes-init : goal.bytes-init

@@ -1,6 +1,6 @@
 use Rattle.std.proofs.Common.{Some, sym, ap, ◌∙◌, arith}
 use Rattle.std.proofs.lemmas.List.{append-nil}
-use Rattle.pkops.proofs.OldStrings.{joined, joined_is, not_ended, stops, kept_on, kept_last}
+use Rattle.pkops.proofs.ContentsRules.OldStrings.{joined, joined_is, not_ended, stops, kept_on, kept_last}
 use Rattle.pkops.proofs.contents.old_string.read_items.Goals as goal
 use Rattle.pkops.proofs.contents.old_string.read_items.Goals.{in-Some-ended+in_ok-push, in_default-ended}
 

@@ -1,7 +1,7 @@
 use Rattle.std.proofs.Common.{◌≡◌, drop}
 use Rattle.pkops.specs.OldBytes.{bytes_between}
 use Rattle.pkops.specs.Private.Places.{HoldsDigit}
-use Rattle.pkops.proofs.OldStrings.{joined, spelled}
+use Rattle.pkops.proofs.ContentsRules.OldStrings.{joined, spelled}
 use Rattle.pkops.proofs.contents.old_string.read_items.Given as goal
 
 -- the bytes so far and what is left give what the whole spells

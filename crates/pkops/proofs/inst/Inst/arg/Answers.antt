@@ -1,6 +1,6 @@
 use Rattle.std.proofs.Common.{◌∙◌, sym}
-use Rattle.pkops.proofs.Good.{had_good}
-use Rattle.pkops.proofs.BehindCode.{form_held, form_lies}
+use Rattle.pkops.proofs.Instructions.Good.{had_good}
+use Rattle.pkops.proofs.Instructions.BehindCode.{form_held, form_lies}
 use Rattle.pkops.proofs.inst.Inst.arg.Goals as goal
 
 pub returns-in-Made-clause-good : goal.returns-in-Made-clause-good

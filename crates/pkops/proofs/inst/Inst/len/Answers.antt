@@ -1,7 +1,7 @@
 use Rattle.std.proofs.Common.{subst}
 use Rattle.pkops.specs.Behind.{argument_in}
 use Rattle.pkops.specs.Spelling.{Suits, layout_at}
-use Rattle.pkops.proofs.Good.{had_good}
+use Rattle.pkops.proofs.Instructions.Good.{had_good}
 use Rattle.pkops.proofs.inst.Inst.len.Goals as goal
 
 pub argument_len-requires : goal.argument_len-requires

@@ -3,8 +3,8 @@ use Rattle.pkops.specs.Behind.{argument_in}
 use Rattle.pkops.specs.Contents.{IsGood}
 use Rattle.pkops.specs.Operands.{memo_entry, number_said}
 use Rattle.pkops.specs.Spelling.{instruction}
-use Rattle.pkops.proofs.Good.{had_good}
-use Rattle.pkops.proofs.BehindCode.{form_held}
+use Rattle.pkops.proofs.Instructions.Good.{had_good}
+use Rattle.pkops.proofs.Instructions.BehindCode.{form_held}
 use Rattle.pkops.proofs.inst.Inst.memo_number.Goals as goal
 
 pub memo_number_in-requires-clause-good : goal.memo_number_in-requires-clause-good

@@ -3,8 +3,8 @@ use Rattle.pkops.specs.declared.op.Op.TheVariants as op
 use Rattle.pkops.specs.Behind.{argument_in}
 use Rattle.pkops.specs.Lying.{Lies}
 use Rattle.pkops.specs.Operands.{names_bool_by}
-use Rattle.pkops.proofs.Good.{had_good}
-use Rattle.pkops.proofs.BehindCode.{form_held}
+use Rattle.pkops.proofs.Instructions.Good.{had_good}
+use Rattle.pkops.proofs.Instructions.BehindCode.{form_held}
 use Rattle.pkops.proofs.inst.Inst.names_bool.Goals as goal
 
 pub is_bool_behind-requires : goal.is_bool_behind-requires

@@ -1,4 +1,4 @@
-use Rattle.pkops.proofs.Good.{had_good}
+use Rattle.pkops.proofs.Instructions.Good.{had_good}
 use Rattle.pkops.proofs.inst.Inst.op.Goals as goal
 
 pub returns-clause-good : goal.returns-clause-good

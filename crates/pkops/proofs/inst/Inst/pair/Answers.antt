@@ -1,6 +1,6 @@
-use Rattle.pkops.proofs.Good.{had_good}
+use Rattle.pkops.proofs.Instructions.Good.{had_good}
 use Rattle.pkops.specs.Inst.{instruction_of}
-use Rattle.pkops.proofs.Names.{are_text}
+use Rattle.pkops.proofs.ContentsRules.Names.{are_text}
 use Rattle.pkops.proofs.inst.Inst.pair.Goals as goal
 
 pub unreachable-requires : goal.unreachable-requires

@@ -3,7 +3,7 @@ use Rattle.std.proofs.lemmas.Grind.{merely}
 use Rattle.pkops.specs.Contents.{IsGood}
 use Rattle.pkops.specs.Lying.{split_of}
 use Rattle.pkops.specs.Spelling.{instruction, spelling}
-use Rattle.pkops.proofs.BehindCode.{lies_behind}
+use Rattle.pkops.proofs.Instructions.BehindCode.{lies_behind}
 use Rattle.pkops.proofs.inst.Inst.spelled.Goals as goal
 
 pub invariant_of-result : goal.invariant_of-result

@@ -8,7 +8,7 @@ use Rattle.pkops.specs.Spelling.{Argument, Line, Counted, Instruction}
 use Rattle.pkops.specs.Contents.{rule_of}
 use Rattle.pkops.specs.Escapes.{SpellsText, points_of}
 use Rattle.pkops.specs.Text.{NamesTextBy, NamesText, text_by, text_bytes}
-use Rattle.pkops.proofs.EscapesSpelled.{points_of_spelled, spelled_points}
+use Rattle.pkops.proofs.ContentsRules.EscapesSpelled.{points_of_spelled, spelled_points}
 
 -- the two sides of a line of UNICODE, given what is read of it
 line_forth : (line text : List ℕ) → (points : List ℕ) × SpellsText line points × (text ≡ encode_utf8_all points) → option_map encode_utf8_all (points_of line) ≡ Some text

@@ -16,11 +16,11 @@ use Rattle.pkops.specs.declared.reading.Unread.TheVariants.{Short, Bad}
 use Rattle.pkops.specs.Spelling.{Argument, Nothing, Number, Signed, Float, Line, Pair, Counted, Suits, laid, IsLine}
 use Rattle.pkops.specs.Scanning.{IsWithin, MayBegin, IsNegative, IsAbove}
 use Rattle.pkops.specs.Private.Reading.{◌>>=◌, arg_at}
-use Rattle.pkops.proofs.Exact.{IsBytes, Lacks, Takes, IsExact}
-use Rattle.pkops.proofs.Fields.{ok_is, NoFault, self, number_exact, bytes_exact, some_left}
-use Rattle.pkops.proofs.Lines.{LineFault, line_text, line_exact}
-use Rattle.pkops.proofs.Pairs.{bind_ok, bind_err, IsPair, PairFault, pair_text, pair_exact}
-use Rattle.pkops.proofs.Payloads.{IsPayload, MayPayload, PayloadFault, counted, payload_exact}
+use Rattle.pkops.proofs.ExactReaders.Exact.{IsBytes, Lacks, Takes, IsExact}
+use Rattle.pkops.proofs.ExactReaders.Fields.{ok_is, NoFault, self, number_exact, bytes_exact, some_left}
+use Rattle.pkops.proofs.ExactReaders.Lines.{LineFault, line_text, line_exact}
+use Rattle.pkops.proofs.ExactReaders.LinePairs.{bind_ok, bind_err, IsPair, PairFault, pair_text, pair_exact}
+use Rattle.pkops.proofs.ExactReaders.Payloads.{IsPayload, MayPayload, PayloadFault, counted, payload_exact}
 
 pub record IsArgument (limit : ℕ) (lay : Layout) (arg : Argument) : Type 0 where
   pub suits : Suits lay arg

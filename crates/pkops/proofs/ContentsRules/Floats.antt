@@ -7,7 +7,7 @@ use Rattle.std.proofs.lemmas.List.{take_rest, nil_from_length, length-drop}
 use Rattle.std.proofs.lemmas.List.Sums.{AllPass-from_list_all, list_all-from_AllPass}
 use Rattle.pkops.specs.Floats.{IsDigits, IsFraction, IsSign, IsExponent, Optional, IsDecimal, IsUnsigned, IsFloatLine}
 use Rattle.pkops.specs.Deciding.{starts_with_digit, after_digits, is_digits, is_signed_digits, is_exponent_or_end, is_after_whole, is_decimal, is_word, is_unsigned, is_float_line}
-use Rattle.pkops.proofs.Numerals.{or_right}
+use Rattle.pkops.proofs.ContentsRules.Numerals.{or_right}
 
 -- ---- digits at the front
 

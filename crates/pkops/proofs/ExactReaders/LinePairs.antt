@@ -9,10 +9,10 @@ use Rattle.pkops.specs.declared.reading.Unread.TheVariants.{Short, Bad}
 use Rattle.pkops.specs.Spelling.{IsLine}
 use Rattle.pkops.specs.Private.Reading.{◌>>=◌, line_at, pair_at}
 use Rattle.pkops.specs.Scanning.{IsLong}
-use Rattle.pkops.proofs.Exact.{IsBytes, Lacks, Takes, IsExact}
-use Rattle.pkops.proofs.Fields.{ok_is, not_nil}
-use Rattle.pkops.proofs.Lines.{line_text, LineFault, line_exact}
-use Rattle.pkops.proofs.Payloads.{cut}
+use Rattle.pkops.proofs.ExactReaders.Exact.{IsBytes, Lacks, Takes, IsExact}
+use Rattle.pkops.proofs.ExactReaders.Fields.{ok_is, not_nil}
+use Rattle.pkops.proofs.ExactReaders.Lines.{line_text, LineFault, line_exact}
+use Rattle.pkops.proofs.ExactReaders.Payloads.{cut}
 
 -- the value of a step that did not fail, and the fault of one that did
 pub bind_ok : {A B : Type 0} (r : Result A Unread) (f : A → Result B Unread) (y : B) → (r >>= f) ≡ Ok y → (x : A) × (r ≡ Ok x) × (f x ≡ Ok y)

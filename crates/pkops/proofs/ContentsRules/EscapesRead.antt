@@ -14,8 +14,8 @@ use Rattle.pkops.specs.declared.contents.escapes.State.{State}
 use Rattle.pkops.specs.declared.contents.escapes.State.TheVariants.{Outside, Behind, Digits}
 use Rattle.pkops.specs.Escapes.{Character, plain, short, long, print_character, code_point, IsEscape, IsCharacter, SpellsText, points_of}
 use Rattle.pkops.specs.Private.EscapeSteps.{is_scalar, escape_step}
-use Rattle.pkops.proofs.EscapeLoop.{with_point, code_points, text_named, one_step, joined}
-use Rattle.pkops.proofs.EscapesSpelled.{points_of_spelled, spelled_points}
+use Rattle.pkops.proofs.ContentsRules.EscapeLoop.{with_point, code_points, text_named, one_step, joined}
+use Rattle.pkops.proofs.ContentsRules.EscapesSpelled.{points_of_spelled, spelled_points}
 
 -- ---- code points
 

@@ -6,7 +6,7 @@ use Rattle.std.specs.Char.{is_ascii_hexdigit}
 use Rattle.std.proofs.lemmas.Bool.{and_parts, cases_Bool, eqb-true, eqb-false, ne_eqb, leb-true, le-leb, both_ways}
 use Rattle.pkops.specs.OldStrings.{Item, plain, escape, hex, print_item, is_escape_letter, IsItem, is_plain, hex_at, old_escape_at, item_at, items_of}
 use Rattle.pkops.specs.Deciding.{are_items}
-use Rattle.pkops.proofs.FormsRead.{IsRead, IsPrinted, AreInverse, read_of, printed_of}
+use Rattle.pkops.proofs.ContentsRules.FormsRead.{IsRead, IsPrinted, AreInverse, read_of, printed_of}
 
 abbrev pub Items : ℕ → List ℕ → Type 0
 Items quote bytes = (items : List Item) × All (IsItem quote) items × (bytes ≡ flat_map print_item items)

@@ -15,11 +15,11 @@ use Rattle.pkops.specs.Private.Reading.{arg_at, payload_at, bytes_at}
 use Rattle.pkops.specs.Scanning.{Begun, HasFault}
 use Rattle.pkops.specs.Spelling.{Argument, Nothing, Number, Signed, Float, Counted, instruction, laid, layout_at, size_of, count_limit}
 use Rattle.pkops.specs.Table.{code_of}
-use Rattle.pkops.proofs.Arguments.{arg_exact}
-use Rattle.pkops.proofs.Exact.{IsBytes}
-use Rattle.pkops.proofs.Fields.{too_few, enough, few_bytes, many_bytes, not_nil}
-use Rattle.pkops.proofs.Payloads.{no_count, negative, large, plain}
-use Rattle.pkops.proofs.Scans.{begun, faulty}
+use Rattle.pkops.proofs.ExactReaders.Arguments.{arg_exact}
+use Rattle.pkops.proofs.ExactReaders.Exact.{IsBytes}
+use Rattle.pkops.proofs.ExactReaders.Fields.{too_few, enough, few_bytes, many_bytes, not_nil}
+use Rattle.pkops.proofs.ExactReaders.Payloads.{no_count, negative, large, plain}
+use Rattle.pkops.proofs.ExactReaders.Scans.{begun, faulty}
 
 -- a field that lacks a byte
 pub field_short : (limit : ℕ) (lay : Layout) (from : List ℕ) → length from < field_len lay → arg_at limit lay from ≡ Err Short

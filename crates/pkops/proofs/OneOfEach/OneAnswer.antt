@@ -12,9 +12,9 @@ use Rattle.pkops.specs.Spelling.{Argument, Instruction, instruction, laid, layou
 use Rattle.pkops.specs.Contents.{IsGood}
 use Rattle.pkops.specs.Answer.{Answers}
 use Rattle.pkops.specs.Private.Reading.{arg_at}
-use Rattle.pkops.proofs.Fields.{ok_is}
-use Rattle.pkops.proofs.Arguments.{ArgFault, arg_exact}
-use Rattle.pkops.proofs.OpcodesFound.{one_code}
+use Rattle.pkops.proofs.ExactReaders.Fields.{ok_is}
+use Rattle.pkops.proofs.ExactReaders.Arguments.{ArgFault, arg_exact}
+use Rattle.pkops.proofs.OneOfEach.OneCode.{one_code}
 
 -- what reading behind the code gives, for each answer
 data Found (limit code : ℕ) (from : List ℕ) : Answer → Type 0 where

@@ -8,7 +8,7 @@ use Rattle.pkops.specs.declared.layout.Layout.TheVariants as layout
 use Rattle.pkops.specs.Spelling.{Argument, Nothing, Number, Signed, Float, Line, Pair, Counted, Instruction, IsLine, Suits, layout_at}
 use Rattle.pkops.specs.declared.contents.Rule.{Rule}
 use Rattle.pkops.specs.Contents.{rule_of, Keeps, IsGood}
-use Rattle.pkops.proofs.Decided.{keeps_is, passes_of}
+use Rattle.pkops.proofs.ContentsRules.Decided.{keeps_is, passes_of}
 use Rattle.std.proofs.Math.Bool.{Bool-set}
 
 had_le : {a b : ℕ} → ∥ a ≤ b ∥₁ → a ≤ b

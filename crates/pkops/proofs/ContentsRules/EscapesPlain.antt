@@ -10,9 +10,9 @@ use Rattle.std.proofs.lemmas.Str.{encodes-IsAscii}
 use Rattle.pkops.specs.declared.contents.escapes.State.TheVariants.{Outside}
 use Rattle.pkops.specs.Escapes.{points_of}
 use Rattle.pkops.specs.Private.EscapeSteps.{is_plain_ascii}
-use Rattle.pkops.proofs.EscapeLoop.{code_points}
-use Rattle.pkops.proofs.EscapesRead.{named_is}
-use Rattle.pkops.proofs.Names.{ascii_is}
+use Rattle.pkops.proofs.ContentsRules.EscapeLoop.{code_points}
+use Rattle.pkops.proofs.ContentsRules.EscapesRead.{named_is}
+use Rattle.pkops.proofs.ContentsRules.Names.{ascii_is}
 
 not_so : (b : Bool) → not b ≡ true → b ≡ false
 not_so true e = absurd cc

@@ -9,9 +9,9 @@ use Rattle.pkops.specs.declared.reading.Unread.TheVariants.{Short, Bad}
 use Rattle.pkops.specs.Spelling.{IsLine}
 use Rattle.pkops.specs.Private.Reading.{line_at}
 use Rattle.pkops.specs.Scanning.{IsLong}
-use Rattle.pkops.proofs.LineEnds.{Clean, end_of, end_at, no_end, IsSplit, either_end}
-use Rattle.pkops.proofs.Exact.{IsBytes, Lacks, Takes, IsExact}
-use Rattle.pkops.proofs.Fields.{after_fits, not_nil, some_left, ok_is}
+use Rattle.pkops.proofs.ExactReaders.LineEnds.{Clean, end_of, end_at, no_end, IsSplit, either_end}
+use Rattle.pkops.proofs.ExactReaders.Exact.{IsBytes, Lacks, Takes, IsExact}
+use Rattle.pkops.proofs.ExactReaders.Fields.{after_fits, not_nil, some_left, ok_is}
 
 pub lt-leb : (a b : ℕ) → b < a → leb a b ≡ false
 lt-leb a b h = elim (leb a b) as (λ v. leb a b ≡ v → leb a b ≡ false) [ true ↦ λ e. absurd (let le = leb-true a b e in omega arith) | false ↦ λ e. e ] refl

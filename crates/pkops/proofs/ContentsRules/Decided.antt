@@ -9,11 +9,11 @@ use Rattle.pkops.specs.Spelling.{Argument, Line, Pair, Counted}
 use Rattle.pkops.specs.Contents.{Keeps}
 use Rattle.pkops.specs.Deciding.{passes, is_name}
 use Rattle.pkops.specs.Escapes.{IsTextLine, points_of}
-use Rattle.pkops.proofs.EscapesSpelled.{points_of_spelled, spelled_points}
-use Rattle.pkops.proofs.Floats.{float_is, is_float_of}
-use Rattle.pkops.proofs.Names.{ascii_is, is_ascii_of, name_is, is_name_of}
-use Rattle.pkops.proofs.Numerals.{int_is, is_int_of, long_is, is_long_of, memo_number_is, is_memo_number_of}
-use Rattle.pkops.proofs.OldStrings.{string_is, is_string_of}
+use Rattle.pkops.proofs.ContentsRules.EscapesSpelled.{points_of_spelled, spelled_points}
+use Rattle.pkops.proofs.ContentsRules.Floats.{float_is, is_float_of}
+use Rattle.pkops.proofs.ContentsRules.Names.{ascii_is, is_ascii_of, name_is, is_name_of}
+use Rattle.pkops.proofs.ContentsRules.Numerals.{int_is, is_int_of, long_is, is_long_of, memo_number_is, is_memo_number_of}
+use Rattle.pkops.proofs.ContentsRules.OldStrings.{string_is, is_string_of}
 
 some_read : (line : List ℕ) (read : Option (List ℕ)) → points_of line ≡ read → is_some read ≡ true → IsTextLine line
 some_read line None e some = absurd cc

@@ -13,8 +13,8 @@ use Rattle.pkops.specs.Payloads.{HasCount}
 use Rattle.pkops.specs.Scanning.{Begun, IsWithin, count_len}
 use Rattle.pkops.specs.Spelling.{Argument, Counted, Suits, count_limit, laid, layout_at, size_of}
 use Rattle.pkops.specs.Table.{code_of}
-use Rattle.pkops.proofs.Payloads.{cut, limit_fits}
-use Rattle.pkops.proofs.Sizes.{begun_is_short}
+use Rattle.pkops.proofs.ExactReaders.Payloads.{cut, limit_fits}
+use Rattle.pkops.proofs.Begun.Sizes.{begun_is_short}
 
 -- a payload behind a count, or none
 record CountedBy (lay : Layout) (arg : Argument) (count : ℕ) : Type 0 where

@@ -6,9 +6,9 @@ use Rattle.pkops.specs.Table.{code_of}
 use Rattle.pkops.specs.Spelling.{Argument, Counted, Instruction, instruction, laid, layout_at, spelling}
 use Rattle.pkops.specs.Scanning.{IsWithin, Spells}
 use Rattle.pkops.specs.Private.Reading.{arg_at}
-use Rattle.pkops.proofs.Fields.{ok_is}
-use Rattle.pkops.proofs.Arguments.{arg_exact}
-use Rattle.pkops.proofs.OpcodesFound.{one_code}
+use Rattle.pkops.proofs.ExactReaders.Fields.{ok_is}
+use Rattle.pkops.proofs.ExactReaders.Arguments.{arg_exact}
+use Rattle.pkops.proofs.OneOfEach.OneCode.{one_code}
 
 payload_len : Argument → ℕ
 payload_len (Counted payload) = length payload

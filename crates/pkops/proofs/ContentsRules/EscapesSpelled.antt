@@ -8,7 +8,7 @@ use Rattle.std.proofs.lemmas.List.{take_at, take-append-drop}
 use Rattle.std.proofs.lemmas.List.Sums.{AllPass-from_list_all, list_all-from_AllPass}
 use Rattle.pkops.specs.Escapes.{Character, plain, short, long, print_character, code_point, IsEscape, IsCharacter, SpellsText, is_escape, digits_at, escape_at, character_at, points_of}
 use Rattle.pkops.specs.Forms.{forms_of}
-use Rattle.pkops.proofs.FormsRead.{IsRead, IsPrinted, AreInverse, read_of, printed_of}
+use Rattle.pkops.proofs.ContentsRules.FormsRead.{IsRead, IsPrinted, AreInverse, read_of, printed_of}
 
 -- ---- one escape
 

@@ -10,7 +10,7 @@ use Rattle.pkops.specs.declared.op.Op.TheVariants as op
 use Rattle.pkops.specs.OldBytes.{NamesBytes, NamesBytesBy, SpellsBytes, bytes_between, bytes_by, bytes_of_line, is_in_quotes, old_bytes}
 use Rattle.pkops.specs.OldStrings.{IsQuote, print_item}
 use Rattle.pkops.specs.Spelling.{Argument, Line, Counted, Instruction}
-use Rattle.pkops.proofs.OldStrings.{between_spelled, framed, is_quote_of, quote_is, spelled_between}
+use Rattle.pkops.proofs.ContentsRules.OldStrings.{between_spelled, framed, is_quote_of, quote_is, spelled_between}
 
 -- quotes around an inside: what is between them is read
 quoted : (quote : ℕ) (inside : List ℕ) → IsQuote quote → bytes_of_line (quote ∷ inside ++ quote ∷ []) ≡ bytes_between quote inside

@@ -17,9 +17,9 @@ use Rattle.pkops.specs.Contents.{IsGood}
 use Rattle.pkops.specs.Scanning.{Begun, HasFault}
 use Rattle.pkops.specs.Answer.{IsWhole, Answers}
 use Rattle.pkops.specs.Private.Reading.{IsUnread, arg_at}
-use Rattle.pkops.proofs.Exact.{IsBytes, Takes}
-use Rattle.pkops.proofs.Fields.{not_nil}
-use Rattle.pkops.proofs.Arguments.{IsArgument, ArgFault, arg_exact}
+use Rattle.pkops.proofs.ExactReaders.Exact.{IsBytes, Takes}
+use Rattle.pkops.proofs.ExactReaders.Fields.{not_nil}
+use Rattle.pkops.proofs.ExactReaders.Arguments.{IsArgument, ArgFault, arg_exact}
 
 -- no bytes begin an instruction
 pub nothing_begun : (limit : ℕ) → Begun limit []

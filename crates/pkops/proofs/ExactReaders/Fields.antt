@@ -10,7 +10,7 @@ use Rattle.pkops.specs.declared.fault.Fault.{Fault}
 use Rattle.pkops.specs.declared.reading.Unread.{Unread}
 use Rattle.pkops.specs.declared.reading.Unread.TheVariants.{Short, Bad}
 use Rattle.pkops.specs.Private.Reading.{bytes_at, number_at}
-use Rattle.pkops.proofs.Exact.{IsBytes, Lacks, Takes, IsExact}
+use Rattle.pkops.proofs.ExactReaders.Exact.{IsBytes, Lacks, Takes, IsExact}
 
 pub IsBytes-drop : (n : ℕ) (bytes : List ℕ) → IsBytes bytes → IsBytes (drop n bytes)
 IsBytes-drop n bytes h i = rw get_or-drop (h (n + i))

@@ -2,7 +2,7 @@
 use Rattle.std.proofs.Common.{ℕ, List, ◌++◌, ◌∙◌, append_assoc, arith}
 use Rattle.std.proofs.lemmas.List.{length-append, length-drop}
 use Rattle.pkops.specs.Scanning.{Begun}
-use Rattle.pkops.proofs.Fields.{not_nil, some_left}
+use Rattle.pkops.proofs.ExactReaders.Fields.{not_nil, some_left}
 
 pub fronts_begin : (limit : ℕ) (front more : List ℕ) → Begun limit (front ++ more) → Begun limit front
 fronts_begin limit front more (i, rest, h) = (

@@ -17,10 +17,10 @@ use Rattle.pkops.specs.Forms.{forms_behind}
 use Rattle.pkops.specs.Scanning.{longest}
 use Rattle.pkops.specs.OldBytes.{old_bytes}
 use Rattle.pkops.specs.Text.{text_bytes}
-use Rattle.pkops.proofs.EscapesSpelled.{points_of_spelled, spelled_points}
-use Rattle.pkops.proofs.Floats.{float_is, is_float_of}
-use Rattle.pkops.proofs.Numerals.{int_is, is_int_of, long_is, is_long_of, memo_number_is, is_memo_number_of}
-use Rattle.pkops.proofs.OldStrings.{string_is, is_string_of}
+use Rattle.pkops.proofs.ContentsRules.EscapesSpelled.{points_of_spelled, spelled_points}
+use Rattle.pkops.proofs.ContentsRules.Floats.{float_is, is_float_of}
+use Rattle.pkops.proofs.ContentsRules.Numerals.{int_is, is_int_of, long_is, is_long_of, memo_number_is, is_memo_number_of}
+use Rattle.pkops.proofs.ContentsRules.OldStrings.{string_is, is_string_of}
 
 -- ---- spellings
 

@@ -14,9 +14,9 @@ use Rattle.pkops.specs.declared.reading.Unread.{Unread}
 use Rattle.pkops.specs.declared.reading.Unread.TheVariants.{Short, Bad}
 use Rattle.pkops.specs.Spelling.{size_of, count_limit}
 use Rattle.pkops.specs.Private.Reading.{bytes_at, payload_at}
-use Rattle.pkops.proofs.Exact.{IsBytes, Lacks, Takes, IsExact}
-use Rattle.pkops.proofs.Fields.{IsBytes-drop, not_nil, some_left, zeros_fit, length-zeros, bytes_back, too_few, enough, few_bytes, many_bytes, bytes_again, bytes_takes}
-use Rattle.pkops.proofs.Lines.{lt-leb}
+use Rattle.pkops.proofs.ExactReaders.Exact.{IsBytes, Lacks, Takes, IsExact}
+use Rattle.pkops.proofs.ExactReaders.Fields.{IsBytes-drop, not_nil, some_left, zeros_fit, length-zeros, bytes_back, too_few, enough, few_bytes, many_bytes, bytes_again, bytes_takes}
+use Rattle.pkops.proofs.ExactReaders.Lines.{lt-leb}
 
 -- bytes and then zeros read as a small number
 zeros_are : (n : ℕ) → little_from 0 n (replicate n 0) ≡ 0
