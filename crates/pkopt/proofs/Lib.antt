@@ -1,23 +1,5 @@
-pub mod Recalling
-pub mod NewNumbers
-pub mod NewForms
-pub mod AlikeSteps
-pub mod Slimming
-pub mod Remembering
-pub mod Following
-pub mod Plain
-pub mod Standing
-pub mod Hearing
-pub mod Keeping
-pub mod Fating
-pub mod Written
-pub mod Rereading
-pub mod OneFraming
-pub mod Origins
-pub mod Faultless
-pub mod Framed
+pub mod MemoWrites
+pub mod SlimForm
+pub mod BothRuns
+pub mod OneFrame
 pub mod Optimized
-pub mod FormAccepted
-pub mod Allowing
-pub mod Sequencing
-mod SlimRows

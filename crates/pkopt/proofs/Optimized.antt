@@ -37,14 +37,14 @@ use Rattle.pkopt.specs.OneFrame.{has_frame, optimized}
 use Rattle.pkopt.specs.RunsAlike.{RunsAlike}
 use Rattle.pkopt.specs.Slim.{slim}
 use Rattle.pkopt.specs.Writers.{Writes, after, sources, new_number, after_all}
-use Rattle.pkopt.proofs.Faultless.{stays_faultless}
-use Rattle.pkopt.proofs.NewNumbers.{after_all_le, new_least, new_up_to}
-use Rattle.pkopt.proofs.Hearing.{heard_tracks}
-use Rattle.pkopt.proofs.OneFraming.{optimized_alike, optimized_framed, optimized_bytes, slim_bytes}
-use Rattle.pkopt.proofs.Origins.{counterpart}
-use Rattle.pkopt.proofs.Rereading.{all_read, after_all-append}
-use Rattle.pkopt.proofs.Sequencing.{optimized_sequence}
-use Rattle.pkopt.proofs.Slimming.{AreSmall, slim_alike}
+use Rattle.pkopt.proofs.BothRuns.Faultless.{stays_faultless}
+use Rattle.pkopt.proofs.MemoWrites.NewNumbers.{after_all_le, new_least, new_up_to}
+use Rattle.pkopt.proofs.BothRuns.Heard.{heard_tracks}
+use Rattle.pkopt.proofs.OneFrame.FramedForm.{optimized_alike, optimized_framed, optimized_bytes, slim_bytes}
+use Rattle.pkopt.proofs.BothRuns.Origins.{counterpart}
+use Rattle.pkopt.proofs.SlimForm.WritesRead.{all_read, after_all-append}
+use Rattle.pkopt.proofs.OneFrame.OneSequence.{optimized_sequence}
+use Rattle.pkopt.proofs.BothRuns.SlimRuns.{AreSmall, slim_alike}
 
 ends_in_stop : (limit : ℕ) (front : List Instruction) (last : Instruction) → All (IsAllowed limit) (front ++ last ∷ []) → last.op ≡ Stop → All (λ i. i.op ≢ Stop) front → EndsInStop limit (front ++ last ∷ [])
 ends_in_stop limit [] last each stop none = (each 0 last (omega arith), inl (stop, refl))

@@ -1,6 +1,6 @@
 use Rattle.std.proofs.Common.{List, ℕ, ◌≤◌, ◌++◌, sym, ap, subst, ◌∙◌, drop, length}
 use Rattle.pkopt.specs.Private.FrameBytes.{frame_front}
-use Rattle.pkopt.proofs.Framed.{frame_filled, front_size, left_of_slice}
+use Rattle.pkopt.proofs.OneFrame.RoomBefore.{frame_filled, front_size, left_of_slice}
 use Rattle.pkopt.proofs.frame.put_in_frame.Goals as goal
 
 pub returns : goal.returns

@@ -1,4 +1,4 @@
-use Rattle.pkopt.proofs.FormAccepted.{form_is_accepted}
+use Rattle.pkopt.proofs.BothRuns.FormAccepted.{form_is_accepted}
 use Rattle.pkopt.proofs.laws.form_is_accepted.Goals as goal
 
 pub returns : goal.returns

@@ -1,6 +1,6 @@
 use Rattle.std.proofs.Common.{◌∙◌, arith, refl, None, true, ◌+◌}
 use Rattle.std.proofs.lemmas.List.{length-set}
-use Rattle.pkopt.proofs.Keeping.{marked, unmarked, unmarked_past}
+use Rattle.pkopt.proofs.MemoWrites.WritesKept.{marked, unmarked, unmarked_past}
 use Rattle.pkopt.proofs.numbers.kept_among.Goals as goal
 use Rattle.pkopt.proofs.numbers.kept_among.Goals.{in-Some+then-write-len, in-Some+else-write-len, in_default}
 

@@ -1,6 +1,6 @@
 use Rattle.std.proofs.Common.{sym, subst}
 use Rattle.pkopt.specs.Private.Passes.{AreKept}
-use Rattle.pkopt.proofs.Keeping.{if_ok_map}
+use Rattle.pkopt.proofs.MemoWrites.WritesKept.{if_ok_map}
 use Rattle.pkopt.proofs.numbers.new_numbers.Goals as goal
 
 pub returns : goal.returns

@@ -1,5 +1,5 @@
 use Rattle.std.proofs.Common.{arith, sym, ap, length, length-append, ◌+◌, ◌∷◌, []}
-use Rattle.pkopt.proofs.Keeping.{numbers_on, after_within}
+use Rattle.pkopt.proofs.MemoWrites.WritesKept.{numbers_on, after_within}
 use Rattle.pkopt.proofs.numbers.numbered.Goals as goal
 
 pub loop-stays-preserved : goal.loop-stays-preserved

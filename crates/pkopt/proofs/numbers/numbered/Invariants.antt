@@ -1,6 +1,6 @@
 use Rattle.std.proofs.Common.{◌≡◌, ◌≤◌, ℕ, List, Option, length}
 use Rattle.pkopt.specs.Private.Passes.{AreKept}
-use Rattle.pkopt.proofs.Keeping.{NumbersTo}
+use Rattle.pkopt.proofs.MemoWrites.WritesKept.{NumbersTo}
 use Rattle.pkopt.proofs.numbers.numbered.Given as goal
 
 abbrev pub invariant-loop-stays : goal.invariant-loop-stays

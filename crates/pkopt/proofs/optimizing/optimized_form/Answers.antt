@@ -5,9 +5,9 @@ use Rattle.pkopt.specs.declared.place.Place.{Place}
 use Rattle.pkopt.specs.Private.Fates.{Aims}
 use Rattle.pkopt.specs.Private.FrameBytes.{framed_bytes}
 use Rattle.pkopt.specs.Slim.{is_frame}
-use Rattle.pkopt.proofs.Framed.{room_there}
+use Rattle.pkopt.proofs.OneFrame.RoomBefore.{room_there}
 use Rattle.pkopt.proofs.Optimized.{aims_at, optimizes, slim_refused}
-use Rattle.pkopt.proofs.Standing.{framed_places}
+use Rattle.pkopt.proofs.SlimForm.Unchanged.{framed_places}
 use Rattle.pkopt.proofs.optimizing.optimized_form.Goals as goal
 
 short_bytes : {A : Type 0} (len cap : ℕ) (items : List A) → (len ≡ length items) × (len ≤ cap) → cap < 2 ^ 63 → length items < 2 ^ 64

@@ -2,7 +2,7 @@ use Rattle.std.proofs.Common.{arith, subst, sym}
 use Rattle.pkops.specs.declared.Op.TheVariants as op
 use Rattle.pkopt.specs.declared.place.Place.{Place}
 use Rattle.pkopt.specs.Private.Fates.{StopsSlim}
-use Rattle.pkopt.proofs.Written.{begun_at, begun_last, slimmed_at, slimmed_end, slimmed_halted, slimmed_last, slimmed_next, within_at}
+use Rattle.pkopt.proofs.SlimForm.Written.{begun_at, begun_last, slimmed_at, slimmed_end, slimmed_halted, slimmed_last, slimmed_next, within_at}
 use Rattle.pkopt.proofs.slim.slim_of.Goals as goal
 
 abbrev none : Place

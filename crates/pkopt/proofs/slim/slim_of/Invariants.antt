@@ -1,7 +1,7 @@
 use Rattle.std.proofs.Common.{List, ◌≤◌, drop}
 use Rattle.pkops.specs.Spelling.{Instruction}
 use Rattle.pkopt.specs.Private.Fates.{Aims}
-use Rattle.pkopt.proofs.Written.{Slimmed}
+use Rattle.pkopt.proofs.SlimForm.Written.{Slimmed}
 use Rattle.pkopt.proofs.slim.slim_of.Given as goal
 
 abbrev pub invariant-loop-place : goal.invariant-loop-place

@@ -1,5 +1,5 @@
 use Rattle.std.proofs.Common.{arith, inl, inr}
-use Rattle.pkopt.proofs.Remembering.{noted_in_rest}
+use Rattle.pkopt.proofs.MemoWrites.Noted.{noted_in_rest}
 use Rattle.pkopt.proofs.memo.Memo.note.Goals as goal
 
 pub returns-then-number-self : goal.returns-then-number-self

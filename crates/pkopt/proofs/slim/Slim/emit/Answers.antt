@@ -1,6 +1,6 @@
 use Rattle.std.proofs.Common.{subst, sym}
 use Rattle.pkopt.specs.Private.Fates.{Emitted}
-use Rattle.pkopt.proofs.Standing.{form_on}
+use Rattle.pkopt.proofs.SlimForm.Unchanged.{form_on}
 use Rattle.pkopt.proofs.slim.Slim.emit.Goals as goal
 
 pub returns-in-Stays-clause-form : goal.returns-in-Stays-clause-form

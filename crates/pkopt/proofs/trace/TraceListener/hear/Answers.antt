@@ -2,7 +2,7 @@ use Rattle.std.proofs.Common.{sym, ap, refl, ◌∙◌, ◌++◌, ◌∷◌, []}
 use Rattle.pkops.specs.Inst.{instruction_of}
 use Rattle.pkopt.specs.declared.place.Place.{Place}
 use Rattle.pkopt.specs.Private.Places.{stays_as_is}
-use Rattle.pkopt.proofs.Hearing.{other_heard}
+use Rattle.pkopt.proofs.BothRuns.Heard.{other_heard}
 use Rattle.pkopt.proofs.trace.TraceListener.hear.Goals as goal
 
 pub returns : goal.returns

@@ -25,7 +25,7 @@ use Rattle.pkopt.specs.OneFrame.{is_proto, has_frame, frame_around, in_frame, op
 use Rattle.pkopt.specs.RunsAlike.{RunsAlike}
 use Rattle.pkopt.specs.Slim.{is_frame, form_of, renumbered, read_left, left_of, slim_from, slim}
 use Rattle.pkopt.specs.Writers.{Writes, last_write, after, sources, is_read, new_number}
-use Rattle.pkopt.proofs.Slimming.{frame_effect}
+use Rattle.pkopt.proofs.BothRuns.SlimRuns.{frame_effect}
 
 -- a frame around changes no run
 in_frame_by : (b : Bool) (i : Instruction) (is : List Instruction) (os : List Outcome) (s : State) → run (cond b (i ∷ frame_around is ∷ is) (frame_around (i ∷ is) ∷ i ∷ is)) os s ≡ run (i ∷ is) os s

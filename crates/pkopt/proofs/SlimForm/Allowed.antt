@@ -20,9 +20,9 @@ use Rattle.pkcheck.specs.Effects.{Effect, Moves, effect_of}
 use Rattle.pkopt.specs.Private.Fronts.{EndsInStop}
 use Rattle.pkopt.specs.Slim.{form_of, argument_for, is_frame, read_left, left_of, slim_from, slim}
 use Rattle.pkopt.specs.Writers.{Writes, last_write, wrote, after, sources, is_read, new_number, after_all}
-use Rattle.pkopt.proofs.Fating.{last_write_lt}
-use Rattle.pkopt.proofs.NewForms.{NamesNumber, decimal_says}
-use Rattle.pkopt.proofs.NewNumbers.{tells_eq, after_all_le}
+use Rattle.pkopt.proofs.SlimForm.Fates.{last_write_lt}
+use Rattle.pkopt.proofs.SlimForm.NewForms.{NamesNumber, decimal_says}
+use Rattle.pkopt.proofs.MemoWrites.NewNumbers.{tells_eq, after_all_le}
 
 digit_at : (n : ℕ) → n < 2 ^ 64 → (k : ℕ) → k < length (decimal n) → IsInRange 48 57 (get_or (decimal n) k 0)
 digit_at n lt = digits_decimal (numerals_by_value _ tells_by_index) n lt

@@ -11,9 +11,9 @@ use Rattle.pkopt.specs.declared.trace.Trace.{Trace}
 use Rattle.pkopt.specs.Private.Passes.{IsNewTrace, FollowsWrites, Hears, NotesStep, Tracks}
 use Rattle.pkopt.specs.Private.Places.{stays_as_is, place_of, places_from, places_told, told}
 use Rattle.pkopt.specs.Writers.{Writes, read_by, sources, after_all}
-use Rattle.pkopt.proofs.Remembering.{none_remembered}
-use Rattle.pkopt.proofs.Plain.{plain_is}
-use Rattle.pkopt.proofs.Standing.{spellings-append}
+use Rattle.pkopt.proofs.MemoWrites.Noted.{none_remembered}
+use Rattle.pkopt.proofs.SlimForm.PlainInstructions.{plain_is}
+use Rattle.pkopt.proofs.SlimForm.Unchanged.{spellings-append}
 
 -- one plain instruction is heard
 pub plain_heard : (x : Trace) (at marks : ℕ) (i : Instruction) → stays_as_is i.op ≡ true → Hears x x (heard at i marks ∷ [])

@@ -11,10 +11,10 @@ use Rattle.pkopt.specs.Writers.{Writes, last_write, different, wrote, after, rea
 use Rattle.pkopt.specs.Slim.{renumbered, is_frame, read_left, left_of, slim_from, slim}
 use Rattle.pkopt.specs.OneFrame.{is_proto, has_frame, frame_around, in_frame, optimized}
 use Rattle.pkopt.specs.RunsAlike.{AllRead}
-use Rattle.pkopt.proofs.Fating.{last_write_lt}
-use Rattle.pkopt.proofs.NewForms.{NamesNumber, form_effect, renumbered_number}
-use Rattle.pkopt.proofs.NewNumbers.{tells_eq, after_all_le, new_step, new_least}
-use Rattle.pkopt.proofs.Slimming.{AreSmall, AreTied, or_left, or_right, read_first}
+use Rattle.pkopt.proofs.SlimForm.Fates.{last_write_lt}
+use Rattle.pkopt.proofs.SlimForm.NewForms.{NamesNumber, form_effect, renumbered_number}
+use Rattle.pkopt.proofs.MemoWrites.NewNumbers.{tells_eq, after_all_le, new_step, new_least}
+use Rattle.pkopt.proofs.BothRuns.SlimRuns.{AreSmall, AreTied, or_left, or_right, read_first}
 
 -- the writes of a slim form: the numbers 0, 1, 2, .. in order
 abbrev countdown : ℕ → Writes

@@ -18,7 +18,7 @@ use Rattle.pkcheck.specs.Effects.{Moves, effect_of}
 use Rattle.pkopt.specs.Answer.{pickle}
 use Rattle.pkopt.specs.Laws.{FormIsAccepted}
 use Rattle.pkopt.specs.OneFrame.{optimized}
-use Rattle.pkopt.proofs.Origins.{stands}
+use Rattle.pkopt.proofs.BothRuns.Origins.{stands}
 
 -- a move has no payload
 no_payload : (limit : ℕ) (o : Op) (m : Move) (payload : List ℕ) → effect_of o ≡ Moves m → Suits (layout_at o) (Counted payload) → IsWithin limit (Counted payload)

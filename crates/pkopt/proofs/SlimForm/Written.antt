@@ -18,9 +18,9 @@ use Rattle.pkopt.specs.Private.Places.{places_from}
 use Rattle.pkopt.specs.Slim.{left_of, slim_from}
 use Rattle.pkopt.specs.Writers.{Writes, after, sources, new_number, after_all}
 use Rattle.pkopt.specs.Private.Hearing.{after_all-more}
-use Rattle.pkopt.proofs.Fating.{At, RightFor, fate_right, at_next, on_right, past_right}
-use Rattle.pkopt.proofs.Rereading.{after_all-append}
-use Rattle.pkopt.proofs.Standing.{AllPlain, Next, after_plain, form_on, form_written, next_place, none_ahead, second, slim_plain, sources_plain, spellings-append}
+use Rattle.pkopt.proofs.SlimForm.Fates.{At, RightFor, fate_right, at_next, on_right, past_right}
+use Rattle.pkopt.proofs.SlimForm.WritesRead.{after_all-append}
+use Rattle.pkopt.proofs.SlimForm.Unchanged.{AllPlain, Next, after_plain, form_on, form_written, next_place, none_ahead, second, slim_plain, sources_plain, spellings-append}
 
 slim_from-append : (vs : List (Option ℕ)) (ws : Writes) (is js : List Instruction) → slim_from vs ws (is ++ js) ≡ slim_from vs ws is ++ slim_from vs (after_all is ws) js
 slim_from-append vs ws [] js = refl

@@ -12,7 +12,7 @@ use Rattle.pkopt.specs.Private.Fates.{form_up_to}
 use Rattle.pkopt.specs.Private.Places.{stays_as_is, place_of, places_from}
 use Rattle.pkopt.specs.Slim.{is_frame, slim_from}
 use Rattle.pkopt.specs.Writers.{Writes, after, sources, after_all}
-use Rattle.pkopt.proofs.Plain.{plain_is}
+use Rattle.pkopt.proofs.SlimForm.PlainInstructions.{plain_is}
 
 pub spellings-append : (xs ys : List Instruction) → spellings (xs ++ ys) ≡ spellings xs ++ spellings ys
 spellings-append [] ys = refl

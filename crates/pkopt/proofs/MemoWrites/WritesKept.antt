@@ -5,8 +5,8 @@ use Rattle.std.proofs.lemmas.List.{get_or-set_other, get_or-set_same, get_or_app
 use Rattle.std.proofs.Math.Seq.{take-suc, get_or-append_seam}
 use Rattle.std.proofs.lemmas.Bool.Decides.{eqb_tells}
 use Rattle.pkopt.specs.Writers.{is_this, is_read, new_number}
-use Rattle.pkopt.proofs.NewNumbers.{new_step, tells_eq}
-use Rattle.pkopt.proofs.Slimming.{or_right}
+use Rattle.pkopt.proofs.MemoWrites.NewNumbers.{new_step, tells_eq}
+use Rattle.pkopt.proofs.BothRuns.SlimRuns.{or_right}
 
 or_assoc : (a b c : Bool) → (a || b) || c ≡ a || (b || c)
 or_assoc true b c = refl

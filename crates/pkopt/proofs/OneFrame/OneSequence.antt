@@ -12,8 +12,8 @@ use Rattle.pkopt.specs.Private.Fronts.{EndsInStop}
 use Rattle.pkopt.specs.OneFrame.{is_proto, has_frame, frame_around, in_frame, optimized}
 use Rattle.pkopt.specs.Slim.{slim}
 use Rattle.pkopt.specs.Writers.{sources, new_number, after_all}
-use Rattle.pkopt.proofs.Allowing.{AreAllowed, slim_allowed}
-use Rattle.pkopt.proofs.OneFraming.{EndsByStop, slim_stops, proto_no_stop}
+use Rattle.pkopt.proofs.SlimForm.Allowed.{AreAllowed, slim_allowed}
+use Rattle.pkopt.proofs.OneFrame.FramedForm.{EndsByStop, slim_stops, proto_no_stop}
 
 stop_is : (o : Op) → is_stop o ≡ true → o ≡ op.Stop
 stop_is op.Stop e = refl

@@ -23,8 +23,8 @@ use Rattle.pkcheck.specs.Runs.{Event, State, Outcome, Raise, Stepped, WentOn, Ra
 use Rattle.pkcheck.specs.Shape.{Breach, Entry, Shape, moved}
 use Rattle.pkcheck.specs.WholeRuns.{Ended, EndedBy, EndsWell, Reached, Sound, first_outcome, go_on, outcomes_after, run}
 use Rattle.pkopt.specs.Faultless.{StaysFaultless}
-use Rattle.pkopt.proofs.AlikeSteps.{SameStep, perform_same, with_memo}
-use Rattle.pkopt.proofs.Origins.{Counterpart, IsMove}
+use Rattle.pkopt.proofs.BothRuns.AlikeSteps.{SameStep, perform_same, with_memo}
+use Rattle.pkopt.proofs.BothRuns.Origins.{Counterpart, IsMove}
 
 -- ---- frames: what is framed before others is framed where the list ends with it
 

@@ -19,10 +19,10 @@ use Rattle.pkopt.specs.Writers.{Writes, last_write, different, wrote, after, rea
 use Rattle.pkopt.specs.Slim.{renumbered, is_frame, read_left, left_of, slim_from, slim}
 use Rattle.pkopt.specs.RunsAlike.{RunsAlike}
 use Rattle.pkopt.specs.Private.Traces.{Rising}
-use Rattle.pkopt.proofs.AlikeSteps.{with_memo, IsBlind, perform_same, step_on}
-use Rattle.pkopt.proofs.NewNumbers.{after_all_le, new_step, new_least}
-use Rattle.pkopt.proofs.Recalling.{recalled_same, recalled_other, rising_insert, length_insert, length_new}
-use Rattle.pkopt.proofs.NewForms.{NamesNumber, form_effect, renumbered_number}
+use Rattle.pkopt.proofs.BothRuns.AlikeSteps.{with_memo, IsBlind, perform_same, step_on}
+use Rattle.pkopt.proofs.MemoWrites.NewNumbers.{after_all_le, new_step, new_least}
+use Rattle.pkopt.proofs.MemoWrites.Recalled.{recalled_same, recalled_other, rising_insert, length_insert, length_new}
+use Rattle.pkopt.proofs.SlimForm.NewForms.{NamesNumber, form_effect, renumbered_number}
 
 pub or_left : (b c : Bool) → b ≡ true → b || c ≡ true
 or_left b c e = ap (λ b. b || c) e

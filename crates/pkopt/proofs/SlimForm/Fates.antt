@@ -18,9 +18,9 @@ use Rattle.pkopt.specs.Private.Fates.{stored_fate, next_fate, fetched_fate, kept
 use Rattle.pkopt.specs.Private.Passes.{AreNumbers, memo_use}
 use Rattle.pkopt.specs.Slim.{renumbered, is_frame, read_left, left_of}
 use Rattle.pkopt.specs.Writers.{Writes, last_write, wrote, after, read_by, sources, is_this, is_read, new_number, after_all}
-use Rattle.pkopt.proofs.Following.{effect_stores, effect_next, effect_fetches}
-use Rattle.pkopt.proofs.NewNumbers.{after_all_le, new_step, new_up_to}
-use Rattle.pkopt.proofs.Slimming.{or_left, or_right}
+use Rattle.pkopt.proofs.MemoWrites.Followed.{effect_stores, effect_next, effect_fetches}
+use Rattle.pkopt.proofs.MemoWrites.NewNumbers.{after_all_le, new_step, new_up_to}
+use Rattle.pkopt.proofs.BothRuns.SlimRuns.{or_left, or_right}
 
 pub last_write_lt : (n : ℕ) (ws : Writes) (w : ℕ) → last_write n ws ≡ Some w → w < length ws
 last_write_lt n [] w e = cc

@@ -13,11 +13,11 @@ use Rattle.pkopt.specs.OneFrame.{is_proto, has_frame, frame_around, in_frame, op
 use Rattle.pkopt.specs.RunsAlike.{RunsAlike}
 use Rattle.pkopt.specs.Slim.{is_frame, renumbered, read_left, left_of, slim_from, slim}
 use Rattle.pkopt.specs.Writers.{Writes, last_write, after, sources, is_read, new_number, after_all}
-use Rattle.pkopt.proofs.AlikeSteps.{IsBlind}
-use Rattle.pkopt.proofs.NewForms.{form_effect}
-use Rattle.pkopt.proofs.NewNumbers.{after_all_le}
-use Rattle.pkopt.proofs.Rereading.{sources-append, after_all-append}
-use Rattle.pkopt.proofs.Slimming.{AreSmall, alike_from, read_first, related_none}
+use Rattle.pkopt.proofs.BothRuns.AlikeSteps.{IsBlind}
+use Rattle.pkopt.proofs.SlimForm.NewForms.{form_effect}
+use Rattle.pkopt.proofs.MemoWrites.NewNumbers.{after_all_le}
+use Rattle.pkopt.proofs.SlimForm.WritesRead.{sources-append, after_all-append}
+use Rattle.pkopt.proofs.BothRuns.SlimRuns.{AreSmall, alike_from, read_first, related_none}
 
 -- an instruction that is a move
 abbrev pub IsMove : Instruction → Type 0

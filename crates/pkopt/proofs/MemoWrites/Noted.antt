@@ -8,7 +8,7 @@ use Rattle.std.proofs.Math.Seq.{get_or-append_seam}
 use Rattle.pkcheck.specs.Shape.{recalled, stored}
 use Rattle.pkopt.specs.Private.Memories.{Remembers, write_held}
 use Rattle.pkopt.specs.Writers.{Writes, last_write, different, more_if_none}
-use Rattle.pkopt.proofs.Recalling.{recalled_same, recalled_other, rising_insert, length_insert}
+use Rattle.pkopt.proofs.MemoWrites.Recalled.{recalled_same, recalled_other, rising_insert, length_insert}
 
 is_below : (a b : ℕ) (t : Bool) → ltb a b ≡ t → (a < b) ⊎ (b ≤ a)
 is_below a b true e = inl (ltb-true a b e)

@@ -1,0 +1,4 @@
+-- The frame around the slim form.
+pub mod RoomBefore
+pub mod FramedForm
+pub mod OneSequence
