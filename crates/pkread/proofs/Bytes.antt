@@ -1,6 +1,7 @@
 -- The bytes of one instruction, as they are taken and judged.
 pub mod Takes
 pub mod Taken
+pub mod Parts
 pub mod Behind
 pub mod LinesBehind
 pub mod Judged

@@ -1,0 +1,23 @@
+use Rattle.std.proofs.Common.{◌<◌, arith, refl}
+use Rattle.std.proofs.lemmas.Result.{err_from_is_err_and}
+use Rattle.pkread.proofs.Bytes.Parts.{took_part}
+use Rattle.pkread.proofs.Bytes.Taken.{lacks_all}
+use Rattle.pkread.specs.Rows.{all_bytes}
+use Rattle.pkread.proofs.gathering.Gathering.take_part.Goals as goal
+
+pub returns-in_err-n-clause-takes : goal.returns-in_err-n-clause-takes
+returns-in_err-n-clause-takes g c =
+    let p = err_from_is_err_and c.from_residual.result c.from_residual.ensures.1 in
+    let none = c.in_err-n.ensures in
+    let some : 0 < c.args.left = c.requires in
+    let left = c.if-room-eq0.false in
+    let room : c.self.inside.taken < all_bytes = omega arith in
+    rw (← c.self.view_is, p.1, p.2) (
+      none.same,
+      lacks_all c.args.left _ _ _ some room none.same refl none.err,
+    )
+
+pub returns-clause-takes : goal.returns-clause-takes
+returns-clause-takes g c =
+    rw (← c.self.view_is) (took_part c.args.left c.min-wanted.result c.in_ok-n.n _ _
+    c.in_ok-n.ensures.ok refl (omega arith) (omega arith))
