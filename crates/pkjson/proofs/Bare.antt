@@ -1,32 +1,21 @@
 -- Instructions whose opcode has no argument.
 use Rattle.std.proofs.Common.{◌≡◌, ℕ, List, ◌∷◌, ◌++◌, length, get_or, refl, sym, ap, subst, ◌∙◌}
-use Rattle.pkops.specs.Contents.{IsGood, Keeps, rule_of}
+use Rattle.pkops.specs.Contents.{IsGood, rule_of}
 use Rattle.pkops.specs.declared.Layout.TheVariants as layout
 use Rattle.pkops.specs.declared.Op.{Op}
 use Rattle.pkops.specs.declared.Op.TheVariants as op
+use Rattle.pkops.specs.declared.Rule.TheVariants as rule
 use Rattle.pkops.specs.Spelling.{Argument, Nothing, Instruction, Suits, bytes_of, instruction, layout_at, spelling}
 use Rattle.pkops.specs.Table.{code_of}
 use Rattle.pkread.specs.Admission.{IsAllowed}
 
 -- nothing is asked of no argument
-keeps : (o : Op) → layout_at o ≡ layout.Nothing → Keeps (rule_of o) Nothing
-keeps op.Int e = cc
-keeps op.Long e = cc
-keeps op.Get e = cc
-keeps op.Put e = cc
-keeps op.Float e = cc
-keeps op.String e = cc
-keeps op.Unicode e = cc
-keeps op.ShortBinUnicode e = cc
-keeps op.BinUnicode e = cc
-keeps op.BinUnicode8 e = cc
-keeps op.Global e = cc
-keeps op.Inst e = cc
-keeps op.PersId e = cc
-keeps o e = tt
+no_rule : (o : Op) → layout_at o ≡ layout.Nothing → rule_of o ≡ rule.Anything
+no_rule op.Int e = cc
+no_rule _ e = cc
 
 pub bare_good : (o : Op) → layout_at o ≡ layout.Nothing → IsGood (instruction o Nothing)
-bare_good o e = record { suits = subst (λ l. Suits l Nothing) (sym e) tt; contents = keeps o e }
+bare_good o e = record { suits = subst (λ l. Suits l Nothing) (sym e) tt; contents = rw (no_rule o e) tt }
 
 no_argument : (arg : Argument) → Suits layout.Nothing arg → arg ≡ Nothing
 no_argument Nothing s = refl
