@@ -19,4 +19,5 @@ pub mod Answer
 pub mod Lying
 pub mod Growth
 pub mod Deciding
+pub mod Printed
 pub mod Private
