@@ -17,3 +17,5 @@ pub mod Places
 pub mod Limited
 pub mod Settled
 pub mod OpenMarks
+-- worked rows
+mod PrintedRows

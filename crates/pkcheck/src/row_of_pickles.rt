@@ -17,6 +17,8 @@ use pkops::Limits;
 use pkread::laws::{frames, heads, rows};
 use pkread::{Head, Reader, Reason, Source};
 use std::alloc::Global;
+use std::error::Error;
+use std::fmt;
 
 /// An accepted row of pickles.
 #[derive(Debug, Drop)]
@@ -37,6 +39,21 @@ pub struct NoAll {
     /// Its refusal, with an offset counted from the first byte taken from the source.
     pub no: No,
 }
+
+/// A refusal in a row is printed as `in pickle K at P: REASON`.
+impl fmt::Display for NoAll {
+    ghost use Rattle.std.specs.Prelude.{Some};
+    ghost use Rattle.pkcheck.specs.Printed.{no_all_text};
+
+    ghost output = { λ refused. Some (no_all_text refused) };
+
+    fn fmt<W: fmt::Write>(&self, f: &mut fmt::Formatter<W>) -> fmt::Result {
+        let NoAll { pickle, no } = self;
+        write!(f, "in pickle {pickle} {no}")
+    }
+}
+
+impl Error for NoAll {}
 
 /// Reads one pickle after another, up to the end of the source, and checks each as
 /// [`check_as`](crate::check_as) does. The time is linear in the number of bytes, however many
