@@ -9,7 +9,7 @@ use Rattle.pkjson.specs.declared.slots.Slot.{Slot}
 use Rattle.pkjson.specs.declared.slots.Slot.TheVariants as slot
 use Rattle.pkjson.specs.Private.Arena.{update, more_given}
 use Rattle.pkjson.specs.Private.Seen.{kept_of, kept_all, seen_entry, seen_entries, numbers_of, taken_at}
-use Rattle.pkjson.proofs.Holding.{take_more}
+use Rattle.pkjson.proofs.Parts.NodesHeld.{take_more}
 
 pub shown_append : (xs ys : List Slot) (below : List (Entry ℕ)) → seen_entries (xs ++ ys) below ≡ seen_entries ys (seen_entries xs below)
 shown_append [] ys below = refl

@@ -93,7 +93,7 @@ fn mark(marked: &mut BTreeSet<usize>, given: &[usize]) -> Result<(), AllocError>
 }
 
 /// The marked numbers below `count`, each as a pair with itself.
-#[tactic(auto, using(crate::proofs::Ranking::all_twice))]
+#[tactic(auto, using(crate::proofs::DictKeys::KeyPlaces::all_twice))]
 fn pairs_of(alloc: Global, marked: &BTreeSet<usize>, count: usize) -> Result<Vec<usize>, AllocError>
     ensures { IfOk result (λ v. All (λ x. x < count) v.items) }
 {
@@ -129,7 +129,7 @@ fn places_of(
 }
 
 /// The position of a text in an ascending list, if it is there.
-#[tactic(auto, using(crate::proofs::Ranking::same_text))]
+#[tactic(auto, using(crate::proofs::DictKeys::KeyPlaces::same_text))]
 fn place_of(texts: &[(&str, usize)], text: &str) -> Option<usize>
     ensures { IfSome result (StandsIn texts.now text.now) }
 {

@@ -2,8 +2,8 @@ use Rattle.std.proofs.Common.{rules}
 use Rattle.std.proofs.Common.{get_or}
 use Rattle.pkjson.specs.Private.Fits.{Fits}
 use Rattle.pkjson.specs.Private.Nodes.{heap}
-use Rattle.pkjson.proofs.Holding.{held, below, no_member}
-use Rattle.pkjson.proofs.Building.{fits_some, fits_items, fits_any, fits_members, item_fits, member_fits, item_built, member_built, ordered, view_null, view_bool, view_string}
+use Rattle.pkjson.proofs.Parts.NodesHeld.{held, below, no_member}
+use Rattle.pkjson.proofs.Parts.Built.{fits_some, fits_items, fits_any, fits_members, item_fits, member_fits, item_built, member_built, ordered, view_null, view_bool, view_string}
 use Rattle.serde_json.proofs.Views.{view-Array, view-Object}
 use Rattle.pkjson.proofs.build.+building.Goals as goal
 

@@ -1,5 +1,5 @@
 use Rattle.std.proofs.Common.{ap, Some}
-use Rattle.pkjson.proofs.Replaying.{accepted_as, refused_as}
+use Rattle.pkjson.proofs.Runs.RunToStop.{accepted_as, refused_as}
 use Rattle.pkjson.proofs.exporting.accept.Goals as goal
 
 pub returns-in-Ok-clause-ok : goal.returns-in-Ok-clause-ok

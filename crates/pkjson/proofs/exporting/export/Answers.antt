@@ -1,4 +1,4 @@
-use Rattle.pkjson.proofs.Answered.{value_answered, refusal_answered}
+use Rattle.pkjson.proofs.Runs.Answered.{value_answered, refusal_answered}
 use Rattle.pkjson.proofs.exporting.export.Goals as goal
 
 pub returns-clause-value : goal.returns-clause-value

@@ -1,4 +1,4 @@
-use Rattle.pkjson.proofs.Answered.{text_answered, refusal_answered}
+use Rattle.pkjson.proofs.Runs.Answered.{text_answered, refusal_answered}
 use Rattle.pkjson.proofs.exporting.export_text.Goals as goal
 
 pub returns-clause-text : goal.returns-clause-text

@@ -1,5 +1,5 @@
 use Rattle.std.proofs.Common.{refl, ◌∙◌}
-use Rattle.pkjson.proofs.Answering.{blank_trusted, all_deeper, too_many, has_value}
+use Rattle.pkjson.proofs.Parts.WeightAnswers.{blank_trusted, all_deeper, too_many, has_value}
 use Rattle.pkjson.proofs.exporting.judged.Goals as goal
 
 pub weigh-requires-clause-trusted : goal.weigh-requires-clause-trusted

@@ -1,7 +1,7 @@
 use Rattle.std.proofs.Common.{sym, subst, ◌<◌}
 use Rattle.pkjson.specs.Private.Seen.{kept_all}
-use Rattle.pkjson.proofs.Answered.{text_held, refusal_held}
-use Rattle.pkjson.proofs.Settling.{closed_there, settled_there, settled_closed, settled_length}
+use Rattle.pkjson.proofs.Runs.Answered.{text_held, refusal_held}
+use Rattle.pkjson.proofs.DictKeys.SettledMembers.{closed_there, settled_there, settled_closed, settled_length}
 use Rattle.pkjson.proofs.exporting.settled_text.Goals as goal
 
 pub settle-requires : goal.settle-requires

@@ -1,4 +1,4 @@
-use Rattle.pkjson.proofs.Answering.{value_fits, value_is}
+use Rattle.pkjson.proofs.Parts.WeightAnswers.{value_fits, value_is}
 use Rattle.pkjson.proofs.exporting.value_of.Goals as goal
 
 pub build-requires-clause-fits : goal.build-requires-clause-fits

@@ -1,4 +1,4 @@
-use Rattle.pkjson.proofs.Answering.{value_fits, text_is}
+use Rattle.pkjson.proofs.Parts.WeightAnswers.{value_fits, text_is}
 use Rattle.pkjson.proofs.exporting.written.Goals as goal
 
 pub text_of-requires-clause-fits : goal.text_of-requires-clause-fits

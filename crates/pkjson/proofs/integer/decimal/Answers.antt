@@ -1,5 +1,5 @@
 use Rattle.std.proofs.Common.{arith, inr, subst, sym, ◌<◌, ◌^◌}
-use Rattle.pkjson.proofs.Words.{decimal_large}
+use Rattle.pkjson.proofs.MachineIntegers.{decimal_large}
 use Rattle.pkjson.proofs.integer.decimal.Goals as goal
 
 pub returns-then-value-gt922337203685477580 : goal.returns-then-value-gt922337203685477580

@@ -1,5 +1,5 @@
 use Rattle.std.proofs.Common.{arith, sym}
-use Rattle.pkjson.proofs.Words.{has_sign_last}
+use Rattle.pkjson.proofs.MachineIntegers.{has_sign_last}
 use Rattle.pkjson.proofs.integer.has_sign.Goals as goal
 
 pub returns-in-len1-up : goal.returns-in-len1-up

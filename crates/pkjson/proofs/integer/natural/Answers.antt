@@ -1,5 +1,5 @@
 use Rattle.std.proofs.Common.{arith, inr}
-use Rattle.pkjson.proofs.Words.{natural_part}
+use Rattle.pkjson.proofs.MachineIntegers.{natural_part}
 use Rattle.pkjson.proofs.integer.natural.Goals as goal
 
 pub returns-then-value : goal.returns-then-value

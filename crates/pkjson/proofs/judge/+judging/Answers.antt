@@ -1,8 +1,8 @@
 use Rattle.std.proofs.Common.{arith, refl, rules, ◌∙◌, subst, ◌-◌}
 use Rattle.pkjson.specs.Private.Nodes.{heap}
 use Rattle.pkjson.specs.Private.Weighs.{AreDeeper, MembersDeeper}
-use Rattle.pkjson.proofs.Weighing.{no_items_weigh, one_more, one_deeper, no_members_weigh, member_more, member_deeper, scalar_weighs, sequence_weighs, pairs_weigh, sequence_deeper, pairs_deeper, sequence_not_flat, pairs_not_flat, weighs_more, weighs_at_most, by_table}
-use Rattle.pkjson.proofs.Holding.{held, below, trusted_set, take_more, seam, found, named_more, named_seam, no_member}
+use Rattle.pkjson.proofs.Parts.Weights.{no_items_weigh, one_more, one_deeper, no_members_weigh, member_more, member_deeper, scalar_weighs, sequence_weighs, pairs_weigh, sequence_deeper, pairs_deeper, sequence_not_flat, pairs_not_flat, weighs_more, weighs_at_most, by_table}
+use Rattle.pkjson.proofs.Parts.NodesHeld.{held, below, trusted_set, take_more, seam, found, named_more, named_seam, no_member}
 use Rattle.pkjson.proofs.judge.+judging.Goals as goal
 
 pub weigh_node-returns-then-levels-eq0-clause-weight : goal.weigh_node-returns-then-levels-eq0-clause-weight

@@ -1,5 +1,5 @@
 use Rattle.std.proofs.Common.{arith, length}
-use Rattle.pkjson.proofs.Running.{run_is}
+use Rattle.pkjson.proofs.Runs.PlainRun.{run_is}
 use Rattle.pkjson.proofs.laws.plain_runs.Goals as goal
 
 pub returns : goal.returns

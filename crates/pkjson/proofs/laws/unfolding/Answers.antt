@@ -1,5 +1,5 @@
-use Rattle.pkjson.proofs.Deriving.{derives, derived}
-use Rattle.pkjson.proofs.Unfolding.{unique}
+use Rattle.pkjson.proofs.Values.Derivations.{derives, derived}
+use Rattle.pkjson.proofs.Values.OneValue.{unique}
 use Rattle.pkjson.proofs.laws.unfolding.Goals as goal
 
 pub returns : goal.returns

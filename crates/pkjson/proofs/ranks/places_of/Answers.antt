@@ -3,8 +3,8 @@ use Rattle.pkjson.specs.Private.Arena.{kind_at}
 use Rattle.pkjson.specs.Contents.{characters}
 use Rattle.pkjson.specs.Private.Ranks.{StandsIn}
 use Rattle.pkjson.specs.Private.Seen.{kept_all}
-use Rattle.pkjson.proofs.Ranking.{places_more}
-use Rattle.pkjson.proofs.Settling.{kept_length}
+use Rattle.pkjson.proofs.DictKeys.KeyPlaces.{places_more}
+use Rattle.pkjson.proofs.DictKeys.SettledMembers.{kept_length}
 use Rattle.pkjson.proofs.ranks.places_of.Goals as goal
 
 pub loop-number-preserved : goal.loop-number-preserved

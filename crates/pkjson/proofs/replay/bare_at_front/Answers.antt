@@ -1,5 +1,5 @@
 use Rattle.std.proofs.Common.{sym}
-use Rattle.pkjson.proofs.Bare.{bare_good, bare_front}
+use Rattle.pkjson.proofs.Runs.BareOpcodes.{bare_good, bare_front}
 use Rattle.pkjson.proofs.replay.bare_at_front.Goals as goal
 
 pub known-requires : goal.known-requires

@@ -8,8 +8,8 @@ use Rattle.pkjson.specs.Private.Held.{parts}
 use Rattle.pkjson.specs.Plain.{OtherKey, LargeNumber, is_plain_data}
 use Rattle.pkjson.specs.Private.Standing.{IsFront, Stands}
 use Rattle.pkjson.proofs.Entries.{all_after}
-use Rattle.pkjson.proofs.Following.{entries_there, no_front, within, some, other, faults, never_lacks, never_empty, ends, on}
-use Rattle.pkjson.proofs.Replaying.{stands_first}
+use Rattle.pkjson.proofs.Runs.NextInstruction.{entries_there, no_front, within, some, other, faults, never_lacks, never_empty, ends, on}
+use Rattle.pkjson.proofs.Runs.RunToStop.{stands_first}
 use Rattle.pkjson.proofs.replay.replay.Goals as goal
 
 pub instructions-init : goal.instructions-init

@@ -1,6 +1,6 @@
 use Rattle.std.proofs.Common.{ap, ◌∙◌}
 use Rattle.pkops.specs.Answer.{Whole, shown_scan}
-use Rattle.pkjson.proofs.Replaying.{front_answers, whole_same, whole_more, whole_bad}
+use Rattle.pkjson.proofs.Runs.RunToStop.{front_answers, whole_same, whole_more, whole_bad}
 use Rattle.pkjson.proofs.replay.whole_at_front.Goals as goal
 
 pub returns-in-Whole : goal.returns-in-Whole

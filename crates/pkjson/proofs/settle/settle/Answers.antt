@@ -1,7 +1,7 @@
 use Rattle.std.proofs.Common.{sym, subst, take, ◌+◌, ◌++◌, ◌∷◌, [], ◌<◌, All, length}
 use Rattle.pkjson.specs.Private.Seen.{kept_of, kept_all}
 use Rattle.pkjson.specs.Private.Settled.{AreSettled, Settles}
-use Rattle.pkjson.proofs.Settling.{given_there, kept_more, settled_more}
+use Rattle.pkjson.proofs.DictKeys.SettledMembers.{given_there, kept_more, settled_more}
 use Rattle.pkjson.proofs.settle.settle.Goals as goal
 
 pub settle_one-requires-clause-given : goal.settle_one-requires-clause-given

@@ -7,7 +7,7 @@ use Rattle.pkjson.specs.Private.Arena.{kind_at}
 use Rattle.pkjson.specs.Contents.{paired, standing}
 use Rattle.pkjson.specs.Private.Nodes.{named_members}
 use Rattle.pkjson.specs.Private.Seen.{kept_all}
-use Rattle.pkjson.proofs.Settling.{insert_named, insert_below, two_more, none_left, ascending_found}
+use Rattle.pkjson.proofs.DictKeys.SettledMembers.{insert_named, insert_below, two_more, none_left, ascending_found}
 use Rattle.pkjson.proofs.standing.standing_pairs.Goals as goal
 
 pub loop-index-preserved : goal.loop-index-preserved

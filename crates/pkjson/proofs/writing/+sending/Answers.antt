@@ -7,9 +7,9 @@ use Rattle.serde_json.specs.Find.{of_integer}
 use Rattle.serde_json.specs.View.{number_view}
 use Rattle.pkjson.specs.Private.Fits.{Fits}
 use Rattle.pkjson.specs.Private.Nodes.{heap}
-use Rattle.pkjson.proofs.Holding.{held, below, no_member}
-use Rattle.pkjson.proofs.Building.{fits_some, fits_items, fits_any, fits_members, item_fits, member_fits}
-use Rattle.pkjson.proofs.Sending.{array_sent, item_sent, member_sent, no_items_sent, no_members_sent, object_sent, sends_array, sends_bool, sends_int, sends_null, sends_object, sends_text}
+use Rattle.pkjson.proofs.Parts.NodesHeld.{held, below, no_member}
+use Rattle.pkjson.proofs.Parts.Built.{fits_some, fits_items, fits_any, fits_members, item_fits, member_fits}
+use Rattle.pkjson.proofs.Parts.Sent.{array_sent, item_sent, member_sent, no_items_sent, no_members_sent, object_sent, sends_array, sends_bool, sends_int, sends_null, sends_object, sends_text}
 use Rattle.pkjson.proofs.writing.+sending.Goals as goal
 
 pub send-overflow_sub-levels : goal.send-overflow_sub-levels

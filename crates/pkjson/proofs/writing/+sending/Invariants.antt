@@ -1,6 +1,6 @@
 use Rattle.std.proofs.Common.{◌+◌, ◌*◌}
 use Rattle.pkjson.specs.Private.Nodes.{heap}
-use Rattle.pkjson.proofs.Sending.{ItemsSoFar, MembersSoFar}
+use Rattle.pkjson.proofs.Parts.Sent.{ItemsSoFar, MembersSoFar}
 use Rattle.pkjson.proofs.writing.+sending.Given as goal
 
 abbrev pub decreases-send : goal.decreases-send

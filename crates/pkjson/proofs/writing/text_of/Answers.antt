@@ -1,5 +1,5 @@
 use Rattle.std.proofs.lemmas.Result.{IfOk-weaker}
-use Rattle.pkjson.proofs.Sending.{compact}
+use Rattle.pkjson.proofs.Parts.Sent.{compact}
 use Rattle.pkjson.proofs.writing.text_of.Goals as goal
 
 pub returns : goal.returns

@@ -4,8 +4,8 @@ use Rattle.pkjson.specs.Private.Acting.{found_above, filled_of}
 use Rattle.pkjson.specs.Private.Arena.{Arena, Kept}
 use Rattle.pkjson.specs.Private.Held.{parts}
 use Rattle.pkjson.specs.Private.Seen.{seen_entries, kept_all, FindsObject}
-use Rattle.pkjson.proofs.Settling.{kept_length}
-use Rattle.pkjson.proofs.Taking.{above_below}
+use Rattle.pkjson.proofs.DictKeys.SettledMembers.{kept_length}
+use Rattle.pkjson.proofs.Kept.OperandsTaken.{above_below}
 use Rattle.pkjson.proofs.arena.Arena.fill.Goals as goal
 
 filled : (m : List (ℕ × ℕ)) (es fs : List (Entry ℕ)) (ks ls : List Kept) → es ≡ fs → ks ≡ ls → ◌≡◌ {A = Result Arena Breach} (Ok (record { shape = record { entries = es; memo = m }; kept = ks })) (Ok (record { shape = record { entries = fs; memo = m }; kept = ls }))

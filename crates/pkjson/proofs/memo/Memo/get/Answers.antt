@@ -1,5 +1,5 @@
 use Rattle.std.proofs.Common.{◌∙◌, ap, Some, arith}
-use Rattle.pkjson.proofs.Cells.{at_row, at_rest}
+use Rattle.pkjson.proofs.Kept.MemoCells.{at_row, at_rest}
 use Rattle.pkjson.proofs.memo.Memo.get.Goals as goal
 
 pub returns-then-number-len : goal.returns-then-number-len

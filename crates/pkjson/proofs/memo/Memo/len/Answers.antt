@@ -1,6 +1,6 @@
 use Rattle.std.proofs.Common.{◌≡◌, ◌+◌, ◌++◌, length, arith}
 use Rattle.pkjson.specs.Private.Cells.{numbered_cells}
-use Rattle.pkjson.proofs.Cells.{length_cells}
+use Rattle.pkjson.proofs.Kept.MemoCells.{length_cells}
 use Rattle.pkjson.proofs.memo.Memo.len.Goals as goal
 
 pub returns : goal.returns

@@ -1,5 +1,5 @@
 use Rattle.std.proofs.Common.{arith, rules}
-use Rattle.pkjson.proofs.Cells.{put_end, put_rest, put_row}
+use Rattle.pkjson.proofs.Kept.MemoCells.{put_end, put_rest, put_row}
 use Rattle.pkjson.proofs.memo.Memo.store.Goals as goal
 
 pub returns-then-number-count : goal.returns-then-number-count

@@ -1,6 +1,6 @@
 use Rattle.std.proofs.Common.{◌+◌, refl, length, get_or}
 use Rattle.pkjson.specs.Private.Seen.{kept_all}
-use Rattle.pkjson.proofs.Ranking.{pairing_goes_on, pairing_ends, text_there}
+use Rattle.pkjson.proofs.DictKeys.KeyPlaces.{pairing_goes_on, pairing_ends, text_there}
 use Rattle.pkjson.proofs.ranks.Ranks.pairs.Goals as goal
 
 pub loop-index-preserved : goal.loop-index-preserved

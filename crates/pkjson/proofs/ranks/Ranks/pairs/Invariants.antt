@@ -1,6 +1,6 @@
 use Rattle.std.proofs.Common.{◌-◌, length}
 use Rattle.pkjson.specs.Private.Seen.{kept_all}
-use Rattle.pkjson.proofs.Ranking.{Pairing}
+use Rattle.pkjson.proofs.DictKeys.KeyPlaces.{Pairing}
 use Rattle.pkjson.proofs.ranks.Ranks.pairs.Given as goal
 
 abbrev pub invariant-loop-index : goal.invariant-loop-index

@@ -3,7 +3,7 @@ use Rattle.pkjson.specs.Private.Arena.{kind_at}
 use Rattle.pkjson.specs.Contents.{characters}
 use Rattle.pkjson.specs.Private.Ranks.{StandsIn}
 use Rattle.pkjson.specs.Private.Seen.{kept_all}
-use Rattle.pkjson.proofs.Ranking.{place_at}
+use Rattle.pkjson.proofs.DictKeys.KeyPlaces.{place_at}
 use Rattle.pkjson.proofs.ranks.Ranks.place.Goals as goal
 
 pub returns-then-number-len : goal.returns-then-number-len

@@ -1,5 +1,5 @@
 use Rattle.std.proofs.Math.Logic.{∥∥₁_elim}
-use Rattle.pkjson.proofs.Sending.{closed_prop}
+use Rattle.pkjson.proofs.Parts.Sent.{closed_prop}
 use Rattle.pkjson.proofs.writing.UnfoldedSerialize.serialize.Goals as goal
 
 pub send-requires-clause-closed : goal.send-requires-clause-closed

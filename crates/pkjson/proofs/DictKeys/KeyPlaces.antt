@@ -16,8 +16,8 @@ use Rattle.pkjson.specs.Private.Arena.{Kept, kind_at}
 use Rattle.pkjson.specs.Contents.{characters, paired, standing}
 use Rattle.pkjson.specs.Private.Nodes.{named_members, AllAbove, Ascending}
 use Rattle.pkjson.specs.Private.Ranks.{text_in, StandsIn, ArePlaces, AreMembers}
-use Rattle.pkjson.proofs.Holding.{Member}
-use Rattle.pkjson.proofs.Settling.{two_more, none_left}
+use Rattle.pkjson.proofs.Parts.NodesHeld.{Member}
+use Rattle.pkjson.proofs.DictKeys.SettledMembers.{two_more, none_left}
 
 pub all_twice : (n : ℕ) (xs : List ℕ) (x : ℕ) → x < n → All (λ y. y < n) xs → All (λ y. y < n) (xs ++ x ∷ x ∷ [])
 all_twice n xs x l h = All-append (λ y. y < n) xs (x ∷ x ∷ []) h (All-cons (λ y. y < n) x (x ∷ []) l (All-cons (λ y. y < n) x [] l (All-nil (λ y. y < n))))

@@ -19,7 +19,7 @@ use Rattle.pkjson.specs.declared.node.Node.TheVariants as node
 use Rattle.pkjson.specs.Unfolds.{Scalar, Sequence, Pairs, Heap, UnfoldItems, UnfoldMembers}
 use Rattle.pkjson.specs.Private.Nodes.{IsBelow, IsClosed, content, heap, named_members}
 use Rattle.pkjson.specs.Private.Sends.{IsCompact, Sends, SendsArray, SendsObject}
-use Rattle.pkjson.proofs.Floatless.{floatless_in, integer_floatless}
+use Rattle.pkjson.proofs.Values.NoFloats.{floatless_in, integer_floatless}
 
 module _ (h : Heap) (x : ℕ) (old new : Log) where
   pub sends_null : h x ≡ Some (Scalar null) → Logs old new event.nothing → Sends h x old new

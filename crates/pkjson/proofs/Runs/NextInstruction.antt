@@ -21,10 +21,10 @@ use Rattle.pkjson.specs.Private.Mirrors.{EntriesBelow}
 use Rattle.pkjson.specs.Plain.{Fault, OtherOpcode, is_plain_data}
 use Rattle.pkjson.specs.Private.Replayed.{Replays}
 use Rattle.pkjson.specs.Private.Standing.{IsFront, Stands, StandsAt}
-use Rattle.pkjson.proofs.Answered.{replays}
-use Rattle.pkjson.proofs.Replaying.{rest_is}
-use Rattle.pkjson.proofs.Running.{stands_at, other_opcode, faulty, lacks_nothing, stands_behind, stops_here}
-use Rattle.pkjson.proofs.Taking.{err_ok}
+use Rattle.pkjson.proofs.Runs.Answered.{replays}
+use Rattle.pkjson.proofs.Runs.RunToStop.{rest_is}
+use Rattle.pkjson.proofs.Runs.PlainRun.{stands_at, other_opcode, faulty, lacks_nothing, stands_behind, stops_here}
+use Rattle.pkjson.proofs.Kept.OperandsTaken.{err_ok}
 
 only_stop : (action : Action) → ActsAs action effect.Stops → action ≡ Stops
 only_stop Stops w = refl

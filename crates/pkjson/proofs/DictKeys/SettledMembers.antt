@@ -19,7 +19,7 @@ use Rattle.pkjson.specs.Private.Settled.{AreGivenBelow, Settles, AreSettled}
 use Rattle.pkjson.specs.declared.objects.Object.{Object}
 use Rattle.pkjson.specs.Private.Seen.{kept_of, kept_all}
 use Rattle.pkjson.proofs.Entries.{kept_append}
-use Rattle.pkjson.proofs.Holding.{Member, take_more}
+use Rattle.pkjson.proofs.Parts.NodesHeld.{Member, take_more}
 
 abbrev by_text : Bor (List ℕ) → Bor (List ℕ) → Ordering
 by_text x y = slice_cmp nat_cmp x.now y.now

@@ -13,9 +13,9 @@ use Rattle.pkjson.specs.Unfolds.{Sequence, Pairs, Heap, Unfolds, UnfoldItems, Un
 use Rattle.std.specs.Borrow.{Bor}
 use Rattle.pkjson.specs.Private.Nodes.{named_members, AllAbove, Ascending, AreOrdered, IsOrdered}
 use Rattle.pkjson.specs.Private.Fits.{Fits, ItemsFit, MembersFit}
-use Rattle.pkjson.proofs.Unfolding.{as_sequence, as_pairs}
-use Rattle.pkjson.proofs.Weighing.{snoc, snoc_member, unfold_snoc, member_snoc, at_seam, member_seam}
-use Rattle.pkjson.proofs.Holding.{seam, named_seam, take_more, named_more}
+use Rattle.pkjson.proofs.Values.OneValue.{as_sequence, as_pairs}
+use Rattle.pkjson.proofs.Parts.Weights.{snoc, snoc_member, unfold_snoc, member_snoc, at_seam, member_seam}
+use Rattle.pkjson.proofs.Parts.NodesHeld.{seam, named_seam, take_more, named_more}
 
 module _ (h : Heap) (fuel : ℕ) where
   pub fits_some : (x : ℕ) (xs : List ℕ) → h x ≡ Some (Sequence xs) → Fits h fuel x → 1 ≤ fuel

@@ -25,8 +25,8 @@ use Rattle.pkjson.specs.Private.Arena.{Kept, Arena, kind_at, is_text_kind, are_t
 use Rattle.pkjson.specs.Private.Acting.{acted, keys_acted, number_acted, fault_acted, ActsAs, KindsAgree}
 use Rattle.pkjson.specs.Private.Mirrors.{MirrorsState}
 use Rattle.pkjson.specs.Private.Standing.{HasStop, Stands, StandsAt}
-use Rattle.pkjson.proofs.Taking.{found_of, above_of, above_rest, err_ok, ok_same}
-use Rattle.pkjson.proofs.Stepping.{IsNotStuck, mirrors_step, stops_at}
+use Rattle.pkjson.proofs.Kept.OperandsTaken.{found_of, above_of, above_rest, err_ok, ok_same}
+use Rattle.pkjson.proofs.Runs.PlainStep.{IsNotStuck, mirrors_step, stops_at}
 
 -- the plain run is the run in which every ask goes on
 next_is : (is : List Instruction) (n : ℕ) (b : Bool) (st : Stepped) → length is ≤ n → ((m : ℕ) → length is ≤ m → (s : State) → run is (replicate m goes_on) s ≡ plain_run is s) → go_on st (run is (outcomes_after b (goes_on ∷ replicate n goes_on))) ≡ go_on st (plain_run is)

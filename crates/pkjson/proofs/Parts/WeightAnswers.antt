@@ -9,7 +9,7 @@ use Rattle.pkjson.specs.Private.Weighs.{Weighs, IsDeeper, IsTrusted}
 use Rattle.pkjson.specs.Private.Fits.{Fits}
 use Rattle.pkjson.specs.Private.Result.{HasValue, IsValue, IsText}
 use Rattle.pkjson.specs.Private.Sends.{IsCompact}
-use Rattle.pkjson.proofs.Unfolding.{unique}
+use Rattle.pkjson.proofs.Values.OneValue.{unique}
 
 none_some : {A : Type 0} (w : Weight) → None ≡ Some w → A
 none_some w e = cc

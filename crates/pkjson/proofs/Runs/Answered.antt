@@ -24,12 +24,12 @@ use Rattle.pkjson.specs.Private.Replayed.{Replays}
 use Rattle.pkjson.specs.Private.Result.{IsValue, IsText, IsTooLarge}
 use Rattle.pkjson.specs.Private.Settled.{AreSettled}
 use Rattle.pkjson.specs.Private.Standing.{StandsAt}
-use Rattle.pkjson.proofs.Floatless.{floatless}
-use Rattle.pkjson.proofs.Mirroring.{mirrors_contents}
-use Rattle.pkjson.proofs.Running.{stops_here}
-use Rattle.pkjson.proofs.Settling.{settled_heap, all_given_below}
-use Rattle.pkjson.proofs.Taking.{ok_same, top_below}
-use Rattle.pkjson.proofs.Unfolded.{unfolds_same}
+use Rattle.pkjson.proofs.Values.NoFloats.{floatless}
+use Rattle.pkjson.proofs.Kept.EventsMirrored.{mirrors_contents}
+use Rattle.pkjson.proofs.Runs.PlainRun.{stops_here}
+use Rattle.pkjson.proofs.DictKeys.SettledMembers.{settled_heap, all_given_below}
+use Rattle.pkjson.proofs.Kept.OperandsTaken.{ok_same, top_below}
+use Rattle.pkjson.proofs.Values.ByContents.{unfolds_same}
 
 pub replays : (limits : Bounds) (bytes : List ℕ) (p : List Instruction) (rest : List ℕ) (at : ℕ)
     (a : Held) (i : Instruction) → AcceptedAs limits bytes p

@@ -11,7 +11,7 @@ use Rattle.pkjson.specs.Contents.{contents}
 use Rattle.pkjson.specs.Plain.{OtherKey, LargeNumber, OtherOpcode, plain_run, first_fault}
 use Rattle.pkjson.specs.Unfolds.{Unfolds}
 use Rattle.pkjson.specs.Private.Weighs.{IsDeeper}
-use Rattle.pkjson.proofs.Weighing.{self_deeper}
+use Rattle.pkjson.proofs.Parts.Weights.{self_deeper}
 
 abbrev events_of : Ended → List Event
 events_of (EndedBy (Stopped x s)) = s.events

@@ -5,7 +5,7 @@ use Rattle.serde_json.specs.Data.{Data, array, object, depth, Items, no_items, i
 use Rattle.pkjson.specs.declared.judge.Weight.{Weight}
 use Rattle.pkjson.specs.Unfolds.{Scalar, Sequence, Pairs, Heap, Unfolds, UnfoldItems, UnfoldMembers, count, items_count, members_count}
 use Rattle.pkjson.specs.Private.Weighs.{Weighs, IsDeeper, ItemsWeigh, AreDeeper, MembersWeigh, MembersDeeper, IsTrusted}
-use Rattle.pkjson.proofs.Unfolding.{as_sequence, as_pairs, unique}
+use Rattle.pkjson.proofs.Values.OneValue.{as_sequence, as_pairs, unique}
 
 unfoldable pub snoc : Items → Data → Items
 snoc no_items v = item v no_items

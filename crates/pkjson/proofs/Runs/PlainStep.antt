@@ -23,8 +23,8 @@ use Rattle.pkjson.specs.Plain.{goes_on, is_known_text}
 use Rattle.pkjson.specs.Private.Arena.{Kept, Arena, kept_by, kind_at, update, more_given, is_text_kind}
 use Rattle.pkjson.specs.Private.Acting.{picked, found_above, made_of, filled_of, kind_made, move_of, acted, MakesSame, FillsSame, ActsAs, KindsAgree}
 use Rattle.pkjson.specs.Private.Mirrors.{Mirrors, AreBelow, EntriesBelow, CellsBelow, IsHeld, GivenBelow, MirrorsState}
-use Rattle.pkjson.proofs.Mirroring.{mirrors_made, mirrors_received}
-use Rattle.pkjson.proofs.Taking.{found_of, above_of, found_below, above_below, above_first, moved_below, TakenBelow}
+use Rattle.pkjson.proofs.Kept.EventsMirrored.{mirrors_made, mirrors_received}
+use Rattle.pkjson.proofs.Kept.OperandsTaken.{found_of, above_of, found_below, above_below, above_first, moved_below, TakenBelow}
 
 -- below a greater number
 are_more : (n : ℕ) (xs : List ℕ) → AreBelow n xs → AreBelow (n + 1) xs

@@ -1,0 +1,4 @@
+-- What the replay keeps: the stack, the memo, the arena.
+pub mod MemoCells
+pub mod OperandsTaken
+pub mod EventsMirrored

@@ -1,0 +1,8 @@
+-- The plain run of an accepted pickle, and its answer.
+pub mod BareOpcodes
+pub mod PlainStep
+pub mod PlainRun
+pub mod RunToStop
+pub mod NextInstruction
+pub mod Answered
+pub mod WorkedPickles
