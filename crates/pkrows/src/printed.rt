@@ -1,5 +1,6 @@
-//! Reasons and refusals as they are printed.
+//! Faults, reasons and refusals as they are printed.
 
+use pkops::Fault;
 use pkread::{ReadFailed, Reason, Refusal};
 use std::test::Fail;
 
@@ -9,6 +10,15 @@ fn a_number_stands_in_parentheses(rt: HostRuntime) -> Result<(), Fail> {
     assert_eq!(rt; numbered.as_str(), "MissingMemo(6)");
     let plain = format!(in rt.alloc(); "{}", Reason::LeftOver)?;
     assert_eq!(rt; plain.as_str(), "LeftOver");
+    Ok(())
+}
+
+#[test]
+fn a_fault_has_the_name_of_its_reason(rt: HostRuntime) -> Result<(), Fail> {
+    let unknown = format!(in rt.alloc(); "{}", Fault::UnknownOpcode(255))?;
+    assert_eq!(rt; unknown.as_str(), "UnknownOpcode(255)");
+    let bad = format!(in rt.alloc(); "{}", Fault::BadArgument)?;
+    assert_eq!(rt; bad.as_str(), "BadArgument");
     Ok(())
 }
 
