@@ -4,7 +4,7 @@ use Rattle.std.specs.List.{flat_map}
 use Rattle.pkcheck.specs.Knowledge.{Asked, AskedPair, AskedUnknown}
 use Rattle.pkcheck.specs.declared.Yes.{Yes}
 use Rattle.pkcheck.specs.declared.No.{No}
-use Rattle.pktool.specs.Quoted.{quoted}
+use Rattle.pkcheck.specs.Quoted.{quoted}
 use Rattle.pktool.specs.Verdict.{verdict_line}
 
 -- `"MODULE" "NAME"`, or `unknown` if the pickle does not show the pair

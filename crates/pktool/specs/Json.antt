@@ -1,11 +1,12 @@
 -- A plain pickle as JSON: what is read, what is written, and how the command ends.
-use Rattle.std.specs.Prelude.{◌≡◌, ℕ, ◌+◌, ◌%◌, ◌^◌, List, ◌++◌, codes, decimal, Option, None}
+use Rattle.std.specs.Prelude.{◌≡◌, ℕ, ◌+◌, ◌%◌, ◌^◌, List, ◌++◌, codes, decimal, Option}
 use Rattle.std.specs.Io.KnownBytes.{Appends, IsAtEnd}
 use Rattle.serde_json.specs.Data.{Data}
 use Rattle.serde_json.specs.Written.{compact_text}
 use Rattle.pkops.specs.Limits.{Bounds}
 use Rattle.pkops.specs.Table.{row_of}
 use Rattle.pkops.specs.declared.Op.{Op}
+use Rattle.pkread.specs.Printed.{refusal_text}
 use Rattle.pkread.specs.Rows.{Sight, Takes}
 use Rattle.pkjson.specs.Export.{IsNotExported, IsValueOf}
 use Rattle.pkjson.specs.declared.ExportError.{ExportError}
@@ -39,7 +40,7 @@ not_plain_line at op =
 
 -- the line of an export error
 abbrev pub error_line : ExportError → List ℕ
-error_line (Check refusal) = no_line refusal.at refusal.reason None
+error_line (Check refusal) = no_line (refusal_text refusal)
 error_line (NotPlain at op) = not_plain_line at op
 error_line (Key at) = fault_line at (codes "Key")
 error_line (Number at) = fault_line at (codes "Number")

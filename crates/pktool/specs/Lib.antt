@@ -1,6 +1,5 @@
 pub mod Blocks
 pub mod Command
-pub mod Quoted
 pub mod Verdict
 pub mod Listing
 pub mod Imports

@@ -11,7 +11,8 @@ use Rattle.pkops.specs.declared.Op.TheVariants.{Long1, Long4}
 use Rattle.pkcheck.specs.Heard.{Heard}
 use Rattle.pkcheck.specs.declared.Yes.{Yes}
 use Rattle.pkcheck.specs.declared.No.{No}
-use Rattle.pktool.specs.Quoted.{quoted}
+use Rattle.pkcheck.specs.Printed.{no_text}
+use Rattle.pkcheck.specs.Quoted.{quoted}
 use Rattle.pktool.specs.Verdict.{no_line}
 
 -- the offset of an instruction, right-aligned in 5 columns, or wider if needed
@@ -66,7 +67,7 @@ highest_line n = codes "highest protocol: " ++ (decimal n ++ codes "\n")
 -- the last line: the highest protocol, or why the pickle is refused
 abbrev pub last_line : Result Yes No → ℕ → List ℕ
 last_line (Ok accepted) n = highest_line n
-last_line (Err refused) n = no_line refused.at refused.reason refused.pair
+last_line (Err refused) n = no_line (no_text refused)
 
 -- the whole listing for an answer and the instructions heard
 abbrev pub listing : Result Yes No → List Heard → List ℕ

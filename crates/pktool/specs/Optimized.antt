@@ -2,6 +2,7 @@
 use Rattle.std.specs.Prelude.{◌≡◌, ℕ, ⊤, List, ◌++◌, length, codes, decimal, Option, None, Some}
 use Rattle.std.specs.Io.KnownBytes.{Appends}
 use Rattle.pkops.specs.Limits.{Bounds}
+use Rattle.pkread.specs.Printed.{refusal_text}
 use Rattle.pkread.specs.declared.Refusal.{Refusal}
 use Rattle.pkopt.specs.Answer.{IsNotOptimized, Optimizes, TakesAsChecked}
 use Rattle.pktool.specs.Verdict.{no_line}
@@ -34,7 +35,7 @@ pub record IsNone (limits : Bounds) (bytes : List ℕ) (before after : Option (L
     : Type 0 where
   pub refusal : Refusal
   pub refused : IsNotOptimized limits bytes refusal
-  pub line : Appends before after (no_line refusal.at refusal.reason None)
+  pub line : Appends before after (no_line (refusal_text refusal))
 
 -- how an optimization ends: with the form in its place, or with a refusal that leaves the place
 -- unchanged

@@ -2,14 +2,11 @@
 ghost use Rattle.std.specs.Prelude.{IfOk, List, None, OnOk, Option, ℕ};
 ghost use Rattle.std.specs.Io.KnownBytes.{Appends};
 ghost use Rattle.pktool.specs.Optimized.{EndsIn, HoldsBytes, sizes_line};
-ghost use Rattle.pktool.specs.Verdict.{no_line};
 
 use crate::checking::Outcome;
 use crate::printing::write_no;
-use pkcheck::No;
 use pkops::Limits;
 use pkopt::optimized_form;
-use pkread::Refusal;
 use std::alloc::Global;
 use std::io;
 use std::io::Write;
@@ -66,7 +63,7 @@ pub fn optimize_to<P: Place, W: Write>(
             Ok(Outcome::Done)
         }
         Err(refusal) => {
-            write_refusal(refusal, out)?;
+            write_no(&refusal, out)?;
             Ok(Outcome::Refused)
         }
     }
@@ -78,17 +75,4 @@ fn write_sizes<W: Write>(before: u64, after: usize, out: &mut W) -> io::Result<(
         (sizes_line before after)) }
 {
     writeln!(out, "{before} bytes to {after} bytes")
-}
-
-/// Writes where and why a pickle is refused.
-pub fn write_refusal<W: Write>(refusal: Refusal, out: &mut W) -> io::Result<()>
-    ensures { OnOk result (Appends (W.contents out.old) (W.contents out.new)
-        (no_line refusal.at refusal.reason None)) }
-{
-    let no = No {
-        at: refusal.at,
-        reason: refusal.reason,
-        pair: None,
-    };
-    write_no(&no, out)
 }

@@ -3,7 +3,6 @@ mod export;
 mod hexadecimal;
 mod imports;
 mod listing;
-mod quoted;
 mod verdict;
 
 pub use export::write_export_error;

@@ -10,7 +10,8 @@ use crate::files::{open_source, read_list, read_rest};
 use crate::importing::imports_to;
 use crate::job::{Job, Pickles};
 use crate::listing::dis_to;
-use crate::optimizing::{Unoptimized, optimize_to, write_refusal};
+use crate::optimizing::{Unoptimized, optimize_to};
+use crate::printing::write_no;
 use crate::replacing::NewFile;
 use pkcheck::{Loading, OldStrings, Policy};
 use pkops::Limits;
@@ -192,7 +193,7 @@ fn optimize_file<'a, R: Files<File = File>, O: Write>(
 
 /// Reports a refusal.
 fn refused<'a, O: Write>(refusal: Refusal, out: &mut O) -> Result<Outcome, Fault<'a>> {
-    match write_refusal(refusal, out) {
+    match write_no(&refusal, out) {
         Ok(()) => Ok(Outcome::Refused),
         Err(error) => Err(unwritten(&error)),
     }

@@ -5,7 +5,6 @@ ghost use Rattle.pkops.specs.Table.{row_of};
 ghost use Rattle.pktool.specs.Json.{error_line, not_plain_line};
 
 use crate::printing::verdict::write_no;
-use pkcheck::No;
 use pkjson::ExportError;
 use pkops::{Op, row};
 use std::io;
@@ -16,14 +15,7 @@ pub fn write_export_error<W: Write>(error: ExportError, out: &mut W) -> io::Resu
     ensures { OnOk result (Appends (W.contents out.old) (W.contents out.new) (error_line error)) }
 {
     match error {
-        ExportError::Check(refusal) => {
-            let no = No {
-                at: refusal.at,
-                reason: refusal.reason,
-                pair: None,
-            };
-            write_no(&no, out)
-        }
+        ExportError::Check(refusal) => write_no(&refusal, out),
         ExportError::NotPlain(at, op) => write_not_plain(at, op, out),
         ExportError::Key(at) => writeln!(out, "no at {at}: Key"),
         ExportError::Number(at) => writeln!(out, "no at {at}: Number"),

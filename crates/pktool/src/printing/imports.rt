@@ -4,8 +4,7 @@ ghost use Rattle.std.specs.Io.KnownBytes.{Appends};
 ghost use Rattle.pkcheck.specs.Import.{import_shown};
 ghost use Rattle.pktool.specs.Imports.{import_line, import_lines};
 
-use crate::printing::quoted::write_quoted;
-use pkcheck::{Import, Imports, No, Yes};
+use pkcheck::{Import, Imports, No, Quoted, Yes};
 use std::io;
 use std::io::Write;
 
@@ -39,10 +38,9 @@ fn write_import<W: Write>(import: Import<'_>, out: &mut W) -> io::Result<()>
 {
     match import {
         Import::Pair { module, name } => {
-            write_quoted(module.as_bytes(), out)?;
-            out.write_all(b" ")?;
-            write_quoted(name.as_bytes(), out)?;
-            out.write_all(b"\n")
+            let module = Quoted(module.as_bytes());
+            let name = Quoted(name.as_bytes());
+            writeln!(out, "{module} {name}")
         }
         Import::Unknown => out.write_all(b"unknown\n"),
     }

@@ -8,9 +8,8 @@ ghost use Rattle.pktool.specs.Listing.{angled, argument_text, indent, last_line,
 ghost use Rattle.pktool.specs.Listing.{opcode_text, payload_text, position_text};
 
 use crate::printing::hexadecimal::write_hexadecimal;
-use crate::printing::quoted::write_quoted;
 use crate::printing::verdict::write_no;
-use pkcheck::{No, Yes};
+use pkcheck::{No, Quoted, Yes};
 use pkops::{Arg, Inst, Op, row};
 use std::io;
 use std::io::Write;
@@ -81,16 +80,8 @@ fn write_argument<W: Write>(op: Op, arg: Arg<'_>, out: &mut W) -> io::Result<()>
             out.write_all(b" ")?;
             write_angled(bytes, out)
         }
-        Arg::Line(text) => {
-            out.write_all(b" ")?;
-            write_quoted(text, out)
-        }
-        Arg::Pair(first, second) => {
-            out.write_all(b" ")?;
-            write_quoted(first, out)?;
-            out.write_all(b" ")?;
-            write_quoted(second, out)
-        }
+        Arg::Line(text) => write!(out, " {}", Quoted(text)),
+        Arg::Pair(first, second) => write!(out, " {} {}", Quoted(first), Quoted(second)),
         Arg::Counted(payload) => {
             out.write_all(b" ")?;
             write_payload(op, payload, out)
@@ -106,7 +97,7 @@ fn write_payload<W: Write>(op: Op, payload: &[u8], out: &mut W) -> io::Result<()
     match op {
         Op::Long1 => write_angled(payload, out),
         Op::Long4 => write_angled(payload, out),
-        _ => write_quoted(payload, out),
+        _ => write!(out, "{}", Quoted(payload)),
     }
 }
 
