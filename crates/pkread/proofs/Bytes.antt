@@ -1,7 +1,6 @@
 -- The bytes of one instruction, as they are taken and judged.
 pub mod Takes
 pub mod Taken
-pub mod Parts
 pub mod Behind
 pub mod LinesBehind
 pub mod Judged

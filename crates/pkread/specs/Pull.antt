@@ -1,9 +1,7 @@
 -- What a pull does to the bytes left in a source and to its count of failures.
-use Rattle.std.specs.Prelude.{◌≡◌, ◌≢◌, ℕ, ◌+◌, ◌-◌, ◌%◌, ◌^◌, ◌<◌, ◌≤◌, List, length, take, ⊤}
-use Rattle.std.specs.Prelude.{MatchResult, Result, Option}
+use Rattle.std.specs.Prelude.{◌≡◌, ℕ, ◌+◌, ◌%◌, ◌^◌, ◌<◌, ◌≤◌, List, length, take, ⊤, MatchResult}
+use Rattle.std.specs.Prelude.{Result, Option}
 use Rattle.std.specs.Io.KnownBytes.{Consumes, IsAtEnd}
-use Rattle.std.specs.List.{AllByRecursion}
-use Rattle.pkops.specs.Spelling.{line_feed}
 use Rattle.pkread.specs.declared.source.Memory.{Memory}
 use Rattle.pkread.specs.declared.source.Input.{Input}
 
@@ -19,14 +17,6 @@ Pulled old new result to =
 abbrev pub Counted : {E : Type 0} → ℕ → ℕ → Result ℕ E → Type 0
 Counted old new result =
     MatchResult result (λ _. new ≡ old) (λ _. new ≡ (old + 1) % (2 ^ 64))
-
--- none of the bytes is a line feed
-abbrev pub IsEndless : List ℕ → Type 0
-IsEndless bytes = AllByRecursion (λ byte. byte ≢ line_feed) bytes
-
--- at `Ok(n)` no byte of `to` before the n-th is a line feed
-abbrev pub StaysInLine : {E : Type 0} → Result ℕ E → List ℕ → Type 0
-StaysInLine result to = MatchResult result (λ n. IsEndless (take (n - 1) to)) (λ _. ⊤)
 
 -- the bytes left in a source over memory
 abbrev pub memory_left : Memory → List ℕ

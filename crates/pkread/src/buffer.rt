@@ -1,12 +1,11 @@
 //! The bytes of the current instruction, and the most that the buffer has ever held.
 
-ghost use Rattle.std.specs.Prelude.{◌≡◌, ◌+◌, ◌-◌, ◌++◌, ◌∷◌, ◌<◌, ◌≤◌, ◌%◌, ◌^◌, [], ℕ, List};
-ghost use Rattle.std.specs.Prelude.{IfOk, IfErr, IfNone, IfSome, drop, length, take};
+ghost use Rattle.std.specs.Prelude.{◌≡◌, ◌+◌, ◌++◌, ◌∷◌, ◌<◌, ◌≤◌, ◌%◌, ◌^◌, [], ℕ, List};
+ghost use Rattle.std.specs.Prelude.{IfOk, IfErr, IfNone, IfSome, length, take};
 ghost use Rattle.pkread.specs.Held.{Held, most_held, none_held};
 ghost use Rattle.pkread.specs.Rows.{sight};
 ghost use Rattle.pkread.specs.Private.Taking.{AreAllBytes, PulledInto, ReadsSome, ReadsByte};
-ghost use Rattle.pkread.specs.Private.Taking.{ReadsLine, ReadsNone};
-ghost use Rattle.pkread.specs.Pull.{IsEndless};
+ghost use Rattle.pkread.specs.Private.Taking.{ReadsNone};
 
 use crate::refusal::Reason;
 use crate::source::{ReadFailed, Source};
@@ -169,33 +168,6 @@ impl Buffer {
         Ok(count)
     }
 
-    /// Makes one read of at most `wanted` bytes of a line and appends them.
-    #[inline]
-    pub(crate) fn read_line<R: Source>(
-        &mut self,
-        source: &mut R,
-        wanted: usize,
-    ) -> Result<usize, Reason>
-        requires some { 0 < wanted }
-        requires few { wanted ≤ 4096 }
-        ensures peak { self.new.peak ≡ self.old.peak }
-        ensures ok { IfOk result (λ n. ReadsLine wanted n
-            self.old.bytes (sight R.left R.failures source.old)
-            self.new.bytes (sight R.left R.failures source.new)) }
-        ensures same { IfErr result (λ _. self.new.bytes ≡ self.old.bytes) }
-        ensures err { IfErr result (ReadsNone
-            (sight R.left R.failures source.old) (sight R.left R.failures source.new)) }
-    {
-        let held = self.held;
-        make_room(&mut self.store, held, wanted)?;
-        let count = pull_line_into(source, &mut self.store, held, wanted)?;
-        if count == 0 {
-            return Err(Reason::Truncated);
-        }
-        self.held = held + count;
-        Ok(count)
-    }
-
     /// Makes one read of at most `wanted` bytes and appends them.
     #[inline]
     pub(crate) fn read<R: Source>(&mut self, source: &mut R, wanted: usize) -> Result<usize, Reason>
@@ -285,24 +257,4 @@ fn pull_into<R: Source>(
     ensures size { length store.new.items ≡ length store.old.items }
 {
     source.pull(&mut store[from..from + wanted])
-}
-
-/// One read of at most so many bytes of a line into a store.
-#[inline]
-fn pull_line_into<R: Source>(
-    source: &mut R,
-    store: &mut Vec<u8>,
-    from: usize,
-    wanted: usize,
-) -> Result<usize, ReadFailed>
-    requires { from + wanted ≤ length store.old.items }
-    ensures ok { IfOk result (λ n. PulledInto wanted n from store.old.items store.new.items
-        (sight R.left R.failures source.old) (sight R.left R.failures source.new)) }
-    ensures line { IfOk result (λ n. IsEndless (take (n - 1) (drop from store.new.items))) }
-    ensures err { IfErr result (λ _.
-        R.failures source.new ≡ (R.failures source.old + 1) % (2 ^ 64)) }
-    ensures same { take from store.new.items ≡ take from store.old.items }
-    ensures size { length store.new.items ≡ length store.old.items }
-{
-    source.pull_line(&mut store[from..from + wanted])
 }

@@ -6,7 +6,7 @@ ghost use Rattle.pkread.specs.Rows.{all_bytes, sight};
 ghost use Rattle.pkread.specs.Held.{most_held, none_held};
 ghost use Rattle.pkread.specs.Private.Progress.{KeepsRest, intake};
 ghost use Rattle.pkread.specs.Private.Taking.{ReadsByte, ReadsNone, TakesAll, TakesBlock};
-ghost use Rattle.pkread.specs.Private.Taking.{TakesByte, TakesPart};
+ghost use Rattle.pkread.specs.Private.Taking.{TakesByte};
 
 use crate::buffer::Buffer;
 use crate::refusal::Reason;
@@ -17,9 +17,6 @@ use std::marker::Model;
 
 /// The most bytes that one read asks for.
 const BLOCK: usize = 4096;
-
-/// The most bytes of a line that one read asks for.
-const PART: usize = 64;
 
 /// The bytes of the instruction begun, how many were taken from the source since the first, and
 /// the limits on what an instruction holds.
@@ -182,29 +179,6 @@ impl Gathering {
         }
         let wanted = left.min(BLOCK).min(room as usize);
         let n = self.buffer.read(source, wanted)?;
-        self.taken += n as u64;
-        Ok(n)
-    }
-
-    /// Makes one read of at most `left` bytes of a line. Returns how many came.
-    #[inline]
-    pub(crate) fn take_part<R: Source>(
-        &mut self,
-        source: &mut R,
-        left: usize,
-    ) -> Result<usize, Reason>
-        requires { 0 < left }
-        ensures keeps { KeepsRest self.old self.new }
-        ensures takes { TakesPart left result
-            (intake R.left R.failures source.old self.old)
-            (intake R.left R.failures source.new self.new) }
-    {
-        let room = u64::MAX - self.taken;
-        if room == 0 {
-            return Err(Reason::TooLarge);
-        }
-        let wanted = left.min(PART).min(room as usize);
-        let n = self.buffer.read_line(source, wanted)?;
         self.taken += n as u64;
         Ok(n)
     }

@@ -1,6 +1,5 @@
-//! Takes lines, part by part.
+//! Takes lines, byte by byte.
 
-ghost use Rattle.std.specs.Prelude.{◌≡◌, ◌-◌, ◌<◌, get_or, length};
 ghost use Rattle.pkread.specs.Private.Gathering.{TakesLine};
 ghost use Rattle.pkread.specs.Private.Progress.{KeepsRest, intake};
 
@@ -9,16 +8,6 @@ use crate::refusal::Reason;
 use crate::source::Source;
 
 impl Gathering {
-    /// The last of the bytes held.
-    #[inline]
-    fn last(&self) -> u8
-        requires { 0 < length self.now.buffer.bytes }
-        ensures { result ≡ get_or self.now.buffer.bytes (length self.now.buffer.bytes - 1) 0 }
-    {
-        let bytes = self.bytes();
-        bytes[bytes.len() - 1]
-    }
-
     /// Takes a line of at most so many bytes, and its end.
     pub(crate) fn take_line<R: Source>(&mut self, source: &mut R, most: usize) -> Result<(), Reason>
         ensures keeps { KeepsRest self.old self.new }
@@ -27,15 +16,15 @@ impl Gathering {
             (intake R.left R.failures source.new self.new) }
     {
         let mut left = most;
-        'parts: loop {
-            let n = self.take_part(source, left.saturating_add(1))?;
-            if self.last() == b'\n' {
+        'bytes: loop {
+            let byte = self.take_byte(source)?;
+            if byte == b'\n' {
                 return Ok(());
             }
-            if n > left {
+            if left == 0 {
                 return Err(Reason::TooLarge);
             }
-            left -= n;
+            left -= 1;
         }
     }
 }

@@ -1,6 +1,7 @@
 -- Reads, and what several of them take.
-use Rattle.std.proofs.Common.{◌≡◌, ℕ, zero, suc, ◌+◌, ◌-◌, ◌%◌, ◌^◌, ◌<◌, ◌≤◌, List, [], ◌∷◌, ◌++◌, length, take, drop, get_or, Option, None, Some, refl, sym, ap, subst, ◌∙◌, arith, length-append, append_assoc, append-nil, Result, Ok, Err}
+use Rattle.std.proofs.Common.{◌≡◌, ◌≢◌, ℕ, zero, suc, ◌+◌, ◌-◌, ◌%◌, ◌^◌, ◌<◌, ◌≤◌, List, [], ◌∷◌, ◌++◌, length, take, drop, get_or, Option, None, Some, refl, sym, ap, subst, ◌∙◌, arith, length-append, append_assoc, append-nil, Result, Ok, Err}
 use Rattle.std.specs.Io.KnownBytes.{Consumes}
+use Rattle.std.specs.List.{AllByRecursion}
 use Rattle.std.proofs.lemmas.List.{drop-take, drop_at, get_or-drop, length-drop, length-take, take-take, take_at}
 use Rattle.std.proofs.Math.Seq.{take-add}
 use Rattle.pkread.proofs.Bytes.Takes.{Consumes-more, Takes-more, Takes-none}
@@ -25,7 +26,7 @@ AreBytes-both (x ∷ a) b f g zero = f 0
 AreBytes-both (x ∷ a) b f g (suc i) = AreBytes-both a b (λ k. f (suc k)) g i
 
 -- what stands in a store behind a place was read
-unfoldable pub pulled_reads : (wanted n from : ℕ) (items mid new : List ℕ) (before after : Sight) →
+pub pulled_reads : (wanted n from : ℕ) (items mid new : List ℕ) (before after : Sight) →
     from + wanted ≤ length mid → take from mid ≡ take from items →
     PulledInto wanted n from mid new before after → 0 < n →
     ReadsSome wanted n (take from items) before (take (from + n) new) after
@@ -142,6 +143,12 @@ took_byte x old new r e =
 -- one byte, as a field of one
 pub took_one : (x : ℕ) (old new : Intake) → Took (x ∷ []) old new → TookAll 1 old new
 took_one x old new k = record { bytes = x ∷ []; took = k; all = refl }
+
+-- a byte more that ends no line
+pub endless_more : (c : List ℕ) (x : ℕ) →
+    AllByRecursion (λ byte. byte ≢ 10) c → x ≢ 10 → AllByRecursion (λ byte. byte ≢ 10) (c ++ x ∷ [])
+endless_more [] x h ne = (ne, tt)
+endless_more (y ∷ c) x h ne = (h.0, endless_more c x h.1 ne)
 
 -- fewer came behind some that were taken
 pub lacks_after : (count left : ℕ) (c : List ℕ) (old mid new : Intake) (reason : Reason) →

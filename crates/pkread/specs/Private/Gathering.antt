@@ -1,6 +1,7 @@
 -- The bytes of one instruction, as the arms take them.
-use Rattle.std.specs.Prelude.{◌≡◌, ◌⊎◌, ℕ, ◌+◌, ◌<◌, ◌≤◌, Bool, List, [], ◌∷◌, ◌++◌, length}
+use Rattle.std.specs.Prelude.{◌≡◌, ◌≢◌, ◌⊎◌, ℕ, ◌+◌, ◌<◌, ◌≤◌, Bool, List, [], ◌∷◌, ◌++◌, length}
 use Rattle.std.specs.Prelude.{None, Result, MatchResult}
+use Rattle.std.specs.List.{AllByRecursion}
 use Rattle.std.specs.Io.KnownBytes.{IsAtEnd}
 use Rattle.pkops.specs.Contents.{IsGood}
 use Rattle.pkops.specs.Lying.{Lies, count_in}
@@ -11,7 +12,6 @@ use Rattle.pkops.specs.declared.Op.{Op}
 use Rattle.pkread.specs.Admission.{objection}
 use Rattle.pkread.specs.Private.Progress.{Intake}
 use Rattle.pkread.specs.Private.Taking.{AreAllBytes, LackRow, Took}
-use Rattle.pkread.specs.Pull.{IsEndless}
 use Rattle.pkread.specs.Rows.{Sight, Fails, FrontsBegin, IsAmiss, Refuses, Takes, all_bytes}
 use Rattle.pkread.specs.declared.arms.Count.{Count}
 use Rattle.pkread.specs.declared.gather.Found.{Found}
@@ -83,7 +83,7 @@ pub record LacksLine (most : ℕ) (old new : Intake) (reason : Reason) : Type 0 
   pub fit : AreAllBytes bytes
   pub held : new.bytes ≡ old.bytes ++ bytes
   pub count_is : new.taken ≡ old.taken + length bytes
-  pub endless : IsEndless bytes
+  pub endless : AllByRecursion (λ byte. byte ≢ line_feed) bytes
   pub row : LineRow most old.source new.source bytes new.taken reason
 
 -- the bytes spell the opcode with an argument that is good and admitted; `split` is where its first

@@ -1,9 +1,8 @@
 -- What reads do to the bytes held and to the source.
-use Rattle.std.specs.Prelude.{◌≡◌, ℕ, List, [], ◌∷◌, ◌++◌, ◌+◌, ◌-◌, ◌%◌, ◌^◌, ◌<◌, ◌≤◌, length}
-use Rattle.std.specs.Prelude.{take, drop, get_or, Result, MatchResult}
+use Rattle.std.specs.Prelude.{◌≡◌, ℕ, List, [], ◌∷◌, ◌++◌, ◌+◌, ◌%◌, ◌^◌, ◌<◌, ◌≤◌, length, take}
+use Rattle.std.specs.Prelude.{drop, get_or, Result, MatchResult}
 use Rattle.std.specs.Io.KnownBytes.{IsAtEnd}
 use Rattle.pkread.specs.Private.Progress.{Intake}
-use Rattle.pkread.specs.Pull.{IsEndless}
 use Rattle.pkread.specs.Rows.{Sight, Takes, Fails, all_bytes}
 use Rattle.pkread.specs.declared.refusal.Reason.{Reason}
 use Rattle.pkread.specs.declared.refusal.Reason.TheVariants.{Source, Truncated, TooLarge}
@@ -23,12 +22,6 @@ pub record ReadsSome (wanted n : ℕ) (old : List ℕ) (before : Sight) (new : L
   pub some : 0 < n
   pub within : n ≤ wanted
   pub count : length bytes ≡ n
-
--- so many were read and appended, and only the last of them may be a line feed
-pub record ReadsLine (wanted n : ℕ) (old : List ℕ) (before : Sight) (new : List ℕ)
-    (after : Sight) : Type 0 where
-  pub some : ReadsSome wanted n old before new after
-  pub line : IsEndless (take (n - 1) some.bytes)
 
 -- one byte was read and appended
 pub record ReadsByte (byte : ℕ) (old : List ℕ) (before : Sight) (new : List ℕ)
@@ -66,11 +59,6 @@ pub record TookBlock (wanted n : ℕ) (old new : Intake) : Type 0 where
   pub block : n ≤ 4096
   pub count : length bytes ≡ n
 
--- so many were taken, and only the last of them may be a line feed
-pub record TookPart (wanted n : ℕ) (old new : Intake) : Type 0 where
-  pub block : TookBlock wanted n old new
-  pub line : IsEndless (take (n - 1) block.bytes)
-
 -- why no more than these bytes were taken
 abbrev pub LackRow : Sight → Sight → List ℕ → ℕ → Reason → Type 0
 LackRow before after bytes u Source = Fails before after bytes
@@ -104,13 +92,6 @@ abbrev pub TakesBlock : ℕ → Result ℕ Reason → Intake → Intake → Type
 TakesBlock wanted result old new =
     MatchResult result
     (λ n. TookBlock wanted n old new)
-    (λ reason. (new.bytes ≡ old.bytes) × LacksSome wanted old new reason)
-
--- some bytes of a line are taken, at most so many, or none
-abbrev pub TakesPart : ℕ → Result ℕ Reason → Intake → Intake → Type 0
-TakesPart wanted result old new =
-    MatchResult result
-    (λ n. TookPart wanted n old new)
     (λ reason. (new.bytes ≡ old.bytes) × LacksSome wanted old new reason)
 
 -- a read wrote n bytes into a store at `from`
