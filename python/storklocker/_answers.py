@@ -155,7 +155,7 @@ class RowVerdict(Verdict):
 
 
 HELD = (Verdict, RowVerdict, REASONS)
-"""What the extension module makes answers of, each at the place that `_storklocker.c` names."""
+"""Objects that the extension module builds answers from, in the order of `_storklocker.c`."""
 
 
 class Refused(pickle.UnpicklingError):

@@ -15,7 +15,7 @@ UNBOUND = (1 << 32) - 1
 """The greatest memo number."""
 
 OLD_STRINGS = ("unknown", "ascii", "bytes")
-"""What the strings of Python 2 may become, each at its number."""
+"""How Python 2 strings may be decoded; the index is the number in storklocker.h."""
 
 _SETTINGS = struct.Struct("=6Q4I")
 
@@ -84,7 +84,7 @@ def limits_of(counted: int, stack: int, memo: int, passed: int, numbers: int, la
 
 @functools.lru_cache(maxsize=64)
 def packed(limits: Limits, old_strings: str, keeps_memo: bool) -> bytes:
-    """`struct storklocker_settings` of a check whose pairs are in order."""
+    """The bytes of a `struct storklocker_settings`, for sorted pairs."""
     *numbers, large = limits_of(*limits)
     words = (OLD_STRINGS.index(old_strings), keeps_memo, large, True)
     return _SETTINGS.pack(_SETTINGS.size, *numbers, *words)

@@ -226,7 +226,7 @@ def with_room(call: Callable[[int], Tuple[Any, ...]]) -> Tuple[Any, bytes]:
 def settings_of(
     allow: AllowList, limits: Optional[Limits], old_strings: str, keeps_memo: bool = False
 ) -> bytes:
-    """The settings of a check, as the library takes them: within the limits of the list too."""
+    """The settings of a check as the library reads them. The limits of the list apply too."""
     if not isinstance(allow, AllowList):
         raise TypeError(f"allow must be a storklocker.AllowList, not {type(allow)!r}")
     if limits is not None and not isinstance(limits, Limits):

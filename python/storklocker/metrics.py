@@ -29,7 +29,7 @@ def _renew_locks() -> None:
         counts._lock = threading.Lock()
 
 
-if hasattr(os, "register_at_fork"):  # (a thread that isn't in the child may hold a lock)
+if hasattr(os, "register_at_fork"):  # a thread of the parent may hold the lock
     os.register_at_fork(after_in_child=_renew_locks)
 
 

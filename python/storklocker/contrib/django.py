@@ -121,7 +121,7 @@ class _Missing:
         return self.get(key, _ABSENT, version, **more) is not _ABSENT
 
     def touch(self, key: Any, *given: Any, **named: Any) -> bool:
-        # (some backends don't load what they touch)
+        # some backends touch a value without loading it
         version = given[1] if len(given) > 1 else named.get("version")
         plain: Any = getattr(super(), "touch")
         return self.has_key(key, version) and bool(plain(key, *given, **named))

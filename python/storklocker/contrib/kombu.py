@@ -38,9 +38,7 @@ def register(guard: Guard, app: Optional[Any] = None) -> None:
 
 
 def register_database(guard: Guard) -> None:
-    """Puts the guard in front of the columns of Celery's result backend `db+`, which SQLAlchemy
-    pickles by itself.
-    """
+    """Guards the columns of Celery's result backend `db+`, which SQLAlchemy itself unpickles."""
     from celery.backends.database import models
     from sqlalchemy.types import PickleType
 

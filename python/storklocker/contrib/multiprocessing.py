@@ -52,10 +52,10 @@ _Wrapper: Any = getattr(connection, "ConnectionWrapper")
 
 
 class _Connection(_Wrapper):  # type: ignore[misc]
-    """A connection that does what a plain one does, and loads through the guard."""
+    """A connection that loads through the guard, and otherwise behaves like a plain one."""
 
     def __getattr__(self, name: str) -> Any:
-        if name == "_conn":  # (a copy that isn't made yet)
+        if name == "_conn":  # a copy under construction
             raise AttributeError(name)
         return getattr(self._conn, name)
 

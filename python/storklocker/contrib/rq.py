@@ -58,7 +58,7 @@ def classes(guard: Guard, worker: Optional[Type[Any]] = None) -> Tuple[Type[Any]
         _refused: Optional[Exception] = None
 
         def restore(self, raw_data: Any) -> None:
-            # (RQ's worker would end where it can't read a job's metadata)
+            # RQ's worker exits if it cannot read a job's metadata
             try:
                 super().restore(raw_data)
             except pickle.UnpicklingError as error:

@@ -35,7 +35,7 @@ def main(words: Optional[Sequence[str]] = None) -> int:
     """Runs the command with these arguments, and returns its status."""
     asked = _parser().parse_args(words)
     if isinstance(sys.stdout, io.TextIOWrapper):
-        # (reports and lists are UTF-8 wherever they are written; a terminal has what it has)
+        # files and pipes get UTF-8; a terminal keeps its encoding
         encoding = None if sys.stdout.isatty() else "utf-8"
         sys.stdout.reconfigure(encoding=encoding, errors="backslashreplace")
     try:
@@ -128,7 +128,7 @@ def _list_of(path: str) -> AllowList:
 
 @contextlib.contextmanager
 def _files_of(asked: argparse.Namespace) -> Iterator[Files]:
-    """The files that are asked for; at the end it says which folders were left out."""
+    """The files to scan. When they are exhausted, reports how many folders were left out."""
     files = Files(asked.paths, getattr(asked, "recursive", False))
     yield files
     if files.left_out:

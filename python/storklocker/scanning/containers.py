@@ -116,7 +116,7 @@ def pieces_of(path: str, file: BinaryIO) -> Found:
 
 
 def _behind(path: str, file: BinaryIO, budget: Budget) -> Found:
-    """The members of a zip file that has something else in front of it."""
+    """The members of a zip file that other bytes precede."""
     try:
         archive = zipfile.ZipFile(file)
     except Exception:
@@ -144,7 +144,7 @@ def _opened(
             yield from _OPENERS[kind](path, stream, seekable, budget, depth - 1)
         except TooMuch as error:
             yield Finding(path, kind, str(error))
-        except Exception as error:  # (whatever a reader of the library raises)
+        except Exception as error:  # the readers of the standard library may raise anything
             yield Finding(path, kind, f"it is broken: {type(error).__name__}: {error}")
 
 
@@ -174,7 +174,7 @@ _MAGICS = tuple(_MAGIC.values())
 
 
 def _is_old_tar(front: bytes) -> bool:
-    """Whether it begins with the header of a tar file from before POSIX, which has no magic."""
+    """Whether it begins with the header of a tar file older than POSIX, which has no magic."""
     if len(front) < 512 or not _OCTAL.fullmatch(front[_CHECKSUM]):
         return False
     try:
@@ -267,7 +267,7 @@ def _open_tar(
     file: Any = stream
     with tarfile.open(fileobj=file, mode="r|", tarinfo=_Header, ignore_zeros=True) as archive:
         for entry in archive:
-            # (readers take an unknown type for a file)
+            # readers treat an unknown type as a file
             if entry.isreg() or entry.type not in tarfile.SUPPORTED_TYPES:
                 yield from _member(
                     path, "tar", entry.name, budget, depth, lambda: archive.extractfile(entry)
@@ -277,14 +277,14 @@ def _open_tar(
 
 
 class _Header(tarfile.TarInfo):
-    """A header of a tar file. `tarfile` would end in silence at a broken one."""
+    """A header of a tar file. At a broken one, `tarfile` itself stops without an error."""
 
     @classmethod
     def frombuf(cls, buf: Any, encoding: str, errors: str) -> Any:
         try:
             return super().frombuf(buf, encoding, errors)
         except tarfile.HeaderError as error:
-            if not buf.strip(b"\0"):  # (the end)
+            if not buf.strip(b"\0"):  # the end of the archive
                 raise
             raise tarfile.ReadError(f"{error}: the rest was not read") from None
 
@@ -311,7 +311,7 @@ def _bomb(path: str, kind: str, packed: Stream, unpacked: Stream) -> Found:
 def _open_lzma(
     path: str, stream: Stream, seekable: Optional[BinaryIO], budget: Budget, depth: int
 ) -> Found:
-    # (its magic is short: what does not unpack at all is looked at as it is)
+    # its magic is short, so bytes that do not unpack at all are scanned as they are
     found = b""
     with contextlib.suppress(lzma.LZMAError):
         found = lzma.LZMADecompressor(lzma.FORMAT_ALONE).decompress(stream.front(), 1)

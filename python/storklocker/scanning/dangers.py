@@ -159,7 +159,7 @@ def danger_of(module: Optional[str], name: Optional[str]) -> Optional[Danger]:
     """The danger of a name, if it is known."""
     if module is None or name is None:
         return None
-    # (long names are not worth the memory of keeping them)
+    # long names would fill the cache
     if len(module) + len(name) > _LONG:
         return _looked_up(module, name)
     return _kept(module, name)
@@ -173,7 +173,7 @@ def _looked_up(module: str, name: str) -> Optional[Danger]:
     found = _known(module, word)
     words = name.split(".", _WORDS)
     for at in range(len(words) - 1):
-        # (a dotted name goes through a module that the first one has imported)
+        # a dotted name may reach into a module that the first one imports
         inner = ".".join(words[at:]).lstrip("_")
         found = found or _known(inner, inner)
     return found and found._replace(name=word)

@@ -79,12 +79,12 @@ def _result(report: Report, rule: str, level: str, text: str) -> Dict[str, Any]:
     if report.path != report.file:
         member = report.path[len(report.file) + 1 :]
         place["logicalLocations"] = [{"fullyQualifiedName": member, "kind": "member"}]
-    elif report.kind in ("pickle", "row of pickles"):  # (else the place is not one of the file)
+    elif report.kind in ("pickle", "row of pickles"):  # others are unpacked, so have no such offset
         file["region"] = {"byteOffset": report.at, "byteLength": 1}
     return {
         "ruleId": rule,
         "level": level,
-        # (brackets would make links)
+        # brackets would become links
         "message": {"text": re.sub(r"([\\\[\]])", r"\\\1", shown(text, 1000))},
         "locations": [place],
     }

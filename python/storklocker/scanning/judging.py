@@ -22,7 +22,7 @@ AROUND = 10
 """The number of instructions that a listing shows before a refusal, and from there on."""
 
 PICKLES = 1_000_000
-"""How many pickles of a row are looked at."""
+"""The most pickles in a row that are checked."""
 
 _NOTHING = AllowList(())
 _FIRST = 4096
@@ -160,14 +160,14 @@ class Row:
             at, self.taken, window = at + found.taken, self.taken + found.taken, _FIRST
 
     def _reach(self, found: Verdict, data: bytes) -> None:
-        """Looks whether a reader may get further than the checker."""
+        """Finds out whether a reader may get further than the checker."""
         if self.imports or found.reason in _IMPORTING:
             self.is_reached = True
         elif not self.is_reached and found.reason not in READERS_STOP:
             self.is_reached = reaches(data, lambda: self._grown(b"", 1 << 20))
 
     def _is_digested(self) -> bool:
-        """Reads what stands behind a refusal, if that is worth its while."""
+        """Reads the bytes behind a refusal for the SHA-256, unless there are too many."""
         try:
             while not self._is_read and self.is_reached and self.size < UNPACKED:
                 self._grown(b"", 1 << 20)

@@ -1,9 +1,9 @@
-"""Whether a reader gets to an import, or to the end of a pickle, where the checker refuses.
+"""Whether a reader may get to an import or to the end of a pickle that the checker refuses.
 
-The checker is stricter than CPython's readers: these go on behind a number such as `1_0`, a text
-of 20 MB or a BUILD of nothing. What begins so may be a pickle, though the checker reads no further.
-So this follows the instructions by their form alone, and calls whatever it doesn't get through one
-that may be a pickle.
+The checker is stricter than CPython's readers, which accept a number such as `1_0`, a text of 20 MB
+or a BUILD of nothing. Bytes that begin that way may still be a pickle, although the checker stops
+there. So this module follows the instructions by their layout alone. If it cannot follow them to
+the end, the bytes count as a possible pickle.
 """
 
 from __future__ import annotations
@@ -36,11 +36,11 @@ _NUMBERS = frozenset(b"IFLpg")
 _NUMERALS = b" \t\r\f\v0123456789abcdefoxlABCDEFOXL_.+-"
 _WORDS = frozenset((b"nan", b"inf", b"infinity"))
 _SIZES = {-2: 1, -3: 4, -4: 4, -5: 8}
-"""How long the counts are that `pickletools` names so."""
+"""The length of a count, by the constant that `pickletools` uses for it."""
 
 
 def _lengths() -> Dict[int, int]:
-    """The length of each instruction's argument by its code, as `pickletools` has it."""
+    """The length of each opcode's argument, by code, as `pickletools` gives it."""
     return {ord(it.code): 0 if it.arg is None else it.arg.n for it in pickletools.opcodes}
 
 
@@ -48,8 +48,8 @@ _LENGTHS = _lengths()
 
 
 def reaches(data: bytes, more: Callable[[], bytes]) -> bool:
-    """Whether a reader may get from the start of these bytes, and those that `more` gives, empty
-    at the end, to an import or to STOP.
+    """Whether a reader may get to an import or to STOP. `more` returns the bytes after `data` in
+    pieces, and none at the end.
     """
     walk = _Walk(data, more)
     for _ in range(_INSTRUCTIONS):
@@ -73,14 +73,14 @@ class _Walk:
         return bool(more)
 
     def take(self, count: int) -> bytes:
-        """The next bytes, fewer at the end."""
+        """Takes the next `count` bytes, or fewer at the end."""
         while len(self._data) - self._at < count and self._grow():
             pass
         self._at += count
         return self._data[self._at - count : self._at]
 
     def is_passed(self, code: int) -> bool:
-        """Goes behind the argument of an instruction, if a reader may."""
+        """Skips the argument of an instruction. Returns whether a reader may get past it."""
         length = _LENGTHS[code]
         if length >= 0:
             return self._is_skipped(length)
@@ -116,7 +116,7 @@ class _Walk:
 
 
 def _is_number(text: bytes) -> bool:
-    """Whether a reader may take a text for a number."""
+    """Whether a reader may accept the text as a number."""
     if not text.translate(None, _NUMERALS):
         return True
     return len(text) < 32 and text.strip().lower().lstrip(b"+-") in _WORDS

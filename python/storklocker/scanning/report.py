@@ -31,8 +31,8 @@ class Report(NamedTuple):
     kind: str
     """The type, from the content, such as `pickle`."""
     status: str
-    """`accepted`, `refused`, `unjudged` (there is no list), `unvouched` (no check can vouch for
-    it), `unreadable` or `no pickle`.
+    """`accepted`, `refused`, `unjudged` (without a list), `unvouched` (no check can vouch for it),
+    `unreadable` or `no pickle`.
     """
     why: str = ""
     """The line of the verdict, or what went wrong."""

@@ -38,9 +38,9 @@ class File(NamedTuple):
 
 
 class Files:
-    """The files that are named, and those of folders: all below them where `recursive`.
+    """The files among the paths, and those in the folders; with `recursive`, in subfolders too.
 
-    left_out: how many folders were met and left out, since it is not `recursive`.
+    left_out: the number of subfolders skipped without `recursive`.
     """
 
     def __init__(self, paths: Iterable[str], recursive: bool = False) -> None:
@@ -78,7 +78,7 @@ class Files:
             yield from self._files_of(path)
 
     def _has(self, link: str) -> bool:
-        """Whether what a link leads to is scanned anyway."""
+        """Whether the target of a link is scanned anyway."""
         target = os.path.realpath(link)
         return any(os.path.commonpath((root, target)) == root for root in self._roots)
 
@@ -182,14 +182,14 @@ def _submitted(
 ) -> "concurrent.futures.Future[List[List[Report]]]":
     if all(file.path != "-" for file in batch):
         return pool.submit(_scan_files, batch, allow)
-    # (other processes have no standard input)
+    # worker processes have no standard input
     done: "concurrent.futures.Future[List[List[Report]]]" = concurrent.futures.Future()
     done.set_result(_scan_files(batch, allow))
     return done
 
 
 def _begin() -> None:
-    """Begins a process: the first one alone hears of Ctrl-C, and none outlives it."""
+    """Prepares a worker: only the first process handles Ctrl-C, and no worker outlives it."""
     signal.signal(signal.SIGINT, signal.SIG_IGN)
     parent = multiprocessing.parent_process()
     if parent is not None:
@@ -211,7 +211,7 @@ class _Progress:
         self._began = self._told = time.monotonic()
 
     def add(self, reports: List[Report]) -> None:
-        """Counts a file. The line makes way for what is printed of it."""
+        """Counts a file, and clears the progress line for its report."""
         self._files += 1
         self._bytes += sum(report.size for report in reports)
         if self._out is None:
