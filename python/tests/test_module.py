@@ -225,7 +225,7 @@ class Module(unittest.TestCase):
             "class Limits",
             "class Refusal",
             "context(value",
-            "check(data: 'bytes', allow: 'AllowList', *, limits: ",
+            "    check(",
             "loads(",
         ):
             self.assertIn(word, page)
