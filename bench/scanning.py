@@ -41,7 +41,7 @@ def fill(folder: pathlib.Path, count: int, data: bytes) -> int:
 def scanned(folder: pathlib.Path, allow: pathlib.Path, jobs: int) -> Tuple[float, int]:
     """Seconds of a scan, and the peak memory of its largest process in bytes."""
     words = [sys.executable, "-m", "storklocker.scanning.command", "scan", str(folder)]
-    words += ["--allow", str(allow), "--jobs", str(jobs), "--format", "json"]
+    words += ["--allow", str(allow), "--jobs", str(jobs)]
     before = resource.getrusage(resource.RUSAGE_CHILDREN).ru_maxrss
     began = time.perf_counter()
     environment = {**os.environ, "PYTHONPATH": str(PYTHON)}

@@ -6,7 +6,7 @@ import random
 import unittest
 
 import storklocker
-from storklocker.scanning.judging import reports_of
+from storklocker.scanning.judging import Question, reports_of
 
 NOTHING = storklocker.AllowList(())
 RUNS = b"cos\nsystem\n(S'echo a hostile pickle ran'\ntR."
@@ -88,7 +88,7 @@ def is_reached(data):
 
 
 def status(data):
-    (report,) = reports_of("x", io.BytesIO(data), NOTHING)
+    (report,) = reports_of("x", io.BytesIO(data), Question(NOTHING))
     return report.status
 
 

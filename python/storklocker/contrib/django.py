@@ -48,6 +48,16 @@ def DatabaseCache(location: str, params: Dict[str, Any]) -> Any:
     return _made(db.DatabaseCache, location, params)
 
 
+def BuiltinRedisCache(location: Any, params: Dict[str, Any]) -> Any:
+    """Django's own `RedisCache`, since Django 4.0."""
+    from django.core.cache.backends import redis
+
+    guard, forget, params = _settings_of(params)
+    serializer = rebound(redis.RedisSerializer, {"pickle": Loader(guard)})
+    params["OPTIONS"] = {**params["OPTIONS"], "serializer": serializer}
+    return _missing(redis.RedisCache, forget, _Counting)(location, params)
+
+
 def RedisCache(location: Any, params: Dict[str, Any]) -> Any:
     """`RedisCache` of django-redis."""
     from django_redis.cache import RedisCache as Plain
@@ -156,6 +166,15 @@ class _Missing:
         return {key: value for each in found for key, value in each.items()}
 
 
-def _missing(plain: Type[Any], forget: bool) -> Type[Any]:
+class _Counting(_Missing):
+    """`_Missing` for backends that count a value without loading it."""
+
+    def _counted(self, name: str, key: Any, delta: int, version: Any, more: Any) -> Any:
+        if not self.has_key(key, version):
+            raise ValueError(f"Key {key!r} not found")
+        return super()._counted(name, key, delta, version, more)
+
+
+def _missing(plain: Type[Any], forget: bool, mixin: Type[Any] = _Missing) -> Type[Any]:
     """The backend with refused entries treated as missing."""
-    return type(plain.__name__, (_Missing, plain), {"_forget": forget, "__module__": __name__})
+    return type(plain.__name__, (mixin, plain), {"_forget": forget, "__module__": __name__})

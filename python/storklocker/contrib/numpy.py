@@ -18,7 +18,7 @@ from typing import Any, BinaryIO, Dict, Union
 
 from .. import Guard
 
-Source = Union[str, Path, BinaryIO]
+Source = Union[str, Path, bytes, BinaryIO]
 
 
 def load_npy(source: Source, guard: Guard) -> Any:
@@ -36,7 +36,9 @@ def load_npz(source: Source, guard: Guard) -> Dict[str, Any]:
 
 
 def bytes_of(source: Source) -> bytes:
-    """All bytes of a file, given by name or open."""
+    """All bytes of a file, given by name, open or read."""
+    if isinstance(source, bytes):
+        return source
     return Path(source).read_bytes() if isinstance(source, (str, Path)) else source.read()
 
 

@@ -28,8 +28,10 @@ def load_torch(source: Source, guard: Guard, *, map_location: Optional[Any] = No
     check_archive(data, guard)
     from torch import serialization
 
+    # Strings of Python 2 are decoded as torch.load does it, unless the guard says how.
+    encoding = "utf-8" if guard._old_strings == "unknown" else None
     with serialization._open_zipfile_reader(io.BytesIO(data)) as archive:
-        return serialization._load(archive, map_location, guard, encoding="utf-8")
+        return serialization._load(archive, map_location, guard, encoding=encoding)
 
 
 def check_archive(data: bytes, guard: Guard) -> None:

@@ -14,6 +14,7 @@ from .._answers import ListFault
 from .._lists import AllowList
 from . import formats, html
 from .dangers import dangers_in
+from .judging import Question
 from .learning import Learned, quoted
 from .report import NO_PICKLE, REFUSED, UNREADABLE, UNVOUCHED, Report, shown
 from .scan import Files, scan
@@ -138,9 +139,9 @@ def _files_of(asked: argparse.Namespace) -> Iterator[Files]:
 
 def _scan(asked: argparse.Namespace) -> int:
     allow = None if asked.allow is None else _list_of(asked.allow)
-    told = _Told(asked.fail_on)
+    told, question = _Told(asked.fail_on), Question(allow, with_sha256=asked.format == "json")
     with _files_of(asked) as files:
-        _print_reports(asked.format, told.heard(scan(files, allow, asked.jobs, sys.stderr)))
+        _print_reports(asked.format, told.heard(scan(files, question, asked.jobs, sys.stderr)))
     return told.status()
 
 
@@ -184,7 +185,7 @@ def _check(asked: argparse.Namespace) -> int:
     for path in asked.paths:
         is_pickle = False
         with _files_of(argparse.Namespace(paths=[path])) as files:
-            for report in told.heard(scan(files, allow)):
+            for report in told.heard(scan(files, Question(allow))):
                 is_named = len(asked.paths) > 1 or report.path != report.file
                 front = f"{shown(report.path)}: " if is_named else ""
                 print(front + (shown(report.why, 1000) or report.status))
@@ -196,7 +197,7 @@ def _check(asked: argparse.Namespace) -> int:
 def _imports(asked: argparse.Namespace) -> int:
     told = _Told("refused")
     with _files_of(asked) as files:
-        for report in told.heard(scan(files, None)):
+        for report in told.heard(scan(files, Question())):
             for module, name in report.imports:
                 if module is None or name is None:
                     print("unknown")
@@ -209,7 +210,7 @@ def _imports(asked: argparse.Namespace) -> int:
 def _learn(asked: argparse.Namespace) -> int:
     learned = Learned()
     with _files_of(asked) as files:
-        learned.add(scan(files, None, progress=sys.stderr))
+        learned.add(scan(files, Question(), progress=sys.stderr))
     for line in learned.lines():
         print(line)
     for report in learned.left_out:

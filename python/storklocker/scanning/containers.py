@@ -8,7 +8,9 @@ import contextlib
 import gzip
 import io
 import lzma
+import os
 import re
+import stat
 import tarfile
 import zipfile
 import zlib
@@ -67,9 +69,11 @@ class Budget:
 class Stream:
     """A stream of bytes that allows a look at the first ones."""
 
-    def __init__(self, file: Any, budget: Optional[Budget] = None) -> None:
+    def __init__(self, file: Any, budget: Optional[Budget] = None, size: int = 0) -> None:
         self._file, self._budget, self._front = file, budget, b""
         self.taken = 0
+        self.size = size
+        """The size if it is known beforehand, otherwise 0."""
 
     def front(self) -> bytes:
         """The first 65,536 bytes or so, which remain unread."""
@@ -107,12 +111,21 @@ def pieces_of(path: str, file: BinaryIO) -> Found:
     """The pieces in a file, with containers opened. An exception thrown in at a piece becomes a
     finding about the container around it.
     """
-    stream, budget = Stream(file), Budget()
+    stream, budget = Stream(file, size=_size_of(file)), Budget()
     front, seekable = stream.front(), file if file.seekable() else None
     yield from _opened(path, "", stream, seekable, budget, DEPTH)
     if seekable and (len(front) == _FRONT or _ZIP_END in front):
         if _kind_of(front) not in ("zip", "tar") and zipfile.is_zipfile(seekable):
             yield from _behind(path, seekable, budget)
+
+
+def _size_of(file: BinaryIO) -> int:
+    """The size of a regular file, otherwise 0."""
+    try:
+        found = os.fstat(file.fileno())
+    except OSError:
+        return 0
+    return found.st_size if stat.S_ISREG(found.st_mode) else 0
 
 
 def _behind(path: str, file: BinaryIO, budget: Budget) -> Found:

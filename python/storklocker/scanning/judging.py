@@ -5,7 +5,7 @@ from __future__ import annotations
 import hashlib
 import itertools
 import pickletools
-from typing import Any, BinaryIO, Deque, Dict, Iterator, List, Optional
+from typing import Any, BinaryIO, Deque, Dict, Iterator, List, NamedTuple, Optional
 
 from .._answers import Reason, Verdict
 from .._checking import check
@@ -27,13 +27,24 @@ PICKLES = 1_000_000
 _NOTHING = AllowList(())
 _FIRST = 4096
 """The size of the first window; it grows sixteenfold until it contains the whole pickle."""
+_WHOLE = 1 << 26
+"""The most bytes of a file that the third window of its first pickle contains at once."""
 _LISTED = 1 << 22
 _IMPORTING = (Reason.ImportOffList, Reason.UnknownImport, Reason.ExtensionCode)
 _JOBLIB = "joblib.numpy_pickle"
 _LARGE = Limits(passed=1 << 40)
 
 
-def reports_of(path: str, file: BinaryIO, allow: Optional[AllowList]) -> Iterator[Report]:
+class Question(NamedTuple):
+    """What a scan has to find out."""
+
+    allow: Optional[AllowList] = None
+    """The list to judge by, if any."""
+    with_sha256: bool = False
+    """Whether the reports need the SHA-256, which takes half as long as a check."""
+
+
+def reports_of(path: str, file: BinaryIO, question: Question) -> Iterator[Report]:
     """The reports on a file: one for each piece that may be a pickle, and one for each finding."""
     pieces = pieces_of(path, file)
     broken: Optional[Exception] = None
@@ -48,12 +59,12 @@ def reports_of(path: str, file: BinaryIO, allow: Optional[AllowList]) -> Iterato
             yield Report(found.path, found.kind, UNREADABLE, found.why)
             continue
         try:
-            row = _row_of(found, allow)
+            row = _row_of(found, question)
         except Exception as error:
             broken = error
         else:
             broken = None if row is None else row.broken
-            yield _judged(found, row, allow)
+            yield _judged(found, row, question.allow)
 
 
 def _judged(piece: Piece, row: "Optional[Row]", allow: Optional[AllowList]) -> Report:
@@ -95,7 +106,7 @@ def _kind_of(piece: Piece, row: "Row") -> str:
     return "row of pickles" if piece.kind == "pickle" else f"{piece.kind}, row of pickles"
 
 
-def _row_of(piece: Piece, allow: Optional[AllowList]) -> "Optional[Row]":
+def _row_of(piece: Piece, question: Question) -> "Optional[Row]":
     """The row, if the bytes claim to be a pickle, or a reader may get as far as an import."""
     front = piece.stream.front()
     is_claimed = piece.kind == "npy" or len(front) > 1 and front[0] == 0x80 and front[1] <= 5
@@ -103,7 +114,7 @@ def _row_of(piece: Piece, allow: Optional[AllowList]) -> "Optional[Row]":
         reason = check(front, _NOTHING).reason
         if reason is not Reason.Truncated and reason in READERS_STOP:
             return None
-    return Row(piece.stream, allow, is_claimed)
+    return Row(piece.stream, question, is_claimed)
 
 
 class Row:
@@ -115,13 +126,15 @@ class Row:
     number: the index of that one, counted from 0.
     pickles, taken: the number of accepted pickles, and their length in bytes.
     is_reached: whether it claims to be a pickle, or a reader may get to an import or to its end.
-    size, sha256: of all bytes that were read; no SHA-256 if very many follow a refusal.
+    size, sha256: of all bytes that were read; no SHA-256 if it isn't asked for, or if very many
+        follow a refusal.
     broken: why the rest was not read: an exception behind a refusal, or too many pickles.
     """
 
-    def __init__(self, stream: Stream, allow: Optional[AllowList], is_claimed: bool) -> None:
-        self._stream, self._allow, self._digest = stream, allow, hashlib.sha256()
-        self._listed = _NOTHING if allow is None else allow
+    def __init__(self, stream: Stream, question: Question, is_claimed: bool) -> None:
+        self._stream, self._allow = stream, question.allow
+        self._digest = hashlib.sha256() if question.with_sha256 else None
+        self._listed = _NOTHING if question.allow is None else question.allow
         self.imports: Dict[Pair, None] = {}
         self.refusal: Optional[Verdict] = None
         self._is_read, self.is_reached = False, is_claimed
@@ -129,7 +142,8 @@ class Row:
         self.number = self.pickles = self.taken = self.size = 0
         self.broken: Optional[Exception] = None
         self._read_all()
-        self.sha256 = self._digest.hexdigest() if self._is_digested() else ""
+        is_whole = self._is_read_on()
+        self.sha256 = self._digest.hexdigest() if is_whole and self._digest is not None else ""
 
     def _read_all(self) -> None:
         data, at, window = b"", 0, _FIRST
@@ -148,7 +162,7 @@ class Row:
                 # If only the limits of the list refuse it, report its imports anyway.
                 found, room = imports_of(piece, _NOTHING, _LARGE, "unknown")
             if found.reason is Reason.Truncated and len(piece) == window:
-                window *= 16
+                window = self._wider(window)
                 continue
             names = dict.fromkeys(records(room))
             self._judge(piece, found, bool(within) and all(map(self._listed._has, names)))
@@ -166,8 +180,15 @@ class Row:
         elif not self.is_reached and found.reason not in READERS_STOP:
             self.is_reached = reaches(data, lambda: self._grown(b"", 1 << 20))
 
-    def _is_digested(self) -> bool:
-        """Reads the bytes behind a refusal for the SHA-256, unless there are too many."""
+    def _wider(self, window: int) -> int:
+        """The next window. For the first pickle of a file, the third one is the whole file, because
+        most files contain one pickle, and each window costs a check.
+        """
+        whole = self._stream.size if self.pickles == 0 and window > _FIRST else 0
+        return max(16 * window, whole if whole <= _WHOLE else 0)
+
+    def _is_read_on(self) -> bool:
+        """Reads the bytes behind a refusal, which may be damaged, unless there are too many."""
         try:
             while not self._is_read and self.is_reached and self.size < UNPACKED:
                 self._grown(b"", 1 << 20)
@@ -179,7 +200,8 @@ class Row:
         count = max(wanted - len(data), _FIRST)
         more = self._stream.read(count)
         self._is_read = len(more) < count
-        self._digest.update(more)
+        if self._digest is not None:
+            self._digest.update(more)
         self.size += len(more)
         return data + more
 

@@ -39,7 +39,7 @@ class Report(NamedTuple):
     size: int = 0
     """The number of bytes that were read."""
     sha256: str = ""
-    """The SHA-256 of these bytes, if it is a pickle."""
+    """The SHA-256 of these bytes, if it is a pickle and the report is for JSON."""
     pickles: int = 0
     """The number of pickles in it, one after another."""
     imports: Tuple[Pair, ...] = ()

@@ -18,8 +18,7 @@ from typing import (
     TextIO
 )
 
-from .._lists import AllowList
-from .judging import reports_of
+from .judging import Question, reports_of
 from .report import NO_PICKLE, UNREADABLE, Report
 
 _FILES, _BYTES = 32, 1 << 18
@@ -90,13 +89,13 @@ def _is(question: Callable[[], bool]) -> bool:
         return False
 
 
-def scan_file(file: File, allow: Optional[AllowList]) -> List[Report]:
+def scan_file(file: File, question: Question) -> List[Report]:
     """The reports on a file; `-` is standard input."""
     name = "standard input" if file.path == "-" else file.path
     reports: List[Report] = []
     try:
         with _opened(file) as opened:
-            for report in reports_of(name, opened, allow):
+            for report in reports_of(name, opened, question):
                 reports.append(report._replace(file=name))
         return reports
     except MemoryError:
@@ -120,15 +119,15 @@ def _opened(file: File) -> ContextManager[BinaryIO]:
 
 def scan(
     files: Iterable[File],
-    allow: Optional[AllowList],
+    question: Question,
     jobs: int = 1,
     progress: Optional[TextIO] = None,
 ) -> Iterator[Report]:
     """Yields the reports on all files, in the order of their names."""
     told = _Progress(progress)
-    one_by_one = (scan_file(file, allow) for file in files)
+    one_by_one = (scan_file(file, question) for file in files)
     try:
-        for reports in one_by_one if jobs == 1 else _side_by_side(allow, files, jobs):
+        for reports in one_by_one if jobs == 1 else _side_by_side(question, files, jobs):
             told.add(reports)
             yield from reports
     finally:
@@ -138,8 +137,8 @@ def scan(
 Batch = List[File]
 
 
-def _scan_files(files: Batch, allow: Optional[AllowList]) -> List[List[Report]]:
-    return [scan_file(file, allow) for file in files]
+def _scan_files(files: Batch, question: Question) -> List[List[Report]]:
+    return [scan_file(file, question) for file in files]
 
 
 def _batches(files: Iterable[File]) -> Iterator[Batch]:
@@ -157,13 +156,13 @@ def _batches(files: Iterable[File]) -> Iterator[Batch]:
 
 
 def _side_by_side(
-    allow: Optional[AllowList], files: Iterable[File], jobs: int
+    question: Question, files: Iterable[File], jobs: int
 ) -> Iterator[List[Report]]:
     with concurrent.futures.ProcessPoolExecutor(jobs, initializer=_begin) as pool:
         waiting: Deque["concurrent.futures.Future[List[List[Report]]]"] = Deque()
         try:
             for batch in _batches(files):
-                waiting.append(_submitted(pool, batch, allow))
+                waiting.append(_submitted(pool, batch, question))
                 if len(waiting) >= _AHEAD * jobs:
                     yield from waiting.popleft().result()
             for future in waiting:
@@ -178,13 +177,13 @@ def _side_by_side(
 
 
 def _submitted(
-    pool: concurrent.futures.Executor, batch: Batch, allow: Optional[AllowList]
+    pool: concurrent.futures.Executor, batch: Batch, question: Question
 ) -> "concurrent.futures.Future[List[List[Report]]]":
     if all(file.path != "-" for file in batch):
-        return pool.submit(_scan_files, batch, allow)
+        return pool.submit(_scan_files, batch, question)
     # worker processes have no standard input
     done: "concurrent.futures.Future[List[List[Report]]]" = concurrent.futures.Future()
-    done.set_result(_scan_files(batch, allow))
+    done.set_result(_scan_files(batch, question))
     return done
 
 
