@@ -4,5 +4,6 @@ pub mod Progress
 pub mod Taking
 pub mod Gathering
 pub mod Skipping
+pub mod Windows
 pub mod Collecting
 pub mod Judging

@@ -1,6 +1,6 @@
--- What a pull does to the bytes left in a source and to its count of failures.
-use Rattle.std.specs.Prelude.{◌≡◌, ℕ, ◌+◌, ◌%◌, ◌^◌, ◌<◌, ◌≤◌, List, length, take, ⊤, MatchResult}
-use Rattle.std.specs.Prelude.{Result, Option}
+-- What a source gives: what its calls do to the bytes left in it, and to its count of failures.
+use Rattle.std.specs.Prelude.{◌≡◌, ℕ, ◌+◌, ◌++◌, ◌%◌, ◌^◌, ◌<◌, ◌≤◌, List, length, take, ⊤}
+use Rattle.std.specs.Prelude.{MatchResult, Result, Option, None, Some}
 use Rattle.std.specs.Io.KnownBytes.{Consumes, IsAtEnd}
 use Rattle.pkread.specs.declared.source.Memory.{Memory}
 use Rattle.pkread.specs.declared.source.Input.{Input}
@@ -17,6 +17,15 @@ Pulled old new result to =
 abbrev pub Counted : {E : Type 0} → ℕ → ℕ → Result ℕ E → Type 0
 Counted old new result =
     MatchResult result (λ _. new ≡ old) (λ _. new ≡ (old + 1) % (2 ^ 64))
+
+-- the bytes left begin with these
+abbrev pub BeginsWith : Option (List ℕ) → List ℕ → Type 0
+BeginsWith None shown = ⊤
+BeginsWith (Some left) shown = (rest : List ℕ) × (left ≡ shown ++ rest)
+
+-- so many of the bytes left were taken
+abbrev pub TakesCount : ℕ → Option (List ℕ) → Option (List ℕ) → Type 0
+TakesCount count old new = (run : List ℕ) × (length run ≡ count) × Consumes old new run
 
 -- the bytes left in a source over memory
 abbrev pub memory_left : Memory → List ℕ

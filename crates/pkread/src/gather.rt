@@ -146,6 +146,9 @@ impl Gathering {
     {
         growth();
         one_answer();
-        self.gather_parts(source)
+        let Some(op) = self.take_short(source) else {
+            return self.gather_parts(source);
+        };
+        Ok(Found { op, split: 0 })
     }
 }

@@ -1,16 +1,19 @@
 //! The instruction begun, and the bytes that it takes from a source.
 
 ghost use Rattle.std.specs.Prelude.{◌≡◌, ◌+◌, ◌∷◌, ◌<◌, ◌≤◌, [], ℕ, List, length, take};
-ghost use Rattle.std.specs.Prelude.{IfErr, IfNone, IfOk, IfSome};
+ghost use Rattle.std.specs.Prelude.{IfErr, IfNone, IfOk, IfSome, false, true};
 ghost use Rattle.pkread.specs.Rows.{all_bytes, sight};
 ghost use Rattle.pkread.specs.Held.{most_held, none_held};
 ghost use Rattle.pkread.specs.Private.Progress.{KeepsRest, intake};
 ghost use Rattle.pkread.specs.Private.Taking.{ReadsByte, ReadsNone, TakesAll, TakesBlock};
-ghost use Rattle.pkread.specs.Private.Taking.{TakesByte};
+ghost use Rattle.pkread.specs.Private.Taking.{TakesByte, TookFront, TookUnheld};
+ghost use Rattle.pkread.specs.Private.Windows.{bytes_in};
+ghost use Rattle.pkread.specs.Pull.{BeginsWith};
 
 use crate::buffer::Buffer;
 use crate::refusal::Reason;
 use crate::source::Source;
+use crate::window::Window;
 use pkops::Limits;
 use std::alloc::Global;
 use std::marker::Model;
@@ -227,6 +230,58 @@ impl Gathering {
             return Ok(());
         }
         self.take_rest(source, count - n)
+    }
+
+    /// Takes the first `count` bytes of a window that the source shows, if none is held.
+    #[inline(always)]
+    pub(crate) fn take_window<R: Source>(
+        &mut self,
+        source: &mut R,
+        window: Window,
+        count: usize,
+    ) -> bool
+        requires shown { BeginsWith (R.left source.old) (bytes_in window) }
+        requires within { count ≤ 16 }
+        ensures keeps { KeepsRest self.old self.new }
+        ensures took { result ≡ true → TookFront count (bytes_in window)
+            (intake R.left R.failures source.old self.old)
+            (intake R.left R.failures source.new self.new) }
+        ensures same { result ≡ false → self.new ≡ self.old }
+        ensures none { result ≡ false →
+            sight R.left R.failures source.new ≡ sight R.left R.failures source.old }
+    {
+        let Some(taken) = self.taken.checked_add(count as u64) else {
+            return false;
+        };
+        if !self.buffer.read_window(source, window, count) {
+            return false;
+        }
+        self.taken = taken;
+        true
+    }
+
+    /// Takes `count` bytes that the source shows and holds none of them, if none is held before.
+    #[inline]
+    pub(crate) fn take_unheld<R: Source>(&mut self, source: &mut R, count: usize) -> bool
+        ensures keeps { KeepsRest self.old self.new }
+        ensures took { result ≡ true → TookUnheld count
+            (intake R.left R.failures source.old self.old)
+            (intake R.left R.failures source.new self.new) }
+        ensures same { result ≡ false → self.new ≡ self.old }
+        ensures none { result ≡ false →
+            sight R.left R.failures source.new ≡ sight R.left R.failures source.old }
+    {
+        if self.first().is_some() {
+            return false;
+        }
+        let Some(taken) = self.taken.checked_add(count as u64) else {
+            return false;
+        };
+        if !source.advance(count) {
+            return false;
+        }
+        self.taken = taken;
+        true
     }
 
     /// Takes so many bytes, where it seldom comes to it.

@@ -25,6 +25,7 @@ mod slice;
 mod source;
 mod state;
 mod walk;
+mod window;
 
 pub use frames::{BrokenFrame, Frames, frame_argument};
 pub use reader::{Head, Next, Reader};

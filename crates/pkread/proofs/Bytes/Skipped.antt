@@ -34,7 +34,7 @@ passed_plain : (o : Op) → is_passed o ≡ true → is_plain o ≡ true
 passed_plain op.Int e = cc
 passed_plain _ e = cc
 
-passed_admitted : (o : Op) (arg : Argument) → is_passed o ≡ true → IsTrue (is_admitted_by o arg)
+pub passed_admitted : (o : Op) (arg : Argument) → is_passed o ≡ true → IsTrue (is_admitted_by o arg)
 passed_admitted op.Int arg e = cc
 passed_admitted _ arg e = cc
 

@@ -2,7 +2,6 @@
 use Rattle.std.specs.Io.KnownBytes.{IsAtEnd}
 use Rattle.std.specs.Prelude.{◌≡◌, ◌≤◌, ℕ, List, [], ◌∷◌, Option, length, max, ⊤, Result}
 use Rattle.std.specs.Prelude.{MatchResult}
-use Rattle.pkops.specs.declared.Op.{Op}
 use Rattle.pkread.specs.Core.{CoreView, Open, Phase, Refused, phase_after}
 use Rattle.pkread.specs.Held.{most_held}
 use Rattle.pkread.specs.Private.Gathering.{Gathers, IsFound}

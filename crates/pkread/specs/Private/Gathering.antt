@@ -1,15 +1,18 @@
 -- The bytes of one instruction, as the arms take them.
-use Rattle.std.specs.Prelude.{◌≡◌, ◌≢◌, ◌⊎◌, ℕ, ◌+◌, ◌<◌, ◌≤◌, Bool, List, [], ◌∷◌, ◌++◌, length}
-use Rattle.std.specs.Prelude.{None, Result, MatchResult}
+use Rattle.std.specs.Prelude.{◌≡◌, ◌≢◌, ◌⊎◌, ℕ, ◌+◌, ◌<◌, ◌≤◌, List, [], ◌∷◌, ◌++◌, length}
+use Rattle.std.specs.Prelude.{None, Result, MatchResult, false, take, true}
 use Rattle.std.specs.List.{AllByRecursion}
 use Rattle.std.specs.Io.KnownBytes.{IsAtEnd}
 use Rattle.pkops.specs.Contents.{IsGood}
-use Rattle.pkops.specs.Lying.{Lies, count_in}
+use Rattle.pkops.specs.Lying.{IsFixed, Lies, count_in, field_len}
+use Rattle.pkops.specs.Payloads.{is_passed}
 use Rattle.pkops.specs.Scanning.{Begun}
-use Rattle.pkops.specs.Spelling.{Argument, IsLine, count_limit, instruction, line_feed, size_of}
+use Rattle.pkops.specs.Spelling.{Argument, IsLine, count_limit, instruction, layout_at}
+use Rattle.pkops.specs.Spelling.{line_feed, size_of}
 use Rattle.pkops.specs.Table.{code_of}
 use Rattle.pkops.specs.declared.Op.{Op}
 use Rattle.pkread.specs.Admission.{objection}
+use Rattle.pkread.specs.Private.Judging.{is_plain}
 use Rattle.pkread.specs.Private.Progress.{Intake}
 use Rattle.pkread.specs.Private.Taking.{AreAllBytes, LackRow, Took}
 use Rattle.pkread.specs.Rows.{Sight, Fails, FrontsBegin, IsAmiss, Refuses, Takes, all_bytes}
@@ -99,6 +102,25 @@ pub record Finds (limit : ℕ) (op : Op) (split : ℕ) (old new : Intake) : Type
   pub bytes : List ℕ
   pub took : Took bytes old new
   pub found : IsFound limit new.bytes op split
+
+-- an instruction of this opcode has n bytes, whatever they are, and is good and admitted
+pub record HasFixedLength (op : Op) (n : ℕ) : Type 0 where
+  pub fixed : IsFixed (layout_at op)
+  pub length_is : n ≡ field_len (layout_at op) + 1
+  pub plain : is_plain op ≡ true
+
+-- the first n bytes are an instruction of this opcode that is held, n at most 16
+pub record IsShort (limit : ℕ) (op : Op) (n : ℕ) (bytes : List ℕ) : Type 0 where
+  pub found : IsFound limit (take n bytes) op 0
+  pub kept : is_passed op ≡ false
+  pub few : n ≤ 16
+
+-- a whole instruction of at most 16 bytes was taken, and none of it was held before
+pub record TookShort (limit : ℕ) (op : Op) (old new : Intake) : Type 0 where
+  pub none : old.bytes ≡ []
+  pub finds : Finds limit op 0 old new
+  pub kept : is_passed op ≡ false
+  pub few : length new.bytes ≤ 16
 
 -- takes a line, or says why not
 abbrev pub TakesLine : {A : Type 0} → ℕ → Result A Reason → Intake → Intake → Type 0

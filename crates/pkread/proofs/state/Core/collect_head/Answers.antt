@@ -1,4 +1,4 @@
-use Rattle.std.proofs.Common.{ap, refl}
+use Rattle.std.proofs.Common.{refl}
 use Rattle.pkread.proofs.Calls.NextHead.{some_held}
 use Rattle.pkread.proofs.state.Core.collect_head.Goals as goal
 
