@@ -122,11 +122,11 @@ impl Machine {
     ///
     /// # Errors
     ///
-    /// The first of these that is not a false alarm: `MissingMark`, `MissingItem`, `MissingMemo`,
-    /// `OddItems`, `WrongClass`, `NotText`, `UnknownImport`, `ImportOffList`, `LeftOver`,
-    /// `NotAscii`, and `TooLarge` if the stack or the memo would exceed its limit. `OutOfMemory` if
-    /// an allocation was refused. A refused step changes neither the imports nor the marks. Every
-    /// later step returns the same reason.
+    /// The first of these faults that the instruction has: `MissingMark`, `MissingItem`,
+    /// `MissingMemo`, `OddItems`, `WrongClass`, `NotText`, `UnknownImport`, `ImportOffList`,
+    /// `LeftOver`, `NotAscii`, and `TooLarge` if the stack or the memo would exceed its limit.
+    /// `OutOfMemory` if an allocation was refused. A refused step changes neither the imports nor
+    /// the marks. Every later step returns the same reason.
     #[inline(always)]
     pub fn step(&mut self, inst: &Inst, policy: &Policy) -> Result<Moved, Reason>
         requires admitted { is_admitted (instruction_of inst.now) ≡ true }
@@ -212,8 +212,8 @@ impl Machine {
         self.held.marks()
     }
 
-    /// The number of texts in the table. A step that goes on raises it by one for UNICODE,
-    /// SHORT_BINUNICODE, BINUNICODE, BINUNICODE8, and a Python 2 string decoded as ASCII; other
+    /// The number of texts in the table. An accepted step raises it by one for UNICODE,
+    /// SHORT_BINUNICODE, BINUNICODE, BINUNICODE8, and a Python 2 string decoded as ASCII. Other
     /// steps leave it unchanged.
     pub fn texts(&self) -> usize
         ensures { result ≡ self.now.texts }

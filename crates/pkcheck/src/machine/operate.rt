@@ -17,8 +17,8 @@ pub use nameless::operate_unnamed;
 use pkops::{Arg, Inst};
 use pkread::Reason;
 
-/// Why a step is refused, and the pair if it is off the list. The pair is boxed to keep the result
-/// of a step small, because few steps are refused.
+/// Why a step is refused, and the pair if it is off the list. The pair is boxed, which keeps the
+/// result of a step small. Few steps are refused.
 #[derive(Drop)]
 pub struct Denial {
     pub reason: Reason,

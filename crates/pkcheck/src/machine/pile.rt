@@ -5,8 +5,8 @@ ghost use Rattle.std.specs.Prelude.{OnErr, OnOk};
 use std::alloc::{AllocError, Global};
 use std::marker::Model;
 
-/// A vector that grows and shrinks at its end. The store never shrinks, so a push into a used place
-/// is a plain move.
+/// A vector that grows and shrinks at its end. The store never shrinks, so a push into a place that
+/// was in use before is a plain move.
 #[derive(Debug, Drop)]
 pub struct Pile<T> {
     store: Vec<T>,
@@ -110,7 +110,7 @@ impl<T: Copy + Drop> Pile<T> {
         Ok(())
     }
 
-    /// Replaces the entry at a place and all those behind it with one entry.
+    /// Replaces the entry at a place and all those after it with one entry.
     #[inline(always)]
     pub fn replace(&mut self, place: usize, entry: T)
         requires { place < length self.old }
