@@ -1,4 +1,4 @@
--- Where the marks are.
+-- The positions of the marks on the stack.
 use Rattle.std.proofs.Common.{◌≡◌, ℕ, zero, suc, ◌+◌, ◌-◌, ◌<◌, ◌≤◌, ◌⊎◌, inl, inr, List, [], ◌∷◌, ◌++◌, length, take, drop, get_or, Ok, Err, refl, sym, ap, ◌∙◌, arith, append-nil, length-append, length-drop}
 use Rattle.std.proofs.lemmas.List.{take-append-drop}
 use Rattle.std.proofs.Math.Seq.{take-append_seam, take-suc}
@@ -40,7 +40,7 @@ later : (k n : ℕ) (l : List ℕ) → slice_get l (length l - 1) ≡ Some n →
 later k n [] h = cc
 later k n (m ∷ l) h = let e : length (k ∷ m ∷ l) - 1 ≡ suc (length (m ∷ l) - 1) = omega arith in rw e h
 
--- the topmost mark is there
+-- n is the position of the topmost mark
 pub record IsTopmost (xs : List Slot) (n : ℕ) : Type 0 where
   pub within : n < length xs
   pub here : drop n xs ≡ Mark ∷ drop (suc n) xs
@@ -95,7 +95,7 @@ slice_count xs n t =
     let h = t.within in
     omega (arith, e, h, length-drop (suc n) xs)
 
--- ---- so many objects from the top
+-- ---- the topmost objects
 
 items_over : (ys : List Slot) (n k : ℕ) (below : List (Entry Value)) (above : List Value) → AllObjects ys → n ≡ length ys + k → items n (shown ys below) above ≡ items k below (values_of ys ++ above)
 items_over [] n k below above h e = let f : n ≡ k = omega arith in rw f refl
@@ -105,14 +105,14 @@ items_over (Mark ∷ ys) n k below above h e = absurd h
 pub items_at : (xs : List Slot) (n count : ℕ) → AllObjects (drop n xs) → n + count ≡ length xs → items count (shown xs []) [] ≡ Ok (record { operands = values_of (drop n xs); below = shown (take n xs) [] })
 items_at xs n count h e = rw (divided n xs) (items_over (drop n xs) count 0 (shown (take n xs) []) [] h (omega (arith, length-drop n xs)) ∙ rw (append-nil (values_of (drop n xs))) refl)
 
--- a mark is among them
+-- a mark is among the topmost entries
 pub items_marked : (xs : List Slot) (n count : ℕ) → IsTopmost xs n → length xs - n - 1 < count → items count (shown xs []) [] ≡ Err NoItem
 items_marked xs n count t h =
     let k = count - length (drop (suc n) xs) - 1 in
     let w = t.within in
     rw (divided n xs, t.here) (items_over (drop (suc n) xs) count (suc k) (entry_of Mark ∷ shown (take n xs) []) [] t.above (omega (arith, w, length-drop (suc n) xs)))
 
--- there are too few
+-- there are too few entries
 pub items_few : (xs : List Slot) (count : ℕ) → AllObjects xs → length xs < count → items count (shown xs []) [] ≡ Err NoItem
 items_few xs count a h = let k = count - length xs - 1 in items_over xs count (suc k) [] [] a (omega arith)
 
@@ -122,7 +122,7 @@ objects_drop [] (suc m) h = tt
 objects_drop (Object v ∷ xs) (suc m) h = objects_drop xs m h
 objects_drop (Mark ∷ xs) (suc m) h = absurd h
 
--- what stands higher
+-- entries further up
 pub objects_above : (xs : List Slot) (n m : ℕ) → n ≤ m → AllObjects (drop n xs) → AllObjects (drop m xs)
 objects_above xs zero m le h = objects_drop xs m h
 objects_above [] (suc n) m le h = objects_drop [] m tt
@@ -143,11 +143,11 @@ marks_slice xs n t =
     let e = length-append (bars 0 (take n xs)) (k ∷ []) in
     rw (bars_split xs n, t.here, bars_objects (drop (suc n) xs) (suc k) t.above) (omega (arith, e))
 
--- one more that is no mark
+-- one more entry, which is not a mark
 pub marks_over_object : (xs : List Slot) (m n : ℕ) (d : Slot) (v : Value) → m ≡ suc n → n < length xs → get_or xs n d ≡ Object v → bars 0 (take m xs) ≡ bars 0 (take n xs)
 marks_over_object xs m n d v is h e = rw (is, take-suc xs n d, e) (bars_pushed (take n xs) v)
 
--- so many of them are those of the lowest entries
+-- the first m positions are those of the marks among the lowest n entries
 pub marks_cut : (xs : List Slot) (l : List ℕ) (n m : ℕ) → l ≡ bars 0 xs → m ≡ length (bars 0 (take n xs)) → take m l ≡ bars 0 (take n xs)
 marks_cut xs l n m e f = rw (e, f, bars_split xs n) (take-append_seam (bars 0 (take n xs)) (bars (0 + length (take n xs)) (drop n xs)))
 
@@ -157,7 +157,7 @@ bars_from (Mark ∷ xs) k zero h = omega arith
 bars_from (Mark ∷ xs) k (suc j) h = let g = bars_from xs (suc k) j (omega (arith, h)) in omega (arith, g)
 bars_from (Object v ∷ xs) k j h = let g = bars_from xs (suc k) j h in omega (arith, g)
 
--- so many of the places are below n, and the others are not
+-- exactly the first j positions are below n
 pub record IsCut (l : List ℕ) (n j : ℕ) : Type 0 where
   pub within : j ≤ length l
   pub past : (i : ℕ) → j ≤ i → i < length l → n ≤ get_or l i 0

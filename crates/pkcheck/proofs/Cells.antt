@@ -1,4 +1,5 @@
--- A memo in three parts: the entry of number 0, a row of those from 1 on, and the others.
+-- The memo in its three parts: the entry of number 0, those from number 1 on in order, and the
+-- rest.
 use Rattle.std.proofs.Common.{◌≡◌, ℕ, zero, suc, ◌+◌, ◌<◌, ◌≤◌, cond, List, [], ◌∷◌, ◌++◌, length, get_or, Option, Some, None, false, is_some, refl, sym, ap, ◌∙◌, arith, length-append}
 use Rattle.std.specs.declared.cmp.Ordering.TheVariants.{Less, Equal, Greater}
 use Rattle.std.specs.Ordering.{nat_cmp, is_eq, match_ordering}
@@ -50,7 +51,7 @@ module _ {A : Type 0} where
   length_numbered [] es k = omega arith
   length_numbered (x ∷ xs) es k = let h = length_numbered xs es (suc k) in omega (arith, h)
 
-  -- a number that is not there is one more, and one that is there is not
+  -- storing under a new number adds an entry, and storing under a used one does not
   pub length_insert : (es : List (ℕ × A)) (n : ℕ) (v : A) → lookup (is_at (nat_cmp n)) es ≡ None → length (insert_entry nat_cmp es n v) ≡ length es + 1
   length_insert [] n v e = refl
   length_insert (e ∷ es) n v h =
@@ -60,7 +61,7 @@ module _ {A : Type 0} where
         | Greater ↦ λ g. (let r = length_insert es n v g in omega arith)
       ] h
 
-  -- ---- all three parts
+  -- ---- all three parts together
 
   lookup_over : (z : Option A) (cs : List (ℕ × A)) (n : ℕ) → 0 < n → lookup (is_at (nat_cmp n)) (zeroth z ++ cs) ≡ lookup (is_at (nat_cmp n)) cs
   lookup_over None cs n h = refl
@@ -115,7 +116,7 @@ module _ {A : Type 0} where
     pub put_rest : (n : ℕ) (v : A) → length xs < n → zeroth z ++ (numbered 1 xs ++ stored n v es) ≡ stored n v (zeroth z ++ (numbered 1 xs ++ es))
     put_rest n v h = sym (insert_over z (numbered 1 xs ++ es) n v (omega arith) ∙ ap (λ cs. zeroth z ++ cs) (insert_past xs es 1 n v (omega arith)))
 
-    -- a number that is not there yet is one more
+    -- storing under a new number adds an entry
     more_zero_of : (z : Option A) (v : A) → is_some z ≡ false → ArePositive es → length (stored 0 v (zeroth z ++ (numbered 1 xs ++ es))) ≡ suc (length (zeroth z ++ (numbered 1 xs ++ es)))
     more_zero_of None v e p = sym (ap length (put_zero_of None v p))
     more_zero_of (Some x) v e p = cc

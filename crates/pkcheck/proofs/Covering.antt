@@ -1,4 +1,4 @@
--- Runs, and what the checker knows of them.
+-- Runs, and what the checker knows about them.
 pub mod Alike
 pub mod CoversBy
 pub mod Verdicts

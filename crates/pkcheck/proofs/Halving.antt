@@ -1,4 +1,4 @@
--- Halving finds no pair that isn't there, and each that is where they are in order.
+-- A binary search finds only pairs of the array, and finds each of them if the array is sorted.
 use Rattle.std.proofs.Common.{◌≡◌, ℕ, zero, suc, ◌+◌, ◌-◌, ◌/◌, ◌<◌, ◌≤◌, Bool, true, false, ◌&&◌, ◌||◌, List, [], ◌∷◌, length, get_or, Option, Some, None, option_map, slice_get, nat_lt, if◌then◌else◌, refl, ap, sym, ◌∙◌, arith, Ordering, Less, Equal, Greater, is_eq, nat_cmp}
 use Rattle.std.specs.Ordering.{ordering_then, ordering_index, is_lt}
 use Rattle.std.specs.Cmp.{IsTotalOrder}
@@ -14,17 +14,17 @@ use Rattle.std.proofs.lemmas.Map.Text.{is_eq-slice_cmp}
 use Rattle.pkcheck.specs.declared.pairs.Pair.{Pair}
 use Rattle.pkcheck.specs.Pairs.{AreInOrder, HalvingIsRight, by_middle, comes_to, found, have, order_to}
 
--- a pair of this module and this name
+-- the pair with this module and this name
 abbrev pair_of : List ℕ → List ℕ → Pair
 pair_of m n = record { module_name = record { ref_ptr = (0, 0); now = m }; name = record { ref_ptr = (0, 0); now = n } }
 
--- two comparisons give Equal where both do
+-- two comparisons give Equal if both are Equal
 both : (a b : Ordering) → is_eq (ordering_then a b) ≡ (is_eq a && is_eq b)
 both Less b = refl
 both Equal b = refl
 both Greater b = refl
 
--- a pair is Equal where it is of this module and this name
+-- a pair compares as Equal if it has this module and this name
 pub equal_is_same : (m n : List ℕ) (p : Pair) → is_eq (order_to m n p) ≡ (bytes_eq p.module_name.now m && bytes_eq p.name.now n)
 equal_is_same m n p =
     both (slice_cmp nat_cmp p.module_name.now m) (slice_cmp nat_cmp p.name.now n)
@@ -35,7 +35,7 @@ is_Equal Less h = cc
 is_Equal Equal h = refl
 is_Equal Greater h = cc
 
--- what stands at a place
+-- the element at an index
 got_inside : {A : Type 0} (xs : List A) (i : ℕ) (d x : A) → slice_get xs i ≡ Some x → (i < length xs) × (get_or xs i d ≡ x)
 got_inside [] i d x e = cc
 got_inside (y ∷ ys) zero d x e = (omega arith, cc)
@@ -46,7 +46,7 @@ got_at [] i d h = absurd (omega (arith, h))
 got_at (x ∷ xs) zero d h = refl
 got_at (x ∷ xs) (suc i) d h = got_at xs i d (omega (arith, h))
 
--- where one passes a test, it stands at a place
+-- the index of an element that passes a test
 record Passes {A : Type 0} (test : A → Bool) (xs : List A) : Type 0 where
   place : ℕ
   one : A
@@ -62,7 +62,7 @@ any_place test (x ∷ xs) h =
     ] refl h
 
 module _ (order : Pair → Ordering) (pairs : List Pair) where
-  -- the place at which halving looks
+  -- the index at which a binary search looks
   abbrev middle : ℕ → ℕ → ℕ
   middle low high = low + (high - low) / 2
 
@@ -79,7 +79,7 @@ module _ (order : Pair → Ordering) (pairs : List Pair) where
         | Greater ↦ λ e g. further below.0 below.1 g
       ] refl h
 
-  -- what halving comes to is there
+  -- a pair that a binary search finds is in the array
   pub comes_to_some : (steps low high : ℕ) → comes_to order pairs steps low high ≡ true → list_any (λ p. is_eq (order p)) pairs ≡ true
   comes_to_some zero low high h = cc
   comes_to_some (suc steps) low high h =
@@ -89,7 +89,7 @@ module _ (order : Pair → Ordering) (pairs : List Pair) where
       ] h
 
   module _ (rises : IsNonDecreasingBy (λ p. ordering_index (order p)) pairs) where
-    -- one that is Less stands before one that is Equal, and one that is Greater behind it
+    -- pairs that compare as Less come before one that is Equal, and those that are Greater after it
     less_before : (i j : ℕ) (p q : Pair) → slice_get pairs i ≡ Some p → slice_get pairs j ≡ Some q → order p ≡ Equal → order q ≡ Less → j < i
     less_before i j p q e f equal less =
         let a = got_inside pairs i p p e in
@@ -114,7 +114,7 @@ module _ (order : Pair → Ordering) (pairs : List Pair) where
               absurd (omega (arith, rw (a.1, equal, b.1, greater) at low))
         ] refl
 
-    -- halving comes to one that is Equal
+    -- a binary search finds a pair that compares as Equal
     pub comes_to_equal :
         (steps low high i : ℕ) (p : Pair) → slice_get pairs i ≡ Some p → order p ≡ Equal
         → low ≤ i → i < high → high ≤ length pairs → high - low ≤ steps → comes_to order pairs steps low high ≡ true
@@ -132,7 +132,7 @@ module _ (order : Pair → Ordering) (pairs : List Pair) where
           | Greater ↦ λ o. comes_to_equal steps low m i p e equal from (greater_behind i m p q e there equal o) (omega (arith, bounds.1, inside)) (omega (arith, bounds.0, bounds.1, few))
         ] refl)
 
--- one of the pairs is Equal where one of them is of this module and this name
+-- one of the pairs compares as Equal if the array has this module and this name
 any_same : (m n : List ℕ) (pairs : List Pair) → list_any (λ p. is_eq (order_to m n p)) pairs ≡ have pairs m n
 any_same m n [] = refl
 any_same m n (p ∷ pairs) = rw (equal_is_same m n p, any_same m n pairs) refl
@@ -141,7 +141,7 @@ pub found_is_had : (pairs : List Pair) (m n : List ℕ) → found pairs m n ≡ 
 found_is_had pairs m n h =
     sym (any_same m n pairs) ∙ comes_to_some (order_to m n) pairs (length pairs) 0 (length pairs) h
 
--- by module and then by name, byte for byte, is an order
+-- comparing by module and then by name, byte for byte, is an order
 abbrev order_of_pairs : Pair → Pair → Ordering
 order_of_pairs a b = order_to b.module_name.now b.name.now a
 

@@ -1,4 +1,4 @@
--- Texts in one buffer: one more behind them, and one of them by its number.
+-- Texts in one buffer: how to append one, and how to find one by its number.
 use Rattle.std.proofs.Common.{◌≡◌, ℕ, zero, suc, ◌+◌, ◌-◌, ◌<◌, ◌≤◌, List, [], ◌∷◌, ◌++◌, length, take, drop, get_or, refl, sym, ap, subst, ◌∙◌, arith, append-nil, length-append}
 use Rattle.std.specs.List.{concat}
 use Rattle.std.specs.Str.{IsUtf8}
@@ -12,7 +12,7 @@ cut_ends k (t ∷ ts) =
     let n : (k + length t) - k ≡ length t = omega arith in
     rw (n, take-append_seam t (concat ts), drop-append_seam t (concat ts)) (ap (λ us. t ∷ us) (cut_ends (k + length t) ts))
 
--- the texts of a buffer are those that are cut from it
+-- the texts of a buffer are the ones cut from it
 pub cut_joined : (ts : List (List ℕ)) (ends bytes : List ℕ) → AreJoined ts ends bytes → cut 0 ends bytes ≡ ts
 cut_joined ts ends bytes j = rw (j.ends_are, j.bytes_are) (cut_ends 0 ts)
 
@@ -26,7 +26,7 @@ length_ends k (t ∷ ts) = ap suc (length_ends (k + length t) ts)
 pub how_many : (ts : List (List ℕ)) (ends bytes : List ℕ) → AreJoined ts ends bytes → length ends ≡ length ts
 how_many ts ends bytes j = ap length j.ends_are ∙ length_ends 0 ts
 
--- ---- one more
+-- ---- one more text
 
 ends_more : (k : ℕ) (ts : List (List ℕ)) (t : List ℕ) (n : ℕ) → n ≡ k + length (concat ts) + length t → ends_of k (ts ++ t ∷ []) ≡ ends_of k ts ++ n ∷ []
 ends_more k [] t n e = let f : k + length t ≡ n = omega (arith, e) in ap (λ m. m ∷ []) f
@@ -49,9 +49,9 @@ joined_more ts ends bytes t n j u e =
       utf8 = all_more ts t j.utf8 u;
     }
 
--- ---- one of them
+-- ---- one of the texts
 
--- where it begins
+-- the offset at which it begins
 abbrev start_of : ℕ → List (List ℕ) → ℕ
 start_of n ts = length (concat (take n ts))
 
@@ -92,7 +92,7 @@ all_at (t ∷ ts) zero d h a = a.0
 all_at (t ∷ ts) (suc n) d h a = all_at ts n d (omega (arith, h)) a.1
 all_at [] n d h a = absurd (omega (arith, h))
 
--- this is where a text begins and ends
+-- where a text begins and ends in the buffer
 pub record Lies (ts : List (List ℕ)) (bytes : List ℕ) (n start end : ℕ) : Type 0 where
   pub ordered : start ≤ end
   pub within : end ≤ length bytes

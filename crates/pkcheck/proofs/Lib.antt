@@ -3,7 +3,7 @@ pub mod Covering
 pub mod Stepping
 pub mod Wholes
 pub mod ListFile
--- what the machine keeps: the stack, the memo, the texts, the imports
+-- the fields of the machine: the stack, the memo, the texts, the imports
 pub mod Shown
 pub mod Bars
 pub mod Cells

@@ -1,4 +1,4 @@
--- How many entries there are.
+-- The number of entries on the stack.
 use Rattle.std.proofs.Common.{◌≡◌, ◌+◌, List, [], ◌∷◌, length, arith}
 use Rattle.pkcheck.specs.declared.machine.value.Value.{Value}
 use Rattle.pkcheck.specs.declared.machine.stack.slots.Slot.{Slot}

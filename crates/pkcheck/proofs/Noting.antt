@@ -1,4 +1,4 @@
--- A ledger, and what an import names.
+-- What a ledger holds, and the imports that names refer to.
 use Rattle.std.proofs.Common.{◌≡◌, ℕ, zero, suc, ◌<◌, ◌≤◌, List, [], ◌∷◌, ◌++◌, Option, None, Some, length, map, take, get_or, refl, ap, arith, length-append}
 use Rattle.std.proofs.Math.ListN.{get_or-append}
 use Rattle.std.proofs.Math.Seq.{take-append_seam, take-length}
@@ -18,7 +18,7 @@ module _ (ts us : List (List ℕ)) (g : HasMoreTexts ts us) where
   pub text_grown : (n : ℕ) → n < length ts → get_or us n [] ≡ get_or ts n []
   text_grown n h = rw g.is (get_or-append ts g.more [] n h)
 
--- ---- a table that grew
+-- ---- a table of texts that grew
 
 module _ (ts us ws vs : List (List ℕ)) (g : HasMoreTexts ts us) (h : HasMoreTexts ws vs) where
   entry_grown : (e : Entry) → IsEntry (length ts) (length ws) e → entry_asked us vs e ≡ entry_asked ts ws e
@@ -39,9 +39,9 @@ module _ (ts us ws vs : List (List ℕ)) (g : HasMoreTexts ts us) (h : HasMoreTe
   are_grown [] k = tt
   are_grown (e ∷ es) k = (is_grown e k.0, are_grown es k.1)
 
--- ---- one more import, and fewer
+-- ---- one import more or fewer
 
--- what was listed stands before what is asked for
+-- the earlier imports come before the new one
 pub listed_before : (a : Option Asked) (listed : List Asked) → take (length listed) (asks_more a listed) ≡ listed
 listed_before None listed = take-length listed
 listed_before (Some a) listed = take-append_seam listed (a ∷ [])

@@ -1,4 +1,4 @@
--- Places on the stack, and its marks, on the entries that it keeps.
+-- Places on the stack and its marks, in terms of the entries of the store.
 use Rattle.std.proofs.Common.{◌≡◌, ℕ, zero, suc, ◌+◌, ◌-◌, ◌<◌, ◌≤◌, List, [], ◌∷◌, ◌++◌, length, take, drop, Ok, refl, sym, subst, ap, ◌∙◌, arith, add-one, append-nil, length-drop}
 use Rattle.std.proofs.lemmas.List.{append_assoc, take-append-drop}
 use Rattle.std.proofs.Math.Seq.{drop-append_seam, take-append_seam}
@@ -19,7 +19,7 @@ shown_over : (xs : List Slot) (es : List (Entry Value)) → shown xs es ≡ show
 shown_over [] es = refl
 shown_over (x ∷ xs) es = rw (shown_over xs (entry_of x ∷ es), shown_over xs (entry_of x ∷ []), append_assoc) refl
 
--- what stands from a place on, over what stands below it
+-- the entries from a place on, and those below it
 divided : (n : ℕ) (xs : List Slot) → shown xs [] ≡ shown (drop n xs) [] ++ shown (take n xs) []
 divided n xs = ap (λ l. shown l []) (sym (take-append-drop n xs)) ∙ shown_append (take n xs) (drop n xs) [] ∙ shown_over (drop n xs) (shown (take n xs) [])
 
@@ -45,7 +45,7 @@ above_shown n xs =
     ∙ from_bottom_shown (drop n xs) [] []
     ∙ append-nil (values_of (drop n xs))
 
--- the first of the objects from a place on
+-- the first object from a place on
 left_first : (ss : List Slot) (below : List (Entry Value)) → FirstObject ss → shown (take 1 ss) below ≡ front (values_of ss) ++ below
 left_first (slot.Object v ∷ ss) below h = refl
 left_first (slot.Mark ∷ ss) below h = absurd h
@@ -77,12 +77,12 @@ first_there takes n xs h w =
 pub first_left : (takes : Takes) (n : ℕ) (xs : List Slot) → HasFirst takes → StartsWell takes (drop n xs) → below (n + 1) (shown xs []) ≡ front (above n (shown xs [])) ++ below n (shown xs [])
 first_left takes n xs h w = rw (below_shown (n + 1) xs, above_shown n xs, below_shown n xs, add-one) (left_is xs n [] (has_object takes (drop n xs) h w))
 
--- the topmost entry alone
+-- the topmost entry and the rest
 pub one_more : {A : Type 0} (es : List (Entry A)) → 0 < length es → (e : Entry A) × (es ≡ e ∷ below (length es - 1) es)
 one_more (e ∷ es) h = (e, let k : length (e ∷ es) - (length (e ∷ es) - 1) ≡ 1 = omega arith in rw k refl)
 one_more [] h = absurd (omega arith)
 
--- ---- what the stack is, by the entries that it keeps
+-- ---- the parts of the stack, in terms of the entries of the store
 
 pub how_long : (xs : List Slot) (es : List (Entry Value)) → shown xs [] ≡ es → length es ≡ length xs
 how_long xs es is = sym (ap length is) ∙ length_shown xs

@@ -1,4 +1,4 @@
--- Refusals as they are printed.
+-- Worked examples of printed refusals.
 use Rattle.std.proofs.Common.{◌≡◌, refl, codes, [], ◌∷◌, None}
 use Rattle.std.specs.Fmt.{digits}
 use Rattle.pkread.specs.declared.Reason.TheVariants as reason

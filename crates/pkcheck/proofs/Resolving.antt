@@ -1,4 +1,4 @@
--- What stands on the stack and in the memo, by the table of texts.
+-- The stack and the memo as knowledge, given the table of texts.
 use Rattle.std.proofs.Common.{◌≡◌, ℕ, suc, ◌≤◌, List, [], ◌∷◌, ◌++◌, length, map, drop, inl, inr, Option, Some, None, Result, Ok, Err, IfOk, OnOk, OnErr, refl, sym, ap, subst, ◌∙◌, arith, append-nil, length-append}
 use Rattle.std.proofs.Math.ListN.{get_or-append}
 use Rattle.std.proofs.Math.Seq.{get_or-append_seam}
@@ -22,7 +22,7 @@ abbrev first : Result (Value × List (Entry Value)) Breach → Option Value
 first (Ok t) = Some t.0
 first (Err b) = None
 
--- ---- what is known is what stands there
+-- ---- what is known agrees with the entries
 
 module _ (ts : List (List ℕ)) where
   pub sees_is : (es : List (Entry Value)) (ks : List (Entry Known)) → Sees ts es ks → ks ≡ seen ts es
@@ -110,7 +110,7 @@ module _ (ts : List (List ℕ)) where
   abbrev pub taken_seen : Taken Value → Taken Known
   taken_seen t = record { operands = map (known ts) t.operands; below = seen ts t.below }
 
-  -- what was taken, as it stands
+  -- the operands and the rest refer only to texts in the table
   pub record IsTaken (t : Taken Value) : Type 0 where
     pub operands : Pointwise (StandsAs ts) t.operands (map (known ts) t.operands)
     pub below : Sees ts t.below (seen ts t.below)
@@ -179,7 +179,7 @@ stands_new ts t = record {
   numbered = omega (arith, length-append ts (t ∷ []));
 }
 
--- ---- a table that grew
+-- ---- a table of texts that grew
 
 module _ (ts us : List (List ℕ)) (g : HasMoreTexts ts us) where
   stands_grown : (v : Value) (k : Known) → StandsAs ts v k → StandsAs us v k
@@ -198,7 +198,7 @@ module _ (ts us : List (List ℕ)) (g : HasMoreTexts ts us) where
     pub recalls_grown : Pointwise (AlikeCell (StandsAs us)) cs (remembered us cs)
     recalls_grown = subst (λ z. Pointwise (AlikeCell (StandsAs us)) cs z) recalls_same grown
 
-  -- what an operation puts
+  -- the result of an operation
   module _ (v : Option Value) (o : Option Known) (given : StandsIf us v o) (t : Taken Value) (is : IsTaken ts t) where
     put_by : (v : Option Value) (o : Option Known) → StandsIf us v o → Sees us (put v t.operands) (put o (map (known ts) t.operands))
     put_by None None h = sees_grown _ _ (front_alike (StandsAs ts) t.operands (map (known ts) t.operands) is.operands)

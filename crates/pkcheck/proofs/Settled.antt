@@ -1,4 +1,4 @@
--- An entry in the place of others.
+-- Replaces entries of the stack by one entry.
 use Rattle.std.specs.List.{slice_get}
 use Rattle.std.proofs.Common.{◌≡◌, ℕ, zero, suc, Some, ◌+◌, ◌%◌, ◌<◌, not, eqb, List, [], ◌∷◌, ◌++◌, length, take, get_or, refl, sym, ap, ◌∙◌, arith, add-one, append-nil, length-append}
 use Rattle.std.proofs.Math.Seq.{take-suc}
@@ -27,7 +27,7 @@ count_bar xs n d h e = rw (add-one, take-suc xs n d, e, values_append (take n xs
 pub count_object : (xs : List Slot) (n : ℕ) (d : Slot) (v : Value) → n < length xs → get_or xs n d ≡ slot.Object v → length (values_of (take (n + 1) xs)) ≡ length (values_of (take n xs)) + 1
 count_object xs n d v h e = rw (add-one, take-suc xs n d, e, values_append (take n xs) (slot.Object v ∷ []), length-append (values_of (take n xs)) (v ∷ [])) refl
 
--- the object that so many others stand before
+-- the index of an object is the number of objects before it
 pub object_at : (xs : List Slot) (n : ℕ) (d : Slot) (v : Value) → n < length xs → get_or xs n d ≡ slot.Object v → slice_get (values_of xs) (length (values_of (take n xs))) ≡ Some v
 object_at (x ∷ xs) zero d v h e = rw e refl
 object_at (slot.Mark ∷ xs) (suc n) d v h e = object_at xs n d v (omega (arith, h)) e

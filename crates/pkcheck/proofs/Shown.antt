@@ -1,4 +1,4 @@
--- What the machine's fields say, as they change.
+-- How the view of the stack changes with its entries.
 use Rattle.std.proofs.Common.{◌≡◌, ℕ, suc, ◌<◌, List, [], ◌∷◌, ◌++◌, length, take, drop, get_or, Ok, Err, refl, ◌+◌, arith, length-drop}
 use Rattle.std.proofs.Math.Seq.{take-suc, drop-cons}
 use Rattle.pkcheck.specs.declared.machine.value.Value.{Value}
@@ -11,7 +11,7 @@ pub shown_append : (xs ys : List Slot) (below : List (Entry Value)) → shown (x
 shown_append [] ys below = refl
 shown_append (x ∷ xs) ys below = shown_append xs ys (entry_of x ∷ below)
 
--- the topmost of the first ones
+-- the topmost of the lowest entries
 pub shown_take : (xs : List Slot) (m n : ℕ) (d x : Slot) → m ≡ suc n → n < length xs → get_or xs n d ≡ x → shown (take m xs) [] ≡ entry_of x ∷ shown (take n xs) []
 shown_take xs m n d x is h e = rw (is, take-suc xs n d, e) (shown_append (take n xs) (x ∷ []) [])
 

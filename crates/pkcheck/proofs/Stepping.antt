@@ -1,4 +1,4 @@
--- A step of the machine, by its parts.
+-- The parts of a step of the machine.
 pub mod Errs
 pub mod Placed
 pub mod Past

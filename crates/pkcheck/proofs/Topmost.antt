@@ -1,4 +1,4 @@
--- The top of the stack, on the entries that it keeps.
+-- The top of the stack, in terms of the entries of the store.
 use Rattle.std.proofs.Common.{◌≡◌, ℕ, suc, ◌-◌, ◌<◌, List, [], ◌∷◌, length, take, drop, get_or, Ok, Err, refl, subst, arith}
 use Rattle.std.proofs.Math.Seq.{take-length}
 use Rattle.pkcheck.specs.declared.machine.value.Value.{Value}

@@ -1,4 +1,4 @@
--- Whole runs, and a check.
+-- Whole runs and whole checks.
 pub mod RunSteps
 pub mod Walk
 pub mod Ends

@@ -1,4 +1,4 @@
--- A pickle that only its size can get refused.
+-- Pickles that can be refused only because of their size.
 use Rattle.std.specs.Prelude.{◌≡◌, ◌≢◌, ◌≤◌, ℕ, List, ◌∷◌, ◌++◌, length, Option, Some}
 use Rattle.pkops.specs.Limits.{Bounds}
 use Rattle.pkops.specs.Payloads.{payload_limit}

@@ -27,7 +27,7 @@ IsFree (EndedBy (Raised state)) = ⊤
 IsFree (EndedBy (Stopped result state)) = ⊤
 IsFree (EndedBy (Stuck breach)) = ⊥
 
--- the events of a run up to its end; a stuck run has no final state, and so none
+-- the events of a run up to its end; a stuck run has no final state, so it has none
 abbrev pub events_at : Ended → List Event
 events_at (Reached state) = state.events
 events_at (EndedBy (WentOn state)) = state.events

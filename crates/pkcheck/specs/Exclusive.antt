@@ -9,9 +9,9 @@ use Rattle.pkcheck.specs.Knowledge.{Policy, Asked}
 use Rattle.pkcheck.specs.Accepted.{Accepted}
 use Rattle.pkcheck.specs.Refused.{Refused}
 
--- if bytes begin with an accepted pickle that isn't longer than a reader can take, no check of
--- these bytes under the same policy, limits and setting refuses them, unless an allocation is
--- refused or a read fails
+-- if bytes begin with an accepted pickle that is not too long for a reader, no check of these bytes
+-- under the same policy, limits and setting refuses them, unless an allocation is refused or a read
+-- fails
 abbrev pub YesExcludesNo : Type 0
 YesExcludesNo =
     (setting : OldStrings) (policy : Policy) (limits : Bounds) (bytes : List ℕ)

@@ -1,5 +1,5 @@
--- What a listener hears of a check: each instruction that was read whole and admitted, with its
--- offset and the number of marks on the stack before it.
+-- What a listener hears during a check: each instruction that was read completely and admitted,
+-- with its offset and the number of marks on the stack before it.
 use Rattle.std.specs.Prelude.{◌≡◌, ⊤, ℕ, List, [], ◌∷◌, ◌++◌, length, map, All}
 use Rattle.std.specs.Prelude.{Result, Ok, Err, Option}
 use Rattle.pkops.specs.Limits.{Bounds}
@@ -29,7 +29,7 @@ pub record Heard : Type 0 where
   pub instruction : Instruction
   pub marks : ℕ
 
--- a Heard made of its parts
+-- a Heard from its parts
 abbrev pub heard : ℕ → Instruction → ℕ → Heard
 heard at instruction marks = record { at = at; instruction = instruction; marks = marks }
 
@@ -49,7 +49,7 @@ AreHeardBehind before (i ∷ is) (h ∷ hs) =
 AreHeardBehind before [] (h ∷ hs) = ⊥
 AreHeardBehind before (i ∷ is) [] = ⊥
 
--- the refused instruction, if it was read whole and admitted
+-- the refused instruction, if it was read completely and admitted
 abbrev pub refused_instruction : {setting : OldStrings} {beginning : Beginning} {policy : Policy}
     {limits : Bounds} {before : List Instruction} {here new : Sight} {at : ℕ} {reason : Reason}
     {pair : Option Asked} → Why setting beginning policy limits before here new at reason pair
@@ -58,21 +58,21 @@ refused_instruction (reading h) = []
 refused_instruction (judging h) = h.instruction ∷ []
 refused_instruction (growing h) = h.instruction ∷ []
 
--- the instructions that a right answer is about: those accepted, and then the refused one
+-- the instructions that a right answer covers: the accepted ones, and then the refused one
 abbrev pub instructions_of : (policy : Policy) (limits : Bounds) (old new : Sight)
     (answer : Result Yes No) → IsRightAnswer Unknown policy limits old new answer → List Instruction
 instructions_of policy limits old new (Ok accepted) right = right.instructions
 instructions_of policy limits old new (Err refused) right =
     right.instructions ++ refused_instruction right.why
 
--- the answer is right, and the listener heard every instruction that it is about, in order
+-- the answer is right, and the listener heard every instruction that it covers, in order
 pub record IsRightAndHeard (policy : Policy) (limits : Bounds) (old new : Sight)
     (answer : Result Yes No) (hs : List Heard) : Type 0 where
   pub right : IsRightAnswer Unknown policy limits old new answer
   pub each : AreHeardBehind [] (instructions_of policy limits old new answer right) hs
 
 -- the listener's own error ended the check: it heard these, and failed at one more instruction that
--- was read whole and admitted
+-- was read completely and admitted
 pub record IsCutShort (policy : Policy) (limits : Bounds) (old new : Sight) (hs : List Heard)
     : Type 0 where
   -- the instructions before it contain no STOP; each is good, admitted and within the limit of its

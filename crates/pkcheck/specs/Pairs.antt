@@ -26,8 +26,8 @@ order_to module_name name pair =
 abbrev pub AreInOrder : List Pair → Type 0
 AreInOrder pairs = IsSorted (λ a b. order_to b.module_name.now b.name.now a) pairs
 
--- what the middle pair says to a binary search: it is the one, or the upper or lower half has the
--- answer
+-- how a binary search goes on from the middle pair: it has found the pair, or it searches the upper
+-- or the lower half
 abbrev pub by_middle : Option Ordering → (above below : Bool) → Bool
 by_middle (Some Less) above below = above
 by_middle (Some Equal) above below = true
@@ -49,7 +49,8 @@ abbrev pub found : List Pair → List ℕ → List ℕ → Bool
 found pairs module_name name =
     comes_to (order_to module_name name) pairs (length pairs) 0 (length pairs)
 
--- a hit by binary search is valid whatever the order; in a sorted array every pair is hit
+-- a pair that a binary search finds is in the array, whatever the order; in a sorted array it finds
+-- every pair
 pub record HalvingIsRight : Type 0 where
   pub no_more : (pairs : List Pair) (module_name name : List ℕ)
       → found pairs module_name name ≡ true → have pairs module_name name ≡ true

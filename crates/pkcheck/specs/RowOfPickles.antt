@@ -1,4 +1,4 @@
--- What an answer of `check_all` means for pickles that follow each other in a source.
+-- What the answer of `check_all` means for pickles that follow each other in a source.
 use Rattle.std.specs.Prelude.{◌≡◌, ◌≢◌, ◌<◌, ℕ, List, [], ◌∷◌, ◌++◌, length, flat_map, All, Option}
 use Rattle.std.specs.Prelude.{Some, Result, MatchResult, option_map}
 use Rattle.std.specs.Io.KnownBytes.{IsAtEnd}
@@ -69,7 +69,7 @@ pub record AcceptedRow (loading : Loading) (policy : Policy) (limits : Bounds) (
   pub each : AreAccepted loading policy limits old new [] row
   pub listed : imports ≡ imports_of_all row
 
--- the source isn't at its end, as far as it reveals its bytes
+-- the source is not known to be at its end
 abbrev pub HasMore : Sight → Type 0
 HasMore here = here.left ≢ Some []
 
@@ -83,11 +83,10 @@ pub record RefusedInRow (loading : Loading) (policy : Policy) (limits : Bounds) 
   pub each : AreAccepted loading policy limits old here [] before
   pub refused : RefusedFrom (length (bytes_of_all before)) loading.old_strings
       (begins loading.memo before) policy limits here new at reason pair
-  -- a refusal because the source ended means that another pickle had begun: a row may end after a
-  -- pickle
+  -- a row may end after any pickle, so Truncated means that another pickle had begun
   pub more : reason ≡ Truncated → before ≢ [] → HasMore here
 
--- the answer is right, given how the source looked before the check and after it
+-- the answer is right, given the source before the check and after it
 abbrev pub IsRightOfRow : Loading → Policy → Bounds → Sight → Sight → Result YesAll NoAll → Type 0
 IsRightOfRow loading policy limits old new answer =
     MatchResult answer

@@ -47,7 +47,7 @@ ComesTo setting pickles state =
     (outcomes : List (List Outcome))
     × (run_row setting (sequences_of pickles) outcomes start ≡ Some state)
 
--- as ComesTo, with only outcomes that are possible
+-- like ComesTo, with only possible outcomes
 abbrev pub CanComeTo : OldStrings → List Pickle → State → Type 0
 CanComeTo setting pickles state =
     (outcomes : List (List Outcome))
@@ -60,13 +60,13 @@ Arrives setting Afresh before state = GetsTo setting before start state
 Arrives setting (Behind pickles) before state =
     (first : State) × ComesTo setting pickles first × GetsTo setting before first state
 
--- as Arrives, with only outcomes that are possible
+-- like Arrives, with only possible outcomes
 abbrev pub CanArrive : OldStrings → Beginning → List Instruction → State → Type 0
 CanArrive setting Afresh before state = CanGetTo setting before start state
 CanArrive setting (Behind pickles) before state =
     (first : State) × CanComeTo setting pickles first × CanGetTo setting before first state
 
--- this holds of every run of these instructions that begins like this
+-- every run of these instructions that begins like this has this property
 abbrev pub InEachRunFrom : OldStrings → Beginning → List Instruction → (Ended → Type 0) → Type 0
 InEachRunFrom setting Afresh instructions Holds =
     (outcomes : List Outcome) → Holds (run_as setting instructions outcomes start)

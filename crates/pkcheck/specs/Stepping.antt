@@ -16,12 +16,12 @@ use Rattle.pkcheck.specs.Import.{asks_more}
 use Rattle.pkcheck.specs.Memory.{WantsNoMemory}
 use Rattle.pkcheck.specs.View.{View, moved_as, stopped_by, texts_after, off_pair}
 
--- a machine that has refused answers the same reason and stays as it is
+-- a machine that has refused returns the same reason and does not change
 abbrev pub AnswersAsBefore : View → View → Result Moved Reason → Type 0
 AnswersAsBefore before after answer =
     IfSome before.refused (λ reason. (answer ≡ Err reason) × (after ≡ before))
 
--- this holds of the reason when a machine refuses for the first time
+-- the property holds of the reason when a machine refuses for the first time
 abbrev pub IfFirst : View → Result Moved Reason → (Reason → Type 0) → Type 0
 IfFirst before answer P = before.refused ≡ None → IfErr answer P
 
@@ -36,7 +36,7 @@ abbrev pub AppendsPermitted : Policy → List Asked → List Asked → Type 0
 AppendsPermitted policy before after =
     (import : Option Asked) × (after ≡ asks_more import before) × IsPermitted policy import
 
--- a refusal keeps the imports and the knowledge, and its reason is the answer to every later step
+-- a refusal changes neither the imports nor the knowledge, and every later step returns its reason
 pub record RefusesForGood (before after : View) (reason : Reason) : Type 0 where
   pub imports : after.imports ≡ before.imports
   pub knowledge : after.knowledge ≡ before.knowledge
@@ -74,8 +74,7 @@ module _ (policy : Policy) (instruction : Instruction) (before after : View) whe
       × (reason ≡ reason_of refusal)
       × (after ≡ record before { refused = Some reason; off = off_pair refusal })
 
-  -- an allocation for the step was refused, and nothing else changes; the step is one that
-  -- allocates
+  -- an allocation for the step was refused, and nothing else changes; this is a step that allocates
   abbrev pub StepWantsMemory : Reason → Type 0
   StepWantsMemory reason =
       (¬ WantsNoMemory instruction.op)
@@ -86,8 +85,8 @@ module _ (policy : Policy) (instruction : Instruction) (before after : View) whe
   abbrev pub FailsStep : Reason → Type 0
   FailsStep reason = RefusesStep reason ⊎ StepWantsMemory reason
 
-  -- what going on means in a covered state: the step of the run finds what it needs, its import is
-  -- the one appended, STOP takes the only object, and the new state is covered
+  -- what an accepted step means in a covered state: the step of the run finds what it needs, its
+  -- import is the one appended, STOP takes the only object, and the new state is covered
   abbrev pub MeansIn : State → Outcome → Type 0
   MeansIn state outcome =
       (progress : Progress)
@@ -96,7 +95,7 @@ module _ (policy : Policy) (instruction : Instruction) (before after : View) whe
       × IsPermitted policy progress.import
       × Follows progress state (step_as before.old_strings instruction state outcome)
 
-  -- this holds in every covered state and for every outcome
+  -- this is true in every covered state and for every outcome
   abbrev pub MeansInEachRun : Type 0
   MeansInEachRun =
       (state : State) (outcome : Outcome) → Covers before.knowledge state → MeansIn state outcome
@@ -120,7 +119,7 @@ module _ (policy : Policy) (instruction : Instruction) (before after : View) whe
       instruction reason after.off
       ⊎ (reason ≡ OutOfMemory)
 
-  -- OutOfMemory is never the answer to a step that doesn't allocate
+  -- a step that doesn't allocate never returns OutOfMemory
   abbrev pub MayLackMemory : Reason → Type 0
   MayLackMemory reason = WantsNoMemory instruction.op → reason ≢ OutOfMemory
 

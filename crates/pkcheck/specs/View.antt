@@ -48,7 +48,7 @@ abbrev pub stopped_by : Moved → Bool
 stopped_by Stopped = true
 stopped_by _ = false
 
--- the number of texts after an operation that gives this
+-- the number of texts after an operation with this result
 abbrev pub texts_given : Gives → ℕ → ℕ
 texts_given MakesText count = suc count
 texts_given _ count = count

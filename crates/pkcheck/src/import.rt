@@ -1,4 +1,4 @@
-//! What an import asks for.
+//! Imports: what a pickle requests by module and name.
 ghost use Rattle.std.specs.Prelude.{◌≡◌, ℕ, List, map, option_map, IfOk, IfErr, None, Some};
 ghost use Rattle.pkcheck.specs.Private.Slots.{IsNumbered, known};
 ghost use Rattle.pkcheck.specs.Private.Noted.{AreNumbered, IsNamed, IsNamedIf, named_asked};
@@ -23,7 +23,7 @@ pub enum Asked {
         /// The name in it.
         name: String,
     },
-    /// A pair that the pickle does not show.
+    /// The pair is unknown, because an operation answered the module or the name.
     Unknown,
 }
 
@@ -37,7 +37,7 @@ pub enum Import<'a> {
         /// The name in it.
         name: &'a str,
     },
-    /// A pair that the pickle does not show.
+    /// The pair is unknown, because an operation answered the module or the name.
     Unknown,
 }
 
@@ -60,7 +60,7 @@ impl<'a> Import<'a> {
 /// The names of an import, as a step finds them.
 #[derive(Clone, Copy)]
 pub enum Named<'a> {
-    /// A pair that the pickle does not show.
+    /// The pair is unknown.
     Unknown,
     /// The numbers of two texts: the module and the name.
     Made(u32, u32),
@@ -68,7 +68,7 @@ pub enum Named<'a> {
     Written(&'a str, &'a str),
 }
 
-/// An import of this pair.
+/// Copies a pair.
 pub fn pair_of(alloc: Global, module_name: &str, name: &str) -> Result<Asked, AllocError>
     ensures { IfOk result (λ a. asked_shown a ≡ AskedPair module_name.now name.now) }
 {
@@ -80,7 +80,7 @@ pub fn pair_of(alloc: Global, module_name: &str, name: &str) -> Result<Asked, Al
     })
 }
 
-/// The pair that two operands name.
+/// The import that two operands name. Refuses an operand that is known not to be a text.
 pub fn operands_named<'a>(module_name: Value, name: Value) -> Result<Named<'a>, Reason>
     ensures ok { (ts : List (List ℕ)) → IfOk result
         (λ a. operands_asked None (known ts module_name) (known ts name)
@@ -105,7 +105,8 @@ pub fn operands_named<'a>(module_name: Value, name: Value) -> Result<Named<'a>, 
     }
 }
 
-/// The import of an operation, given the names in its argument.
+/// The import of an operation, or `None` if it imports nothing. `spelled` holds the names in its
+/// argument.
 pub fn asked_by<'a>(
     names: Names,
     spelled: Option<(&'a str, &'a str)>,

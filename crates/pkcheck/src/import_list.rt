@@ -30,7 +30,7 @@ impl<'a> Model for ImportList<'a> {
 }
 
 impl<'a> ImportList<'a> {
-    /// The imports that these entries stand for, given the texts and the names kept beside them.
+    /// The imports of these entries, given the texts and the names that they refer to.
     pub(crate) fn new(texts: &'a Texts, written: &'a Texts, entries: &'a [Entry]) -> ImportList<'a>
         ensures { result ≡ map (entry_asked texts.entry.now written.entry.now) entries.entry.now }
     {
@@ -113,7 +113,7 @@ impl<'a> Iterator for ImportIter<'a> {
     }
 }
 
-/// The import that an entry stands for.
+/// The import of an entry.
 fn shown<'a>(texts: &'a Texts, written: &'a Texts, entry: Entry) -> Import<'a>
     ensures { import_shown result ≡ entry_asked texts.now written.now entry }
 {

@@ -26,9 +26,13 @@ pub trait Listener {
     // What was heard between two states of the listener, in order.
     ghost hears: { Self → Self → List Heard → Type 0 };
 
-    /// Hears an admitted instruction before it is judged: the offset of its first byte, counted
-    /// from the first byte taken, and the number of marks open before it, which is the same in
-    /// every run.
+    /// Hears an admitted instruction before it is judged. `at` is the offset of its first byte,
+    /// counted from the first byte taken. `marks` is the number of open marks before it, which is
+    /// the same in every run.
+    ///
+    /// # Errors
+    ///
+    /// An error ends the check.
     fn hear(&mut self, at: u64, inst: &Inst<'_>, marks: usize) -> Result<(), Self::Error>
         ensures { OnOk result (hears self.old self.new
             (heard at (instruction_of inst.now) marks ∷ [])) };
@@ -39,14 +43,15 @@ pub trait Listener {
         → hears x y hs → hears y z (h ∷ []) → hears x z (hs ++ h ∷ []) };
 }
 
-/// Checks the pickle at the front of a source, as [`check`](crate::check) does, while a listener
-/// hears its instructions in order: those that are accepted, and the refused one if it was read
-/// completely and is admitted. It holds each payload, so `counted` is the limit on all of them.
+/// Checks the pickle at the start of a source, as [`check`](crate::check) does. The listener hears
+/// the instructions in order: the accepted ones, and the refused one if it was read completely and
+/// is admitted. Payloads are held instead of skipped, so `counted` limits all of them.
 ///
 /// # Errors
 ///
-/// The listener's, which ends the check. It had heard every earlier instruction, none of which is
-/// refused, and exactly the bytes of these and of the one at which it failed were taken.
+/// The listener's error, which ends the check. By then it has heard every earlier instruction, and
+/// none of these was refused. The bytes taken are exactly those of these instructions and of the
+/// one at which the listener failed.
 pub fn check_heard<R: Source, L: Listener>(
     alloc: Global,
     source: &mut R,

@@ -84,16 +84,16 @@ impl Model for Machine {
       texts = m.held.texts;
     } };
 
-    // a machine that has not refused is within its limits and holds no pair back; one that has
-    // refused holds a pair exactly if it was off the list
+    // A machine that has refused nothing is within its limits and holds no pair. One that has
+    // refused holds a pair exactly if the import was off the list.
     ghost invariant = { λ m. (m.refused ≡ None → FitsLimits m.limits m.held.knowledge)
         × (m.refused ≡ None → m.off ≡ None)
         × (is_some (pair_shown (option_map asked_shown m.off)) ≡ has_off_list m.refused) };
 }
 
 impl Machine {
-    /// A machine at the first instruction, with an empty stack and memo, under which Python 2
-    /// strings may decode as anything. It allocates nothing.
+    /// A machine at the first instruction, with an empty stack and memo. Python 2 strings may
+    /// decode to anything. Allocates nothing.
     pub fn new(alloc: Global, limits: &Limits) -> Machine
         ensures fresh { result ≡ fresh OldStrings.Unknown limits.now }
         ensures covers { Covers result.knowledge start }
@@ -101,7 +101,7 @@ impl Machine {
         Machine::new_as(alloc, limits, OldStrings::Unknown)
     }
 
-    /// Like `new`, for a reader that decodes Python 2 strings as `old_strings` says.
+    /// Like `new`, for an unpickler that decodes Python 2 strings as `old_strings` says.
     pub fn new_as(alloc: Global, limits: &Limits, old_strings: OldStrings) -> Machine
         ensures fresh { result ≡ fresh old_strings limits.now }
         ensures covers { Covers result.knowledge start }
@@ -117,16 +117,16 @@ impl Machine {
         }
     }
 
-    /// Steps over an admitted instruction, before STOP: checks what it needs, lists its import, and
-    /// updates what is known.
+    /// Steps over an admitted instruction. Checks what it needs, lists its import, and updates what
+    /// is known. No step may follow STOP.
     ///
     /// # Errors
     ///
-    /// The first of these that is not a false alarm: `MissingMark`, `MissingItem`, `MissingMemo`,
-    /// `OddItems`, `WrongClass`, `NotText`, `UnknownImport`, `ImportOffList`, `LeftOver`,
-    /// `NotAscii`, and `TooLarge` if the stack or the memo would exceed its limit. `OutOfMemory` if
-    /// an allocation was refused. A refused step changes neither the imports nor the marks, and
-    /// later steps return the same reason.
+    /// The first of these faults that the instruction has: `MissingMark`, `MissingItem`,
+    /// `MissingMemo`, `OddItems`, `WrongClass`, `NotText`, `UnknownImport`, `ImportOffList`,
+    /// `LeftOver`, `NotAscii`, and `TooLarge` if the stack or the memo would exceed its limit.
+    /// `OutOfMemory` if an allocation was refused. A refused step changes neither the imports nor
+    /// the marks. Every later step returns the same reason.
     #[inline(always)]
     pub fn step(&mut self, inst: &Inst, policy: &Policy) -> Result<Moved, Reason>
         requires admitted { is_admitted (instruction_of inst.now) ≡ true }
@@ -134,7 +134,7 @@ impl Machine {
         ensures again { AnswersAsBefore self.old self.new result }
         ensures goes_on { IfOk result (GoesOn (policy_of policy.now) (instruction_of inst.now)
             self.old self.new) }
-        // for each outcome, what this step means in every run that is covered
+        // What an accepted step means in every covered run.
         ensures covered { OnOk result (MeansInEachRun (policy_of policy.now)
             (instruction_of inst.now) self.old self.new) }
         ensures permitted { OnOk result (AppendsPermitted (policy_of policy.now)
@@ -147,7 +147,7 @@ impl Machine {
             ≡ texts_then self.old.old_strings (instruction_of inst.now).op self.old.texts) }
         ensures fails { IfFirst self.old result (FailsStep (policy_of policy.now)
             (instruction_of inst.now) self.old self.new) }
-        // no refusal is a false alarm
+        // No refusal is a false alarm.
         ensures alarm { IfFirst self.old result (IsNoFalseAlarm (policy_of policy.now)
             (instruction_of inst.now) self.old self.new) }
         ensures memory { IfFirst self.old result (MayLackMemory (policy_of policy.now)
@@ -177,8 +177,8 @@ impl Machine {
         }
     }
 
-    /// Steps over an instruction with a passed opcode, before STOP: returns what [`Machine::step`]
-    /// returns for any such instruction, without needing its payload.
+    /// Steps over an instruction whose payload was skipped. Returns what [`Machine::step`] returns
+    /// for any instruction with this opcode. No step may follow STOP.
     ///
     /// # Errors
     ///
@@ -212,8 +212,8 @@ impl Machine {
         self.held.marks()
     }
 
-    /// The number of texts in the table. A step that goes on raises it by one for UNICODE,
-    /// SHORT_BINUNICODE, BINUNICODE, BINUNICODE8, and a Python 2 string decoded as ASCII; other
+    /// The number of texts in the table. An accepted step raises it by one for UNICODE,
+    /// SHORT_BINUNICODE, BINUNICODE, BINUNICODE8, and a Python 2 string decoded as ASCII. Other
     /// steps leave it unchanged.
     pub fn texts(&self) -> usize
         ensures { result ≡ self.now.texts }
@@ -228,7 +228,8 @@ impl Machine {
         self.held.imports()
     }
 
-    /// The pair that was off the list, a module and a name; only after `ImportOffList`.
+    /// The module and the name of the import that was off the list; `None` unless the reason was
+    /// `ImportOffList`.
     pub fn off_list(&self) -> Option<(&str, &str)>
         ensures pair { option_map (λ p. (p.0.now, p.1.now)) result ≡ pair_shown self.now.off }
         ensures present { is_some result ≡ has_off_list self.now.refused }

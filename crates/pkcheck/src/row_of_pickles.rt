@@ -59,12 +59,12 @@ impl Error for NoAll {}
 /// [`check_as`](crate::check_as) does. The time is linear in the number of bytes, however many
 /// pickles there are.
 ///
-/// With [`Memo::Fresh`] nothing is kept from one pickle to the next. Memory is that for the largest
-/// pickle and for the names of the imports.
+/// With [`Memo::Fresh`] nothing is kept from one pickle to the next. The check needs memory for the
+/// largest pickle and for the names of the imports.
 ///
 /// With [`Memo::Kept`] each pickle begins with an empty stack, and with the memo, the objects and
 /// the events of those before it. The answer about a pickle holds for every run of the row that
-/// reaches it. Memory is that for the whole row.
+/// reaches it. The check needs memory for the whole row.
 ///
 /// A `YesAll` covers at least one pickle. A `NoAll` names the first refused pickle; if it is
 /// unknown whether another pickle begins, because the source failed or 2^64 - 1 bytes were taken,

@@ -1,4 +1,4 @@
--- Which instructions a reader gives, and the reason for which it refuses the others.
+-- Which instructions a reader returns, and why it refuses the others.
 use Rattle.std.specs.Prelude.{ℕ, Option, None, Some, IsTrue, if◌then◌else◌}
 use Rattle.pkops.specs.Admitted.{is_admitted}
 use Rattle.pkops.specs.Contents.{IsGood}
@@ -19,12 +19,12 @@ unadmitted_by _ _ = ExtensionCode
 abbrev pub objection : Instruction → Option Reason
 objection i = if is_admitted i then None else Some (unadmitted_by i.op i.arg)
 
--- what a reader gives: a good, admitted instruction whose payload is within the limit
+-- what a reader returns: a good, admitted instruction whose payload is within the limit
 pub record IsAllowed (limit : ℕ) (i : Instruction) : Type 0 where
   pub good : IsGood i
   pub within : IsWithin limit i.arg
   pub admitted : IsTrue (is_admitted i)
 
--- as IsAllowed, with a limit that depends on the opcode
+-- like IsAllowed, with a limit that depends on the opcode
 abbrev pub IsAllowedBy : (Op → ℕ) → Instruction → Type 0
 IsAllowedBy limit i = IsAllowed (limit i.op) i

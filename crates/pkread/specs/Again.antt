@@ -11,7 +11,7 @@ use Rattle.pkread.specs.declared.refusal.Reason.{Reason}
 use Rattle.pkread.specs.declared.refusal.Reason.TheVariants.{Source, TooLarge, OutOfMemory}
 use Rattle.pkread.specs.declared.refusal.Refusal.{Refusal}
 
--- why no byte came although the source is not at its end
+-- why `again` could not read a byte, other than the end of the source
 abbrev pub WhyNoByte : Sight → Sight → ℕ → Reason → Type 0
 WhyNoByte old new taken Source = Fails old new []
 WhyNoByte old new taken TooLarge = Takes old new [] × (taken ≡ all_bytes)
@@ -31,7 +31,7 @@ AnswersAgain old new false =
     IsAtEnd new.source.left × (new ≡ record old { source = new.source })
 AnswersAgain old new true = new ≡ record old { source = new.source; phase = Open }
 
--- one call of `again` on a reader that has ended; an answer counts no byte as taken
+-- one call of `again` on a reader that has ended; a byte read ahead does not count as taken yet
 abbrev pub StepsAgain : ReaderState → Result Bool Refusal → ReaderState → Type 0
 StepsAgain old result new =
     MatchResult result
@@ -40,8 +40,8 @@ StepsAgain old result new =
     × AnswersAgain old new more)
     (λ r. RefusesAgain old r new)
 
--- true means that exactly one byte was read ahead, the first of the next instruction; any other
--- result means that none was
+-- true means that exactly one byte was read ahead, the first of the next instruction; after any
+-- other result no byte is read ahead
 abbrev pub TakesOneAhead : {R : Type 0} → (R → Option (List ℕ)) → (R → ℕ)
     → Reader R CoreView → Result Bool Refusal → Reader R CoreView → Type 0
 TakesOneAhead left failures old (Ok true) new =
@@ -50,8 +50,7 @@ TakesOneAhead left failures old (Ok true) new =
     (byte ∷ [])
 TakesOneAhead left failures old _ new = new.core.ahead ≡ []
 
--- a refusal by `again` is a refusal of the next instruction, with no byte of it taken, under any
--- limit
+-- a refusal by `again` is a refusal of the next instruction before its first byte, under any limit
 abbrev pub NoByteIsRefused : Type 0
 NoByteIsRefused =
     (limit : ℕ) (old new : ReaderState) (r : Refusal) → RefusesAgain old r new →

@@ -8,14 +8,14 @@ use Rattle.pkread.specs.Rows.{all_bytes}
 use Rattle.pkread.specs.declared.state.Phase as declared
 use Rattle.pkread.specs.declared.refusal.Refusal.{Refusal}
 
--- what the next call does: read an instruction, report the end because STOP was given, or return
+-- what the next call does: read an instruction, report the end because STOP was returned, or return
 -- the same refusal
 pub data Phase : Type 0 where
   Open : Phase
   Ended : Phase
   Refused : Refusal → Phase
 
--- the phase that the program's type stands for
+-- the Rust enum `Phase` in terms of this one
 abbrev pub shown_phase : declared.Phase → Phase
 shown_phase declared.TheVariants.Open = Open
 shown_phase declared.TheVariants.Ended = Ended
@@ -38,7 +38,7 @@ NoneIfClosed Open ahead = ⊤
 NoneIfClosed Ended ahead = ahead ≡ []
 NoneIfClosed (Refused refusal) ahead = ahead ≡ []
 
--- a reader that has given STOP has held at least one byte
+-- a reader that has returned STOP has held at least one byte
 abbrev pub SomeIfEnded : Phase → ℕ → Type 0
 SomeIfEnded Open most = ⊤
 SomeIfEnded Ended most = 0 < most

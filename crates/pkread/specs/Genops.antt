@@ -1,4 +1,4 @@
--- The instructions of a slice, in order, as CPython's `pickletools.genops` gives them.
+-- The instructions of a slice, in order, as CPython's `pickletools.genops` yields them.
 use Rattle.std.specs.Prelude.{◌≡◌, ℕ, ◌+◌, Bool, true, false, cond, List, ◌++◌, length, Option}
 use Rattle.std.specs.Prelude.{None, Result, MatchBool, MatchOption, MatchResult}
 use Rattle.std.specs.Iterator.{Count, at_most}
@@ -14,8 +14,8 @@ use Rattle.pkread.specs.declared.refusal.Reason.{Reason}
 use Rattle.pkread.specs.declared.refusal.Reason.TheVariants.{Truncated}
 use Rattle.pkread.specs.declared.refusal.Refusal.{Refusal}
 
--- what contracts see of the iterator: the bytes from the next instruction on, the offset of the
--- first of them, the payload limit, and whether STOP or a refusal was given
+-- what contracts see of the iterator: the remaining bytes, the offset of the first of them, the
+-- payload limit, and whether STOP or a refusal was returned
 pub record Walk : Type 0 where
   pub bytes : List ℕ
   pub at : ℕ
@@ -31,7 +31,7 @@ abbrev pub is_stop : Op → Bool
 is_stop Stop = true
 is_stop _ = false
 
--- the next bytes spell the instruction given, and it is given with the offset of its first byte
+-- the remaining bytes begin with the returned instruction, and its offset is that of its first byte
 pub record GivesItem (old : Walk) (at : ℕ) (i : Instruction) (new : Walk) : Type 0 where
   pub place : at ≡ old.at
   pub allowed : IsAllowed old.limit i
@@ -40,8 +40,8 @@ pub record GivesItem (old : Walk) (at : ℕ) (i : Instruction) (new : Walk) : Ty
   pub limit : new.limit ≡ old.limit
   pub done : new.done ≡ is_stop i.op
 
--- what each reason means for the remaining bytes: for Truncated, that they end too early; for any
--- other, what is wrong with them
+-- what each reason says about the remaining bytes: Truncated, that they end too early; any other
+-- reason, what is wrong with them
 abbrev pub EndsOrIsAmiss : ℕ → List ℕ → Reason → Type 0
 EndsOrIsAmiss limit bytes Truncated = Begun limit bytes
 EndsOrIsAmiss limit bytes reason = IsAmiss limit bytes reason
@@ -60,13 +60,12 @@ Yields old item new =
     (λ given. GivesItem old given.0 (instruction_of given.1) new)
     (λ r. RefusesItem old r new)
 
--- one call of `next`: an item until STOP or a refusal was given; after that None, and nothing
--- changes
+-- one call of `next`: an item, until STOP or a refusal was returned; then None, and nothing changes
 abbrev pub Walks : Walk → Option (Result (ℕ × Inst) Refusal) → Walk → Type 0
 Walks old item new =
     MatchBool old.done ((item ≡ None) × (new ≡ old)) (MatchOption item ⊥ (λ x. Yields old x new))
 
--- the most items that remain: one for each byte, since an instruction has at least one, and a
--- refusal
+-- the most items that remain: one for each byte, because an instruction has at least one, and one
+-- more for a refusal
 abbrev pub most_items : Walk → Count
 most_items walk = at_most (cond walk.done 0 (length walk.bytes + 1))

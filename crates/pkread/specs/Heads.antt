@@ -15,7 +15,7 @@ use Rattle.pkread.specs.declared.reader.Head.{Head}
 use Rattle.pkread.specs.declared.reader.Head.TheVariants as head
 use Rattle.pkread.specs.declared.refusal.Refusal.{Refusal}
 
--- the passed opcode with this payload is an instruction that a reader gives
+-- the passed opcode with this payload is an instruction that a reader returns
 pub record IsSkipped (limit : ℕ) (op : Op) (count : ℕ) (payload : List ℕ) : Type 0 where
   pub passed : IsTrue (is_passed op)
   pub count_is : length payload ≡ count
@@ -37,7 +37,7 @@ HoldsFew old bytes new =
     ⊎ ((op : Op) × (count : ℕ)
     × (is_passed op ≡ false) × HasCount op bytes count × (new ≤ max old (count + 9)))
 
--- the instruction at this offset was given and its payload skipped
+-- the instruction at this offset was returned and its payload skipped
 pub record Skips (old : ReaderState) (at : ℕ) (op : Op) (count : ℕ) (new : ReaderState)
     : Type 0 where
   pub place : at ≡ old.taken
@@ -47,7 +47,7 @@ pub record Skips (old : ReaderState) (at : ℕ) (op : Op) (count : ℕ) (new : R
   pub most : new.most ≤ max old.most 131_075
   pub phase : new.phase ≡ Open
 
--- the bytes taken from this offset on show the reason, as for `next`; if they begin an instruction
+-- the bytes taken from this offset on show the reason, as with `next`; if they begin an instruction
 -- with a passed opcode, the limit on skipped payloads applies
 pub record RefusesHead (old : ReaderState) (r : Refusal) (new : ReaderState) : Type 0 where
   pub place : r.at ≡ old.taken
@@ -59,7 +59,7 @@ pub record RefusesHead (old : ReaderState) (r : Refusal) (new : ReaderState) : T
   pub failures : CountsAt r.reason old.source.failures new.source.failures
   pub phase : new.phase ≡ Refused r
 
--- an open reader gives an instruction or skips its payload; it never reports the end
+-- an open reader returns an instruction, with its payload or without it; it never reports the end
 abbrev pub GivesHead : ReaderState → ReaderState → Head → Type 0
 GivesHead old new (head.Inst at inst) =
     Gives old at (instruction_of inst) new
@@ -68,7 +68,7 @@ GivesHead old new (head.Inst at inst) =
 GivesHead old new (head.Passed at op count) = Skips old at op count new
 GivesHead old new head.Ended = ⊥
 
--- what a call does in each phase, as for `next`
+-- what a call does in each phase, as with `next`
 abbrev pub StepsHeadFrom : Phase → ReaderState → Result Head Refusal → ReaderState → Type 0
 StepsHeadFrom Open old result new =
     MatchResult result (GivesHead old new) (λ r. RefusesHead old r new)
@@ -80,7 +80,7 @@ abbrev pub StepsHead : ReaderState → Result Head Refusal → ReaderState → T
 StepsHead old result new =
     (new.limits ≡ old.limits) × StepsHeadFrom old.phase old result new
 
--- known at once: the offset, and that the instruction is allowed
+-- known before the borrow ends: the offset, and that the instruction is allowed
 abbrev pub ShowsHead : ReaderState → Head → Type 0
 ShowsHead old (head.Inst at inst) =
     (at ≡ old.taken) × IsAllowed old.limits.counted (instruction_of inst)
@@ -94,6 +94,6 @@ ShowsHeadFrom Open old result = MatchResult result (ShowsHead old) (λ r. r.at �
 ShowsHeadFrom Ended old result = result ≡ Ok head.Ended
 ShowsHeadFrom (Refused r) old result = result ≡ Err r
 
--- what is known of an answer while it still borrows from the reader
+-- what is known about an answer while it still borrows from the reader
 abbrev pub ShowsAHead : ReaderState → Result Head Refusal → Type 0
 ShowsAHead old result = ShowsHeadFrom old.phase old result

@@ -26,8 +26,8 @@ abbrev pub source_name : {R B : Type 0} → Reader R B → GName
 source_name r = r.source.ghost_name
 
 -- the view of the source, the number of bytes taken, the limits, the most bytes ever held, and the
--- phase. A byte read ahead belongs to the instruction that it begins: until that is taken, the
--- source is seen as it was before the byte, and the byte isn't counted
+-- phase. A byte read ahead belongs to the instruction that it begins. Until that instruction is
+-- taken, the view of the source is the one before this byte, and the byte isn't counted
 pub record ReaderState : Type 0 where
   pub source : Sight
   pub taken : ℕ
@@ -55,13 +55,13 @@ begun source limits = record {
   phase = Open;
 }
 
--- STOP was given
+-- STOP was returned
 abbrev pub is_ended : Phase → Bool
 is_ended Open = false
 is_ended Ended = true
 is_ended (Refused r) = false
 
--- the last instruction given was STOP, and nothing was refused since
+-- the last returned instruction was STOP, and nothing was refused since
 abbrev pub has_ended : ReaderState → Bool
 has_ended s = is_ended s.phase
 
@@ -77,7 +77,7 @@ LeavesSource old new = old.core.phase ≢ Open → source_of new ≡ source_of o
 abbrev pub TakesNoneAhead : {R : Type 0} → Reader R CoreView → Type 0
 TakesNoneAhead r = r.core.ahead ≡ []
 
--- the bytes taken spell the instruction given, and it is given with the offset of the first of them
+-- the bytes taken spell the returned instruction, and its offset is that of the first of them
 pub record Gives (old : ReaderState) (at : ℕ) (i : Instruction) (new : ReaderState) : Type 0 where
   pub place : at ≡ old.taken
   pub allowed : IsAllowed old.limits.counted i
@@ -103,13 +103,13 @@ pub record RefusesAt (old : ReaderState) (r : Refusal) (new : ReaderState) : Typ
   pub failures : CountsAt r.reason old.source.failures new.source.failures
   pub phase : new.phase ≡ Refused r
 
--- an open reader gives an instruction; it never reports the end
+-- an open reader returns an instruction; it never reports the end
 abbrev pub GivesNext : ReaderState → ReaderState → Next → Type 0
 GivesNext old new (next.Inst at inst) = Gives old at (instruction_of inst) new
 GivesNext old new next.Ended = ⊥
 
--- what a call does in each phase: an open reader gives an instruction or refuses; after STOP or a
--- refusal every call has the same answer and changes nothing
+-- what a call does in each phase: an open reader returns an instruction or refuses; after STOP or a
+-- refusal every call returns the same and changes nothing
 abbrev pub StepsFrom : Phase → ReaderState → Result Next Refusal → ReaderState → Type 0
 StepsFrom Open old result new = MatchResult result (GivesNext old new) (λ r. RefusesAt old r new)
 StepsFrom Ended old result new = (result ≡ Ok next.Ended) × (new ≡ old)
@@ -119,7 +119,7 @@ StepsFrom (Refused r) old result new = (result ≡ Err r) × (new ≡ old)
 abbrev pub Steps : ReaderState → Result Next Refusal → ReaderState → Type 0
 Steps old result new = (new.limits ≡ old.limits) × StepsFrom old.phase old result new
 
--- known at once: the offset, and that the instruction is allowed
+-- known before the borrow ends: the offset, and that the instruction is allowed
 abbrev pub ShowsNext : ReaderState → Next → Type 0
 ShowsNext old (next.Inst at inst) =
     (at ≡ old.taken) × IsAllowed old.limits.counted (instruction_of inst)
@@ -131,6 +131,6 @@ ShowsFrom Open old result = MatchResult result (ShowsNext old) (λ r. r.at ≡ o
 ShowsFrom Ended old result = result ≡ Ok next.Ended
 ShowsFrom (Refused r) old result = result ≡ Err r
 
--- what is known of an answer while it still borrows from the reader
+-- what is known about an answer while it still borrows from the reader
 abbrev pub Shows : ReaderState → Result Next Refusal → Type 0
 Shows old result = ShowsFrom old.phase old result

@@ -35,7 +35,7 @@ pub record Takes (old new : Sight) (run : List ℕ) : Type 0 where
   pub bytes : Consumes old.left new.left run
   pub count : new.failures ≡ old.failures
 
--- two laws of Takes: an unchanged source has given nothing, and two runs taken in turn are one run
+-- two laws of Takes: an unchanged source has lost no byte, and two runs taken in turn are one run
 pub record TakingLaws : Type 0 where
   pub none : (source : Sight) → Takes source source []
   pub more : (old between new : Sight) (first second : List ℕ) →
@@ -82,7 +82,7 @@ abbrev pub FrontsBegin : ℕ → List ℕ → Type 0
 FrontsBegin limit bytes = (k : ℕ) → k < length bytes → Begun limit (take k bytes)
 
 -- the bytes taken before a refusal for this reason: no more than are needed to show it, and they
--- show no other reason. OutOfMemory is the exception, because it may replace any of them
+-- show no other reason. OutOfMemory is the exception, because it may replace any other reason
 pub record Refuses (limit : ℕ) (old new : Sight) (bytes : List ℕ) (before after : ℕ)
     (reason : Reason) : Type 0 where
   pub taken : after ≡ before + length bytes

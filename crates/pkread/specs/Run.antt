@@ -1,4 +1,4 @@
--- What a loop over a reader's calls knows: the instructions given so far.
+-- What a loop over a reader's calls knows: the instructions returned so far.
 use Rattle.std.specs.Prelude.{◌≡◌, ℕ, ◌+◌, List, [], ◌∷◌, ◌++◌, All, length, Result, Ok, Err}
 use Rattle.pkops.specs.Inst.{instruction_of}
 use Rattle.pkops.specs.Limits.{Bounds}
@@ -25,8 +25,8 @@ SoFar instructions Open = NoStop instructions
 SoFar instructions Ended = StopIsLast instructions
 SoFar instructions (Refused refusal) = ⊥
 
--- a reader in this state has given these instructions, each within the limit of its opcode, since
--- the source looked like `start` and `from` bytes were taken
+-- a reader in this state has returned these instructions, each within the limit of its opcode,
+-- since the source looked like `start` and `from` bytes were taken
 pub record Reads (start : Sight) (from : ℕ) (limit : Op → ℕ) (instructions : List Instruction)
     (state : ReaderState) : Type 0 where
   pub each : All (IsAllowedBy limit) instructions
@@ -34,13 +34,13 @@ pub record Reads (start : Sight) (from : ℕ) (limit : Op → ℕ) (instructions
   pub bytes : Takes start state.source (spellings instructions)
   pub count : state.taken ≡ from + length (spellings instructions)
 
--- a new reader has given nothing
+-- a new reader has returned nothing
 abbrev pub ReadingBegins : Type 0
 ReadingBegins =
     (start : Sight) (limit : Op → ℕ) (limits : Bounds) →
     Reads start 0 limit [] (begun start limits)
 
--- an open reader has given nothing since its own state
+-- an open reader has returned nothing since its current state
 abbrev pub ReadingGoesOn : Type 0
 ReadingGoesOn =
     (s : ReaderState) (limit : Op → ℕ) → s.phase ≡ Open → Reads s.source s.taken limit [] s
@@ -53,13 +53,13 @@ HoldsTo state limit = (op : Op) → state.limits.counted ≡ limit op
 abbrev pub PassesTo : ReaderState → (Op → ℕ) → Type 0
 PassesTo state limit = (op : Op) → payload_limit state.limits op ≡ limit op
 
--- one more instruction was given
+-- one more instruction was returned
 pub record ReadsMore (start : Sight) (from : ℕ) (limit : Op → ℕ) (before : List Instruction)
     (i : Instruction) (after : ReaderState) : Type 0 where
   pub no_stop : NoStop before
   pub reads : Reads start from limit (before ++ i ∷ []) after
 
--- an instruction that `next` gives follows those given before
+-- an instruction that `next` returns follows the earlier ones
 abbrev pub NextIsRead : Type 0
 NextIsRead =
     (start : Sight) (from : ℕ) (limit : Op → ℕ) (p : List Instruction) (old new : ReaderState)
@@ -68,7 +68,7 @@ NextIsRead =
     result ≡ Ok (next.Inst at inst) →
     ReadsMore start from limit p (instruction_of inst) new × Gives old at (instruction_of inst) new
 
--- as NextIsRead, for `next_head`
+-- like NextIsRead, for `next_head`
 abbrev pub HeadIsRead : Type 0
 HeadIsRead =
     (start : Sight) (from : ℕ) (limit : Op → ℕ) (p : List Instruction) (old new : ReaderState)
@@ -77,8 +77,8 @@ HeadIsRead =
     result ≡ Ok (head.Inst at inst) →
     ReadsMore start from limit p (instruction_of inst) new × Gives old at (instruction_of inst) new
 
--- when it skips a payload, the bytes taken spell an instruction with some payload of that length,
--- which follows those given before
+-- when `next_head` skips a payload, the bytes taken spell an instruction with some payload of that
+-- length, which follows the earlier ones
 abbrev pub PassedIsRead : Type 0
 PassedIsRead =
     (start : Sight) (from : ℕ) (limit : Op → ℕ) (p : List Instruction) (old new : ReaderState)
@@ -99,7 +99,7 @@ EndIsRead =
     Reads start from limit p old → Steps old result new → result ≡ Ok next.Ended →
     IsSequence limit p × (new ≡ old)
 
--- as EndIsRead, for `next_head`
+-- like EndIsRead, for `next_head`
 abbrev pub EndOfHeads : Type 0
 EndOfHeads =
     (start : Sight) (from : ℕ) (limit : Op → ℕ) (p : List Instruction) (old new : ReaderState)
@@ -107,7 +107,7 @@ EndOfHeads =
     Reads start from limit p old → StepsHead old result new → result ≡ Ok head.Ended →
     IsSequence limit p × (new ≡ old)
 
--- a refusal is the first, and STOP was not given before it
+-- a refusal is the first one, and STOP was not returned before it
 abbrev pub RefusalIsRead : Type 0
 RefusalIsRead =
     (start : Sight) (from : ℕ) (limit : Op → ℕ) (p : List Instruction) (old new : ReaderState)
@@ -115,7 +115,7 @@ RefusalIsRead =
     Reads start from limit p old → Steps old result new → result ≡ Err refusal →
     NoStop p × RefusesAt old refusal new
 
--- as RefusalIsRead, for `next_head`
+-- like RefusalIsRead, for `next_head`
 abbrev pub RefusalOfHeads : Type 0
 RefusalOfHeads =
     (start : Sight) (from : ℕ) (limit : Op → ℕ) (p : List Instruction) (old new : ReaderState)

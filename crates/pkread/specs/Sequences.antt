@@ -20,15 +20,15 @@ OneFront =
     (i j : Instruction) (rest more : List ℕ) → IsGood i → IsGood j →
     spelling i ++ rest ≡ spelling j ++ more → (i ≡ j) × (rest ≡ more)
 
--- the sequence begins with these instructions and has one more, which is spelled next
+-- the sequence begins with these instructions and continues with another one, which is spelled next
 pub record GoesOnBehind (sequence front : List Instruction) (rest more : List ℕ) : Type 0 where
   pub next : Instruction
   pub after : List Instruction
   pub split : sequence ≡ front ++ next ∷ after
   pub bytes : more ≡ spelling next ++ (spellings after ++ rest)
 
--- if bytes begin with a complete sequence, any instructions without STOP that they begin with are
--- its first ones
+-- if bytes begin with a complete sequence, then any instructions without STOP with which the bytes
+-- begin are the first ones of the sequence
 abbrev pub SequenceGoesOn : Type 0
 SequenceGoesOn =
     (limit other : Op → ℕ) (sequence front : List Instruction) (rest more : List ℕ) →

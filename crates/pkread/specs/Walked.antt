@@ -1,4 +1,4 @@
--- What a loop over `genops` knows: the instructions given so far.
+-- What a loop over `genops` knows: the instructions returned so far.
 use Rattle.std.specs.Prelude.{◌≡◌, ℕ, List, [], ◌∷◌, ◌++◌, All, length, Option, Some, None, Result}
 use Rattle.std.specs.Prelude.{Ok, Err, MatchBool}
 use Rattle.pkops.specs.Inst.{instruction_of}
@@ -9,7 +9,7 @@ use Rattle.pkread.specs.Genops.{GivesItem, RefusesItem, Walk, Walks, walk_of}
 use Rattle.pkread.specs.Sequence.{IsSequence, NoStop, StopIsLast, spellings}
 use Rattle.pkread.specs.declared.refusal.Refusal.{Refusal}
 
--- an iterator in this state has given these instructions from the start of the bytes, and no
+-- an iterator in this state has returned these instructions from the start of the bytes, and no
 -- refusal
 pub record HasWalked (bytes : List ℕ) (limit : ℕ) (instructions : List Instruction) (walk : Walk)
     : Type 0 where
@@ -19,11 +19,11 @@ pub record HasWalked (bytes : List ℕ) (limit : ℕ) (instructions : List Instr
   pub parts : bytes ≡ spellings instructions ++ walk.bytes
   pub offset : walk.at ≡ length (spellings instructions)
 
--- a new iterator has given nothing
+-- a new iterator has returned nothing
 abbrev pub WalkBegins : Type 0
 WalkBegins = (bytes : List ℕ) (limit : ℕ) → HasWalked bytes limit [] (walk_of bytes limit)
 
--- an instruction follows those given before
+-- a returned instruction follows the earlier ones
 abbrev pub ItemIsWalked : Type 0
 ItemIsWalked =
     (bytes : List ℕ) (limit : ℕ) (p : List Instruction) (old new : Walk)
@@ -32,7 +32,7 @@ ItemIsWalked =
     NoStop p × HasWalked bytes limit (p ++ instruction_of inst ∷ []) new
     × GivesItem old at (instruction_of inst) new
 
--- when nothing more is given, the instructions are a complete sequence
+-- when the iterator returns None, the instructions are a complete sequence
 abbrev pub EndIsWalked : Type 0
 EndIsWalked =
     (bytes : List ℕ) (limit : ℕ) (p : List Instruction) (old new : Walk)
@@ -40,7 +40,7 @@ EndIsWalked =
     HasWalked bytes limit p old → Walks old item new → item ≡ None →
     IsSequence (λ _. limit) p × (new ≡ old)
 
--- when a refusal is given, STOP was not
+-- when a refusal is returned, STOP was not
 abbrev pub RefusalIsWalked : Type 0
 RefusalIsWalked =
     (bytes : List ℕ) (limit : ℕ) (p : List Instruction) (old new : Walk)

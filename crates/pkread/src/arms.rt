@@ -80,7 +80,7 @@ impl Gathering {
         }
     }
 
-    /// Takes the count behind the code, and returns it if it is within the limit.
+    /// Takes the count after the code. Returns it if it is valid and within the limit.
     #[inline(always)]
     pub(crate) fn take_count<R: Source>(
         &mut self,
@@ -108,7 +108,7 @@ impl Gathering {
         Ok(n as usize)
     }
 
-    /// Takes a counted argument.
+    /// Takes a count and its payload.
     #[inline(always)]
     pub(crate) fn counted<R: Source>(
         &mut self,

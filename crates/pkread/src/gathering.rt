@@ -1,4 +1,4 @@
-//! The instruction begun, and the bytes that it takes from a source.
+//! The current instruction and the bytes taken for it.
 
 ghost use Rattle.std.specs.Prelude.{◌≡◌, ◌+◌, ◌∷◌, ◌<◌, ◌≤◌, [], ℕ, List, length, take};
 ghost use Rattle.std.specs.Prelude.{IfErr, IfNone, IfOk, IfSome, false, true};
@@ -21,8 +21,8 @@ use std::marker::Model;
 /// The most bytes that one read asks for.
 const BLOCK: usize = 4096;
 
-/// The bytes of the instruction begun, how many were taken from the source since the first, and
-/// the limits on what an instruction holds.
+/// The bytes of the current instruction, the number of bytes taken from the source so far, and the
+/// limits on what an instruction holds.
 #[derive(Debug, Drop)]
 pub(crate) struct Gathering {
     buffer: Buffer,
@@ -39,7 +39,7 @@ impl Model for Gathering {
 }
 
 impl Gathering {
-    /// Before the first byte.
+    /// The state before the first byte.
     pub(crate) fn new(alloc: Global, limits: &Limits) -> Gathering
         ensures { result ≡ record { buffer = none_held; taken = 0; limits = limits.now } }
     {
@@ -88,7 +88,7 @@ impl Gathering {
         self.buffer.bytes()
     }
 
-    /// The first of the bytes held, if there is one.
+    /// The first byte held, if any.
     #[inline]
     pub(crate) fn first(&self) -> Option<u8>
         ensures none { IfNone result (self.now.buffer.bytes ≡ []) }
@@ -98,7 +98,7 @@ impl Gathering {
         self.buffer.first()
     }
 
-    /// Forgets the bytes held, and keeps their memory.
+    /// Drops all bytes and keeps their memory.
     #[inline]
     pub(crate) fn clear(&mut self)
         ensures { self.new ≡ record self.old {
@@ -108,7 +108,7 @@ impl Gathering {
         self.buffer.clear();
     }
 
-    /// Forgets all but the first of the bytes held.
+    /// Keeps the first `count` bytes and drops the rest.
     #[inline]
     pub(crate) fn cut(&mut self, count: usize)
         requires { count ≤ length self.old.buffer.bytes }
@@ -122,7 +122,7 @@ impl Gathering {
         self.buffer.cut(count);
     }
 
-    /// Counts the byte held, which was taken ahead, as taken.
+    /// Counts the byte that was read ahead as taken.
     #[inline]
     pub(crate) fn count_first(&mut self)
         requires { self.old.taken < all_bytes }
@@ -131,7 +131,7 @@ impl Gathering {
         self.taken += 1;
     }
 
-    /// Takes one byte.
+    /// Takes one byte. Refuses with `TooLarge` once 2^64 - 1 bytes were taken.
     #[inline]
     pub(crate) fn take_byte<R: Source>(&mut self, source: &mut R) -> Result<u8, Reason>
         ensures keeps { KeepsRest self.old self.new }
@@ -148,7 +148,8 @@ impl Gathering {
         Ok(byte)
     }
 
-    /// Takes one byte ahead of the next instruction: it is held, and doesn't count as taken yet.
+    /// Reads one byte ahead of the next instruction. The buffer holds it, but it does not count as
+    /// taken yet.
     #[inline]
     pub(crate) fn take_ahead<R: Source>(&mut self, source: &mut R) -> Result<u8, Reason>
         ensures keeps { KeepsRest self.old self.new }
@@ -163,7 +164,7 @@ impl Gathering {
         self.buffer.read_byte(source)
     }
 
-    /// One read of so many bytes, of a block at most. Gives how many came.
+    /// Makes one read of at most `left` bytes, and at most a block. Returns how many arrived.
     #[inline]
     pub(crate) fn take_block<R: Source>(
         &mut self,
@@ -186,7 +187,7 @@ impl Gathering {
         Ok(n)
     }
 
-    /// Takes a field of N bytes, which most often come in one read.
+    /// Takes a field of N bytes, usually in one read.
     #[inline(always)]
     pub(crate) fn take_field<R: Source, const N: usize>(
         &mut self,
@@ -210,7 +211,7 @@ impl Gathering {
         self.take_rest(source, N - n)
     }
 
-    /// Takes a payload of so many bytes, which most often come in one read.
+    /// Takes a payload of `count` bytes. A payload of at most a block usually arrives in one read.
     #[inline(always)]
     pub(crate) fn take_payload<R: Source>(
         &mut self,
@@ -284,7 +285,8 @@ impl Gathering {
         true
     }
 
-    /// Takes so many bytes, where it seldom comes to it.
+    /// Takes `count` bytes. Short reads and payloads above a block are rare, so the loop is out of
+    /// line.
     #[inline(always)]
     fn take_rest<R: Source>(&mut self, source: &mut R, count: usize) -> Result<(), Reason>
         ensures keeps { KeepsRest self.old self.new }

@@ -8,7 +8,7 @@ use crate::refusal::Reason;
 use crate::source::Source;
 
 impl Gathering {
-    /// Takes a line of at most so many bytes, and its end.
+    /// Takes a line of at most `most` bytes and its newline. Refuses a longer line with `TooLarge`.
     pub(crate) fn take_line<R: Source>(&mut self, source: &mut R, most: usize) -> Result<(), Reason>
         ensures keeps { KeepsRest self.old self.new }
         ensures takes { TakesLine most result

@@ -19,7 +19,7 @@ pub enum Next<'a> {
     /// An instruction and the offset of its first byte, counted from the first byte taken. Its
     /// argument borrows from the reader's buffer.
     Inst { at: u64, inst: Inst<'a> },
-    /// STOP was already given.
+    /// STOP was already returned.
     Ended,
 }
 
@@ -31,7 +31,7 @@ pub enum Head<'a> {
     /// An instruction with a passed opcode, and the offset of its first byte. Its payload of
     /// `count` bytes was taken and discarded.
     Passed { at: u64, op: Op, count: u64 },
-    /// STOP was already given.
+    /// STOP was already returned.
     Ended,
 }
 
@@ -83,7 +83,7 @@ impl<'r, R: Source> Reader<'r, R> {
     ghost use Rattle.pkread.specs.Reading.{KeepsSource, LeavesSource, Shows, Steps, TakesNoneAhead};
     ghost use Rattle.pkread.specs.Reading.{begun, has_ended, state};
 
-    /// A reader at the front of the source.
+    /// A reader at the start of the source.
     pub fn new(alloc: Global, source: &'r mut R, limits: &Limits) -> Reader<'r, R>
         ensures source { source_name result ≡ source.entry.ghost_name }
         ensures state { state R.left R.failures result
@@ -95,7 +95,7 @@ impl<'r, R: Source> Reader<'r, R> {
         }
     }
 
-    /// Whether the last instruction given was STOP, with no refusal since.
+    /// Whether the last returned instruction was STOP, with no refusal since.
     pub fn ended(&self) -> bool
         ensures { result ≡ has_ended (state R.left R.failures self.now) }
     {
@@ -118,8 +118,9 @@ impl<'r, R: Source> Reader<'r, R> {
         self.core.most()
     }
 
-    /// Takes the next instruction from the source, and lends it until the next call. After STOP it
-    /// returns `Ended`, and after a refusal the same refusal, without reading.
+    /// Takes the next instruction from the source. It borrows from the reader until the next call.
+    /// After STOP this returns `Ended`, and after a refusal the same refusal. Neither reads the
+    /// source.
     ///
     /// # Errors
     ///
@@ -148,7 +149,7 @@ impl<'r, R: Source> Reader<'r, R> {
     /// Takes the next instruction as `next` does, but does not hold the payload of a passed opcode:
     /// it takes the payload in blocks and reports only its length. The limit on such a payload is
     /// `passed` instead of `counted`. Otherwise refusals, their offsets and the bytes taken are
-    /// those of `next`, except when an allocation is refused. Calls of the two may be mixed.
+    /// those of `next`, unless an allocation is refused. Calls of the two may be mixed.
     ///
     /// One call raises `most_held` to at most 131,075, or to the count plus 9 of an instruction
     /// whose payload is held.
@@ -175,9 +176,9 @@ impl<'r, R: Source> Reader<'r, R> {
         }
     }
 
-    /// Reads one byte after STOP, to find out whether another pickle follows. If so, that byte is
-    /// the first of its first instruction and counts with it: `next` and `next_head` read on to the
-    /// next STOP, and offsets continue. At the end of the source, the reader stays as it is.
+    /// Reads one byte after STOP, to find out whether another pickle follows. If so, that byte
+    /// belongs to the first instruction of that pickle. `next` and `next_head` read on to the next
+    /// STOP, and offsets continue. At the end of the source, the reader stays as it is.
     ///
     /// # Errors
     ///

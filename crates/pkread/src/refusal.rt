@@ -18,7 +18,7 @@ pub enum Reason {
     Source,
     /// The source ended inside an instruction or before STOP.
     Truncated,
-    /// The code byte of no opcode.
+    /// A byte that is no opcode.
     UnknownOpcode(u8),
     /// A count is negative, or an argument breaks the rule for its contents.
     BadArgument,
@@ -56,7 +56,7 @@ pub enum Reason {
     OutOfMemory,
 }
 
-/// A reason is printed by its name, with its number in parentheses where it has one.
+/// A reason is printed by its name, with its number in parentheses if it has one.
 impl fmt::Display for Reason {
     ghost use Rattle.std.specs.Prelude.{Some};
     ghost use Rattle.pkread.specs.Printed.{reason_text};

@@ -30,7 +30,7 @@ use std::marker::Model;
 pub(crate) enum Phase {
     /// Reads the next instruction.
     Open,
-    /// Reports the end: STOP was given.
+    /// Reports the end, because STOP was returned.
     Ended,
     /// Returns the same refusal, on this call and every later one.
     Refused(Refusal),
@@ -125,7 +125,7 @@ impl Core {
         }
     }
 
-    /// Sets the phase after what was gathered.
+    /// Sets the phase after an instruction, held or skipped.
     #[inline(always)]
     fn give_head(&mut self, head: Gathered)
         requires open { self.old.phase ≡ phase.Open }
@@ -206,7 +206,7 @@ impl Core {
         }
     }
 
-    /// Reads the first byte of another instruction, and returns whether there was one.
+    /// Reads the first byte of another instruction. Returns whether there is one.
     pub(crate) fn again<R: Source>(&mut self, source: &mut R) -> Result<bool, Refusal>
         requires { self.old.phase ≡ phase.Ended }
         ensures none { self.old.ahead ≡ [] }
@@ -238,8 +238,8 @@ impl Core {
     }
 }
 
-/// Keeps a byte that was read ahead of this instruction, and clears the buffer otherwise. Nothing
-/// is read ahead of the instruction after it.
+/// Starts an instruction. Keeps the byte that was read ahead for it, and otherwise clears the
+/// buffer.
 #[inline(always)]
 fn keep(gathering: &mut Gathering, begun: &mut bool)
     requires { length (ahead_of begun.old gathering.old.buffer.bytes) ≤ gathering.old.buffer.peak }
@@ -258,7 +258,7 @@ fn keep(gathering: &mut Gathering, begun: &mut bool)
     }
 }
 
-/// The phase behind STOP: open if another byte follows.
+/// The phase after STOP: open if another byte follows.
 fn phase_of(more: bool) -> Phase
     ensures open { more ≡ true → shown_phase result ≡ phase.Open }
     ensures ended { more ≡ false → shown_phase result ≡ phase.Ended }
@@ -266,7 +266,7 @@ fn phase_of(more: bool) -> Phase
     if more { Phase::Open } else { Phase::Ended }
 }
 
-/// Reads one byte ahead, and returns whether it came.
+/// Reads one byte ahead. Returns whether one arrived.
 fn ask<R: Source>(source: &mut R, gathering: &mut Gathering) -> Result<bool, Reason>
     requires { gathering.old.buffer.bytes ≡ [] }
     ensures keeps { KeepsRest gathering.old gathering.new }
@@ -289,7 +289,7 @@ fn ask<R: Source>(source: &mut R, gathering: &mut Gathering) -> Result<bool, Rea
     }
 }
 
-/// Turns `Truncated` into "no byte came", and passes on any other reason.
+/// Turns `Truncated` into `false`, because no byte arrived. Passes on any other reason.
 fn none_or(reason: Reason) -> Result<bool, Reason>
     ensures end { IfOk result (λ more. (more ≡ false) × (reason ≡ Reason.Truncated)) }
     ensures err { IfErr result (λ r. (r ≡ reason) × (reason ≢ Reason.Truncated)) }

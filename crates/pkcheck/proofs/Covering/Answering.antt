@@ -1,4 +1,5 @@
--- States in which what is unknown is one text: each knowledge covers one, and in these a step that the checker lets pass goes on.
+-- States in which every unknown object is the same text. Each knowledge covers such a state, and a
+-- step that the checker accepts goes on there.
 use Rattle.pkops.specs.Operands.{memo_number, pair_named}
 use Rattle.std.proofs.Common.{◌≡◌, ℕ, Bool, true, false, cond, List, [], ◌∷◌, ◌++◌, length, map, Option, Some, None, Result, Ok, Err, ◌⊎◌, inl, inr, refl, sym, ap, subst, ◌∙◌, arith, le-ltb}
 use Rattle.pkcheck.specs.declared.effect.Takes.{Takes}
@@ -28,7 +29,7 @@ use Rattle.pkcheck.proofs.Covering.Alike.{SameResult, AlikeTaken, operands_alike
 use Rattle.pkcheck.proofs.Covering.Following.{Grows, kept_at, new_at, TrueBy-Says, push_alike}
 use Rattle.pkcheck.proofs.Covering.Refusing.{operate_asks}
 
--- each object of which nothing is known is an answer, this text
+-- the object with this number was answered and is this text
 abbrev pub Answered : List ℕ → List Object → ℕ → Type 0
 Answered v = IsAnswer (Text v)
 
@@ -41,7 +42,7 @@ abbrev pub guess : List ℕ → Known → List ℕ
 guess v (Some (Text m)) = m
 guess v k = v
 
--- the two operands of an import whose names stand on the stack
+-- what is known about the two operands of an import that takes its names from the stack
 abbrev pub known_pair : Effect → Knowledge → Option (Known × Known)
 known_pair (Operates takes names gives) k = elim (operands takes k.entries) as (λ _. Option (Known × Known)) [ Ok t ↦ of_two t.operands None (λ a b. Some (a, b)) | Err b ↦ None ]
 known_pair e k = None
@@ -57,7 +58,7 @@ IsNamed NoImport = Unit {0}
 IsNamed (Pair m n) = Unit {0}
 IsNamed NotTexts = ⊥
 
--- what is asked for where the checker can't tell
+-- the pair that a step imports if the checker does not know it
 abbrev pub AsksGuess : List ℕ → Effect → Knowledge → State → Stepped → Type 0
 AsksGuess v e k s st = (a : Known) × (b : Known) × (known_pair e k ≡ Some (a, b)) × ((a ≡ None) ⊎ (b ≡ None)) × AsksFor (guess v a) (guess v b) s st
 
@@ -71,7 +72,7 @@ module _ (v : List ℕ) where
   pub grows : Grows (Answered v)
   grows objects r n h = kept_at objects r _ n h
 
-  -- the outcome that answers a new object, this text
+  -- the outcome that answers a new object, which is this text
   abbrev pub new_text : State → Outcome
   new_text s = Go (length s.objects) (Text v)
 
@@ -87,7 +88,7 @@ module _ (v : List ℕ) where
   texts_of : (objects : List Object) (j k : Known) (m n : ℕ) → text_fault j ≡ None → text_fault k ≡ None → TrueBy (Answered v) objects j m → TrueBy (Answered v) objects k n → texts_named (class_at objects m) (class_at objects n) ≡ Pair (guess v j) (guess v k)
   texts_of objects j k m n e f h g = ap (λ c. texts_named c (class_at objects n)) (class_of objects j m e h) ∙ ap (texts_named (Some (Text (guess v j)))) (class_of objects k n f g)
 
-  -- of two names
+  -- for two names
   abbrev TwoExactly : Known → Known → Named → Result (Option Asked) Refusal → Type 0
   TwoExactly j k nm (Ok a) = IsNamed nm × (a ≡ Some AskedUnknown → (nm ≡ Pair (guess v j) (guess v k)) × ((j ≡ None) ⊎ (k ≡ None)))
   TwoExactly j k nm (Err UnknownImport) = (nm ≡ Pair (guess v j) (guess v k)) × ((j ≡ None) ⊎ (k ≡ None))
@@ -118,7 +119,7 @@ module _ (v : List ℕ) where
   two_exactly p objects (Some (Text a)) (Some (Plain s)) m n h g = tt
   two_exactly p objects (Some (Text a)) (Some Foreign) m n h g = tt
 
-  -- the names of an import, by what is known of the operands
+  -- the names of an import, given what is known about the operands
   abbrev NamesExactly : List Known → Named → Result (Option Asked) Refusal → Type 0
   NamesExactly ks nm (Ok a) = IsNamed nm × (a ≡ Some AskedUnknown → (j : Known) × (k : Known) × (ks ≡ j ∷ k ∷ []) × (nm ≡ Pair (guess v j) (guess v k)) × ((j ≡ None) ⊎ (k ≡ None)))
   NamesExactly ks nm (Err UnknownImport) = (j : Known) × (k : Known) × (ks ≡ j ∷ k ∷ []) × (nm ≡ Pair (guess v j) (guess v k)) × ((j ≡ None) ⊎ (k ≡ None))
@@ -158,7 +159,7 @@ module _ (v : List ℕ) where
   names_exactly p OfOperands i objects (j ∷ k ∷ []) (m ∷ n ∷ o ∷ ns) h = absurd h.1.1
   names_exactly p OfOperands i objects (j ∷ k ∷ l ∷ ks) (m ∷ n ∷ []) h = absurd h.1.1
 
-  -- an operation goes on where its names are texts
+  -- an operation goes on if its names are texts
   asked_goes : (e : Effect) (b : Bool) (gives : Gives) (i : Instruction) (u : Taken ℕ) (n : ℕ) (c : ObjectClass) (s : State) → IsGoing e (come_of b gives i u (Go n c) s)
   asked_goes e true gives i u n c s = tt
   asked_goes e false gives i u n c s = tt

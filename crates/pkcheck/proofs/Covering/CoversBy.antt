@@ -1,5 +1,5 @@
--- Which states a knowledge covers, by what holds of the objects of which it knows nothing. Of a step both are wanted: that
--- such a one is some object, and that it is one text.
+-- Which states a knowledge covers, given a property of the objects about which nothing is known.
+-- Proofs need two such properties: that it is some object, and that it is one particular text.
 use Rattle.std.proofs.Common.{◌≡◌, ℕ, Bool, true, false, ltb, List, [], ◌∷◌, ◌++◌, length, Some, None, Result, Ok, Err, arith, length-append}
 use Rattle.std.specs.Prelude.{slice_get, ⊤}
 use Rattle.std.proofs.lemmas.Bool.{ltb-true}
@@ -8,13 +8,13 @@ use Rattle.pkcheck.specs.Runs.{ObjectClass, Object, State, Outcome, Raise, Go, S
 use Rattle.pkcheck.specs.Knowledge.{Known, Knowledge, Progress, Refusal}
 use Rattle.pkcheck.specs.Covers.{Alike, IsObject, Adds, AddsRaising}
 
--- what is known of the object of a number is true: it is of this class, and the machine made it. U says what is
--- true of one of which nothing is known
+-- what is known about the object with this number is true: it has this class, and the machine made
+-- it. If nothing is known, U holds of it
 abbrev pub TrueBy : (List Object → ℕ → Type 0) → List Object → Known → ℕ → Type 0
 TrueBy U objects None n = U objects n
 TrueBy U objects (Some c) n = slice_get objects n ≡ Some (record { class_of = c; made = true })
 
--- a knowledge covers a state, where U holds of each object of which nothing is known
+-- the knowledge covers the state, and U holds of each object about which nothing is known
 abbrev pub CoversBy : (List Object → ℕ → Type 0) → Knowledge → State → Type 0
 CoversBy U k s = Alike (TrueBy U s.objects) k s.shape
 
@@ -22,12 +22,12 @@ CoversBy U k s = Alike (TrueBy U s.objects) k s.shape
 abbrev pub IsAnswer : ObjectClass → List Object → ℕ → Type 0
 IsAnswer c objects n = slice_get objects n ≡ Some (record { class_of = c; made = false })
 
--- one fact or the other
+-- one of two propositions
 abbrev pub Choose : Bool → Type 0 → Type 0 → Type 0
 Choose true P Q = P
 Choose false P Q = Q
 
--- U holds of the object that is answered
+-- U holds of the answered object
 abbrev pub AnswerHolds : (List Object → ℕ → Type 0) → List Object → ℕ → ObjectClass → Type 0
 AnswerHolds U objects n c = Choose (ltb n (length objects)) (U objects n) (U (objects ++ record { class_of = c; made = false } ∷ []) (length objects))
 
@@ -36,14 +36,14 @@ abbrev pub OutcomeHolds : (List Object → ℕ → Type 0) → List Object → O
 OutcomeHolds U objects Raise = ⊤
 OutcomeHolds U objects (Go n c) = AnswerHolds U objects n c
 
--- what a step from a covered state means where the checker goes on
+-- what a step from a covered state means if the checker accepts it
 abbrev pub FollowsBy : (List Object → ℕ → Type 0) → Progress → State → Stepped → Type 0
 FollowsBy U q s (WentOn t) = CoversBy U q.after t × Adds q.import s.events t.events
 FollowsBy U q s (Stopped r t) = (s.shape.entries ≡ Item r ∷ []) × (q.after.entries ≡ []) × CoversBy U q.after t × (q.import ≡ None) × (t.events ≡ s.events)
 FollowsBy U q s (Raised t) = AddsRaising q.import s.events t.events
 FollowsBy U q s (Stuck b) = ⊥
 
--- that, where the checker goes on
+-- FollowsBy, if the checker accepts the step
 abbrev pub FollowsIfOk : (List Object → ℕ → Type 0) → Result Progress Refusal → State → Stepped → Type 0
 FollowsIfOk U (Ok q) s st = FollowsBy U q s st
 FollowsIfOk U (Err r) s st = ⊤

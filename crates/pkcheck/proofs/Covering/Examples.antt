@@ -1,4 +1,4 @@
--- Worked examples of the checker over whole lists of instructions, computed.
+-- Worked examples of the checker on whole lists of instructions, by computation.
 use Rattle.pkcheck.specs.declared.old_strings.OldStrings.{OldStrings}
 use Rattle.pkcheck.specs.declared.old_strings.OldStrings.TheVariants.{Unknown, Ascii, Bytes}
 use Rattle.std.proofs.Common.{◌≡◌, ℕ, ◌&&◌, List, [], ◌∷◌, Option, Some, None, refl}
@@ -22,11 +22,11 @@ text t = instruction op.ShortBinUnicode (Counted t)
 abbrev pub global : List ℕ → List ℕ → Instruction
 global m n = instruction op.Global (Pair m n)
 
--- a memo opcode of one byte
+-- a memo opcode with an argument of one byte
 abbrev pub at : Op → ℕ → Instruction
 at op n = instruction op (Number 1 n)
 
--- the list of one pair
+-- a list with one pair
 abbrev one : List ℕ → List ℕ → Policy
 one m n = Some (λ x y. pointwise nat_eq x m && pointwise nat_eq y n)
 
@@ -123,11 +123,11 @@ old_byte_ascii = refl
 old_byte_bytes : said (asks_as Bytes old_byte) ≡ Some (None ∷ None ∷ [])
 old_byte_bytes = refl
 
--- the stack's limit is tried after it
+-- the limit on the stack is tried later
 old_byte_past_the_limit : verdict Ascii None (record standard { stack = 0 }) old_byte nothing_known ≡ No 0 NotAscii
 old_byte_past_the_limit = refl
 
--- an old string to which an item is appended
+-- an item is appended to an old string
 abbrev old_receiver : List Instruction
 old_receiver = old [] ∷ bare op.None ∷ bare op.Append ∷ bare op.Stop ∷ []
 

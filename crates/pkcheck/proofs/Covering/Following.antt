@@ -1,4 +1,4 @@
--- A step that the checker lets pass, in every state that it covers.
+-- A step that the checker accepts, in every state that it covers.
 use Rattle.pkcheck.specs.declared.old_strings.OldStrings.{OldStrings}
 use Rattle.pkops.specs.Operands.{memo_number, pair_named}
 use Rattle.std.proofs.Common.{◌≡◌, ℕ, ◌<◌, Bool, true, false, cond, ltb, List, [], ◌∷◌, ◌++◌, length, map, Option, Some, None, Result, Ok, Err, ◌⊎◌, inl, inr, refl, sym, ap, subst, ◌∙◌, arith, length-append, append_assoc, append-nil}
@@ -43,7 +43,7 @@ new_at objects r =
     let lt' : length objects < length (objects ++ r ∷ []) = omega (arith, length-append objects (r ∷ [])) in
     slice_get-get_or (objects ++ r ∷ []) (length objects) r lt' ∙ ap Some (get_or-append_seam objects r [] r)
 
--- what the names of an import are, against what is known of them
+-- the names of an import agree with what is known about them
 abbrev pub NamesAlike : Policy → Result (Option Asked) Refusal → Named → Type 0
 NamesAlike p (Ok None) n = n ≡ NoImport
 NamesAlike p (Ok (Some (AskedPair a b))) n = n ≡ Pair a b
@@ -68,7 +68,7 @@ unknown_alike None (Some (Text a)) None = inr refl
 unknown_alike None (Some (Text a)) (Some (Plain s)) = inr refl
 unknown_alike None (Some (Text a)) (Some Foreign) = inr refl
 
--- an object's class is what is known of it
+-- the class of an object agrees with what is known about it
 abbrev pub Says : Known → Option ObjectClass → Type 0
 Says None c = Unit {0}
 Says (Some k) c = c ≡ Some k
@@ -85,7 +85,7 @@ texts_alike p None (Some Foreign) x y h g = tt
 texts_alike p (Some (Text a)) (Some (Plain s)) x y h g = tt
 texts_alike p (Some (Text a)) (Some Foreign) x y h g = tt
 
--- what an outcome has to meet where it is answered
+-- the property that an answered object must have
 abbrev AnswerIfAny : Gives → (List Object → ℕ → Type 0) → List Object → ℕ → ObjectClass → Type 0
 AnswerIfAny Answers U objects n c = AnswerHolds U objects n c
 AnswerIfAny gives U objects n c = Unit {0}
@@ -130,7 +130,7 @@ module _ (U : List Object → ℕ → Type 0) where
     TrueOf-grow objects r None n h = grows objects r n h
     TrueOf-grow objects r (Some c) n h = kept_at objects r _ n h
 
-    -- one more object on the stack, of which this is known
+    -- pushes one more object, about which this is known
     pub push_alike : (objects : List Object) (r : Object) (k : Known) (es : List (Entry Known))
         (fs : List (Entry ℕ)) (ms : List (ℕ × Known)) (ns : List (ℕ × ℕ))
         → TrueBy U (objects ++ r ∷ []) k (length objects)
@@ -171,7 +171,7 @@ module _ (U : List Object → ℕ → Type 0) where
     after_of gives i t k = record { entries = put (known_given gives i) t.operands ++ t.below; memo = k.memo }
 
     module _ (gives : Gives) (i : Instruction) (t : Taken Known) (u : Taken ℕ) (k : Knowledge) (s : State) (h : AlikeTaken (TrueBy U s.objects) t u) (m : Pointwise (AlikeCell (TrueBy U s.objects)) k.memo s.shape.memo) where
-      -- the import of q, by the events so far, of which `fresh` are this step's
+      -- the events extend those of s by `fresh`, and the step makes the import `a`
       record Fresh (a : Option Asked) (ev fresh : List Event) : Type 0 where
         ev_is : ev ≡ s.events ++ fresh
         asked_is : (d : Option ℕ) → IsAsked a (imports_of (fresh ++ Did i u.operands d ∷ []))
@@ -264,6 +264,7 @@ module _ (U : List Object → ℕ → Type 0) where
     within_follows l n (Err r) s st h = tt
     within_follows l n (Ok q) s st h = elim (is_past l n q.after) as (λ b. FollowsIfOk U (cond b (Err TooLarge) (Ok q)) s st) [ true ↦ tt | false ↦ h ]
 
-    -- where the checker goes on, the step finds what it needs, and what is known after covers the state after
+    -- if the checker accepts a step, the step finds what it needs, and the knowledge afterwards
+    -- covers the state afterwards
     pub step_follows : (setting : OldStrings) (p : Policy) (l : Bounds) (i : Instruction) (k : Knowledge) (s : State) (o : Outcome) → CoversBy U k s → OutcomeHolds U s.objects o → FollowsIfOk U (advance setting p l i k) s (step_as setting i s o)
     step_follows setting p l i k s o h w = within_follows l (number_stored (effect_as setting i) i) (learn p (effect_as setting i) i k) s (step_as setting i s o) (learn_follows p (effect_as setting i) i k s o h w)

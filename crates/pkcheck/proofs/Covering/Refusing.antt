@@ -1,4 +1,4 @@
--- Where the checker refuses, the fault is there in every state that it covers.
+-- If the checker refuses an instruction, every state that it covers has the fault.
 use Rattle.pkcheck.specs.declared.old_strings.OldStrings.{OldStrings}
 use Rattle.pkops.specs.Operands.{memo_number, pair_named}
 use Rattle.std.proofs.Common.{◌≡◌, ℕ, ◌<◌, Bool, true, false, not, cond, List, [], ◌∷◌, ◌++◌, length, map, Option, Some, None, Result, Ok, Err, inl, inr, refl, sym, ap, subst, ◌∙◌, append_assoc}
@@ -26,27 +26,27 @@ use Rattle.pkcheck.proofs.Covering.Alike.{SameResult, length-Pointwise, AlikeTak
 use Rattle.pkcheck.proofs.Covering.Following.{TrueBy-Says, Grows, learn_follows}
 use Rattle.pkcheck.proofs.Stepping.Past.{PastBy, past_by}
 
--- there is a list
+-- the policy is a list
 abbrev pub HasList : Policy → Type 0
 HasList None = ⊥
 HasList (Some list) = Unit {0}
 
--- the step leaves more than a limit or stores under this number, which is above one, or it ends in a raise
+-- the step exceeds a limit or stores under a number above the limit, or it raises
 abbrev pub IsTooLarge : Bounds → ℕ → Stepped → Type 0
 IsTooLarge l n (WentOn t) = IsPast l n t
 IsTooLarge l n (Stopped r t) = IsPast l n t
 IsTooLarge l n (Raised t) = Unit {0}
 IsTooLarge l n (Stuck b) = ⊥
 
--- the step raises, and imports nothing
+-- the step raises and imports nothing
 abbrev pub RaisesAlone : State → Stepped → Type 0
 RaisesAlone s (Raised t) = Adds None s.events t.events
 RaisesAlone s (WentOn t) = ⊥
 RaisesAlone s (Stopped r t) = ⊥
 RaisesAlone s (Stuck b) = ⊥
 
--- what a refusal means in one state and one step of it. An import that is not known has no fault of its own there: two
--- states show it
+-- what a refusal means in one state and for one step from it. An unknown import has no fault in a
+-- single state, because it takes two states to show it
 abbrev pub Fault : Policy → Bounds → ℕ → Effect → State → Stepped → Refusal → Type 0
 Fault p l n e s st (Lacks b) = st ≡ Stuck b
 Fault p l n e s st WrongClass = HasWrongReceiver e s
@@ -57,7 +57,7 @@ Fault p l n e s st LeftOver = LeavesMore st
 Fault p l n e s st NotAscii = RaisesAlone s st
 Fault p l n e s st TooLarge = IsTooLarge l n st
 
--- that, where the checker refuses
+-- Fault, if the checker refuses the step
 abbrev pub FaultIfErr : {A : Type 0} → Policy → Bounds → ℕ → Effect → State → Stepped → Result A Refusal → Type 0
 FaultIfErr p l n e s st (Ok a) = Unit {0}
 FaultIfErr p l n e s st (Err r) = Fault p l n e s st r
@@ -234,7 +234,7 @@ module _ (U : List Object → ℕ → Type 0) (p : Policy) where
     within_refused e (Ok q) s st h g =
         elim (is_past l number q.after) as (λ b. is_past l number q.after ≡ b → FaultIfErr {A = Progress} p l number e s st (cond b (Err TooLarge) (Ok q))) [ true ↦ λ i. more q s st h (past_by l number q.after i) | false ↦ λ _. tt ] refl
 
-  -- where the checker refuses, each state that it covers has the fault, whatever the outcome
+  -- if the checker refuses a step, each state that it covers has the fault, whatever the outcome
   pub step_refused : Grows U → (l : Bounds) (setting : OldStrings) (i : Instruction) (k : Knowledge)
       (s : State) (o : Outcome) → CoversBy U k s → OutcomeHolds U s.objects o
       → FaultIfErr p l (number_stored (effect_as setting i) i) (effect_as setting i) s

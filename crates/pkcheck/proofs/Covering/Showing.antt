@@ -1,4 +1,4 @@
--- What one step shows of the faults of its instruction.
+-- What one step shows about the faults of its instruction.
 use Rattle.std.proofs.Common.{◌≡◌, ◌≢◌, ℕ, ◌<◌, ◌≤◌, Bool, true, false, cond, List, [], ◌∷◌, ◌++◌, length, Option, Some, None, Result, Ok, Err, ◌⊎◌, inl, inr, refl, sym, ap, subst, ◌∙◌, arith}
 use Rattle.std.proofs.lemmas.List.{append_cancel_left}
 use Rattle.std.proofs.lemmas.Option.{slice_get_within}
@@ -28,14 +28,14 @@ use Rattle.pkcheck.specs.Stepping.{IsPermitted}
 use Rattle.pkcheck.proofs.Covering.Soundness.{imports_of-append, emptied}
 use Rattle.pkcheck.proofs.Stepping.Past.{within_past}
 
--- longer than all that is listed
+-- the text is longer than all listed names
 abbrev pub IsLonger : Policy → List ℕ → Type 0
 IsLonger None v = Unit {0}
 IsLonger (Some list) v = (m n : List ℕ) → list m n ≡ true → (length m < length v) × (length n < length v)
 
 -- ---- imports of one step
 
--- the imports that a step adds
+-- the imports that a step makes
 added : (a : Option Asked) (x y : List Event) → Adds a x y → (qs : List (List ℕ × List ℕ)) × (imports_of y ≡ imports_of x ++ qs) × IsAsked a qs
 added a x y h = (imports_of h.added, ap imports_of h.grown ∙ imports_of-append x h.added, h.asked)
 
@@ -44,7 +44,7 @@ one_pair m n x y e =
     let pick = λ (l : List (List ℕ × List ℕ)). elim l as (λ _. List ℕ × List ℕ) [ [] ↦ (m, n) | q ∷ qs ↦ q ] in
     (ap (λ l. (pick l).0) e, ap (λ l. (pick l).1) e)
 
--- the imports that two descriptions add are the same
+-- two descriptions of a step give the same imports
 pub same_added : (a b : Option Asked) (x y : List Event) → Adds a x y → Adds b x y → (ps : List (List ℕ × List ℕ)) × IsAsked a ps × IsAsked b ps
 same_added a b x y h g =
     let q = added a x y h in
@@ -54,14 +54,14 @@ same_added a b x y h g =
 pub pairs_same : (m n x y : List ℕ) (before after : List Event) → Adds (Some (AskedPair m n)) before after → Adds (Some (AskedPair x y)) before after → (m ≡ x) × (n ≡ y)
 pairs_same m n x y before after h g = let q = same_added _ _ before after h g in one_pair m n x y (sym q.1 ∙ q.2)
 
--- a step asks for one pair
+-- a step imports at most one pair
 pub asks_once : (m n x y : List ℕ) (s : State) (st : Stepped) → AsksFor m n s st → AsksFor x y s st → (m ≡ x) × (n ≡ y)
 asks_once m n x y s (WentOn t) h g = pairs_same m n x y s.events t.events h g
 asks_once m n x y s (Raised t) h g = pairs_same m n x y s.events t.events h g
 asks_once m n x y s (Stopped r t) h g = absurd h
 asks_once m n x y s (Stuck b) h g = absurd h
 
--- a pair that is asked for, where the checker lists this
+-- the pair of a listed import
 abbrev pub IsPairOf : Option Asked → List ℕ → List ℕ → Type 0
 IsPairOf None m n = ⊥
 IsPairOf (Some (AskedPair x y)) m n = (x ≡ m) × (y ≡ n)
@@ -82,7 +82,7 @@ asked_listed q s (Raised t) m n (inr h) g = absurd (pair_of_adds None m n s.even
 asked_listed q s (Stopped r t) m n h g = absurd g
 asked_listed q s (Stuck b) m n h g = absurd g
 
--- under a list, what passes is listed
+-- a pair off the list is not the pair of a permitted import
 pub off_is_out : (list : List ℕ → List ℕ → Bool) (a : Option Asked) (m n : List ℕ) → IsPermitted (Some list) a → IsPairOf a m n → list m n ≡ false → ⊥
 off_is_out list None m n h g e = g
 off_is_out list (Some (AskedPair x y)) m n h g e =
@@ -95,7 +95,7 @@ same_of None list m n x y l h g = absurd h
 same_of (Some (AskedPair c d)) list m n x y l h g = (sym h.0 ∙ g.0, sym h.1 ∙ g.1)
 same_of (Some AskedUnknown) list m n x y l h g = absurd l
 
--- ---- faults that a knowledge shows, in a state in which what is unknown are answers
+-- ---- faults that a knowledge shows, in a state in which unknown objects are answers
 
 apart : {A : Type 0} → false ≡ true → A
 apart e = cc
@@ -228,14 +228,14 @@ asks_goes m n s st c h e = absurd (subst (AsksFor m n s) e h)
 pub leaves_goes : {A : Type 0} (st : Stepped) (c : Breach) → LeavesMore st → st ≡ Stuck c → A
 leaves_goes st c h e = absurd (subst LeavesMore e h)
 
--- STOP asks for nothing
+-- STOP imports nothing
 pub leaves_asks : {A : Type 0} (m n : List ℕ) (s : State) (st : Stepped) → LeavesMore st → AsksFor m n s st → A
 leaves_asks m n s (Stopped r t) h g = absurd g
 leaves_asks m n s (WentOn t) h g = absurd h
 leaves_asks m n s (Raised t) h g = absurd h
 leaves_asks m n s (Stuck b) h g = absurd h
 
--- a raise alone asks for nothing, is not stuck and leaves nothing
+-- a step that only raises imports nothing, is not stuck and leaves nothing
 pub raise_asks : {A : Type 0} (m n : List ℕ) (s : State) (st : Stepped) → RaisesAlone s st → AsksFor m n s st → A
 raise_asks m n s (Raised t) h g =
     let same = append_cancel_left s.events h.added g.added (sym h.grown ∙ g.grown) in
@@ -296,7 +296,7 @@ last_turn TooLarge = omega arith
 pub same_refusal : (q r : Refusal) → ◌≡◌ {A = Result Progress Refusal} (Err q) (Err r) → q ≡ r
 same_refusal q r e = cc
 
--- ---- texts that differ
+-- ---- different texts
 
 pub differ : (u v : List ℕ) (a b : Known) → u ≢ v → (a ≡ None) ⊎ (b ≡ None) → guess u a ≡ guess v a → guess u b ≡ guess v b → ⊥
 differ u v a b ne (inl e) f g = ne (subst (λ x. guess u x ≡ guess v x) e f)
@@ -342,7 +342,7 @@ past_refused l n q s (Stopped r t) h g = covered_past l n q t h.2 g
 past_refused l n q s (Raised t) h g = absurd g
 past_refused l n q s (Stuck b) h g = absurd g
 
--- a step that goes on, past a limit or not
+-- a step that goes on and is TooLarge exceeds a limit
 pub goes_past : (l : Bounds) (n : ℕ) (e : Effect) (st : Stepped) → IsGoing e st → IsTooLarge l n st → GoesOnPast l n st
 goes_past l n e (WentOn t) h g = g
 goes_past l n e (Stopped r t) h g = g
@@ -359,6 +359,6 @@ pub tells_anything : (v : List ℕ) (objects : List Object) (k : Known) (n : ℕ
 tells_anything v objects None n h = slice_get_within objects n _ h
 tells_anything v objects (Some c) n h = h
 
--- what is known covers each state that it covers with answers
+-- a knowledge that covers a state with answers covers it
 pub loosely : (v : List ℕ) (k : Knowledge) (s : State) → CoversBy (Answered v) k s → CoversBy IsObject k s
 loosely v k s h = Alike-map (TrueBy (Answered v) s.objects) (TrueBy IsObject s.objects) (tells_anything v s.objects) k s.shape h

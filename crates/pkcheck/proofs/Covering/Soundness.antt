@@ -1,4 +1,4 @@
--- What the checker accepts is sound over all runs.
+-- If the checker accepts instructions, all their runs are sound.
 use Rattle.pkcheck.specs.declared.old_strings.OldStrings.{OldStrings}
 use Rattle.pkops.specs.Operands.{memo_number, pair_named}
 use Rattle.std.proofs.Common.{◌≡◌, ℕ, Bool, true, false, cond, List, [], ◌∷◌, ◌++◌, Option, Some, None, Result, Ok, Err, inl, inr, refl, sym, ap, subst}
@@ -17,7 +17,7 @@ use Rattle.pkcheck.specs.WholeRuns.{Ended, first_outcome, go_on, run_as, AllList
 use Rattle.pkcheck.proofs.Covering.Verdicts.{Verdict, Yes, No, with_import, verdict_on, verdict, IsYes}
 use Rattle.pkcheck.proofs.Covering.Following.{step_follows}
 
--- under a list, an import that passes is listed
+-- under a list, an import that passes is on the list
 abbrev ListedIfOk : (List ℕ → List ℕ → Bool) → Result (Option Asked) Refusal → Type 0
 ListedIfOk list (Ok a) = IsPermitted (Some list) a
 ListedIfOk list (Err r) = Unit {0}
@@ -143,7 +143,7 @@ module _ (list : List ℕ → List ℕ → Bool) where
     fine_after is s st os (Ok q) h g y old on = step_fine q s st (run_as setting is os) h g old (λ t c listed. on q.after t (yes_before q.import _ y) c listed)
     fine_after is s st os (Err r) h g y old on = absurd y
 
-    -- a yes is sound from a state that is covered, where all imports so far are listed
+    -- a yes is sound from a covered state in which all imports so far are on the list
     pub sound_along : (is : List Instruction) (k : Knowledge) (s : State) (os : List Outcome) → IsYes (verdict setting (Some list) l is k) → CoversBy IsObject k s → AllListed list (imports_of s.events) → EndsWell list (run_as setting is os s)
     sound_along [] k s os h c old = old
     sound_along (i ∷ is) k s os h c old =

@@ -1,5 +1,5 @@
--- Where a knowledge stands for the states in which runs get to an instruction, the checker refuses the instruction
--- exactly by the first fault there.
+-- If a knowledge stands for the states in which runs reach an instruction, the checker refuses
+-- exactly if the instruction has a fault there, and names the first one.
 use Rattle.pkcheck.specs.declared.old_strings.OldStrings.{OldStrings}
 use Rattle.std.proofs.Common.{◌≡◌, ℕ, ◌<◌, ◌≤◌, Bool, List, [], ◌∷◌, length, Some, None, Result, Ok, Err, inl, inr, refl, sym, ap, subst, ◌∙◌, arith}
 use Rattle.std.specs.Str.{IsUtf8}
@@ -32,15 +32,15 @@ use Rattle.pkcheck.proofs.Covering.Showing.{within_unknown, past_refused, goes_p
 use Rattle.pkcheck.proofs.Covering.Showing.{loosely, raise_asks, raise_goes, raise_leaves}
 use Rattle.pkcheck.proofs.Covering.Showing.{raise_is, going_on}
 
--- the knowledge covers each state in which runs get here; and for each text a run is there, in a state in which what is
--- unknown are answers of this text
+-- the knowledge covers each state in which a run gets here; and for each text, some run gets here
+-- in a covered state in which every unknown object is an answer with this text
 pub record Stands (k : Knowledge) (Here : Arrivals) : Type 0 where
   pub each : (s : State) → Here.any s → CoversBy IsObject k s
   pub real : (s : State) → Here.some s → Here.any s
   pub answers : (v : Word) (n : ℕ) → Here.outcome (Go n (Text v.text))
   pub some : (v : Word) → (s : State) × Here.some s × CoversBy (Answered v.text) k s
 
--- it stands for all that it covers
+-- a knowledge stands for all states that it covers
 pub stands_for_covered : (setting : OldStrings) (k : Knowledge) → Stands k (CoveredBy setting k)
 stands_for_covered setting k = record {
   each = λ s h. h;
@@ -49,7 +49,7 @@ stands_for_covered setting k = record {
   some = λ v. (covered v.text k, (loosely v.text k (covered v.text k) (covers_covered v.text k), covered_real v.text k v.utf8), covers_covered v.text k);
 }
 
--- any of the runs may be the one that is claimed
+-- any of the runs may be the witness
 stands_for_all : (k : Knowledge) (Here : Arrivals) → Stands k Here → Stands k (everyone Here)
 stands_for_all k Here h = record {
   each = h.each;
@@ -80,7 +80,7 @@ module _ (p : Policy) (l : Bounds) (i : Instruction) (k : Knowledge) (Here : Arr
   fault_at : (r : Refusal) → advance Here.setting p l i k ≡ Err r → (s : State) (o : Outcome) → Here.any s → Fault p l (number_stored (effect_as Here.setting i) i) (effect_as Here.setting i) s (step_as Here.setting i s o) r
   fault_at r e s o g = subst (λ x. FaultIfErr p l (number_stored (effect_as Here.setting i) i) (effect_as Here.setting i) s (step_as Here.setting i s o) x) e (step_refused IsObject p objects_grow l Here.setting i k s o (h.each s g) (any_answer s.objects o))
 
-  -- the state in which what is unknown are answers of this text, and the step that answers this text
+  -- the state in which unknown objects are this text, and the step that answers this text
   abbrev at : (v : Word) → State
   at v = (h.some v).0
 
@@ -96,7 +96,7 @@ module _ (p : Policy) (l : Bounds) (i : Instruction) (k : Knowledge) (Here : Arr
   exactly : (v : Word) → Exactly v.text (effect_as Here.setting i) k (at v) (step_as Here.setting i (at v) (answer v)) (learn p (effect_as Here.setting i) i k)
   exactly v = learn_exactly v.text p (effect_as Here.setting i) i k (at v) (length (at v).objects) (Text v.text) (h.some v).2
 
-  -- ---- the fault is there
+  -- ---- a refused instruction has the fault
 
   guessed : (v : Word) (x : Result Progress Refusal)
       → Exactly v.text (effect_as Here.setting i) k (at v) (step_as Here.setting i (at v)
@@ -127,7 +127,7 @@ module _ (p : Policy) (l : Bounds) (i : Instruction) (k : Knowledge) (Here : Arr
   goes_on v (Err LeftOver) g e = cc
   goes_on v (Err NotAscii) g e = cc
 
-  -- two answers that differ make two imports that differ
+  -- two different answers make two different imports
   two_guesses : (u v : Word) → ((u.text ≡ v.text) → ⊥)
       → (a : AsksGuess u.text (effect_as Here.setting i) k (at u)
       (step_as Here.setting i (at u) (answer u))) → (b : AsksGuess v.text (effect_as Here.setting i)
@@ -145,14 +145,14 @@ module _ (p : Policy) (l : Bounds) (i : Instruction) (k : Knowledge) (Here : Arr
       let b = guessed (longer v) (learn p (effect_as Here.setting i) i k) (exactly (longer v)) e in
       (guess v.text a.0, guess v.text a.1, two_guesses v (longer v) (longer_differs v.text) a b, off p v.text a.0 a.1 (fault_at UnknownImport e (at v) Raise (there v)) long a.3)
 
-  -- every run asks for the pair that is named
+  -- every run imports the named pair
   pub off_list : (m n : List ℕ) → advance Here.setting p l i k ≡ Err (OffList m n) → AsksOffList p Here i m n
   off_list m n e = (record { each = λ s g o. (fault_at (OffList m n) e s o g).1; some = some_run }, (fault_at (OffList m n) e some_run.0 Raise (h.real some_run.0 some_run.1)).0)
 
   stuck : (b : Breach) → advance Here.setting p l i k ≡ Err (Lacks b) → InEachRun Here (IsStuck Here.setting i b)
   stuck b e = record { each = λ s g o. fault_at (Lacks b) e s o g; some = some_run }
 
-  -- where the checker refuses, the named fault holds
+  -- if the checker refuses an instruction, it has the named fault
   pub has_fault : (v : Word) → IsLonger p v.text → (r : Refusal) → advance Here.setting p l i k ≡ Err r → (r ≡ Lacks Extension → ⊥) → HasFaultHere p l Here i (reason_of r)
   has_fault v long (Lacks NoMark) e x = stuck NoMark e
   has_fault v long (Lacks NoItem) e x = stuck NoItem e
@@ -176,17 +176,16 @@ module _ (p : Policy) (l : Bounds) (i : Instruction) (k : Knowledge) (Here : Arr
         (fault_at TooLarge e (at empty) (answer empty) (there empty)),
   )
 
-  -- ---- a fault is refused, by it or by one that is tried earlier
+  -- ---- a fault is refused, for its own reason or for an earlier one
 
-  -- the checker refuses, by a reason of at most this rank
+  -- the checker refuses, for a reason of at most this rank
   abbrev pub RefusedBy : ℕ → Type 0
   RefusedBy n = (q : Refusal) × (advance Here.setting p l i k ≡ Err q) × (turn q ≤ n)
 
-  -- the same, for this refusal
   abbrev By : Refusal → Type 0
   By r = RefusedBy (turn r)
 
-  -- what the checker makes of it, whatever the limits
+  -- a refusal before the limits are checked
   refuses : (q : Refusal) → learn p (effect_as Here.setting i) i k ≡ Err q → advance Here.setting p l i k ≡ Err q
   refuses q e = ap (λ x. and_then x (within l (number_stored (effect_as Here.setting i) i))) e
 
@@ -206,7 +205,6 @@ module _ (p : Policy) (l : Bounds) (i : Instruction) (k : Knowledge) (Here : Arr
   exactly_err : (q : Refusal) → learn p (effect_as Here.setting i) i k ≡ Err q → (v : Word) → Exactly v.text (effect_as Here.setting i) k (at v) (step_as Here.setting i (at v) (answer v)) (Err q)
   exactly_err q e v = subst (λ x. Exactly v.text (effect_as Here.setting i) k (at v) (step_as Here.setting i (at v) (answer v)) x) e (exactly v)
 
-  -- stuck
   stuck_lacks : (b : Breach) → step_as Here.setting i (at empty) (answer empty) ≡ Stuck b → (q : Refusal) → learn p (effect_as Here.setting i) i k ≡ Err q → q ≡ Lacks b
   stuck_lacks b st (Lacks c) e = ap Lacks (same_breach c b (sym (fault_of (Lacks c) e (at empty) (answer empty) (there empty)) ∙ st))
   stuck_lacks b st WrongClass e = wrong_goes (effect_as Here.setting i) i (at empty) (answer empty) b (fault_of WrongClass e (at empty) (answer empty) (there empty)) st
@@ -322,7 +320,7 @@ module _ (p : Policy) (l : Bounds) (i : Instruction) (k : Knowledge) (Here : Arr
       absurd (differ same.0 same.1))
       (λ q e. unknown_refused_by (Some list) l i k Here h m n two q e) (learn (Some list) (effect_as Here.setting i) i k) refl
 
-  -- a fault is refused, by it or by one that is tried earlier
+  -- a fault is refused, for its own reason or for an earlier one
   pub refused_by : (r : Reason) → HasFaultHere p l Here i r → RefusedBy p l i k Here h (rank r)
   refused_by reason.MissingMark f = lacks_refused p l i k Here h NoMark f
   refused_by reason.MissingItem f = lacks_refused p l i k Here h NoItem f
@@ -352,11 +350,11 @@ module _ (p : Policy) (l : Bounds) (i : Instruction) (k : Knowledge) (Here : Arr
   refused_by_any : (r : Reason) → HasFaultHere p l (everyone Here) i r → RefusedBy p l i k (everyone Here) (stands_for_all k Here h) (rank r)
   refused_by_any r f = refused_by p l i k (everyone Here) (stands_for_all k Here h) r f
 
-  -- where the checker goes on, there is no fault
+  -- if the checker accepts, there is no fault
   pub no_fault : (q : Progress) → advance Here.setting p l i k ≡ Ok q → HasNoFault p l Here i
   no_fault q e r f = let g = refused_by_any r f in not_both q g.0 (sym e ∙ g.1)
 
-  -- the pair that is named is the one that every run asks for
+  -- the named pair is the one that every run imports
   pub pair_of : (r : Refusal) → advance Here.setting p l i k ≡ Err r → IsPairOf p Here i (reason_of r) (off_pair r)
   pair_of (OffList m n) e = off_list p l i k Here h m n e
   pair_of (Lacks NoMark) e = refl
@@ -371,14 +369,14 @@ module _ (p : Policy) (l : Bounds) (i : Instruction) (k : Knowledge) (Here : Arr
   pair_of NotAscii e = refl
   pair_of TooLarge e = refl
 
-  -- no fault is tried before the one that is named
+  -- no fault comes before the named one
   pub first : (r : Refusal) → advance Here.setting p l i k ≡ Err r → (earlier : Reason) → rank earlier < turn r → HasFaultHere p l (everyone Here) i earlier → ⊥
   first r e earlier lt f =
       let g = refused_by_any earlier f in
       let same : turn g.0 ≡ turn r = ap turn (same_refusal g.0 r (sym g.1 ∙ e)) in
       (let le = g.2 in omega (arith, same, le, lt))
 
-  -- where the checker refuses, the named fault is the first
+  -- if the checker refuses, the named fault is the first
   pub first_fault : (v : Word) → IsLonger p v.text → (r : Refusal) → advance Here.setting p l i k ≡ Err r → (r ≡ Lacks Extension → ⊥) → IsFirstFault p l Here i (reason_of r) (off_pair r)
   first_fault v long r e x = record { fault = has_fault p l i k Here h v long r e x; first = first r e; asks = pair_of r e }
 
@@ -394,7 +392,7 @@ module _ (p : Policy) (l : Bounds) (i : Instruction) (k : Knowledge) (Here : Arr
       (sym (within_ok l (number_stored (effect_as Here.setting i) i) r q w)) ∙ u)
   asks_guess v q e u (Err r) is w = cc
 
-  -- an import is listed as unknown only where two runs ask for different pairs
+  -- an import is listed as unknown only if two runs import different pairs
   pub unknown_exactly : (q : Progress) → advance Here.setting p l i k ≡ Ok q → q.import ≡ Some AskedUnknown → AsksForTwo Here i
   unknown_exactly q e u =
       let a = asks_guess empty q e u (learn p (effect_as Here.setting i) i k) refl e in

@@ -1,4 +1,4 @@
--- The index of a list's pairs.
+-- The index of the pairs of a list.
 use Rattle.std.proofs.Common.{◌≡◌, ℕ, zero, suc, ◌+◌, ◌<◌, ◌≤◌, ◌||◌, Bool, true, false, cond, List, [], ◌∷◌, subst, length, drop, get_or, Option, Some, None, is_some, String, Less, Equal, Greater, nat_cmp, is_eq, refl, ap, sym, ◌∙◌, arith}
 use Rattle.std.specs.BTreeSet.{BTreeSet, contains_text}
 use Rattle.std.specs.declared.alloc.Global.{Global}
@@ -29,13 +29,13 @@ drop_all (suc i) [] h = refl
 drop_all zero (x ∷ xs) h = absurd (omega (arith, h))
 drop_all (suc i) (x ∷ xs) h = drop_all i xs (omega (arith, h))
 
--- one name more
+-- one more name
 pub one_more_name : (b has rest : Bool) → (cond b true has || rest) ≡ (has || (b || rest))
 one_more_name true true rest = refl
 one_more_name true false rest = refl
 one_more_name false has rest = refl
 
--- the module's names, where it is in the index, and else what the rest says
+-- the names of the module if the index has it, and otherwise what the rest of the table says
 abbrev pub has_or : Option TextSet → Text → Bool → Bool
 has_or (Some names) n rest = contains_text names n
 has_or None n rest = rest
@@ -76,7 +76,7 @@ module _ (f : Text → Option TextSet) (k : Text) (v : Data) (rest : Members) (m
   past_by false e h = rw (member_other k m v rest e) refl
   past_by true e h = subst (λ z. has_or (f z) n (has_name n (get_member z rest)) ≡ has_or (f z) n (has_name n (get_member z (member k v rest)))) (sym (same_text k m e)) (there (f k) h)
 
-  -- a module that is in the index
+  -- the index already has the module
   pub module_past : true ≡ is_some (f k) → has_or (f m) n (has_name n (get_member m rest)) ≡ has_or (f m) n (has_name n (get_member m (member k v rest)))
   module_past h = past_by (bytes_eq k m) refl h
 
@@ -87,11 +87,11 @@ module _ (f : Text → Option TextSet) (k : Text) (v : Data) (rest : Members) (m
         let z : f m ≡ None = ap f (same_text k m e) ∙ none in
         rw (h, z, member_same k m v rest e) (has n)
 
-    -- one module more
+    -- one more module is added to the index
     pub module_added : g m ≡ cond (bytes_eq k m) (Some set) (f m) → has_or (g m) n (has_name n (get_member m rest)) ≡ has_or (f m) n (has_name n (get_member m (member k v rest)))
     module_added h = added_by (bytes_eq k m) refl h
 
--- one value more of an array
+-- one more value of an array
 pub item_step : (n : Text) (values : List Value) (i : ℕ) (d x : Value) (s t : TextSet) (all : Bool) → i < length values → get_or values i d ≡ x
     → contains_text t n ≡ cond (is_this_text n (view x)) true (contains_text s n)
     → (contains_text s n || items_have n (items_view (drop i values))) ≡ all
@@ -103,7 +103,7 @@ item_step n values i d x s t all lt is h now =
 pub item_end : (n : Text) (values : List Value) (i : ℕ) (s : TextSet) (all : Bool) → length values ≤ i → (contains_text s n || items_have n (items_view (drop i values))) ≡ all → contains_text s n ≡ all
 item_end n values i s all le now = sym (or_false (contains_text s n)) ∙ (rw (drop_all i values le) at now)
 
--- a text of blanks is no list
+-- a blank text is a document without members
 blank_parses : (text : Text) → IsBlank text → parse_document text ≡ Some no_members
 unfolding parse_document lines
 blank_parses text h = rw h refl

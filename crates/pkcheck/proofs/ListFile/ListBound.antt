@@ -1,4 +1,4 @@
--- No listed module and no listed name is longer than some number.
+-- An upper bound on the length of all modules and names of a list.
 use Rattle.std.proofs.Common.{◌≡◌, ℕ, ◌+◌, ◌≤◌, ◌||◌, ◌&&◌, List, [], ◌∷◌, refl, ap, sym, ◌∙◌, Bool, true, false, length, arith, Option, Some, None, codes, Ordering, Less, Equal, Greater, nat_cmp, is_eq}
 use Rattle.std.specs.Str.{bytes_eq}
 use Rattle.std.proofs.lemmas.Slice.Eq.{bytes_eq-Decides}
@@ -18,16 +18,16 @@ same_length s k e = grind (arith, bytes_eq-Decides)
 bytes_eq_sym : (x y : Text) → bytes_eq x y ≡ true → bytes_eq y x ≡ true
 bytes_eq_sym x y e = grind (arith, bytes_eq-Decides)
 
--- what bounds both sides bounds either
+-- a bound on both sides of an `or`
 either_bound : (a b : Bool) (x s n : ℕ) → (a ≡ true → x ≤ s) → (b ≡ true → x ≤ n) → (a || b) ≡ true → x ≤ s + n
 either_bound true b x s n left right h = let r = left refl in omega arith
 either_bound false b x s n left right h = let r = right h in omega arith
 
--- a number that no name is longer than, of those that a word says are there
+-- an upper bound on the length of the names that have this property
 abbrev BoundOf : (Text → Bool) → Type 0
 BoundOf has = (bound : ℕ) × ((name : Text) → has name ≡ true → length name ≤ bound)
 
--- the same of modules and names
+-- like BoundOf, for modules and names
 abbrev PairBoundOf : (Text → Text → Bool) → Type 0
 PairBoundOf has = (bound : ℕ) × ((key name : Text) → has key name ≡ true → (length key ≤ bound) × (length name ≤ bound))
 
@@ -52,7 +52,7 @@ names_bound (boolean _) = (0, λ name h. cc)
 names_bound (datetime _) = (0, λ name h. cc)
 names_bound (table _) = (0, λ name h. cc)
 
--- one member more: the module asked for comes before it, is it, or comes after it
+-- one more member: the requested module comes before it, is it, or comes after it
 member_bound : (order : Ordering) (key first name : Text) (value : Data) (rest : Members) (n s : ℕ) → order ≡ slice_cmp nat_cmp key first
     → (has_name name (Some value) ≡ true → length name ≤ n)
     → (has_name name (get_member key rest) ≡ true → (length key ≤ s) × (length name ≤ s))
@@ -84,19 +84,19 @@ imports_bound (Some (float _)) = (0, λ key name h. cc)
 imports_bound (Some (boolean _)) = (0, λ key name h. cc)
 imports_bound (Some (datetime _)) = (0, λ key name h. cc)
 
--- no listed module and no listed name is longer than the bound
+-- an upper bound on the length of the modules and names of a list
 pub lists_bound : (list : Allow)
     → (bound : ℕ) × ((key name : Text) → lists list key name ≡ true → (length key ≤ bound) × (length name ≤ bound))
 lists_bound list = imports_bound (get_member (codes "imports") (document_of list))
 
--- one pair more: the module and the name asked for are its own, or those of a later pair
+-- one more pair: the requested module and name are its own, or those of a later pair
 pair_bound : (a b c : Bool) (k n u v s : ℕ) → (a ≡ true → k ≤ u) → (b ≡ true → n ≤ v) → (c ≡ true → (k ≤ s) × (n ≤ s)) → ((a && b) || c) ≡ true
     → (k ≤ u + v + s) × (n ≤ u + v + s)
 pair_bound true true c k n u v s home name below h = let r = home refl in let t = name refl in (omega arith, omega arith)
 pair_bound true false c k n u v s home name below h = let r = below h in (omega arith, omega arith)
 pair_bound false b c k n u v s home name below h = let r = below h in (omega arith, omega arith)
 
--- no module and no name of the pairs is longer than the bound
+-- an upper bound on the length of the modules and names of an array
 pub pairs_bound : (pairs : List Pair) → PairBoundOf (have pairs)
 pairs_bound [] = (0, λ key name h. cc)
 pairs_bound (p ∷ rest) =

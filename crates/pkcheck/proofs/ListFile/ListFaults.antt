@@ -1,4 +1,4 @@
--- No rule of the list file speaks of memory.
+-- No rule of the list file has the fault OutOfMemory.
 use Rattle.std.proofs.Common.{◌≢◌, ◌==◌, ℕ, not, length, Bool, true, false, cond, Option, Some, None, codes}
 use Rattle.std.specs.Str.{bytes_eq}
 use Rattle.toml.specs.Data.{Data, string, integer, float, boolean, datetime, array, table, Members, no_members, member, get_member}

@@ -28,7 +28,7 @@ no_imports : list_of (codes "version = 1") ≡ Err (Shape part.Imports)
 unfolding toml_on_literals
 no_imports = refl
 
--- the modules are judged in byte order, and not as they stand
+-- modules are judged in byte order, not in the order of the file
 later_module : list_of (codes "version = 1\nimports = { b = [1], a = 2 }") ≡ Err (Shape part.Module)
 unfolding toml_on_literals
 later_module = refl
@@ -41,7 +41,7 @@ empty_name : list_of (codes "version = 1\nimports = { a = [\"\"] }") ≡ Err (Sh
 unfolding toml_on_literals
 empty_name = refl
 
--- the text is a list, and it has the pair
+-- the text is a list that contains the pair
 abbrev has_pair : Result Members AllowError → Text → Text → Bool
 has_pair (Ok list) key name = lists_in (get_member (codes "imports") list) key name
 has_pair (Err error) key name = false
@@ -62,7 +62,7 @@ other_module : has_pair (list_of two_modules) (codes "a.b") (codes "b") ≡ fals
 unfolding toml_on_literals
 other_module = refl
 
--- the modules are judged before the limits, and these before their keys
+-- the modules are judged before the limits, and the table of limits before its keys
 no_imports_of_two : list_of (codes "version = 2\nlimits = 1") ≡ Err (Shape part.Imports)
 unfolding toml_on_literals
 no_imports_of_two = refl
@@ -79,7 +79,7 @@ other_limit : list_of (codes "version = 2\nimports = {}\nlimits = { heap = 1 }")
 unfolding toml_on_literals
 other_limit = refl
 
--- `large` is judged before the other keys, and says `true` or nothing
+-- `large` is judged before the other keys, and must be `true`
 large_first : list_of (codes "version = 2\nimports = {}\nlimits = { heap = 1, large = false }") ≡ Err (Shape part.Limit)
 unfolding toml_on_literals
 large_first = refl
@@ -88,7 +88,7 @@ above_large : list_of (codes "version = 2\nimports = {}\nlimits = { large = true
 unfolding toml_on_literals
 above_large = refl
 
--- the limits of a list
+-- the limits that a list sets
 abbrev limits_read : Result Members AllowError → Bounds
 limits_read (Ok list) = limits_in (get_member (codes "limits") list)
 limits_read (Err error) = standard
@@ -101,7 +101,7 @@ large_limits : limits_read (list_of (codes "version = 2\nimports = {}\nlimits = 
 unfolding toml_on_literals
 large_limits = refl
 
--- another limit stands beside `large`
+-- `large` and another limit together
 large_stack : limits_read (list_of (codes "version = 2\nimports = {}\nlimits = { stack = 1000001, large = true }")) ≡ record large { stack = 1_000_001 }
 unfolding toml_on_literals
 large_stack = refl

@@ -1,4 +1,4 @@
--- What follows of a step of the machine, where it goes on as the definitions have it and where it is refused.
+-- The contract of a step follows from its parts, for an accepted and for a refused instruction.
 use Rattle.pkcheck.specs.declared.old_strings.OldStrings.{OldStrings}
 use Rattle.std.proofs.Common.{◌≡◌, ◌⊎◌, inl, inr, true, ◌++◌, ◌∷◌, [], List, Option, Some, None, Ok, Err, sym, subst, ap, ◌∙◌, length, arith, length-append}
 use Rattle.std.proofs.lemmas.List.{append_cancel_left}
@@ -27,12 +27,12 @@ use Rattle.pkcheck.proofs.Stepping.Extensions.{no_extension}
 use Rattle.pkcheck.proofs.Stepping.Settings.{wants_no_memory, wants_no_registry}
 use Rattle.pkcheck.proofs.Covering.Standing.{stands_for_covered, no_fault, first_fault, unknown_exactly}
 
--- what a step lists is permitted
+-- the listed import is permitted
 permitted_ok : (setting : OldStrings) (p : Policy) (l : Bounds) (i : Instruction) (k : Knowledge) (q : Progress) → advance setting p l i k ≡ Ok q → IsPermitted p q.import
 permitted_ok setting None l i k q e = tt
 permitted_ok setting (Some list) l i k q e = subst (PassesListed list) e (advance_listed list setting l i k)
 
--- no refusal by what is known is for want of memory
+-- a refusal by the definitions never has the reason OutOfMemory
 no_memory : (f : Refusal) → reason_of f ≡ reason.OutOfMemory → ⊥
 no_memory (Lacks NoMark) e = cc
 no_memory (Lacks NoItem) e = cc
@@ -75,7 +75,7 @@ module _ (p : Policy) (i : Instruction) (before after : View) where
         unknown_exactly p before.limits i before.knowledge (CoveredBy before.old_strings before.knowledge) (stands_for_covered before.old_strings before.knowledge) q is
         (one_more q.import before.imports AskedUnknown (sym (ap (λ (m : View). m.imports) becomes) ∙ e))
 
-    -- a step that goes on
+    -- a step that is accepted
     pub goes_on : before.refused ≡ None → IsStep p i before after (Ok v)
     goes_on fresh = record {
       again = rw fresh tt;
@@ -91,7 +91,7 @@ module _ (p : Policy) (i : Instruction) (before after : View) where
     }
 
   module _ (r : Reason) where
-    -- what was denied is refused so
+    -- a denied instruction is refused for that reason
     pub denied : (pair : Option Asked) → after ≡ record before { refused = Some r; off = pair } → IsRefusedFor (advance before.old_strings p before.limits i before.knowledge) r pair ⊎ (MayWantMemory (effect_as before.old_strings i) × IsWantOfMemory r pair) → FailsStep p i before after r
     denied pair becomes (inl (f, is, e, g)) = inl (f, is, e, becomes ∙ (λ j. record before { refused = Some r; off = g j }))
     denied pair becomes (inr (wants, (e, g))) = inr ((λ none. wants_no_memory before.old_strings i none wants), e, becomes ∙ (λ j. record before { refused = Some r; off = g j }))

@@ -1,4 +1,4 @@
--- What a result says, said more weakly.
+-- Weaker statements about a result.
 use Rattle.std.proofs.Common.{Result, Ok, Err, IfErr, IfOk, OnErr, OnOk}
 
 pub err_on : {A E : Type 0} (P Q : E → Type 0) (x : Result A E) → ((r : E) → P r → Q r) → IfErr x P → IfErr x Q

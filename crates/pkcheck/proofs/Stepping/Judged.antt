@@ -1,4 +1,4 @@
--- What the policy makes of an import, and what is refused.
+-- What the policy says about an import, and which steps are refused.
 use Rattle.pkops.specs.Operands.{pair_named}
 use Rattle.std.proofs.Common.{◌≡◌, ℕ, ◌⊎◌, inl, inr, List, [], ◌∷◌, ◌++◌, Bool, true, false, cond, Option, Some, None, Result, Ok, Err, option_map, refl, ◌∙◌, length, arith, map, ◌≤◌}
 use Rattle.std.specs.Prelude.{is_some, IsSome}
@@ -37,7 +37,7 @@ argument_ruled : (p : Policy) (q : Option (List ℕ × List ℕ)) → argument_a
 argument_ruled p (Some q) = refl
 argument_ruled p None = refl
 
--- the policy only judges what is asked
+-- an import is found without the policy, and then judged by it
 pub asked_ruled : (p : Policy) (names : Names) (i : Instruction) (ks : List Known) → asked_of p names i ks ≡ and_then (asked_of None names i ks) (ruled_any p)
 asked_ruled p NoName i ks = refl
 asked_ruled p OfArgument i ks = argument_ruled p (pair_named i)
@@ -91,7 +91,7 @@ module _ (p : Policy) (takes : Takes) (names : Names) (gives : Gives) (i : Instr
   pub judged_denied : (t : Taken Known) (d : Denial) → operands takes k.entries ≡ Ok t → IsDenied (judged p names gives i t.operands) d → IsDenied (learn p (Operates takes names gives) i k) d
   judged_denied t d e (f, g, h, j) = (f, learn_denied t e f g, h, j)
 
-  -- a given object wants room for one more
+  -- no room for the object that the operation leaves
   pub room_denied : (l : Bounds) (t : Taken Known) (a : Option Asked) (v : Known)
       → operands takes k.entries ≡ Ok t → judged p names gives i t.operands ≡ Ok a
       → known_given gives i ≡ Some v → l.stack ≤ length t.below
@@ -142,7 +142,7 @@ some_named : (ts : List (List ℕ)) (a : Option Named) → is_some a ≡ is_some
 some_named ts None = refl
 some_named ts (Some a) = refl
 
--- what an operation found
+-- an operation that found its operands
 module _ (p : Policy) (takes : Takes) (names : Names) (gives : Gives) (i : Instruction) (k : Knowledge) (t : Taken Known) (us : List (List ℕ)) (a : Option Named)
     (found : operands takes k.entries ≡ Ok t)
     (fits : judged p names gives i t.operands ≡ Ok (option_map (named_asked us) a)) where
@@ -162,7 +162,7 @@ module _ (p : Policy) (takes : Takes) (names : Names) (gives : Gives) (i : Instr
         | inr e ↦ inr (inr (may_give gives i n j), (e, refl))
       ]
 
--- what is left is there
+-- an operation that leaves its receiver takes at least one object
 pub left_there : (takes : Takes) (gives : Gives) (i : Instruction) → WellGiven gives takes → known_given gives i ≡ None → HasFirst takes
 left_there takes (Makes s) i w e = cc
 left_there takes MakesIntOrBool i w e = cc
@@ -171,7 +171,7 @@ left_there takes (MayMake s) i w e = cc
 left_there takes Answers i w e = cc
 left_there takes (Leaves wanted) i w e = w
 
--- ---- an operation that takes nothing and names nothing
+-- ---- an operation that takes nothing and imports nothing
 
 no_receiver : (gives : Gives) → wrong_receiver gives [] ≡ false
 no_receiver (Leaves wanted) = refl

@@ -1,4 +1,4 @@
--- For each policy some text is longer than all that is listed.
+-- For each policy there is a text longer than all its names.
 use Rattle.std.proofs.Common.{◌≡◌, ℕ, ◌+◌, ◌<◌, ◌≤◌, Bool, true, List, Some, length, arith}
 use Rattle.std.specs.Prelude.{replicate}
 use Rattle.std.proofs.lemmas.List.{length-replicate}
@@ -15,11 +15,11 @@ use Rattle.pkcheck.proofs.Covering.Answering.{Word}
 use Rattle.pkcheck.proofs.Covering.Showing.{IsLonger}
 use Rattle.pkcheck.proofs.ListFile.ListBound.{lists_bound, pairs_bound}
 
--- so many letters
+-- a word of n letters
 abbrev letters : ℕ → Word
 letters n = record { text = replicate n 97; utf8 = IsUtf8-from_ascii _ (IsAscii-from_all _ (All-replicate (λ b. b < 128) n 97 (omega arith))) }
 
--- of what no module and no name is longer, a text is longer
+-- if the names of a list have a bounded length, some text is longer
 bounded : (list : List ℕ → List ℕ → Bool) (bound : ℕ) → ((m n : List ℕ) → list m n ≡ true → (length m ≤ bound) × (length n ≤ bound))
     → (v : Word) × IsLonger (Some list) v.text
 bounded list bound below =

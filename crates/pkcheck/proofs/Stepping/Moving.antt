@@ -1,4 +1,4 @@
--- The moves, on the stack and the memo.
+-- The moves, on the stack and on the memo.
 use Rattle.std.proofs.Common.{◌≡◌, ℕ, inl, inr, List, ◌∷◌, length, Some, None, Ok, Err, Result, refl, arith}
 use Rattle.pkcheck.specs.declared.effect.Move.{Move}
 use Rattle.pkcheck.specs.declared.effect.Move.TheVariants.{Duplicates, Stores, Fetches}
@@ -7,12 +7,12 @@ use Rattle.pkcheck.specs.Shape.{Shape, Item, NoMemo, top, Breach, Entry, recalle
 use Rattle.pkops.specs.Limits.{Bounds}
 use Rattle.pkcheck.specs.Private.Denials.{IsFault, IsFaultOf, MoveMayWantMemory, WantsRoom, WantsMemo}
 
--- one more entry than there is room for
+-- one entry more than the limit allows
 pub grown : {A : Type 0} (b : Bounds) (n : ℕ) (x : Result (Shape A) Breach) (e : Entry A) (es : List (Entry A)) (m : List (ℕ × A)) (r : Reason) → x ≡ Ok (record { entries = e ∷ es; memo = m }) → WantsRoom b.stack (length es) r → IsFault b n x r
 grown b n x e es m r is (inl h) = inr (inl (h.0, (record { entries = e ∷ es; memo = m }, is, inl (let g = h.1 in omega arith))))
 grown b n x e es m r is (inr h) = inr (inr h)
 
--- more cells than there is room for
+-- more memo entries than the limit allows
 pub stuffed : {A : Type 0} (b : Bounds) (n : ℕ) (x : Result (Shape A) Breach) (es : List (Entry A)) (m : List (ℕ × A)) (r : Reason) → x ≡ Ok (record { entries = es; memo = m }) → WantsMemo b.memo m r → IsFault b n x r
 stuffed b n x es m r is (inl h) = inr (inl (h.0, (record { entries = es; memo = m }, is, inr (inl h.1))))
 stuffed b n x es m r is (inr h) = inr (inr h)
@@ -30,7 +30,7 @@ module _ {A : Type 0} (h : Shape A) where
   pub fetches_none : (n : ℕ) → recalled n h.memo ≡ None → moved Fetches n h ≡ Err (NoMemo n)
   fetches_none n e = rw e refl
 
--- the number passes no limit that was not passed without it
+-- a fault without a memo number is a fault with one
 pub fault_of : {A : Type 0} (m : Move) (l : Bounds) (n : ℕ) (x : Result (Shape A) Breach) (r : Reason) → MoveMayWantMemory m → IsFault l 0 x r → IsFaultOf m l n x r
 fault_of m l n x r w (inl h) = inl h
 fault_of m l n x r w (inr (inl (e, (k, is, inl h)))) = inr (inl (e, (k, is, inl h)))

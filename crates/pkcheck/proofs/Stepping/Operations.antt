@@ -1,4 +1,4 @@
--- The operations of the table, by the effects of their opcodes.
+-- The operations of the table, given the effects of their opcodes.
 use Rattle.std.proofs.Common.{◌≡◌, ap, subst, sym}
 use Rattle.pkcheck.specs.declared.effect.Names.{Names}
 use Rattle.pkcheck.specs.declared.effect.Names.TheVariants.{NoName, OfArgument, OfOperands}
@@ -10,7 +10,7 @@ abbrev names_in : Effect → Names
 names_in (Operates takes names gives) = names
 names_in e = NoName
 
--- the row of an operation that names nothing has no name
+-- the row of an operation that imports nothing names no import
 pub unnamed_is : (e : Effect) (o : Operation) → IsUnnamed e → (IsOperation e → e ≡ effect_in o) → e ≡ Operates o.takes NoName o.gives
 unnamed_is (Operates takes NoName g) o u h = subst (λ n. Operates takes NoName g ≡ Operates o.takes n o.gives) (sym (ap names_in (h u))) (h u)
 unnamed_is (Operates takes OfArgument g) o u h = absurd u

@@ -1,4 +1,4 @@
--- A step over an instruction whose payload may be passed over.
+-- A step over an instruction whose payload may be skipped.
 use Rattle.std.proofs.Common.{◌≡◌, ◌≤◌, inl, inr, true, false, Some, None, Ok, IsTrue, length, refl, sym, ap, ◌∙◌, arith}
 use Rattle.pkops.specs.Admitted.{is_admitted_by}
 use Rattle.pkops.specs.Spelling.{Argument, Instruction}
@@ -17,7 +17,7 @@ use Rattle.pkcheck.specs.View.{View, moved_as, texts_after}
 use Rattle.pkcheck.proofs.Stepping.Past.{within_fits, within_past}
 use Rattle.pkcheck.proofs.Stepping.Settings.{wants_no_memory}
 
--- such an instruction is admitted
+-- an instruction with a skipped payload is admitted
 pub passed_admitted : (o : Op) (a : Argument) → IsTrue (is_passed o) → is_admitted_by o a ≡ true
 passed_admitted op.BinBytes a h = refl
 passed_admitted op.ShortBinBytes a h = refl

@@ -1,4 +1,4 @@
--- When a limit is passed.
+-- When a limit is exceeded.
 use Rattle.std.proofs.Common.{◌≡◌, ℕ, ◌<◌, ◌≤◌, ◌⊎◌, inl, inr, Bool, true, false, cond, ltb, length, Result, Ok, Err, refl, ap, ltb-true}
 use Rattle.std.specs.Prelude.{◌||◌}
 use Rattle.std.proofs.lemmas.Bool.{lt-ltb, le-ltb}
@@ -17,7 +17,7 @@ or_split : (a b : Bool) → (a || b) ≡ true → (a ≡ true) ⊎ (b ≡ true)
 or_split true b e = inl refl
 or_split false b e = inr e
 
--- a limit is passed, as a fact
+-- a limit is exceeded
 abbrev pub PastBy : Bounds → ℕ → Knowledge → Type 0
 PastBy l n k = (l.stack < length k.entries) ⊎ ((l.memo < length k.memo) ⊎ (l.numbers < n))
 

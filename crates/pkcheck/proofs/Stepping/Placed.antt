@@ -1,4 +1,4 @@
--- What an operation takes, by what stands above the mark.
+-- The operands of an operation, given the entries above the mark.
 use Rattle.std.proofs.Common.{◌≡◌, ℕ, List, [], Some, None, Ok, Err, refl, ◌-◌, ◌≤◌, length, take, drop, arith, length-drop}
 use Rattle.std.proofs.lemmas.List.{take_all}
 use Rattle.pkcheck.specs.declared.effect.SliceRule.{SliceRule}
@@ -6,7 +6,7 @@ use Rattle.pkcheck.specs.declared.effect.Takes.TheVariants.{SliceAndReceiver}
 use Rattle.pkcheck.specs.Shape.{Breach, Entry, Taken, slice, items, breaks, operands}
 use Rattle.pkcheck.specs.declared.machine.value.Value.{Value}
 
--- a slice to its end
+-- a slice up to the end of the list
 pub to_end : {A : Type 0} (xs : List A) (n : ℕ) → take (length xs - n) (drop n xs) ≡ drop n xs
 to_end xs n = let le : length (drop n xs) ≤ length xs - n = omega (arith, length-drop n xs) in take_all _ _ le
 

@@ -1,4 +1,4 @@
--- A step that takes nothing, names nothing and pushes one object.
+-- A step that takes nothing, imports nothing and pushes one object.
 use Rattle.std.proofs.Common.{◌≡◌, ◌⊎◌, ◌∙◌, Bool, true, false, [], Some, None, length, refl, sym, ap}
 use Rattle.std.specs.Char.{is_ascii}
 use Rattle.std.specs.List.{list_all}
@@ -24,7 +24,7 @@ use Rattle.pkcheck.specs.Private.Denials.{IsDenied, IsForMemory, MayWantMemory, 
 use Rattle.pkcheck.proofs.Stepping.Going.{denied_by}
 use Rattle.pkcheck.proofs.Stepping.Judged.{create_denied}
 
--- what an action stands for that reads no old string
+-- the effect of an action that decodes no old string
 pub of_action : (setting : OldStrings) (i : Instruction) (o : Op) (a b : Action) → o ≡ i.op → effect_of o ≡ effect_by o a → is_old_string o ≡ is_reading a → a ≡ b → is_reading b ≡ false → effect_as setting i ≡ effect_by o b
 of_action setting i o a b same e old is none = not_old setting ∙ (sym (ap effect_of same) ∙ (e ∙ ap (effect_by o) is)) where
   no : is_old_string i.op ≡ false
@@ -41,7 +41,7 @@ old_of op.BinString e = refl
 old_of op.ShortBinString e = refl
 old_of _ e = cc
 
--- what an old string becomes
+-- the effect of an old string under each setting
 module _ (setting : OldStrings) (i : Instruction) (old : is_old_string i.op ≡ true) where
   pub old_unknown : setting ≡ Unknown → effect_as setting i ≡ answers (Objects 0)
   old_unknown e = rw e (old_of i.op old)

@@ -1,4 +1,4 @@
--- What an instruction does, by what old strings become.
+-- The effect of an instruction under each decoding of old strings.
 use Rattle.std.proofs.Common.{◌≡◌, ◌≢◌, ℕ, Bool, true, false, ◌||◌, cond, [], Option, Some, None, Ok, ◌⊎◌, inl, inr, refl, sym, ◌∙◌}
 use Rattle.std.specs.Prelude.{IsTrue, unwrap_or}
 use Rattle.std.specs.List.{list_all}
@@ -29,7 +29,7 @@ use Rattle.pkcheck.specs.View.{moved_as, stopped_by, texts_after}
 abbrev makes_text_effect : Effect
 makes_text_effect = Operates (Objects 0) NoName MakesText
 
--- what holds of the opcode's effect, and of each that an old string may have, holds of the effect
+-- a property of the opcode's effect and of each effect of an old string is a property of the effect
 by_setting : (P : Effect → Type 0) (setting : OldStrings) (i : Instruction) → P (effect_of i.op) → (is_old_string i.op ≡ true → P makes_text_effect) → (is_old_string i.op ≡ true → P Raises) → (is_old_string i.op ≡ true → P (pushes class.Bytes)) → P (effect_as setting i)
 by_setting P Unknown i h t r b = h
 by_setting P Ascii i h t r b =
@@ -74,7 +74,7 @@ bytes_on : (a : Option Asked) → stopped_by (moved_as (pushes class.Bytes) a) �
 bytes_on None = refl
 bytes_on (Some a) = refl
 
--- the machine has stopped where the reader has ended
+-- the machine stops exactly if the reader has ended
 pub same_end : (setting : OldStrings) (i : Instruction) (a : Option Asked) → stopped_by (moved_as (effect_as setting i) a) ≡ is_ended (phase_after i.op)
 same_end setting i a =
     by_setting (λ x. stopped_by (moved_as x a) ≡ is_ended (phase_after i.op)) setting i (same_end_of i.op a)
@@ -90,7 +90,7 @@ no_registry_of i h o same e = absurd (wants_no_registry_of i.op i.arg h e) where
   wants_no_registry_of op.Ext4 a h e = cc
   wants_no_registry_of _ a h e = cc
 
--- only extension codes want a registry, and they are not admitted
+-- only extension codes need a registry, and they are not admitted
 pub wants_no_registry : (setting : OldStrings) (i : Instruction) → IsTrue (is_admitted_by i.op i.arg) → effect_as setting i ≡ Moves Extends → ⊥
 wants_no_registry setting i h = by_setting (λ x. x ≡ Moves Extends → ⊥) setting i (no_registry_of i h i.op refl) (λ o e. cc) (λ o e. cc) (λ o e. cc)
 
@@ -120,12 +120,12 @@ old_wants op.BinString e h = h
 old_wants op.ShortBinString e h = h
 old_wants _ e h = cc
 
--- a step that wants no memory has an effect that wants none
+-- a step that never allocates has an effect that never allocates
 pub wants_no_memory : (setting : OldStrings) (i : Instruction) → WantsNoMemory i.op → MayWantMemory (effect_as setting i) → ⊥
 wants_no_memory setting i h =
     by_setting (λ x. MayWantMemory x → ⊥) setting i (wants_none i.op h) (λ o w. old_wants i.op o h) (λ o w. old_wants i.op o h) (λ o w. old_wants i.op o h)
 
--- ---- payloads that may be passed over
+-- ---- payloads that may be skipped
 
 not_both : {A : Type 0} (o : Op) → IsTrue (is_passed o) → is_old_string o ≡ true → A
 not_both op.String h e = cc
@@ -133,7 +133,7 @@ not_both op.BinString h e = cc
 not_both op.ShortBinString h e = cc
 not_both _ h e = cc
 
--- they are of no old strings
+-- skipped payloads are not those of old strings
 pub passed_effect : (setting : OldStrings) (i : Instruction) → IsTrue (is_passed i.op) → effect_as setting i ≡ effect_of i.op
 passed_effect setting i h = by_setting (λ x. x ≡ effect_of i.op) setting i refl (not_both i.op h) (not_both i.op h) (not_both i.op h)
 
@@ -157,7 +157,7 @@ or_false : (a b : Bool) → b ≡ false → (a || b) ≡ a
 or_false true b e = refl
 or_false false b e = e
 
--- how many texts there are after a step that does not raise
+-- the number of texts after a step that does not raise
 pub texts_by_setting : (setting : OldStrings) (i : Instruction) (count : ℕ) → (effect_as setting i ≡ Raises → ⊥) → texts_after (effect_as setting i) count ≡ texts_then setting i.op count
 texts_by_setting Unknown i count = λ n. texts_by_opcode i.op count
 texts_by_setting Ascii i count =

@@ -1,4 +1,4 @@
--- What is known once instructions were read and judged, and the answers that follow.
+-- What is known after instructions were read and judged, and the answers that follow from it.
 use Rattle.pkcheck.specs.declared.checking.No.{No}
 use Rattle.pkcheck.specs.declared.old_strings.OldStrings.{OldStrings}
 use Rattle.std.proofs.Common.{◌≡◌, ℕ, ◌+◌, ◌<◌, List, [], ◌∷◌, ◌++◌, map, Option, Some, None, Ok, Err, false, inl, inr, refl, sym, ap, subst, ◌∙◌, append-nil, arith}
@@ -45,7 +45,8 @@ use Rattle.pkcheck.proofs.Covering.Standing.{Stands, has_fault, first, pair_of}
 use Rattle.pkcheck.proofs.Stepping.Extensions.{no_extension}
 use Rattle.pkcheck.proofs.Wholes.Walk.{along, verdict_more}
 
--- these instructions of a pickle were read, from where the source was seen so, and judged, and these are their imports
+-- these instructions of a pickle were read and judged, beginning at this view of the source, and
+-- these are their imports
 pub record Checked (setting : OldStrings) (policy : Policy) (limits : Bounds) (old : Sight) (o : Origin) (p : List Instruction) (asked : List (Option Asked)) (s : ReaderState) (still_open : ℕ) (m : View) : Type 0 where
   pub laws : FrameLaws
   pub begins : Begins setting policy o.beginning o.known
@@ -60,7 +61,7 @@ pub record Checked (setting : OldStrings) (policy : Policy) (limits : Bounds) (o
   pub off : m.off ≡ None
   pub stopped : m.stopped ≡ has_ended s
 
--- at the start of the source
+-- a count of bytes taken from the start of the source
 pub from_start : (taken count : ℕ) → count ≡ taken → taken ≡ 0 + count
 from_start taken count e = omega (arith, e)
 
@@ -73,7 +74,7 @@ among_more [] (None ∷ asked) a = among_more [] asked a
 among_more [] (Some x ∷ asked) None = ap (λ l. x ∷ l) (among_more [] asked None)
 among_more [] (Some x ∷ asked) (Some a) = ap (λ l. x ∷ l) (among_more [] asked (Some a))
 
--- nothing is tried before the frames
+-- no fault is tried before the frame rules
 none_earlier : (policy : Policy) (limits : Bounds) (p : List Instruction) (i : Instruction) (here : Arrivals) (r : Reason) → rank r < 1 → HasRunFault policy limits p here i r → ⊥
 none_earlier policy limits p i here reason.BrokenFrame lt h = absurd (omega (arith, lt))
 none_earlier policy limits p i here reason.MissingMark lt h = absurd (omega (arith, lt))
@@ -89,7 +90,7 @@ none_earlier policy limits p i here reason.NotAscii lt h = absurd (omega (arith,
 none_earlier policy limits p i here reason.TooLarge lt h = absurd (omega (arith, lt))
 none_earlier policy limits p i here _ lt h = h
 
--- a refusal of the machine is no failed read
+-- a refusal by the machine is no failed read
 counts_same : (f : Refusal) (a b : ℕ) → b ≡ a → CountsAt (reason_of f) a b
 counts_same (Lacks NoMark) a b e = e
 counts_same (Lacks NoItem) a b e = e
@@ -109,7 +110,7 @@ counts_at policy i still_open m n why (inl (e, becomes, is)) a b same = subst (�
 counts_at policy i still_open m n why (inr (o, inl (f, e, is, becomes))) a b same = subst (λ x. CountsAt x a b) (sym is) (counts_same f a b same)
 counts_at policy i still_open m n why (inr (o, inr (wants, is, becomes))) a b same = subst (λ x. CountsAt x a b) (sym is) same
 
--- the machine is at the first instruction of a pickle whose runs begin so
+-- the machine is at the first instruction of a pickle whose runs begin like this
 pub record IsReady (setting : OldStrings) (policy : Policy) (limits : Bounds) (b : Beginning) (m : View) : Type 0 where
   pub begins : Begins setting policy b m.knowledge
   pub imports : m.imports ≡ listed_before b
@@ -120,7 +121,7 @@ pub record IsReady (setting : OldStrings) (policy : Policy) (limits : Bounds) (b
   pub stopped : m.stopped ≡ false
 
 module _ (setting : OldStrings) (policy : Policy) (limits : Bounds) (old : Sight) where
-  -- of a pickle with which the source begins
+  -- for the first pickle of a source
   pub checked_first : FrameLaws → ReadingBegins → (b : Beginning) → listed_before b ≡ [] → Begins setting policy b nothing_known → Checked setting policy limits old (record { at = 0; beginning = b; known = nothing_known }) [] [] (begun old limits) 0 (fresh setting limits)
   checked_first laws begins b none at_first = record {
     laws = laws;
@@ -140,7 +141,7 @@ module _ (setting : OldStrings) (policy : Policy) (limits : Bounds) (old : Sight
   pub checked_none : FrameLaws → ReadingBegins → Checked setting policy limits old alone [] [] (begun old limits) 0 (fresh setting limits)
   checked_none laws begins = checked_first laws begins Afresh refl (begins_afresh setting policy)
 
-  -- of a pickle behind others, where the reader is open again
+  -- for a pickle after others, when the reader is open again
   pub checked_again : FrameLaws → ReadingGoesOn → (s : ReaderState) → s.phase ≡ Open → s.limits ≡ limits → (b : Beginning) (m : View) → IsReady setting policy limits b m → Checked setting policy limits s.source (record { at = s.taken; beginning = b; known = m.knowledge }) [] [] s 0 m
   checked_again laws law s open' same b m ready = record {
     laws = laws;
@@ -158,7 +159,7 @@ module _ (setting : OldStrings) (policy : Policy) (limits : Bounds) (old : Sight
   }
 
   module _ (origin : Origin) (p : List Instruction) (asked : List (Option Asked)) (s : ReaderState) (still_open : ℕ) (m : View) (h : Checked setting policy limits old origin p asked s still_open m) where
-    -- one instruction more passed
+    -- one more instruction is accepted
     pub checked_took : (t : ReaderState) (is_open : ℕ) (n : View) (at : ℕ) (i : Instruction) → Took old origin.at limits p s at i t → (g : BothGoOn policy i still_open m is_open n) → Checked setting policy limits old origin (p ++ i ∷ []) (asked ++ g.1.1.0.import ∷ []) t is_open n
     checked_took t is_open n at i took (frames, (v, (q, passes, becomes, moved))) =
         let passes' : advance setting policy limits i m.knowledge ≡ Ok q = subst (λ o. advance o policy limits i m.knowledge ≡ Ok q) h.same_setting (subst (λ l. advance m.old_strings policy l i m.knowledge ≡ Ok q) h.same_limits passes) in
@@ -177,7 +178,7 @@ module _ (setting : OldStrings) (policy : Policy) (limits : Bounds) (old : Sight
           stopped = ap (λ x. x.stopped) becomes ∙ ap stopped_by moved ∙ same_end m.old_strings i q.import ∙ ap is_ended (sym took.phase);
         }
 
-    -- where STOP was read and judged: these instructions are accepted
+    -- after STOP was read and judged, the instructions are accepted
     pub accepted : (new : Sight) (taken : ℕ) (imports : List Asked) → IsSequence (payload_limit limits) p → new ≡ s.source → s.taken ≡ origin.at + taken → imports ≡ imports_among asked → (a : AcceptedFrom setting origin.beginning policy limits old new taken imports) × (a.instructions ≡ p)
     accepted new taken imports sequence same count lists =
         let last = sequence_last (payload_limit limits) p sequence in
@@ -204,20 +205,21 @@ module _ (setting : OldStrings) (policy : Policy) (limits : Bounds) (old : Sight
           refl,
         )
 
-    -- where none is STOP, the machine knows what holds in the runs that get behind these instructions
+    -- without STOP, the machine knows what is true in the runs that get past these instructions
     pub known_behind : NoStop p → Stands m.knowledge (RunsFrom setting origin.beginning p)
     known_behind none = stands_from setting policy limits origin.beginning p origin.known m.knowledge h.begins (along setting policy limits p origin.known m.knowledge asked (stops_nowhere p none) h.accepts)
 
-    -- nor has any of them a fault
+    -- none of these instructions has a fault
     pub faultless_here : NoStop p → IsFaultless setting origin.beginning policy limits p
     faultless_here none = faultless setting policy limits origin.beginning origin.known h.begins p m.knowledge asked (nowhere_last p (stops_nowhere p none)) h.accepts h.laws.more still_open h.frames
 
-    -- a refusal that is about these instructions: those before the place, and the refused one where it was read
+    -- a refusal after these instructions: they come before the offset, and q has the refused one
+    -- too if it was read
     abbrev pub RefusedAfter : ℕ → Reason → Option Asked → Sight → List Instruction → Type 0
     RefusedAfter at reason pair new q =
         (r : RefusedFrom origin.at setting origin.beginning policy limits old new at reason pair) × (r.instructions ++ refused_instruction r.why ≡ q)
 
-    -- a no that says so
+    -- a No that states this refusal
     pub refusal_of : (at : ℕ) (reason : Reason) (off pair : Option Asked) (answer : No)
         (new : Sight) (q : List Instruction) → IsNoAt at reason off answer → off ≡ pair
         → RefusedAfter at reason pair new q
@@ -228,7 +230,7 @@ module _ (setting : OldStrings) (policy : Policy) (limits : Bounds) (old : Sight
         (subst (λ x. RefusedAfter at x pair' new q) (sym is.why)
         (subst (λ x. RefusedAfter at reason x new q) (sym (is.pair ∙ e)) r))
 
-    -- where none is STOP, and then something is refused
+    -- a refusal after instructions without STOP
     refused_here : (at : ℕ) (why : Reason) (pair : Option Asked) (new : Sight) → NoStop p → at ≡ s.taken → (w : Why setting origin.beginning policy limits p s.source new at why pair) → RefusedAfter at why pair new (p ++ refused_instruction w)
     refused_here at reason pair new none place why = (
       record {
@@ -248,7 +250,7 @@ module _ (setting : OldStrings) (policy : Policy) (limits : Bounds) (old : Sight
     abbrev RefusesHere : List ℕ → ReaderState → ReadRefusal → ℕ → Sight → Type 0
     RefusesHere b t x at new = ReaderRefuses (payload_limit_at limits b) s.source new b at t.taken x.reason
 
-    -- where the reader refuses
+    -- the reader refuses
     pub refused_turned : (t : ReaderState) (x : ReadRefusal) (new : Sight) → Turned old origin.at limits p s x t → new ≡ t.source → RefusedAfter x.at x.reason None new (p ++ [])
     refused_turned t x new o same =
         refused_here x.at x.reason None new o.no_stop o.place (reading (record {
@@ -265,11 +267,11 @@ module _ (setting : OldStrings) (policy : Policy) (limits : Bounds) (old : Sight
       takes : Takes s.source new (spelling i)
       takes = subst (λ x. Takes s.source x (spelling i)) (sym same) took.bytes
 
-      -- it is refused
+      -- the instruction is refused for this reason
       abbrev IsWhy : Reason → Option Asked → Type 0
       IsWhy reason pair = (w : Why setting origin.beginning policy limits p s.source new at reason pair) × (refused_instruction w ≡ i ∷ [])
 
-      -- the frames refuse it
+      -- the frame rules refuse it
       breaks_frame : (n : View) (why : Reason) → BreaksFrame i still_open m n why → IsWhy why n.off
       breaks_frame n why (e, becomes, is) = subst (λ x. IsWhy x n.off) (sym is) (
         judging (record {
@@ -283,7 +285,7 @@ module _ (setting : OldStrings) (policy : Policy) (limits : Bounds) (old : Sight
         refl,
       )
 
-      -- there is no memory
+      -- an allocation was refused
       lacks_memory : (n : View) (why : Reason) → StepWantsMemory policy i m n why → IsWhy why n.off
       lacks_memory n why (wants, is, becomes) = (
         growing (record {
@@ -301,7 +303,7 @@ module _ (setting : OldStrings) (policy : Policy) (limits : Bounds) (old : Sight
         known : Stands m.knowledge (RunsFrom setting origin.beginning p)
         known = known_behind took.more.no_stop
 
-        -- a fault of the machine is one of the instruction
+        -- a fault of the machine is a fault of the instruction
         behind : (r : Reason) → HasFaultHere policy limits (RunsFrom setting origin.beginning p) i r → HasRunFault policy limits p (RunsFrom setting origin.beginning p) i r
         behind reason.BrokenFrame g = absurd g
         behind reason.MissingMark g = g
@@ -345,13 +347,13 @@ module _ (setting : OldStrings) (policy : Policy) (limits : Bounds) (old : Sight
         is_refused n why (inl g) = breaks_frame n why g
         is_refused n why (inr g) = refused_by_machine n why g
 
-        -- where the frames or the machine refuse what was read
+        -- the frame rules or the machine refuse the instruction that was read
         pub refused_took : (n : View) (why : Reason) (pair : Option Asked) → IsRefused policy i still_open m n why → pair ≡ n.off → RefusedAfter at why pair new (p ++ i ∷ [])
         refused_took n why pair g is =
             let w = is_refused n why g in
             subst (λ x. RefusedAfter at why x new (p ++ i ∷ [])) (sym is) (subst (RefusedAfter at why n.off new) (ap (λ q. p ++ q) w.1) (refused_here at why n.off new took.more.no_stop took.place w.0))
 
-    -- no read failed where the frames or the machine refuse
+    -- no read failed if the frame rules or the machine refuse
     pub count_took : (t : ReaderState) (at : ℕ) (i : Instruction) (new : Sight) (place : ℕ)
         (why reason : Reason) (pair : Option Asked)
         → RefusedFrom origin.at setting origin.beginning policy limits old new place why pair

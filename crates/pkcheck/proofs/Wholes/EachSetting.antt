@@ -1,4 +1,4 @@
--- The runs of each setting of old strings are among those in which nothing is said of them.
+-- The runs under each setting of old strings are among those under Unknown.
 use Rattle.std.proofs.Common.{◌≡◌, ℕ, zero, suc, Bool, true, false, cond, ltb, List, [], ◌∷◌, ◌++◌, length, map, Option, Some, None, Result, Ok, Err, refl, sym, ap, subst, ◌∙◌, arith}
 use Rattle.std.specs.Prelude.{unwrap_or}
 use Rattle.std.specs.List.{list_all}
@@ -33,7 +33,7 @@ use Rattle.pkcheck.specs.EachSetting.{SoundInEach}
 abbrev classes : List Object → List ObjectClass
 classes objects = map (λ (o : Object). o.class_of) objects
 
--- the same state, but for which objects were answered
+-- the states are the same, except for which objects were answered
 record Same (s t : State) : Type 0 where
   shape : s.shape ≡ t.shape
   events : s.events ≡ t.events
@@ -98,12 +98,12 @@ module _ (xs ys : List Object) (e : classes xs ≡ classes ys) where
   given_same Answers i n kind = answered_same n kind
   given_same (Leaves w) i n kind = (refl, e)
 
-  -- an object that is made is one that may have been answered
+  -- an object that the machine makes could have been answered
   pushed_same : (kind : ObjectClass) → SameGiven (made_new kind xs) (answered (length ys) kind ys)
   pushed_same kind = rw (le-ltb (length ys) (length ys) (omega arith)) (ap Some (length_same xs ys e), more_same xs ys _ _ refl e)
 
   module _ (h : Shape ℕ) where
-    -- what an operation puts on the stack
+    -- what an operation leaves on the stack
     put_same : (x y : Option ℕ × List Object) (i : Instruction) (taken : Taken ℕ) (es : List Event) → SameGiven x y →
         Same (record { shape = record { entries = put x.0 taken.operands ++ taken.below; memo = h.memo }; objects = x.1; events = es ++ Did i taken.operands x.0 ∷ [] })
         (record { shape = record { entries = put y.0 taken.operands ++ taken.below; memo = h.memo }; objects = y.1; events = es ++ Did i taken.operands y.0 ∷ [] })
@@ -143,7 +143,7 @@ module _ (xs ys : List Object) (e : classes xs ≡ classes ys) where
     perform_same Stops i o es = stop_same es (top h.entries)
     perform_same Raises i o es = record { shape = refl; events = refl; objects = e }
 
-    -- what is made of an old string is what may have been answered
+    -- what an old string decodes to could have been answered
     abbrev Matches : Effect → Instruction → Outcome → List Event → Type 0
     Matches f i o es = (q : Outcome) × SameStep (perform f i (state h xs es) o) (perform (Operates (Objects 0) NoName Answers) i (state h ys es) q)
 
@@ -170,7 +170,7 @@ module _ (setting : OldStrings) where
       subst (λ z. (q : Outcome) × SameStep (step_as setting i s o) (step_as Unknown i z q)) (λ j. record { shape = w.shape j; objects = t.objects; events = w.events j })
       (step_matches s.objects t.objects w.objects s.shape setting (is_old_string i.op) i o s.events refl)
 
-  -- a run that begins with this outcome, where it asks
+  -- a run whose first outcome is this one if the step asks
   begins : (b : Bool) (i : Instruction) (is : List Instruction) (t : State) (q : Outcome) (os : List Outcome) → effect_asks (effect_of i.op) ≡ b → (qs : List Outcome) × (run_as Unknown (i ∷ is) qs t ≡ go_on (step_as Unknown i t q) (run_as Unknown is os))
   begins true i is t q os e = (q ∷ os, ap (λ c. go_on (step_as Unknown i t q) (run_as Unknown is (outcomes_after c (q ∷ os)))) e)
   begins false i is t q os e = (
@@ -182,7 +182,7 @@ module _ (setting : OldStrings) where
         (kept os),
   )
 
-  -- all runs of these instructions have their like
+  -- every run of these instructions has one like it
   abbrev HaveLike : List Instruction → Type 0
   HaveLike is = (os : List Outcome) (s t : State) → Same s t → (qs : List Outcome) × SameEnd (run_as setting is os s) (run_as Unknown is qs t)
 

@@ -1,4 +1,4 @@
--- Two runs that come to the same.
+-- Two runs with the same end.
 use Rattle.std.proofs.Common.{refl, sym, subst, ◌∙◌}
 use Rattle.pkcheck.specs.Covers.{Pointwise, imports_of}
 use Rattle.pkcheck.specs.Ends.{SameHistory, SameAsItself, SameEitherWay, SameAcross, SameEvents, WellIsFree, WellCarriesOver, ListedCarriesOver}

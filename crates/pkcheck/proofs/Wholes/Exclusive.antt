@@ -1,4 +1,4 @@
--- A pickle is accepted or refused, and not both.
+-- No pickle is both accepted and refused.
 use Rattle.std.proofs.Common.{◌≡◌, ◌≢◌, ℕ, ◌+◌, ◌<◌, ◌≤◌, ◌⊎◌, inl, inr, cond, List, [], ◌∷◌, ◌++◌, length, take, drop, Option, Some, None, refl, sym, ap, subst, ◌∙◌, arith, length-append, length-drop}
 use Rattle.std.specs.Prelude.{All, IsTrue}
 use Rattle.std.specs.Io.KnownBytes.{Consumes, IsAtEnd}
@@ -34,7 +34,7 @@ use Rattle.pkcheck.specs.Runs.{State}
 use Rattle.pkcheck.specs.ButForLimits.{RefusedForLimits}
 use Rattle.pkcheck.specs.Exclusive.{YesExcludesNo}
 
--- ---- a fault that claimed runs show, any run shows
+-- ---- a fault that witness runs show is one that any run shows
 
 module _ (here : Arrivals) (real : (s : State) → here.some s → here.any s) where
   each_of : (P : State → Type 0) → InEachRun here P → InEachRun (everyone here) P
@@ -86,7 +86,7 @@ module _ (setting : OldStrings) (policy : Policy) (limits : Bounds) (before : Li
   by_any (reason.UnsupportedProtocol n) f = absurd f
   by_any reason.OutOfMemory f = absurd f
 
--- ---- the bytes of a refusal, where an instruction is spelled
+-- ---- the bytes of a refusal, if they begin with an instruction
 
 abbrev pub OneAnswer : Type 0
 OneAnswer = (limit : ℕ) (bytes : List ℕ) (r s : Answer) → Answers limit bytes r → Answers limit bytes s → r ≡ s
@@ -98,7 +98,7 @@ code_passed op.BinBytes8 = refl
 code_passed op.ByteArray8 = refl
 code_passed _ = refl
 
--- the bytes begin the instruction, or they have it whole at their front
+-- the bytes are a proper prefix of the instruction, or begin with all of it
 abbrev Side : ℕ → List ℕ → Instruction → Type 0
 Side limit bytes j = (Begun limit bytes × (length bytes < length (spelling j))) ⊎ IsWhole limit bytes j (length (spelling j))
 
@@ -167,7 +167,7 @@ module _ (one : OneAnswer) (limit : ℕ) (bytes : List ℕ) (j : Instruction) (g
   not_amiss s reason.NotAscii h = h
   not_amiss s reason.OutOfMemory h = h
 
--- ---- a source of known bytes
+-- ---- a source with known bytes
 
 consumed : (old : Sight) (bytes run : List ℕ) (new : Sight) → old.left ≡ Some bytes → Takes old new run → (rest : List ℕ) × (new.left ≡ Some rest) × (bytes ≡ run ++ rest)
 consumed old bytes run new is t = left_by new.left (subst (λ o. Consumes o new.left run) is t.bytes) where
@@ -179,7 +179,7 @@ at_end : (o : Option (List ℕ)) (rest : List ℕ) → o ≡ Some rest → IsAtE
 at_end o rest is h = subst IsAtEnd is h
 
 module _ (one : OneAnswer) (nothing : (limit : ℕ) → Begun limit []) (limits : Bounds) (here after : Sight) (tail behind : List ℕ) (j : Instruction) (may : IsAllowedBy (payload_limit limits) j) (is : here.left ≡ Some tail) (spelled : tail ≡ spelling j ++ behind) where
-  -- the limit of the bytes is that of the instruction, where there are any
+  -- the payload limit of the bytes is that of the instruction, if there are any bytes
   limit_there : (b : ℕ) (bs rest : List ℕ) → (b ∷ bs) ++ rest ≡ spelling j ++ behind → payload_limit_at limits (b ∷ bs) ≡ payload_limit limits j.op
   limit_there b bs rest e =
       let code : b ≡ code_of j.op = cc in
@@ -195,7 +195,7 @@ module _ (one : OneAnswer) (nothing : (limit : ℕ) → Begun limit []) (limits 
     there : Takes here after bytes → Side (payload_limit_at limits bytes) bytes j
     there t = let r = consumed here tail bytes after is t in side_there bytes r.0 r.2
 
-    -- the source has more bytes than begin it
+    -- the source has more bytes than these
     at_its_end : (t : Takes here after bytes) → IsAtEnd after.left → length bytes < length (spelling j) → ⊥
     at_its_end t end lt =
         let r = consumed here tail bytes after is t in
@@ -234,7 +234,7 @@ module _ (one : OneAnswer) (nothing : (limit : ℕ) → Begun limit []) (limits 
     no_row reason.LeftOver n m h = h.1
     no_row reason.NotAscii n m h = h.1
 
--- ---- a yes, and a no
+-- ---- a yes and a no
 
 behind_each : (P : Instruction → Type 0) (q : List Instruction) (j : Instruction) (is : List Instruction) → All P (q ++ j ∷ is) → P j
 behind_each P [] j is h = All-head P j is h
@@ -246,7 +246,7 @@ spellings_behind (k ∷ q) j is =
     let e = spellings_behind q j is in
     omega (arith, e, length-append (spelling k) (spellings (q ++ j ∷ is)), length-append (spelling k) (spellings q))
 
--- a reason that is no other is this one
+-- a reason that is not another one is this one
 if_not_other : (r : Reason) → (r ≢ reason.TooLarge → ⊥) → r ≡ reason.TooLarge
 if_not_other reason.TooLarge h = refl
 if_not_other r h = absurd (h (λ e. cc))

@@ -1,4 +1,4 @@
--- What the checker and the frames pass has no fault.
+-- An instruction that the checker and the frame rules accept has no fault.
 use Rattle.pkcheck.specs.declared.old_strings.OldStrings.{OldStrings}
 use Rattle.std.proofs.Common.{◌≡◌, ℕ, suc, List, [], ◌∷◌, ◌++◌, length, map, Option, Some, sym, ap, subst, ◌∙◌}
 use Rattle.pkops.specs.Limits.{Bounds}
@@ -24,7 +24,7 @@ use Rattle.pkcheck.proofs.Wholes.Origins.{Begins, arrived, stands_from}
 use Rattle.pkcheck.proofs.Stepping.Stops.{nowhere_before}
 use Rattle.pkcheck.proofs.Wholes.Walk.{along, verdict_first, verdict_split}
 
--- a fault of an instruction that is framed is one of the machine
+-- a fault of an instruction that obeys the frame rules is one of the machine
 pub machine_fault : (policy : Policy) (limits : Bounds) (before : List Instruction) (i : Instruction) → IsFramed (map piece_of before) (piece_of i) [] → (here : Arrivals) (r : Reason) → HasRunFault policy limits before here i r → HasFaultHere policy limits here i r
 machine_fault policy limits before i w here reason.BrokenFrame h = absurd (h w)
 machine_fault policy limits before i w here reason.MissingMark h = h
@@ -60,7 +60,7 @@ asks_so q s (Stopped r t) h = (h.3, h.4)
 asks_so q s (Stuck b) h = h
 
 module _ (setting : OldStrings) (policy : Policy) (limits : Bounds) where
-  -- an entry an instruction
+  -- one entry for each instruction
   pub length-asked : (p : List Instruction) (k known : Knowledge) (asked : List (Option Asked)) → verdict setting policy limits p k ≡ Yes known asked → length asked ≡ length p
   length-asked [] k known asked e = let same : ◌≡◌ {A = List (Option Asked)} [] asked = cc in ap length (sym same)
   length-asked (i ∷ p) k known asked e =

@@ -1,4 +1,4 @@
--- What a reader gave or refused behind the instructions before, by whichever of its calls.
+-- What a reader returned after the earlier instructions, by any of its calls.
 use Rattle.std.proofs.Common.{◌≡◌, ℕ, suc, ◌+◌, true, false, List, [], ◌∷◌, ◌++◌, length, refl, sym, ap, subst, ◌∙◌, arith, Result, Ok, Err}
 use Rattle.std.specs.Prelude.{All, Bool, IsTrue, if◌then◌else◌}
 use Rattle.pkops.specs.Inst.{instruction_of}
@@ -25,7 +25,7 @@ last_of : {X : Type 0} (P : X → Type 0) (xs : List X) (x : X) → All P (xs ++
 last_of P [] x h = h 0 x (omega arith)
 last_of P (y ∷ xs) x h = last_of P xs x (λ k d lt. h (suc k) d (omega (arith, lt)))
 
--- where payloads that are passed over have the limit of all others, that is the limit
+-- if skipped payloads have the limit of all others, every payload has it
 one_limit : (limits : Bounds) → limits.passed ≡ limits.counted → (passed : Bool) → (if passed then limits.passed else limits.counted) ≡ limits.counted
 one_limit limits e true = e
 one_limit limits e false = refl
@@ -35,7 +35,7 @@ one_limit_at limits e [] = refl
 one_limit_at limits e (code ∷ b) = one_limit limits e (is_passed_code code)
 
 module _ (start : Sight) (from : ℕ) (limits : Bounds) (p : List Instruction) (s : ReaderState) where
-  -- the bytes of this instruction were taken at the place
+  -- the bytes of this instruction were taken at this offset
   pub record Took (at : ℕ) (i : Instruction) (t : ReaderState) : Type 0 where
     pub more : ReadsMore start from (payload_limit limits) p i t
     pub same_limits : t.limits ≡ s.limits
@@ -45,13 +45,13 @@ module _ (start : Sight) (from : ℕ) (limits : Bounds) (p : List Instruction) (
     pub taken : t.taken ≡ s.taken + length (spelling i)
     pub phase : t.phase ≡ phase_after i.op
 
-  -- the payload of this opcode, with so many bytes, was passed over
+  -- the payload of this opcode, with `count` bytes, was skipped
   pub record Passed (at : ℕ) (o : Op) (count : ℕ) (t : ReaderState) : Type 0 where
     pub payload : List ℕ
     pub one : IsSkipped (payload_limit limits o) o count payload
     pub took : Took at (instruction o (Counted payload)) t
 
-  -- these bytes were taken at the place, and refused
+  -- bytes were taken at this offset, and refused
   pub record Turned (r : Refusal) (t : ReaderState) : Type 0 where
     pub no_stop : NoStop p
     pub place : r.at ≡ s.taken
@@ -70,7 +70,7 @@ module _ (start : Sight) (from : ℕ) (limits : Bounds) (p : List Instruction) (
   }
 
   module _ (reads : Reads start from (payload_limit limits) p s) (same : s.limits ≡ limits) (t : ReaderState) where
-    -- by `next`, which holds each payload, where there is one limit for all
+    -- for `next`, which holds each payload, with one limit for all
     module _ (one : limits.passed ≡ limits.counted) where
       holds : HoldsTo s (payload_limit limits)
       holds o = ap (λ l. l.counted) same ∙ sym (one_limit limits one (is_passed o))
@@ -84,7 +84,7 @@ module _ (start : Sight) (from : ℕ) (limits : Bounds) (p : List Instruction) (
           let b = w.1.why.0 in
           record { no_stop = w.0; place = w.1.place; bytes = b; why = subst (λ l. Refuses l s.source t.source b s.taken t.taken x.reason) (ap (λ l. l.counted) same ∙ sym (one_limit_at limits one b)) w.1.why.1 }
 
-    -- by `next_head`
+    -- for `next_head`
     passes : PassesTo s (payload_limit limits)
     passes o = ap (λ l. payload_limit l o) same
 
@@ -118,6 +118,6 @@ module _ (start : Sight) (from : ℕ) (limits : Bounds) (p : List Instruction) (
         let b = w.1.why.0 in
         record { no_stop = w.0; place = w.1.place; bytes = b; why = subst (λ l. Refuses (payload_limit_at l b) s.source t.source b s.taken t.taken x.reason) same w.1.why.1 }
 
--- where nothing was taken ahead, the source is seen as it is
+-- if no byte was read ahead, the view of the source is unchanged
 pub seen_so : (ahead : List ℕ) (now here : Sight) → ahead ≡ [] → now ≡ here → now ≡ unread ahead here
 seen_so ahead now here e h = h ∙ rw e refl

@@ -23,7 +23,7 @@ use Rattle.pkcheck.proofs.Covering.Following.{step_follows}
 use Rattle.pkcheck.proofs.Covering.Soundness.{emptied, imports_of-append, sound_along}
 use Rattle.pkcheck.proofs.Wholes.Walk.{verdict_first}
 
--- only a STOP stops
+-- only STOP stops
 asked_stops : (b : Bool) (gives : Gives) (i : Instruction) (t : Taken ℕ) (o : Outcome) (r : ℕ) (s u : State) → come_of b gives i t o s ≡ Stopped r u → ⊥
 asked_stops true gives i t Raise r s u e = cc
 asked_stops true gives i t (Go n k) r s u e = cc
@@ -48,7 +48,7 @@ only_stop (Moves m) i r s u o h = absurd (shape_stops r s u (moved m (memo_numbe
 only_stop Stops i r s u o h = refl
 only_stop Raises i r s u o h = cc
 
--- nothing stands behind what stops
+-- no instruction follows STOP
 pub stop_is_last : (setting : OldStrings) (i : Instruction) (is : List Instruction) → StopsLast (i ∷ is) → effect_as setting i ≡ Stops → is ≡ []
 stop_is_last setting i [] h e = refl
 stop_is_last setting i (j ∷ is) h e = absurd (never_stops setting i h.0 e)
@@ -57,7 +57,7 @@ pub after_first : (i : Instruction) (is : List Instruction) → StopsLast (i ∷
 after_first i [] h = tt
 after_first i (j ∷ is) h = h.1
 
--- what is all is a beginning
+-- all of a list is a prefix of a longer one
 all_begins : (as' bs : List Asked) (ps : List (List ℕ × List ℕ)) → Pointwise StandsFor as' ps → IsBeginning (as' ++ bs) ps
 all_begins [] bs [] h = tt
 all_begins (a ∷ as') bs (p ∷ ps) h = (h.0, all_begins as' bs ps h.1)
@@ -69,7 +69,7 @@ asked_stands None as' ps qs h e = subst (Pointwise StandsFor as') (sym (append-n
 asked_stands (Some (AskedPair m n)) as' ps qs h e = Pointwise-append StandsFor as' ps (AskedPair m n ∷ []) qs h (subst (Pointwise StandsFor (AskedPair m n ∷ [])) (sym e) (refl, tt))
 asked_stands (Some AskedUnknown) as' ps qs h e = Pointwise-append StandsFor as' ps (AskedUnknown ∷ []) qs h (subst (Pointwise StandsFor (AskedUnknown ∷ [])) (sym e.2) (tt, tt))
 
--- the imports of the events after, where those before are all listed
+-- the imports of the events after a step, if those before are all listed
 adds_stands : (a : Option Asked) (as' : List Asked) (before after : List Event) → Pointwise StandsFor as' (imports_of before) → Adds a before after → Pointwise StandsFor (asks_more a as') (imports_of after)
 adds_stands a as' before after h g =
     subst (λ es. Pointwise StandsFor (asks_more a as') (imports_of es)) (sym g.grown) (subst (Pointwise StandsFor (asks_more a as')) (sym (imports_of-append before g.added)) (asked_stands a as' (imports_of before) (imports_of g.added) h g.asked))
@@ -99,7 +99,8 @@ module _ (setting : OldStrings) (p : Policy) (l : Bounds) where
   none_left [] k known asked e h = cc
   none_left (i ∷ is) k known asked e h = cc
 
-  -- the imports of a run are a beginning of those listed, behind those listed before, and all of them where it stopped
+  -- the imports of a run are a prefix of the listed ones, after those listed before, and all of
+  -- them if the run stopped
   pub listed_from : (is : List Instruction) (k known : Knowledge) (asked : List (Option Asked))
       (done : List Asked) (s : State) (os : List Outcome) → StopsLast is
       → verdict setting p l is k ≡ Yes known asked → CoversBy IsObject k s
@@ -115,7 +116,7 @@ module _ (setting : OldStrings) (p : Policy) (l : Bounds) where
       (λ r t g. none_left is f.passed.after known f.rest.listed (stop_is_last setting i is last (only_stop (effect_as setting i) i r s t (first_outcome os) g)) f.rest.accepts)
       (λ t d g. listed_from is f.passed.after known f.rest.listed (asks_more f.passed.import done) t _ (after_first i is last) f.rest.accepts d g))
 
--- any pair is on the list of all pairs
+-- every pair is on this list
 abbrev any_pair : List ℕ → List ℕ → Bool
 any_pair m n = true
 

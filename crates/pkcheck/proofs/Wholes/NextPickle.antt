@@ -1,4 +1,4 @@
--- Where the runs of the next pickle begin, behind one that was accepted and whose memo is kept.
+-- Where the runs of the next pickle begin after an accepted one, if the memo is kept.
 use Rattle.pkcheck.specs.declared.old_strings.OldStrings.{OldStrings}
 use Rattle.pkcheck.specs.declared.old_strings.OldStrings.TheVariants.{Unknown, Ascii, Bytes}
 use Rattle.std.proofs.Common.{◌≡◌, ℕ, List, [], ◌∷◌, ◌++◌, length, Option, Some, Result, Ok, Err, refl, sym, ap, subst, ◌∙◌, append-nil}
@@ -31,7 +31,7 @@ use Rattle.pkcheck.proofs.Wholes.Origins.{Begins, StartsIn}
 use Rattle.pkcheck.proofs.Wholes.RunSteps.{going, gone, run_on}
 use Rattle.pkcheck.proofs.Wholes.Walk.{StopsNowhere, verdict_first, yes_parts}
 
--- a stopped state, where the next pickle begins
+-- a stopped state, cleared for the next pickle
 abbrev cleared : State → State
 cleared t = record t { shape = record { entries = []; memo = t.shape.memo } }
 
@@ -44,7 +44,7 @@ covers_cleared U k t c = record { entries = tt; memo = c.memo }
 
 -- ---- the runs of a row, pickle by pickle
 
--- a run of a pickle stopped, and what follows comes to this state
+-- the run of a pickle stopped, and the runs after it reach this state
 record StoppedAt (x : Ended) (next : State → Option State) (s : State) : Type 0 where
   result : ℕ
   state : State
@@ -62,7 +62,7 @@ same_state : (s t : State) → Some s ≡ Some t → s ≡ t
 same_state s t e = cc
 
 module _ (setting : OldStrings) where
-  -- a run of pickles and of one more, by where the last begins
+  -- a run of some pickles and one more, split where the last one begins
   record LastOf (ps : List (List Instruction)) (p : List Instruction) (first s : State) : Type 0 where
     middle : State
     before : List (List Outcome)
@@ -84,7 +84,7 @@ module _ (setting : OldStrings) where
       let m = last_of ps p oss (cleared n.state) s n.comes in
       record { middle = m.middle; before = os ∷ m.before; comes = ap (λ x. next_from x (run_row setting ps m.before)) n.stops ∙ m.comes; outcomes = m.outcomes; result = m.result; state = m.state; stops = m.stops; is = m.is }
 
-  -- the run of pickles and of one more
+  -- joins the run of some pickles with the run of one more
   with_last : (ps : List (List Instruction)) (p : List Instruction) (oss : List (List Outcome))
       (first middle : State) → All (All CanCome) oss → run_row setting ps oss first ≡ Some middle
       → (os : List Outcome) (r : ℕ) (t : State) → All CanCome os
@@ -100,14 +100,14 @@ module _ (setting : OldStrings) where
       let m = with_last ps p oss (cleared n.state) middle (All-tail (All CanCome) ws oss can) n.comes os r t all g in
       (ws ∷ m.0, All-cons (All CanCome) ws m.0 (All-head (All CanCome) ws oss can) m.1, ap (λ x. next_from x (run_row setting (ps ++ p ∷ []) m.0)) n.stops ∙ m.2)
 
--- ---- the end of a pickle that was accepted
+-- ---- the end of an accepted pickle
 
 stop_stops : (setting : OldStrings) (i : Instruction) → i.op ≡ op.Stop → effect_as setting i ≡ Stops
 stop_stops Unknown i e = rw e refl
 stop_stops Ascii i e = rw e refl
 stop_stops Bytes i e = rw e refl
 
--- STOP doesn't go on
+-- STOP does not go on
 never_on : (s u : State) (x : Result (ℕ × List (Entry ℕ)) Breach) → stop_step s x ≡ WentOn u → ⊥
 never_on s u (Ok t) e = cc
 never_on s u (Err b) e = cc
@@ -121,7 +121,7 @@ stop_ends Raises i s u o same h = cc
 same_end : (r q : ℕ) (s t : State) → EndedBy (Stopped r s) ≡ EndedBy (Stopped q t) → s ≡ t
 same_end r q s t e = cc
 
--- the imports of one pickle more
+-- the imports of one more pickle
 pub imports_more : (before : List Pickle) (x : Pickle) → imports_of_all (before ++ x ∷ []) ≡ imports_of_all before ++ x.imports
 imports_more before x = flat_map-append (λ (y : Pickle). y.imports) before (x ∷ []) ∙ ap (λ l. imports_of_all before ++ l) (append-nil x.imports)
 
@@ -158,7 +158,7 @@ module _ (setting : OldStrings) (policy : Policy) (limits : Bounds) where
       (λ u d g. stopped_covered is f.passed.after known f.rest.listed u _ r t
       (after_first i is last) f.rest.accepts d g) h
 
-  -- some run stops, in which each answer is one text
+  -- some run stops in which each answer is one text
   record StopsSomewhere (p : List Instruction) (known : Knowledge) (v : Word) (s : State) : Type 0 where
     outcomes : List Outcome
     can : All CanCome outcomes
@@ -167,7 +167,7 @@ module _ (setting : OldStrings) (policy : Policy) (limits : Bounds) where
     stops : run_as setting p outcomes s ≡ EndedBy (Stopped result state)
     covered : CoversBy (Answered v.text) known state
 
-  -- the step of an accepted instruction, where each answer is one text
+  -- the step of an accepted instruction, if each answer is one text
   record Steps (i : Instruction) (q : Progress) (v : Word) (s : State) : Type 0 where
     goes : IsGoing (effect_as setting i) (step_as setting i s (new_text v.text s))
     follows : FollowsBy (Answered v.text) q s (step_as setting i s (new_text v.text s))
@@ -214,7 +214,7 @@ module _ (setting : OldStrings) (policy : Policy) (limits : Bounds) where
     abbrev this : Pickle
     this = record { instructions = p; imports = imports_among asked }
 
-    -- where it begins, and how it stopped
+    -- where the pickle begins, and how it stopped
     record Came (s : State) : Type 0 where
       first : State
       starts : StartsIn setting (Behind before) first

@@ -23,7 +23,7 @@ pub record Origin : Type 0 where
   pub beginning : Beginning
   pub known : Knowledge
 
--- that of a pickle alone
+-- the origin of a single pickle
 abbrev pub alone : Origin
 alone = record { at = 0; beginning = Afresh; known = nothing_known }
 
@@ -33,7 +33,7 @@ module _ (setting : OldStrings) where
   StartsIn Afresh s = s ≡ start
   StartsIn (Behind before) s = ComesTo setting before s
 
-  -- those of runs of which all outcomes can come
+  -- like StartsIn, for runs with only possible outcomes
   abbrev pub CanStartIn : Beginning → State → Type 0
   CanStartIn Afresh s = s ≡ start
   CanStartIn (Behind before) s = CanComeTo setting before s
@@ -45,7 +45,7 @@ module _ (setting : OldStrings) where
     pub permitted : (s : State) → StartsIn b s → AllListed (permitted_by policy) (imports_of s.events)
     pub listed : (s : State) → StartsIn b s → Pointwise StandsFor (listed_before b) (imports_of s.events)
 
-  -- a run that gets behind instructions began somewhere
+  -- a run that reaches an instruction began in one of these states
   pub arrived : (b : Beginning) (before : List Instruction) (t : State) → Arrives setting b before t → (s : State) × StartsIn b s × GetsTo setting before s t
   arrived Afresh before t h = (start, refl, h)
   arrived (Behind pickles) before t h = h
@@ -58,13 +58,13 @@ module _ (setting : OldStrings) where
   any_arrives Afresh before t h = (h.0, h.2)
   any_arrives (Behind pickles) before t h = (h.0, (h.1.0, h.1.2), (h.2.0, h.2.2))
 
-  -- what holds of each run from where they begin
+  -- a property of each run from these states
   pub in_each : (b : Beginning) (p : List Instruction) (Holds : Ended → Type 0) → ((s : State) (os : List Outcome) → StartsIn b s → Holds (run_as setting p os s)) → InEachRunFrom setting b p Holds
   in_each Afresh p Holds h = λ os. h start os refl
   in_each (Behind pickles) p Holds h = h
 
   module _ (policy : Policy) where
-    -- with nothing, nothing is known
+    -- at the start, nothing is known
     pub begins_afresh : Begins policy Afresh nothing_known
     begins_afresh = record {
       each = λ s e. subst (CoversBy IsObject nothing_known) (sym e) (record { entries = tt; memo = tt });
@@ -76,7 +76,7 @@ module _ (setting : OldStrings) where
     first_state : (s : State) → Some start ≡ Some s → s ≡ start
     first_state s e = cc
 
-    -- nor is anything behind no pickles
+    -- after no pickles, nothing is known either
     pub begins_row : Begins policy (Behind []) nothing_known
     begins_row = record {
       each = λ s h. begins_afresh.each s (first_state s h.1);
@@ -85,7 +85,7 @@ module _ (setting : OldStrings) where
       listed = λ s h. begins_afresh.listed s (first_state s h.1);
     }
 
-    -- what is known along instructions stands for the runs that get behind them
+    -- what is known along instructions stands for the runs that get past them
     pub stands_from : (limits : Bounds) (b : Beginning) (before : List Instruction) (first known : Knowledge) → Begins policy b first → Along setting policy limits before first known → Stands known (RunsFrom setting b before)
     stands_from limits b before first known h a = record {
       each = λ t g. let w = arrived b before t g in a.each w.0 t w.2.0 (h.each w.0 w.1) w.2.1;

@@ -1,4 +1,4 @@
--- An instruction whose payload was passed over, to the frames.
+-- An instruction whose payload was skipped, as the frame rules see it.
 use Rattle.std.proofs.Common.{◌≡◌, ℕ, ◌-◌, List, refl, arith}
 use Rattle.std.specs.Prelude.{IsTrue}
 use Rattle.pkops.specs.Limits.{Bounds}
@@ -23,6 +23,6 @@ piece_passed i o n h l =
     λ j. record { length = l.long j; role = role j }
 
 module _ (start : Sight) (from : ℕ) (limits : Bounds) (p : List Instruction) (s : ReaderState) (at : ℕ) (o : Op) (count : ℕ) (t : ReaderState) (w : Passed start from limits p s at o count t) (taken : ℕ) (e : taken ≡ t.taken) where
-  -- its length is how many bytes were taken since the place where it begins
+  -- its length is the number of bytes taken since its offset
   pub long_passed : HasLength (instruction o (Counted w.payload)) o (taken - at)
   long_passed = record { op_is = refl; long = omega (arith, e, w.took.place, w.took.taken) }

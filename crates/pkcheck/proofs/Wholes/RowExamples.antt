@@ -1,4 +1,4 @@
--- Worked examples of runs of a row under one Unpickler, computed.
+-- Worked examples of runs of a row under one Unpickler, by computation.
 use Rattle.pkcheck.specs.declared.old_strings.OldStrings.TheVariants.{Unknown}
 use Rattle.std.proofs.Common.{◌≡◌, ℕ, List, [], ◌∷◌, Option, Some, None, true, refl}
 use Rattle.pkops.specs.Spelling.{Instruction}
@@ -19,7 +19,7 @@ get n = at op.BinGet n
 abbrev row : List (List Instruction) → List (List Outcome) → Option State
 row pickles outcomes = run_row Unknown pickles outcomes start
 
--- an append goes on
+-- an append that goes on
 abbrev goes : List Outcome
 goes = Go 0 Foreign ∷ []
 
@@ -30,7 +30,7 @@ events_of (EndedBy (Raised s)) = s.events
 events_of (EndedBy (Stopped r s)) = s.events
 events_of (EndedBy (Stuck b)) = []
 
--- ---- a dict, and then a list with it in it, as one Pickler writes them
+-- ---- a dict, and then a list that contains it, as one Pickler writes them
 
 abbrev a_dict : List Instruction
 a_dict = bare op.EmptyDict ∷ bare op.Memoize ∷ bare op.Stop ∷ []
@@ -45,19 +45,19 @@ behind_the_dict = record {
   events = Did (bare op.EmptyDict) [] (Some 0) ∷ [];
 }
 
--- behind the dict the stack is empty, and the memo, the object and the event are there
+-- after the dict the stack is empty, and the memo, the object and the event are kept
 the_list_begins : row (a_dict ∷ []) ([] ∷ []) ≡ Some behind_the_dict
 the_list_begins = refl
 
--- the list holds the dict
+-- the list contains the dict
 it_holds_the_dict : events_of (run a_list goes behind_the_dict) ≡ Did (bare op.EmptyDict) [] (Some 0) ∷ Did (bare op.EmptyList) [] (Some 1) ∷ Did (bare op.Append) (1 ∷ 0 ∷ []) None ∷ []
 it_holds_the_dict = refl
 
--- read alone, it holds itself
+-- read alone, the list contains itself
 it_holds_itself : events_of (run a_list goes start) ≡ Did (bare op.EmptyList) [] (Some 0) ∷ Did (bare op.Append) (0 ∷ 0 ∷ []) None ∷ []
 it_holds_itself = refl
 
--- ---- texts that a pickle leaves, which another takes for the names of its import
+-- ---- texts of one pickle that name the import of another
 
 abbrev two_texts : List Instruction
 two_texts = text (1 ∷ []) ∷ bare op.Memoize ∷ text (2 ∷ []) ∷ bare op.Memoize ∷ bare op.Tuple2 ∷ bare op.Stop ∷ []
@@ -75,12 +75,12 @@ of_its_own_texts = refl
 of_the_texts_before : pairs_of (row (two_texts ∷ an_import ∷ []) ([] ∷ goes ∷ [])) ≡ (1 ∷ [], 2 ∷ []) ∷ []
 of_the_texts_before = refl
 
--- ---- the ends of a row
+-- ---- the end of a row
 
 abbrev none_alone : List Instruction
 none_alone = bare op.None ∷ bare op.Stop ∷ []
 
--- no item and no mark is left to the next pickle
+-- no item and no mark is left for the next pickle
 abbrev two_left : List Instruction
 two_left = bare op.Mark ∷ bare op.None ∷ bare op.None ∷ bare op.Stop ∷ []
 
@@ -94,7 +94,7 @@ no_item_is_left = refl
 no_mark_is_left : entry_taken (row (two_left ∷ []) ([] ∷ [])) (bare op.PopMark ∷ []) ≡ EndedBy (Stuck NoMark)
 no_mark_is_left = refl
 
--- a pickle that is stuck, or raises, ends the row
+-- a pickle that is stuck or raises ends the row
 a_stuck_pickle_ends_it : row ((bare op.Pop ∷ []) ∷ none_alone ∷ []) ([] ∷ [] ∷ []) ≡ None
 a_stuck_pickle_ends_it = refl
 
@@ -104,7 +104,7 @@ a_raise_ends_it = refl
 no_entry_alone : run (get 0 ∷ []) [] start ≡ EndedBy (Stuck (NoMemo 0))
 no_entry_alone = refl
 
--- ---- which reader a setting means
+-- ---- the reader that each setting describes
 
 each_afresh : (before : List Pickle) → begins Fresh before ≡ Afresh
 each_afresh before = refl

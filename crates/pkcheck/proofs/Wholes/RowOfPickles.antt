@@ -35,13 +35,14 @@ use Rattle.pkcheck.specs.Refused.{RefusedFrom}
 use Rattle.pkcheck.specs.RowOfPickles.{AcceptedRow, AreAccepted, HasMore, IsAcceptedBehind, RefusedInRow, begins, bytes_of_all}
 use Rattle.pkcheck.specs.RowRuns.{Beginning, Pickle, imports_of_all, listed_before, sequences_of}
 
--- what is left to take, and whether a pickle has just ended
+-- a measure of what is left to do: the bytes that may still be taken, and whether a pickle has just
+-- ended
 abbrev pub left_to_do : ℕ → Phase → ℕ
 left_to_do taken Open = 2 * (all_bytes - taken)
 left_to_do taken Ended = 2 * (all_bytes - taken) + 1
 left_to_do taken (Refused r) = 2 * (all_bytes - taken)
 
--- a sequence has a byte at least
+-- a sequence has at least one byte
 no_end : (front : List Instruction) (last : Instruction) → [] ≡ front ++ last ∷ [] → ⊥
 no_end [] last e = cc
 no_end (i ∷ front) last e = cc
@@ -51,7 +52,8 @@ some_byte [] h = absurd (no_end h.0 h.1 h.2)
 some_byte (i ∷ p) h = omega (arith, length-append (spelling i) (spellings p))
 
 module _ (loading : Loading) (policy : Policy) (limits : Bounds) where
-  -- these pickles were accepted, and the next begins here. Of the imports these are listed apart
+  -- these pickles were accepted, the next one begins here, and `apart` are the imports listed
+  -- outside the machine
   pub record RowSoFar (old here : Sight) (origin : Origin) (pickles : ℕ) (apart : List Asked) (before : List Pickle) : Type 0 where
     pub each : AreAccepted loading policy limits old here [] before
     pub from_is : origin.at ≡ length (bytes_of_all before)
@@ -60,7 +62,7 @@ module _ (loading : Loading) (policy : Policy) (limits : Bounds) where
     pub few : pickles ≤ origin.at
     pub listed : apart ≡ listed_apart loading.memo before
 
--- taking nothing more changes nothing
+-- taking no more bytes changes nothing
 takes_no_more : TakingLaws → (old between new : Sight) (run : List ℕ) → Takes old between run → Takes between new [] → Takes old new run
 takes_no_more taking old between new run h k = subst (Takes old new) (append-nil run) (taking.more old between new run [] h k)
 
@@ -80,13 +82,13 @@ pub begins_first : (memo : Memo) (setting : OldStrings) (policy : Policy) → Be
 begins_first Fresh setting policy = begins_afresh setting policy
 begins_first Kept setting policy = begins_row setting policy
 
--- the imports of a row, which stand apart or in the machine
+-- the imports of a row, which are outside the machine or inside it
 pub all_listed : (memo : Memo) (apart own : List Asked) (before : List Pickle) → apart ≡ listed_apart memo before → own ≡ listed_before (begins memo before) → listed_in memo apart own ≡ imports_of_all before
 all_listed Fresh apart own before e h = e
 all_listed Kept apart own before e h = h
 
 module _ (taking : TakingLaws) (loading : Loading) (policy : Policy) (limits : Bounds) where
-  -- the bytes alone tie it to a source
+  -- only the bytes depend on the source
   abbrev moved : (beginning : Beginning) (a b c d : Sight) (n : ℕ) (imports : List Asked) (h : AcceptedFrom loading.old_strings beginning policy limits a b n imports) → Takes c d (spellings h.instructions) → AcceptedFrom loading.old_strings beginning policy limits c d n imports
   moved beginning a b c d n imports h takes = record {
     instructions = h.instructions;
@@ -104,11 +106,11 @@ module _ (taking : TakingLaws) (loading : Loading) (policy : Policy) (limits : B
     unknown = h.unknown;
   }
 
-  -- the source may have been asked once more, in vain
+  -- the source may have been asked once more without giving a byte
   accepted_on : (old mid new : Sight) (before : List Pickle) (x : Pickle) → IsAcceptedBehind loading policy limits old mid before x → Takes mid new [] → IsAcceptedBehind loading policy limits old new before x
   accepted_on old mid new before x (a, same) takes = (moved (begins loading.memo before) old mid old new _ x.imports a (takes_no_more taking old mid new _ a.bytes takes), same)
 
-  -- one pickle more
+  -- one more pickle
   accepted_more : (old mid new : Sight) (before xs : List Pickle) (x : Pickle) → AreAccepted loading policy limits old mid before xs → IsAcceptedBehind loading policy limits mid new (before ++ xs) x → AreAccepted loading policy limits old new before (xs ++ x ∷ [])
   accepted_more old mid new before [] x takes h =
       let (a, same) = subst (λ l. IsAcceptedBehind loading policy limits mid new l x) (append-nil before) h in
@@ -116,21 +118,21 @@ module _ (taking : TakingLaws) (loading : Loading) (policy : Policy) (limits : B
   accepted_more old mid new before (y ∷ xs) x (between, first, rest) h =
       (between, first, accepted_more between mid new (before ++ y ∷ []) xs x rest (subst (λ l. IsAcceptedBehind loading policy limits mid new l x) (sym (append_assoc before (y ∷ []) xs)) h))
 
-  -- the bytes of all were taken
+  -- the bytes of all pickles were taken
   pub accepted_bytes : (old new : Sight) (before xs : List Pickle) → AreAccepted loading policy limits old new before xs → Takes old new (bytes_of_all xs)
   accepted_bytes old new before [] takes = takes
   accepted_bytes old new before (x ∷ xs) (between, (a, same), rest) = taking.more old between new (spellings x.instructions) (bytes_of_all xs) (subst (λ p. Takes old between (spellings p)) same a.bytes) (accepted_bytes between new (before ++ x ∷ []) xs rest)
 
-  -- each is a sequence
+  -- each pickle is a sequence
   pub accepted_sequences : (old new : Sight) (before xs : List Pickle) → AreAccepted loading policy limits old new before xs → All (IsSequence (payload_limit limits)) (sequences_of xs)
   accepted_sequences old new before [] takes = All-nil (IsSequence (payload_limit limits))
   accepted_sequences old new before (x ∷ xs) (between, (a, same), rest) = All-cons (IsSequence (payload_limit limits)) x.instructions (sequences_of xs) (subst (IsSequence (payload_limit limits)) same a.sequence) (accepted_sequences between new (before ++ x ∷ []) xs rest)
 
-  -- none yet
+  -- the row begins with no pickle
   pub row_begins : (old : Sight) (apart : List Asked) → apart ≡ [] → RowSoFar loading policy limits old old (record { at = 0; beginning = begins loading.memo []; known = nothing_known }) 0 apart []
   row_begins old apart none = record { each = taking.none old; from_is = refl; begins = refl; number = refl; few = omega arith; listed = none ∙ none_apart loading.memo }
 
-  -- what is listed apart behind one pickle more
+  -- the imports outside the machine after one more pickle
   apart_more : (memo : Memo) (apart own : List Asked) (before : List Pickle) (p : List Instruction)
       (asked : List (Option Asked)) → apart ≡ listed_apart memo before
       → own ≡ listed_before (begins memo before) ++ imports_among asked
@@ -154,7 +156,7 @@ module _ (taking : TakingLaws) (loading : Loading) (policy : Policy) (limits : B
           let a = accepted loading.old_strings policy limits here origin p asked s still_open m checked s.source (length (spellings p)) (imports_among asked) sequence refl checked.reads.count refl in
           subst (λ b. (a : AcceptedFrom loading.old_strings b policy limits here s.source (length (spellings p)) (imports_among asked)) × (a.instructions ≡ p)) h.begins a
 
-      -- the pickle that was read and judged here was accepted, and the next begins
+      -- the pickle that was read and judged here is accepted, and the next one begins
       pub pickle_more : (new : Sight) → Takes s.source new []
           → (known : Knowledge) (all : List Asked) → all ≡ moved_apart loading.memo apart m.imports
           → RowSoFar loading policy limits old new
@@ -189,7 +191,7 @@ module _ (taking : TakingLaws) (loading : Loading) (policy : Policy) (limits : B
         stopped = refl;
       }
 
-      -- the machine that restarts is ready for the next
+      -- the restarted machine is ready for the next pickle
       pub next_ready : IsReady loading.old_strings policy limits (begins loading.memo (before ++ this p asked ∷ [])) (restarted loading.memo m)
       next_ready = ready loading.memo h.begins
 
@@ -221,7 +223,7 @@ module _ (taking : TakingLaws) (loading : Loading) (policy : Policy) (limits : B
       more = more;
     }
 
-    -- no read failed so far
+    -- no read has failed so far
     pub none_failed : here.failures ≡ old.failures
     none_failed = (accepted_bytes old here [] before h.each).count
 
@@ -234,24 +236,24 @@ module _ (taking : TakingLaws) (loading : Loading) (policy : Policy) (limits : B
         let here = checked_again loading.old_strings policy limits s.source laws begins open' refl same b m ready in
         (refused_turned loading.old_strings policy limits s.source origin [] [] open' 0 m here (record s { source = new }) x new (record { no_stop = All-nil (λ i. i.op ≢ Stop); place = place; bytes = []; why = why }) refl).0
 
-    -- the reader refused behind STOP
+    -- the reader refused after STOP
     pub refused_again : NoByteIsRefused → (t : ReaderState) (x : ReadRefusal) → RefusesAgain s x t → RefusedFrom s.taken loading.old_strings b policy limits s.source t.source x.at x.reason None
     refused_again law t x h = turned x t.source h.place (law (payload_limit_at limits []) s t x h).0
 
-    -- there was no memory for the imports
+    -- an allocation for the imports was refused
     pub refused_growing : NoByteIsRefused → RefusedFrom s.taken loading.old_strings b policy limits s.source s.source s.taken OutOfMemory None
     refused_growing law =
         let x : ReadRefusal = record { at = s.taken; reason = OutOfMemory } in
         refused_again law (record s { phase = Refused x }) x (record { place = refl; why = taking.none s.source; after = refl })
 
--- the same, told by equal parts
+-- the answer about a row, with equal parts replaced
 pub told : (loading : Loading) (policy : Policy) (limits : Bounds) (old new mid : Sight) (n m a b : ℕ) (x y : Reason) (u v : Option Asked) → new ≡ mid → n ≡ m → a ≡ b → x ≡ y → u ≡ v → RefusedInRow loading policy limits old mid m b y v → RefusedInRow loading policy limits old new n a x u
 told loading policy limits old new mid n m a b x y u v d e f g h r = rw (d, e, f, g, h) r
 
 pub told_yes : (loading : Loading) (policy : Policy) (limits : Bounds) (old new mid : Sight) (n m a : ℕ) (u v : List Asked) → new ≡ mid → n ≡ m → u ≡ v → AcceptedRow loading policy limits old mid m a v → AcceptedRow loading policy limits old new n a u
 told_yes loading policy limits old new mid n m a u v d e h r = rw (d, e, h) r
 
--- less is left to do where an instruction was taken
+-- the measure falls when an instruction is taken
 left_most : (taken : ℕ) (p : Phase) → left_to_do taken p ≤ 2 * (all_bytes - taken) + 1
 left_most taken Open = omega arith
 left_most taken Ended = omega arith
@@ -271,7 +273,7 @@ pub count_on : (loading : Loading) (policy : Policy) (limits : Bounds) (old new 
     → CountsAt y b here.failures → CountsAt x old.failures new.failures
 count_on loading policy limits old new n a x u r y b here e f g h = rw (e, ← f, g) h
 
--- what `again` answered
+-- what `again` returned
 pub again_true : (s t : ReaderState) (r : Result Bool ReadRefusal) → StepsAgain s r t → r ≡ Ok true → Takes s.source t.source [] × (t.phase ≡ Open) × (t.taken ≡ s.taken) × (t.limits ≡ s.limits)
 again_true s t (Ok true) (room, takes, is) e = (takes, ap (λ x. x.phase) is, ap (λ x. x.taken) is, ap (λ x. x.limits) is)
 again_true s t (Ok false) h e = absurd cc
@@ -289,11 +291,11 @@ known_ahead : (b : ℕ) (left : Option (List ℕ)) → prepend_known (b ∷ []) 
 known_ahead b None = λ e. cc
 known_ahead b (Some l) = λ e. cc
 
--- behind a pickle stands a further byte
+-- another byte follows the pickle
 pub some_ahead : (b : ℕ) (ahead : List ℕ) (now : Sight) → ahead ≡ b ∷ [] → HasMore (unread ahead now)
 some_ahead b ahead now is = rw is (known_ahead b now.left)
 
--- neither want of memory nor a refusal of `again` says that the source ended
+-- a refused allocation and a refusal by `again` do not mean that the source ended
 pub growing_is_not_cut : OutOfMemory ≡ Truncated → ⊥
 growing_is_not_cut e = cc
 

@@ -16,7 +16,7 @@ use Rattle.pkcheck.proofs.Covering.CoversBy.{CoversBy, FollowsBy}
 use Rattle.pkcheck.specs.WholeRuns.{Ended, Reached, first_outcome, outcomes_after, go_on, run_as}
 use Rattle.pkcheck.proofs.Covering.Answering.{IsGoing, Exactly}
 
--- a step that asks nothing uses no outcome
+-- a step that asks nothing ignores the outcome
 come_unused : (b : Bool) (gives : Gives) (i : Instruction) (t : Taken ℕ) (o q : Outcome) (s : State) → b ≡ false → come_of b gives i t o s ≡ come_of b gives i t q s
 come_unused true gives i t o q s e = cc
 come_unused false gives i t o q s e = refl
@@ -40,7 +40,7 @@ pub kept : (os : List Outcome) → outcomes_after false os ≡ os
 kept [] = refl
 kept (o ∷ os) = refl
 
--- a run that begins with this outcome, where it asks
+-- a run whose first outcome is this one if the step asks
 pub run_on : (setting : OldStrings) (b : Bool) (i : Instruction) (is : List Instruction) (s : State)
     (o : Outcome) (os : List Outcome) (x : Ended) → CanCome o → All CanCome os
     → effect_asks (effect_as setting i) ≡ b → go_on (step_as setting i s o) (run_as setting is os) ≡

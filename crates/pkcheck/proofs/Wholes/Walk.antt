@@ -1,4 +1,4 @@
--- The checker over a list that grows at its end, and what is known along it.
+-- The checker on a list that grows at its end, and what is known along it.
 use Rattle.pkcheck.specs.declared.old_strings.OldStrings.{OldStrings}
 use Rattle.std.proofs.Common.{◌≡◌, ◌≢◌, List, [], ◌∷◌, ◌++◌, length, Result, Ok, Err, refl, sym, ap, subst, ◌∙◌}
 use Rattle.std.specs.Prelude.{Option}
@@ -18,7 +18,7 @@ use Rattle.pkcheck.proofs.Covering.Answering.{Answered, Word, new_text, new_text
 use Rattle.pkcheck.proofs.Stepping.Settings.{only_stop}
 use Rattle.pkcheck.proofs.Wholes.RunSteps.{run_on, same_reached, each_on, gone, going}
 
--- none of them is a STOP
+-- no instruction is STOP
 abbrev pub StopsNowhere : List Instruction → Type 0
 StopsNowhere [] = Unit {0}
 StopsNowhere (i ∷ is) = (i.op ≢ op.Stop) × StopsNowhere is
@@ -26,7 +26,7 @@ StopsNowhere (i ∷ is) = (i.op ≢ op.Stop) × StopsNowhere is
 pub yes_parts : (k j : Knowledge) (as' bs : List (Option Asked)) → Yes k as' ≡ Yes j bs → (k ≡ j) × (as' ≡ bs)
 yes_parts k j as' bs e = (cc, cc)
 
--- what was accepted of the rest
+-- the verdict on the rest of an accepted list
 pub record Rest (a : Option Asked) (k : Knowledge) (asked : List (Option Asked)) (d : Verdict) : Type 0 where
   pub listed : List (Option Asked)
   pub accepts : d ≡ Yes k listed
@@ -36,7 +36,7 @@ pub import_rest : (a : Option Asked) (k : Knowledge) (asked : List (Option Asked
 import_rest a k asked (Yes j bs) e = let s = yes_parts j k (a ∷ bs) asked e in record { listed = bs; accepts = ap (λ x. Yes x bs) s.0; first = sym s.1 }
 import_rest a k asked (No n r) e = cc
 
--- the first step of what was accepted, and the rest
+-- the first step of an accepted list, and the rest
 pub record First (x : Result Progress Refusal) (f : Knowledge → Verdict) (k : Knowledge) (asked : List (Option Asked)) : Type 0 where
   pub passed : Progress
   pub passes : x ≡ Ok passed
@@ -47,7 +47,7 @@ verdict_first (Ok q) f k asked e = record { passed = q; passes = refl; rest = im
 verdict_first (Err r) f k asked e = cc
 
 module _ (setting : OldStrings) (p : Policy) (l : Bounds) where
-  -- one instruction more
+  -- one more instruction
   pub verdict_more : (is : List Instruction) (i : Instruction) (k j : Knowledge) (q : Progress) (asked : List (Option Asked)) → verdict setting p l is k ≡ Yes j asked → advance setting p l i j ≡ Ok q → verdict setting p l (is ++ i ∷ []) k ≡ Yes q.after (asked ++ q.import ∷ [])
   verdict_more [] i k j q asked e g =
       let s = yes_parts k j [] asked e in
@@ -85,7 +85,7 @@ module _ (setting : OldStrings) (p : Policy) (l : Bounds) where
         listed = f.rest.first ∙ ap (λ bs. f.passed.import ∷ bs) s.listed;
       }
 
-  -- what is known where runs of these have come to, and that some run gets there
+  -- what is known after these instructions, and that some run gets past them
   pub record Along (is : List Instruction) (k known : Knowledge) : Type 0 where
     pub each : (s t : State) (os : List Outcome) → CoversBy IsObject k s → run_as setting is os s ≡ Reached t → CoversBy IsObject known t
     pub some : (v : Word) (s : State) → CoversBy (Answered v.text) k s → (t : State) × CanGetTo setting is s t × CoversBy (Answered v.text) known t

@@ -1,4 +1,4 @@
--- What the machine does for an opcode, as one of the effects.
+-- The effect of each action of the machine.
 use Rattle.std.specs.Prelude.{◌<◌, Bool, true, false, ⊤}
 use Rattle.pkcheck.specs.declared.machine.effects.Action.{Action}
 use Rattle.pkcheck.specs.declared.machine.effects.Action.TheVariants as action
@@ -18,8 +18,8 @@ use Rattle.pkops.specs.declared.Op.{Op}
 abbrev pub effect_in : Operation → Effect
 effect_in o = Operates o.takes o.names o.gives
 
--- the effect of an opcode if the decoding of old strings isn't set; operations take theirs from
--- their own row
+-- the effect of an opcode if the decoding of old strings isn't set; an operation has the effect of
+-- its own row
 abbrev pub effect_by : Op → Action → Effect
 effect_by o (action.Makes c) = pushes c
 effect_by o action.MakesIntOrBool = Operates (Objects 0) NoName gives.MakesIntOrBool
@@ -29,7 +29,7 @@ effect_by o (action.Moves m) = Moves m
 effect_by o action.Stops = Stops
 effect_by o _ = effect_of o
 
--- the action reads an old string
+-- the action decodes an old string
 abbrev pub is_reading : Action → Bool
 is_reading action.ReadsOldString = true
 is_reading _ = false
@@ -50,18 +50,18 @@ abbrev pub IsOperation : Effect → Type 0
 IsOperation (Operates takes names g) = IsNoPush takes g × IgnoresArgument g × WellGiven g takes
 IsOperation _ = ⊥
 
--- as IsOperation, for one that names nothing
+-- like IsOperation, for an operation that imports nothing
 abbrev pub IsUnnamed : Effect → Type 0
 IsUnnamed (Operates takes NoName g) = IsNoPush takes g × IgnoresArgument g × WellGiven g takes
 IsUnnamed _ = ⊥
 
--- an action that stands for an operation belongs to an opcode with such an effect
+-- if the action of an opcode is Operates or Imports, its effect is such an operation
 abbrev pub IsWell : Op → Action → Type 0
 IsWell o action.Operates = IsUnnamed (effect_of o)
 IsWell o action.Imports = IsOperation (effect_of o)
 IsWell o _ = ⊤
 
--- an opcode read as text has a payload or a line
+-- an opcode whose action needs a text has a payload or a line
 abbrev pub MaySpell : Action → Layout → Type 0
 MaySpell action.MakesText l = IsTextLayout l
 MaySpell action.ReadsOldString l = IsTextLayout l

@@ -1,4 +1,4 @@
--- What the parts of a step answer, in terms of the checker's knowledge.
+-- What the parts of a step return, in terms of the checker's knowledge.
 use Rattle.std.specs.Prelude.{ℕ, ◌≡◌, ◌<◌, ◌≤◌, ◌⊎◌, Bool, List, ◌∷◌, length, Option, Some, None}
 use Rattle.std.specs.Prelude.{Result, Ok, Err, option_map, if◌then◌else◌, is_some, ⊤}
 use Rattle.pkcheck.specs.declared.effect.Takes.{Takes}
@@ -57,7 +57,7 @@ abbrev pub IsFault : {A : Type 0} → Bounds → ℕ → Result (Shape A) Breach
 IsFault l n x r =
     IsLack x r ⊎ (((r ≡ reason.TooLarge) × LeavesTooMuch l n x) ⊎ (r ≡ reason.OutOfMemory))
 
--- as IsFault, for a move with this memo number; only some moves may allocate
+-- like IsFault, for a move with this memo number; only some moves may allocate
 abbrev pub IsFaultOf : {A : Type 0} → Move → Bounds → ℕ → Result (Shape A) Breach → Reason
     → Type 0
 IsFaultOf m l n x r =
@@ -70,7 +70,7 @@ abbrev pub ruled : Policy → Asked → Result (Option Asked) Refusal
 ruled p (AskedPair m n) = permitted p m n
 ruled p AskedUnknown = unknown_pair p
 
--- naming an import may allocate
+-- listing an import may allocate
 abbrev pub MayName : Names → Type 0
 MayName NoName = ⊥
 MayName names = ⊤
@@ -93,7 +93,7 @@ IsRefusedFor x r pair =
 abbrev pub IsDenied : {A : Type 0} → Result A Refusal → Denial → Type 0
 IsDenied x d = IsRefusedFor x d.reason (pair_denied d)
 
--- the step is refused because an allocation was, without a pair
+-- the step is refused because an allocation was refused, so there is no pair
 abbrev pub IsWantOfMemory : Reason → Option Asked → Type 0
 IsWantOfMemory r pair = (r ≡ reason.OutOfMemory) × (pair ≡ None)
 
@@ -113,7 +113,7 @@ abbrev pub MayGive : Gives → Type 0
 MayGive (Leaves w) = ⊥
 MayGive gives = ⊤
 
--- an operation may allocate for its import or for the object that it gives
+-- an operation may allocate for its import or for the object that it leaves
 abbrev pub MayOperate : Names → Gives → Type 0
 MayOperate names gives = MayName names ⊎ MayGive gives
 
@@ -123,18 +123,18 @@ HasFirst (Objects k) = 0 < k
 HasFirst (Slice rule) = ⊥
 HasFirst (SliceAndReceiver rule) = ⊤
 
--- a receiver that is left was taken
+-- an operation that leaves its receiver takes at least one object
 abbrev pub WellGiven : Gives → Takes → Type 0
 WellGiven (Leaves w) takes = HasFirst takes
 WellGiven gives takes = ⊤
 
--- the object given doesn't depend on the instruction's argument
+-- the object that the operation leaves doesn't depend on the instruction's argument
 abbrev pub IgnoresArgument : Gives → Type 0
 IgnoresArgument MakesText = ⊥
 IgnoresArgument MakesIntOrBool = ⊥
 IgnoresArgument gives = ⊤
 
--- the step goes on with this knowledge and these imports, and reports this
+-- the step goes on with this knowledge and these imports, and reports this outcome
 abbrev pub GoesTo : Effect → Result Progress Refusal → Knowledge → List Asked → List Asked
     → Moved → Type 0
 GoesTo e x after before now v =

@@ -3,12 +3,12 @@ use Rattle.std.specs.Prelude.{◌≡◌, ℕ, ◌+◌, ◌-◌, List, [], ◌∷
 use Rattle.std.specs.List.{concat}
 use Rattle.std.specs.Str.{IsUtf8}
 
--- where each of these texts ends, if the first begins at `start`
+-- the ends of these texts, if the first one begins at `start`
 abbrev pub ends_of : ℕ → List (List ℕ) → List ℕ
 ends_of start [] = []
 ends_of start (t ∷ ts) = (start + length t) ∷ ends_of (start + length t) ts
 
--- the texts that end there, if the first begins at `start`
+-- the texts with these ends, if the first one begins at `start`
 abbrev pub cut : ℕ → List ℕ → List ℕ → List (List ℕ)
 cut start [] bytes = []
 cut start (end ∷ ends) bytes = take (end - start) bytes ∷ cut end ends (drop (end - start) bytes)

@@ -1,4 +1,4 @@
--- How one instruction that was read is judged.
+-- How one instruction is judged after it was read.
 use Rattle.std.specs.Prelude.{◌≡◌, ℕ, ◌⊎◌, Option, None, Some, length, option_map}
 use Rattle.pkops.specs.Spelling.{Instruction, spelling}
 use Rattle.pkops.specs.declared.Op.{Op}

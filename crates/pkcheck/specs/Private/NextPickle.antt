@@ -6,7 +6,7 @@ use Rattle.pkcheck.specs.Knowledge.{Asked}
 use Rattle.pkcheck.specs.RowRuns.{Pickle, imports_of_all}
 use Rattle.pkcheck.specs.View.{View, fresh}
 
--- the machine at the start of the next pickle: new, or with all but its stack kept
+-- the machine at the start of the next pickle: a new one, or the same with an empty stack
 abbrev pub restarted : Memo → View → View
 restarted Fresh view = fresh view.old_strings view.limits
 restarted Kept view = record view {
@@ -14,18 +14,18 @@ restarted Kept view = record view {
   stopped = false;
 }
 
--- the imports kept outside the machine after a restart; a machine that starts afresh hands over its
--- own
+-- the imports outside the machine after a restart; with a fresh memo, those of the machine are
+-- moved there
 abbrev pub moved_apart : Memo → List Asked → List Asked → List Asked
 moved_apart Fresh apart own = apart ++ own
 moved_apart Kept apart own = apart
 
--- the imports kept outside the machine after these pickles
+-- the imports outside the machine after these pickles
 abbrev pub listed_apart : Memo → List Pickle → List Asked
 listed_apart Fresh before = imports_of_all before
 listed_apart Kept before = []
 
--- the imports of a row, which are kept outside the machine or inside it
+-- the imports of a row, which are outside the machine or inside it
 abbrev pub listed_in : Memo → List Asked → List Asked → List Asked
 listed_in Fresh apart own = apart
 listed_in Kept apart own = own

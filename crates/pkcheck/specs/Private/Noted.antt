@@ -1,4 +1,4 @@
--- What a ledger holds: the texts that a pickle made, and the imports it asked for.
+-- What a ledger holds: the texts that a pickle made, and the imports that it requested.
 use Rattle.std.specs.Prelude.{ℕ, ◌<◌, List, [], ◌∷◌, Option, Some, None, get_or, length, ◌≡◌, ⊤}
 use Rattle.pkcheck.specs.declared.import.Named.{Named}
 use Rattle.pkcheck.specs.declared.import.Named.TheVariants as named
@@ -13,7 +13,7 @@ pub record Noted : Type 0 where
   pub texts : List (List ℕ)
   pub asked : List Asked
 
--- the import that a name stands for, given the texts
+-- the import of a name, given the texts
 abbrev pub named_asked : List (List ℕ) → Named → Asked
 named_asked ts named.Unknown = AskedUnknown
 named_asked ts (named.Made m n) = AskedPair (get_or ts m []) (get_or ts n [])
@@ -24,12 +24,12 @@ abbrev pub IsNamed : ℕ → Named → Type 0
 IsNamed count (named.Made m n) = (m < count) × (n < count)
 IsNamed count name = ⊤
 
--- as IsNamed, if there is a name
+-- like IsNamed, if there is a name
 abbrev pub IsNamedIf : ℕ → Option Named → Type 0
 IsNamedIf count (Some name) = IsNamed count name
 IsNamedIf count None = ⊤
 
--- the import that an entry stands for, given the texts and the names kept beside them
+-- the import of an entry, given the texts and the names written beside them
 abbrev pub entry_asked : List (List ℕ) → List (List ℕ) → Entry → Asked
 entry_asked ts ws entry.Unknown = AskedUnknown
 entry_asked ts ws (entry.Made m n) = AskedPair (get_or ts m []) (get_or ts n [])
@@ -41,7 +41,7 @@ IsEntry made written entry.Unknown = ⊤
 IsEntry made written (entry.Made m n) = (m < made) × (n < made)
 IsEntry made written (entry.Written m n) = (m < written) × (n < written)
 
--- all entries refer only to those
+-- all entries refer only to these
 abbrev pub AreEntries : ℕ → ℕ → List Entry → Type 0
 AreEntries made written [] = ⊤
 AreEntries made written (e ∷ es) = IsEntry made written e × AreEntries made written es

@@ -1,4 +1,5 @@
--- What an operation without a name does to the stack. It doesn't depend on the texts or the memo.
+-- What an operation that imports nothing does to the stack. It doesn't depend on the texts or the
+-- memo.
 use Rattle.std.specs.Prelude.{ℕ, ◌⊎◌, List, false, None}
 use Rattle.pkcheck.specs.declared.machine.value.Value.{Value}
 use Rattle.pkcheck.specs.Effects.{Effect, number_stored}
@@ -19,7 +20,7 @@ Replaces e old new =
     → Proceeds (learn p e i (record { entries = seen ts old; memo = m }))
     (record { entries = seen ts new; memo = m }) listed listed false
 
--- what is known of the objects stays true
+-- what is known about the objects stays true
 abbrev pub StaysSeen : List (Entry Value) → List (Entry Value) → Type 0
 StaysSeen old new =
     (ts : List (List ℕ)) → Sees ts old (seen ts old) → Sees ts new (seen ts new)

@@ -1,4 +1,4 @@
--- What the fields of the stack, the memo and the text table stand for.
+-- What the fields of the stack, the memo and the text table mean.
 use Rattle.std.specs.Prelude.{ℕ, suc, ◌<◌, List, [], ◌∷◌, ◌++◌, Option, Some, None, map, get_or}
 use Rattle.std.specs.Prelude.{◌≡◌, length, ⊤, drop, take}
 use Rattle.pkcheck.specs.declared.machine.value.Value.{Value}
@@ -12,12 +12,12 @@ use Rattle.pkcheck.specs.Shape.{Entry, Mark, Item, Shape, Taken}
 use Rattle.pkcheck.specs.Covers.{Pointwise, AlikeEntry, Alike}
 use Rattle.pkcheck.specs.Knowledge.{Asked, Known, Knowledge}
 
--- an entry of the stack
+-- the entry that a slot means
 abbrev pub entry_of : Slot → Entry Value
 entry_of slot.Mark = Mark
 entry_of (slot.Object v) = Item v
 
--- these entries, the last of them on top, above the others
+-- these entries, the last one on top, above the entries `below`
 abbrev pub shown : List Slot → List (Entry Value) → List (Entry Value)
 shown [] below = below
 shown (s ∷ ss) below = shown ss (entry_of s ∷ below)
@@ -67,7 +67,7 @@ abbrev pub FirstObject : List Slot → Type 0
 FirstObject (slot.Object v ∷ ss) = ⊤
 FirstObject ss = ⊥
 
--- the entries that must be objects for this operation are
+-- the entries are right for this operation: k objects, any slice, or a slice with an object first
 abbrev pub StartsWell : Takes → List Slot → Type 0
 StartsWell (Objects k) ss = (length ss ≡ k) × AllObjects ss
 StartsWell (Slice rule) ss = ⊤
@@ -78,9 +78,9 @@ abbrev pub IsNumbered : ℕ → Value → Type 0
 IsNumbered count (value.Text n) = n < count
 IsNumbered count v = ⊤
 
--- given a table of texts
+-- relative to a table of texts
 module _ (ts : List (List ℕ)) where
-  -- what is known of an object, in the terms of the public definitions
+  -- what is known about an object, in the terms of the public definitions
   abbrev pub known : Value → Known
   known value.Unknown = None
   known (value.Made c) = Some (Plain c)
@@ -90,35 +90,35 @@ module _ (ts : List (List ℕ)) where
   entry_seen Mark = Mark
   entry_seen (Item v) = Item (known v)
 
-  -- the stack
+  -- what is known about the stack
   abbrev pub seen : List (Entry Value) → List (Entry Known)
   seen es = map entry_seen es
 
-  -- the memo
+  -- what is known about the memo
   abbrev pub remembered : List (ℕ × Value) → List (ℕ × Known)
   remembered cells = map (λ e. (e.0, known e.1)) cells
 
-  -- both
+  -- what is known about the stack and the memo
   abbrev pub resolved : Shape Value → Knowledge
   resolved h = record { entries = seen h.entries; memo = remembered h.memo }
 
-  -- this is known of the object, and it refers only to texts in the table
+  -- this is known about the object, and it refers only to texts in the table
   pub record StandsAs (v : Value) (k : Known) : Type 0 where
     pub is : known v ≡ k
     pub numbered : IsNumbered (length ts) v
 
-  -- as StandsAs, if there is an object
+  -- like StandsAs, if there is an object
   abbrev pub StandsIf : Option Value → Option Known → Type 0
   StandsIf None None = ⊤
   StandsIf (Some v) (Some k) = StandsAs v k
   StandsIf None (Some k) = ⊥
   StandsIf (Some v) None = ⊥
 
-  -- as StandsAs, for every entry of the stack
+  -- like StandsAs, for every entry of the stack
   abbrev pub Sees : List (Entry Value) → List (Entry Known) → Type 0
   Sees es ks = Pointwise (AlikeEntry StandsAs) es ks
 
-  -- as StandsAs, for the stack and the memo
+  -- like StandsAs, for the stack and the memo
   abbrev pub Resolves : Shape Value → Type 0
   Resolves h = Alike StandsAs h (resolved h)
 

@@ -10,7 +10,7 @@ ghost use Rattle.pkops.specs.Payloads.{is_passed};
 use crate::effect::{Class, Gives, Move, Names, SliceRule, Takes, Wanted};
 use pkops::Op;
 
-/// What an operation takes, where its name comes from, and what it gives.
+/// What an operation takes, where the name of its import comes from, and what it leaves.
 #[derive(Clone, Copy)]
 pub struct Operation {
     pub takes: Takes,
@@ -18,29 +18,29 @@ pub struct Operation {
     pub gives: Gives,
 }
 
-/// What the machine does at an opcode. The most frequent actions are variants; other operations
-/// look up their row of the table.
+/// What the machine does at an opcode. The most frequent actions are variants of their own. The
+/// other operations look up their row of the table.
 #[derive(Clone, Copy)]
 pub enum Action {
     /// Pushes a new object of this class.
     Makes(Class),
-    /// Pushes a new int or bool, as the line says.
+    /// Pushes a new int or bool, depending on the line.
     MakesIntOrBool,
     /// Pushes the text that the argument spells.
     MakesText,
-    /// Pushes what becomes of an old string.
+    /// Pushes what a Python 2 string decodes to.
     ReadsOldString,
     /// Looks at no object.
     Moves(Move),
-    /// Takes objects and gives one.
+    /// Takes objects and leaves one.
     Operates,
-    /// Takes objects, imports a pair and gives one object.
+    /// Takes objects, imports a pair and pushes one object.
     Imports,
-    /// Takes the result.
+    /// Pops the result.
     Stops,
 }
 
-/// Takes these and pushes a new object of this class.
+/// Takes the operands and pushes a new object of this class.
 #[inline(always)]
 fn makes(takes: Takes, class: Class) -> Operation
     ensures { effect_in result ≡ makes takes class }
@@ -48,7 +48,7 @@ fn makes(takes: Takes, class: Class) -> Operation
     unnamed(takes, Gives::Makes(class))
 }
 
-/// Takes these and pushes a new object of this class, or raises.
+/// Takes the operands and pushes a new object of this class, or raises.
 #[inline(always)]
 fn may_make(takes: Takes, class: Class) -> Operation
     ensures { effect_in result ≡ may_make takes class }
@@ -56,7 +56,7 @@ fn may_make(takes: Takes, class: Class) -> Operation
     unnamed(takes, Gives::MayMake(class))
 }
 
-/// Takes these and pushes whatever an operation answers, or raises.
+/// Takes the operands and pushes any object, or raises.
 #[inline(always)]
 fn answers(takes: Takes) -> Operation
     ensures { effect_in result ≡ answers takes }
@@ -64,7 +64,7 @@ fn answers(takes: Takes) -> Operation
     unnamed(takes, Gives::Answers)
 }
 
-/// Takes these but for the first, which it leaves with more in it, or raises.
+/// Takes the operands except the first, which stays on the stack with more in it, or raises.
 #[inline(always)]
 fn fills(takes: Takes, wanted: Wanted) -> Operation
     ensures { effect_in result ≡ fills takes wanted }
@@ -72,7 +72,7 @@ fn fills(takes: Takes, wanted: Wanted) -> Operation
     unnamed(takes, Gives::Leaves(wanted))
 }
 
-/// Takes these, names nothing and gives this.
+/// An operation that imports nothing.
 #[inline(always)]
 fn unnamed(takes: Takes, gives: Gives) -> Operation
     ensures { effect_in result ≡ Operates takes Names.NoName gives }
@@ -84,7 +84,7 @@ fn unnamed(takes: Takes, gives: Gives) -> Operation
     }
 }
 
-/// Takes these, imports a pair and pushes whatever stands under it, or raises.
+/// Takes the operands, imports a pair and pushes the object of that name, or raises.
 #[inline(always)]
 fn imports(takes: Takes, names: Names) -> Operation
     ensures { effect_in result ≡ imports takes names }
@@ -96,7 +96,7 @@ fn imports(takes: Takes, names: Names) -> Operation
     }
 }
 
-/// The operation of an opcode that has one.
+/// The operation of an opcode. The result is unspecified if the opcode has none.
 #[inline(always)]
 pub fn operation_of(op: Op) -> Operation
     ensures { IsOperation (effect_of op) → effect_of op ≡ effect_in result }
@@ -129,10 +129,10 @@ pub fn operation_of(op: Op) -> Operation
             Wanted::WantsSet,
         ),
         Op::FrozenSet => may_make(Takes::Slice(SliceRule::AnySlice), Class::FrozenSet),
-        // names of classes and functions
+        // imports
         Op::Global => imports(Takes::Objects(0), Names::OfArgument),
         Op::StackGlobal => imports(Takes::Objects(2), Names::OfOperands),
-        // building objects
+        // calls and state
         Op::Reduce => answers(Takes::Objects(2)),
         Op::Build => fills(Takes::Objects(2), Wanted::WantsAny),
         Op::Inst => imports(Takes::Slice(SliceRule::AnySlice), Names::OfArgument),
@@ -140,7 +140,7 @@ pub fn operation_of(op: Op) -> Operation
         Op::NewObj => answers(Takes::Objects(2)),
         Op::NewObjEx => answers(Takes::Objects(3)),
         Op::BinPersid => answers(Takes::Objects(1)),
-        // the next of the buffers, and what a persistent identifier names
+        // PERSID and NEXT_BUFFER
         _ => answers(Takes::Objects(0)),
     }
 }
@@ -205,7 +205,7 @@ pub fn action_of(op: Op) -> Action
     }
 }
 
-/// The class of object that an opcode makes whose payload may be passed over.
+/// The class of the object that an opcode with a skipped payload makes.
 pub fn class_passed(op: Op) -> Class
     ensures { IsTrue (is_passed op) → effect_of op ≡ pushes result }
 {

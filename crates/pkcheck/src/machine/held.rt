@@ -1,5 +1,5 @@
-//! What is known along a pickle: the stack, the memo, the texts that both name by number, and the
-//! imports.
+//! What is known before an instruction: the stack, the memo, the texts that both refer to by
+//! number, and the imports so far.
 ghost use Rattle.std.specs.Prelude.{◌≡◌, ◌⊎◌, ◌≤◌, ◌++◌, [], length, IfOk, IfErr};
 ghost use Rattle.std.specs.Prelude.{None, OnErr, OnOk, Some, false, suc};
 ghost use Rattle.pkcheck.specs.Private.Denials.{IsDenied, IsForMemory, IsFaultOf, IsStopFault};
@@ -33,7 +33,7 @@ use pkread::Reason;
 use std::alloc::{AllocError, Global};
 use std::marker::Model;
 
-/// What is known of the stack and the memo, and the imports so far.
+/// What is known about the stack and the memo, and the imports so far.
 #[derive(Drop)]
 pub struct Held {
     stack: Stack,
@@ -58,7 +58,7 @@ impl Model for Held {
 }
 
 impl Held {
-    /// Nothing is known, and nothing is there. It takes no memory.
+    /// An empty stack and memo, with no imports. Allocates nothing.
     pub fn new(alloc: Global) -> Held
         ensures { result ≡ record { knowledge = nothing_known; texts = 0; imports = [] } }
     {
@@ -69,7 +69,7 @@ impl Held {
         }
     }
 
-    /// Forgets all, and keeps the memory.
+    /// Removes everything, and keeps the memory.
     pub fn clear(&mut self)
         ensures { self.new ≡ record { knowledge = nothing_known; texts = 0; imports = [] } }
     {
@@ -78,7 +78,7 @@ impl Held {
         self.ledger.clear();
     }
 
-    /// Takes the stack away, and keeps all else.
+    /// Clears the stack, and keeps the rest.
     pub fn clear_stack(&mut self)
         ensures { self.new ≡ record {
           knowledge = record { entries = []; memo = self.old.knowledge.memo };
@@ -96,28 +96,28 @@ impl Held {
         self.stack.marks()
     }
 
-    /// How many texts are in the table.
+    /// The number of texts in the table.
     pub fn texts(&self) -> usize
         ensures { result ≡ self.now.texts }
     {
         self.ledger.texts()
     }
 
-    /// The imports, lent.
+    /// The imports, borrowed.
     pub fn imports(&self) -> ImportList<'_>
         ensures { result ≡ self.now.imports }
     {
         self.ledger.imports()
     }
 
-    /// Lists the imports behind others.
+    /// Appends the imports to a ledger.
     pub fn list_in(&self, alloc: Global, imports: &mut Ledger) -> Result<(), AllocError>
         ensures { OnOk result (imports.new.asked ≡ imports.old.asked ++ self.now.imports) }
     {
         imports.append(alloc, &self.ledger)
     }
 
-    /// The imports, without the rest.
+    /// The imports, consuming the rest.
     pub fn into_imports(self) -> Imports
         ensures { result ≡ self.imports }
     {
@@ -139,7 +139,7 @@ impl Held {
         self.stack.push(limits, Value::Made(class))
     }
 
-    /// Pushes an object of which nothing is known.
+    /// Pushes an object about which nothing is known.
     #[inline]
     pub fn answer(&mut self, limits: &Limits) -> Result<(), Reason>
         ensures ok { OnOk result (self.new.knowledge ≡ with_item None self.old.knowledge) }
@@ -174,7 +174,7 @@ impl Held {
         make_text(alloc, &mut self.stack, &mut self.ledger, limits, inst)
     }
 
-    /// Does what the move does.
+    /// Applies a move to the stack and the memo.
     #[inline(always)]
     pub fn apply(&mut self, limits: &Limits, what: Move, inst: &Inst<'_>) -> Result<(), Reason>
         requires stack { length self.old.knowledge.entries ≤ limits.now.stack }
@@ -194,7 +194,7 @@ impl Held {
         apply(&mut self.stack, &mut self.memo, limits, what, inst)
     }
 
-    /// Does the operation of an opcode that names nothing.
+    /// Applies the operation of an opcode that imports nothing.
     #[inline(always)]
     pub fn operate(&mut self, limits: &Limits, op: Op) -> Result<(), Reason>
         requires within { length self.old.knowledge.entries ≤ limits.now.stack }
@@ -216,7 +216,8 @@ impl Held {
         Ok(())
     }
 
-    /// Does the operation of an instruction that names a pair.
+    /// Applies the operation of an instruction that imports a pair. Returns whether an import was
+    /// listed.
     #[inline(always)]
     pub fn operate_named(
         &mut self,
@@ -253,7 +254,7 @@ impl Held {
         )
     }
 
-    /// Takes the result, where nothing else is left.
+    /// Pops the result. Refuses with `LeftOver` if anything else is on the stack.
     pub fn finish(&mut self) -> Result<(), Reason>
         ensures ok { OnOk result (stop_learned self.old.knowledge.memo
             (top self.old.knowledge.entries)

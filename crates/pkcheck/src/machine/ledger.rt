@@ -1,4 +1,5 @@
-//! The texts that a pickle made, and the imports that it asked for, which name them by number.
+//! The texts that a pickle makes and the imports that it requests. Imports refer to texts by
+//! number.
 ghost use Rattle.std.specs.Prelude.{◌≡◌, ◌<◌, ℕ, List, ◌∷◌, ◌++◌, [], length, take, get_or};
 ghost use Rattle.std.specs.Prelude.{is_some, map, option_map, IfOk, IfErr, IsSome, OnErr, OnOk};
 ghost use Rattle.pkcheck.specs.Import.{asks_more};
@@ -17,23 +18,24 @@ use pkread::Reason;
 use std::alloc::{AllocError, Global};
 use std::marker::Model;
 
-/// An import that is listed.
+/// A listed import.
 #[derive(Clone, Copy, Debug)]
 pub enum Entry {
-    /// Its pair is not known.
+    /// The pair is unknown.
     Unknown,
-    /// The module and the name are texts of these numbers.
+    /// The module and the name are the texts with these numbers.
     Made(u32, u32),
-    /// The module and the name were written out under these numbers.
+    /// The module and the name are the names in `written` with these numbers.
     Written(u32, u32),
 }
 
-/// The texts that a pickle made, and the imports that it asked for. An import takes the memory of
-/// an entry; of a pair that an instruction spells, the names besides, which the pickle spells too.
+/// The texts that a pickle makes and the imports that it requests. An import takes the memory of
+/// one entry. If an instruction spells the pair, its names take memory too, as they do in the
+/// pickle.
 #[derive(Debug)]
 pub struct Ledger {
     texts: Texts,
-    /// The names that stand in no text.
+    /// The names that are not in `texts`.
     written: Texts,
     entries: Vec<Entry>,
 }
@@ -63,7 +65,7 @@ impl Model for Ledger {
 }
 
 impl Ledger {
-    /// No texts, and no imports. It takes no memory.
+    /// No texts and no imports. Allocates nothing.
     pub fn new(alloc: Global) -> Ledger
         ensures { result ≡ record { texts = []; asked = [] } }
     {
@@ -74,7 +76,7 @@ impl Ledger {
         }
     }
 
-    /// Forgets all, and keeps the memory.
+    /// Removes everything, and keeps the memory.
     pub fn clear(&mut self)
         ensures { self.new ≡ record { texts = []; asked = [] } }
     {
@@ -83,7 +85,7 @@ impl Ledger {
         self.entries.clear();
     }
 
-    /// How many texts there are.
+    /// The number of texts.
     #[inline]
     pub fn texts(&self) -> usize
         ensures { result ≡ length self.now.texts }
@@ -91,14 +93,14 @@ impl Ledger {
         self.texts.len()
     }
 
-    /// The text of a number, and the empty text past the last.
+    /// The text with a number; empty past the last.
     pub fn text(&self, number: u32) -> &str
         ensures { result.now ≡ get_or self.now.texts number [] }
     {
         self.texts.get(number as usize)
     }
 
-    /// Puts the text of an instruction behind the others.
+    /// Appends the text of an instruction.
     #[inline]
     pub fn add_text(&mut self, alloc: Global, inst: &Inst<'_>) -> Result<(), AllocError>
         ensures ok { OnOk result (self.new ≡ record {
@@ -110,21 +112,21 @@ impl Ledger {
         self.texts.add(alloc, inst)
     }
 
-    /// How many imports are listed.
+    /// The number of listed imports.
     pub fn len(&self) -> usize
         ensures { result ≡ length self.now.asked }
     {
         self.entries.len()
     }
 
-    /// The imports, lent.
+    /// The imports, borrowed.
     pub fn imports(&self) -> ImportList<'_>
         ensures { result ≡ self.now.asked }
     {
         ImportList::new(&self.texts, &self.written, &self.entries)
     }
 
-    /// Lists an import, if there is one.
+    /// Lists an import, if there is one. Returns whether there was one.
     pub fn list(&mut self, named: Option<Named<'_>>) -> Result<bool, Reason>
         requires { IsNamedIf (length self.old.texts) named }
         ensures ok { IfOk result (λ b. (self.new ≡ record {
@@ -142,8 +144,7 @@ impl Ledger {
         Ok(true)
     }
 
-    /// Lists the imports of another ledger behind the others. Of its texts it copies those that
-    /// they name, each of them once.
+    /// Appends the imports of another ledger. Copies the texts that they refer to, each only once.
     pub fn append(&mut self, alloc: Global, other: &Ledger) -> Result<(), AllocError>
         ensures { OnOk result (self.new ≡ record {
           texts = self.old.texts;
@@ -161,7 +162,7 @@ impl Ledger {
         Ok(())
     }
 
-    /// Takes all imports but the first so many off the list.
+    /// Keeps the first `count` imports and removes the rest.
     pub fn keep(&mut self, count: usize)
         ensures { self.new ≡ record { texts = self.old.texts; asked = take count self.old.asked } }
     {
@@ -169,7 +170,7 @@ impl Ledger {
     }
 }
 
-/// The entry of an import. Names that stand in no text are written out.
+/// Makes the entry of an import. Names that are not in the table of texts are written to `written`.
 fn enter(written: &mut Texts, named: Named<'_>) -> Result<Entry, Reason>
     ensures grows { HasMoreTexts written.old written.new }
     ensures ok { (ts : List (List ℕ)) → IfOk result (λ e. (entry_asked ts written.new e
@@ -188,7 +189,7 @@ fn enter(written: &mut Texts, named: Named<'_>) -> Result<Entry, Reason>
     }
 }
 
-/// Writes a name out, and gives its number.
+/// Appends a name and returns its number.
 fn write(written: &mut Texts, name: &str) -> Result<u32, Reason>
     ensures ok { IfOk result (λ n. (n ≡ length written.old)
         × (written.new ≡ written.old ++ name.now ∷ [])) }
@@ -201,7 +202,7 @@ fn write(written: &mut Texts, name: &str) -> Result<u32, Reason>
     Ok(number)
 }
 
-/// Entries that say the same as these, by names that are written out.
+/// Copies entries. The copies refer only to names in `written`.
 fn copy_entries(
     alloc: Global,
     written: &mut Texts,
@@ -227,7 +228,7 @@ fn copy_entries(
     Ok(copied)
 }
 
-/// The entry that says the same, by names that are written out.
+/// Copies an entry. The copy refers only to names in `written`.
 fn copy_entry(
     written: &mut Texts,
     copies: &mut Vec<Option<u32>>,
@@ -258,7 +259,7 @@ fn copy_entry(
     }
 }
 
-/// The number under which a text is written out. It is written out once.
+/// Copies a text to `written` unless `copies` shows that it is there already. Returns its number.
 fn copy_text(
     written: &mut Texts,
     copies: &mut Vec<Option<u32>>,

@@ -57,7 +57,7 @@ impl Memo {
         }
     }
 
-    /// Removes all entries, and keeps the memory of those in order.
+    /// Removes all entries, and keeps the memory of `ordered`.
     pub fn clear(&mut self)
         ensures { self.new ≡ [] }
     {
@@ -111,8 +111,8 @@ impl Memo {
         self.store_apart(limits, number, value)
     }
 
-    /// `store` for a number that is not the next in order. The separate call gives its answer a
-    /// stack slot only on this path.
+    /// Like `store`, for a number that is not the next in order. The separate call gives its result
+    /// a stack slot only on this path.
     #[inline(always)]
     fn store_apart(&mut self, limits: &Limits, number: u64, value: Value) -> Result<(), Reason>
         requires { length self.old ≤ limits.now.memo }
@@ -125,7 +125,7 @@ impl Memo {
         Ok(())
     }
 
-    /// `store` for a number that is not the next in order, out of line.
+    /// Like `store`, for a number that is not the next in order. Out of line.
     #[inline(never)]
     fn store_elsewhere(&mut self, limits: &Limits, number: u64, value: Value) -> Result<(), Reason>
         requires { length self.old ≤ limits.now.memo }
@@ -175,7 +175,7 @@ fn found(rest: &BTreeMap<u32, Value>, number: u32) -> Option<Value>
     }
 }
 
-/// Sets the entry of a number in the tree, if it has one already or there is room for one more.
+/// Sets the entry of a number in the tree. A new entry needs room.
 #[inline(never)]
 fn put(
     rest: &mut BTreeMap<u32, Value>,

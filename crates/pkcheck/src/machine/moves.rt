@@ -1,4 +1,4 @@
-//! The moves, which look at no object.
+//! The moves: effects that look at no object.
 ghost use Rattle.pkcheck.specs.Effects.{number_moved};
 ghost use Rattle.pkcheck.specs.Private.Denials.{IsFault, IsFaultOf};
 ghost use Rattle.pkcheck.specs.Shape.{moved, slice, Entry, NoMark};
@@ -13,7 +13,7 @@ use crate::machine::value::Value;
 use pkops::{Inst, Limits};
 use pkread::Reason;
 
-/// Pushes the top once more.
+/// Pushes the top of the stack again.
 #[inline(always)]
 pub fn duplicate(stack: &mut Stack, limits: &Limits) -> Result<(), Reason>
     ensures ok { (m : List (ℕ × Value))
@@ -28,7 +28,7 @@ pub fn duplicate(stack: &mut Stack, limits: &Limits) -> Result<(), Reason>
     stack.push(limits, value)
 }
 
-/// Stores the top under a number.
+/// Stores the top of the stack under a number.
 #[inline(always)]
 pub fn remember(stack: &Stack, memo: &mut Memo, limits: &Limits, number: u64) -> Result<(), Reason>
     requires { length memo.old ≤ limits.now.memo }
@@ -44,7 +44,7 @@ pub fn remember(stack: &Stack, memo: &mut Memo, limits: &Limits, number: u64) ->
     memo.store(limits, number, value)
 }
 
-/// Like `remember`, under the number that the instruction names, if the limit allows it.
+/// Like `remember`, but refuses a number above the limit.
 #[inline(always)]
 fn remember_at(stack: &Stack, memo: &mut Memo, limits: &Limits, number: u32) -> Result<(), Reason>
     requires { length memo.old ≤ limits.now.memo }
@@ -64,7 +64,7 @@ fn remember_at(stack: &Stack, memo: &mut Memo, limits: &Limits, number: u32) -> 
     remember(stack, memo, limits, number as u64)
 }
 
-/// Pushes what was stored under a number.
+/// Pushes the object stored under a number.
 #[inline(always)]
 pub fn recall(stack: &mut Stack, memo: &Memo, limits: &Limits, number: u32) -> Result<(), Reason>
     ensures ok { OnOk result (moved Move.Fetches number
@@ -81,7 +81,7 @@ pub fn recall(stack: &mut Stack, memo: &Memo, limits: &Limits, number: u32) -> R
     }
 }
 
-/// The number of the memo entry that the instruction names.
+/// The memo number in the argument; 0 if there is none.
 #[inline(always)]
 fn number_of(inst: &Inst<'_>) -> u32
     ensures { result ≡ memo_number (instruction_of inst.now) }
@@ -89,8 +89,8 @@ fn number_of(inst: &Inst<'_>) -> u32
     inst.memo_number().unwrap_or(0)
 }
 
-/// Takes the topmost entry. As below, the call stands apart so that room for its answer
-/// is made on its own way alone.
+/// Removes the topmost entry. The separate function gives the result of the call a stack slot only
+/// on this path, as `pop_mark` does.
 #[inline(always)]
 fn pop(stack: &mut Stack) -> Result<(), Reason>
     ensures ok { OnOk result ((e : Entry Value) × (stack.old ≡ e ∷ stack.new)) }
@@ -101,7 +101,7 @@ fn pop(stack: &mut Stack) -> Result<(), Reason>
     Ok(())
 }
 
-/// Takes what stands above the topmost mark, and the mark.
+/// Removes the topmost mark and everything above it.
 #[inline(always)]
 fn pop_mark(stack: &mut Stack) -> Result<(), Reason>
     ensures fewer { length stack.new ≤ length stack.old }
@@ -114,7 +114,7 @@ fn pop_mark(stack: &mut Stack) -> Result<(), Reason>
     Ok(())
 }
 
-/// Does what the move does.
+/// Applies a move.
 #[inline(always)]
 pub fn apply(
     stack: &mut Stack,

@@ -1,4 +1,4 @@
-//! A new text, of an instruction that spells one.
+//! Pushes the text that an instruction spells.
 ghost use Rattle.std.specs.Prelude.{◌≡◌, ◌≤◌, ◌∷◌, length, suc, Some, IfErr, OnOk};
 ghost use Rattle.pkops.specs.Contents.{IsGood};
 ghost use Rattle.pkops.specs.Inst.{instruction_of};
@@ -16,7 +16,7 @@ use pkops::{Arg, Inst, Limits, Op};
 use pkread::Reason;
 use std::alloc::Global;
 
-/// Puts the text of an instruction into the table, and names it on top.
+/// Adds the text of an instruction to the table, and pushes its number.
 #[inline(always)]
 fn name_text(
     alloc: Global,
@@ -48,8 +48,8 @@ fn name_text(
     Ok(())
 }
 
-/// Like `name_text`, for an opcode and its payload. A parameter of the type `Inst` would put the
-/// instruction in memory in every step.
+/// Like `name_text`, for an opcode and its payload. A parameter of type `Inst` would force the
+/// instruction into memory in every step.
 #[inline(never)]
 fn name_payload(
     alloc: Global,
@@ -76,7 +76,7 @@ fn name_payload(
     name_text(alloc, stack, ledger, limits, &inst)
 }
 
-/// Like `name_text`, for an opcode and its line.
+/// Like `name_text`, for an opcode and its line. See `name_payload`.
 #[inline(never)]
 fn name_line(
     alloc: Global,
@@ -103,7 +103,7 @@ fn name_line(
     name_text(alloc, stack, ledger, limits, &inst)
 }
 
-/// Puts the text of an instruction that spells one into the table, and names it on top.
+/// Adds the text of an instruction to the table, and pushes its number.
 #[inline(always)]
 pub fn make_text(
     alloc: Global,

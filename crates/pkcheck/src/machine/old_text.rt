@@ -1,4 +1,4 @@
-//! Old strings that are read as ASCII.
+//! Whether a Python 2 string is ASCII.
 ghost use Rattle.std.specs.Prelude.{◌≡◌, [], IfOk, unwrap_or};
 ghost use Rattle.std.specs.Char.{is_ascii};
 ghost use Rattle.std.specs.List.{list_all};
@@ -11,7 +11,7 @@ ghost use Rattle.pkcheck.specs.Private.Spelled.{IsSpelled};
 use pkops::{Arg, Inst, Op, old_bytes_of};
 use std::alloc::{AllocError, Global};
 
-/// Whether the old string of an instruction is ASCII.
+/// Whether the Python 2 string of an instruction is ASCII.
 #[inline(always)]
 pub fn is_ascii_string(alloc: Global, inst: &Inst<'_>) -> Result<bool, AllocError>
     requires spells { IsSpelled (instruction_of inst.now).arg }
@@ -25,8 +25,8 @@ pub fn is_ascii_string(alloc: Global, inst: &Inst<'_>) -> Result<bool, AllocErro
     }
 }
 
-/// Like `has_ascii`, for an opcode and its payload. A parameter of the type `Inst` would put the
-/// instruction in memory in every step.
+/// Like `has_ascii`, for an opcode and its payload. A parameter of type `Inst` would force the
+/// instruction into memory in every step.
 #[inline(never)]
 fn is_ascii_payload(alloc: Global, op: Op, payload: &[u8]) -> Result<bool, AllocError>
     requires { IsGood (instruction op (Counted payload.now)) }
@@ -36,7 +36,7 @@ fn is_ascii_payload(alloc: Global, op: Op, payload: &[u8]) -> Result<bool, Alloc
     has_ascii(alloc, &Inst::known(op, Arg::Counted(payload)))
 }
 
-/// Like `has_ascii`, for an opcode and its line.
+/// Like `has_ascii`, for an opcode and its line. See `is_ascii_payload`.
 #[inline(never)]
 fn is_ascii_line(alloc: Global, op: Op, line: &[u8]) -> Result<bool, AllocError>
     requires { IsGood (instruction op (Line line.now)) }
@@ -46,7 +46,7 @@ fn is_ascii_line(alloc: Global, op: Op, line: &[u8]) -> Result<bool, AllocError>
     has_ascii(alloc, &Inst::known(op, Arg::Line(line)))
 }
 
-/// Whether each byte of the old string that the instruction spells is ASCII.
+/// Whether the Python 2 string of an instruction is ASCII. Decodes it first.
 fn has_ascii(alloc: Global, inst: &Inst<'_>) -> Result<bool, AllocError>
     ensures { IfOk result (λ answer. answer
         ≡ list_all is_ascii (unwrap_or (old_bytes (instruction_of inst.now)) [])) }
@@ -57,7 +57,6 @@ fn has_ascii(alloc: Global, inst: &Inst<'_>) -> Result<bool, AllocError>
     }
 }
 
-/// Whether each byte is ASCII.
 fn is_ascii(bytes: &[u8]) -> bool
     ensures { result ≡ list_all is_ascii bytes.now }
 {

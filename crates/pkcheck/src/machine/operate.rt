@@ -1,4 +1,4 @@
-//! The operations, which take objects and give one.
+//! The operations, which take objects and leave one.
 ghost use Rattle.std.specs.Prelude.{◌≡◌, option_map, IfSome};
 ghost use Rattle.pkops.specs.Contents.{IsGood};
 ghost use Rattle.pkops.specs.Inst.{instruction_of};
@@ -17,8 +17,8 @@ pub use nameless::operate_unnamed;
 use pkops::{Arg, Inst};
 use pkread::Reason;
 
-/// Why a step is refused, with the pair that is off the list. The pair lies apart, so that what a
-/// step answers is small: most steps are not refused.
+/// Why a step is refused, and the pair if it is off the list. The pair is boxed, which keeps the
+/// result of a step small. Few steps are refused.
 #[derive(Drop)]
 pub struct Denial {
     pub reason: Reason,
@@ -36,7 +36,7 @@ impl From<Reason> for Denial {
     }
 }
 
-/// The two lines of an argument, where it has two.
+/// The two lines of an argument, if it has two.
 #[inline(always)]
 pub fn lines_of<'a>(inst: &Inst<'a>) -> Option<(&'a [u8], &'a [u8])>
     ensures named { option_map (λ pair. (pair.0.now, pair.1.now)) result

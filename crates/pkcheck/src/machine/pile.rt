@@ -1,18 +1,18 @@
-//! Entries that come and go at the end.
+//! A vector that keeps its store when entries are removed.
 ghost use Rattle.std.specs.Prelude.{◌≡◌, [], ◌∷◌, ◌++◌, ◌+◌, ◌^◌, ◌<◌, ◌≤◌, length, set, take};
 ghost use Rattle.std.specs.Prelude.{OnErr, OnOk};
 
 use std::alloc::{AllocError, Global};
 use std::marker::Model;
 
-/// Entries that come and go at the end. The store never shrinks, so that one which comes where
-/// another has gone is a move.
+/// A vector that grows and shrinks at its end. The store never shrinks, so a push into a place that
+/// was in use before is a plain move.
 #[derive(Debug, Drop)]
 pub struct Pile<T> {
     store: Vec<T>,
-    /// How many of the store are there.
+    /// The number of entries in use.
     count: usize,
-    /// What fills the store behind them.
+    /// The value of the unused entries.
     filler: T,
 }
 
@@ -27,7 +27,7 @@ impl<T> Model for Pile<T> {
 }
 
 impl<T: Copy + Drop> Pile<T> {
-    /// No entries, over a store that this one fills. It takes no memory.
+    /// An empty vector with this filler. Allocates nothing.
     pub fn new(alloc: Global, filler: T) -> Pile<T>
         ensures { result ≡ [] }
     {
@@ -38,7 +38,7 @@ impl<T: Copy + Drop> Pile<T> {
         }
     }
 
-    /// How many entries there are.
+    /// The number of entries.
     #[inline]
     pub fn len(&self) -> usize
         ensures value { result ≡ length self.now }
@@ -55,7 +55,7 @@ impl<T: Copy + Drop> Pile<T> {
         &self.store[..self.count]
     }
 
-    /// Takes all away, and keeps the memory.
+    /// Removes all entries, and keeps the memory.
     #[inline]
     pub fn clear(&mut self)
         ensures { self.new ≡ [] }
@@ -63,7 +63,7 @@ impl<T: Copy + Drop> Pile<T> {
         self.count = 0;
     }
 
-    /// Leaves the first so many.
+    /// Keeps the first `count` entries.
     #[inline]
     pub fn truncate(&mut self, count: usize)
         ensures { self.new ≡ take count self.old }
@@ -73,18 +73,18 @@ impl<T: Copy + Drop> Pile<T> {
         }
     }
 
-    /// Leaves one of them and all before it.
+    /// Keeps the entry at a place and those before it.
     #[inline(always)]
     pub fn end_with(&mut self, place: usize)
         requires { place < length self.old }
         ensures { self.new ≡ take (place + 1) self.old }
     {
-        // Read for the proof, which has the range of the sum from it.
+        // The proof needs this read: it bounds the sum.
         let _count = self.count;
         self.count = place + 1;
     }
 
-    /// Puts an entry in the place of one.
+    /// Replaces the entry at an index.
     #[inline(always)]
     pub fn set(&mut self, index: usize, entry: T)
         requires { index < length self.old }
@@ -93,7 +93,7 @@ impl<T: Copy + Drop> Pile<T> {
         self.store[index] = entry;
     }
 
-    /// Puts an entry behind the others.
+    /// Appends an entry.
     #[inline(always)]
     pub fn push(&mut self, entry: T) -> Result<(), AllocError>
         ensures ok { OnOk result (self.new ≡ self.old ++ entry ∷ []) }
@@ -110,7 +110,7 @@ impl<T: Copy + Drop> Pile<T> {
         Ok(())
     }
 
-    /// Puts an entry in the place of one and all behind it.
+    /// Replaces the entry at a place and all those after it with one entry.
     #[inline(always)]
     pub fn replace(&mut self, place: usize, entry: T)
         requires { place < length self.old }
@@ -121,11 +121,11 @@ impl<T: Copy + Drop> Pile<T> {
     }
 }
 
-/// The first allocation has room for so many entries: a short pickle needs no second one.
+/// The number of entries of the first allocation. A short pickle needs no second one.
 const FIRST: usize = 64;
 
-/// Lengthens a store by many entries at once, and by no more than it is long. It isn't handed the
-/// entry that wants the place: a call that takes it keeps it in memory, also where none is made.
+/// Lengthens a store by its own length, but by at least 4 and at most 64 entries. The new entry is
+/// not a parameter: the compiler would then keep it in memory even on the path without the call.
 #[inline(never)]
 fn lengthen<T: Copy + Drop>(store: &mut Vec<T>, filler: T) -> Result<(), AllocError>
     ensures ok { OnOk result (length store.old.items < length store.new.items) }

@@ -1,4 +1,4 @@
-//! One step over what is known.
+//! One step of the machine.
 ghost use Rattle.std.specs.Prelude.{◌≡◌, ◌⊎◌, ◌≤◌, length, option_map, true, None, Ok};
 ghost use Rattle.std.specs.Prelude.{IfOk, IfErr, OnOk, OnErr};
 ghost use Rattle.pkcheck.specs.Effects.{effect_as, effect_of, is_old_string, number_stored};
@@ -27,19 +27,19 @@ use pkops::{Inst, Limits};
 use pkread::Reason;
 use std::alloc::Global;
 
-/// What a step did that goes on.
+/// What an accepted step did.
 #[derive(Clone, Copy, Debug, PartialEq, Eq)]
 pub enum Moved {
-    /// Neither of the others.
+    /// The step neither listed an import nor was STOP.
     On,
-    /// It listed an import.
+    /// The step listed an import.
     Import,
-    /// It was STOP.
+    /// The step was STOP.
     Stopped,
 }
 
-/// Does what the instruction does. Where its import is off the list, the pair is put aside: what
-/// most steps answer is small then.
+/// Applies an instruction to what is known. If the import is off the list, its pair is stored in
+/// `off`, so the result of a step stays small.
 #[inline(always)]
 pub fn advance(
     alloc: Global,
@@ -102,8 +102,8 @@ pub fn advance(
     }
 }
 
-/// Pushes what becomes of an old string. It is read from a copy: an instruction whose address is
-/// handed on lies in memory in every step.
+/// Pushes what a Python 2 string decodes to. It reads a copy of the instruction. Passing the
+/// address of the original would force it into memory in every step.
 #[inline(always)]
 fn read_copy(
     alloc: Global,
@@ -133,7 +133,8 @@ fn read_copy(
     Ok(())
 }
 
-/// Pushes what becomes of it.
+/// Pushes what a Python 2 string decodes to. Refuses with `NotAscii` if it must be ASCII but is
+/// not.
 #[inline(never)]
 fn read_old_string(
     alloc: Global,
@@ -172,7 +173,7 @@ fn read_old_string(
     }
 }
 
-/// Takes the result, where nothing else is left.
+/// Pops the result. Refuses with `LeftOver` if anything else is on the stack.
 #[inline(always)]
 fn finish(held: &mut Held) -> Result<(), Reason>
     ensures ok { OnOk result (stop_learned held.old.knowledge.memo
@@ -190,7 +191,7 @@ fn finish(held: &mut Held) -> Result<(), Reason>
     Ok(())
 }
 
-/// Does the operation of an instruction that names a pair.
+/// Applies an instruction that imports a pair.
 #[inline(always)]
 fn import(
     alloc: Global,
@@ -230,7 +231,7 @@ fn import(
     }
 }
 
-/// Puts the pair of a denial aside, and gives its reason.
+/// Stores the pair of a denial in `off` and returns the reason.
 #[inline(never)]
 fn put_aside(denial: Denial, off: &mut Option<Asked>) -> Reason
     ensures reason { result ≡ denial.reason }
@@ -241,7 +242,7 @@ fn put_aside(denial: Denial, off: &mut Option<Asked>) -> Reason
     reason
 }
 
-/// The pair of a refusal, out of its place.
+/// Moves a pair out of its box.
 fn unboxed(pair: Option<Box<Asked>>) -> Option<Asked>
     ensures { option_map asked_shown result ≡ option_map (λ b. asked_shown b.value) pair }
 {

@@ -1,4 +1,4 @@
-//! The table of texts, which entries and memo cells name by their numbers.
+//! The table of texts. Stack and memo entries refer to them by number.
 ghost use Rattle.pkcheck.specs.Runs.{text};
 ghost use Rattle.pkops.specs.Contents.{rule_of};
 ghost use Rattle.pkops.specs.Inst.{instruction_of};
@@ -14,16 +14,16 @@ use pkops::{Arg, Inst, Op, old_bytes_of, text_of};
 use std::alloc::{AllocError, Global};
 use std::marker::Model;
 
-/// The first allocation has room for so many bytes: a short pickle needs no second one.
+/// The size of the first allocation in bytes. A short pickle needs no second one.
 const FIRST: usize = 512;
 
-/// The texts that a pickle made, in the order of their making, one behind the other in one buffer.
-/// Equal ones are not joined.
+/// The texts that a pickle makes, in order, one after the other in one buffer. Equal texts are not
+/// shared.
 #[derive(Debug, Drop)]
 pub struct Texts {
-    /// Their bytes in UTF-8.
+    /// The texts in UTF-8.
     bytes: Vec<u8>,
-    /// Where each of them ends.
+    /// The offset at which each text ends.
     ends: Pile<usize>,
 }
 
@@ -40,7 +40,7 @@ impl Model for Texts {
 }
 
 impl Texts {
-    /// A table of no texts. It takes no memory.
+    /// An empty table. Allocates nothing.
     pub fn new(alloc: Global) -> Texts
         ensures { result ≡ [] }
     {
@@ -50,7 +50,7 @@ impl Texts {
         }
     }
 
-    /// Takes all away, and keeps the memory.
+    /// Removes all texts, and keeps the memory.
     pub fn clear(&mut self)
         ensures { self.new ≡ [] }
     {
@@ -58,7 +58,7 @@ impl Texts {
         self.ends.clear();
     }
 
-    /// How many texts there are.
+    /// The number of texts.
     #[inline]
     pub fn len(&self) -> usize
         ensures { result ≡ length self.now }
@@ -66,7 +66,7 @@ impl Texts {
         self.ends.len()
     }
 
-    /// The text of a number, and the empty text past the last.
+    /// The text with a number; empty past the last.
     pub fn get(&self, number: usize) -> &str
         ensures { result.now ≡ get_or self.now number [] }
     {
@@ -82,7 +82,7 @@ impl Texts {
         text
     }
 
-    /// Puts a text behind the others.
+    /// Appends a text, given as UTF-8.
     #[inline]
     fn push(&mut self, text: &[u8]) -> Result<(), AllocError>
         requires { IsUtf8 text.now }
@@ -99,7 +99,7 @@ impl Texts {
         Ok(())
     }
 
-    /// Puts a copy of this text behind the others.
+    /// Appends a copy of a text.
     pub fn put(&mut self, text: &str) -> Result<(), AllocError>
         ensures ok { OnOk result (self.new ≡ self.old ++ text.now ∷ []) }
         ensures err { OnErr result (self.new ≡ self.old) }
@@ -107,7 +107,7 @@ impl Texts {
         self.push(text.as_bytes())
     }
 
-    /// Puts the text of an instruction behind the others.
+    /// Appends the text of an instruction.
     #[inline]
     pub fn add(&mut self, alloc: Global, inst: &Inst<'_>) -> Result<(), AllocError>
         ensures ok { OnOk result (self.new ≡ self.old ++ text (instruction_of inst.now) ∷ []) }
@@ -121,7 +121,7 @@ impl Texts {
         self.add_decoded(alloc, inst)
     }
 
-    /// Adds a text that is spelled with escapes.
+    /// Appends a text that needs decoding. Out of line.
     #[inline(never)]
     fn add_decoded(&mut self, alloc: Global, inst: &Inst<'_>) -> Result<(), AllocError>
         ensures ok { OnOk result (self.new ≡ self.old ++ text (instruction_of inst.now) ∷ []) }
@@ -133,7 +133,7 @@ impl Texts {
         }
     }
 
-    /// Adds a Python 2 string.
+    /// Appends a Python 2 string, with one character for each byte.
     fn add_old(&mut self, alloc: Global, inst: &Inst<'_>) -> Result<(), AllocError>
         ensures ok { OnOk result (self.new ≡ self.old ++ encode_utf8_all
             (unwrap_or (old_bytes (instruction_of inst.now)) []) ∷ []) }
@@ -157,7 +157,7 @@ fn begin(bytes: &mut Vec<u8>) -> Result<(), AllocError>
     Ok(())
 }
 
-/// The characters that the bytes number.
+/// The characters with these numbers.
 fn numbered_by(alloc: Global, bytes: &[u8]) -> Result<String, AllocError>
     ensures { IfOk result (λ text. string_bytes text ≡ encode_utf8_all bytes.now) }
 {
@@ -168,7 +168,7 @@ fn numbered_by(alloc: Global, bytes: &[u8]) -> Result<String, AllocError>
     Ok(text)
 }
 
-/// Where a text begins: where the one before it ends.
+/// The offset at which a text begins.
 fn start_of(ends: &[usize], number: usize) -> usize
     requires { number < length ends.now }
     ensures first { number ≡ 0 → result ≡ 0 }
@@ -177,7 +177,7 @@ fn start_of(ends: &[usize], number: usize) -> usize
     if number == 0 { 0 } else { ends[number - 1] }
 }
 
-/// Where a text ends.
+/// The offset at which a text ends.
 fn end_of(ends: &[usize], number: usize) -> usize
     requires { number < length ends.now }
     ensures { result ≡ get_or ends.now number result }
@@ -185,7 +185,7 @@ fn end_of(ends: &[usize], number: usize) -> usize
     ends[number]
 }
 
-/// The bytes from one place up to another.
+/// The bytes from `start` up to `end`.
 fn piece(bytes: &[u8], start: usize, end: usize) -> &[u8]
     requires ordered { start ≤ end }
     requires within { end ≤ length bytes.now }
@@ -194,7 +194,7 @@ fn piece(bytes: &[u8], start: usize, end: usize) -> &[u8]
     &bytes[start..end]
 }
 
-/// Whether the payload of the opcode is a text as it stands.
+/// Whether the payload of the opcode is UTF-8 and needs no decoding.
 #[inline]
 fn holds_utf8(op: Op) -> bool
     ensures { result ≡ true → rule_of op ≡ rule.Utf8 }

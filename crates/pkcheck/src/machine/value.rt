@@ -1,4 +1,4 @@
-//! What is known of an object.
+//! What is known about an object.
 ghost use Rattle.std.specs.Prelude.{◌≡◌, ℕ, List};
 ghost use Rattle.pkcheck.specs.Knowledge.{known_given};
 ghost use Rattle.pkcheck.specs.Private.Denials.{IgnoresArgument};
@@ -10,18 +10,18 @@ ghost use Rattle.pkops.specs.Spelling.{Instruction};
 use crate::effect::{Class, Gives};
 use pkops::Inst;
 
-/// What is known of an object.
+/// What is known about an object.
 #[derive(Clone, Copy)]
 pub enum Value {
-    /// Nothing: an operation answered it.
+    /// Nothing, because an operation answered it.
     Unknown,
-    /// Its class, for the machine made it.
+    /// Its class, because the machine made it.
     Made(Class),
-    /// It is the text of this number in the table.
+    /// It is the text with this number in the table.
     Text(u32),
 }
 
-/// The class of INT's object.
+/// The class of the object that INT makes.
 #[inline(always)]
 pub fn int_or_bool(inst: &Inst) -> Class
     ensures { result ≡ int_or_bool (instruction_of inst.now) }
@@ -33,7 +33,7 @@ pub fn int_or_bool(inst: &Inst) -> Class
     }
 }
 
-/// What is known of what is given.
+/// What is known about the result of an operation; `None` if it leaves the receiver.
 #[inline(always)]
 pub fn value_of(gives: Gives) -> Option<Value>
     requires { IgnoresArgument gives }

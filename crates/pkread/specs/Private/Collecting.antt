@@ -14,7 +14,7 @@ use Rattle.pkread.specs.declared.heads.Gathered.TheVariants as gathered
 use Rattle.pkread.specs.declared.refusal.Refusal.{Refusal}
 
 module _ {R : Type 0} (left : R → Option (List ℕ)) (failures : R → ℕ) where
-  -- before the next instruction
+  -- the state before the next instruction
   abbrev pub before_next : R → CoreView → Intake
   before_next source core = record {
     bytes = [];
@@ -22,7 +22,7 @@ module _ {R : Type 0} (left : R → Option (List ℕ)) (failures : R → ℕ) wh
     taken = core.taken;
   }
 
-  -- after it
+  -- the state after the next instruction
   abbrev pub behind_next : R → CoreView → Intake
   behind_next source core = record {
     bytes = core.held.bytes;
@@ -30,7 +30,7 @@ module _ {R : Type 0} (left : R → Option (List ℕ)) (failures : R → ℕ) wh
     taken = core.taken;
   }
 
--- whatever the result, nothing is read ahead of the following instruction
+-- whatever the result, no byte is read ahead of the following instruction
 pub record Advances (old new : CoreView) : Type 0 where
   pub limits : new.limits ≡ old.limits
   pub ahead : new.ahead ≡ []
@@ -42,7 +42,7 @@ pub record Ends (old new : CoreView) (r : Refusal) : Type 0 where
   pub place : r.at ≡ old.taken
   pub phase : new.phase ≡ Refused r
 
--- the instruction was gathered
+-- the instruction was gathered completely
 pub record Collected (old new : CoreView) (before after : Intake) (f : Found) : Type 0 where
   pub found : IsFound old.limits.counted after.bytes f.op f.split
   pub gathers : Gathers old.limits.counted before after
@@ -58,7 +58,7 @@ Collects result old new before after =
     (λ r. Ends old new r × Refuses old.limits.counted
     before.source after.source after.bytes before.taken after.taken r.reason)
 
--- the phase after what was gathered
+-- the phase after an instruction, held or skipped
 abbrev pub phase_behind : Gathered → Phase
 phase_behind (gathered.Held f) = phase_after f.op
 phase_behind (gathered.Skipped op count) = Open
@@ -78,15 +78,15 @@ CollectsHead result old new before after =
     (λ r. Ends old new r
     × RefusedHead old.limits before after (most_held old.held) (most_held new.held) r.reason)
 
--- a byte came, and the buffer holds it
+-- a byte arrived, and the buffer holds it
 abbrev pub ByteCame : Sight → Sight → List ℕ → Type 0
 ByteCame old new held = (byte : ℕ) × (held ≡ byte ∷ []) × Takes old new (byte ∷ [])
 
--- no byte came: the source is at its end
+-- no byte arrived, because the source is at its end
 abbrev pub NoneCame : Sight → Sight → List ℕ → Type 0
 NoneCame old new held = (held ≡ []) × Takes old new [] × IsAtEnd new.left
 
--- a byte read ahead is counted with the instruction that it begins
+-- a byte read ahead does not count as taken until its instruction is
 abbrev pub Waits : CoreView → CoreView → Type 0
 Waits old new =
     (most_held new.held ≡ most_held old.held)

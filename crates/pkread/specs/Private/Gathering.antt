@@ -1,4 +1,4 @@
--- The bytes of one instruction, as the arms take them.
+-- How the arms take the bytes of one instruction.
 use Rattle.std.specs.Prelude.{◌≡◌, ◌≢◌, ◌⊎◌, ℕ, ◌+◌, ◌<◌, ◌≤◌, List, [], ◌∷◌, ◌++◌, length}
 use Rattle.std.specs.Prelude.{None, Result, MatchResult, false, take, true}
 use Rattle.std.specs.List.{AllByRecursion}
@@ -28,8 +28,8 @@ pub record Gathers (limit : ℕ) (old new : Intake) : Type 0 where
   pub fronts : FrontsBegin limit new.bytes
   pub source : Takes old.source new.source new.bytes
 
--- what a reason means where `bytes` are those of the instruction so far, and only `run`, at their
--- end, was taken between the two views of the source
+-- what a reason says if `bytes` are those of the instruction so far, and only `run`, at their end,
+-- was taken between the two views of the source
 abbrev pub RowBehind : ℕ → Sight → Sight → List ℕ → List ℕ → ℕ → Reason → Type 0
 RowBehind limit before after run bytes taken Source = Fails before after run × Begun limit bytes
 RowBehind limit before after run bytes taken Truncated =
@@ -72,7 +72,7 @@ pub record TookLine (most : ℕ) (old new : Intake) : Type 0 where
   pub took : Took (text ++ line_feed ∷ []) old new
   pub line : IsLine most text
 
--- why no line was taken: the next byte could not be read, or the line is at its longest
+-- why no line was taken: the next byte could not be read, or the line is too long
 abbrev pub LineRow : ℕ → Sight → Sight → List ℕ → ℕ → Reason → Type 0
 LineRow most before after bytes u TooLarge =
     Takes before after bytes
@@ -80,7 +80,7 @@ LineRow most before after bytes u TooLarge =
 LineRow most before after bytes u reason =
     (length bytes ≤ most) × LackRow before after bytes u reason
 
--- bytes without a line end were taken, and no line
+-- bytes without a newline were taken, but no complete line
 pub record LacksLine (most : ℕ) (old new : Intake) (reason : Reason) : Type 0 where
   pub bytes : List ℕ
   pub fit : AreAllBytes bytes
@@ -136,7 +136,7 @@ abbrev pub TakesArgument : {A : Type 0} → ℕ → Op → Result A Reason → I
 TakesArgument limit op result old new =
     MatchResult result (λ _. Finds limit op 0 old new) (Stops limit old new)
 
--- as TakesArgument, and returns where the first line ends
+-- like TakesArgument, and returns where the first line ends
 abbrev pub TakesSplit : ℕ → Op → Result ℕ Reason → Intake → Intake → Type 0
 TakesSplit limit op result old new =
     MatchResult result (λ split. Finds limit op split old new) (Stops limit old new)

@@ -17,7 +17,7 @@ pub record Intake : Type 0 where
   pub taken : ℕ
 
 module _ {R : Type 0} (left : R → Option (List ℕ)) (failures : R → ℕ) where
-  -- with the bytes in the buffer
+  -- the intake with the bytes in the buffer
   abbrev pub intake : R → GatheringView → Intake
   intake source g = record {
     bytes = g.buffer.bytes;
@@ -25,7 +25,7 @@ module _ {R : Type 0} (left : R → Option (List ℕ)) (failures : R → ℕ) wh
     taken = g.taken;
   }
 
-  -- before the first byte; if it was read ahead, it counts as not taken yet
+  -- the intake before the first byte; a byte that was read ahead does not count as taken yet
   abbrev pub intake_start : R → GatheringView → Intake
   intake_start source g = record {
     bytes = [];

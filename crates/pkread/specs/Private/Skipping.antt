@@ -1,4 +1,4 @@
--- Bytes that are taken but not held. Contracts describe them as if the buffer held them.
+-- Bytes that are taken but not held. The contracts describe them as if the buffer held them.
 use Rattle.std.specs.Prelude.{◌≡◌, ◌≤◌, ◌+◌, [], ℕ, List, length, max, Result, MatchResult, false}
 use Rattle.std.specs.Prelude.{take}
 use Rattle.pkops.specs.Limits.{Bounds}
@@ -23,7 +23,7 @@ use Rattle.pkread.specs.declared.refusal.Reason.{Reason}
 abbrev pub holding : List ℕ → Intake → Intake
 holding bytes p = record p { bytes = bytes }
 
--- `count` bytes or fewer are taken, and none of them is held
+-- `count` bytes are taken, or fewer with a reason; none of them is held
 abbrev pub SkipsAll : {A : Type 0} → ℕ → Result A Reason → Intake → Intake → Type 0
 SkipsAll count result old new =
     MatchResult result
@@ -49,7 +49,7 @@ abbrev pub SkipsArgument : ℕ → Op → Result ℕ Reason → Intake → Intak
 SkipsArgument limit op result old new =
     MatchResult result (λ count. GrowsSkipping limit op count old new) (StopsSkipping limit old new)
 
--- the most bytes ever held never falls, and rises by at most a block and a head
+-- the most bytes ever held never falls, and rises to at most 131,075
 pub record RisesLittle (old new : GatheringView) : Type 0 where
   pub least : old.buffer.peak ≤ new.buffer.peak
   pub most : new.buffer.peak ≤ max old.buffer.peak 131_075
@@ -70,7 +70,7 @@ pub record SkippedOne (limit : ℕ) (op : Op) (count : ℕ) (old new : Intake) (
   pub passes : SkipsBy limit op count old.source new.source old.taken new.taken
   pub few : after ≤ max most 131_075
 
--- one or the other
+-- the whole instruction is held, or its payload is skipped
 abbrev pub TookHead : Bounds → Gathered → Intake → Intake → ℕ → ℕ → Type 0
 TookHead limits (gathered.Held f) = HeldWhole limits.counted f
 TookHead limits (gathered.Skipped op count) = SkippedOne limits.passed op count
@@ -83,7 +83,7 @@ pub record RefusedHead (limits : Bounds) (old new : Intake) (most after : ℕ) (
       old.source new.source bytes old.taken new.taken reason
   pub few : HoldsFew most bytes after
 
--- takes an instruction and holds no byte payload, or says why it is refused
+-- takes an instruction without holding a byte payload, or says why it is refused
 abbrev pub TakesHead
     : Bounds → Result Gathered Reason → Intake → Intake → ℕ → ℕ → Type 0
 TakesHead limits result old new most after =

@@ -1,4 +1,4 @@
-//! What an operation puts in the place of its operands.
+//! Replaces the operands of an operation with its result.
 ghost use Rattle.std.specs.Prelude.{◌≡◌, ◌<◌, ◌≤◌, ◌+◌, ◌++◌, length, IfErr, OnOk, IsSome, None};
 ghost use Rattle.pkcheck.specs.Private.Places.{above, below};
 ghost use Rattle.pkcheck.specs.Shape.{front, marks_of, put};
@@ -9,8 +9,8 @@ use crate::machine::value::Value;
 use pkops::Limits;
 use pkread::Reason;
 
-/// Puts what is given in the place of the operands, or leaves the first of them. So many marks stay
-/// below.
+/// Replaces the operands with a value. Without a value, it keeps the first operand and removes the
+/// others. `marks` is the number of marks below the place.
 #[inline(always)]
 pub fn give(
     stack: &mut Stack,

@@ -1,4 +1,4 @@
-//! The operations that name a pair.
+//! The operations that import a pair.
 ghost use Rattle.std.specs.Prelude.{◌≡◌, ◌⊎◌, ◌≤◌, ℕ, List, length, map, option_map, IfOk, IfErr};
 ghost use Rattle.std.specs.Prelude.{OnOk, OnErr, IfSome, Ok};
 ghost use Rattle.pkcheck.specs.Private.Slots.{known, seen, HasMoreTexts, Sees};
@@ -30,7 +30,7 @@ use pkops::{Arg, Inst, Limits, Op};
 use pkread::Reason;
 use std::alloc::Global;
 
-/// What the receiver and the names say.
+/// Checks the class of the receiver and the import. Returns the import, if there is one.
 pub fn permitted_name<'a>(
     alloc: Global,
     names: Names,
@@ -65,7 +65,7 @@ pub fn permitted_name<'a>(
     Ok(named)
 }
 
-/// The names of two lines.
+/// The names in two lines.
 fn names_of<'a>(op: Op, lines: Option<(&'a [u8], &'a [u8])>) -> Option<(&'a str, &'a str)>
     requires { IfSome lines (λ pair. IsGood (instruction op (Pair pair.0.now pair.1.now))) }
     ensures { (i : Instruction)
@@ -78,7 +78,7 @@ fn names_of<'a>(op: Op, lines: Option<(&'a [u8], &'a [u8])>) -> Option<(&'a str,
     }
 }
 
-/// Replaces the operands of an operation that names a pair. It takes the lines instead of the
+/// Replaces the operands of an operation that imports a pair. It takes the lines instead of the
 /// instruction, which would otherwise need a stack slot in every step.
 fn replace_named(
     alloc: Global,
@@ -133,7 +133,8 @@ fn replace_named(
     }
 }
 
-/// Does the operation of an opcode that names a pair, with its two lines, where it has two.
+/// Applies the operation of an opcode, given its two lines if it has them. Returns whether an
+/// import was listed.
 #[inline(never)]
 pub fn operate_named(
     alloc: Global,

@@ -1,4 +1,4 @@
-//! The operations that name nothing.
+//! The operations that import nothing.
 ghost use Rattle.std.specs.Prelude.{◌≡◌, ◌≤◌, length, IfErr, OnErr, OnOk};
 ghost use Rattle.pkcheck.specs.declared.effect.Names.{Names};
 ghost use Rattle.pkcheck.specs.Effects.{Operates, effect_of};
@@ -15,7 +15,7 @@ use crate::machine::value::value_of;
 use pkops::{Limits, Op};
 use pkread::Reason;
 
-/// Finds the operands, and puts what is given in their place.
+/// Finds the operands and replaces them with the result.
 #[inline(always)]
 fn replace(stack: &mut Stack, limits: &Limits, takes: Takes, gives: Gives) -> Result<(), Reason>
     requires within { length stack.old ≤ limits.now.stack }
@@ -39,7 +39,7 @@ fn replace(stack: &mut Stack, limits: &Limits, takes: Takes, gives: Gives) -> Re
     }
 }
 
-/// Does the operation of an opcode that names nothing.
+/// Applies the operation of an opcode that imports nothing.
 #[inline(never)]
 pub fn operate_unnamed(stack: &mut Stack, limits: &Limits, op: Op) -> Result<(), Reason>
     requires within { length stack.old ≤ limits.now.stack }

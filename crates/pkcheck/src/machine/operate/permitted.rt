@@ -1,4 +1,4 @@
-//! What the policy permits.
+//! Checks an import against the policy.
 ghost use Rattle.std.specs.Prelude.{◌≡◌, ◌⊎◌, IfOk, IfErr, OnOk, Some, Ok, Err, if◌then◌else◌};
 ghost use Rattle.pkcheck.specs.Import.{asked_shown, policy_of};
 ghost use Rattle.pkcheck.specs.Private.Noted.{named_asked};
@@ -13,7 +13,7 @@ use crate::policy::Policy;
 use pkread::Reason;
 use std::alloc::Global;
 
-/// Whether the policy lets the import pass.
+/// Refuses an import that the policy does not permit, with `UnknownImport` or `ImportOffList`.
 pub fn permit(
     alloc: Global,
     policy: &Policy,
@@ -41,7 +41,7 @@ pub fn permit(
     }
 }
 
-/// Whether the policy lets the pair pass.
+/// Whether the policy permits the pair.
 fn permits(policy: &Policy, module_name: &str, name: &str) -> bool
     ensures { permitted (policy_of policy.now) module_name.now name.now
         ≡ if result then Ok (Some (AskedPair module_name.now name.now))
@@ -55,7 +55,7 @@ fn permits(policy: &Policy, module_name: &str, name: &str) -> bool
     }
 }
 
-/// Permits the pair, or gives its refusal.
+/// Refuses a pair that the policy does not permit, with a copy of the pair.
 fn permit_pair(alloc: Global, policy: &Policy, module_name: &str, name: &str) -> Result<(), Denial>
     ensures ok { OnOk result (permitted (policy_of policy.now) module_name.now name.now
         ≡ Ok (Some (AskedPair module_name.now name.now))) }
@@ -72,7 +72,7 @@ fn permit_pair(alloc: Global, policy: &Policy, module_name: &str, name: &str) ->
     })
 }
 
-/// A pair of these names, in a place of its own.
+/// Copies a pair into a box.
 fn boxed_pair(alloc: Global, module_name: &str, name: &str) -> Result<Box<Asked>, Reason>
     ensures ok { IfOk result (λ b. asked_shown b.value ≡ AskedPair module_name.now name.now) }
     ensures err { IfErr result (λ r. r ≡ Reason.OutOfMemory) }

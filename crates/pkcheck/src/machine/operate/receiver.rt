@@ -1,4 +1,4 @@
-//! Whether an operation has a receiver that will do.
+//! Checks the class of an operation's receiver.
 ghost use Rattle.std.specs.Prelude.{◌≡◌, ℕ, List, [], ◌∷◌, map};
 ghost use Rattle.pkcheck.specs.Private.Slots.{known};
 ghost use Rattle.pkcheck.specs.Runs.{Plain};
@@ -8,7 +8,6 @@ use crate::effect::{Class, Gives, Wanted};
 use crate::machine::stack::Operands;
 use crate::machine::value::Value;
 
-/// Whether it is a list.
 #[inline(always)]
 fn is_list(class: Class) -> bool
     ensures { result ≡ suits Wanted.WantsList (Plain class) }
@@ -19,7 +18,6 @@ fn is_list(class: Class) -> bool
     }
 }
 
-/// Whether it is a dict.
 #[inline(always)]
 fn is_dict(class: Class) -> bool
     ensures { result ≡ suits Wanted.WantsDict (Plain class) }
@@ -30,8 +28,8 @@ fn is_dict(class: Class) -> bool
     }
 }
 
-/// Whether an object of this class will do. What is wanted is compared with one after the other:
-/// a match on all of them is a jump through a table, which takes longer.
+/// Whether a receiver of this class is allowed. The variants are compared one by one, because a
+/// `match` on all of them compiles to a jump table, which is slower.
 #[inline(always)]
 pub fn class_suits(wanted: Wanted, class: Class) -> bool
     ensures { result ≡ suits wanted (Plain class) }
@@ -51,7 +49,7 @@ pub fn class_suits(wanted: Wanted, class: Class) -> bool
     }
 }
 
-/// Whether it is known not to do.
+/// Whether a value is known to have the wrong class.
 #[inline(always)]
 pub fn is_wrong(wanted: Wanted, value: Value) -> bool
     ensures { (ts : List (List ℕ)) → result ≡ wrong_first wanted (known ts value ∷ []) }
@@ -66,7 +64,7 @@ pub fn is_wrong(wanted: Wanted, value: Value) -> bool
     }
 }
 
-/// Whether the receiver is known to be of a wrong class.
+/// Whether the receiver of an operation is known to have the wrong class.
 #[inline(always)]
 pub fn receiver_fault(gives: Gives, operands: &Operands<'_>) -> bool
     ensures { (ts : List (List ℕ)) → result ≡ wrong_receiver gives (map (known ts) operands.now) }

@@ -1,4 +1,4 @@
-//! What an operation takes.
+//! The operands of an operation.
 ghost use Rattle.pkcheck.specs.Private.Slots.{values_of};
 ghost use Rattle.std.specs.Prelude.{◌≡◌, ◌≢◌, [], ◌∷◌, ◌≤◌, drop, length, MatchOption};
 ghost use Rattle.std.specs.List.{slice_get};
@@ -7,7 +7,7 @@ use crate::machine::stack::slots::{Slot, count_objects};
 use crate::machine::value::Value;
 use std::marker::Model;
 
-/// The objects that an operation takes, from the bottom up.
+/// The operands of an operation, from the bottom up. Marks among the entries do not count.
 #[derive(Drop)]
 pub struct Operands<'a> {
     slots: &'a [Slot],
@@ -24,7 +24,7 @@ impl<'a> Model for Operands<'a> {
 }
 
 impl<'a> Operands<'a> {
-    /// The objects among these entries from a place on.
+    /// The objects among the entries from a place on.
     #[inline(always)]
     pub fn from(slots: &'a [Slot], place: usize) -> Operands<'a>
         requires { place ≤ length slots.now }
@@ -35,7 +35,8 @@ impl<'a> Operands<'a> {
         }
     }
 
-    /// The first of them: the lowest entry as a rule, of which no mark is one then.
+    /// The first object. The lowest entry usually is one. If it is a mark, a search finds the
+    /// object.
     #[inline(always)]
     pub fn first(&self) -> Option<Value>
         ensures { result ≡ slice_get self.now 0 }
@@ -49,7 +50,7 @@ impl<'a> Operands<'a> {
         }
     }
 
-    /// The object with so many before it.
+    /// The object at an index, counted from 0; `None` past the last.
     pub fn get(&self, index: usize) -> Option<Value>
         ensures { result ≡ slice_get self.now index }
     {
@@ -65,7 +66,7 @@ impl<'a> Operands<'a> {
         None
     }
 
-    /// Both of them, where there are two.
+    /// Both objects, if there are exactly two.
     pub fn pair(&self) -> Option<(Value, Value)>
         ensures { MatchOption result (length self.now ≢ 2) (λ p. self.now ≡ p.0 ∷ p.1 ∷ []) }
     {

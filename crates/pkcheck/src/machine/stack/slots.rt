@@ -1,4 +1,4 @@
-//! The entries that the stack keeps: the last of them is on top.
+//! The entries of the stack. The last one is on top.
 ghost use Rattle.pkcheck.specs.Private.Denials.{IsLack};
 ghost use Rattle.pkcheck.specs.Knowledge.{Lacks, reason_of};
 ghost use Rattle.pkcheck.specs.Shape.{Breach, NoMark, NoItem, operands, slice, items, breaks};
@@ -15,12 +15,12 @@ use crate::machine::value::Value;
 use pkread::Reason;
 use std::alloc::AllocError;
 
-/// Where an operation takes from.
+/// Where the operands of an operation begin.
 #[derive(Clone, Copy)]
 pub struct Found {
-    /// How many entries stay below.
+    /// The number of entries below the operands.
     pub place: usize,
-    /// How many of these are marks.
+    /// The number of marks among the entries below.
     pub marks: usize,
 }
 
@@ -31,7 +31,7 @@ pub enum Slot {
     Object(Value),
 }
 
-/// What is known of the top.
+/// What is known about the topmost entry; `None` if it is a mark or there is none.
 #[inline(always)]
 pub fn top(slots: &[Slot]) -> Option<Value>
     ensures { MatchOption result (top (shown slots.now [])
@@ -46,7 +46,7 @@ pub fn top(slots: &[Slot]) -> Option<Value>
     }
 }
 
-/// Puts an object on top. It is a call: what makes none keeps no register for it.
+/// Pushes an object. Out of line, so other paths reserve no register for it.
 #[inline(never)]
 pub fn put_on_top(slots: &mut Pile<Slot>, value: Value) -> Result<(), AllocError>
     ensures ok { OnOk result (slots.new ≡ slots.old ++ Slot.Object value ∷ []) }
@@ -73,7 +73,7 @@ pub fn mark_place(stack: &[Slot], places: &[usize]) -> Option<usize>
     }
 }
 
-/// How many objects stand above the topmost mark, or at all.
+/// The number of objects above the topmost mark, or on the whole stack if it has no mark.
 #[inline(always)]
 pub fn objects_on_top(stack: &[Slot], places: &[usize]) -> usize
     requires { places.now ≡ bars 0 stack.now }
@@ -88,8 +88,8 @@ pub fn objects_on_top(stack: &[Slot], places: &[usize]) -> usize
     }
 }
 
-/// The place below so many objects, of which none is a mark. The marks say whether one is: their
-/// places are looked at in place of the entries.
+/// The place where the topmost `count` objects begin, if no mark is among them. It compares the
+/// place of the topmost mark instead of looking at the entries.
 #[inline(always)]
 pub fn objects_place(stack: &[Slot], places: &[usize], count: usize) -> Option<usize>
     requires { places.now ≡ bars 0 stack.now }
@@ -105,7 +105,7 @@ pub fn objects_place(stack: &[Slot], places: &[usize], count: usize) -> Option<u
     Some(stack.len() - count)
 }
 
-/// How many objects stand there.
+/// The number of objects among the entries.
 pub fn count_objects(slots: &[Slot]) -> usize
     ensures { result ≡ length (values_of slots.now) }
 {
@@ -118,7 +118,7 @@ pub fn count_objects(slots: &[Slot]) -> usize
     count
 }
 
-/// How many of the marks stand below a place.
+/// The number of marks below the place `count`.
 #[inline(always)]
 pub fn marks_below(places: &[usize], count: usize) -> usize
     ensures { (ss : List Slot) → places.now ≡ bars 0 ss → take result places.now
@@ -134,7 +134,7 @@ pub fn marks_below(places: &[usize], count: usize) -> usize
     0
 }
 
-/// Whether a slice of so many objects breaks the rule.
+/// Why a slice of `count` objects breaks the rule; `None` if it does not.
 #[inline(always)]
 #[tactic(auto, using(crate::proofs::Settled::is_even_length))]
 pub fn rule_fault(rule: SliceRule, count: usize) -> Option<Reason>
@@ -160,7 +160,7 @@ pub fn rule_fault(rule: SliceRule, count: usize) -> Option<Reason>
     }
 }
 
-/// The place of the mark, where what stands above it meets the rule.
+/// The place of the topmost mark, if the objects above it obey the rule.
 #[inline(always)]
 pub fn slice_place(stack: &[Slot], places: &[usize], rule: SliceRule) -> Result<usize, Reason>
     requires { places.now ≡ bars 0 stack.now }
@@ -178,7 +178,7 @@ pub fn slice_place(stack: &[Slot], places: &[usize], rule: SliceRule) -> Result<
     }
 }
 
-/// The place of the object below the mark.
+/// The place of the object below the topmost mark, if the objects above the mark obey the rule.
 #[inline(always)]
 pub fn receiver_place(stack: &[Slot], places: &[usize], rule: SliceRule) -> Result<usize, Reason>
     requires { places.now ≡ bars 0 stack.now }
@@ -205,7 +205,7 @@ pub fn receiver_place(stack: &[Slot], places: &[usize], rule: SliceRule) -> Resu
     }
 }
 
-/// Where the operation takes from. A slice goes with its mark, which is the topmost.
+/// Where the operands of an operation begin. A slice includes its mark, the topmost one.
 #[inline(always)]
 pub fn place_of(stack: &[Slot], places: &[usize], takes: Takes) -> Result<Found, Reason>
     requires { places.now ≡ bars 0 stack.now }

@@ -1,7 +1,7 @@
 use Rattle.std.proofs.Common.{◌≡◌}
 use Rattle.pkcheck.proofs.imports.Imports.same.Given as goal
 
--- both are the same exactly where those that are still to come are
+-- both lists are equal exactly if their remaining parts are
 abbrev pub invariant-loop-import : goal.invariant-loop-import
 invariant-loop-import l =
     (l.import-iterator ≡ l.others → l.self ≡ l.other) × (l.self ≡ l.other → l.import-iterator ≡ l.others)

@@ -2,6 +2,6 @@ use Rattle.std.proofs.Common.{◌≡◌, ◌++◌, map}
 use Rattle.pkcheck.specs.Import.{asked_shown}
 use Rattle.pkcheck.proofs.imports.Imports.to_vec.Given as goal
 
--- those that are copied and those that are still to come are all
+-- the copied imports and the remaining ones are all of them
 abbrev pub invariant-loop-import : goal.invariant-loop-import
 invariant-loop-import l = map asked_shown l.copies.items ++ l.import-iterator ≡ l.self

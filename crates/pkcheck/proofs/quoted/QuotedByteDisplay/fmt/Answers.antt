@@ -4,7 +4,7 @@ use Rattle.std.proofs.Output.{has_written_of_eq}
 use Rattle.pkcheck.specs.Quoted.{stands_as_is, quoted_byte, two_digits}
 use Rattle.pkcheck.proofs.quoted.QuotedByteDisplay.fmt.Goals as goal
 
--- a byte that does not stand as it is
+-- a byte that is escaped
 escaped : (byte : ℕ) → false ≡ stands_as_is byte → codes "\\x" ++ two_digits byte ≡ quoted_byte byte
 escaped byte e = ap (λ (b : Bool). if b then byte ∷ [] else codes "\\x" ++ two_digits byte) e
 
