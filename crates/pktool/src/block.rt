@@ -1,6 +1,6 @@
 //! The bytes that were read ahead.
 
-ghost use Rattle.std.specs.Prelude.{◌≡◌, ◌≤◌, ◌++◌, [], IfOk, IfErr, length};
+ghost use Rattle.std.specs.Prelude.{◌≡◌, ◌≤◌, ◌++◌, [], IfOk, IfErr, length, take};
 ghost use Rattle.std.specs.Io.KnownBytes.{Consumes, IsAtEnd};
 
 use std::alloc::{AllocError, Global};
@@ -51,6 +51,23 @@ impl Block {
         ensures { result ≡ length self.now }
     {
         self.end - self.start
+    }
+
+    /// The bytes that are left.
+    #[inline]
+    pub fn bytes(&self) -> &[u8]
+        ensures { result.now ≡ self.now }
+    {
+        &self.bytes[self.start..self.end]
+    }
+
+    /// Drops the first `count` bytes.
+    #[inline]
+    pub fn skip(&mut self, count: usize)
+        requires { count ≤ length self.old }
+        ensures { self.old ≡ take count self.old ++ self.new }
+    {
+        self.start += count;
     }
 
     /// Moves the first bytes out of the block.

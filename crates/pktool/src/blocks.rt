@@ -67,4 +67,18 @@ impl<R: Read> Source for Blocks<R> {
         // twice.
         Ok(self.pull_some(to)?)
     }
+
+    #[inline(always)]
+    fn ahead(&self) -> &[u8] {
+        self.block.bytes()
+    }
+
+    #[inline(always)]
+    fn advance(&mut self, count: usize) -> bool {
+        if count > self.block.len() {
+            return false;
+        }
+        self.block.skip(count);
+        true
+    }
 }

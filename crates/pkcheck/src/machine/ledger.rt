@@ -7,13 +7,11 @@ ghost use Rattle.pkcheck.specs.Knowledge.{AskedPair};
 ghost use Rattle.pkcheck.specs.Private.Noted.{AreCopies, AreEntries, IsEntry, IsNamed, IsNamedIf};
 ghost use Rattle.pkcheck.specs.Private.Noted.{entry_asked, named_asked};
 ghost use Rattle.pkcheck.specs.Private.Slots.{HasMoreTexts};
-ghost use Rattle.pkcheck.specs.Runs.{text};
-ghost use Rattle.pkops.specs.Inst.{instruction_of};
+ghost use Rattle.std.specs.Str.{IsUtf8};
 
 use crate::import::Named;
 use crate::import_list::ImportList;
 use crate::machine::texts::Texts;
-use pkops::Inst;
 use pkread::Reason;
 use std::alloc::{AllocError, Global};
 use std::marker::Model;
@@ -100,16 +98,17 @@ impl Ledger {
         self.texts.get(number as usize)
     }
 
-    /// Appends the text of an instruction.
-    #[inline]
-    pub fn add_text(&mut self, alloc: Global, inst: &Inst<'_>) -> Result<(), AllocError>
+    /// Appends a text, given as UTF-8.
+    #[inline(always)]
+    pub fn add_text(&mut self, text: &[u8]) -> Result<(), AllocError>
+        requires { IsUtf8 text.now }
         ensures ok { OnOk result (self.new ≡ record {
-          texts = self.old.texts ++ text (instruction_of inst.now) ∷ [];
+          texts = self.old.texts ++ text.now ∷ [];
           asked = self.old.asked;
         }) }
         ensures err { OnErr result (self.new ≡ self.old) }
     {
-        self.texts.add(alloc, inst)
+        self.texts.push(text)
     }
 
     /// The number of listed imports.

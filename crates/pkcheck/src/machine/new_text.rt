@@ -1,8 +1,10 @@
 //! Pushes the text that an instruction spells.
-ghost use Rattle.std.specs.Prelude.{◌≡◌, ◌≤◌, ◌∷◌, length, suc, Some, IfErr, OnOk};
-ghost use Rattle.pkops.specs.Contents.{IsGood};
+ghost use Rattle.std.specs.Prelude.{◌≡◌, ◌≤◌, ◌∷◌, length, suc, Some, IfErr, OnOk, true};
+ghost use Rattle.std.specs.Str.{IsUtf8};
+ghost use Rattle.pkops.specs.Contents.{IsGood, rule_of};
 ghost use Rattle.pkops.specs.Inst.{instruction_of};
 ghost use Rattle.pkops.specs.Spelling.{Counted, Line, instruction};
+ghost use Rattle.pkops.specs.declared.Rule.TheVariants as rule;
 ghost use Rattle.pkcheck.specs.Private.Denials.{WantsRoom};
 ghost use Rattle.pkcheck.specs.Private.Slots.{seen, HasMoreTexts, Sees};
 ghost use Rattle.pkcheck.specs.Private.Spelled.{IsSpelled};
@@ -11,23 +13,24 @@ ghost use Rattle.pkcheck.specs.Shape.{Item};
 
 use crate::machine::ledger::Ledger;
 use crate::machine::stack::Stack;
+use crate::machine::texts::text_spelled;
 use crate::machine::value::Value;
 use pkops::{Arg, Inst, Limits, Op};
 use pkread::Reason;
 use std::alloc::Global;
 
-/// Adds the text of an instruction to the table, and pushes its number.
-#[inline(always)]
+/// Adds a text to the table, and pushes its number.
+#[inline(never)]
 fn name_text(
-    alloc: Global,
     stack: &mut Stack,
     ledger: &mut Ledger,
     limits: &Limits,
-    inst: &Inst<'_>,
+    text: &[u8],
 ) -> Result<(), Reason>
+    requires utf8 { IsUtf8 text.now }
     requires sees { Sees ledger.old.texts stack.old (seen ledger.old.texts stack.old) }
     ensures ok { OnOk result (seen ledger.new.texts stack.new
-        ≡ Item (Some (Text (text (instruction_of inst.now)))) ∷ seen ledger.old.texts stack.old) }
+        ≡ Item (Some (Text text.now)) ∷ seen ledger.old.texts stack.old) }
     ensures sees { OnOk result (Sees ledger.new.texts stack.new (seen ledger.new.texts stack.new)) }
     ensures grows { OnOk result (HasMoreTexts ledger.old.texts ledger.new.texts) }
     ensures count { OnOk result (length ledger.new.texts ≡ suc (length ledger.old.texts)) }
@@ -41,7 +44,7 @@ fn name_text(
         return Err(Reason::OutOfMemory);
     };
     stack.push(limits, Value::Text(number))?;
-    let Ok(()) = ledger.add_text(alloc, inst) else {
+    let Ok(()) = ledger.add_text(text) else {
         stack.truncate(place);
         return Err(Reason::OutOfMemory);
     };
@@ -73,7 +76,8 @@ fn name_payload(
         × WantsRoom limits.now.stack (length stack.old) r) }
 {
     let inst = Inst::known(op, Arg::Counted(payload));
-    name_text(alloc, stack, ledger, limits, &inst)
+    let text = text_spelled(alloc, &inst)?;
+    name_text(stack, ledger, limits, text.as_bytes())
 }
 
 /// Like `name_text`, for an opcode and its line. See `name_payload`.
@@ -100,7 +104,8 @@ fn name_line(
         × WantsRoom limits.now.stack (length stack.old) r) }
 {
     let inst = Inst::known(op, Arg::Line(line));
-    name_text(alloc, stack, ledger, limits, &inst)
+    let text = text_spelled(alloc, &inst)?;
+    name_text(stack, ledger, limits, text.as_bytes())
 }
 
 /// Adds the text of an instruction to the table, and pushes its number.
@@ -125,6 +130,10 @@ pub fn make_text(
         × WantsRoom limits.now.stack (length stack.old) r) }
 {
     match inst.arg() {
+        Arg::Counted(payload) if holds_utf8(inst.op()) => {
+            name_text(stack, ledger, limits, payload)?;
+            Ok(())
+        }
         Arg::Counted(payload) => {
             name_payload(alloc, stack, ledger, limits, inst.op(), payload)?;
             Ok(())
@@ -134,5 +143,18 @@ pub fn make_text(
             Ok(())
         }
         _ => unreachable!(),
+    }
+}
+
+/// Whether the payload of the opcode is UTF-8 and needs no decoding.
+#[inline]
+fn holds_utf8(op: Op) -> bool
+    ensures { result ≡ true → rule_of op ≡ rule.Utf8 }
+{
+    match op {
+        Op::ShortBinUnicode => true,
+        Op::BinUnicode => true,
+        Op::BinUnicode8 => true,
+        _ => false,
     }
 }

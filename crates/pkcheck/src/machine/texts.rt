@@ -1,16 +1,14 @@
 //! The table of texts. Stack and memo entries refer to them by number.
 ghost use Rattle.pkcheck.specs.Runs.{text};
-ghost use Rattle.pkops.specs.Contents.{rule_of};
 ghost use Rattle.pkops.specs.Inst.{instruction_of};
-ghost use Rattle.pkops.specs.declared.Rule.TheVariants as rule;
 ghost use Rattle.std.specs.Prelude.{◌≡◌, [], ◌∷◌, ◌++◌, ◌<◌, ◌≤◌, ◌-◌, length, take, drop, get_or};
-ghost use Rattle.std.specs.Prelude.{true, IfOk, OnErr, OnOk, unwrap_or};
+ghost use Rattle.std.specs.Prelude.{IfOk, OnErr, OnOk, unwrap_or};
 ghost use Rattle.std.specs.Prelude.{encode_utf8_all, string_bytes};
 ghost use Rattle.pkops.specs.OldBytes.{old_bytes};
 ghost use Rattle.std.specs.Str.{IsUtf8};
 
 use crate::machine::pile::Pile;
-use pkops::{Arg, Inst, Op, old_bytes_of, text_of};
+use pkops::{Inst, old_bytes_of, text_of};
 use std::alloc::{AllocError, Global};
 use std::marker::Model;
 
@@ -83,8 +81,8 @@ impl Texts {
     }
 
     /// Appends a text, given as UTF-8.
-    #[inline]
-    fn push(&mut self, text: &[u8]) -> Result<(), AllocError>
+    #[inline(always)]
+    pub fn push(&mut self, text: &[u8]) -> Result<(), AllocError>
         requires { IsUtf8 text.now }
         ensures ok { OnOk result (self.new ≡ self.old ++ text.now ∷ []) }
         ensures err { OnErr result (self.new ≡ self.old) }
@@ -106,44 +104,6 @@ impl Texts {
     {
         self.push(text.as_bytes())
     }
-
-    /// Appends the text of an instruction.
-    #[inline]
-    pub fn add(&mut self, alloc: Global, inst: &Inst<'_>) -> Result<(), AllocError>
-        ensures ok { OnOk result (self.new ≡ self.old ++ text (instruction_of inst.now) ∷ []) }
-        ensures err { OnErr result (self.new ≡ self.old) }
-    {
-        if holds_utf8(inst.op()) {
-            if let Arg::Counted(payload) = inst.arg() {
-                return self.push(payload);
-            }
-        }
-        self.add_decoded(alloc, inst)
-    }
-
-    /// Appends a text that needs decoding. Out of line.
-    #[inline(never)]
-    fn add_decoded(&mut self, alloc: Global, inst: &Inst<'_>) -> Result<(), AllocError>
-        ensures ok { OnOk result (self.new ≡ self.old ++ text (instruction_of inst.now) ∷ []) }
-        ensures err { OnErr result (self.new ≡ self.old) }
-    {
-        match text_of(alloc, inst)? {
-            Some(text) => self.push(text.as_bytes()),
-            None => self.add_old(alloc, inst),
-        }
-    }
-
-    /// Appends a Python 2 string, with one character for each byte.
-    fn add_old(&mut self, alloc: Global, inst: &Inst<'_>) -> Result<(), AllocError>
-        ensures ok { OnOk result (self.new ≡ self.old ++ encode_utf8_all
-            (unwrap_or (old_bytes (instruction_of inst.now)) []) ∷ []) }
-        ensures err { OnErr result (self.new ≡ self.old) }
-    {
-        match old_bytes_of(alloc, inst)? {
-            Some(bytes) => self.put(numbered_by(alloc, &bytes)?.as_str()),
-            None => self.put(""),
-        }
-    }
 }
 
 /// Makes the first allocation of an empty vector.
@@ -155,6 +115,27 @@ fn begin(bytes: &mut Vec<u8>) -> Result<(), AllocError>
         return bytes.reserve(FIRST);
     }
     Ok(())
+}
+
+/// The text that an instruction names.
+pub fn text_spelled(alloc: Global, inst: &Inst<'_>) -> Result<String, AllocError>
+    ensures { IfOk result (λ string. string_bytes string ≡ text (instruction_of inst.now)) }
+{
+    match text_of(alloc, inst)? {
+        Some(text) => Ok(text),
+        None => old_text(alloc, inst),
+    }
+}
+
+/// A Python 2 string, with one character for each byte.
+fn old_text(alloc: Global, inst: &Inst<'_>) -> Result<String, AllocError>
+    ensures { IfOk result (λ string. string_bytes string
+        ≡ encode_utf8_all (unwrap_or (old_bytes (instruction_of inst.now)) [])) }
+{
+    match old_bytes_of(alloc, inst)? {
+        Some(bytes) => numbered_by(alloc, &bytes),
+        None => Ok(String::new(alloc)),
+    }
 }
 
 /// The characters with these numbers.
@@ -192,17 +173,4 @@ fn piece(bytes: &[u8], start: usize, end: usize) -> &[u8]
     ensures { result.now ≡ take (end - start) (drop start bytes.now) }
 {
     &bytes[start..end]
-}
-
-/// Whether the payload of the opcode is UTF-8 and needs no decoding.
-#[inline]
-fn holds_utf8(op: Op) -> bool
-    ensures { result ≡ true → rule_of op ≡ rule.Utf8 }
-{
-    match op {
-        Op::ShortBinUnicode => true,
-        Op::BinUnicode => true,
-        Op::BinUnicode8 => true,
-        _ => false,
-    }
 }

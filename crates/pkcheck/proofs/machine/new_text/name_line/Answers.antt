@@ -1,0 +1,7 @@
+use Rattle.std.proofs.lemmas.Str.{IsUtf8-string_bytes}
+use Rattle.std.specs.Str.{IsUtf8}
+use Rattle.pkcheck.proofs.machine.new_text.name_line.Goals as goal
+
+pub name_text-requires-clause-utf8 : goal.name_text-requires-clause-utf8
+name_text-requires-clause-utf8 c =
+    rw c.as_bytes.ensures.value (IsUtf8-string_bytes c.in_ok-text.text)
