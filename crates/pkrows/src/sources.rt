@@ -3,7 +3,7 @@
 use crate::judging::{Verdict, judge};
 use pkcheck::{Allow, Policy};
 use pkops::Limits;
-use pkread::{Input, Memory, Reason, Source};
+use pkread::{Input, Memory, ReadFailed, Reason, Source};
 use std::io;
 use std::io::Read;
 use std::test::Fail;
@@ -85,6 +85,40 @@ fn a_read_that_fails_and_an_early_end(rt: HostRuntime) -> Result<(), Fail> {
     }
     let mut failing = Input::new(Pieces::new(PICKLE, u32::MAX, Some(9)));
     assert_eq!(rt; judge_from(&rt, &mut failing)?, Verdict::Yes(9, 1));
+    Ok(())
+}
+
+// A source of nothing that leaves the calls that aren't required as they are.
+#[derive(Drop)]
+struct Empty;
+
+impl Source for Empty {
+    ghost failures = { λ e. 0 };
+
+    fn pull(&mut self, to: &mut [u8]) -> Result<usize, ReadFailed> {
+        let _ = to;
+        Ok(0)
+    }
+}
+
+#[test]
+fn memory_shows_all_bytes_left(rt: HostRuntime) -> Result<(), Fail> {
+    let mut memory = Memory::new(PICKLE);
+    assert_eq!(rt; memory.ahead().len(), 9);
+    assert!(rt; memory.advance(4));
+    assert_eq!(rt; memory.ahead().len(), 5);
+    assert!(rt; !memory.advance(6));
+    assert!(rt; memory.advance(5));
+    assert_eq!(rt; memory.ahead().len(), 0);
+    Ok(())
+}
+
+#[test]
+fn a_source_with_nothing_at_hand_shows_nothing(rt: HostRuntime) -> Result<(), Fail> {
+    let mut empty = Empty;
+    assert_eq!(rt; (empty.ahead().len(), empty.advance(0)), (0, false));
+    let mut input = Input::new(PICKLE);
+    assert_eq!(rt; (input.ahead().len(), input.advance(1)), (0, false));
     Ok(())
 }
 
