@@ -19,6 +19,9 @@ use pkops::{Op, op_of_byte};
 /// The bytes that a window has: the most that an instruction taken by one can have.
 pub(crate) const SIZE: usize = 16;
 
+/// The code of SHORT_BINUNICODE.
+const TEXT: u8 = 0x8c;
+
 /// An instruction at the front of some bytes.
 #[derive(Clone, Copy, Debug)]
 struct Short {
@@ -80,7 +83,11 @@ fn short_in(bytes: &[u8], limit: u64) -> Option<Short>
     let code = bytes[0];
     let length = length_of(code);
     if length == 0 {
-        return text_in(bytes, limit);
+        return if code == TEXT {
+            text_in(bytes, limit)
+        } else {
+            None
+        };
     }
     let Some(op) = op_of_byte(code) else {
         return None;
@@ -116,7 +123,7 @@ fn text_length(bytes: &[u8], limit: u64) -> usize
 {
     growth();
     let count = usize::from(bytes[1]);
-    if bytes[0] != 0x8c || count > SIZE - 2 || count as u64 > limit {
+    if bytes[0] != TEXT || count > SIZE - 2 || count as u64 > limit {
         return 0;
     }
     let length = count + 2;
