@@ -1,5 +1,5 @@
-//! What a scan answers at the edges: cut and negative counts, the limits, and contents that keep or
-//! break a rule.
+//! Scans at the edges: truncated and negative counts, the limits, and contents that obey or break a
+//! rule.
 
 use pkops::{Arg, Fault, Inst, Limits, Op, Scan, assemble, old_bytes_of, scan, text_of};
 use std::test::Fail;
@@ -144,7 +144,7 @@ fn edges(rt: HostRuntime) {
     }
 }
 
-// A line of so many bytes behind a code byte, with its end or without.
+// A code byte and a line of this many bytes, with or without its newline.
 fn line(rt: &HostRuntime, code: u8, byte: u8, length: usize, ended: bool) -> Result<Vec<u8>, Fail> {
     let mut bytes = Vec::new(rt.alloc());
     bytes.push(code)?;

@@ -1,4 +1,4 @@
-//! Worked pickles and the JSON that they are, or why they are none.
+//! Worked pickles and their JSON, or why they have none.
 
 use pkjson::{ExportError, export, export_text};
 use pkops::{Limits, Op};
@@ -47,7 +47,7 @@ const REFUSED: [(&[u8], ExportError); 8] = [
     ),
 ];
 
-/// A first byte, others so many times, and STOP.
+/// A first byte, the others repeated, and STOP.
 fn repeated(alloc: Global, first: u8, others: &[u8], count: usize) -> Result<Vec<u8>, Fail> {
     let mut bytes = Vec::new(alloc);
     bytes.push(first)?;

@@ -1,8 +1,8 @@
-//! Sources for tests: bytes in pieces, a long run of one byte, and requests that are watched.
+//! Sources for tests: bytes in pieces, a long run of one byte, and a source that checks requests.
 
 use pkread::{ReadFailed, Source};
 
-/// Bytes in memory, of which a pull gives so many at most.
+/// Bytes in memory. A pull returns at most `most` of them.
 #[derive(Drop)]
 pub struct Pieces<'a> {
     rest: &'a [u8],
@@ -26,7 +26,7 @@ impl Source for Pieces<'_> {
     }
 }
 
-/// A head, a byte again and again, and a tail.
+/// A head, one byte repeated, and a tail.
 #[derive(Drop)]
 pub struct Filled<'a> {
     head: &'a [u8],
@@ -67,7 +67,7 @@ impl Source for Filled<'_> {
     }
 }
 
-/// A source whose requests are held to those that are wanted.
+/// A source that compares the requests with the expected ones.
 #[derive(Drop)]
 pub struct Watched<'a, R> {
     source: R,
@@ -84,7 +84,7 @@ impl<'a, R: Source> Watched<'a, R> {
         }
     }
 
-    /// Whether the requests were those that are wanted, all of them and no other.
+    /// Whether the requests were exactly the expected ones.
     pub fn saw_them(&self) -> bool {
         self.wanted.is_empty() && !self.other
     }

@@ -6,16 +6,16 @@ use pkops::Limits;
 use pkread::{Reason, Source};
 use std::process::Abort;
 
-/// What `check` says.
+/// The verdict of `check`.
 #[derive(Clone, Copy, Debug, PartialEq, Eq)]
 pub enum Verdict {
-    /// How many bytes were taken, and how many imports are listed.
+    /// The number of bytes taken and of imports listed.
     Yes(u64, usize),
-    /// Where it is refused, and why.
+    /// The offset and the reason of the refusal.
     No(u64, Reason),
 }
 
-/// The verdict on what a source gives.
+/// The verdict on the bytes of a source.
 pub fn judge<T: AllocGlobal, R: Source>(
     rt: &T,
     policy: &Policy<'_>,
@@ -43,8 +43,8 @@ fn verdict_of(answer: Result<Yes, No>) -> Verdict {
     }
 }
 
-/// Holds the verdict on each pickle to the one beside it, from sources that give one byte, two
-/// bytes, or all that they are asked for.
+/// Compares the verdict on each pickle with the expected one, for sources that return one byte, two
+/// bytes, or all that is requested.
 pub fn judge_each<T: Abort + AllocGlobal>(
     rt: &T,
     policy: &Policy<'_>,

@@ -1,4 +1,4 @@
-//! Limits of large data, and the limit on the numbers of the memo.
+//! The limits for large data, and the limit on memo numbers.
 
 use crate::giving::Filled;
 use crate::judging::{Verdict, judge, judge_each};
@@ -68,7 +68,7 @@ const FIRST_ERRORS: [(&str, Where); 10] = [
     ("large = false", Where::Limit),
     ("large = 1", Where::Limit),
     ("large = \"true\"", Where::Limit),
-    // `large` is judged first, and then each key in the order of the bytes
+    // `large` is checked first, then the keys in the order of their bytes
     ("heap = 1, large = false", Where::Limit),
     ("heap = 1, large = true", Where::LimitKey),
     ("counted = -1, heap = 1, large = true", Where::Limit),
@@ -99,10 +99,10 @@ const UP_TO_FIVE: [(&[u8], Verdict); 10] = [
     (b"Nr\x06\0\0\0.", LARGE_NUMBER),
     (b"Np5\n.", Verdict::Yes(5, 0)),
     (b"Np6\n.", LARGE_NUMBER),
-    // a missing item is found first
+    // the missing item is reported first
     (b"q\x06.", Verdict::No(0, Reason::MissingItem)),
     (b"(q\x06.", Verdict::No(1, Reason::MissingItem)),
-    // MEMOIZE stores under the count of entries, whatever that is
+    // MEMOIZE stores under the number of entries, however large
     (b"N\x94\x94\x94\x94\x94\x94\x94.", Verdict::Yes(9, 0)),
     (b"N\x94\x94\x94\x94\x94\x94\x94h\x060.", Verdict::Yes(12, 0)),
 ];
@@ -127,8 +127,8 @@ fn the_greatest_number(rt: HostRuntime) -> Result<(), Fail> {
     Ok(())
 }
 
-/// A text of 20,000,000 bytes and a stack of 1,000,001 entries, under the limits of large data and
-/// without.
+/// A text of 20,000,000 bytes and a stack of 1,000,001 entries, under the limits for large data and
+/// under the standard ones.
 #[test]
 fn large_data(rt: HostRuntime) -> Result<(), Fail> {
     let large = Allow::from_toml(rt.alloc(), LARGE)?;
@@ -158,7 +158,7 @@ fn large_data(rt: HostRuntime) -> Result<(), Fail> {
     Ok(())
 }
 
-/// `large` leaves the limit on payloads that are passed over, which is its own.
+/// `large` doesn't change the limit on skipped payloads.
 #[test]
 fn large_and_passed(rt: HostRuntime) -> Result<(), Fail> {
     for (list, verdict) in [

@@ -1,5 +1,4 @@
-//! Limits from a list file: what they are, the first error of those that are none, and what a check
-//! says under them.
+//! Limits from a list file: their values, the first error of invalid ones, and verdicts under them.
 
 use crate::giving::Filled;
 use crate::judging::{Verdict, judge, judge_each};

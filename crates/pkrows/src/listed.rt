@@ -1,4 +1,4 @@
-//! The imports that a machine and an answer list, and whether two answers are the same.
+//! The imports that a machine and an answer list, and comparisons of two answers.
 
 use pkcheck::{Asked, Import, Machine, Policy, Yes, check};
 use pkops::{Arg, Inst, Limits, Op, Scan, scan};

@@ -1,4 +1,4 @@
-//! List files: what they permit, and the first error of those that are none.
+//! List files: what they permit, and the first error of invalid ones.
 
 use pkcheck::{Allow, AllowError, Where};
 use std::test::Fail;

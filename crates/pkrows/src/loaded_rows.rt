@@ -1,5 +1,5 @@
-//! Answers of `check_all` on rows of pickles, for a memo that is fresh in each and for one that is
-//! kept. CPython 3.11 reads each so: by `pickle.load` for each pickle, and by one `Unpickler`.
+//! Answers of `check_all` on rows of pickles, with a fresh memo for each pickle and with one kept
+//! memo. CPython 3.11 agrees: with one `pickle.load` per pickle, and with one `Unpickler`.
 
 use crate::giving::Pieces;
 use pkcheck::{Allow, Loading, Memo, NoAll, OldStrings, Policy, YesAll, check_all};
@@ -10,16 +10,16 @@ use std::test::Fail;
 
 const LEN_ALONE: &str = "version = 1\n[imports]\nbuiltins = [\"len\"]\n";
 
-/// What `check_all` says.
+/// The verdict of `check_all`.
 #[derive(Clone, Copy, Debug, PartialEq, Eq)]
 enum Verdict {
-    /// How many bytes and pickles were taken, and how many imports are listed.
+    /// The number of bytes and pickles taken, and of imports listed.
     Yes(u64, u64, usize),
-    /// Which pickle is refused, where, and why.
+    /// The refused pickle, the offset and the reason.
     No(u64, u64, Reason),
 }
 
-/// A row, and the verdicts on it where the memo is fresh in each pickle and where it is kept.
+/// A row, its verdict with a fresh memo for each pickle, and its verdict with one that is kept.
 type Row = (&'static [u8], Verdict, Verdict);
 
 /// The second pickle stores the texts of `builtins.len` and fetches numbers 0 and 1. Under one
@@ -47,13 +47,13 @@ const ROWS: [Row; 8] = [
         Verdict::Yes(22, 2, 0),
         Verdict::Yes(22, 2, 0),
     ),
-    // A text that is kept names an import, also two pickles on.
+    // A kept text names an import, even two pickles later.
     (
         b"\x8c\x08builtins\x94.N.h\x00\x8c\x03len\x93.h\x00\x8c\x03len\x93.",
         Verdict::No(2, 14, Reason::MissingMemo(0)),
         Verdict::Yes(32, 4, 2),
     ),
-    // MEMOIZE counts what is kept.
+    // MEMOIZE counts the kept entries.
     (
         b"N\x94.N\x94h\x010.",
         Verdict::No(1, 5, Reason::MissingMemo(1)),
@@ -70,7 +70,7 @@ const ROWS: [Row; 8] = [
         Verdict::No(1, 2, Reason::MissingMark),
         Verdict::No(1, 2, Reason::MissingMark),
     ),
-    // What is stored anew under a number is forgotten.
+    // A new entry under a number replaces the kept one.
     (
         b"\x8c\x02osq\x00.\x8c\x08builtinsq\x00h\x00\x8c\x03len\x93\x86.",
         Verdict::Yes(29, 2, 1),
@@ -85,7 +85,7 @@ fn verdict_of(answer: Result<YesAll, NoAll>) -> Verdict {
     }
 }
 
-/// The verdict on a row that is loaded so, from a source that gives one byte.
+/// The verdict on a row loaded this way, from a source that returns one byte at a time.
 fn said<T: AllocGlobal>(rt: &T, policy: &Policy<'_>, memo: Memo, row: &[u8]) -> Verdict {
     let mut source = Pieces::new(row, 1);
     let loading = Loading {

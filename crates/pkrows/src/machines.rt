@@ -28,7 +28,7 @@ fn a_text_doubled_stands_once(rt: HostRuntime) -> Result<(), Fail> {
     Ok(())
 }
 
-// bytes take no items, so that an APPEND to a payload that was passed over is refused
+// bytes take no items, so an APPEND to a skipped payload is refused
 #[test]
 fn a_passed_payload_is_known_as_bytes(rt: HostRuntime) -> Result<(), Fail> {
     let none = Inst::new(Op::None, Arg::None).ok_or("NONE")?;

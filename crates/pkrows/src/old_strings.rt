@@ -1,4 +1,4 @@
-//! Verdicts of `check_as` on pickles of Python 2, for each setting of what old strings become.
+//! Verdicts of `check_as` on pickles of Python 2, for each way of decoding old strings.
 
 use crate::giving::Pieces;
 use crate::judging::{Verdict, judge_as};
@@ -18,7 +18,7 @@ const NAMES: [&[u8]; 4] = [
     b"U\x01aq\x000h\x00U\x01b\x93.",
 ];
 
-/// Where each of them asks for its import.
+/// The offset at which each of them requests its import.
 const ASKED_AT: [u64; 4] = [6, 9, 11, 11];
 
 /// One byte that is not ASCII, in each of the three forms.
@@ -27,7 +27,7 @@ const NOT_ASCII: [&[u8]; 3] = [b"U\x01\xe9.", b"T\x01\x00\x00\x00\xe9.", b"S'\\x
 /// An old string that takes no item.
 const RECEIVER: &[u8] = b"U\x00Na.";
 
-/// The verdict on a pickle under this setting, from a source that gives one byte.
+/// The verdict on a pickle under this setting, from a source that returns one byte at a time.
 fn said<T: Abort + AllocGlobal>(
     rt: &T,
     policy: &Policy<'_>,
@@ -77,7 +77,7 @@ fn an_old_string_takes_items_where_it_is_unknown_alone(rt: HostRuntime) {
     assert_eq!(rt; said(&rt, &any, OldStrings::Bytes, RECEIVER), refused);
 }
 
-// the limit of the stack is tried behind it
+// the limit on the stack is checked after it
 #[test]
 fn a_stack_that_is_full_comes_behind_it(rt: HostRuntime) -> Result<(), Fail> {
     let limits = Limits::new(16_777_216, 1, 1_000_000, 100, 1_000_000).ok_or("a stack of one")?;

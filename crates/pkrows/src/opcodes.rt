@@ -1,4 +1,4 @@
-//! Each opcode, accepted where it can be, and refused for each need that it has.
+//! Each opcode: accepted where its needs are met, and refused for each need that isn't.
 
 use crate::judging::{Verdict, judge_each};
 use pkcheck::{Allow, Policy};

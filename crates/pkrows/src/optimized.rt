@@ -7,7 +7,7 @@ use pkread::{Memory, Reason, Refusal};
 use std::process::Abort;
 use std::test::Fail;
 
-/// Pickles without frames, and what is left of them.
+/// Pickles without frames, and their optimized forms.
 const UNFRAMED: [(&[u8], &[u8]); 7] = [
     (b"]q\x00Nq\x01ah\x000.", b"]q\x00Nah\x000."),
     (b"]\x94N\x94ah\x010.", b"]N\x94ah\x000."),
@@ -18,7 +18,7 @@ const UNFRAMED: [(&[u8], &[u8]); 7] = [
     (b"N.N", b"N."),
 ];
 
-/// Pickles with frames, and the same in one.
+/// Pickles with frames, and their optimized forms in one frame.
 const FRAMED: [(&[u8], &[u8]); 4] = [
     (
         b"\x80\x04\x95\x02\x00\x00\x00\x00\x00\x00\x00N.",
@@ -38,8 +38,7 @@ const FRAMED: [(&[u8], &[u8]); 4] = [
     ),
 ];
 
-/// Holds the optimized form of each pickle to the bytes beside it, and sees that it passes the
-/// check.
+/// Compares the optimized form of each pickle with the expected one, and checks that form.
 fn optimize_each<T: Abort + AllocGlobal>(rt: &T, rows: &[(&[u8], &[u8])]) -> Result<(), Fail> {
     for (pickle, wanted) in rows {
         let out = match optimize(rt.alloc(), pickle, &Limits::STANDARD) {
@@ -69,7 +68,7 @@ fn in_one_frame(rt: HostRuntime) -> Result<(), Fail> {
     optimize_each(&rt, &FRAMED)
 }
 
-/// Under a limit of one memo entry, the second write that stays is one too many.
+/// Under a limit of one memo entry, the second remaining write is one too many.
 #[test]
 fn past_the_limit(rt: HostRuntime) -> Result<(), Fail> {
     let Some(limits) = Limits::new(16, 100, 1, 1, 1) else {
@@ -88,7 +87,7 @@ fn past_the_limit(rt: HostRuntime) -> Result<(), Fail> {
     Ok(())
 }
 
-/// A payload is held here, so the limit on those passed over doesn't count.
+/// Payloads are held here, so the limit on skipped ones doesn't apply.
 #[test]
 fn a_large_payload_is_held(rt: HostRuntime) -> Result<(), Fail> {
     let Some(limits) = Limits::STANDARD.with_passed(16_777_217) else {
@@ -114,7 +113,7 @@ fn a_large_payload_is_held(rt: HostRuntime) -> Result<(), Fail> {
     Ok(())
 }
 
-/// A refusal of the check is answered as it is.
+/// A refusal of the check is returned unchanged.
 #[test]
 fn refused_by_the_check(rt: HostRuntime) -> Result<(), Fail> {
     let Err(refusal) = optimize(rt.alloc(), b"Nq\x05h\x060.", &Limits::STANDARD) else {

@@ -16,7 +16,7 @@ fn answer_of(next: Result<Next<'_>, Refusal>) -> Answer {
     }
 }
 
-// Holds what a reader answers, and whether it has then ended, call by call.
+// Compares a reader's answers with the expected ones, and whether it has ended after each.
 fn read_on<T: Abort + AllocGlobal, R: Source>(
     rt: &T,
     source: &mut R,
@@ -50,7 +50,7 @@ fn a_reader_gives_refuses_and_ends(rt: HostRuntime) {
     assert_eq!(rt; read_on(&rt, &mut Memory::new(b"N\xffN"), &refuses), 1);
 }
 
-// What `next_head` gives: an instruction, a payload that is passed over, or the end.
+// What `next_head` returns: an instruction, a skipped payload, or the end.
 #[derive(Clone, Copy, Debug, PartialEq, Eq)]
 enum Given {
     Inst(u64, Op),
@@ -58,7 +58,7 @@ enum Given {
     Ended,
 }
 
-// Holds what a reader answers to `next_head`, call by call, and to `next` at the last call.
+// Compares the answers to `next_head` with the expected ones, and that to `next` at the last call.
 fn read_heads<T: Abort + AllocGlobal, R: Source>(
     rt: &T,
     source: &mut R,
@@ -121,7 +121,7 @@ fn the_number_that_frames_want(rt: HostRuntime) {
     }
 }
 
-// The example that the documentation of `Reader` gives.
+// The example in the documentation of `Reader`.
 fn count<R: Source>(alloc: Global, source: &mut R) -> Result<u64, Refusal> {
     let mut reader = Reader::new(alloc, source, &Limits::STANDARD);
     let mut count = 0u64;

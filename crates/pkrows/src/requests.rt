@@ -1,5 +1,5 @@
-//! What a check asks its source for: no more than the instruction begun is known to lack, payloads
-//! in blocks of at most 4,096 bytes, lines byte by byte, and nothing past STOP.
+//! What a check requests from a source: no more than the current instruction is known to need,
+//! payloads in blocks of at most 4,096 bytes, lines byte by byte, and nothing past STOP.
 
 use crate::giving::{Filled, Pieces, Watched};
 use crate::judging::{Verdict, judge};
@@ -7,7 +7,7 @@ use pkcheck::Policy;
 use pkops::Limits;
 use pkread::{Reason, Source};
 
-// A pickle, how many bytes a pull gives at most, and the requests.
+// A pickle, the most bytes that a pull returns, and the requests.
 const REQUESTS: [(&[u8], usize, &[usize], Verdict); 11] = [
     (
         b"\x80\x04K\x01.more",

@@ -1,5 +1,5 @@
-//! Every sequence of one to three opcodes with a STOP behind it, one spelling each: no call answers
-//! want of memory.
+//! Every sequence of one to three opcodes and a STOP, one spelling each: no call reports
+//! `OutOfMemory`.
 
 use crate::spellings::spellings;
 use pkcheck::{Policy, check};
@@ -10,7 +10,7 @@ use pkread::{Memory, Reason};
 use std::alloc::{AllocError, Global};
 use std::test::Fail;
 
-// Whether `check` under any import, `optimize` or `export` answers want of memory.
+// Whether `check` under any import, `optimize` or `export` reports `OutOfMemory`.
 fn wants_memory(alloc: Global, pickle: &[u8]) -> bool {
     let limits = &Limits::STANDARD;
     let checked = match check(alloc, &mut Memory::new(pickle), &Policy::AnyImport, limits) {
@@ -28,7 +28,7 @@ fn wants_memory(alloc: Global, pickle: &[u8]) -> bool {
     checked || optimized || exported
 }
 
-// The spellings one after the other, and a STOP.
+// The spellings in order, and a STOP.
 fn pickle_of(alloc: Global, parts: &[&[u8]]) -> Result<Vec<u8>, AllocError> {
     let mut pickle = Vec::new(alloc);
     for part in parts {

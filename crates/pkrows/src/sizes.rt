@@ -1,5 +1,5 @@
-//! Sizes that an enemy chooses, at each limit and one above it: every one has its answer, and none
-//! is answered with want of memory.
+//! Sizes that an attacker chooses, at each limit and one above it. Each has its own answer, and
+//! none is `OutOfMemory`.
 
 use crate::giving::Filled;
 use crate::judging::{Verdict, judge};
@@ -7,11 +7,11 @@ use pkcheck::Policy;
 use pkops::Limits;
 use pkread::Reason;
 
-// What stands before a byte, the byte, how often it comes, and what stands behind.
+// A prefix, a byte, how often it is repeated, and a suffix.
 type Sized = (&'static [u8], u8, usize, &'static [u8], Verdict);
 
 const SIZES: [Sized; 11] = [
-    // Marks up to the limit of the stack, then one more.
+    // Marks up to the limit on the stack, then one more.
     (
         b"",
         b'(',
@@ -26,7 +26,7 @@ const SIZES: [Sized; 11] = [
         b".",
         Verdict::No(1_000_000, Reason::TooLarge),
     ),
-    // A count and the length of a frame as large as their fields hold.
+    // The largest count and the largest frame length that fit their fields.
     (b"\x8e", b'\xff', 8, b"", Verdict::No(0, Reason::TooLarge)),
     (
         b"\x95",
@@ -35,7 +35,7 @@ const SIZES: [Sized; 11] = [
         b"N.",
         Verdict::No(10, Reason::BrokenFrame),
     ),
-    // Entries up to the limit of the memo, then one more, and the greatest number.
+    // Entries up to the limit on the memo, then one more, and the greatest number.
     (b"N", b'\x94', 1_000_000, b".", Verdict::Yes(1_000_002, 0)),
     (
         b"N",
@@ -45,7 +45,7 @@ const SIZES: [Sized; 11] = [
         Verdict::No(1_000_001, Reason::TooLarge),
     ),
     (b"Nr", b'\xff', 4, b".", Verdict::Yes(7, 0)),
-    // Lines up to their limits, then a byte more.
+    // Lines up to their limits, then one more byte.
     (b"V", b'a', 65_536, b"\n.", Verdict::Yes(65_539, 0)),
     (b"V", b'a', 65_537, b"", Verdict::No(0, Reason::TooLarge)),
     (b"I", b'1', 1_024, b"\n.", Verdict::Yes(1_027, 0)),

@@ -1,4 +1,4 @@
-//! The same pickle from sources that cut it into pieces, fail, end early, or hold more behind it.
+//! The same pickle from sources that return it in pieces, fail, end early, or have more after it.
 
 use crate::judging::{Verdict, judge};
 use pkcheck::{Allow, Policy};
@@ -10,11 +10,11 @@ use std::test::Fail;
 
 const LIST: &str = "version = 1\n[imports]\na = [\"b\"]\n";
 
-// Asks for one import, and is nine bytes long.
+// Requests one import, and has nine bytes.
 const PICKLE: &[u8] = b"\x8c\x01a\x94\x8c\x01b\x93.";
 
-// Gives bytes in pieces. A bit of `cuts` that is set says that a piece ends behind that byte. One
-// read fails once `fails_after` bytes are given; the source then goes on.
+// Returns bytes in pieces. A set bit of `cuts` ends a piece after that byte. One read fails after
+// `fails_after` bytes; later reads succeed.
 #[derive(Drop)]
 struct Pieces<'a> {
     rest: &'a [u8],
@@ -63,7 +63,7 @@ fn every_cutting_gives_one_answer(rt: HostRuntime) -> Result<(), Fail> {
     Ok(())
 }
 
-// Where the instructions begin of which a byte is missing when so many are there.
+// For each length of a prefix, the offset of the first incomplete instruction.
 const STARTS: [u64; 9] = [0, 0, 0, 3, 4, 4, 4, 7, 8];
 
 #[test]
@@ -88,7 +88,7 @@ fn a_read_that_fails_and_an_early_end(rt: HostRuntime) -> Result<(), Fail> {
     Ok(())
 }
 
-// A source of nothing that leaves the calls that aren't required as they are.
+// An empty source that keeps the default calls.
 #[derive(Drop)]
 struct Empty;
 

@@ -101,8 +101,7 @@ const IMPORTS_CALLS_AND_THE_PICKLE: [Spelling; 16] = [
     (Op::Stop, "STOP", b"."),
 ];
 
-/// A spelling of each opcode. The tests take the tables from here, so that only one proof goes over
-/// them.
+/// A spelling of each opcode. The tests share these tables, so only one proof covers them.
 pub fn spellings(alloc: Global) -> Result<Vec<Spelling>, AllocError> {
     let tables: [&[Spelling]; 4] = [
         &VALUES,
@@ -159,7 +158,7 @@ fn the_table_names_each(rt: HostRuntime) -> Result<(), Fail> {
     Ok(())
 }
 
-// Those that a reader admits.
+// The spellings that a reader admits.
 fn admitted(alloc: Global) -> Result<Vec<Spelling>, AllocError> {
     let mut admitted = Vec::new(alloc);
     for spelling in &spellings(alloc)? {
