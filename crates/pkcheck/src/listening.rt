@@ -77,6 +77,18 @@ pub fn check_heard<R: Source, L: Listener>(
     let mut reader = Reader::new(alloc, source, &limits);
     let mut session = Session::new(alloc, &limits, OldStrings::Unknown);
     'instructions: loop {
+        if let Some(inst) = reader.peek() {
+            let at = reader.taken();
+            let length = inst.len();
+            let heard = listener.hear(at, &inst, session.marks());
+            let verdict = session.judge(&inst, policy);
+            reader.advance(length as usize);
+            heard?;
+            if let Err(reason) = verdict {
+                return Ok(Err(session.refuse(at, reason)));
+            }
+            continue;
+        }
         match reader.next() {
             Err(refusal) => return Ok(Err(session.refuse(refusal.at, refusal.reason))),
             Ok(Next::Ended) => {
@@ -87,7 +99,7 @@ pub fn check_heard<R: Source, L: Listener>(
             }
             Ok(Next::Inst { at, inst }) => {
                 listener.hear(at, &inst, session.marks())?;
-                if let Err(reason) = session.judge(&inst, policy) {
+                if let Err(reason) = session.judge_slowly(&inst, policy) {
                     return Ok(Err(session.refuse(at, reason)));
                 }
             }

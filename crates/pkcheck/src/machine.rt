@@ -167,7 +167,7 @@ impl Machine {
             &mut self.off,
         ) {
             Ok(moved) => {
-                self.stopped = is_stopped(moved);
+                stop_after(moved, &mut self.stopped);
                 Ok(moved)
             }
             Err(reason) => {
@@ -290,12 +290,14 @@ impl Machine {
     }
 }
 
-/// Whether the step was a STOP.
-fn is_stopped(moved: Moved) -> bool
-    ensures { result ≡ stopped_by moved }
+/// Notes that the machine has stopped, if the step was a STOP. All other steps write nothing.
+#[inline(always)]
+fn stop_after(moved: Moved, stopped: &mut bool)
+    requires { stopped.old ≡ false }
+    ensures { stopped.new ≡ stopped_by moved }
 {
     match moved {
-        Moved::Stopped => true,
-        _ => false,
+        Moved::Stopped => *stopped = true,
+        _ => {}
     }
 }

@@ -88,6 +88,16 @@ pub fn check_all<R: Source>(
     let mut apart = Ledger::new(alloc);
     let mut pickles = 0u64;
     'instructions: loop {
+        if let Some(inst) = reader.peek() {
+            let length = inst.len() as usize;
+            if let Err(reason) = session.judge(&inst, policy) {
+                let at = reader.taken();
+                reader.advance(length);
+                return Err(refused(pickles, session, at, reason));
+            }
+            reader.advance(length);
+            continue;
+        }
         match reader.next_head() {
             Err(refusal) => return Err(refused(pickles, session, refusal.at, refusal.reason)),
             Ok(Head::Ended) => {
@@ -117,7 +127,7 @@ pub fn check_all<R: Source>(
                 }
             }
             Ok(Head::Inst { at, inst }) => {
-                if let Err(reason) = session.judge(&inst, policy) {
+                if let Err(reason) = session.judge_slowly(&inst, policy) {
                     return Err(refused(pickles, session, at, reason));
                 }
             }

@@ -69,6 +69,20 @@ impl Session {
         Ok(())
     }
 
+    /// Judges an instruction that a loop seldom meets.
+    #[inline(never)]
+    pub fn judge_slowly(&mut self, inst: &Inst<'_>, policy: &Policy<'_>) -> Result<(), Reason>
+        requires admitted { IsTrue (is_admitted (instruction_of inst.now)) }
+        requires running { self.old.machine.stopped ≡ false }
+        requires well { self.old.machine.refused ≡ None }
+        ensures ok { IfOk result (λ _. BothGoOn (policy_of policy.now) (instruction_of inst.now)
+            self.old.frame self.old.machine self.new.frame self.new.machine) }
+        ensures err { IfErr result (IsRefused (policy_of policy.now) (instruction_of inst.now)
+            self.old.frame self.old.machine self.new.machine) }
+    {
+        self.judge(inst, policy)
+    }
+
     /// Judges an instruction with this opcode and length whose payload was skipped.
     pub fn judge_passed(&mut self, op: Op, length: u64, policy: &Policy<'_>) -> Result<(), Reason>
         requires passed { IsTrue (is_passed op) }

@@ -7,4 +7,4 @@ pub mod Judged
 pub mod Texts
 pub mod Plain
 pub mod Skipped
-pub mod Window
+pub mod Front

@@ -7,6 +7,7 @@ pub mod Held
 pub mod Core
 pub mod Reading
 pub mod Heads
+pub mod Peek
 pub mod Again
 pub mod Sequence
 pub mod Sequences

@@ -4,6 +4,5 @@ pub mod Progress
 pub mod Taking
 pub mod Gathering
 pub mod Skipping
-pub mod Windows
 pub mod Collecting
 pub mod Judging

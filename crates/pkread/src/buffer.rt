@@ -1,17 +1,14 @@
 //! The bytes of the current instruction, and the most that the buffer has ever held.
 
 ghost use Rattle.std.specs.Prelude.{◌≡◌, ◌+◌, ◌++◌, ◌∷◌, ◌<◌, ◌≤◌, ◌%◌, ◌^◌, [], ℕ, List};
-ghost use Rattle.std.specs.Prelude.{IfOk, IfErr, IfNone, IfSome, false, length, take, true};
+ghost use Rattle.std.specs.Prelude.{IfOk, IfErr, IfNone, IfSome, length, max, take};
 ghost use Rattle.pkread.specs.Held.{Held, most_held, none_held};
 ghost use Rattle.pkread.specs.Rows.{sight};
-ghost use Rattle.pkread.specs.Private.Taking.{AreAllBytes, PulledInto, ReadsByte, ReadsFront};
-ghost use Rattle.pkread.specs.Private.Taking.{ReadsNone, ReadsSome};
-ghost use Rattle.pkread.specs.Private.Windows.{bytes_in};
-ghost use Rattle.pkread.specs.Pull.{BeginsWith};
+ghost use Rattle.pkread.specs.Private.Taking.{AreAllBytes, PulledInto, ReadsByte, ReadsNone};
+ghost use Rattle.pkread.specs.Private.Taking.{ReadsSome};
 
 use crate::refusal::Reason;
 use crate::source::{ReadFailed, Source};
-use crate::window::{SIZE, Window};
 use std::alloc::{AllocError, Global};
 use std::marker::Model;
 
@@ -118,6 +115,16 @@ impl Buffer {
         self.peak = self.held;
     }
 
+    /// Updates the peak for `count` bytes that are lent from where they lie, as if they were held.
+    #[inline(always)]
+    pub(crate) fn count_lent(&mut self, count: usize)
+        ensures { self.new ≡ record self.old { peak = max self.old.peak count } }
+    {
+        if count > self.peak {
+            self.peak = count;
+        }
+    }
+
     /// Reads one byte and appends it. The byte passes through an array of one, because the compiler
     /// turns a copy of known length to a known place into a move.
     #[inline]
@@ -193,39 +200,6 @@ impl Buffer {
         self.held = held + count;
         Ok(count)
     }
-
-    /// Takes the first `count` bytes of a window that the source shows, if nothing is held. All 16
-    /// bytes are written, because a copy of known length is two moves.
-    #[inline(always)]
-    pub(crate) fn read_window<R: Source>(
-        &mut self,
-        source: &mut R,
-        window: Window,
-        count: usize,
-    ) -> bool
-        requires shown { BeginsWith (R.left source.old) (bytes_in window) }
-        requires within { count ≤ 16 }
-        ensures peak { self.new.peak ≡ self.old.peak }
-        ensures took { result ≡ true → ReadsFront count (bytes_in window)
-            self.old.bytes (sight R.left R.failures source.old)
-            self.new.bytes (sight R.left R.failures source.new) }
-        ensures same { result ≡ false → self.new ≡ self.old }
-        ensures none { result ≡ false →
-            sight R.left R.failures source.new ≡ sight R.left R.failures source.old }
-    {
-        if self.held != 0 {
-            return false;
-        }
-        if self.store.len() < SIZE {
-            return false;
-        }
-        if !source.advance(count) {
-            return false;
-        }
-        put_window(&mut self.store, window);
-        self.held = count;
-        true
-    }
 }
 
 /// Writes a byte to the store at `at`.
@@ -248,18 +222,6 @@ fn put_field<const N: usize>(store: &mut Vec<u8>, at: usize, field: &[u8; N])
     ensures fits { AreAllBytes store.new.items }
 {
     store[at..at + N].copy_from_slice(field);
-}
-
-/// Writes the bytes of a window to the front of the store.
-#[inline(always)]
-fn put_window(store: &mut Vec<u8>, window: Window)
-    requires { 16 ≤ length store.old.items }
-    ensures front { take 16 store.new.items ≡ bytes_in window }
-    ensures length { length store.new.items ≡ length store.old.items }
-    ensures fits { AreAllBytes store.new.items }
-{
-    put_field(store, 0, &window.front);
-    put_field(store, 8, &window.back);
 }
 
 /// Makes room for `wanted` bytes behind the first `from`.

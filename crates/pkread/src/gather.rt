@@ -146,9 +146,6 @@ impl Gathering {
     {
         growth();
         one_answer();
-        let Some(op) = self.take_short(source) else {
-            return self.gather_parts(source);
-        };
-        Ok(Found { op, split: 0 })
+        self.gather_parts(source)
     }
 }

@@ -1,19 +1,16 @@
 //! The current instruction and the bytes taken for it.
 
-ghost use Rattle.std.specs.Prelude.{◌≡◌, ◌+◌, ◌∷◌, ◌<◌, ◌≤◌, [], ℕ, List, length, take};
+ghost use Rattle.std.specs.Prelude.{◌≡◌, ◌+◌, ◌∷◌, ◌<◌, ◌≤◌, [], ℕ, List, length, max, take};
 ghost use Rattle.std.specs.Prelude.{IfErr, IfNone, IfOk, IfSome, false, true};
 ghost use Rattle.pkread.specs.Rows.{all_bytes, sight};
 ghost use Rattle.pkread.specs.Held.{most_held, none_held};
 ghost use Rattle.pkread.specs.Private.Progress.{KeepsRest, intake};
 ghost use Rattle.pkread.specs.Private.Taking.{ReadsByte, ReadsNone, TakesAll, TakesBlock};
-ghost use Rattle.pkread.specs.Private.Taking.{TakesByte, TookFront, TookUnheld};
-ghost use Rattle.pkread.specs.Private.Windows.{bytes_in};
-ghost use Rattle.pkread.specs.Pull.{BeginsWith};
+ghost use Rattle.pkread.specs.Private.Taking.{TakesByte, TookUnheld};
 
 use crate::buffer::Buffer;
 use crate::refusal::Reason;
 use crate::source::Source;
-use crate::window::Window;
 use pkops::Limits;
 use std::alloc::Global;
 use std::marker::Model;
@@ -131,6 +128,19 @@ impl Gathering {
         self.taken += 1;
     }
 
+    /// Counts an instruction of `count` bytes that is lent from where it lies, as if it were held.
+    #[inline(always)]
+    pub(crate) fn count_lent(&mut self, count: usize)
+        requires { self.old.taken + count ≤ all_bytes }
+        ensures { self.new ≡ record self.old {
+          buffer = record self.old.buffer { peak = max self.old.buffer.peak count };
+          taken = self.old.taken + count;
+        } }
+    {
+        self.buffer.count_lent(count);
+        self.taken += count as u64;
+    }
+
     /// Takes one byte. Refuses with `TooLarge` once 2^64 - 1 bytes were taken.
     #[inline]
     pub(crate) fn take_byte<R: Source>(&mut self, source: &mut R) -> Result<u8, Reason>
@@ -233,37 +243,10 @@ impl Gathering {
         self.take_rest(source, count - n)
     }
 
-    /// Takes the first `count` bytes of a window that the source shows, if none is held.
-    #[inline(always)]
-    pub(crate) fn take_window<R: Source>(
-        &mut self,
-        source: &mut R,
-        window: Window,
-        count: usize,
-    ) -> bool
-        requires shown { BeginsWith (R.left source.old) (bytes_in window) }
-        requires within { count ≤ 16 }
-        ensures keeps { KeepsRest self.old self.new }
-        ensures took { result ≡ true → TookFront count (bytes_in window)
-            (intake R.left R.failures source.old self.old)
-            (intake R.left R.failures source.new self.new) }
-        ensures same { result ≡ false → self.new ≡ self.old }
-        ensures none { result ≡ false →
-            sight R.left R.failures source.new ≡ sight R.left R.failures source.old }
-    {
-        let Some(taken) = self.taken.checked_add(count as u64) else {
-            return false;
-        };
-        if !self.buffer.read_window(source, window, count) {
-            return false;
-        }
-        self.taken = taken;
-        true
-    }
-
-    /// Takes `count` bytes that the source shows and holds none of them, if none is held before.
+    /// Takes `count` bytes that are at hand and holds none of them, if none is held before.
     #[inline]
     pub(crate) fn take_unheld<R: Source>(&mut self, source: &mut R, count: usize) -> bool
+        requires { count ≤ R.at_hand source.old }
         ensures keeps { KeepsRest self.old self.new }
         ensures took { result ≡ true → TookUnheld count
             (intake R.left R.failures source.old self.old)
@@ -278,9 +261,7 @@ impl Gathering {
         let Some(taken) = self.taken.checked_add(count as u64) else {
             return false;
         };
-        if !source.advance(count) {
-            return false;
-        }
+        source.advance(count);
         self.taken = taken;
         true
     }

@@ -147,22 +147,7 @@ impl Gathering {
     }
 
     /// Takes bytes until they spell an instruction, as `gather` does, but holds no byte payload.
-    #[inline(always)]
     pub(crate) fn gather_head<R: Source>(&mut self, source: &mut R) -> Result<Gathered, Reason>
-        requires { AtMostOneAhead self.old.buffer.bytes self.old.taken }
-        ensures { GathersHead result self.old self.new
-            (intake_start R.left R.failures source.old self.old)
-            (intake R.left R.failures source.new self.new) }
-    {
-        growth();
-        let Some(op) = self.take_short(source) else {
-            return Ok(self.gather_head_slowly(source)?);
-        };
-        Ok(Gathered::Held(Found { op, split: 0 }))
-    }
-
-    #[inline(never)]
-    fn gather_head_slowly<R: Source>(&mut self, source: &mut R) -> Result<Gathered, Reason>
         requires { AtMostOneAhead self.old.buffer.bytes self.old.taken }
         ensures { GathersHead result self.old self.new
             (intake_start R.left R.failures source.old self.old)

@@ -14,6 +14,7 @@ mod admission;
 mod arms;
 mod buffer;
 mod frames;
+mod front;
 mod gather;
 mod gathering;
 mod heads;
@@ -25,7 +26,6 @@ mod slice;
 mod source;
 mod state;
 mod walk;
-mod window;
 
 pub use frames::{BrokenFrame, Frames, frame_argument};
 pub use reader::{Head, Next, Reader};

@@ -1,11 +1,16 @@
 //! The instructions of a source, one at a time.
 
-ghost use Rattle.std.specs.Prelude.{◌≡◌, ◌≤◌, [], true};
+ghost use Rattle.std.specs.Prelude.{◌≡◌, ◌≤◌, [], IfSome, length, true};
 ghost use Rattle.std.specs.Borrow.{sem};
+ghost use Rattle.pkread.specs.Core as phase;
+ghost use Rattle.pkread.specs.Core.{phase_after};
 ghost use Rattle.pkread.specs.Reading.{source_name, source_of};
+ghost use Rattle.pkops.specs.Inst.{instruction_of};
 ghost use Rattle.pkops.specs.Scanning.{longest};
+ghost use Rattle.pkops.specs.Spelling.{Instruction, spelling};
 ghost use Rattle.pkread.specs.Rows.{sight};
 
+use crate::front::front_of;
 use crate::heads::Gathered;
 use crate::refusal::Refusal;
 use crate::source::Source;
@@ -80,8 +85,9 @@ impl<'r, R: Source> Reader<'r, R> {
     ghost use Rattle.pkread.specs.contracts.state.Core.{the_row as core_row};
     ghost use Rattle.pkread.specs.Again.{StepsAgain, TakesOneAhead};
     ghost use Rattle.pkread.specs.Heads.{ShowsAHead, StepsHead};
+    ghost use Rattle.pkread.specs.Peek.{IsNext, PassesOver};
     ghost use Rattle.pkread.specs.Reading.{KeepsSource, LeavesSource, Shows, Steps, TakesNoneAhead};
-    ghost use Rattle.pkread.specs.Reading.{begun, has_ended, state};
+    ghost use Rattle.pkread.specs.Reading.{begun, has_ended, source_of, state};
 
     /// A reader at the start of the source.
     pub fn new(alloc: Global, source: &'r mut R, limits: &Limits) -> Reader<'r, R>
@@ -153,7 +159,6 @@ impl<'r, R: Source> Reader<'r, R> {
     ///
     /// One call raises `most_held` to at most 131,075, or to the count plus 9 of an instruction
     /// whose payload is held.
-    #[inline(always)]
     pub fn next_head(&mut self) -> Result<Head<'_>, Refusal>
         ensures shows { ShowsAHead (state R.left R.failures self.old) result }
         ensures* after { sem 𝓛 (Rests (the_row (record { mir = named 1; lft = [] }) R.row core_row)
@@ -176,6 +181,47 @@ impl<'r, R: Source> Reader<'r, R> {
         }
     }
 
+    /// The next instruction, lent from where it lies in memory, if the source has all of it at hand.
+    /// It is neither STOP nor FRAME, it has at most 257 bytes, and its opcode is not a passed one.
+    /// Nothing is taken: call `advance` with its length, or `next` or `next_head`, which return every
+    /// instruction, this one too. `None` says nothing about the source.
+    #[inline(always)]
+    pub fn peek(&self) -> Option<Inst<'_>>
+        ensures next { IfSome result (λ inst. IsNext (state R.left R.failures self.now)
+            (R.at_hand (source_of self.now)) (instruction_of inst)) }
+        ensures none { IfSome result (λ _. TakesNoneAhead self.now) }
+    {
+        if !self.core.is_open() {
+            return None;
+        }
+        let bytes = self.source.ahead();
+        let Some(front) = front_of(bytes, self.core.limit_held()) else {
+            return None;
+        };
+        if !stays_open(front.op) || !self.core.has_room(front.length) {
+            return None;
+        }
+        Some(Inst::spelled(front.op, 0, &bytes[..front.length]))
+    }
+
+    /// Takes the instruction that `peek` returned, which has `count` bytes. The reader and its
+    /// source are then as after `next` or `next_head`.
+    #[inline(always)]
+    pub fn advance(&mut self, count: usize)
+        requires next { (i : Instruction) × IsNext (state R.left R.failures self.old)
+            (R.at_hand (source_of self.old)) i × (count ≡ length (spelling i)) }
+        requires none { TakesNoneAhead self.old }
+        ensures source { KeepsSource self.old self.new }
+        ensures none { TakesNoneAhead self.new }
+        ensures passes { (i : Instruction) → IsNext (state R.left R.failures self.old)
+            (R.at_hand (source_of self.old)) i → count ≡ length (spelling i)
+            → PassesOver (state R.left R.failures self.old) i
+            (state R.left R.failures self.new) }
+    {
+        self.source.advance(count);
+        self.core.count_lent(count);
+    }
+
     /// Reads one byte after STOP, to find out whether another pickle follows. If so, that byte
     /// belongs to the first instruction of that pickle. `next` and `next_head` read on to the next
     /// STOP, and offsets continue. At the end of the source, the reader stays as it is.
@@ -192,5 +238,18 @@ impl<'r, R: Source> Reader<'r, R> {
         ensures byte { TakesOneAhead R.left R.failures self.old result self.new }
     {
         self.core.again(self.source)
+    }
+}
+
+/// Whether `peek` may return an instruction with this opcode: the reader stays open after it, and
+/// it opens no frame. FRAME is left to `next_head`, so that a loop over `peek` need not ask for it.
+#[inline(always)]
+fn stays_open(op: Op) -> bool
+    ensures { result ≡ true → phase_after op ≡ phase.Open }
+{
+    match op {
+        Op::Stop => false,
+        Op::Frame => false,
+        _ => true,
     }
 }

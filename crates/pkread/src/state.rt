@@ -1,6 +1,7 @@
 //! The state of a reader apart from its source: the bytes of an instruction, and what comes next.
 
-ghost use Rattle.std.specs.Prelude.{◌≡◌, ◌≢◌, ◌<◌, ◌≤◌, [], IfErr, IfOk, false, length, true};
+ghost use Rattle.std.specs.Prelude.{◌≡◌, ◌≢◌, ◌+◌, ◌<◌, ◌≤◌, [], IfErr, IfOk, false, length};
+ghost use Rattle.std.specs.Prelude.{max, true};
 ghost use Rattle.pkops.specs.Inst.{instruction_of};
 ghost use Rattle.pkops.specs.Lying.{Lies};
 ghost use Rattle.pkops.specs.Scanning.{longest};
@@ -111,6 +112,50 @@ impl Core {
         self.gathering.most()
     }
 
+    /// The limit on a payload that is held.
+    #[inline(always)]
+    pub(crate) fn limit_held(&self) -> u64
+        ensures { result ≡ self.now.limits.counted }
+    {
+        self.gathering.limit_held()
+    }
+
+    /// Whether an instruction is read next, and none of it was read ahead.
+    #[inline(always)]
+    pub(crate) fn is_open(&self) -> bool
+        ensures open { result ≡ true → self.now.phase ≡ phase.Open }
+        ensures none { result ≡ true → self.now.ahead ≡ [] }
+    {
+        if self.begun {
+            return false;
+        }
+        matches!(self.phase, Phase::Open)
+    }
+
+    /// Whether `count` more bytes can be taken.
+    #[inline(always)]
+    pub(crate) fn has_room(&self, count: usize) -> bool
+        ensures { result ≡ true → self.now.taken + count ≤ all_bytes }
+    {
+        u64::MAX - self.gathering.taken() >= count as u64
+    }
+
+    /// Counts an instruction of `count` bytes that is lent from where it lies.
+    #[inline(always)]
+    pub(crate) fn count_lent(&mut self, count: usize)
+        requires open { self.old.phase ≡ phase.Open }
+        requires none { self.old.ahead ≡ [] }
+        requires within { self.old.taken + count ≤ all_bytes }
+        requires few { count ≤ 257 }
+        ensures { self.new ≡ record self.old {
+          held = record self.old.held { peak = max self.old.held.peak count };
+          taken = self.old.taken + count;
+        } }
+    {
+        self.gathering.count_lent(count);
+        let _taken = self.gathering.taken();
+    }
+
     /// Sets the phase after an instruction with this opcode.
     #[inline]
     fn give(&mut self, op: Op)
@@ -185,7 +230,7 @@ impl Core {
     }
 
     /// Takes the bytes of the next instruction without holding byte payloads.
-    #[inline(always)]
+    #[inline]
     pub(crate) fn collect_head<R: Source>(&mut self, source: &mut R) -> Result<Gathered, Refusal>
         requires { self.old.phase ≡ phase.Open }
         ensures advances { Advances self.old self.new }

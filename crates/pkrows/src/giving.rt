@@ -24,6 +24,10 @@ impl Source for Pieces<'_> {
         self.rest = &self.rest[count..];
         Ok(count)
     }
+
+    fn advance(&mut self, count: usize) {
+        let _ = count;
+    }
 }
 
 /// A head, one byte repeated, and a tail.
@@ -65,6 +69,10 @@ impl Source for Filled<'_> {
         self.head = &self.head[count..];
         Ok(count)
     }
+
+    fn advance(&mut self, count: usize) {
+        let _ = count;
+    }
 }
 
 /// A source that compares the requests with the expected ones.
@@ -101,5 +109,9 @@ impl<R: Source> Source for Watched<'_, R> {
             _ => self.other = true,
         }
         self.source.pull(to)
+    }
+
+    fn advance(&mut self, count: usize) {
+        let _ = count;
     }
 }

@@ -99,16 +99,19 @@ impl Source for Empty {
         let _ = to;
         Ok(0)
     }
+
+    fn advance(&mut self, count: usize) {
+        let _ = count;
+    }
 }
 
 #[test]
 fn memory_shows_all_bytes_left(rt: HostRuntime) -> Result<(), Fail> {
     let mut memory = Memory::new(PICKLE);
     assert_eq!(rt; memory.ahead().len(), 9);
-    assert!(rt; memory.advance(4));
-    assert_eq!(rt; memory.ahead().len(), 5);
-    assert!(rt; !memory.advance(6));
-    assert!(rt; memory.advance(5));
+    memory.advance(4);
+    assert_eq!(rt; memory.ahead(), b"\x8c\x01b\x93.");
+    memory.advance(5);
     assert_eq!(rt; memory.ahead().len(), 0);
     Ok(())
 }
@@ -116,9 +119,11 @@ fn memory_shows_all_bytes_left(rt: HostRuntime) -> Result<(), Fail> {
 #[test]
 fn a_source_with_nothing_at_hand_shows_nothing(rt: HostRuntime) -> Result<(), Fail> {
     let mut empty = Empty;
-    assert_eq!(rt; (empty.ahead().len(), empty.advance(0)), (0, false));
+    empty.advance(0);
+    assert_eq!(rt; empty.ahead().len(), 0);
     let mut input = Input::new(PICKLE);
-    assert_eq!(rt; (input.ahead().len(), input.advance(1)), (0, false));
+    input.advance(0);
+    assert_eq!(rt; input.ahead().len(), 0);
     Ok(())
 }
 

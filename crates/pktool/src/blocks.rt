@@ -1,6 +1,6 @@
 //! A reader as a source of bytes, read in blocks.
 
-ghost use Rattle.std.specs.Prelude.{◌≡◌, IfOk};
+ghost use Rattle.std.specs.Prelude.{◌≡◌, IfOk, length};
 ghost use Rattle.pkread.specs.Pull.{Counted, Pulled};
 ghost use Rattle.pktool.specs.Blocks.{failed_reads, unpulled};
 
@@ -57,6 +57,8 @@ impl<R: Read> Source for Blocks<R> {
 
     ghost failures = { failed_reads };
 
+    ghost at_hand = { λ b. length b.block };
+
     #[inline(always)]
     fn pull(&mut self, to: &mut [u8]) -> Result<usize, ReadFailed> {
         if to.len() <= self.block.len() {
@@ -74,11 +76,7 @@ impl<R: Read> Source for Blocks<R> {
     }
 
     #[inline(always)]
-    fn advance(&mut self, count: usize) -> bool {
-        if count > self.block.len() {
-            return false;
-        }
+    fn advance(&mut self, count: usize) {
         self.block.skip(count);
-        true
     }
 }

@@ -9,9 +9,10 @@ use Rattle.pkops.specs.declared.Inst.{Inst}
 use Rattle.pkops.specs.declared.Op.{Op}
 use Rattle.pkops.specs.declared.Op.TheVariants as op
 use Rattle.pkread.specs.Admission.{IsAllowedBy}
-use Rattle.pkread.specs.Core.{Open, phase_after}
-use Rattle.pkread.specs.Heads.{IsSkipped, StepsHead}
-use Rattle.pkread.specs.Reading.{Gives, ReaderState, Steps}
+use Rattle.pkread.specs.Core.{Open, Phase, phase_after}
+use Rattle.pkread.specs.Heads.{GivesHead, IsSkipped, StepsHead, StepsHeadFrom}
+use Rattle.pkread.specs.Peek.{IsNext, PassesOver}
+use Rattle.pkread.specs.Reading.{Gives, GivesNext, ReaderState, Steps, StepsFrom}
 use Rattle.pkread.specs.Rows.{Refuses, Sight, Takes, unread}
 use Rattle.pkread.specs.Run.{HeadIsRead, HoldsTo, NextIsRead, PassedIsRead, PassesTo, Reads, ReadsMore, RefusalIsRead, RefusalOfHeads}
 use Rattle.pkread.specs.Sequence.{NoStop}
@@ -78,6 +79,14 @@ module _ (start : Sight) (from : ℕ) (limits : Bounds) (p : List Instruction) (
       pub took_next : NextIsRead → (r : Result Next Refusal) (at : ℕ) (i : Inst) → Steps s r t → r ≡ Ok (next.Inst at i) → Took at (instruction_of i) t
       took_next law r at i k e = gave at (instruction_of i) t k.0 (law start from (payload_limit limits) p s t r at i holds reads k e)
 
+      -- for `peek` and `advance`, which do what `next` does
+      pub took_lent : NextIsRead → (at count : ℕ) (i : Inst) → at ≡ s.taken → IsNext s count (instruction_of i) → PassesOver s (instruction_of i) t → Took at (instruction_of i) t
+      took_lent law at count i place shown over =
+          let r : Result Next Refusal = Ok (next.Inst at i) in
+          let gives : GivesNext s t (next.Inst at i) = subst (λ m. Gives s m (instruction_of i) t) (sym place) over.gives in
+          let steps : Steps s r t = (over.limits, subst (λ (p : Phase). StepsFrom p s r t) (sym shown.phase) gives) in
+          took_next law r at i steps refl
+
       pub refused_next : RefusalIsRead → (r : Result Next Refusal) (x : Refusal) → Steps s r t → r ≡ Err x → Turned x t
       refused_next law r x k e =
           let w = law start from (payload_limit limits) p s t r x reads k e in
@@ -90,6 +99,14 @@ module _ (start : Sight) (from : ℕ) (limits : Bounds) (p : List Instruction) (
 
     pub took_head : HeadIsRead → (r : Result Head Refusal) (at : ℕ) (i : Inst) → StepsHead s r t → r ≡ Ok (head.Inst at i) → Took at (instruction_of i) t
     took_head law r at i k e = gave at (instruction_of i) t k.0 (law start from (payload_limit limits) p s t r at i passes reads k e)
+
+    -- for `peek` and `advance`, which do what `next_head` does
+    pub took_peeked : HeadIsRead → (at count : ℕ) (i : Inst) → at ≡ s.taken → IsNext s count (instruction_of i) → PassesOver s (instruction_of i) t → Took at (instruction_of i) t
+    took_peeked law at count i place shown over =
+        let r : Result Head Refusal = Ok (head.Inst at i) in
+        let gives : GivesHead s t (head.Inst at i) = (subst (λ m. Gives s m (instruction_of i) t) (sym place) over.gives, shown.kept, over.few) in
+        let steps : StepsHead s r t = (over.limits, subst (λ (p : Phase). StepsHeadFrom p s r t) (sym shown.phase) gives) in
+        took_head law r at i steps refl
 
     open_after : (o : Op) → IsTrue (is_passed o) → Open ≡ phase_after o
     open_after op.Stop h = cc
@@ -121,3 +138,6 @@ module _ (start : Sight) (from : ℕ) (limits : Bounds) (p : List Instruction) (
 -- if no byte was read ahead, the view of the source is unchanged
 pub seen_so : (ahead : List ℕ) (now here : Sight) → ahead ≡ [] → now ≡ here → now ≡ unread ahead here
 seen_so ahead now here e h = h ∙ rw e refl
+
+pub failures_so : (ahead : List ℕ) (now here : Sight) → ahead ≡ [] → now ≡ here → now.failures ≡ (unread ahead here).failures
+failures_so ahead now here e h = ap (λ s. s.failures) (seen_so ahead now here e h)

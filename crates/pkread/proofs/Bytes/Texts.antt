@@ -61,7 +61,7 @@ module _ (c : Count) (x : ℕ) (o : Op) (old mid new : Intake) (e : old.bytes �
       took lies w
 
 -- opcodes with a line are admitted
-line_admitted : (o : Op) (most : ℕ) (arg : Argument) → layout_at o ≡ layout.Line most →
+pub line_admitted : (o : Op) (most : ℕ) (arg : Argument) → layout_at o ≡ layout.Line most →
     objection (instruction o arg) ≡ None
 line_admitted op.Proto most arg e = absurd cc
 line_admitted op.Ext1 most arg e = absurd cc

@@ -109,18 +109,12 @@ pub record HasFixedLength (op : Op) (n : ℕ) : Type 0 where
   pub length_is : n ≡ field_len (layout_at op) + 1
   pub plain : is_plain op ≡ true
 
--- the first n bytes are an instruction of this opcode that is held, n at most 16
-pub record IsShort (limit : ℕ) (op : Op) (n : ℕ) (bytes : List ℕ) : Type 0 where
+-- the first n bytes are an instruction of this opcode that is held, n at most 257
+pub record IsFront (limit : ℕ) (op : Op) (n : ℕ) (bytes : List ℕ) : Type 0 where
   pub found : IsFound limit (take n bytes) op 0
   pub kept : is_passed op ≡ false
-  pub few : n ≤ 16
-
--- a whole instruction of at most 16 bytes was taken, and none of it was held before
-pub record TookShort (limit : ℕ) (op : Op) (old new : Intake) : Type 0 where
-  pub none : old.bytes ≡ []
-  pub finds : Finds limit op 0 old new
-  pub kept : is_passed op ≡ false
-  pub few : length new.bytes ≤ 16
+  pub few : n ≤ 257
+  pub within : n ≤ length bytes
 
 -- takes a line, or says why not
 abbrev pub TakesLine : {A : Type 0} → ℕ → Result A Reason → Intake → Intake → Type 0

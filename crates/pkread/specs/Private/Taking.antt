@@ -31,14 +31,6 @@ pub record ReadsByte (byte : ℕ) (old : List ℕ) (before : Sight) (new : List 
   pub held : new ≡ old ++ byte ∷ []
   pub taken : Takes before after (byte ∷ [])
 
--- the first `count` bytes of a window, which the source showed, were taken into an empty buffer
-pub record ReadsFront (count : ℕ) (window old : List ℕ) (before : Sight) (new : List ℕ)
-    (after : Sight) : Type 0 where
-  pub fit : AreAllBytes new
-  pub none : old ≡ []
-  pub held : new ≡ take count window
-  pub taken : Takes before after (take count window)
-
 -- why a read returned no byte
 abbrev pub ReadsNone : Sight → Sight → Reason → Type 0
 ReadsNone before after Source = after.failures ≡ (before.failures + 1) % (2 ^ 64)
@@ -53,12 +45,7 @@ pub record Took (bytes : List ℕ) (old new : Intake) : Type 0 where
   pub source : Takes old.source new.source bytes
   pub count : new.taken ≡ old.taken + length bytes
 
--- the first `count` bytes of a window were taken, and none was held before
-pub record TookFront (count : ℕ) (window : List ℕ) (old new : Intake) : Type 0 where
-  pub none : old.bytes ≡ []
-  pub took : Took (take count window) old new
-
--- `count` bytes that the source showed were taken, and none is held
+-- `count` bytes at hand were taken, and none is held
 pub record TookUnheld (count : ℕ) (old new : Intake) : Type 0 where
   pub none : old.bytes ≡ []
   pub held : new.bytes ≡ []

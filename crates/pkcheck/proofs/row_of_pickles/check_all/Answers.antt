@@ -8,7 +8,7 @@ use Rattle.pkread.specs.Rows.{all_bytes, sight}
 use Rattle.pkcheck.proofs.Wholes.Checked.{checked_again, checked_first, checked_took, count_took}
 use Rattle.pkcheck.proofs.Wholes.Checked.{refused_turned, refused_took}
 use Rattle.pkcheck.proofs.Wholes.FramesSoFar.{FrameLaws}
-use Rattle.pkcheck.proofs.Wholes.Given.{refused_head, seen_so, took_head, took_passed}
+use Rattle.pkcheck.proofs.Wholes.Given.{refused_head, seen_so, took_head, took_passed, took_peeked}
 use Rattle.pkcheck.proofs.Stepping.Longest.{longest}
 use Rattle.pkcheck.specs.Knowledge.{nothing_known}
 use Rattle.pkcheck.specs.Private.NextPickle.{restarted}
@@ -50,24 +50,88 @@ instructions-init g c =
 pub returns-in-Err-clause-answer : goal.returns-in-Err-clause-answer
 returns-in-Err-clause-answer g c =
     let taking = c.rows.ensures.taking in
-    let k = c.next_head.follows.holds-at-none in
     let r = c.instructions.invariant.row in
+    let inst = c.in-Some.inst in
+    let shown = c.in-Some.ensures.next in
+    let over = c.advance.ensures.passes (instruction_of inst) shown c.len-length.ensures in
+    let took = took_peeked _ _ _ r.4 _ r.6.reads r.6.read_limits _ c.heads.ensures.given
+    c.taken-at.result _ inst c.taken-at.ensures shown over in
     let e = c.refused.ensures in
-    told _ _ _ _ _ _ _ _ _ _ _ _ _ _ refl e.pickle e.no.place e.no.why (e.no.pair ∙ r.6.off)
+    told _ _ _ _ _ _ _ _ _ _ _ _ _ _ refl e.pickle e.no.place e.no.why e.no.pair
     (row_refused taking _ _ _ _ _ _ _ _ _ r.3 _ _ _ _
-    (refused_turned _ _ _ _ _ r.4 r.5 _ _ _ r.6 _ c.in-Err.refusal _
-    (refused_head _ _ _ r.4 _ r.6.reads r.6.read_limits _ c.heads.ensures.refused
-    c.next_head.result c.in-Err.refusal k.1 (cc (c.in-Err.is)))
-    (seen_so _ _ _ k.3 (search rules))).0 (λ is. r.7))
+    (refused_took _ _ _ _ _ r.4 r.5 _ _ _ r.6 _ c.taken-at.result (instruction_of inst) _ took
+    (seen_so _ _ _ c.advance.ensures.none (search rules)) (longest c.args.policy.now) _ _ _
+    c.in-Err.ensures.err refl).0 (λ is. r.7))
 
 pub returns-in-Err-clause-count : goal.returns-in-Err-clause-count
 returns-in-Err-clause-count g c =
     let taking = c.rows.ensures.taking in
+    let r = c.instructions.invariant.row in
+    let inst = c.in-Some.inst in
+    let shown = c.in-Some.ensures.next in
+    let over = c.advance.ensures.passes (instruction_of inst) shown c.len-length.ensures in
+    let took = took_peeked _ _ _ r.4 _ r.6.reads r.6.read_limits _ c.heads.ensures.given
+    c.taken-at.result _ inst c.taken-at.ensures shown over in
+    let now = sight g.R.Source.left g.R.Source.failures c.advance.new.self.source.now in
+    let seen = seen_so c.advance.new.self.core.ahead now now c.advance.ensures.none refl in
+    let no = (refused_took _ _ _ _ _ r.4 r.5 _ _ _ r.6 _ c.taken-at.result (instruction_of inst) now
+    took seen (longest c.args.policy.now) _ _ _ c.in-Err.ensures.err refl).0 in
+    count_on _ _ _ _ _ _ _ _ _ (returns-in-Err-clause-answer g c) _ _ now c.refused.ensures.no.why
+    (none_failed taking _ _ _ _ _ _ _ _ _ r.3) (search rules)
+    (count_took _ _ _ _ _ r.4 r.5 _ _ _ r.6 _ c.taken-at.result (instruction_of inst) _ _ _ _ _ no
+    refl took seen _ c.in-Err.ensures.err)
+
+pub instructions-preserved-in-Some : goal.instructions-preserved-in-Some
+instructions-preserved-in-Some g c =
+    let r = c.instructions.invariant.row in
+    let inst = c.in-Some.inst in
+    let shown = c.in-Some.ensures.next in
+    let over = c.advance-in-Some.ensures.passes (instruction_of inst) shown c.len-length.ensures in
+    let took = took_peeked _ _ _ r.4 _ r.6.reads r.6.read_limits _ c.heads.ensures.given
+    _ _ inst refl shown over in
+    record {
+      same = c.advance-in-Some.ensures.source ∙ c.instructions.invariant.same;
+      row = (
+        _,
+        _,
+        r.2,
+        r.3,
+        _,
+        _,
+        checked_took _ _ _ _ _ r.4 r.5 _ _ _ r.6 _ _ _ _ (instruction_of inst)
+            took c.in_default-judge.ensures.ok,
+        r.7,
+      );
+    }
+
+pub instructions-smaller-in-Some : goal.instructions-smaller-in-Some
+instructions-smaller-in-Some g c =
+    let inst = c.in-Some.inst in
+    let over = c.advance-in-Some.ensures.passes (instruction_of inst) c.in-Some.ensures.next
+    c.len-length.ensures in
+    less_to_do _ _ _ _ (instruction_of inst) over.gives.taken over.gives.within
+
+pub returns-in-Err-next_head-clause-answer : goal.returns-in-Err-next_head-clause-answer
+returns-in-Err-next_head-clause-answer g c =
+    let taking = c.rows.ensures.taking in
     let k = c.next_head.follows.holds-at-none in
     let r = c.instructions.invariant.row in
-    let w = (c.heads.ensures.refused _ _ _ r.4 _ _ c.next_head.result c.in-Err.refusal r.6.reads k.1
-    (cc (c.in-Err.is))).1 in
-    count_on _ _ _ _ _ _ _ _ _ (returns-in-Err-clause-answer g c) _ _ _ c.refused.ensures.no.why
+    let e = c.refused-in-Err-next_head.ensures in
+    told _ _ _ _ _ _ _ _ _ _ _ _ _ _ refl e.pickle e.no.place e.no.why (e.no.pair ∙ r.6.off)
+    (row_refused taking _ _ _ _ _ _ _ _ _ r.3 _ _ _ _
+    (refused_turned _ _ _ _ _ r.4 r.5 _ _ _ r.6 _ c.in-Err-next_head.refusal _
+    (refused_head _ _ _ r.4 _ r.6.reads r.6.read_limits _ c.heads.ensures.refused
+    c.next_head.result c.in-Err-next_head.refusal k.1 (cc (c.in-Err-next_head.is)))
+    (seen_so _ _ _ k.3 (search rules))).0 (λ is. r.7))
+
+pub returns-in-Err-next_head-clause-count : goal.returns-in-Err-next_head-clause-count
+returns-in-Err-next_head-clause-count g c =
+    let taking = c.rows.ensures.taking in
+    let k = c.next_head.follows.holds-at-none in
+    let r = c.instructions.invariant.row in
+    let w = (c.heads.ensures.refused _ _ _ r.4 _ _ c.next_head.result c.in-Err-next_head.refusal r.6.reads k.1
+    (cc (c.in-Err-next_head.is))).1 in
+    count_on _ _ _ _ _ _ _ _ _ (returns-in-Err-next_head-clause-answer g c) _ _ _ c.refused-in-Err-next_head.ensures.no.why
     (r.6.reads.bytes.count ∙ none_failed taking _ _ _ _ _ _ _ _ _ r.3)
     (seen_so _ _ _ k.3 (search rules)) w.failures
 
@@ -83,17 +147,17 @@ overflow_add-pickles g c =
     let range = c.taken-taken.type_inv in
     omega (arith, some, reads, few, range, c.taken-taken.ensures ∙ ap (λ s. s.taken) e.1)
 
-pub returns-in_default-clause-answer : goal.returns-in_default-clause-answer
-returns-in_default-clause-answer g c =
+pub returns-in_default-restart-clause-answer : goal.returns-in_default-restart-clause-answer
+returns-in_default-restart-clause-answer g c =
     let taking = c.rows.ensures.taking in
     let k = c.next_head.follows.holds-at-none in
     let r = c.instructions.invariant.row in
     let e = c.heads.ensures.ended _ _ _ r.4 _ _ c.next_head.result r.6.reads k.1
     (cc (c.in-Ok-Ended.is, c.in-Ok-Ended.field-0-is)) in
-    let f = c.refused-in_default.ensures in
+    let f = c.refused-in_default-restart.ensures in
     told _ _ _ _ _ _ _ _ _ _ _ _ _ _ (seen_so _ _ _ k.3 (search rules) ∙ ap (λ s. s.source) e.1)
     f.pickle (f.no.place ∙ (c.taken-taken.ensures ∙ ap (λ s. s.taken) e.1)) f.no.why
-    (f.no.pair ∙ (ap (λ v. v.machine.off) c.in_default.ensures.kept ∙ r.6.off))
+    (f.no.pair ∙ (ap (λ v. v.machine.off) c.in_default-restart.ensures.kept ∙ r.6.off))
     (row_refused taking _ _ _ _ _ _ _ _ _ (pickle_more taking _ _ _ _ _ _ _ _ _ r.3 r.4 r.5 _ _
     _ r.6 e.0 _ (taking.none _) nothing_known _ refl) _ _ _ _
     (refused_growing taking c.args.loading _ _ r.6.laws c.rows.ensures.begins
@@ -101,15 +165,15 @@ returns-in_default-clause-answer g c =
     (next_ready taking _ _ _ _ _ _ _ _ _ r.3 r.4 r.5 _ _ _ r.6 e.0) c.rows.ensures.refused)
     (λ is. absurd (growing_is_not_cut is)))
 
-pub returns-in_default-clause-count : goal.returns-in_default-clause-count
-returns-in_default-clause-count g c =
+pub returns-in_default-restart-clause-count : goal.returns-in_default-restart-clause-count
+returns-in_default-restart-clause-count g c =
     let taking = c.rows.ensures.taking in
     let k = c.next_head.follows.holds-at-none in
     let r = c.instructions.invariant.row in
     let e = c.heads.ensures.ended _ _ _ r.4 _ _ c.next_head.result r.6.reads k.1
     (cc (c.in-Ok-Ended.is, c.in-Ok-Ended.field-0-is)) in
-    count_on _ _ _ _ _ _ _ _ _ (returns-in_default-clause-answer g c) _ _ _
-    c.refused-in_default.ensures.no.why (r.6.reads.bytes.count ∙ none_failed taking _ _ _ _ _ _
+    count_on _ _ _ _ _ _ _ _ _ (returns-in_default-restart-clause-answer g c) _ _ _
+    c.refused-in_default-restart.ensures.no.why (r.6.reads.bytes.count ∙ none_failed taking _ _ _ _ _ _
     _ _ _ r.3) (seen_so _ _ _ k.3 (search rules) ∙ ap (λ s. s.source) e.1) refl
 
 pub returns-in-Err-again-clause-answer : goal.returns-in-Err-again-clause-answer
@@ -265,23 +329,23 @@ returns-in-Err-judge_passed-clause-count g c =
     k.3 refl) _ (c.in-Err-judge_passed.ensures.err i
     (long_passed _ _ _ _ _ _ _ _ _ w _ c.taken.ensures)))
 
-pub returns-in-Err-judge-clause-answer : goal.returns-in-Err-judge-clause-answer
-returns-in-Err-judge-clause-answer g c =
+pub returns-in-Err-judge_slowly-clause-answer : goal.returns-in-Err-judge_slowly-clause-answer
+returns-in-Err-judge_slowly-clause-answer g c =
     let taking = c.rows.ensures.taking in
     let k = c.next_head.follows.holds-at-none in
     let r = c.instructions.invariant.row in
     let took = took_head _ _ _ r.4 _ r.6.reads r.6.read_limits _ c.heads.ensures.given
     c.next_head.result c.in-Ok-Inst.at c.in-Ok-Inst.inst k.1
     (cc (c.in-Ok-Inst.is, c.in-Ok-Inst.field-0-is)) in
-    let e = c.refused-in-Err-judge.ensures in
+    let e = c.refused-in-Err-judge_slowly.ensures in
     told _ _ _ _ _ _ _ _ _ _ _ _ _ _ refl e.pickle e.no.place e.no.why e.no.pair
     (row_refused taking _ _ _ _ _ _ _ _ _ r.3 _ _ _ _
     (refused_took _ _ _ _ _ r.4 r.5 _ _ _ r.6 _ c.in-Ok-Inst.at
     (instruction_of c.in-Ok-Inst.inst) _ took (seen_so _ _ _ k.3 (search rules))
-    (longest c.args.policy.now) _ _ _ c.in-Err-judge.ensures.err refl).0 (λ is. r.7))
+    (longest c.args.policy.now) _ _ _ c.in-Err-judge_slowly.ensures.err refl).0 (λ is. r.7))
 
-pub returns-in-Err-judge-clause-count : goal.returns-in-Err-judge-clause-count
-returns-in-Err-judge-clause-count g c =
+pub returns-in-Err-judge_slowly-clause-count : goal.returns-in-Err-judge_slowly-clause-count
+returns-in-Err-judge_slowly-clause-count g c =
     let taking = c.rows.ensures.taking in
     let k = c.next_head.follows.holds-at-none in
     let r = c.instructions.invariant.row in
@@ -294,16 +358,16 @@ returns-in-Err-judge-clause-count g c =
     (seen_so c.next_head.follows.lender-at-none.core.ahead
     (sight g.R.Source.left g.R.Source.failures c.next_head.follows.lender-at-none.source.now)
     (sight g.R.Source.left g.R.Source.failures c.next_head.follows.lender-at-none.source.now)
-    k.3 refl) (longest c.args.policy.now) _ _ _ c.in-Err-judge.ensures.err refl).0 in
-    count_on _ _ _ _ _ _ _ _ _ (returns-in-Err-judge-clause-answer g c) _ _
+    k.3 refl) (longest c.args.policy.now) _ _ _ c.in-Err-judge_slowly.ensures.err refl).0 in
+    count_on _ _ _ _ _ _ _ _ _ (returns-in-Err-judge_slowly-clause-answer g c) _ _
     (sight g.R.Source.left g.R.Source.failures c.next_head.follows.lender-at-none.source.now)
-    c.refused-in-Err-judge.ensures.no.why (none_failed taking _ _ _ _ _ _ _ _ _ r.3)
+    c.refused-in-Err-judge_slowly.ensures.no.why (none_failed taking _ _ _ _ _ _ _ _ _ r.3)
     (search rules) (count_took _ _ _ _ _ r.4 r.5 _ _ _ r.6 _ c.in-Ok-Inst.at
     (instruction_of c.in-Ok-Inst.inst) _ _ _ _ _ no refl took
     (seen_so c.next_head.follows.lender-at-none.core.ahead
     (sight g.R.Source.left g.R.Source.failures c.next_head.follows.lender-at-none.source.now)
     (sight g.R.Source.left g.R.Source.failures c.next_head.follows.lender-at-none.source.now)
-    k.3 refl) _ c.in-Err-judge.ensures.err)
+    k.3 refl) _ c.in-Err-judge_slowly.ensures.err)
 
 pub instructions-preserved-in_default-judge_passed :
     goal.instructions-preserved-in_default-judge_passed
@@ -347,7 +411,7 @@ instructions-preserved g c =
         _,
         _,
         checked_took _ _ _ _ _ r.4 r.5 _ _ _ r.6 _ _ _ c.in-Ok-Inst.at
-            (instruction_of c.in-Ok-Inst.inst) took c.in_default-judge.ensures.ok,
+            (instruction_of c.in-Ok-Inst.inst) took c.in_default-judge_slowly.ensures.ok,
         r.7,
       );
     }

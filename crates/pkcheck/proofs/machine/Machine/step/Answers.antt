@@ -23,7 +23,7 @@ returns-in-Ok-clause-goes_on c =
             ((c.in-Ok.ensures.off ∙ sym (c.self.invariant.1 c.in_default.is)) j);
         refused =
             c.self.inside.refused;
-        stopped = c.is_stopped-self-inside.ensures j;
+        stopped = c.stop_after.ensures j;
         texts =
             c.in-Ok.ensures.texts j;
       }),

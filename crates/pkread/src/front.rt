@@ -1,32 +1,31 @@
-//! Instructions that are taken out of the bytes that a source shows, whole and in one move.
+//! The instruction at the front of the bytes that a source has at hand.
 
-ghost use Rattle.std.specs.Prelude.{◌≡◌, ◌≢◌, ◌≤◌, IfNone, IfSome, length, take};
+ghost use Rattle.std.specs.Prelude.{◌≡◌, ◌≢◌, ◌<◌, ◌==◌, ℕ, IfNone, IfSome, length, position};
+ghost use Rattle.std.specs.Prelude.{slice_index};
+ghost use Rattle.pkops.specs.Spelling.{layout_at};
+ghost use Rattle.pkops.specs.declared.Layout.TheVariants as layout;
 ghost use Rattle.pkops.specs.Table.{code_of};
 ghost use Rattle.pkops.specs.declared.Op.{Op as SpecOp};
 ghost use Rattle.pkops.specs.declared.Op.TheVariants as opcode;
-ghost use Rattle.pkread.specs.Private.Gathering.{HasFixedLength, IsShort, TookShort};
+ghost use Rattle.pkread.specs.Private.Gathering.{HasFixedLength, IsFront};
 ghost use Rattle.pkread.specs.Private.Progress.{KeepsRest, intake};
 ghost use Rattle.pkread.specs.Private.Skipping.{IsByteString, SkipsShort};
-ghost use Rattle.pkread.specs.Private.Windows.{bytes_in};
 ghost use Rattle.pkread.specs.Rows.{sight};
 
-use crate::admission::is_utf8;
+use crate::admission::{is_good, is_utf8};
 use crate::gathering::Gathering;
 use crate::source::Source;
-use pkops::laws::growth;
-use pkops::{Op, op_of_byte};
-
-/// The bytes that a window has: the most that an instruction taken by one can have.
-pub(crate) const SIZE: usize = 16;
+use pkops::laws::{growth, one_code};
+use pkops::{Arg, Layout, Op, layout_of_op, op_of_byte};
 
 /// The code of SHORT_BINUNICODE.
 const TEXT: u8 = 0x8c;
 
 /// An instruction at the front of some bytes.
 #[derive(Clone, Copy, Debug)]
-struct Short {
-    op: Op,
-    length: usize,
+pub(crate) struct Front {
+    pub(crate) op: Op,
+    pub(crate) length: usize,
 }
 
 /// The number of bytes of the instructions that begin with a code, for opcodes of which every
@@ -73,57 +72,76 @@ fn length_of(code: u8) -> u8
     LENGTHS[usize::from(code)]
 }
 
-/// The instruction that the bytes begin with, if it fits into a window.
+/// The instruction that the bytes begin with, if they hold all of it and its argument has a fixed
+/// length, or is a text or a line of at most 255 bytes.
 #[inline(always)]
-fn short_in(bytes: &[u8], limit: u64) -> Option<Short>
-    requires { 16 ≤ length bytes.now }
-    ensures { IfSome result (λ short. IsShort limit short.op short.length bytes.now) }
+pub(crate) fn front_of(bytes: &[u8], limit: u64) -> Option<Front>
+    ensures { IfSome result (λ front. IsFront limit front.op front.length bytes.now) }
 {
-    growth();
+    if bytes.len() == 0 {
+        return None;
+    }
     let code = bytes[0];
-    let length = length_of(code);
+    let length = front_length(code, bytes, limit);
     if length == 0 {
-        return if code == TEXT {
-            text_in(bytes, limit)
-        } else {
-            None
-        };
+        return None;
     }
     let Some(op) = op_of_byte(code) else {
         return None;
     };
-    Some(Short {
-        op,
-        length: usize::from(length),
-    })
+    Some(Front { op, length })
 }
 
-#[inline]
-fn text_in(bytes: &[u8], limit: u64) -> Option<Short>
-    requires { 16 ≤ length bytes.now }
-    ensures { IfSome result (λ short. IsShort limit short.op short.length bytes.now) }
-{
-    let length = text_length(bytes, limit);
-    if length == 0 {
-        return None;
-    }
-    Some(Short {
-        op: Op::ShortBinUnicode,
-        length,
-    })
-}
-
-/// The number of bytes of the SHORT_BINUNICODE that the bytes begin with, or 0 if they begin with
-/// none that fits into a window. It is out of line because the check of UTF-8 takes registers that
-/// no other short instruction needs.
-#[inline(never)]
-fn text_length(bytes: &[u8], limit: u64) -> usize
-    requires { 16 ≤ length bytes.now }
-    ensures { result ≢ 0 → IsShort limit opcode.ShortBinUnicode result bytes.now }
+/// The number of bytes of the instruction that the bytes begin with, or 0 if `front_of` finds none.
+/// It returns a number and no opcode, because it needs no stack slot then.
+#[inline(always)]
+fn front_length(code: u8, bytes: &[u8], limit: u64) -> usize
+    requires some { 0 < length bytes.now }
+    requires code { code ≡ slice_index bytes.now 0 }
+    ensures { (op : SpecOp) → code_of op ≡ code → result ≢ 0 → IsFront limit op result bytes.now }
 {
     growth();
+    let length = usize::from(length_of(code));
+    if length == 0 {
+        return varying_length(code, bytes, limit);
+    }
+    if length > bytes.len() {
+        return 0;
+    }
+    length
+}
+
+/// Like `front_length`, for opcodes whose arguments vary in length.
+#[inline(never)]
+fn varying_length(code: u8, bytes: &[u8], limit: u64) -> usize
+    requires some { 0 < length bytes.now }
+    requires code { code ≡ slice_index bytes.now 0 }
+    ensures { (op : SpecOp) → code_of op ≡ code → result ≢ 0 → IsFront limit op result bytes.now }
+{
+    one_code();
+    if code == TEXT {
+        return text_length(bytes, limit);
+    }
+    let Some(op) = op_of_byte(code) else {
+        return 0;
+    };
+    let Layout::Line(most) = layout_of_op(op) else {
+        return 0;
+    };
+    line_length(op, most, bytes)
+}
+
+/// The number of bytes of the SHORT_BINUNICODE that the bytes begin with, or 0 if they don't hold
+/// all of one.
+fn text_length(bytes: &[u8], limit: u64) -> usize
+    ensures { result ≢ 0 → IsFront limit opcode.ShortBinUnicode result bytes.now }
+{
+    growth();
+    if bytes.len() < 2 {
+        return 0;
+    }
     let count = usize::from(bytes[1]);
-    if bytes[0] != TEXT || count > SIZE - 2 || count as u64 > limit {
+    if bytes[0] != TEXT || bytes.len() - 2 < count || count as u64 > limit {
         return 0;
     }
     let length = count + 2;
@@ -131,6 +149,31 @@ fn text_length(bytes: &[u8], limit: u64) -> usize
         return 0;
     }
     length
+}
+
+/// The number of bytes of the instruction with one line that the bytes begin with, or 0 if the
+/// first 257 don't hold all of it, or it is not good.
+fn line_length(op: Op, most: usize, bytes: &[u8]) -> usize
+    requires some { 0 < length bytes.now }
+    requires code { code_of op ≡ slice_index bytes.now 0 }
+    requires lay { layout_at op ≡ layout.Line most }
+    ensures { (limit : ℕ) → result ≢ 0 → IsFront limit op result bytes.now }
+{
+    let line = &bytes[1..bytes.len().min(257)];
+    let Some(end) = end_of_line(line) else {
+        return 0;
+    };
+    if end > most || !is_good(op, Arg::Line(&line[..end])) {
+        return 0;
+    }
+    end + 2
+}
+
+/// The offset of the first line feed.
+fn end_of_line(bytes: &[u8]) -> Option<usize>
+    ensures { result ≡ position (λ byte. byte == 10) bytes.now }
+{
+    bytes.iter().position(|byte| *byte == b'\n')
 }
 
 /// The number of bytes of the SHORT_BINBYTES that the bytes begin with, or 0 if they begin with
@@ -150,55 +193,7 @@ fn byte_string_in(bytes: &[u8], limit: u64) -> usize
     count + 2
 }
 
-/// The next 16 bytes of a source. Two halves of 8 bytes stay in registers; the compiler splits and
-/// spills one array of 16.
-#[derive(Clone, Copy, Debug)]
-pub(crate) struct Window {
-    pub(crate) front: [u8; 8],
-    pub(crate) back: [u8; 8],
-}
-
-impl Window {
-    #[inline(always)]
-    fn onto(bytes: &[u8]) -> Window
-        requires { 16 ≤ length bytes.now }
-        ensures { bytes_in result ≡ take 16 bytes.now }
-    {
-        let mut front = [0; 8];
-        let mut back = [0; 8];
-        front.copy_from_slice(&bytes[..8]);
-        back.copy_from_slice(&bytes[8..SIZE]);
-        Window { front, back }
-    }
-}
-
 impl Gathering {
-    /// Takes an instruction that is held out of the bytes that the source shows, if they begin with
-    /// one that fits into a window.
-    #[inline(always)]
-    pub(crate) fn take_short<R: Source>(&mut self, source: &mut R) -> Option<Op>
-        ensures keeps { KeepsRest self.old self.new }
-        ensures some { IfSome result (λ op. TookShort self.old.limits.counted op
-            (intake R.left R.failures source.old self.old)
-            (intake R.left R.failures source.new self.new)) }
-        ensures same { IfNone result (self.new ≡ self.old) }
-        ensures none { IfNone result
-            (sight R.left R.failures source.new ≡ sight R.left R.failures source.old) }
-    {
-        let ahead = source.ahead();
-        if ahead.len() < SIZE {
-            return None;
-        }
-        let Some(short) = short_in(ahead, self.limit_held()) else {
-            return None;
-        };
-        let window = Window::onto(ahead);
-        if !self.take_window(source, window, short.length) {
-            return None;
-        }
-        Some(short.op)
-    }
-
     /// Skips a SHORT_BINBYTES in the bytes that the source shows, and returns the length of its
     /// payload.
     #[inline]

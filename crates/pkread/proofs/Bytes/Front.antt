@@ -1,28 +1,31 @@
--- Instructions that are taken out of the bytes that a source shows.
-use Rattle.std.proofs.Common.{◌≡◌, ℕ, suc, ◌+◌, ◌-◌, ◌<◌, ◌≤◌, false, List, [], ◌∷◌, ◌++◌, length, take, drop, get_or, Option, None, Some, refl, sym, ap, ◌∙◌, inl, arith, append_assoc}
-use Rattle.std.specs.Prelude.{max}
+-- The instruction at the front of the bytes that a source has at hand.
+use Rattle.std.proofs.Common.{◌≡◌, ℕ, suc, zero, ◌+◌, ◌-◌, ◌<◌, ◌≤◌, false, true, List, [], ◌∷◌, ◌++◌, length, take, drop, get_or, Option, None, Some, refl, sym, ap, subst, ◌∙◌, arith, append_assoc}
+use Rattle.std.specs.Prelude.{◌≢◌, ◌==◌, position}
+use Rattle.std.specs.List.{AllByRecursion}
 use Rattle.std.specs.Io.KnownBytes.{Consumes}
 use Rattle.std.specs.Str.{IsUtf8}
-use Rattle.std.proofs.lemmas.List.{length-take, take-append-drop, take-append-le, take-take, take_at}
-use Rattle.pkops.specs.Growth.{BegunLaws, CountLaws, FieldLaws}
+use Rattle.std.proofs.lemmas.List.{length-take, take-append-drop, take-append-le, take-take, take_at, take_more}
+use Rattle.std.proofs.lemmas.List.Quantifiers.{position-Some}
+use Rattle.std.proofs.lemmas.Bool.Decides.{nat_tests}
+use Rattle.pkops.specs.Growth.{CountLaws, FieldLaws}
 use Rattle.pkops.specs.Lying.{IsFixed, Lies, count_in, field_len}
 use Rattle.pkops.specs.Payloads.{is_passed}
-use Rattle.pkops.specs.Scanning.{longest}
-use Rattle.pkops.specs.Spelling.{Counted, layout_at}
+use Rattle.pkops.specs.Contents.{IsGood}
+use Rattle.pkops.specs.Spelling.{Counted, Line, Suits, instruction, layout_at, line_feed}
 use Rattle.pkops.specs.Table.{code_of}
 use Rattle.pkops.specs.declared.Layout.{Layout}
 use Rattle.pkops.specs.declared.Layout.TheVariants as layout
 use Rattle.pkops.specs.declared.Width.TheVariants as width
 use Rattle.pkops.specs.declared.Op.{Op}
 use Rattle.pkops.specs.declared.Op.TheVariants as op
-use Rattle.pkread.proofs.Bytes.Judged.{gathers_of, short}
 use Rattle.pkread.proofs.Bytes.Plain.{not_passed, takes_any, takes_utf8}
 use Rattle.pkread.proofs.Bytes.Skipped.{passed_admitted}
 use Rattle.pkread.proofs.Bytes.Taken.{AreBytes-take}
-use Rattle.pkread.specs.Private.Gathering.{Gathers, HasFixedLength, IsFound, IsShort, TookShort}
+use Rattle.pkread.proofs.Bytes.Texts.{line_admitted}
+use Rattle.pkread.specs.Private.Gathering.{HasFixedLength, IsFront}
 use Rattle.pkread.specs.Private.Progress.{GatheringView, Intake}
-use Rattle.pkread.specs.Private.Skipping.{HeldWhole, IsByteString, SkipsShort}
-use Rattle.pkread.specs.Private.Taking.{AreAllBytes, ReadsFront, TookFront, TookUnheld}
+use Rattle.pkread.specs.Private.Skipping.{IsByteString, SkipsShort}
+use Rattle.pkread.specs.Private.Taking.{AreAllBytes, TookUnheld}
 use Rattle.pkread.specs.Pull.{BeginsWith, TakesCount}
 use Rattle.pkread.specs.Rows.{Sight, Takes, unread}
 
@@ -54,20 +57,6 @@ pub takes_shown : (count : ℕ) (window : List ℕ) (old new : Sight) → Begins
 takes_shown count window old new h le t same =
     record { bytes = consumes_shown count window old.left new.left h le t; count = same }
 
--- a window was written to a store, and its front is held
-pub front_reads : (count : ℕ) (window items old : List ℕ) (before after : Sight) → old ≡ [] →
-    count ≤ 16 → 16 ≤ length items → take 16 items ≡ window → AreAllBytes items →
-    BeginsWith before.left window → TakesCount count before.left after.left →
-    after.failures ≡ before.failures →
-    ReadsFront count window old before (take count items) after
-front_reads count window items old before after none few room is fits h t same = record {
-  fit = AreBytes-take count items fits;
-  none = none;
-  held = sym (take-take count 16 items few) ∙ ap (take count) is;
-  taken = takes_shown count window before after h
-      (omega (arith, few, room, ap length is, length-take 16 items)) t same;
-}
-
 -- an opcode with an argument of fixed length is held
 not_passed_fixed : (o : Op) → IsFixed (layout_at o) → is_passed o ≡ false
 not_passed_fixed o fixed = sym (not_passed o (λ size signed lay. absurd (rw lay at fixed)))
@@ -87,20 +76,22 @@ field_few (layout.Counted width.Four signed) = omega arith
 field_few (layout.Counted width.Eight signed) = omega arith
 
 -- an opcode with an argument of fixed length, of which all are good
-pub fixed_short : FieldLaws → (limit n : ℕ) (o : Op) (bytes : List ℕ) → HasFixedLength o n →
-    AreAllBytes bytes → 16 ≤ length bytes → code_of o ≡ get_or bytes 0 0 →
-    IsShort limit o n bytes
-fixed_short fields limit n o [] h fits room code = absurd (omega (arith, room))
-fixed_short fields limit n o (x ∷ rest) h fits room code =
+pub fixed_front : FieldLaws → (limit n : ℕ) (o : Op) (bytes : List ℕ) → HasFixedLength o n →
+    AreAllBytes bytes → n ≤ length bytes → code_of o ≡ get_or bytes 0 0 →
+    IsFront limit o n bytes
+fixed_front fields limit n o [] h fits room code = absurd (omega (arith, room, h.length_is))
+fixed_front fields limit n o (x ∷ rest) h fits room code =
     let size = field_len (layout_at o) in
     let few = field_few (layout_at o) in
     let behind : AreAllBytes rest = λ i. fits (suc i) in
-    let long : length (take size rest) ≡ size = omega (arith, few, room, length-take size rest) in
+    let is : n ≡ suc size = omega (arith, h.length_is) in
+    let long : length (take size rest) ≡ size = omega (arith, is, room, length-take size rest) in
     let whole = fields.whole limit o (take size rest) (AreBytes-take size rest behind) h.fixed
     long in
     let any = takes_any o h.plain in
-    let is : n ≡ suc size = omega (arith, h.length_is) in
-    let lies : Lies limit o whole.0 0 (take n (x ∷ rest)) = rw (is, ← code) whole.1 in
+    let same : suc size ≡ n = sym is in
+    let lies : Lies limit o whole.0 0 (take n (x ∷ rest)) =
+    subst (λ (m : ℕ). Lies limit o whole.0 0 (take m (x ∷ rest))) same (rw (← code) whole.1) in
     record {
       found = record {
         arg = whole.0;
@@ -110,6 +101,7 @@ fixed_short fields limit n o (x ∷ rest) h fits room code =
       };
       kept = not_passed_fixed o h.fixed;
       few = omega (arith, is, few);
+      within = room;
     }
 
 -- an opcode with a count of one byte
@@ -125,18 +117,19 @@ counted_front counts limit o y rest lay fits within enough =
     (omega (arith, is, enough, length-take y rest))
 
 -- a text that is UTF-8
-pub text_short : CountLaws → (limit count : ℕ) (bytes : List ℕ) → AreAllBytes bytes →
-    16 ≤ length bytes → get_or bytes 0 0 ≡ 140 → get_or bytes 1 0 ≡ count → count ≤ 14 →
-    count ≤ limit → IsUtf8 (take count (drop 2 bytes)) →
-    IsShort limit op.ShortBinUnicode (count + 2) bytes
-text_short counts limit count [] fits room code is few within h = absurd (omega (arith, room))
-text_short counts limit count (x ∷ []) fits room code is few within h =
+pub text_front : CountLaws → (limit count : ℕ) (bytes : List ℕ) → AreAllBytes bytes →
+    2 ≤ length bytes → get_or bytes 0 0 ≡ 140 → get_or bytes 1 0 ≡ count →
+    count + 2 ≤ length bytes → count ≤ limit → IsUtf8 (take count (drop 2 bytes)) →
+    IsFront limit op.ShortBinUnicode (count + 2) bytes
+text_front counts limit count [] fits room code is enough within h = absurd (omega (arith, room))
+text_front counts limit count (x ∷ []) fits room code is enough within h =
     absurd (omega (arith, room))
-text_short counts limit count (x ∷ y ∷ rest) fits room code is few within h =
+text_front counts limit count (x ∷ y ∷ rest) fits room code is enough within h =
     let e : count + 2 ≡ suc (suc count) = omega arith in
+    let small : y < 256 = fits 1 in
     let lay : layout_at op.ShortBinUnicode ≡ layout.Counted width.One false = refl in
     let front = counted_front counts limit op.ShortBinUnicode y rest lay (λ i. fits (suc i))
-    (omega (arith, is, within)) (omega (arith, is, few, room)) in
+    (omega (arith, is, within)) (omega (arith, is, enough)) in
     let lies : Lies limit op.ShortBinUnicode (Counted (take count rest)) 0
     (take (count + 2) (x ∷ y ∷ rest)) = rw (e, code, ← is) front in
     let text = takes_utf8 op.ShortBinUnicode width.One false refl refl in
@@ -148,8 +141,76 @@ text_short counts limit count (x ∷ y ∷ rest) fits room code is few within h 
         admitted = text.admitted (Counted (take count rest));
       };
       kept = refl;
-      few = omega (arith, few);
+      few = omega (arith, is, small);
+      within = enough;
     }
+
+-- a line has no line feed before its end
+no_feed : (xs : List ℕ) (n : ℕ) → n ≤ length xs →
+    ((k : ℕ) → k < n → (get_or xs k 0 == 10) ≡ false) →
+    AllByRecursion (λ byte. byte ≢ line_feed) (take n xs)
+no_feed xs zero le h = tt
+no_feed [] (suc n) le h = absurd (omega (arith, le))
+no_feed (x ∷ xs) (suc n) le h = (
+  λ e. let f : (x == 10) ≡ false = h 0 (omega arith) in let t : true ≡ false = rw e at f in absurd cc,
+  no_feed xs n (omega (arith, le)) (λ k lt. h (suc k) (omega (arith, lt))),
+)
+
+-- a line that ends in the bytes behind the code
+module _ (o : Op) (most end : ℕ) (line : List ℕ) (lay : layout_at o ≡ layout.Line most)
+    (found : position (λ (byte : ℕ). byte == 10) line ≡ Some end) (short : end ≤ most) where
+  ends : (end < length line) × ((get_or line end 0 == 10) ≡ true)
+      × ((k : ℕ) → k < end → (get_or line k 0 == 10) ≡ false)
+  ends = position-Some (λ (byte : ℕ). byte == 10) line end 0 found
+
+  pub front_suits : Suits (layout_at o) (Line (take end line))
+  front_suits =
+      let inside = ends.0 in
+      rw lay (record {
+        short = omega (arith, length-take end line, short);
+        whole = no_feed line end (omega (arith, inside)) ends.2;
+      })
+
+  line_at : (x count : ℕ) (rest : List ℕ) → code_of o ≡ x → line ≡ take count rest →
+      count ≤ 256 → IsGood (instruction o (Line (take end line))) → (limit : ℕ) →
+      IsFront limit o (end + 2) (x ∷ rest)
+  line_at x count rest code is few good limit =
+      let inside = ends.0 in
+      let feed : get_or line end 0 ≡ 10 = grind (arith, nat_tests, ends.1) in
+      let long : (length line ≤ count) × (length line ≤ length rest) =
+      (omega (arith, ap length is, length-take count rest), omega (arith, ap length is, length-take count rest)) in
+      let low = long.0 in
+      let high = long.1 in
+      let e : end + 2 ≡ suc (end + 1) = omega arith in
+      let behind : take (end + 1) rest ≡ take end line ++ line_feed ∷ [] =
+      sym (take-take (end + 1) count rest (omega (arith, inside, low)))
+      ∙ (ap (take (end + 1)) (sym is)
+      ∙ (take_more line end 0 inside ∙ ap (λ b. take end line ++ b ∷ []) feed)) in
+      let spelled : take (end + 2) (x ∷ rest) ≡ code_of o ∷ (take end line ++ line_feed ∷ []) =
+      rw (e, code) (ap (λ (l : List ℕ). x ∷ l) behind) in
+      record {
+        found = record {
+          arg = Line (take end line);
+          lies = record {
+            laid = record { suits = front_suits; within = tt };
+            spelled = spelled;
+            split_is = refl;
+          };
+          good = good;
+          admitted = line_admitted o most (Line (take end line)) lay;
+        };
+        kept = sym (not_passed o (λ size signed l. let c = sym lay ∙ l in absurd cc));
+        few = omega (arith, inside, low, few);
+        within = omega (arith, inside, high);
+      }
+
+  pub line_front : (count : ℕ) (bytes : List ℕ) → 0 < length bytes →
+      code_of o ≡ get_or bytes 0 0 → line ≡ take count (drop 1 bytes) → count ≤ 256 →
+      IsGood (instruction o (Line (take end line))) → (limit : ℕ) →
+      IsFront limit o (end + 2) bytes
+  line_front count [] some code is few good limit = absurd (omega (arith, some))
+  line_front count (x ∷ rest) some code is few good limit =
+      line_at x count rest code is few good limit
 
 -- a byte string
 pub bytes_short : CountLaws → (limit count : ℕ) (bytes : List ℕ) → AreAllBytes bytes →
@@ -170,59 +231,13 @@ bytes_short counts limit count (x ∷ y ∷ rest) fits room code is enough withi
       within = enough;
     }
 
--- a short instruction was taken by a window
-pub short_taken : (limit n : ℕ) (o : Op) (ahead window : List ℕ) (old new : Intake) →
-    IsShort limit o n ahead → window ≡ take 16 ahead → TookFront n window old new →
-    TookShort limit o old new
-short_taken limit n o ahead window old new s is t =
-    let same : take n window ≡ take n ahead = ap (take n) is ∙ take-take n 16 ahead s.few in
-    let held : new.bytes ≡ take n ahead =
-    t.took.held ∙ (ap (λ (b : List ℕ). b ++ take n window) t.none ∙ same) in
-    let few = s.few in
-    record {
-      none = t.none;
-      finds = record { bytes = take n window; took = t.took; found = rw held s.found };
-      kept = s.kept;
-      few = omega (arith, few, ap length held, length-take n ahead);
-    }
-
 -- where nothing was read ahead, an instruction begins with the next byte
-pub short_starts : (bytes : List ℕ) (source : Sight) (taken : ℕ) (new : Intake) (limit : ℕ)
-    (o : Op) → TookShort limit o (record { bytes = bytes; source = source; taken = taken }) new →
-    TookShort limit o (record { bytes = []; source = unread bytes source; taken = taken }) new
-short_starts [] source taken new limit o s = s
-short_starts (x ∷ bytes) source taken new limit o s = let none = s.none in absurd cc
-
 pub string_starts : (bytes : List ℕ) (source : Sight) (taken : ℕ) (new : Intake)
     (limit count : ℕ) →
     SkipsShort limit count (record { bytes = bytes; source = source; taken = taken }) new →
     SkipsShort limit count (record { bytes = []; source = unread bytes source; taken = taken }) new
 string_starts [] source taken new limit count s = s
 string_starts (x ∷ bytes) source taken new limit count s = let none = s.none in absurd cc
-
--- what was taken so is a whole instruction
-pub short_whole : BegunLaws → (limit : ℕ) (o : Op) (old new : Intake) → TookShort limit o old new →
-    IsFound limit new.bytes o 0 × Gathers limit old new
-short_whole laws limit o old new s =
-    (s.finds.found, gathers_of laws limit old new (record { op = o; split = 0 }) s.none s.finds)
-
-pub short_bound : BegunLaws → (limit : ℕ) (o : Op) (old new : Intake) → TookShort limit o old new →
-    length new.bytes ≤ longest limit
-short_bound laws limit o old new s =
-    short laws limit new.bytes (short_whole laws limit o old new s).1.fronts
-
-pub short_held : BegunLaws → (limit : ℕ) (o : Op) (old new : Intake) (most after : ℕ) →
-    TookShort limit o old new → after ≡ max most (length new.bytes) →
-    HeldWhole limit (record { op = o; split = 0 }) old new most after
-short_held laws limit o old new most after s e =
-    let few = s.few in
-    record {
-      found = s.finds.found;
-      kept = s.kept;
-      gathers = (short_whole laws limit o old new s).1;
-      rises = e;
-      few = inl (omega (arith, e, few));
-    }
 
 -- a byte string that a source shows was skipped
 pub string_skipped : (limit n : ℕ) (ahead : List ℕ) (old new : Intake) →

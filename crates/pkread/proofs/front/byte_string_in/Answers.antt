@@ -1,6 +1,6 @@
 use Rattle.std.proofs.Common.{sym, arith, length, ◌≤◌}
-use Rattle.pkread.proofs.Bytes.Window.{bytes_short}
-use Rattle.pkread.proofs.window.byte_string_in.Goals as goal
+use Rattle.pkread.proofs.Bytes.Front.{bytes_short}
+use Rattle.pkread.proofs.front.byte_string_in.Goals as goal
 
 pub returns : goal.returns
 returns g c =
