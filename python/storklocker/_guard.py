@@ -6,10 +6,9 @@ import pickle
 
 from . import _names
 from ._answers import Import, MoreBytes, Reason, Refused, Verdict
-from ._checking import check
 from ._limits import Limits
 from ._lists import AllowList, imports_in, imports_of, missing_of, records, settings_of
-from ._storklocker import verdict_unless_whole
+from ._storklocker import verdict, verdict_unless_whole
 
 TYPE_CHECKING = False
 if TYPE_CHECKING:
@@ -145,6 +144,7 @@ class Guard:
         "_fix_imports",
         "_on_refusal",
         "_enforce",
+        "_is_plain",
         "_new",
         "_old",
         "_unpickler",
@@ -171,6 +171,7 @@ class Guard:
         self._fix_imports = bool(fix_imports)
         self._on_refusal = on_refusal
         self._enforce = bool(enforce)
+        self._is_plain = not fix_imports and old_strings != "bytes"
         self._new = allow._for_loading()
         self._old = allow._for_old_names() if fix_imports else self._new
         self._unpickler: Optional[Type[GuardedUnpickler]] = None
@@ -219,17 +220,16 @@ class Guard:
         """
         if type(data) is not bytes:
             data = self._copied(data)
-        if self._fix_imports:
-            return self._loads_old(data, encoding, errors, buffers)
-        verdict = verdict_unless_whole(data, self._new, self._settings)
-        if verdict is not None:
-            refused = self._told(verdict, data)
+        listed = self._listed_for(data) if self._fix_imports else self._new
+        no = verdict_unless_whole(data, listed, self._settings)
+        if no is not None:
+            refused = self._told(no, data)
             if self._enforce:
                 raise refused
-        if encoding is None and errors is None and buffers is None and self._old_strings != "bytes":
+        if self._is_plain and encoding is None and errors is None and buffers is None:
             return _loads(data, fix_imports=False)
         encoding, errors = self._decoding(encoding, errors)
-        return _loads(data, fix_imports=False, encoding=encoding, errors=errors, buffers=buffers)
+        return self._loaded(data, encoding, errors, buffers)
 
     def load(
         self,
@@ -245,7 +245,11 @@ class Guard:
         Raises EOFError at the end of the file, Refused (and seeks back, if the file can), and
         otherwise what `pickle.load` raises.
         """
-        return self.Unpickler(file, encoding=encoding, errors=errors, buffers=buffers).load()
+        encoding, errors = self._decoding(encoding, errors)
+        data = self._next_in(file) if self._enforce else None
+        if data is None:
+            return self.Unpickler(file, encoding=encoding, errors=errors, buffers=buffers).load()
+        return self._loaded(data, encoding, errors, buffers)
 
     async def loads_async(self, data: Any, /, **named: Any) -> Any:
         """`loads`, which runs in a thread from 65,536 bytes on, so that the check of a large pickle
@@ -262,9 +266,7 @@ class Guard:
 
     def check(self, data: bytes) -> Verdict:
         """Checks the pickle at the front of `data`, a bytes object, as `loads` does."""
-        return check(
-            data, self._listed_for(data), limits=self._limits, old_strings=self._old_strings
-        )
+        return self._judge(data)
 
     @property
     def Unpickler(self) -> "Type[GuardedUnpickler]":
@@ -291,6 +293,10 @@ class Guard:
     def _listed_for(self, data: bytes) -> AllowList:
         """The list that applies to a pickle."""
         return self._old if self._has_old_names(data) else self._new
+
+    def _judge(self, data: bytes) -> Verdict:
+        """The verdict on the pickle at the front of `data`."""
+        return verdict(data, self._listed_for(data), self._settings)
 
     def _decoding(self, encoding: Optional[str], errors: Optional[str]) -> Tuple[str, str]:
         """The encoding and errors for Python 2 strings: those of `old_strings`, or if that is
@@ -337,25 +343,33 @@ class Guard:
         view = memoryview(data)
         if view.nbytes > 2 * _FRONT and view.c_contiguous:
             front = bytes(pickle.PickleBuffer(data).raw()[:_FRONT])
-            verdict = self.check(front)
+            verdict = self._judge(front)
             if verdict.reason is not Reason.Truncated and self._enforce:
                 raise self._told(verdict, front, view.nbytes)
         return bytes(view)
 
-    def _loads_old(
-        self,
-        data: bytes,
-        encoding: Optional[str],
-        errors: Optional[str],
-        buffers: Optional[Iterable[Any]],
+    def _next_in(self, file: Any) -> Optional[bytes]:
+        """Bytes that begin with the next pickle of a file, which is accepted. None if only an
+        Unpickler can read it.
+        """
+        from ._reading import next_pickle
+
+        found = next_pickle(file, self._judge)
+        if found is None:
+            return None
+        data, verdict = found
+        if not data:
+            raise EOFError("Ran out of input")
+        if not verdict:
+            raise self._told(verdict, data)
+        return data
+
+    def _loaded(
+        self, data: bytes, encoding: str, errors: str, buffers: Optional[Iterable[Any]]
     ) -> Any:
-        """`loads` with `fix_imports`."""
-        refused = self._refusal_of(data)
-        if refused is not None and self._enforce:
-            raise refused
-        encoding, errors = self._decoding(encoding, errors)
+        """The object of an accepted pickle, with its imports under the names that were checked."""
         read: Any = _loads
-        if _names.are_old(data):
+        if self._has_old_names(data):
             from ._unpickler import loads_renaming as read
         return read(data, fix_imports=False, encoding=encoding, errors=errors, buffers=buffers)
 

@@ -4,10 +4,17 @@ from __future__ import annotations
 
 import functools
 import io
-from typing import Any, Callable, Dict, List
 
-FIRST_BLOCK = 4096
-"""The size of the first block. Each further block doubles what was read."""
+from ._answers import Reason
+
+TYPE_CHECKING = False
+if TYPE_CHECKING:
+    from typing import Any, Callable, Dict, List, Optional, Tuple
+
+    from ._answers import Verdict
+
+FIRST_BLOCK = 1 << 14
+"""The size of the first block."""
 
 _PIECE = 1 << 16
 
@@ -34,6 +41,41 @@ def can_step_back(file: Any) -> bool:
         return bool(file.seekable())
     except (AttributeError, ValueError):
         return False
+
+
+def next_pickle(
+    file: Any, judged: Callable[[bytes], Verdict]
+) -> Optional[Tuple[bytes, Verdict]]:
+    """The bytes of a file that begin with its next pickle, and the verdict on them. Leaves the file
+    right after the pickle, or where it was if the pickle is refused. None if it can't step back.
+    """
+    seen = b""
+    if type(file) is io.BufferedReader:
+        seen = file.peek()
+        verdict = judged(seen)
+        if verdict:
+            file.read(verdict.taken)  # all of it is in the buffer
+            return seen, verdict
+    if not can_step_back(file):
+        return None
+    place, data = file.tell(), b""
+    size = len(seen) + _size_after(len(seen))
+    while True:
+        more = block_of(file.read, size)
+        data += more
+        verdict = judged(data)
+        if verdict.reason is not Reason.Truncated or not more:
+            break
+        size = _size_after(len(data))
+    file.seek(place + verdict.taken)
+    return data, verdict
+
+
+def _size_after(length: int) -> int:
+    """The size of the block after this many bytes. Each block costs a check of all bytes so far, and
+    reading on costs memory: the total grows sixteenfold up to a megabyte or so, then fourfold.
+    """
+    return max(FIRST_BLOCK, min(15 * length, 1 << 20), 3 * length)
 
 
 @functools.lru_cache(maxsize=None)

@@ -9,8 +9,9 @@ from typing import TYPE_CHECKING, Any, Dict, Iterable, Optional, Set
 
 from . import _names
 from ._answers import Reason, Verdict
-from ._checking import check, check_row
+from ._checking import check_row
 from ._reading import FIRST_BLOCK, Walk, block_of, can_step_back
+from ._storklocker import verdict
 
 if TYPE_CHECKING:
     from ._guard import Guard
@@ -154,7 +155,7 @@ class GuardedUnpickler(pickle.Unpickler):
         guard = self.guard
         allow = guard._old if is_old else guard._new
         if self._pickles == 0:
-            return check(data, allow, limits=guard._limits, old_strings=guard._old_strings)
+            return verdict(data, allow, guard._settings)
         return check_row(
             data, allow, one_unpickler=True, limits=guard._limits, old_strings=guard._old_strings
         )

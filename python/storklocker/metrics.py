@@ -111,6 +111,12 @@ class CountingGuard(Guard):
         finally:
             self._count()
 
+    def _next_in(self, file: Any) -> Optional[bytes]:
+        data = super()._next_in(file)
+        if data is not None:
+            self.counts.accept()
+        return data
+
     @property
     def Unpickler(self) -> "Type[GuardedUnpickler]":
         """`Guard.Unpickler`, with each `load` counted."""

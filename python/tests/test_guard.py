@@ -321,6 +321,20 @@ class Files(unittest.TestCase):
             file.seek(0)
             self.assertEqual(GUARD.Unpickler(file).load(), [1, 2])
 
+    def test_a_pipe_whose_buffer_has_the_pickle(self):
+        for data, wanted in ((pickle.dumps([1, 2]), [1, 2]), (HOSTILE, Refused)):
+            reading, writing = os.pipe()
+            with open(reading, "rb") as file:
+                with open(writing, "wb") as out:
+                    out.write(data + b"rest")
+                file.peek()
+                if wanted is Refused:
+                    with self.assertRaises(Refused):
+                        GUARD.load(file)
+                else:
+                    self.assertEqual(GUARD.load(file), wanted)
+                    self.assertEqual(file.read(), b"rest")
+
     def test_a_file_that_fails(self):
         class Failing(io.BytesIO):
             def read(self, *_):

@@ -22,6 +22,7 @@ class Metrics(unittest.TestCase):
             guard.loads,
             lambda data: guard.loads(bytearray(data)),
             lambda data: guard.load(io.BytesIO(data)),
+            lambda data: guard.load(io.BufferedReader(io.BytesIO(data))),
             lambda data: guard.Unpickler(io.BytesIO(data)).load(),
         )
         for way in ways:
