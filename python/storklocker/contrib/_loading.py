@@ -3,7 +3,7 @@
 from __future__ import annotations
 
 import pickle
-from typing import Any, Callable
+from typing import Any
 
 from .. import Guard
 
@@ -19,23 +19,32 @@ class Loader:
 
     def __init__(self, guard: Guard) -> None:
         self._guard = guard
+        self._load, self._loads = guard.load, guard.loads
 
     def __getattr__(self, name: str) -> Any:
         return getattr(self._guard, name)
 
     def load(self, file: Any, **words: Any) -> Any:
         """`pickle.load` through the guard."""
-        return _tried(self._guard.load, file, words)
+        try:
+            return self._load(file, **words)
+        except _KEPT:
+            raise
+        except Exception as error:
+            raise _unloadable(error) from error
 
     def loads(self, data: Any, **words: Any) -> Any:
         """`pickle.loads` through the guard."""
-        return _tried(self._guard.loads, data, words)
+        try:
+            return self._loads(data, **words)
+        except _KEPT:
+            raise
+        except Exception as error:
+            raise _unloadable(error) from error
 
 
-def _tried(call: Callable[..., Any], data: Any, words: Any) -> Any:
-    try:
-        return call(data, **words)
-    except (pickle.UnpicklingError, EOFError, OSError, MemoryError):
-        raise
-    except Exception as error:
-        raise Unloadable(f"its load raised {type(error).__name__}") from error
+_KEPT = (pickle.UnpicklingError, EOFError, OSError, MemoryError)
+
+
+def _unloadable(error: Exception) -> Unloadable:
+    return Unloadable(f"its load raised {type(error).__name__}")

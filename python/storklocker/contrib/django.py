@@ -125,7 +125,11 @@ class _Missing:
         return otherwise
 
     def get(self, key: Any, default: Any = None, version: Any = None, **more: Any) -> Any:
-        return self._or(default, "get", key, default, version=version, **more)
+        plain: Any = super()
+        try:
+            return plain.get(key, default, version=version, **more)
+        except _REFUSED:
+            return self._forgotten(default, key, version)
 
     def has_key(self, key: Any, version: Any = None, **more: Any) -> bool:
         return self.get(key, _ABSENT, version, **more) is not _ABSENT
