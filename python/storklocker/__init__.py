@@ -26,7 +26,6 @@ harmless, or that loading succeeds. See docs/PYTHON.md.
 from __future__ import annotations
 
 from ._answers import Import, ListFault, MoreBytes, Reason, Refused, RowVerdict, Verdict
-from ._checking import check, check_row
 from ._limits import Limits
 from ._lists import STANDARD, AllowList
 from ._guard import Guard, imports, loads, missing
@@ -36,6 +35,7 @@ TYPE_CHECKING = False
 if TYPE_CHECKING:
     from typing import Any, List
 
+    from ._checking import check, check_row
     from ._refusal import Refusal, context
 
 __all__ = [
@@ -62,12 +62,15 @@ __all__ = [
 
 
 def __getattr__(name: str) -> Any:
-    """Imports rarely used names on first use."""
-    if name not in ("Refusal", "context"):
+    """Imports names that a guard doesn't need, on first use."""
+    if name in ("check", "check_row"):
+        from . import _checking as module
+    elif name in ("Refusal", "context"):
+        from . import _refusal as module  # type: ignore[no-redef]
+    else:
         raise AttributeError(f"module {__name__!r} has no attribute {name!r}")
-    from . import _refusal
-
-    return getattr(_refusal, name)
+    globals()[name] = getattr(module, name)
+    return globals()[name]
 
 
 def __dir__() -> List[str]:

@@ -3,7 +3,6 @@
 from __future__ import annotations
 
 import os
-from collections.abc import Mapping
 
 from . import _names
 from ._answers import LIST_FAULTS, Import, ListFault, Verdict
@@ -14,7 +13,7 @@ from ._storklocker import read_list
 
 TYPE_CHECKING = False
 if TYPE_CHECKING:
-    from typing import Any, Callable, Iterable, Iterator, List, Optional, Tuple, Union
+    from typing import Any, Callable, Iterable, Iterator, List, Mapping, Optional, Tuple, Union
 
     Pair = Tuple[str, str]
     Names = Tuple[Optional[bytes], Optional[bytes]]
@@ -45,7 +44,7 @@ class AllowList(_Pairs):
     _fixed: Optional["AllowList"]
     _guard: Any
 
-    def __new__(cls, pairs: Union[Iterable[Pair], "Mapping[str, Iterable[str]]"]) -> "AllowList":
+    def __new__(cls, pairs: Union[Iterable[Pair], Mapping[str, Iterable[str]]]) -> "AllowList":
         return cls._of(_encoded(pairs), None)
 
     @classmethod
@@ -184,7 +183,7 @@ def _is_pair(pair: Any) -> bool:
 
 def _pairs_in(given: Any) -> Iterator[Any]:
     """The items of the argument, each with its description for errors."""
-    if not isinstance(given, Mapping):
+    if not hasattr(given, "keys"):  # how a dict tells mappings from pairs
         for place, pair in enumerate(given):
             yield (f"item {place}", pair)
         return
