@@ -2,6 +2,7 @@
 
 from __future__ import annotations
 
+import functools
 import os
 
 from . import _names
@@ -157,6 +158,7 @@ def _list_of(
     return kind._of(pairs, limits)
 
 
+@functools.lru_cache(maxsize=64)
 def _within(one: Optional[Limits], other: Optional[Limits]) -> Optional[Limits]:
     if one is None or other is None:
         return one or other

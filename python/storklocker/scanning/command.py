@@ -12,7 +12,6 @@ from typing import Iterable, Iterator, Optional, Sequence, Tuple
 from .. import __version__
 from .._answers import ListFault
 from .._lists import AllowList
-from . import formats, html
 from .dangers import dangers_in
 from .judging import Question
 from .learning import Learned, quoted
@@ -146,6 +145,8 @@ def _scan(asked: argparse.Namespace) -> int:
 
 
 def _print_reports(form: str, reports: Iterator[Report]) -> None:
+    from . import formats
+
     if form == "table":
         lines = formats.table(reports)
     elif form == "json":
@@ -153,6 +154,8 @@ def _print_reports(form: str, reports: Iterator[Report]) -> None:
     elif form == "sarif":
         lines = formats.as_sarif(reports, __version__)
     else:
+        from . import html
+
         lines = html.page(reports, __version__)
     for line in lines:
         print(line)

@@ -71,9 +71,10 @@ class Stream:
 
     def __init__(self, file: Any, budget: Optional[Budget] = None, size: int = 0) -> None:
         self._file, self._budget, self._front = file, budget, b""
+        self._is_at_end = False
         self.taken = 0
         self.size = size
-        """The size if it is known beforehand, otherwise 0."""
+        """The size of a regular file, otherwise 0."""
 
     def front(self) -> bytes:
         """The first 65,536 bytes or so, which remain unread."""
@@ -87,9 +88,11 @@ class Stream:
         if 0 <= count <= len(front):
             self._front = front[count:]
             return front[:count]
-        parts, wanted = [front], count - len(front)
-        while count < 0 or wanted > 0:
-            part = self._take(_FRONT if count < 0 else min(wanted, 1 << 20))
+        parts, wanted = [front] if front else [], count - len(front)
+        # the rest of a file at once, because joining parts copies them
+        most = max(1 << 20, self.size - self.taken)
+        while (count < 0 or wanted > 0) and not self._is_at_end:
+            part = self._take(_FRONT if count < 0 else min(wanted, most))
             if not part:
                 break
             parts.append(part)
@@ -99,6 +102,7 @@ class Stream:
     def _take(self, count: int) -> bytes:
         data: bytes = self._file.read(count)
         self.taken += len(data)
+        self._is_at_end = self.size > 0 and len(data) < count
         if self._budget is not None:
             self._budget.spend(len(data))
         return data

@@ -2,10 +2,9 @@
 
 from __future__ import annotations
 
-import hashlib
 import itertools
 import pickletools
-from typing import Any, BinaryIO, Deque, Dict, Iterator, List, NamedTuple, Optional
+from typing import Any, BinaryIO, Deque, Dict, Iterator, List, NamedTuple, Optional, Tuple
 
 from .._answers import Reason, Verdict
 from .._checking import check
@@ -56,7 +55,7 @@ def reports_of(path: str, file: BinaryIO, question: Question) -> Iterator[Report
             return
         broken = None
         if isinstance(found, Finding):
-            yield Report(found.path, found.kind, UNREADABLE, found.why)
+            yield Report(found.path, found.kind, UNREADABLE, found.why, file=path)
             continue
         try:
             row = _row_of(found, question)
@@ -64,13 +63,15 @@ def reports_of(path: str, file: BinaryIO, question: Question) -> Iterator[Report
             broken = error
         else:
             broken = None if row is None else row.broken
-            yield _judged(found, row, question.allow)
+            yield _judged(found, row, question.allow, path)
 
 
-def _judged(piece: Piece, row: "Optional[Row]", allow: Optional[AllowList]) -> Report:
+def _judged(
+    piece: Piece, row: "Optional[Row]", allow: Optional[AllowList], file: str
+) -> Report:
     if row is None or not row.is_reached:
         size = len(piece.stream.front()) if row is None else row.size
-        return Report(piece.path, piece.kind, NO_PICKLE, size=size)
+        return Report(piece.path, piece.kind, NO_PICKLE, size=size, file=file)
     verdict, why = row.refusal, f"{row.taken} bytes, {len(row.imports)} names"
     if verdict is not None:
         why = verdict.line(64)
@@ -79,6 +80,9 @@ def _judged(piece: Piece, row: "Optional[Row]", allow: Optional[AllowList]) -> R
     elif allow is not None:
         why = f"yes: {why}"
     accepted = UNJUDGED if allow is None else ACCEPTED
+    missing: Tuple[Pair, ...] = ()
+    if allow is not None and verdict is not None:  # else every import is listed
+        missing = tuple(pair for pair in row.imports if pair not in allow)
     report = Report(
         piece.path,
         _kind_of(piece, row),
@@ -88,10 +92,11 @@ def _judged(piece: Piece, row: "Optional[Row]", allow: Optional[AllowList]) -> R
         row.sha256,
         row.pickles,
         tuple(row.imports),
-        tuple(pair for pair in row.imports if allow is not None and pair not in allow),
+        missing,
         tuple(dangers_in(row.imports)),
         tuple(row.listing),
         0 if verdict is None else verdict.at,
+        file,
     )
     if any((pair[0] or "").endswith(_JOBLIB) for pair in row.imports):
         raw = "joblib writes arrays raw between instructions: no check vouches for them"
@@ -133,7 +138,11 @@ class Row:
 
     def __init__(self, stream: Stream, question: Question, is_claimed: bool) -> None:
         self._stream, self._allow = stream, question.allow
-        self._digest = hashlib.sha256() if question.with_sha256 else None
+        self._digest: Any = None
+        if question.with_sha256:
+            import hashlib
+
+            self._digest = hashlib.sha256()
         self._listed = _NOTHING if question.allow is None else question.allow
         self.imports: Dict[Pair, None] = {}
         self.refusal: Optional[Verdict] = None

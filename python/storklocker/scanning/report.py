@@ -78,6 +78,8 @@ def dotted(pair: Pair) -> str:
 def shown(text: str, most: int = 200) -> str:
     """A text that is safe for a terminal: nothing in it moves the cursor or reverses the line."""
     kept = text if len(text) <= most else f"{text[:most]}... and {len(text) - most} more"
+    if kept.isprintable():
+        return kept
     return "".join(it if it.isprintable() else _escaped(it) for it in kept)
 
 

@@ -1,31 +1,19 @@
-"""Scans many files, in several processes."""
+"""Scans many files."""
 
 from __future__ import annotations
 
-import concurrent.futures
-import concurrent.futures.process
 import contextlib
-import multiprocessing
-import multiprocessing.connection
+import io
 import os
-import signal
 import stat
 import sys
-import threading
 import time
 from typing import (
-    BinaryIO, Callable, ContextManager, Deque, Iterable, Iterator, List, NamedTuple, Optional,
-    TextIO
+    BinaryIO, Callable, ContextManager, Iterable, Iterator, List, NamedTuple, Optional, TextIO
 )
 
 from .judging import Question, reports_of
 from .report import NO_PICKLE, UNREADABLE, Report
-
-_FILES, _BYTES = 32, 1 << 18
-"""The most files and bytes in the batch of a process. The latter spreads a few large files."""
-_AHEAD = 4
-"""The most batches that wait for each process. Bounded, so that millions of files cost no memory.
-"""
 
 
 class File(NamedTuple):
@@ -96,7 +84,7 @@ def scan_file(file: File, question: Question) -> List[Report]:
     try:
         with _opened(file) as opened:
             for report in reports_of(name, opened, question):
-                reports.append(report._replace(file=name))
+                reports.append(report)
         return reports
     except MemoryError:
         why = "out of memory"
@@ -111,7 +99,7 @@ def _opened(file: File) -> ContextManager[BinaryIO]:
     if file.path == "-":
         return contextlib.nullcontext(sys.stdin.buffer)
     if file.is_opened:
-        return open(file.path, "rb")
+        return open(file.path, "rb", io.DEFAULT_BUFFER_SIZE)  # or else it asks for a terminal
     if stat.S_ISDIR(os.stat(file.path).st_mode):
         raise OSError("a link to a folder, which is not followed")
     raise OSError("not a regular file")  # a pipe could block forever
@@ -125,79 +113,17 @@ def scan(
 ) -> Iterator[Report]:
     """Yields the reports on all files, in the order of their names."""
     told = _Progress(progress)
-    one_by_one = (scan_file(file, question) for file in files)
+    found = (scan_file(file, question) for file in files)
+    if jobs > 1:
+        from .processes import scan_in_processes
+
+        found = scan_in_processes(files, question, jobs)
     try:
-        for reports in one_by_one if jobs == 1 else _side_by_side(question, files, jobs):
+        for reports in found:
             told.add(reports)
             yield from reports
     finally:
         told.end()
-
-
-Batch = List[File]
-
-
-def _scan_files(files: Batch, question: Question) -> List[List[Report]]:
-    return [scan_file(file, question) for file in files]
-
-
-def _batches(files: Iterable[File]) -> Iterator[Batch]:
-    batch: Batch = []
-    size = 0
-    for file in files:
-        batch.append(file)
-        with contextlib.suppress(OSError):
-            size += os.stat(file.path).st_size
-        if len(batch) >= _FILES or size >= _BYTES:
-            yield batch
-            batch, size = [], 0
-    if batch:
-        yield batch
-
-
-def _side_by_side(
-    question: Question, files: Iterable[File], jobs: int
-) -> Iterator[List[Report]]:
-    with concurrent.futures.ProcessPoolExecutor(jobs, initializer=_begin) as pool:
-        waiting: Deque["concurrent.futures.Future[List[List[Report]]]"] = Deque()
-        try:
-            for batch in _batches(files):
-                waiting.append(_submitted(pool, batch, question))
-                if len(waiting) >= _AHEAD * jobs:
-                    yield from waiting.popleft().result()
-            for future in waiting:
-                yield from future.result()
-        except BaseException as error:
-            for child in multiprocessing.active_children():
-                child.terminate()
-            if isinstance(error, concurrent.futures.process.BrokenProcessPool):
-                why = "one of the processes ended; there may be no memory for so many"
-                raise ChildProcessError(why) from None
-            raise
-
-
-def _submitted(
-    pool: concurrent.futures.Executor, batch: Batch, question: Question
-) -> "concurrent.futures.Future[List[List[Report]]]":
-    if all(file.path != "-" for file in batch):
-        return pool.submit(_scan_files, batch, question)
-    # worker processes have no standard input
-    done: "concurrent.futures.Future[List[List[Report]]]" = concurrent.futures.Future()
-    done.set_result(_scan_files(batch, question))
-    return done
-
-
-def _begin() -> None:
-    """Prepares a worker: only the first process handles Ctrl-C, and no worker outlives it."""
-    signal.signal(signal.SIGINT, signal.SIG_IGN)
-    parent = multiprocessing.parent_process()
-    if parent is not None:
-        threading.Thread(target=_end_with, args=(parent.sentinel,), daemon=True).start()
-
-
-def _end_with(sentinel: int) -> None:
-    multiprocessing.connection.wait([sentinel])
-    os._exit(1)
 
 
 class _Progress:

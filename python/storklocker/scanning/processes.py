@@ -1,0 +1,97 @@
+"""Scans files in several processes."""
+
+from __future__ import annotations
+
+import concurrent.futures
+import concurrent.futures.process
+import contextlib
+import multiprocessing
+import multiprocessing.connection
+import os
+import signal
+import threading
+from typing import Deque, Iterable, Iterator, List
+
+from .judging import Question
+from .report import Report
+from .scan import File, scan_file
+
+_FILES, _BYTES = 32, 1 << 18
+"""The most files and bytes in the batch of a process. The latter spreads a few large files."""
+_AHEAD = 4
+"""The most batches that wait for each process. Bounded, so that millions of files cost no memory.
+"""
+_question = Question()
+"""In a worker: what the scan has to find out. It has the list, which may be long, so it is sent
+once and not with each batch.
+"""
+
+Batch = List[File]
+
+
+def scan_in_processes(
+    files: Iterable[File], question: Question, jobs: int
+) -> Iterator[List[Report]]:
+    """Yields the reports on each file, in the order of the files."""
+    with concurrent.futures.ProcessPoolExecutor(
+        jobs, initializer=_begin, initargs=(question,)
+    ) as pool:
+        waiting: Deque["concurrent.futures.Future[List[List[Report]]]"] = Deque()
+        try:
+            for batch in _batches(files):
+                waiting.append(_submitted(pool, batch, question))
+                if len(waiting) >= _AHEAD * jobs:
+                    yield from waiting.popleft().result()
+            for future in waiting:
+                yield from future.result()
+        except BaseException as error:
+            for child in multiprocessing.active_children():
+                child.terminate()
+            if isinstance(error, concurrent.futures.process.BrokenProcessPool):
+                why = "one of the processes ended; there may be no memory for so many"
+                raise ChildProcessError(why) from None
+            raise
+
+
+def _batches(files: Iterable[File]) -> Iterator[Batch]:
+    batch: Batch = []
+    size = 0
+    for file in files:
+        batch.append(file)
+        with contextlib.suppress(OSError):
+            size += os.stat(file.path).st_size
+        if len(batch) >= _FILES or size >= _BYTES:
+            yield batch
+            batch, size = [], 0
+    if batch:
+        yield batch
+
+
+def _submitted(
+    pool: concurrent.futures.Executor, batch: Batch, question: Question
+) -> "concurrent.futures.Future[List[List[Report]]]":
+    if all(file.path != "-" for file in batch):
+        return pool.submit(_scan_batch, batch)
+    # worker processes have no standard input
+    done: "concurrent.futures.Future[List[List[Report]]]" = concurrent.futures.Future()
+    done.set_result([scan_file(file, question) for file in batch])
+    return done
+
+
+def _scan_batch(batch: Batch) -> List[List[Report]]:
+    return [scan_file(file, _question) for file in batch]
+
+
+def _begin(question: Question) -> None:
+    """Prepares a worker: only the first process handles Ctrl-C, and no worker outlives it."""
+    global _question
+    _question = question
+    signal.signal(signal.SIGINT, signal.SIG_IGN)
+    parent = multiprocessing.parent_process()
+    if parent is not None:
+        threading.Thread(target=_end_with, args=(parent.sentinel,), daemon=True).start()
+
+
+def _end_with(sentinel: int) -> None:
+    multiprocessing.connection.wait([sentinel])
+    os._exit(1)
