@@ -1,8 +1,8 @@
 #!/usr/bin/env python3
 """Times `storklocker scan` over folders of pickles, and `pickletools.genops`.
 
-It prints files and bytes per second with 1, 2 and 4 jobs, compares them with `genops` in as many
-processes, and gives the peak memory of the largest process.
+It prints files and bytes per second with 1, 2 and 4 jobs, compares the CPU time with that of
+`genops` in as many processes, and gives the peak memory of the largest process.
 """
 import argparse
 import concurrent.futures
@@ -38,33 +38,35 @@ def fill(folder: pathlib.Path, count: int, data: bytes) -> int:
     return count * len(data)
 
 
-def scanned(folder: pathlib.Path, allow: pathlib.Path, jobs: int) -> Tuple[float, int]:
-    """Seconds of a scan, and the peak memory of its largest process in bytes."""
+def scanned(folder: pathlib.Path, allow: pathlib.Path, jobs: int) -> Tuple[float, float, int]:
+    """Seconds of a scan, its CPU time, and the peak memory of its largest process in bytes."""
     words = [sys.executable, "-m", "storklocker.scanning.command", "scan", str(folder)]
     words += ["--allow", str(allow), "--jobs", str(jobs)]
-    before = resource.getrusage(resource.RUSAGE_CHILDREN).ru_maxrss
+    before = resource.getrusage(resource.RUSAGE_CHILDREN)
     began = time.perf_counter()
     environment = {**os.environ, "PYTHONPATH": str(PYTHON)}
     subprocess.run(words, env=environment, stdout=subprocess.DEVNULL, check=True)
     took = time.perf_counter() - began
-    return took, max(before, resource.getrusage(resource.RUSAGE_CHILDREN).ru_maxrss) * 1024
+    after = resource.getrusage(resource.RUSAGE_CHILDREN)
+    used = after.ru_utime + after.ru_stime - before.ru_utime - before.ru_stime
+    return took, used, max(before.ru_maxrss, after.ru_maxrss) * 1024
 
 
-def listed(path: pathlib.Path) -> None:
-    """Iterates over the instructions of a file."""
+def listed(path: pathlib.Path) -> float:
+    """The CPU time of iterating over the instructions of a file."""
+    began = time.process_time()
     for _ in pickletools.genops(path.read_bytes()):
         pass
+    return time.process_time() - began
 
 
 def beside(folder: pathlib.Path, jobs: int, most: int) -> float:
-    """Seconds per file of `pickletools.genops` in this many processes, over at most this many
+    """CPU seconds per file of `pickletools.genops` in this many processes, over at most this many
     files.
     """
     files = sorted(folder.iterdir())[:most]
     with concurrent.futures.ProcessPoolExecutor(jobs) as pool:
-        began = time.perf_counter()
-        list(pool.map(listed, files))
-    return (time.perf_counter() - began) / len(files)
+        return sum(pool.map(listed, files)) / len(files)
 
 
 def main() -> int:
@@ -80,14 +82,17 @@ def main() -> int:
         allow = top / "list.toml"
         allow.write_text(LIST)
         for kind, count, records, most in (
-            ("1 KB", asked.small, 15, 400),
-            ("10 MB", asked.large, 190_000, 2),
+            ("1 KB", asked.small, 15, 200),
+            ("10 MB", asked.large, 190_000, 1),
         ):
             folder = top / kind.replace(" ", "")
             size = fill(folder, count, pickle.dumps(rows(records), 4))
             for jobs in (1, 2, 4):
-                took, peak = scanned(folder, allow, jobs)
-                ratio = beside(folder, jobs, most * jobs) * count / took
+                # before and after, because the speed of a busy machine changes
+                slow = beside(folder, jobs, most * jobs)
+                took, used, peak = scanned(folder, allow, jobs)
+                slow = (slow + beside(folder, jobs, most * jobs)) / 2
+                ratio = slow * count / used
                 least = min(least, ratio) if kind == "10 MB" else least
                 print(
                     f"| {count} of {kind} | {jobs} | {count / took:,.0f} | {size / took / 1e6:.0f} "
