@@ -25,5 +25,15 @@ def open(
     writeback: bool = False,
 ) -> "plain.Shelf[Any]":
     """`shelve.open` with every value loaded through the guard. Keys are strings, not pickles."""
-    shelf = rebound(plain.DbfilenameShelf, {"Unpickler": guard.Unpickler})
+
+    class Unpickler:
+        """Loads one value. Unlike `guard.Unpickler` it keeps no memo, so it costs less."""
+
+        def __init__(self, file: Any) -> None:
+            self._file = file
+
+        def load(self) -> Any:
+            return guard.load(self._file)
+
+    shelf = rebound(plain.DbfilenameShelf, {"Unpickler": Unpickler})
     return shelf(os.fspath(path), flag, protocol, writeback)
