@@ -10,6 +10,7 @@ import math
 import os
 import pathlib
 import pickle
+import statistics
 import subprocess
 import sys
 import tempfile
@@ -76,14 +77,11 @@ def best(call: Callable[[], object], rounds: int, calls: int) -> float:
     return least * 1e6
 
 
-def in_turns(calls: Sequence[Callable[[], object]], rounds: int, count: int) -> List[float]:
-    """The best time of each call; the calls take turns."""
-    least = [math.inf] * len(calls)
-    for _ in range(rounds):
-        for k, call in enumerate(calls):
-            used = best(call, 1, count)
-            least[k] = min(least[k], used)
-    return least
+def in_turns(
+    calls: Sequence[Callable[[], object]], rounds: int, count: int
+) -> List[List[float]]:
+    """The times of each call by round; the calls take turns."""
+    return list(map(list, zip(*([best(call, 1, count) for call in calls] for _ in range(rounds)))))
 
 
 def process(data: bytes, rounds: int) -> float:
@@ -129,12 +127,15 @@ def pickles(storklocker: ModuleType, asked: argparse.Namespace) -> List[float]:
             lambda: guard.loads(data),
             lambda: storklocker.loads(data, few),
         ]
-        bare, check, guarded, loaded = in_turns(calls, asked.rounds, max(1, count))
+        times = in_turns(calls, asked.rounds, max(1, count))
+        bare, check, guarded, loaded = map(min, times)
+        # of neighbours, because the speed of a busy machine changes from round to round
+        ratio = statistics.median(kept / one for one, kept in zip(times[0], times[2]))
         checks.append(check)
-        ratios.append(guarded / bare)
+        ratios.append(ratio)
         print(
             f"| {len(data):,} bytes | {bare:,.2f} | {check:,.2f} | {guarded:,.2f} "
-            f"| {guarded / bare:.2f} | {loaded:,.2f} |"
+            f"| {ratio:.2f} | {loaded:,.2f} |"
         )
         if asked.process:
             print(f"| the same, a process | | {process(data, asked.rounds):,.0f} | | | |")
@@ -167,7 +168,7 @@ def lists(storklocker: ModuleType, asked: argparse.Namespace) -> float:
             refused,
         ]
         slow = 20 if count > 1000 else asked.calls
-        times = in_turns(calls, asked.rounds, slow)
+        times = list(map(min, in_turns(calls, asked.rounds, slow)))
         refusals.append(times[-1])
         print(f"| {count:,} | " + " | ".join(f"{it:,.2f}" for it in times) + " |")
     return refusals[0]
