@@ -61,16 +61,23 @@ __all__ = [
 ]
 
 
+_LATER = {
+    "check": "_checking",
+    "check_row": "_checking",
+    "Refusal": "_refusal",
+    "context": "_refusal",
+}
+"""The modules of names that a guard doesn't need, which are imported on first use."""
+
+
 def __getattr__(name: str) -> Any:
-    """Imports names that a guard doesn't need, on first use."""
-    if name in ("check", "check_row"):
-        from . import _checking as module
-    elif name in ("Refusal", "context"):
-        from . import _refusal as module  # type: ignore[no-redef]
-    else:
+    if name not in _LATER:
         raise AttributeError(f"module {__name__!r} has no attribute {name!r}")
-    globals()[name] = getattr(module, name)
-    return globals()[name]
+    from importlib import import_module
+
+    found = getattr(import_module(f"{__name__}.{_LATER[name]}"), name)
+    globals()[name] = found
+    return found
 
 
 def __dir__() -> List[str]:

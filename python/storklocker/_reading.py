@@ -72,8 +72,8 @@ def next_pickle(
 
 
 def _size_after(length: int) -> int:
-    """The size of the block after this many bytes. Each block costs a check of all bytes so far, and
-    reading on costs memory: the total grows sixteenfold up to a megabyte or so, then fourfold.
+    """The size of the block after this many bytes. Each block costs a check of all bytes so far,
+    but reading far costs memory: the total grows sixteenfold to a megabyte or so, then fourfold.
     """
     return max(FIRST_BLOCK, min(15 * length, 1 << 20), 3 * length)
 

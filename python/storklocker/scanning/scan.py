@@ -113,7 +113,7 @@ def scan(
 ) -> Iterator[Report]:
     """Yields the reports on all files, in the order of their names."""
     told = _Progress(progress)
-    found = (scan_file(file, question) for file in files)
+    found: Iterator[List[Report]] = (scan_file(file, question) for file in files)
     if jobs > 1:
         from .processes import scan_in_processes
 
