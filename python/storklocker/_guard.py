@@ -2,6 +2,7 @@
 
 from __future__ import annotations
 
+import functools
 import pickle
 
 from . import _names
@@ -84,6 +85,14 @@ def _plain_guard(allow: AllowList) -> "Guard":
     guard = Guard(allow)
     allow._guard = guard
     return guard
+
+
+@functools.lru_cache(maxsize=None)
+def _reader() -> Callable[[Any, Callable[[bytes], Verdict]], Optional[Tuple[bytes, Verdict]]]:
+    """`next_pickle`, imported on first use."""
+    from ._reading import next_pickle
+
+    return next_pickle
 
 
 def _hint(pair: Optional[Tuple[str, str]], allow: AllowList, fix_imports: bool) -> str:
@@ -352,9 +361,7 @@ class Guard:
         """Bytes that begin with the next pickle of a file, which is accepted. None if only an
         Unpickler can read it.
         """
-        from ._reading import next_pickle
-
-        found = next_pickle(file, self._judge)
+        found = _reader()(file, self._judge)
         if found is None:
             return None
         data, verdict = found

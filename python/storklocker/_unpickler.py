@@ -10,8 +10,9 @@ from typing import TYPE_CHECKING, Any, Dict, Iterable, Optional, Set
 from . import _names
 from ._answers import Reason, Verdict
 from ._checking import check_row
-from ._reading import FIRST_BLOCK, Walk, block_of, can_step_back
+from ._reading import FIRST_BLOCK, block_of, can_step_back
 from ._storklocker import verdict
+from ._walking import Walk
 
 if TYPE_CHECKING:
     from ._guard import Guard
