@@ -3,4 +3,3 @@ mod ListingRows
 pub mod Exports
 pub mod Positions
 mod VerdictRows
-pub mod Globals

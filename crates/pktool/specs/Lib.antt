@@ -1,5 +1,4 @@
 pub mod Blocks
-pub mod Command
 pub mod Verdict
 pub mod Listing
 pub mod Imports

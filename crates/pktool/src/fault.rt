@@ -7,8 +7,8 @@ use std::io::{ErrorKind, Write};
 /// Why a command ends without an answer, with status 2.
 #[derive(Debug, Drop)]
 pub enum Fault<'a> {
-    /// The command line is invalid.
-    Words(clap::Error),
+    /// The command line is invalid, as this text says.
+    Words(String),
     /// A word of the command line is not UTF-8.
     NotUtf8,
     /// An allocation was refused, for the command line or for the output buffer.
@@ -42,7 +42,7 @@ pub fn unwritten<'a>(error: &io::Error) -> Fault<'a> {
 /// Writes the message of a fault, for standard error.
 pub fn write_fault<W: Write>(fault: &Fault<'_>, out: &mut W) -> io::Result<()> {
     match fault {
-        Fault::Words(error) => write!(out, "{error}"),
+        Fault::Words(text) => out.write_all(text.as_bytes()),
         Fault::NotUtf8 => writeln!(out, "a word of the command line is not UTF-8"),
         Fault::OutOfMemory => writeln!(out, "out of memory"),
         Fault::Unread(name) => writeln!(out, "cannot read {name}"),

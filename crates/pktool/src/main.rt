@@ -1,21 +1,18 @@
 //! `pktool` says which names a pickle would import, before anything opens it.
 //!
-//! The command line, the output, and access to files and streams are here; what a pickle means is
-//! in the crates below.
+//! Access to files and streams is here; what the words, the pickle and the answer mean is in the
+//! crates below.
 #![tactic(auto)]
 
 mod block;
 mod blocks;
 mod checking;
 mod checking_row;
-mod command;
 mod exporting;
 mod fault;
 mod files;
 mod gathering;
-mod help;
 mod importing;
-mod job;
 mod listing;
 mod naming;
 mod optimizing;

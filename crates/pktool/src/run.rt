@@ -3,16 +3,15 @@ ghost use Rattle.std.specs.Prelude.{◌≤◌};
 
 use crate::checking::{Outcome, check_to};
 use crate::checking_row::check_all_to;
-use crate::command::{Usage, command_of};
 use crate::exporting::json_to;
 use crate::fault::{Fault, unwritten, write_fault};
 use crate::files::{open_source, read_list, read_rest};
 use crate::importing::imports_to;
-use crate::job::{Job, Pickles};
 use crate::listing::dis_to;
 use crate::optimizing::{Unoptimized, optimize_to};
 use crate::printing::write_no;
 use crate::replacing::NewFile;
+use pkargs::{Job, Pickles, Usage, command_of};
 use pkcheck::{Loading, OldStrings, Policy};
 use pkops::Limits;
 use pkread::{Reason, Refusal};
@@ -199,19 +198,14 @@ fn refused<'a, O: Write>(refusal: Refusal, out: &mut O) -> Result<Outcome, Fault
     }
 }
 
-/// Shows the help that was requested; any other usage is a fault.
+/// Shows the text that was requested; any other usage is a fault.
 fn shown<'a, O: Write>(usage: Usage, out: &mut O) -> Result<Outcome, Fault<'a>> {
     match usage {
-        Usage::Clap(error) => {
-            if error.use_stderr() {
-                Err(Fault::Words(error))
-            } else {
-                match write!(out, "{error}") {
-                    Ok(()) => Ok(Outcome::Done),
-                    Err(error) => Err(unwritten(&error)),
-                }
-            }
-        }
+        Usage::Asked(text) => match out.write_all(text.as_bytes()) {
+            Ok(()) => Ok(Outcome::Done),
+            Err(error) => Err(unwritten(&error)),
+        },
+        Usage::Invalid(text) => Err(Fault::Words(text)),
         Usage::OutOfMemory => Err(Fault::OutOfMemory),
     }
 }

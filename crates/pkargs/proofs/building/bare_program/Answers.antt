@@ -1,7 +1,7 @@
 use Rattle.std.proofs.Common.{ap, true, ◌∙◌}
 use Rattle.clap.specs.Words.{App, Shape}
 use Rattle.clap.specs.Simple.{app_of_fields, on_top}
-use Rattle.pktool.proofs.command.bare_program.Goals as goal
+use Rattle.pkargs.proofs.building.bare_program.Goals as goal
 
 abbrev versioned : App → App
 versioned = on_top (λ (s : Shape). record s { has_version = true })

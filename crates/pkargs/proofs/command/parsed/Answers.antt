@@ -1,8 +1,8 @@
 use Rattle.std.proofs.Common.{◌≡◌, sym, subst, refl, true}
 use Rattle.std.specs.Option.{IfSome}
 use Rattle.clap.specs.Words.{app_of, is_simple, subcommand_rows_of}
-use Rattle.pktool.specs.Command.{IsJob}
-use Rattle.pktool.proofs.command.command_of.Goals as goal
+use Rattle.pkargs.specs.Command.{IsJob}
+use Rattle.pkargs.proofs.command.parsed.Goals as goal
 
 pub returns-in-Some : goal.returns-in-Some
 returns-in-Some c =

@@ -2,8 +2,8 @@ use Rattle.std.proofs.Common.{◌∙◌, ◌||◌, ap, ap₂, rules}
 use Rattle.std.proofs.lemmas.Result.{IfOk-weaker}
 use Rattle.clap.specs.Words.{with_rule}
 use Rattle.clap.specs.Simple.{app_of_fields}
-use Rattle.pktool.proofs.Globals.{globals}
-use Rattle.pktool.proofs.command.optimize_command.Goals as goal
+use Rattle.pkargs.proofs.Globals.{globals}
+use Rattle.pkargs.proofs.building.optimize_command.Goals as goal
 
 pub returns-clause-shape : goal.returns-clause-shape
 returns-clause-shape c =

@@ -9,10 +9,10 @@ use Rattle.clap.specs.declared.builder.value_parser.ValueParser.TheVariants.{Nam
 use Rattle.pkcheck.specs.declared.Memo.TheVariants.{Fresh, Kept}
 use Rattle.pkcheck.specs.declared.OldStrings.{OldStrings}
 use Rattle.pkcheck.specs.declared.OldStrings.TheVariants.{Unknown, Ascii, Bytes}
-use Rattle.pktool.specs.declared.job.Job.{Job}
-use Rattle.pktool.specs.declared.job.Job.TheVariants.{Dis, Check, Imports, Optimize, Json}
-use Rattle.pktool.specs.declared.job.Pickles.{Pickles}
-use Rattle.pktool.specs.declared.job.Pickles.TheVariants.{First, Row as RowOf}
+use Rattle.pkargs.specs.declared.job.Job.{Job}
+use Rattle.pkargs.specs.declared.job.Job.TheVariants.{Dis, Check, Imports, Optimize, Json}
+use Rattle.pkargs.specs.declared.job.Pickles.{Pickles}
+use Rattle.pkargs.specs.declared.job.Pickles.TheVariants.{First, Row as RowOf}
 
 -- the required option `--allow LIST`
 abbrev pub allow_rule : Rule

@@ -1,7 +1,7 @@
 use Rattle.std.proofs.Common.{ap, ap₂, ◌∙◌}
 use Rattle.std.proofs.lemmas.Result.{IfOk-weaker}
 use Rattle.clap.specs.Words.{App, Shape, with_subcommand}
-use Rattle.pktool.proofs.command.reading_program.Goals as goal
+use Rattle.pkargs.proofs.building.reading_program.Goals as goal
 
 abbrev top_of : App → Shape
 top_of a = a.top
