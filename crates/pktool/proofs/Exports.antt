@@ -6,9 +6,9 @@ use Rattle.pkread.specs.Rows.{Sight, Takes}
 use Rattle.pkjson.specs.Export.{IsNotExported, IsTextOf}
 use Rattle.pkjson.specs.declared.ExportError.{ExportError}
 use Rattle.pkjson.specs.declared.ExportError.TheVariants.{Check, NotPlain, Key, Number, TooDeep, TooMany, OutOfMemory}
+use Rattle.pkprint.specs.Appended.{appends_then}
+use Rattle.pkprint.specs.declared.Outcome.TheVariants.{Done}
 use Rattle.pktool.specs.Json.{EndsWith, IsErrorFor, ReadsWhole}
-use Rattle.pktool.specs.Private.Lists.{appends_then}
-use Rattle.pktool.specs.declared.checking.Outcome.TheVariants.{Done}
 
 consumes_none : (a : Option (List ℕ)) → Consumes a a []
 consumes_none None = tt

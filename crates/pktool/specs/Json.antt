@@ -12,9 +12,9 @@ use Rattle.pkjson.specs.Export.{IsNotExported, IsValueOf}
 use Rattle.pkjson.specs.declared.ExportError.{ExportError}
 use Rattle.pkjson.specs.declared.ExportError.TheVariants.{Check, NotPlain, Key, Number, TooDeep}
 use Rattle.pkjson.specs.declared.ExportError.TheVariants.{TooMany, OutOfMemory}
-use Rattle.pktool.specs.Verdict.{no_line}
-use Rattle.pktool.specs.declared.checking.Outcome.{Outcome}
-use Rattle.pktool.specs.declared.checking.Outcome.TheVariants.{Done, Refused, Unread}
+use Rattle.pkprint.specs.Verdict.{no_line}
+use Rattle.pkprint.specs.declared.Outcome.{Outcome}
+use Rattle.pkprint.specs.declared.Outcome.TheVariants.{Done, Refused, Unread}
 
 -- these are all the bytes of the source, and no read failed
 abbrev pub ReadsWhole : Sight → Sight → List ℕ → Type 0

@@ -5,9 +5,9 @@ use Rattle.pkops.specs.Limits.{Bounds}
 use Rattle.pkread.specs.Printed.{refusal_text}
 use Rattle.pkread.specs.declared.Refusal.{Refusal}
 use Rattle.pkopt.specs.Answer.{IsNotOptimized, Optimizes, TakesAsChecked}
-use Rattle.pktool.specs.Verdict.{no_line}
-use Rattle.pktool.specs.declared.checking.Outcome.{Outcome}
-use Rattle.pktool.specs.declared.checking.Outcome.TheVariants.{Done, Refused, Unread}
+use Rattle.pkprint.specs.Verdict.{no_line}
+use Rattle.pkprint.specs.declared.Outcome.{Outcome}
+use Rattle.pkprint.specs.declared.Outcome.TheVariants.{Done, Refused, Unread}
 
 -- `N bytes to M bytes`
 abbrev pub sizes_line : ℕ → ℕ → List ℕ

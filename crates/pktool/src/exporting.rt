@@ -3,11 +3,11 @@ ghost use Rattle.std.specs.Prelude.{IfOk};
 ghost use Rattle.pkread.specs.Rows.{sight};
 ghost use Rattle.pktool.specs.Json.{EndsWith};
 
-use crate::checking::Outcome;
+use crate::export_line::write_export_error;
 use crate::gathering::take_all;
-use crate::printing::write_export_error;
 use pkjson::{ExportError, export_text};
 use pkops::Limits;
+use pkprint::Outcome;
 use pkread::Source;
 use std::alloc::Global;
 use std::io;

@@ -6,17 +6,13 @@
 
 mod block;
 mod blocks;
-mod checking;
-mod checking_row;
+mod export_line;
 mod exporting;
 mod fault;
 mod files;
 mod gathering;
-mod importing;
-mod listing;
 mod naming;
 mod optimizing;
-mod printing;
 mod replacing;
 mod run;
 #[cfg(test)]

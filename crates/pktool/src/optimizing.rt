@@ -3,10 +3,9 @@ ghost use Rattle.std.specs.Prelude.{IfOk, List, None, OnOk, Option, ℕ};
 ghost use Rattle.std.specs.Io.KnownBytes.{Appends};
 ghost use Rattle.pktool.specs.Optimized.{EndsIn, HoldsBytes, sizes_line};
 
-use crate::checking::Outcome;
-use crate::printing::write_no;
 use pkops::Limits;
 use pkopt::optimized_form;
+use pkprint::{Outcome, write_no};
 use std::alloc::Global;
 use std::io;
 use std::io::Write;

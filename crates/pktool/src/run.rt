@@ -1,19 +1,15 @@
 //! Runs a whole command over the files and streams of the host.
 ghost use Rattle.std.specs.Prelude.{◌≤◌};
 
-use crate::checking::{Outcome, check_to};
-use crate::checking_row::check_all_to;
 use crate::exporting::json_to;
 use crate::fault::{Fault, unwritten, write_fault};
 use crate::files::{open_source, read_list, read_rest};
-use crate::importing::imports_to;
-use crate::listing::dis_to;
 use crate::optimizing::{Unoptimized, optimize_to};
-use crate::printing::write_no;
 use crate::replacing::NewFile;
 use pkargs::{Job, Pickles, Usage, command_of};
 use pkcheck::{Loading, OldStrings, Policy};
 use pkops::Limits;
+use pkprint::{Outcome, check_all_to, check_to, dis_to, imports_to, write_no};
 use pkread::{Reason, Refusal};
 use std::alloc::Global;
 use std::fs;

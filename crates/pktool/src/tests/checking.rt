@@ -1,9 +1,8 @@
 //! Checks with options, to the byte.
-use crate::checking::Outcome;
-use crate::checking_row::check_all_to;
 use crate::tests::{NOTHING, enter_folder, expect};
 use pkcheck::{Loading, Memo, OldStrings, Policy};
 use pkops::Limits;
+use pkprint::{Outcome, check_all_to};
 use pkread::Input;
 use std::io::{ErrorKind, Read};
 use std::test::Fail;

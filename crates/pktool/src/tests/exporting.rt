@@ -1,8 +1,8 @@
 //! Plain pickles as JSON, to the byte.
-use crate::checking::Outcome;
 use crate::exporting::json_to;
 use crate::tests::{enter_folder, expect};
 use pkops::Limits;
+use pkprint::Outcome;
 use pkread::Input;
 use std::io::{ErrorKind, Read};
 use std::test::Fail;

@@ -2,9 +2,9 @@
 ghost use Rattle.std.specs.Prelude.{◌≡◌, IfOk, Some};
 ghost use Rattle.pkopt.specs.Answer.{Optimizes};
 
-use crate::checking::Outcome;
 use crate::optimizing::{Place, Unoptimized, optimize_to};
 use pkops::Limits;
+use pkprint::Outcome;
 use std::alloc::Global;
 use std::io;
 use std::test::Fail;

@@ -1,11 +1,8 @@
 //! Writers that fail at each write in turn: the call fails and gives no other answer.
-use crate::checking::{Outcome, check_to};
-use crate::checking_row::check_all_to;
 use crate::exporting::json_to;
-use crate::importing::imports_to;
-use crate::listing::dis_to;
 use pkcheck::{Loading, Memo, OldStrings, Policy};
 use pkops::Limits;
+use pkprint::{Outcome, check_all_to, check_to, dis_to, imports_to};
 use pkread::Memory;
 use std::alloc::Global;
 use std::io;

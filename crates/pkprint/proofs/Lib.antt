@@ -1,0 +1,5 @@
+pub mod Lines
+pub mod Positions
+-- worked rows
+mod ListingRows
+mod VerdictRows

@@ -1,0 +1,11 @@
+use Rattle.pkcheck.specs.Import.{import_shown}
+use Rattle.pkprint.specs.Imports.{import_line}
+use Rattle.pkprint.specs.Appended.{appends_none, appends_then}
+use Rattle.pkprint.proofs.Lines.{flat_map_next}
+use Rattle.pkprint.proofs.printing.imports.write_each.Goals as goal
+
+pub loop-number-init : goal.loop-number-init
+loop-number-init g c = appends_none (g.W.Write.contents c.args.out.now)
+
+pub loop-number-preserved : goal.loop-number-preserved
+loop-number-preserved g c = rw (flat_map_next import_line c.args.imports.now c.loop-number.number (import_shown c.in-Some.import) c.in-Some.ensures) (appends_then _ _ _ _ _ c.loop-number.invariant c.in_ok-write_import.ensures)

@@ -1,0 +1,5 @@
+pub mod Verdict
+pub mod Listing
+pub mod Imports
+pub mod Appended
+pub mod Private
