@@ -4,7 +4,7 @@ ghost use Rattle.clap.specs.Words.{app_of, rule_of};
 ghost use Rattle.clap.specs.declared.Command.TheViews.{out-Command as fields_of};
 ghost use Rattle.pkargs.specs.Command.{IsCheck, IsOldRule, IsProgram, IsReading, all_rule};
 ghost use Rattle.pkargs.specs.Command.{allow_rule, bare_app, file_app, file_rule, one_rule};
-ghost use Rattle.pkargs.specs.Command.{optimize_app};
+ghost use Rattle.pkargs.specs.Command.{optimize_app, out_rule};
 
 use crate::help::{IMPORTS, JSON, LINES, OPTIMIZED, STATUSES, VERSION};
 use clap::{Arg, ArgAction, Command};
@@ -133,12 +133,19 @@ fn optimize_command<'a>(alloc: Global) -> Result<Command<'a>, AllocError>
     ensures shape { IfOk result (λ command. app_of command ≡ optimize_app) }
     ensures local { IfOk result (λ command. (fields_of command).has_globals ≡ false) }
 {
-    let out = Arg::new(alloc, "OUT")
-        .help("The file that becomes its optimized form")
-        .required(true);
     Command::new(alloc, "optimize")
         .about("Writes a pickle anew in fewer bytes")
         .after_help(OPTIMIZED)
         .arg(file_argument(alloc))?
-        .arg(out)
+        .arg(out_argument(alloc))
+}
+
+/// `OUT`.
+fn out_argument<'a>(alloc: Global) -> Arg<'a>
+    ensures rule { rule_of result ≡ out_rule }
+    ensures local { result.global ≡ false }
+{
+    Arg::new(alloc, "OUT")
+        .help("The file that becomes its optimized form")
+        .required(true)
 }
