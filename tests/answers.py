@@ -53,7 +53,7 @@ def is_refusal(row: rows.Row, own: Answer, answer: Answer, reason: str) -> bool:
 
 def wants_memory(row: rows.Row, own: Answer, answer: Answer) -> bool:
     """A refused allocation: a reason, a fault, or a file that cannot be opened."""
-    words = {"out of memory", "error: out of memory", f"cannot read {FILE}"}
+    words = {"out of memory", f"cannot read {FILE}"}
     if row.command == "check":
         words |= {f"cannot read {LIST}", "list: OutOfMemory"}
     if row.command == "optimize":
