@@ -1,7 +1,9 @@
 //! A reader, `genops` and the frames, call by call.
 
 use pkops::{Limits, Op};
-use pkread::{Frames, Head, Memory, Next, Reader, Reason, Refusal, Source, frame_argument, genops};
+use pkread::{
+    Frames, Head, Input, Memory, Next, Reader, Reason, Refusal, Source, frame_argument, genops,
+};
 use std::alloc::Global;
 use std::process::Abort;
 
@@ -48,6 +50,35 @@ fn a_reader_gives_refuses_and_ends(rt: HostRuntime) {
     let refuses = [none, (Err(UNKNOWN), false), (Err(UNKNOWN), false)];
     assert_eq!(rt; read_on(&rt, &mut Memory::new(b"N.N"), &ends), 1);
     assert_eq!(rt; read_on(&rt, &mut Memory::new(b"N\xffN"), &refuses), 1);
+}
+
+// How many instructions are peeked and taken before one is not at hand, the bytes taken then, and
+// the answer of `next`.
+fn peek_on<T: Abort + AllocGlobal, R: Source>(rt: &T, source: &mut R) -> (u64, u64, Answer) {
+    let mut reader = Reader::new(rt.alloc(), source, &Limits::STANDARD);
+    let mut peeked = 0u64;
+    for _ in 0..9 {
+        let Some(inst) = reader.peek() else {
+            break;
+        };
+        let length = inst.len() as usize;
+        reader.advance(length);
+        peeked = peeked.wrapping_add(1);
+    }
+    (peeked, reader.taken(), answer_of(reader.next()))
+}
+
+#[test]
+fn what_is_at_hand_is_peeked(rt: HostRuntime) {
+    // BININT1, SHORT_BINUNICODE and INT, of 2, 3 and 3 bytes, then STOP.
+    let mut memory = Memory::new(b"K\x05\x8c\x01aI7\n.");
+    assert_eq!(rt; peek_on(&rt, &mut memory), (3, 8, Ok(Some((8, Op::Stop)))));
+    // A text that is cut, and one that isn't UTF-8.
+    assert_eq!(rt; peek_on(&rt, &mut Memory::new(b"N\x8c\x02a")).0, 1);
+    assert_eq!(rt; peek_on(&rt, &mut Memory::new(b"N\x8c\x01\xff")).0, 1);
+    // A source with nothing at hand.
+    let first = (0, 0, Ok(Some((0, Op::None))));
+    assert_eq!(rt; peek_on(&rt, &mut Input::new(b"N.".as_slice())), first);
 }
 
 // What `next_head` returns: an instruction, a skipped payload, or the end.

@@ -110,7 +110,7 @@ fn memory_shows_all_bytes_left(rt: HostRuntime) -> Result<(), Fail> {
     let mut memory = Memory::new(PICKLE);
     assert_eq!(rt; memory.ahead().len(), 9);
     memory.advance(4);
-    assert_eq!(rt; memory.ahead(), b"\x8c\x01b\x93.");
+    assert_eq!(rt; memory.ahead(), b"\x8c\x01b\x93.".as_slice());
     memory.advance(5);
     assert_eq!(rt; memory.ahead().len(), 0);
     Ok(())
