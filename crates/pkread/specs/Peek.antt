@@ -1,28 +1,29 @@
 -- What `peek` shows of the next instruction, and what `advance` does with it.
-use Rattle.std.specs.Prelude.{◌≡◌, ℕ, ◌+◌, ◌≤◌, false, length}
-use Rattle.pkops.specs.Payloads.{is_passed}
+use Rattle.std.specs.Prelude.{◌≡◌, ℕ, ◌+◌, ◌≤◌, length, max}
+use Rattle.pkops.specs.Payloads.{payload_limit}
 use Rattle.pkops.specs.Spelling.{Instruction, spelling}
-use Rattle.pkread.specs.Admission.{IsAllowed}
+use Rattle.pkread.specs.Admission.{IsAllowedBy}
 use Rattle.pkread.specs.Core.{Open, phase_after}
-use Rattle.pkread.specs.Heads.{HoldsFew}
 use Rattle.pkread.specs.Pull.{BeginsWith}
-use Rattle.pkread.specs.Reading.{Gives, ReaderState}
-use Rattle.pkread.specs.Rows.{all_bytes}
+use Rattle.pkread.specs.Reading.{ReaderState}
+use Rattle.pkread.specs.Rows.{Takes, all_bytes}
 
--- the bytes left begin with this instruction, which `next_head` returns with its payload and which
--- is no STOP; all its bytes are among the `count` at hand
+-- the bytes left begin with this instruction, which is no STOP and whose payload is within the limit
+-- of its opcode; all its bytes are among the `count` at hand
 pub record IsNext (s : ReaderState) (count : ℕ) (i : Instruction) : Type 0 where
   pub phase : s.phase ≡ Open
   pub goes_on : phase_after i.op ≡ Open
-  pub allowed : IsAllowed s.limits.counted i
-  pub kept : is_passed i.op ≡ false
+  pub allowed : IsAllowedBy (payload_limit s.limits) i
   pub begins : BeginsWith s.source.left (spelling i)
   pub at_hand : length (spelling i) ≤ count
   pub within : s.taken + length (spelling i) ≤ all_bytes
-  pub few : length (spelling i) ≤ 257
+  pub few : length (spelling i) ≤ 131_075
 
--- the instruction is taken, as by `next` and by `next_head`
+-- its bytes are taken
 pub record PassesOver (old : ReaderState) (i : Instruction) (new : ReaderState) : Type 0 where
   pub limits : new.limits ≡ old.limits
-  pub gives : Gives old old.taken i new
-  pub few : HoldsFew old.most (spelling i) new.most
+  pub bytes : Takes old.source new.source (spelling i)
+  pub taken : new.taken ≡ old.taken + length (spelling i)
+  pub within : new.taken ≤ all_bytes
+  pub most : new.most ≡ max old.most (length (spelling i))
+  pub phase : new.phase ≡ Open

@@ -9,6 +9,7 @@ use Rattle.pkops.specs.declared.Op.{Op}
 use Rattle.pkread.specs.Admission.{IsAllowedBy}
 use Rattle.pkread.specs.Core.{Phase, Open, Ended, Refused}
 use Rattle.pkread.specs.Heads.{IsSkipped, Skips, RefusesHead, StepsHead}
+use Rattle.pkread.specs.Peek.{IsNext, PassesOver}
 use Rattle.pkread.specs.Reading.{Gives, RefusesAt, ReaderState, Steps, begun}
 use Rattle.pkread.specs.Rows.{Sight, Takes}
 use Rattle.pkread.specs.Sequence.{IsSequence, NoStop, StopIsLast, spellings}
@@ -90,6 +91,14 @@ PassedIsRead =
     × Takes old.source new.source (spelling (instruction op (Counted payload)))
     × (new.taken ≡ old.taken + length (spelling (instruction op (Counted payload))))
     × Skips old at op count new
+
+-- an instruction that `peek` shows and `advance` takes follows the earlier ones
+abbrev pub PeekedIsRead : Type 0
+PeekedIsRead =
+    (start : Sight) (from : ℕ) (limit : Op → ℕ) (p : List Instruction) (old new : ReaderState)
+    (count : ℕ) (i : Instruction) →
+    PassesTo old limit → Reads start from limit p old → IsNext old count i →
+    PassesOver old i new → ReadsMore start from limit p i new
 
 -- when a call reports the end, the instructions are a complete sequence, and nothing changed
 abbrev pub EndIsRead : Type 0

@@ -1,30 +1,33 @@
 //! The instruction at the front of the bytes that a source has at hand.
 
-ghost use Rattle.std.specs.Prelude.{◌≡◌, ◌≢◌, ◌<◌, ◌==◌, ℕ, IfNone, IfSome, length, position};
-ghost use Rattle.std.specs.Prelude.{slice_index};
-ghost use Rattle.pkops.specs.Spelling.{layout_at};
+ghost use Rattle.std.specs.Prelude.{◌≡◌, ◌≢◌, ◌<◌, ◌+◌, ◌∷◌, ◌++◌, ◌==◌, ℕ, IfSome, List, false};
+ghost use Rattle.std.specs.Prelude.{length, position, slice_index, true};
+ghost use Rattle.std.specs.Str.{IsUtf8};
+ghost use Rattle.pkops.specs.Lying.{Lies};
+ghost use Rattle.pkops.specs.Payloads.{payload_limit};
+ghost use Rattle.pkops.specs.Spelling.{Argument, IsLine, layout_at, line_feed, size_of};
 ghost use Rattle.pkops.specs.declared.Layout.TheVariants as layout;
 ghost use Rattle.pkops.specs.Table.{code_of};
 ghost use Rattle.pkops.specs.declared.Op.{Op as SpecOp};
-ghost use Rattle.pkops.specs.declared.Op.TheVariants as opcode;
-ghost use Rattle.pkread.specs.Private.Gathering.{HasFixedLength, IsFront};
-ghost use Rattle.pkread.specs.Private.Progress.{KeepsRest, intake};
-ghost use Rattle.pkread.specs.Private.Skipping.{IsByteString, SkipsShort};
-ghost use Rattle.pkread.specs.Rows.{sight};
+ghost use Rattle.pkread.specs.Private.Gathering.{HasFixedLength, IsFront, IsInFront};
+ghost use Rattle.pkread.specs.Private.Judging.{is_plain};
 
-use crate::admission::{is_good, is_utf8};
-use crate::gathering::Gathering;
-use crate::source::Source;
+use crate::admission::{is_good, is_plain, is_utf8};
 use pkops::laws::{growth, one_code};
-use pkops::{Arg, Layout, Op, layout_of_op, op_of_byte};
+use pkops::{Arg, Layout, Limits, Op, Width, count_behind, layout_of_op, op_of_byte};
 
-/// The code of SHORT_BINUNICODE.
-const TEXT: u8 = 0x8c;
+/// The most bytes that are searched for the ends of lines.
+const LINES: usize = 257;
 
-/// An instruction at the front of some bytes.
+/// The most bytes of an instruction that is lent. A buffer may hold as many whatever the limits.
+const MOST: usize = 131_075;
+
+/// An instruction at the front of some bytes. `split` is the length of the first of two lines,
+/// otherwise 0.
 #[derive(Clone, Copy, Debug)]
 pub(crate) struct Front {
     pub(crate) op: Op,
+    pub(crate) split: usize,
     pub(crate) length: usize,
 }
 
@@ -72,38 +75,42 @@ fn length_of(code: u8) -> u8
     LENGTHS[usize::from(code)]
 }
 
-/// The instruction that the bytes begin with, if they hold all of it and its argument has a fixed
-/// length, or is a text or a line of at most 255 bytes.
+/// The instruction that the bytes begin with, if they hold all of it, its payload is within the
+/// limit of its opcode, it is not longer than a buffer may hold, and its lines have at most 256
+/// bytes.
 #[inline(always)]
-pub(crate) fn front_of(bytes: &[u8], limit: u64) -> Option<Front>
-    ensures { IfSome result (λ front. IsFront limit front.op front.length bytes.now) }
+pub(crate) fn front_of(bytes: &[u8], limits: &Limits) -> Option<Front>
+    ensures { IfSome result (λ front. IsFront (payload_limit limits.now front.op)
+        front.op front.split front.length bytes.now) }
 {
     if bytes.len() == 0 {
         return None;
     }
     let code = bytes[0];
-    let length = front_length(code, bytes, limit);
+    let length = front_length(code, bytes, limits);
     if length == 0 {
         return None;
     }
     let Some(op) = op_of_byte(code) else {
         return None;
     };
-    Some(Front { op, length })
+    let split = first_line(op, &bytes[..length]);
+    Some(Front { op, split, length })
 }
 
 /// The number of bytes of the instruction that the bytes begin with, or 0 if `front_of` finds none.
 /// It returns a number and no opcode, because it needs no stack slot then.
 #[inline(always)]
-fn front_length(code: u8, bytes: &[u8], limit: u64) -> usize
+fn front_length(code: u8, bytes: &[u8], limits: &Limits) -> usize
     requires some { 0 < length bytes.now }
     requires code { code ≡ slice_index bytes.now 0 }
-    ensures { (op : SpecOp) → code_of op ≡ code → result ≢ 0 → IsFront limit op result bytes.now }
+    ensures { (op : SpecOp) → code_of op ≡ code → result ≢ 0
+        → IsInFront (payload_limit limits.now op) op result bytes.now }
 {
     growth();
     let length = usize::from(length_of(code));
     if length == 0 {
-        return varying_length(code, bytes, limit);
+        return varying_length(code, bytes, limits);
     }
     if length > bytes.len() {
         return 0;
@@ -113,42 +120,77 @@ fn front_length(code: u8, bytes: &[u8], limit: u64) -> usize
 
 /// Like `front_length`, for opcodes whose arguments vary in length.
 #[inline(never)]
-fn varying_length(code: u8, bytes: &[u8], limit: u64) -> usize
+fn varying_length(code: u8, bytes: &[u8], limits: &Limits) -> usize
     requires some { 0 < length bytes.now }
     requires code { code ≡ slice_index bytes.now 0 }
-    ensures { (op : SpecOp) → code_of op ≡ code → result ≢ 0 → IsFront limit op result bytes.now }
+    ensures { (op : SpecOp) → code_of op ≡ code → result ≢ 0
+        → IsInFront (payload_limit limits.now op) op result bytes.now }
 {
     one_code();
-    if code == TEXT {
-        return text_length(bytes, limit);
-    }
     let Some(op) = op_of_byte(code) else {
         return 0;
     };
-    let Layout::Line(most) = layout_of_op(op) else {
-        return 0;
-    };
-    line_length(op, most, bytes)
+    match layout_of_op(op) {
+        Layout::Counted(width, false) => counted_length(op, width, bytes, limit_of(op, limits)),
+        Layout::Line(most) => line_length(op, most, bytes),
+        Layout::Pair(most) => pair_length(op, most, bytes),
+        _ => 0,
+    }
 }
 
-/// The number of bytes of the SHORT_BINUNICODE that the bytes begin with, or 0 if they don't hold
-/// all of one.
-fn text_length(bytes: &[u8], limit: u64) -> usize
-    ensures { result ≢ 0 → IsFront limit opcode.ShortBinUnicode result bytes.now }
+/// The limit on the payload of an opcode.
+fn limit_of(op: Op, limits: &Limits) -> u64
+    ensures { result ≡ payload_limit limits.now op }
+{
+    if op.passed() {
+        limits.passed()
+    } else {
+        limits.counted()
+    }
+}
+
+/// The number of bytes of the instruction with a payload that the bytes begin with, or 0 if they
+/// don't hold all of it, or it is not good or too long.
+#[inline]
+fn counted_length(op: Op, width: Width, bytes: &[u8], limit: u64) -> usize
+    requires some { 0 < length bytes.now }
+    requires code { code_of op ≡ slice_index bytes.now 0 }
+    requires lay { layout_at op ≡ layout.Counted width false }
+    ensures { result ≢ 0 → IsInFront limit op result bytes.now }
 {
     growth();
-    if bytes.len() < 2 {
+    let head = head_length(width);
+    if bytes.len() < head {
         return 0;
     }
-    let count = usize::from(bytes[1]);
-    if bytes[0] != TEXT || bytes.len() - 2 < count || count as u64 > limit {
+    let count = count_behind(width, bytes);
+    if count > limit || ((bytes.len() - head) as u64) < count {
         return 0;
     }
-    let length = count + 2;
-    if !is_utf8(&bytes[2..length]) {
+    let length = head + count as usize;
+    if length > MOST || !takes_payload(op, &bytes[head..length]) {
         return 0;
     }
     length
+}
+
+/// The number of bytes in front of a payload: the code and the count.
+fn head_length(width: Width) -> usize
+    ensures { result ≡ size_of width + 1 }
+{
+    match width {
+        Width::One => 2,
+        Width::Four => 5,
+        Width::Eight => 9,
+    }
+}
+
+/// Whether a payload is good for its opcode.
+#[inline(always)]
+fn takes_payload(op: Op, payload: &[u8]) -> bool
+    ensures { result ≡ true → is_plain op ≡ false → IsUtf8 payload.now }
+{
+    is_plain(op) || is_utf8(payload)
 }
 
 /// The number of bytes of the instruction with one line that the bytes begin with, or 0 if the
@@ -157,9 +199,9 @@ fn line_length(op: Op, most: usize, bytes: &[u8]) -> usize
     requires some { 0 < length bytes.now }
     requires code { code_of op ≡ slice_index bytes.now 0 }
     requires lay { layout_at op ≡ layout.Line most }
-    ensures { (limit : ℕ) → result ≢ 0 → IsFront limit op result bytes.now }
+    ensures { (limit : ℕ) → result ≢ 0 → IsInFront limit op result bytes.now }
 {
-    let line = &bytes[1..bytes.len().min(257)];
+    let line = &bytes[1..bytes.len().min(LINES)];
     let Some(end) = end_of_line(line) else {
         return 0;
     };
@@ -169,6 +211,30 @@ fn line_length(op: Op, most: usize, bytes: &[u8]) -> usize
     end + 2
 }
 
+/// Like `line_length`, for an instruction with two lines.
+fn pair_length(op: Op, most: usize, bytes: &[u8]) -> usize
+    requires some { 0 < length bytes.now }
+    requires code { code_of op ≡ slice_index bytes.now 0 }
+    requires lay { layout_at op ≡ layout.Pair most }
+    ensures { (limit : ℕ) → result ≢ 0 → IsInFront limit op result bytes.now }
+{
+    let lines = &bytes[1..bytes.len().min(LINES)];
+    let Some(first) = end_of_line(lines) else {
+        return 0;
+    };
+    let line = &lines[first + 1..];
+    let Some(second) = end_of_line(line) else {
+        return 0;
+    };
+    if first > most || second > most {
+        return 0;
+    }
+    if !is_good(op, Arg::Pair(&lines[..first], &line[..second])) {
+        return 0;
+    }
+    first + second + 3
+}
+
 /// The offset of the first line feed.
 fn end_of_line(bytes: &[u8]) -> Option<usize>
     ensures { result ≡ position (λ byte. byte == 10) bytes.now }
@@ -176,43 +242,29 @@ fn end_of_line(bytes: &[u8]) -> Option<usize>
     bytes.iter().position(|byte| *byte == b'\n')
 }
 
-/// The number of bytes of the SHORT_BINBYTES that the bytes begin with, or 0 if they begin with
-/// none that is whole.
-#[inline]
-fn byte_string_in(bytes: &[u8], limit: u64) -> usize
-    ensures { result ≢ 0 → IsByteString limit result bytes.now }
+/// The length of the first of two lines of an instruction; 0 if it hasn't two.
+#[inline(always)]
+fn first_line(op: Op, bytes: &[u8]) -> usize
+    ensures { (limit : ℕ) (arg : Argument) (split : ℕ)
+        → Lies limit op arg split bytes.now → result ≡ split }
 {
-    growth();
-    if bytes.len() < 2 {
-        return 0;
+    match op {
+        Op::Global => first_line_slowly(bytes),
+        Op::Inst => first_line_slowly(bytes),
+        _ => 0,
     }
-    let count = usize::from(bytes[1]);
-    if bytes[0] != 0x43 || bytes.len() - 2 < count || count as u64 > limit {
-        return 0;
-    }
-    count + 2
 }
 
-impl Gathering {
-    /// Skips a SHORT_BINBYTES in the bytes that the source shows, and returns the length of its
-    /// payload.
-    #[inline]
-    pub(crate) fn skip_short<R: Source>(&mut self, source: &mut R) -> Option<u64>
-        ensures keeps { KeepsRest self.old self.new }
-        ensures some { IfSome result (λ count. SkipsShort self.old.limits.passed count
-            (intake R.left R.failures source.old self.old)
-            (intake R.left R.failures source.new self.new)) }
-        ensures same { IfNone result (self.new ≡ self.old) }
-        ensures none { IfNone result
-            (sight R.left R.failures source.new ≡ sight R.left R.failures source.old) }
-    {
-        let length = byte_string_in(source.ahead(), self.limit_skipped());
-        if length == 0 {
-            return None;
-        }
-        if !self.take_unheld(source, length) {
-            return None;
-        }
-        Some(length as u64 - 2)
+#[inline(never)]
+fn first_line_slowly(bytes: &[u8]) -> usize
+    ensures { (code most : ℕ) (line behind : List ℕ) → IsLine most line
+        → bytes.now ≡ code ∷ (line ++ line_feed ∷ behind) → result ≡ length line }
+{
+    if bytes.len() == 0 {
+        return 0;
+    }
+    match end_of_line(&bytes[1..]) {
+        Some(end) => end,
+        None => 0,
     }
 }

@@ -6,7 +6,7 @@ ghost use Rattle.pkread.specs.Rows.{all_bytes, sight};
 ghost use Rattle.pkread.specs.Held.{most_held, none_held};
 ghost use Rattle.pkread.specs.Private.Progress.{KeepsRest, intake};
 ghost use Rattle.pkread.specs.Private.Taking.{ReadsByte, ReadsNone, TakesAll, TakesBlock};
-ghost use Rattle.pkread.specs.Private.Taking.{TakesByte, TookUnheld};
+ghost use Rattle.pkread.specs.Private.Taking.{TakesByte};
 
 use crate::buffer::Buffer;
 use crate::refusal::Reason;
@@ -52,6 +52,13 @@ impl Gathering {
         ensures { result ≡ self.now.taken }
     {
         self.taken
+    }
+
+    #[inline]
+    pub(crate) fn limits(&self) -> &Limits
+        ensures { result.now ≡ self.now.limits }
+    {
+        &self.limits
     }
 
     /// The limit on a payload that is held.
@@ -241,29 +248,6 @@ impl Gathering {
             return Ok(());
         }
         self.take_rest(source, count - n)
-    }
-
-    /// Takes `count` bytes that are at hand and holds none of them, if none is held before.
-    #[inline]
-    pub(crate) fn take_unheld<R: Source>(&mut self, source: &mut R, count: usize) -> bool
-        requires { count ≤ R.at_hand source.old }
-        ensures keeps { KeepsRest self.old self.new }
-        ensures took { result ≡ true → TookUnheld count
-            (intake R.left R.failures source.old self.old)
-            (intake R.left R.failures source.new self.new) }
-        ensures same { result ≡ false → self.new ≡ self.old }
-        ensures none { result ≡ false →
-            sight R.left R.failures source.new ≡ sight R.left R.failures source.old }
-    {
-        if self.first().is_some() {
-            return false;
-        }
-        let Some(taken) = self.taken.checked_add(count as u64) else {
-            return false;
-        };
-        source.advance(count);
-        self.taken = taken;
-        true
     }
 
     /// Takes `count` bytes. Short reads and payloads above a block are rare, so the loop is out of

@@ -9,7 +9,7 @@ ghost use Rattle.pkops.specs.declared.Layout.TheVariants as layout;
 ghost use Rattle.pkread.specs.Core.{AtMostOneAhead};
 ghost use Rattle.pkread.specs.Held.{most_held};
 ghost use Rattle.pkread.specs.Private.Progress.{intake, intake_start};
-ghost use Rattle.pkread.specs.Private.Skipping.{GathersHead, RisesLittle, SkipsAll, SkipsArgument};
+ghost use Rattle.pkread.specs.Private.Skipping.{RisesLittle, SkipsAll, SkipsArgument};
 ghost use Rattle.pkread.specs.Private.Skipping.{TakesHead};
 
 use crate::arms::Count;
@@ -147,24 +147,8 @@ impl Gathering {
     }
 
     /// Takes bytes until they spell an instruction, as `gather` does, but holds no byte payload.
-    pub(crate) fn gather_head<R: Source>(&mut self, source: &mut R) -> Result<Gathered, Reason>
-        requires { AtMostOneAhead self.old.buffer.bytes self.old.taken }
-        ensures { GathersHead result self.old self.new
-            (intake_start R.left R.failures source.old self.old)
-            (intake R.left R.failures source.new self.new) }
-    {
-        let Some(count) = self.skip_short(source) else {
-            return self.gather_any_head(source);
-        };
-        Ok(Gathered::Skipped {
-            op: Op::ShortBinBytes,
-            count,
-        })
-    }
-
-    /// Takes an instruction of any length from any source: first the code, then what it needs.
     #[inline(always)]
-    fn gather_any_head<R: Source>(&mut self, source: &mut R) -> Result<Gathered, Reason>
+    pub(crate) fn gather_head<R: Source>(&mut self, source: &mut R) -> Result<Gathered, Reason>
         requires { AtMostOneAhead self.old.buffer.bytes self.old.taken }
         ensures limits { self.new.limits ≡ self.old.limits }
         ensures least { self.old.buffer.peak ≤ self.new.buffer.peak }

@@ -4,7 +4,8 @@ ghost use Rattle.pkread.specs.Again.{NoByteIsRefused};
 ghost use Rattle.pkread.specs.Framing.{CountingIsExact};
 ghost use Rattle.pkread.specs.Pieces.{FramesBreak, FramesGoOn, FramesHold};
 ghost use Rattle.pkread.specs.Run.{EndIsRead, EndOfHeads, HeadIsRead, NextIsRead, PassedIsRead};
-ghost use Rattle.pkread.specs.Run.{ReadingBegins, ReadingGoesOn, RefusalIsRead, RefusalOfHeads};
+ghost use Rattle.pkread.specs.Run.{PeekedIsRead, ReadingBegins, ReadingGoesOn, RefusalIsRead};
+ghost use Rattle.pkread.specs.Run.{RefusalOfHeads};
 ghost use Rattle.pkread.specs.Rows.{TakingLaws};
 ghost use Rattle.pkread.specs.Sequences.{OneFront, OneSequence, SequenceGoesOn};
 ghost use Rattle.pkread.specs.Walked.{EndIsWalked, ItemIsWalked, RefusalIsWalked, WalkBegins};
@@ -24,6 +25,7 @@ pub fn framed()
 pub fn nexts()
     ensures begins { ReadingBegins }
     ensures given { NextIsRead }
+    ensures peeked { PeekedIsRead }
     ensures ended { EndIsRead }
     ensures refused { RefusalIsRead }
 {}
@@ -33,6 +35,7 @@ pub fn nexts()
 pub fn heads()
     ensures begins { ReadingBegins }
     ensures given { HeadIsRead }
+    ensures peeked { PeekedIsRead }
     ensures passed { PassedIsRead }
     ensures ended { EndOfHeads }
     ensures refused { RefusalOfHeads }

@@ -181,10 +181,10 @@ impl<'r, R: Source> Reader<'r, R> {
         }
     }
 
-    /// The next instruction, lent from where it lies in memory, if the source has all of it at hand.
-    /// It is neither STOP nor FRAME, it has at most 257 bytes, and its opcode is not a passed one.
-    /// Nothing is taken: call `advance` with its length, or `next` or `next_head`, which return every
-    /// instruction, this one too. `None` says nothing about the source.
+    /// The next instruction, lent from where it lies in memory, if the source has all of it at
+    /// hand. The limit on its payload is that of `next_head`. It is neither STOP nor FRAME, it has
+    /// at most 131,075 bytes, and a line of it at most 255. Nothing is taken: call `advance` with
+    /// its length, or a call that returns every instruction. `None` says nothing about the source.
     #[inline(always)]
     pub fn peek(&self) -> Option<Inst<'_>>
         ensures next { IfSome result (λ inst. IsNext (state R.left R.failures self.now)
@@ -195,17 +195,17 @@ impl<'r, R: Source> Reader<'r, R> {
             return None;
         }
         let bytes = self.source.ahead();
-        let Some(front) = front_of(bytes, self.core.limit_held()) else {
+        let Some(front) = front_of(bytes, self.core.limits()) else {
             return None;
         };
         if !stays_open(front.op) || !self.core.has_room(front.length) {
             return None;
         }
-        Some(Inst::spelled(front.op, 0, &bytes[..front.length]))
+        Some(Inst::spelled(front.op, front.split, &bytes[..front.length]))
     }
 
-    /// Takes the instruction that `peek` returned, which has `count` bytes. The reader and its
-    /// source are then as after `next` or `next_head`.
+    /// Takes the instruction that `peek` returned, which has `count` bytes. Its source is then as
+    /// after `next` or `next_head`.
     #[inline(always)]
     pub fn advance(&mut self, count: usize)
         requires next { (i : Instruction) × IsNext (state R.left R.failures self.old)

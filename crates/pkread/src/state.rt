@@ -112,12 +112,11 @@ impl Core {
         self.gathering.most()
     }
 
-    /// The limit on a payload that is held.
     #[inline(always)]
-    pub(crate) fn limit_held(&self) -> u64
-        ensures { result ≡ self.now.limits.counted }
+    pub(crate) fn limits(&self) -> &Limits
+        ensures { result.now ≡ self.now.limits }
     {
-        self.gathering.limit_held()
+        self.gathering.limits()
     }
 
     /// Whether an instruction is read next, and none of it was read ahead.
@@ -146,7 +145,7 @@ impl Core {
         requires open { self.old.phase ≡ phase.Open }
         requires none { self.old.ahead ≡ [] }
         requires within { self.old.taken + count ≤ all_bytes }
-        requires few { count ≤ 257 }
+        requires few { count ≤ 131_075 }
         ensures { self.new ≡ record self.old {
           held = record self.old.held { peak = max self.old.held.peak count };
           taken = self.old.taken + count;

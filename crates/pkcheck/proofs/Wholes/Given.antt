@@ -9,12 +9,12 @@ use Rattle.pkops.specs.declared.Inst.{Inst}
 use Rattle.pkops.specs.declared.Op.{Op}
 use Rattle.pkops.specs.declared.Op.TheVariants as op
 use Rattle.pkread.specs.Admission.{IsAllowedBy}
-use Rattle.pkread.specs.Core.{Open, Phase, phase_after}
-use Rattle.pkread.specs.Heads.{GivesHead, IsSkipped, StepsHead, StepsHeadFrom}
+use Rattle.pkread.specs.Core.{Open, phase_after}
+use Rattle.pkread.specs.Heads.{IsSkipped, StepsHead}
 use Rattle.pkread.specs.Peek.{IsNext, PassesOver}
-use Rattle.pkread.specs.Reading.{Gives, GivesNext, ReaderState, Steps, StepsFrom}
+use Rattle.pkread.specs.Reading.{Gives, ReaderState, Steps}
 use Rattle.pkread.specs.Rows.{Refuses, Sight, Takes, unread}
-use Rattle.pkread.specs.Run.{HeadIsRead, HoldsTo, NextIsRead, PassedIsRead, PassesTo, Reads, ReadsMore, RefusalIsRead, RefusalOfHeads}
+use Rattle.pkread.specs.Run.{HeadIsRead, HoldsTo, NextIsRead, PassedIsRead, PassesTo, PeekedIsRead, Reads, ReadsMore, RefusalIsRead, RefusalOfHeads}
 use Rattle.pkread.specs.Sequence.{NoStop}
 use Rattle.pkread.specs.declared.Head.{Head}
 use Rattle.pkread.specs.declared.Head.TheVariants as head
@@ -79,14 +79,6 @@ module _ (start : Sight) (from : ℕ) (limits : Bounds) (p : List Instruction) (
       pub took_next : NextIsRead → (r : Result Next Refusal) (at : ℕ) (i : Inst) → Steps s r t → r ≡ Ok (next.Inst at i) → Took at (instruction_of i) t
       took_next law r at i k e = gave at (instruction_of i) t k.0 (law start from (payload_limit limits) p s t r at i holds reads k e)
 
-      -- for `peek` and `advance`, which do what `next` does
-      pub took_lent : NextIsRead → (at count : ℕ) (i : Inst) → at ≡ s.taken → IsNext s count (instruction_of i) → PassesOver s (instruction_of i) t → Took at (instruction_of i) t
-      took_lent law at count i place shown over =
-          let r : Result Next Refusal = Ok (next.Inst at i) in
-          let gives : GivesNext s t (next.Inst at i) = subst (λ m. Gives s m (instruction_of i) t) (sym place) over.gives in
-          let steps : Steps s r t = (over.limits, subst (λ (p : Phase). StepsFrom p s r t) (sym shown.phase) gives) in
-          took_next law r at i steps refl
-
       pub refused_next : RefusalIsRead → (r : Result Next Refusal) (x : Refusal) → Steps s r t → r ≡ Err x → Turned x t
       refused_next law r x k e =
           let w = law start from (payload_limit limits) p s t r x reads k e in
@@ -100,13 +92,19 @@ module _ (start : Sight) (from : ℕ) (limits : Bounds) (p : List Instruction) (
     pub took_head : HeadIsRead → (r : Result Head Refusal) (at : ℕ) (i : Inst) → StepsHead s r t → r ≡ Ok (head.Inst at i) → Took at (instruction_of i) t
     took_head law r at i k e = gave at (instruction_of i) t k.0 (law start from (payload_limit limits) p s t r at i passes reads k e)
 
-    -- for `peek` and `advance`, which do what `next_head` does
-    pub took_peeked : HeadIsRead → (at count : ℕ) (i : Inst) → at ≡ s.taken → IsNext s count (instruction_of i) → PassesOver s (instruction_of i) t → Took at (instruction_of i) t
+    -- for `peek` and `advance`
+    pub took_peeked : PeekedIsRead → (at count : ℕ) (i : Inst) → at ≡ s.taken → IsNext s count (instruction_of i) → PassesOver s (instruction_of i) t → Took at (instruction_of i) t
     took_peeked law at count i place shown over =
-        let r : Result Head Refusal = Ok (head.Inst at i) in
-        let gives : GivesHead s t (head.Inst at i) = (subst (λ m. Gives s m (instruction_of i) t) (sym place) over.gives, shown.kept, over.few) in
-        let steps : StepsHead s r t = (over.limits, subst (λ (p : Phase). StepsHeadFrom p s r t) (sym shown.phase) gives) in
-        took_head law r at i steps refl
+        let more = law start from (payload_limit limits) p s t count (instruction_of i) passes reads shown over in
+        record {
+          more = more;
+          same_limits = over.limits;
+          place = place;
+          allowed = last_of (IsAllowedBy (payload_limit limits)) p (instruction_of i) more.reads.each;
+          bytes = over.bytes;
+          taken = over.taken;
+          phase = over.phase ∙ sym shown.goes_on;
+        }
 
     open_after : (o : Op) → IsTrue (is_passed o) → Open ≡ phase_after o
     open_after op.Stop h = cc

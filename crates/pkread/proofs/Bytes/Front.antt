@@ -1,33 +1,33 @@
 -- The instruction at the front of the bytes that a source has at hand.
-use Rattle.std.proofs.Common.{◌≡◌, ℕ, suc, zero, ◌+◌, ◌-◌, ◌<◌, ◌≤◌, false, true, List, [], ◌∷◌, ◌++◌, length, take, drop, get_or, Option, None, Some, refl, sym, ap, subst, ◌∙◌, arith, append_assoc}
-use Rattle.std.specs.Prelude.{◌≢◌, ◌==◌, position}
-use Rattle.std.specs.List.{AllByRecursion}
+use Rattle.std.proofs.Common.{◌≡◌, ℕ, suc, zero, ◌+◌, ◌-◌, ◌*◌, ◌<◌, ◌≤◌, Bool, false, true, List, [], ◌∷◌, ◌++◌, length, take, drop, get_or, Option, None, Some, refl, sym, ap, subst, ◌∙◌, arith, append_assoc, length-append}
+use Rattle.std.specs.Prelude.{◌≢◌, ◌==◌, position, slice_index}
+use Rattle.std.specs.List.{AllByRecursion, position_or_len}
 use Rattle.std.specs.Io.KnownBytes.{Consumes}
 use Rattle.std.specs.Str.{IsUtf8}
-use Rattle.std.proofs.lemmas.List.{length-take, take-append-drop, take-append-le, take-take, take_at, take_more}
+use Rattle.std.proofs.Math.Seq.{take-add}
+use Rattle.std.proofs.lemmas.List.{get_or-take, length-drop, length-take, take-append-drop, take-append-le, take-take, take_all, take_at, take_more}
 use Rattle.std.proofs.lemmas.List.Quantifiers.{position-Some}
-use Rattle.std.proofs.lemmas.Bool.Decides.{nat_tests}
+use Rattle.std.proofs.lemmas.Bool.Decides.{Decides-ltb, nat_tests}
+use Rattle.byteorder.specs.Endian.{little_from}
+use Rattle.byteorder.specs.Numbers.{little_from-lt}
+use Rattle.pkops.specs.Contents.{IsGood, Keeps, rule_of}
 use Rattle.pkops.specs.Growth.{CountLaws, FieldLaws}
-use Rattle.pkops.specs.Lying.{IsFixed, Lies, count_in, field_len}
-use Rattle.pkops.specs.Payloads.{is_passed}
-use Rattle.pkops.specs.Contents.{IsGood}
-use Rattle.pkops.specs.Spelling.{Counted, Line, Suits, instruction, layout_at, line_feed}
+use Rattle.pkops.specs.Lying.{AreBytes, IsFixed, Lies, count_in, field_len}
+use Rattle.pkops.specs.Spelling.{Argument, Counted, Float, IsLine, Line, Nothing, Number, Pair, Signed, Suits, count_limit, instruction, layout_at, line_feed, size_of}
 use Rattle.pkops.specs.Table.{code_of}
 use Rattle.pkops.specs.declared.Layout.{Layout}
 use Rattle.pkops.specs.declared.Layout.TheVariants as layout
+use Rattle.pkops.specs.declared.Width.{Width}
 use Rattle.pkops.specs.declared.Width.TheVariants as width
 use Rattle.pkops.specs.declared.Op.{Op}
-use Rattle.pkops.specs.declared.Op.TheVariants as op
-use Rattle.pkread.proofs.Bytes.Plain.{not_passed, takes_any, takes_utf8}
-use Rattle.pkread.proofs.Bytes.Skipped.{passed_admitted}
+use Rattle.pkread.proofs.Bytes.Plain.{any_rule, takes_any, text_admitted, text_rule}
 use Rattle.pkread.proofs.Bytes.Taken.{AreBytes-take}
-use Rattle.pkread.proofs.Bytes.Texts.{line_admitted}
-use Rattle.pkread.specs.Private.Gathering.{HasFixedLength, IsFront}
-use Rattle.pkread.specs.Private.Progress.{GatheringView, Intake}
-use Rattle.pkread.specs.Private.Skipping.{IsByteString, SkipsShort}
-use Rattle.pkread.specs.Private.Taking.{AreAllBytes, TookUnheld}
+use Rattle.pkread.proofs.Bytes.Texts.{line_admitted, pair_admitted}
+use Rattle.pkread.specs.Private.Gathering.{HasFixedLength, IsFront, IsInFront}
+use Rattle.pkread.specs.Private.Judging.{is_plain}
+use Rattle.pkread.specs.Private.Taking.{AreAllBytes}
 use Rattle.pkread.specs.Pull.{BeginsWith, TakesCount}
-use Rattle.pkread.specs.Rows.{Sight, Takes, unread}
+use Rattle.pkread.specs.Rows.{Sight, Takes}
 
 -- a source that shows bytes shows their front
 pub begins_front : (n : ℕ) (left : Option (List ℕ)) (shown : List ℕ) → BeginsWith left shown →
@@ -57,10 +57,6 @@ pub takes_shown : (count : ℕ) (window : List ℕ) (old new : Sight) → Begins
 takes_shown count window old new h le t same =
     record { bytes = consumes_shown count window old.left new.left h le t; count = same }
 
--- an opcode with an argument of fixed length is held
-not_passed_fixed : (o : Op) → IsFixed (layout_at o) → is_passed o ≡ false
-not_passed_fixed o fixed = sym (not_passed o (λ size signed lay. absurd (rw lay at fixed)))
-
 field_few : (l : Layout) → field_len l ≤ 8
 field_few layout.Nothing = omega arith
 field_few layout.U1 = omega arith
@@ -78,7 +74,7 @@ field_few (layout.Counted width.Eight signed) = omega arith
 -- an opcode with an argument of fixed length, of which all are good
 pub fixed_front : FieldLaws → (limit n : ℕ) (o : Op) (bytes : List ℕ) → HasFixedLength o n →
     AreAllBytes bytes → n ≤ length bytes → code_of o ≡ get_or bytes 0 0 →
-    IsFront limit o n bytes
+    IsInFront limit o n bytes
 fixed_front fields limit n o [] h fits room code = absurd (omega (arith, room, h.length_is))
 fixed_front fields limit n o (x ∷ rest) h fits room code =
     let size = field_len (layout_at o) in
@@ -92,58 +88,80 @@ fixed_front fields limit n o (x ∷ rest) h fits room code =
     let same : suc size ≡ n = sym is in
     let lies : Lies limit o whole.0 0 (take n (x ∷ rest)) =
     subst (λ (m : ℕ). Lies limit o whole.0 0 (take m (x ∷ rest))) same (rw (← code) whole.1) in
-    record {
+    (0, record {
       found = record {
         arg = whole.0;
         lies = lies;
         good = record { suits = lies.laid.suits; contents = rw any.contents tt };
         admitted = any.admitted whole.0;
       };
-      kept = not_passed_fixed o h.fixed;
       few = omega (arith, is, few);
       within = room;
-    }
+    })
 
--- an opcode with a count of one byte
-counted_front : CountLaws → (limit : ℕ) (o : Op) (y : ℕ) (rest : List ℕ) →
-    layout_at o ≡ layout.Counted width.One false → AreAllBytes (y ∷ rest) → y ≤ limit →
-    y ≤ length rest → Lies limit o (Counted (take y rest)) 0 (code_of o ∷ y ∷ take y rest)
-counted_front counts limit o y rest lay fits within enough =
-    let is : count_in width.One (y ∷ []) ≡ y = omega arith in
-    let small : y < 256 = fits 0 in
-    counts.whole limit o width.One false (y ∷ []) (take y rest)
-    (record { lay = lay; len = refl }) (AreBytes-take (suc y) (y ∷ rest) fits)
-    (omega (arith, is, small)) (omega (arith, is, within))
-    (omega (arith, is, enough, length-take y rest))
+-- the number in the first bytes doesn't depend on those behind them
+number_take : (i n k : ℕ) (xs : List ℕ) → i + n ≤ k →
+    little_from i n (take k xs) ≡ little_from i n xs
+number_take i zero k xs le = refl
+number_take i (suc n) k xs le =
+    ap (λ x. x + 256 * little_from (suc i) n (take k xs))
+    (get_or-take k xs i 0 (omega (arith, le)))
+    ∙ ap (λ x. slice_index xs i + 256 * x) (number_take (suc i) n k xs (omega (arith, le)))
 
--- a text that is UTF-8
-pub text_front : CountLaws → (limit count : ℕ) (bytes : List ℕ) → AreAllBytes bytes →
-    2 ≤ length bytes → get_or bytes 0 0 ≡ 140 → get_or bytes 1 0 ≡ count →
-    count + 2 ≤ length bytes → count ≤ limit → IsUtf8 (take count (drop 2 bytes)) →
-    IsFront limit op.ShortBinUnicode (count + 2) bytes
-text_front counts limit count [] fits room code is enough within h = absurd (omega (arith, room))
-text_front counts limit count (x ∷ []) fits room code is enough within h =
-    absurd (omega (arith, room))
-text_front counts limit count (x ∷ y ∷ rest) fits room code is enough within h =
-    let e : count + 2 ≡ suc (suc count) = omega arith in
-    let small : y < 256 = fits 1 in
-    let lay : layout_at op.ShortBinUnicode ≡ layout.Counted width.One false = refl in
-    let front = counted_front counts limit op.ShortBinUnicode y rest lay (λ i. fits (suc i))
-    (omega (arith, is, within)) (omega (arith, is, enough)) in
-    let lies : Lies limit op.ShortBinUnicode (Counted (take count rest)) 0
-    (take (count + 2) (x ∷ y ∷ rest)) = rw (e, code, ← is) front in
-    let text = takes_utf8 op.ShortBinUnicode width.One false refl refl in
-    record {
+-- a payload that is good for its opcode
+payload_keeps : (o : Op) (size : Width) (payload : List ℕ) (plain : Bool) →
+    layout_at o ≡ layout.Counted size false → is_plain o ≡ plain →
+    (is_plain o ≡ false → IsUtf8 payload) → Keeps (rule_of o) (Counted payload)
+payload_keeps o size payload true lay e good = rw (any_rule o e) tt
+payload_keeps o size payload false lay e good = rw (text_rule o size false lay e) (good e)
+
+-- a payload that is good and within the limit
+pub counted_front : CountLaws → (limit n : ℕ) (o : Op) (size : Width) (bytes : List ℕ) →
+    layout_at o ≡ layout.Counted size false → AreAllBytes bytes → code_of o ≡ get_or bytes 0 0 →
+    size_of size + 1 ≤ length bytes → count_in size (drop 1 bytes) ≤ limit →
+    n ≡ size_of size + 1 + count_in size (drop 1 bytes) → n ≤ length bytes → n ≤ 131_075 →
+    (is_plain o ≡ false → IsUtf8 (take (n - (size_of size + 1)) (drop (size_of size + 1) bytes))) →
+    IsInFront limit o n bytes
+counted_front counts limit n o size [] lay fits code head within is room few good =
+    absurd (omega (arith, head))
+counted_front counts limit n o size (x ∷ rest) lay fits code head within is room few good =
+    let k = size_of size in
+    let count = count_in size rest in
+    let field = take k rest in
+    let payload = take count (drop k rest) in
+    let same : count_in size field ≡ count = number_take 0 k k rest (omega arith) in
+    let whole : take (k + count) rest ≡ field ++ payload = take-add k count rest in
+    let behind : AreAllBytes rest = λ i. fits (suc i) in
+    let long : length field ≡ k = omega (arith, length-take k rest, head) in
+    let all : length payload ≡ count =
+    omega (arith, length-take count (drop k rest), length-drop k rest, is, room, head) in
+    let small : count < count_limit size false = little_from-lt 0 k rest behind in
+    let front = counts.whole limit o size false field payload
+    (record { lay = lay; len = long })
+    (subst (λ (l : List ℕ). AreBytes l) whole (AreBytes-take (k + count) rest behind))
+    (omega (arith, same, small)) (omega (arith, same, within)) (omega (arith, same, all)) in
+    let e : n ≡ suc (k + count) = omega (arith, is) in
+    let spelled : code_of o ∷ (field ++ payload) ≡ take n (x ∷ rest) =
+    rw (e, code) (ap (λ (l : List ℕ). x ∷ l) (sym whole)) in
+    let lies : Lies limit o (Counted payload) 0 (take n (x ∷ rest)) =
+    subst (λ (l : List ℕ). Lies limit o (Counted payload) 0 l) spelled front in
+    let left : n - (k + 1) ≡ count = omega (arith, is) in
+    let head_is : k + 1 ≡ suc k = omega arith in
+    let good' : is_plain o ≡ false → IsUtf8 (take (n - (k + 1)) (drop k rest)) =
+    λ e. subst (λ (m : ℕ). IsUtf8 (take (n - (k + 1)) (drop m (x ∷ rest)))) head_is (good e) in
+    (0, record {
       found = record {
-        arg = Counted (take count rest);
+        arg = Counted payload;
         lies = lies;
-        good = record { suits = lies.laid.suits; contents = h };
-        admitted = text.admitted (Counted (take count rest));
+        good = record {
+          suits = lies.laid.suits;
+          contents = payload_keeps o size payload (is_plain o) lay refl (subst (λ (m : ℕ). is_plain o ≡ false → IsUtf8 (take m (drop k rest))) left good');
+        };
+        admitted = text_admitted o size false (Counted payload) lay;
       };
-      kept = refl;
-      few = omega (arith, is, small);
-      within = enough;
-    }
+      few = few;
+      within = room;
+    })
 
 -- a line has no line feed before its end
 no_feed : (xs : List ℕ) (n : ℕ) → n ≤ length xs →
@@ -156,39 +174,52 @@ no_feed (x ∷ xs) (suc n) le h = (
   no_feed xs n (omega (arith, le)) (λ k lt. h (suc k) (omega (arith, lt))),
 )
 
--- a line that ends in the bytes behind the code
-module _ (o : Op) (most end : ℕ) (line : List ℕ) (lay : layout_at o ≡ layout.Line most)
+-- the first line feed of some bytes, with as many bytes behind it as are at hand
+module _ (most end : ℕ) (line : List ℕ)
     (found : position (λ (byte : ℕ). byte == 10) line ≡ Some end) (short : end ≤ most) where
   ends : (end < length line) × ((get_or line end 0 == 10) ≡ true)
       × ((k : ℕ) → k < end → (get_or line k 0 == 10) ≡ false)
   ends = position-Some (λ (byte : ℕ). byte == 10) line end 0 found
 
-  pub front_suits : Suits (layout_at o) (Line (take end line))
-  front_suits =
+  pub is_line : IsLine most (take end line)
+  is_line =
       let inside = ends.0 in
-      rw lay (record {
+      record {
         short = omega (arith, length-take end line, short);
         whole = no_feed line end (omega (arith, inside)) ends.2;
-      })
+      }
+
+  -- the line and its line feed
+  pub line_whole : (count : ℕ) (rest : List ℕ) → line ≡ take count rest →
+      (take (end + 1) rest ≡ take end line ++ line_feed ∷ []) × (end + 1 ≤ count)
+      × (end + 1 ≤ length rest)
+  line_whole count rest is =
+      let inside = ends.0 in
+      let feed : get_or line end 0 ≡ 10 = grind (arith, nat_tests, ends.1) in
+      let long : length line ≡ length (take count rest) = ap length is in
+      let low : end + 1 ≤ count = omega (arith, inside, long, length-take count rest) in
+      let high : end + 1 ≤ length rest = omega (arith, inside, long, length-take count rest) in
+      (sym (take-take (end + 1) count rest low)
+          ∙ (ap (take (end + 1)) (sym is)
+          ∙ (take_more line end 0 inside ∙ ap (λ b. take end line ++ b ∷ []) feed)), low, high)
+
+-- a line that ends in the bytes behind the code
+module _ (o : Op) (most end : ℕ) (line : List ℕ) (lay : layout_at o ≡ layout.Line most)
+    (found : position (λ (byte : ℕ). byte == 10) line ≡ Some end) (short : end ≤ most) where
+  pub front_suits : Suits (layout_at o) (Line (take end line))
+  front_suits = rw lay (is_line most end line found short)
 
   line_at : (x count : ℕ) (rest : List ℕ) → code_of o ≡ x → line ≡ take count rest →
       count ≤ 256 → IsGood (instruction o (Line (take end line))) → (limit : ℕ) →
-      IsFront limit o (end + 2) (x ∷ rest)
+      IsInFront limit o (end + 2) (x ∷ rest)
   line_at x count rest code is few good limit =
-      let inside = ends.0 in
-      let feed : get_or line end 0 ≡ 10 = grind (arith, nat_tests, ends.1) in
-      let long : (length line ≤ count) × (length line ≤ length rest) =
-      (omega (arith, ap length is, length-take count rest), omega (arith, ap length is, length-take count rest)) in
-      let low = long.0 in
-      let high = long.1 in
+      let whole = line_whole most end line found short count rest is in
+      let low = whole.1 in
+      let high = whole.2 in
       let e : end + 2 ≡ suc (end + 1) = omega arith in
-      let behind : take (end + 1) rest ≡ take end line ++ line_feed ∷ [] =
-      sym (take-take (end + 1) count rest (omega (arith, inside, low)))
-      ∙ (ap (take (end + 1)) (sym is)
-      ∙ (take_more line end 0 inside ∙ ap (λ b. take end line ++ b ∷ []) feed)) in
       let spelled : take (end + 2) (x ∷ rest) ≡ code_of o ∷ (take end line ++ line_feed ∷ []) =
-      rw (e, code) (ap (λ (l : List ℕ). x ∷ l) behind) in
-      record {
+      rw (e, code) (ap (λ (l : List ℕ). x ∷ l) whole.0) in
+      (0, record {
         found = record {
           arg = Line (take end line);
           lies = record {
@@ -199,75 +230,125 @@ module _ (o : Op) (most end : ℕ) (line : List ℕ) (lay : layout_at o ≡ layo
           good = good;
           admitted = line_admitted o most (Line (take end line)) lay;
         };
-        kept = sym (not_passed o (λ size signed l. let c = sym lay ∙ l in absurd cc));
-        few = omega (arith, inside, low, few);
-        within = omega (arith, inside, high);
-      }
+        few = omega (arith, low, few);
+        within = omega (arith, high);
+      })
 
   pub line_front : (count : ℕ) (bytes : List ℕ) → 0 < length bytes →
       code_of o ≡ get_or bytes 0 0 → line ≡ take count (drop 1 bytes) → count ≤ 256 →
       IsGood (instruction o (Line (take end line))) → (limit : ℕ) →
-      IsFront limit o (end + 2) bytes
+      IsInFront limit o (end + 2) bytes
   line_front count [] some code is few good limit = absurd (omega (arith, some))
   line_front count (x ∷ rest) some code is few good limit =
       line_at x count rest code is few good limit
 
--- a byte string
-pub bytes_short : CountLaws → (limit count : ℕ) (bytes : List ℕ) → AreAllBytes bytes →
-    2 ≤ length bytes → get_or bytes 0 0 ≡ 67 → get_or bytes 1 0 ≡ count →
-    count + 2 ≤ length bytes → count ≤ limit → IsByteString limit (count + 2) bytes
-bytes_short counts limit count [] fits room code is enough within = absurd (omega (arith, room))
-bytes_short counts limit count (x ∷ []) fits room code is enough within =
-    absurd (omega (arith, room))
-bytes_short counts limit count (x ∷ y ∷ rest) fits room code is enough within =
-    let e : count + 2 ≡ suc (suc count) = omega arith in
-    let lay : layout_at op.ShortBinBytes ≡ layout.Counted width.One false = refl in
-    let front = counted_front counts limit op.ShortBinBytes y rest lay (λ i. fits (suc i))
-    (omega (arith, is, within)) (omega (arith, is, enough)) in
-    record {
-      payload = take count rest;
-      count_is = omega (arith, enough, length-take count rest);
-      lies = rw (e, code, ← is) front;
-      within = enough;
-    }
+-- two lines that end in the bytes behind the code
+module _ (o : Op) (most first second : ℕ) (lines behind : List ℕ)
+    (lay : layout_at o ≡ layout.Pair most)
+    (found : position (λ (byte : ℕ). byte == 10) lines ≡ Some first) (short : first ≤ most)
+    (found' : position (λ (byte : ℕ). byte == 10) behind ≡ Some second)
+    (short' : second ≤ most) where
+  pub pair_suits : Suits (layout_at o) (Pair (take first lines) (take second behind))
+  pair_suits =
+      rw lay (is_line most first lines found short, is_line most second behind found' short')
 
--- where nothing was read ahead, an instruction begins with the next byte
-pub string_starts : (bytes : List ℕ) (source : Sight) (taken : ℕ) (new : Intake)
-    (limit count : ℕ) →
-    SkipsShort limit count (record { bytes = bytes; source = source; taken = taken }) new →
-    SkipsShort limit count (record { bytes = []; source = unread bytes source; taken = taken }) new
-string_starts [] source taken new limit count s = s
-string_starts (x ∷ bytes) source taken new limit count s = let none = s.none in absurd cc
-
--- a byte string that a source shows was skipped
-pub string_skipped : (limit n : ℕ) (ahead : List ℕ) (old new : Intake) →
-    IsByteString limit n ahead → BeginsWith old.source.left ahead → TookUnheld n old new →
-    SkipsShort limit (n - 2) old new
-string_skipped limit n ahead old new s h t =
-    let long = s.count_is in
-    let enough = s.within in
-    let e = s.lies.spelled in
-    let takes = takes_shown n ahead old.source new.source h s.within t.taken t.failures in
-    record {
-      none = t.none;
-      held = t.held;
-      passes = record {
-        payload = s.payload;
-        one = record {
-          passed = refl;
-          count_is = omega (arith, long);
-          allowed = record {
-            good = record { suits = s.lies.laid.suits; contents = tt };
-            within = s.lies.laid.within;
-            admitted = passed_admitted op.ShortBinBytes (Counted s.payload) refl;
+  pair_at : (x count more : ℕ) (rest : List ℕ) → code_of o ≡ x → lines ≡ take count rest →
+      behind ≡ take more (drop (first + 1) lines) → count ≤ 256 →
+      IsGood (instruction o (Pair (take first lines) (take second behind))) → (limit : ℕ) →
+      IsInFront limit o (first + second + 3) (x ∷ rest)
+  pair_at x count more rest code is is' few good limit =
+      let one = line_whole most first lines found short count rest is in
+      let two = line_whole most second behind found' short' more (drop (first + 1) lines) is' in
+      let low = two.2 in
+      let len : length (drop (first + 1) lines) ≡ length lines - (first + 1) =
+      length-drop (first + 1) lines in
+      let long : length lines ≡ length (take count rest) = ap length is in
+      let both : first + 1 + (second + 1) ≤ length lines = omega (arith, low, len, one.1) in
+      let cut : take (first + 1 + (second + 1)) rest ≡ take (first + 1 + (second + 1)) lines =
+      sym (take-take (first + 1 + (second + 1)) count rest
+      (omega (arith, both, long, length-take count rest)))
+      ∙ ap (take (first + 1 + (second + 1))) (sym is) in
+      let front : take (first + 1) lines ≡ take first lines ++ line_feed ∷ [] =
+      (line_whole most first lines found short (length lines) lines
+      (sym (take_all (length lines) lines (omega arith)))).0 in
+      let halves : take (first + 1 + (second + 1)) lines
+      ≡ (take first lines ++ line_feed ∷ []) ++ (take second behind ++ line_feed ∷ []) =
+      take-add (first + 1) (second + 1) lines
+      ∙ (ap (λ l. l ++ take (second + 1) (drop (first + 1) lines)) front
+      ∙ ap (λ l. (take first lines ++ line_feed ∷ []) ++ l) two.0) in
+      let e : first + second + 3 ≡ suc (first + 1 + (second + 1)) = omega arith in
+      let spelled : take (first + second + 3) (x ∷ rest)
+      ≡ code_of o ∷ ((take first lines ++ line_feed ∷ []) ++ (take second behind ++ line_feed ∷ []))
+      = rw (e, code) (ap (λ (l : List ℕ). x ∷ l) (cut ∙ halves)) in
+      (length (take first lines), record {
+        found = record {
+          arg = Pair (take first lines) (take second behind);
+          lies = record {
+            laid = record { suits = pair_suits; within = tt };
+            spelled = spelled;
+            split_is = refl;
           };
+          good = good;
+          admitted = pair_admitted o most (Pair (take first lines) (take second behind)) lay;
         };
-        bytes = rw e at takes;
-        taken = omega (arith, t.count_is, ap length e, length-take n ahead, enough);
-      };
-    }
+        few = omega (arith, both, long, length-take count rest, few);
+        within = omega (arith, both, long, length-take count rest);
+      })
 
--- what holds of a later state holds of the one before, where both are the same
-pub from_before : (P : GatheringView → Sight → Type 0) (old mid : GatheringView)
-    (first second : Sight) → mid ≡ old → second ≡ first → P mid second → P old first
-from_before P old mid first second same still h = rw (← same, ← still) h
+  pub pair_front : (count more : ℕ) (bytes : List ℕ) → 0 < length bytes →
+      code_of o ≡ get_or bytes 0 0 → lines ≡ take count (drop 1 bytes) →
+      behind ≡ take more (drop (first + 1) lines) → count ≤ 256 →
+      IsGood (instruction o (Pair (take first lines) (take second behind))) → (limit : ℕ) →
+      IsInFront limit o (first + second + 3) bytes
+  pair_front count more [] some code is is' few good limit = absurd (omega (arith, some))
+  pair_front count more (x ∷ rest) some code is is' few good limit =
+      pair_at x count more rest code is is' few good limit
+
+-- a line in front of its line feed is found
+feed_at : (line behind : List ℕ) → AllByRecursion (λ byte. byte ≢ line_feed) line →
+    position_or_len (λ (byte : ℕ). byte == 10) (line ++ 10 ∷ behind) ≡ length line
+feed_at [] behind h = refl
+feed_at (y ∷ line) behind h =
+    let other : (y == 10) ≡ false = grind (arith, nat_tests, h.0) in
+    let rest = feed_at line behind h.1 in
+    rw other (omega (arith, rest))
+
+feed_found : (line behind : List ℕ) → AllByRecursion (λ byte. byte ≢ line_feed) line →
+    position (λ (byte : ℕ). byte == 10) (line ++ 10 ∷ behind) ≡ Some (length line)
+feed_found line behind h =
+    let inside : length line < length (line ++ 10 ∷ behind) =
+    omega (arith, length-append line (10 ∷ behind)) in
+    let at = feed_at line behind h in
+    rw at (rw ((Decides-ltb (length line) (length (line ++ 10 ∷ behind))).1 inside) refl)
+
+-- and so is one behind a code
+pub feed_behind : (code : ℕ) (line behind bytes : List ℕ) →
+    bytes ≡ code ∷ (line ++ line_feed ∷ behind) →
+    AllByRecursion (λ byte. byte ≢ line_feed) line →
+    position (λ (byte : ℕ). byte == 10) (take (length bytes - 1) (drop 1 bytes))
+    ≡ Some (length line)
+feed_behind code line behind bytes e h =
+    let rest = line ++ 10 ∷ behind in
+    let all : take (length bytes - 1) (drop 1 bytes) ≡ rest =
+    ap (λ (b : List ℕ). take (length b - 1) (drop 1 b)) e
+    ∙ take_all (length (code ∷ rest) - 1) rest (omega arith) in
+    ap (position (λ (byte : ℕ). byte == 10)) all ∙ feed_found line behind h
+
+-- where the first of two lines ends, from where the first line feed stands
+pub split_is : (limit split most x : ℕ) (o : Op) (arg : Argument) (bytes : List ℕ) →
+    layout_at o ≡ layout.Pair most → Lies limit o arg split bytes →
+    ((code n : ℕ) (line behind : List ℕ) → IsLine n line →
+    bytes ≡ code ∷ (line ++ line_feed ∷ behind) → x ≡ length line) → x ≡ split
+split_is limit split most x o Nothing bytes lay l h = absurd (rw lay at l.laid.suits)
+split_is limit split most x o (Number w n) bytes lay l h = absurd (rw lay at l.laid.suits)
+split_is limit split most x o (Signed n) bytes lay l h = absurd (rw lay at l.laid.suits)
+split_is limit split most x o (Float f) bytes lay l h = absurd (rw lay at l.laid.suits)
+split_is limit split most x o (Line text) bytes lay l h = absurd (rw lay at l.laid.suits)
+split_is limit split most x o (Counted payload) bytes lay l h = absurd (rw lay at l.laid.suits)
+split_is limit split most x o (Pair first second) bytes lay l h =
+    let suits = rw lay at l.laid.suits in
+    let behind = second ++ line_feed ∷ [] in
+    let spelled : bytes ≡ code_of o ∷ (first ++ line_feed ∷ behind) =
+    l.spelled
+    ∙ ap (λ (m : List ℕ). code_of o ∷ m) (append_assoc first (line_feed ∷ []) behind) in
+    h (code_of o) most first behind suits.0 spelled ∙ sym l.split_is

@@ -33,12 +33,12 @@ plain_nothing op.Int e = cc
 plain_nothing _ e = cc
 
 -- a counted argument that does is a text
-text_rule : (o : Op) (size : Width) (signed : Bool) → layout_at o ≡ layout.Counted size signed →
+pub text_rule : (o : Op) (size : Width) (signed : Bool) → layout_at o ≡ layout.Counted size signed →
     is_plain o ≡ false → rule_of o ≡ rule.Utf8
 text_rule op.Int size signed lay e = cc
 text_rule _ size signed lay e = cc
 
-text_admitted : (o : Op) (size : Width) (signed : Bool) (arg : Argument) →
+pub text_admitted : (o : Op) (size : Width) (signed : Bool) (arg : Argument) →
     layout_at o ≡ layout.Counted size signed → objection (instruction o arg) ≡ None
 text_admitted op.Int size signed arg lay = cc
 text_admitted _ size signed arg lay = cc

@@ -69,6 +69,15 @@ line_admitted op.Ext2 most arg e = absurd cc
 line_admitted op.Ext4 most arg e = absurd cc
 line_admitted _ most arg e = refl
 
+-- and so are those with two
+pub pair_admitted : (o : Op) (most : ℕ) (arg : Argument) → layout_at o ≡ layout.Pair most →
+    objection (instruction o arg) ≡ None
+pair_admitted op.Proto most arg e = absurd cc
+pair_admitted op.Ext1 most arg e = absurd cc
+pair_admitted op.Ext2 most arg e = absurd cc
+pair_admitted op.Ext4 most arg e = absurd cc
+pair_admitted _ most arg e = refl
+
 module _ (most : ℕ) (o : Op) (old new : Intake) (e : old.bytes ≡ code_of o ∷ [])
     (lay : layout_at o ≡ layout.Line most) (s : TookLine most old new) where
   -- the line stands between the code and its end

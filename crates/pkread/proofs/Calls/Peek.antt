@@ -2,6 +2,7 @@
 use Rattle.std.proofs.Common.{◌≡◌, ℕ, ◌+◌, ◌≤◌, List, [], length, take, refl, sym, ap, ◌∙◌, subst, inl, arith}
 use Rattle.std.specs.Prelude.{max}
 use Rattle.std.proofs.lemmas.List.{length-take, take_all}
+use Rattle.pkops.specs.Payloads.{payload_limit}
 use Rattle.pkops.specs.Spelling.{Instruction, instruction, spelling}
 use Rattle.pkops.specs.declared.Op.{Op}
 use Rattle.pkread.proofs.Bytes.Front.{begins_front, takes_shown}
@@ -26,12 +27,13 @@ seen core source = record {
 }
 
 -- an instruction at the front of the bytes at hand is next
-pub is_next : (s : ReaderState) (count n : ℕ) (o : Op) (bytes : List ℕ) (j : Instruction)
-    (f : IsFront s.limits.counted o n bytes) → j ≡ instruction o f.found.arg → s.phase ≡ Open →
-    phase_after o ≡ Open → BeginsWith s.source.left bytes → length bytes ≤ count →
-    s.taken + n ≤ all_bytes → IsNext s count j
-is_next s count n o bytes j f same open' goes_on begins at_hand within =
+pub is_next : (s : ReaderState) (count split n : ℕ) (o : Op) (bytes : List ℕ) (j : Instruction)
+    (f : IsFront (payload_limit s.limits o) o split n bytes) → j ≡ instruction o f.found.arg →
+    s.phase ≡ Open → phase_after o ≡ Open → BeginsWith s.source.left bytes →
+    length bytes ≤ count → s.taken + n ≤ all_bytes → IsNext s count j
+is_next s count split n o bytes j f same open' goes_on begins at_hand within =
     let i : Instruction = instruction o f.found.arg in
+    let limit = payload_limit s.limits o in
     let e : take n bytes ≡ spelling i = f.found.lies.spelled in
     let enough = f.within in
     let few = f.few in
@@ -39,8 +41,7 @@ is_next s count n o bytes j f same open' goes_on begins at_hand within =
     rw same (record {
       phase = open';
       goes_on = goes_on;
-      allowed = is_allowed s.limits.counted (take n bytes) o i (found_gathered _ _ _ _ f.found) refl;
-      kept = f.kept;
+      allowed = is_allowed limit (take n bytes) o i (found_gathered _ _ _ _ f.found) refl;
       begins = rw e at (begins_front n s.source.left bytes begins);
       at_hand = omega (arith, long, enough, at_hand);
       within = omega (arith, long, within);
@@ -75,17 +76,11 @@ passes_over core new before after count n i none is next e takes same =
     let both = subst (λ (s : Sight). Takes s (unread core.ahead after) (spelling i))
     (seen_so core.ahead before none) first in
     let within = next.within in
-    let few = next.few in
     rw is (record {
       limits = refl;
-      gives = record {
-        place = refl;
-        allowed = next.allowed;
-        bytes = both;
-        taken = ap (λ m. core.taken + m) e;
-        within = omega (arith, e, within);
-        most = omega (arith, e);
-        phase = next.phase ∙ sym next.goes_on;
-      };
-      few = inl (omega (arith, e, few));
+      bytes = both;
+      taken = ap (λ m. core.taken + m) e;
+      within = omega (arith, e, within);
+      most = omega (arith, e);
+      phase = next.phase;
     })

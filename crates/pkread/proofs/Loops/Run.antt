@@ -15,7 +15,7 @@ use Rattle.pkread.specs.Core.{Phase, Open, Ended, Refused, phase_after}
 use Rattle.pkread.specs.Heads.{IsSkipped, Skips, RefusesHead, StepsHeadFrom}
 use Rattle.pkread.specs.Reading.{ReaderState, begun, Gives, RefusesAt, StepsFrom}
 pub use Rattle.pkread.specs.Run.{Reads, SoFar}
-use Rattle.pkread.specs.Run.{EndIsRead, EndOfHeads, HeadIsRead, NextIsRead, PassedIsRead, ReadingBegins, ReadingGoesOn, ReadsMore, RefusalIsRead, RefusalOfHeads}
+use Rattle.pkread.specs.Run.{EndIsRead, EndOfHeads, HeadIsRead, NextIsRead, PassedIsRead, PeekedIsRead, ReadingBegins, ReadingGoesOn, ReadsMore, RefusalIsRead, RefusalOfHeads}
 use Rattle.pkread.specs.Rows.{Sight, Takes}
 use Rattle.pkread.specs.Sequence.{IsSequence, NoStop, spellings}
 use Rattle.pkread.specs.declared.reader.Head.{Head}
@@ -191,6 +191,13 @@ passed_is_read start from limit p s t r at o count passes h k e =
     let same = by_passed s.limits limit o true (passes o) b.one.passed in
     let one : IsSkipped (limit o) o count b.payload = subst (λ (l : ℕ). IsSkipped l o count b.payload) same b.one in
     (b.payload, one, more_of start from limit p s t i h w.0 (reads_one start from limit p s t i h w.0 one.allowed b.bytes b.taken (g.phase ∙ sym (passed_goes_on o b.one.passed))), b.bytes, b.taken, g)
+
+-- the law of `peek` and `advance`
+pub peeked_is_read : PeekedIsRead
+peeked_is_read start from limit p s t count i passes h shown over =
+    let allowed : IsAllowedBy limit i = subst (λ (l : ℕ). IsAllowed l i) (passes i.op) shown.allowed in
+    let phase = over.phase ∙ sym shown.goes_on in
+    more_of start from limit p s t i h shown.phase (reads_one start from limit p s t i h shown.phase allowed over.bytes over.taken phase)
 
 head_ended_not_err : (x : Refusal) → let a : Result Head Refusal = Ok head.Ended in a ≡ Err x → ⊥
 head_ended_not_err x e = cc

@@ -5,7 +5,6 @@ use Rattle.std.specs.List.{AllByRecursion}
 use Rattle.std.specs.Io.KnownBytes.{IsAtEnd}
 use Rattle.pkops.specs.Contents.{IsGood}
 use Rattle.pkops.specs.Lying.{IsFixed, Lies, count_in, field_len}
-use Rattle.pkops.specs.Payloads.{is_passed}
 use Rattle.pkops.specs.Scanning.{Begun}
 use Rattle.pkops.specs.Spelling.{Argument, IsLine, count_limit, instruction, layout_at}
 use Rattle.pkops.specs.Spelling.{line_feed, size_of}
@@ -109,12 +108,15 @@ pub record HasFixedLength (op : Op) (n : ℕ) : Type 0 where
   pub length_is : n ≡ field_len (layout_at op) + 1
   pub plain : is_plain op ≡ true
 
--- the first n bytes are an instruction of this opcode that is held, n at most 257
-pub record IsFront (limit : ℕ) (op : Op) (n : ℕ) (bytes : List ℕ) : Type 0 where
-  pub found : IsFound limit (take n bytes) op 0
-  pub kept : is_passed op ≡ false
-  pub few : n ≤ 257
+-- the first n bytes are an instruction of this opcode, short enough for any buffer
+pub record IsFront (limit : ℕ) (op : Op) (split n : ℕ) (bytes : List ℕ) : Type 0 where
+  pub found : IsFound limit (take n bytes) op split
+  pub few : n ≤ 131_075
   pub within : n ≤ length bytes
+
+-- like IsFront, wherever its first line ends
+abbrev pub IsInFront : ℕ → Op → ℕ → List ℕ → Type 0
+IsInFront limit op n bytes = (split : ℕ) × IsFront limit op split n bytes
 
 -- takes a line, or says why not
 abbrev pub TakesLine : {A : Type 0} → ℕ → Result A Reason → Intake → Intake → Type 0

@@ -90,24 +90,3 @@ TakesHead limits result old new most after =
     MatchResult result
     (λ g. TookHead limits g old new most after)
     (RefusedHead limits old new most after)
-
--- the first n bytes are a SHORT_BINBYTES, whose payload is within the limit
-pub record IsByteString (limit n : ℕ) (bytes : List ℕ) : Type 0 where
-  pub payload : List ℕ
-  pub count_is : n ≡ length payload + 2
-  pub lies : Lies limit op.ShortBinBytes (Counted payload) 0 (take n bytes)
-  pub within : n ≤ length bytes
-
--- a SHORT_BINBYTES was skipped, and none of it is held
-pub record SkipsShort (limit count : ℕ) (old new : Intake) : Type 0 where
-  pub none : old.bytes ≡ []
-  pub held : new.bytes ≡ []
-  pub passes : SkipsBy limit op.ShortBinBytes count old.source new.source old.taken new.taken
-
--- takes an instruction and holds no byte payload; only what a `Gathering` counts changes
-pub record GathersHead (result : Result Gathered Reason) (old new : GatheringView)
-    (before after : Intake) : Type 0 where
-  pub limits : new.limits ≡ old.limits
-  pub least : old.buffer.peak ≤ new.buffer.peak
-  pub bound : most_held new.buffer ≤ max old.buffer.peak (longest old.limits.counted)
-  pub takes : TakesHead old.limits result before after old.buffer.peak (most_held new.buffer)

@@ -45,14 +45,6 @@ pub record Took (bytes : List ℕ) (old new : Intake) : Type 0 where
   pub source : Takes old.source new.source bytes
   pub count : new.taken ≡ old.taken + length bytes
 
--- `count` bytes at hand were taken, and none is held
-pub record TookUnheld (count : ℕ) (old new : Intake) : Type 0 where
-  pub none : old.bytes ≡ []
-  pub held : new.bytes ≡ []
-  pub taken : TakesCount count old.source.left new.source.left
-  pub failures : new.source.failures ≡ old.source.failures
-  pub count_is : new.taken ≡ old.taken + count
-
 -- `count` bytes were taken
 pub record TookAll (count : ℕ) (old new : Intake) : Type 0 where
   pub bytes : List ℕ

@@ -6,7 +6,7 @@ use Rattle.pkread.specs.Rows.{sight}
 use Rattle.pkcheck.proofs.Wholes.Checked.{from_start, checked_none, checked_took, accepted, count_took}
 use Rattle.pkcheck.proofs.Wholes.Checked.{refusal_of, refused_turned, refused_took}
 use Rattle.pkcheck.proofs.Wholes.FramesSoFar.{FrameLaws}
-use Rattle.pkcheck.proofs.Wholes.Given.{failures_so, seen_so, refused_next, took_lent, took_next}
+use Rattle.pkcheck.proofs.Wholes.Given.{failures_so, seen_so, refused_next, took_next, took_peeked}
 use Rattle.pkcheck.proofs.Wholes.Hearing.{cut_short, heard_more, heard_here, if_err}
 use Rattle.pkcheck.proofs.Stepping.Longest.{longest}
 use Rattle.pkcheck.proofs.listening.check_heard.Goals as goal
@@ -41,7 +41,7 @@ returns-in-Err-clause-answer g c =
     let i = instruction_of inst in
     let shown = c.in-Some.ensures.next in
     let over = c.advance.ensures.passes i shown c.len-length.ensures in
-    let took = took_lent _ _ _ r.0 _ r.2.reads r.2.read_limits _ refl c.nexts.ensures.given
+    let took = took_peeked _ _ _ r.0 _ r.2.reads r.2.read_limits _ c.nexts.ensures.peeked
     c.taken-at.result _ inst c.taken-at.ensures shown over in
     let x = heard c.taken-at.result i c.marks.result in
     let here = heard_here _ _ _ r.0 r.1 _ _ _ r.2 _ c.taken-at.result i took _ c.marks.ensures in
@@ -64,7 +64,7 @@ returns-in-Err-clause-count g c =
     let i = instruction_of inst in
     let shown = c.in-Some.ensures.next in
     let over = c.advance.ensures.passes i shown c.len-length.ensures in
-    let took = took_lent _ _ _ r.0 _ r.2.reads r.2.read_limits _ refl c.nexts.ensures.given
+    let took = took_peeked _ _ _ r.0 _ r.2.reads r.2.read_limits _ c.nexts.ensures.peeked
     c.taken-at.result _ inst c.taken-at.ensures shown over in
     count_took _ _ _ _ _ r.0 r.1 _ _ _ r.2 _ c.taken-at.result i _ _ _ _ _
     (returns-in-Err-clause-answer g c).1.right c.refuse.ensures.why took
@@ -79,7 +79,7 @@ returns-in_err-heard-clause-count g c =
     let same = failures_so c.advance.new.self.core.ahead
     (sight g.R.Source.left g.R.Source.failures c.source-1.given.0) _ c.advance.ensures.none
     (search rules) in
-    rw p.1 (same ∙ (over.gives.bytes.count ∙ r.2.reads.bytes.count))
+    rw p.1 (same ∙ (over.bytes.count ∙ r.2.reads.bytes.count))
 
 pub returns-in_err-heard-clause-cut_short : goal.returns-in_err-heard-clause-cut_short
 returns-in_err-heard-clause-cut_short g c =
@@ -88,7 +88,7 @@ returns-in_err-heard-clause-cut_short g c =
     let i = instruction_of inst in
     let shown = c.in-Some.ensures.next in
     let over = c.advance.ensures.passes i shown c.len-length.ensures in
-    let took = took_lent _ _ _ r.0 _ r.2.reads r.2.read_limits _ refl c.nexts.ensures.given
+    let took = took_peeked _ _ _ r.0 _ r.2.reads r.2.read_limits _ c.nexts.ensures.peeked
     c.taken-at.result _ inst c.taken-at.ensures shown over in
     if_err c.from_residual.result (
       r.3,
@@ -105,7 +105,7 @@ instructions-preserved-in-Some g c =
     let i = instruction_of inst in
     let shown = c.in-Some.ensures.next in
     let over = c.advance.ensures.passes i shown c.len-length.ensures in
-    let took = took_lent _ _ _ r.0 _ r.2.reads r.2.read_limits _ refl c.nexts.ensures.given
+    let took = took_peeked _ _ _ r.0 _ r.2.reads r.2.read_limits _ c.nexts.ensures.peeked
     c.taken-at.result _ inst c.taken-at.ensures shown over in
     let x = heard c.taken-at.result i c.marks.result in
     let here = heard_here _ _ _ r.0 r.1 _ _ _ r.2 _ c.taken-at.result i took _ c.marks.ensures in
@@ -128,8 +128,8 @@ pub instructions-smaller-in-Some : goal.instructions-smaller-in-Some
 instructions-smaller-in-Some g c =
     let over = c.advance.ensures.passes (instruction_of c.in-Some.inst) c.in-Some.ensures.next
     c.len-length.ensures in
-    let taken = over.gives.taken in
-    let within = over.gives.within in
+    let taken = over.taken in
+    let within = over.within in
     omega (arith, taken, within)
 
 pub returns-in-Err-next-clause-answer : goal.returns-in-Err-next-clause-answer

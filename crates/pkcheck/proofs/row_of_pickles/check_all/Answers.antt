@@ -54,7 +54,7 @@ returns-in-Err-clause-answer g c =
     let inst = c.in-Some.inst in
     let shown = c.in-Some.ensures.next in
     let over = c.advance.ensures.passes (instruction_of inst) shown c.len-length.ensures in
-    let took = took_peeked _ _ _ r.4 _ r.6.reads r.6.read_limits _ c.heads.ensures.given
+    let took = took_peeked _ _ _ r.4 _ r.6.reads r.6.read_limits _ c.heads.ensures.peeked
     c.taken-at.result _ inst c.taken-at.ensures shown over in
     let e = c.refused.ensures in
     told _ _ _ _ _ _ _ _ _ _ _ _ _ _ refl e.pickle e.no.place e.no.why e.no.pair
@@ -70,7 +70,7 @@ returns-in-Err-clause-count g c =
     let inst = c.in-Some.inst in
     let shown = c.in-Some.ensures.next in
     let over = c.advance.ensures.passes (instruction_of inst) shown c.len-length.ensures in
-    let took = took_peeked _ _ _ r.4 _ r.6.reads r.6.read_limits _ c.heads.ensures.given
+    let took = took_peeked _ _ _ r.4 _ r.6.reads r.6.read_limits _ c.heads.ensures.peeked
     c.taken-at.result _ inst c.taken-at.ensures shown over in
     let now = sight g.R.Source.left g.R.Source.failures c.advance.new.self.source.now in
     let seen = seen_so c.advance.new.self.core.ahead now now c.advance.ensures.none refl in
@@ -87,7 +87,7 @@ instructions-preserved-in-Some g c =
     let inst = c.in-Some.inst in
     let shown = c.in-Some.ensures.next in
     let over = c.advance-in-Some.ensures.passes (instruction_of inst) shown c.len-length.ensures in
-    let took = took_peeked _ _ _ r.4 _ r.6.reads r.6.read_limits _ c.heads.ensures.given
+    let took = took_peeked _ _ _ r.4 _ r.6.reads r.6.read_limits _ c.heads.ensures.peeked
     _ _ inst refl shown over in
     record {
       same = c.advance-in-Some.ensures.source ∙ c.instructions.invariant.same;
@@ -109,7 +109,7 @@ instructions-smaller-in-Some g c =
     let inst = c.in-Some.inst in
     let over = c.advance-in-Some.ensures.passes (instruction_of inst) c.in-Some.ensures.next
     c.len-length.ensures in
-    less_to_do _ _ _ _ (instruction_of inst) over.gives.taken over.gives.within
+    less_to_do _ _ _ _ (instruction_of inst) over.taken over.within
 
 pub returns-in-Err-next_head-clause-answer : goal.returns-in-Err-next_head-clause-answer
 returns-in-Err-next_head-clause-answer g c =

@@ -1,11 +1,23 @@
 use Rattle.std.proofs.Common.{◌∙◌, sym, subst}
+use Rattle.pkops.specs.Payloads.{payload_limit}
 use Rattle.pkops.specs.declared.Op.{Op}
-use Rattle.pkread.specs.Private.Gathering.{IsFront}
+use Rattle.pkread.specs.Private.Gathering.{IsInFront}
 use Rattle.pkread.proofs.front.varying_length.Goals as goal
 
-pub returns : goal.returns
-returns c o code ne =
-    let bytes = c.args.bytes.now in
-    subst (λ (x : Op). IsFront c.args.limit x c.line_length.result bytes)
-    (c.one_code.ensures c.in-Some.op o (c.in-Some.ensures.found ∙ sym code))
-    (c.line_length.ensures c.args.limit ne)
+pub returns-in-Counted-default-false : goal.returns-in-Counted-default-false
+returns-in-Counted-default-false c o code ne =
+    subst (λ (x : Op). IsInFront (payload_limit c.args.limits.now x) x c.counted_length.result
+    c.args.bytes.now) (c.one_code.ensures c.in-Some.op o (c.in-Some.ensures.found ∙ sym code))
+    (rw c.limit_of.ensures at (c.counted_length.ensures ne))
+
+pub returns-in-Line : goal.returns-in-Line
+returns-in-Line c o code ne =
+    subst (λ (x : Op). IsInFront (payload_limit c.args.limits.now x) x c.line_length.result
+    c.args.bytes.now) (c.one_code.ensures c.in-Some.op o (c.in-Some.ensures.found ∙ sym code))
+    (c.line_length.ensures _ ne)
+
+pub returns-in-Pair : goal.returns-in-Pair
+returns-in-Pair c o code ne =
+    subst (λ (x : Op). IsInFront (payload_limit c.args.limits.now x) x c.pair_length.result
+    c.args.bytes.now) (c.one_code.ensures c.in-Some.op o (c.in-Some.ensures.found ∙ sym code))
+    (c.pair_length.ensures _ ne)

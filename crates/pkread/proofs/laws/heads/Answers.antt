@@ -1,4 +1,4 @@
-use Rattle.pkread.proofs.Loops.Run.{end_of_heads, head_is_read, passed_is_read, reading_begins, refusal_of_heads}
+use Rattle.pkread.proofs.Loops.Run.{end_of_heads, head_is_read, passed_is_read, peeked_is_read, reading_begins, refusal_of_heads}
 use Rattle.pkread.proofs.laws.heads.Goals as goal
 
 pub returns-clause-begins : goal.returns-clause-begins
@@ -15,3 +15,6 @@ returns-clause-ended c = end_of_heads
 
 pub returns-clause-refused : goal.returns-clause-refused
 returns-clause-refused c = refusal_of_heads
+
+pub returns-clause-peeked : goal.returns-clause-peeked
+returns-clause-peeked c = peeked_is_read

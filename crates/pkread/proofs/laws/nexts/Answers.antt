@@ -1,4 +1,4 @@
-use Rattle.pkread.proofs.Loops.Run.{end_is_read, next_is_read, reading_begins, refusal_is_read}
+use Rattle.pkread.proofs.Loops.Run.{end_is_read, next_is_read, peeked_is_read, reading_begins, refusal_is_read}
 use Rattle.pkread.proofs.laws.nexts.Goals as goal
 
 pub returns-clause-begins : goal.returns-clause-begins
@@ -12,3 +12,6 @@ returns-clause-ended c = end_is_read
 
 pub returns-clause-refused : goal.returns-clause-refused
 returns-clause-refused c = refusal_is_read
+
+pub returns-clause-peeked : goal.returns-clause-peeked
+returns-clause-peeked c = peeked_is_read
