@@ -1,4 +1,4 @@
--- The memo in its three parts: the entry of number 0, those from number 1 on in order, and the
+-- The memo in its three parts: the entries below a first number, those from it on in order, and the
 -- rest.
 use Rattle.std.proofs.Common.{◌≡◌, ℕ, zero, suc, ◌+◌, ◌<◌, ◌≤◌, cond, List, [], ◌∷◌, ◌++◌, length, get_or, Option, Some, None, false, is_some, refl, sym, ap, ◌∙◌, arith, length-append}
 use Rattle.std.specs.declared.cmp.Ordering.TheVariants.{Less, Equal, Greater}
@@ -8,7 +8,7 @@ use Rattle.std.specs.Map.{lookup}
 use Rattle.std.specs.BTreeMap.{insert_entry, is_at}
 use Rattle.std.proofs.Math.ListN.{set}
 use Rattle.pkcheck.specs.Shape.{recalled, stored}
-use Rattle.pkcheck.specs.Private.Slots.{ArePositive, numbered, zeroth}
+use Rattle.pkcheck.specs.Private.Slots.{AreBelow, AreFrom, numbered}
 
 equal_cmp : (n k : ℕ) → n ≡ k → nat_cmp n k ≡ Equal
 equal_cmp n k e = sym (nat_cmp_is n k Equal e)
@@ -22,6 +22,10 @@ below_cmp n k h = sym (nat_cmp_is n k Less h)
 pub has_none : {A : Type 0} (o : Option A) → false ≡ is_some o → o ≡ None
 has_none None e = refl
 has_none (Some a) e = cc
+
+empty_of : {A : Type 0} (xs : List A) → length xs ≡ 0 → xs ≡ []
+empty_of [] e = refl
+empty_of (x ∷ xs) e = absurd (omega (arith, e))
 
 module _ {A : Type 0} where
   lookup_at : (xs : List A) (es : List (ℕ × A)) (k j n : ℕ) (d : A) → n ≡ k + j → j < length xs → lookup (is_at (nat_cmp n)) (numbered k xs ++ es) ≡ Some (get_or xs j d)
@@ -63,88 +67,113 @@ module _ {A : Type 0} where
 
   -- ---- all three parts together
 
-  lookup_over : (z : Option A) (cs : List (ℕ × A)) (n : ℕ) → 0 < n → lookup (is_at (nat_cmp n)) (zeroth z ++ cs) ≡ lookup (is_at (nat_cmp n)) cs
-  lookup_over None cs n h = refl
-  lookup_over (Some x) cs n h = rw (above_cmp n 0 h) refl
+  lookup_over : (low cs : List (ℕ × A)) (first n : ℕ) → AreBelow first low → first ≤ n → lookup (is_at (nat_cmp n)) (low ++ cs) ≡ lookup (is_at (nat_cmp n)) cs
+  lookup_over [] cs first n b h = refl
+  lookup_over (e ∷ low) cs first n b h = let under = b.0 in rw (above_cmp n e.0 (omega (arith, under, h))) (lookup_over low cs first n b.1 h)
 
-  insert_over : (z : Option A) (cs : List (ℕ × A)) (n : ℕ) (v : A) → 0 < n → insert_entry nat_cmp (zeroth z ++ cs) n v ≡ zeroth z ++ insert_entry nat_cmp cs n v
-  insert_over None cs n v h = refl
-  insert_over (Some x) cs n v h = rw (above_cmp n 0 h) refl
+  insert_over : (low cs : List (ℕ × A)) (first n : ℕ) (v : A) → AreBelow first low → first ≤ n → insert_entry nat_cmp (low ++ cs) n v ≡ low ++ insert_entry nat_cmp cs n v
+  insert_over [] cs first n v b h = refl
+  insert_over (e ∷ low) cs first n v b h = let under = b.0 in rw (above_cmp n e.0 (omega (arith, under, h))) (ap (λ l. e ∷ l) (insert_over low cs first n v b.1 h))
 
-  positive_row : (xs : List A) (es : List (ℕ × A)) (k : ℕ) → 0 < k → ArePositive es → ArePositive (numbered k xs ++ es)
-  positive_row [] es k h p = p
-  positive_row (x ∷ xs) es k h p = (h, positive_row xs es (suc k) (omega arith) p)
+  from_row : (xs : List A) (es : List (ℕ × A)) (first k : ℕ) → first ≤ k → AreFrom first es → AreFrom first (numbered k xs ++ es)
+  from_row [] es first k h p = p
+  from_row (x ∷ xs) es first k h p = (h, from_row xs es first (suc k) (omega (arith, h)) p)
 
-  no_zero : (cs : List (ℕ × A)) → ArePositive cs → lookup (is_at (nat_cmp 0)) cs ≡ None
-  no_zero [] p = refl
-  no_zero (c ∷ cs) p = rw (below_cmp 0 c.0 p.0) (no_zero cs p.1)
+  lookup_none : (cs : List (ℕ × A)) (first n : ℕ) → AreFrom first cs → n < first → lookup (is_at (nat_cmp n)) cs ≡ None
+  lookup_none [] first n p h = refl
+  lookup_none (c ∷ cs) first n p h = let over = p.0 in rw (below_cmp n c.0 (omega (arith, over, h))) (lookup_none cs first n p.1 h)
 
-  zero_first : (cs : List (ℕ × A)) (v : A) → ArePositive cs → insert_entry nat_cmp cs 0 v ≡ (0, v) ∷ cs
-  zero_first [] v p = refl
-  zero_first (c ∷ cs) v p = rw (below_cmp 0 c.0 p.0) refl
+  lookup_under : (low cs : List (ℕ × A)) (first n : ℕ) → AreFrom first cs → n < first → lookup (is_at (nat_cmp n)) (low ++ cs) ≡ lookup (is_at (nat_cmp n)) low
+  lookup_under [] cs first n p h = lookup_none cs first n p h
+  lookup_under (e ∷ low) cs first n p h = ap (λ r. cond (is_eq (nat_cmp n e.0)) (Some e.1) r) (lookup_under low cs first n p h)
 
-  module _ (z : Option A) (xs : List A) (es : List (ℕ × A)) where
-    pub length_cells : length (zeroth z ++ (numbered 1 xs ++ es)) ≡ length (zeroth z) + length xs + length es
-    length_cells = let a = length-append (zeroth z) (numbered 1 xs ++ es) in let b = length_numbered xs es 1 in omega (arith, a, b)
+  insert_front : (cs : List (ℕ × A)) (first n : ℕ) (v : A) → AreFrom first cs → n < first → insert_entry nat_cmp cs n v ≡ (n, v) ∷ cs
+  insert_front [] first n v p h = refl
+  insert_front (c ∷ cs) first n v p h = let over = p.0 in rw (below_cmp n c.0 (omega (arith, over, h))) refl
 
-    at_zero_of : (z : Option A) → ArePositive es → z ≡ recalled 0 (zeroth z ++ (numbered 1 xs ++ es))
-    at_zero_of None p = sym (no_zero (numbered 1 xs ++ es) (positive_row xs es 1 (omega arith) p))
-    at_zero_of (Some x) p = refl
+  insert_under : (low cs : List (ℕ × A)) (first n : ℕ) (v : A) → AreFrom first cs → n < first → insert_entry nat_cmp (low ++ cs) n v ≡ insert_entry nat_cmp low n v ++ cs
+  insert_under [] cs first n v p h = insert_front cs first n v p h
+  insert_under (e ∷ low) cs first n v p h =
+      elim (nat_cmp n e.0) as (λ o. match_ordering o ((n, v) ∷ e ∷ (low ++ cs)) ((e.0, v) ∷ (low ++ cs)) (e ∷ insert_entry nat_cmp (low ++ cs) n v) ≡ match_ordering o ((n, v) ∷ e ∷ low) ((e.0, v) ∷ low) (e ∷ insert_entry nat_cmp low n v) ++ cs) [
+        | Less ↦ refl
+        | Equal ↦ refl
+        | Greater ↦ ap (λ l. e ∷ l) (insert_under low cs first n v p h)
+      ]
 
-    pub at_zero : ArePositive es → z ≡ recalled 0 (zeroth z ++ (numbered 1 xs ++ es))
-    at_zero p = at_zero_of z p
+  -- the three parts
+  abbrev pub cells : List (ℕ × A) → ℕ → List A → List (ℕ × A) → List (ℕ × A)
+  cells low first xs es = low ++ (numbered first xs ++ es)
 
-    pub at_row : (n j : ℕ) (d : A) → n ≡ suc j → j < length xs → Some (get_or xs j d) ≡ recalled n (zeroth z ++ (numbered 1 xs ++ es))
-    at_row n j d e h = sym (lookup_over z (numbered 1 xs ++ es) n (omega arith) ∙ lookup_at xs es 1 j n d (omega arith) h)
+  module _ (low : List (ℕ × A)) (first : ℕ) (xs : List A) (es : List (ℕ × A)) where
+    pub length_cells : length (cells low first xs es) ≡ length low + length xs + length es
+    length_cells = let a = length-append low (numbered first xs ++ es) in let b = length_numbered xs es first in omega (arith, a, b)
 
-    pub at_rest : (n : ℕ) → length xs < n → recalled n es ≡ recalled n (zeroth z ++ (numbered 1 xs ++ es))
-    at_rest n h = sym (lookup_over z (numbered 1 xs ++ es) n (omega arith) ∙ lookup_past xs es 1 n (omega arith))
+    pub no_cells : cells low first xs es ≡ [] → (low ≡ []) × (xs ≡ []) × (es ≡ [])
+    no_cells e =
+        let none = ap length e in
+        let all = length_cells in
+        (empty_of low (omega (arith, none, all)), empty_of xs (omega (arith, none, all)), empty_of es (omega (arith, none, all)))
 
-    put_zero_of : (z : Option A) (v : A) → ArePositive es → (0, v) ∷ (numbered 1 xs ++ es) ≡ stored 0 v (zeroth z ++ (numbered 1 xs ++ es))
-    put_zero_of None v p = sym (zero_first (numbered 1 xs ++ es) v (positive_row xs es 1 (omega arith) p))
-    put_zero_of (Some x) v p = refl
+    pub at_low : (n : ℕ) → AreFrom first es → n < first → recalled n low ≡ recalled n (cells low first xs es)
+    at_low n p h = sym (lookup_under low (numbered first xs ++ es) first n (from_row xs es first first (omega arith) p) h)
 
-    pub put_zero : (v : A) → ArePositive es → (0, v) ∷ (numbered 1 xs ++ es) ≡ stored 0 v (zeroth z ++ (numbered 1 xs ++ es))
-    put_zero v p = put_zero_of z v p
+    pub at_row : (n j : ℕ) (d : A) → AreBelow first low → n ≡ first + j → j < length xs → Some (get_or xs j d) ≡ recalled n (cells low first xs es)
+    at_row n j d b e h = sym (lookup_over low (numbered first xs ++ es) first n b (omega (arith, e)) ∙ lookup_at xs es first j n d e h)
 
-    pub put_row : (n j : ℕ) (v : A) → n ≡ suc j → j < length xs → zeroth z ++ (numbered 1 (set xs j v) ++ es) ≡ stored n v (zeroth z ++ (numbered 1 xs ++ es))
-    put_row n j v e h = sym (insert_over z (numbered 1 xs ++ es) n v (omega arith) ∙ ap (λ cs. zeroth z ++ cs) (insert_at xs es 1 j n v (omega arith) h))
+    pub at_rest : (n : ℕ) → AreBelow first low → first + length xs ≤ n → recalled n es ≡ recalled n (cells low first xs es)
+    at_rest n b h = sym (lookup_over low (numbered first xs ++ es) first n b (omega (arith, h)) ∙ lookup_past xs es first n h)
 
-    pub put_end : (n : ℕ) (v : A) → length es ≡ 0 → n ≡ suc (length xs) → zeroth z ++ (numbered 1 (xs ++ v ∷ []) ++ es) ≡ stored n v (zeroth z ++ (numbered 1 xs ++ es))
-    put_end n v h e = sym (insert_over z (numbered 1 xs ++ es) n v (omega arith) ∙ ap (λ cs. zeroth z ++ cs) (insert_end xs es 1 n v h (omega arith)))
+    pub put_low : (n : ℕ) (v : A) → AreFrom first es → n < first → cells (stored n v low) first xs es ≡ stored n v (cells low first xs es)
+    put_low n v p h = sym (insert_under low (numbered first xs ++ es) first n v (from_row xs es first first (omega arith) p) h)
 
-    pub put_rest : (n : ℕ) (v : A) → length xs < n → zeroth z ++ (numbered 1 xs ++ stored n v es) ≡ stored n v (zeroth z ++ (numbered 1 xs ++ es))
-    put_rest n v h = sym (insert_over z (numbered 1 xs ++ es) n v (omega arith) ∙ ap (λ cs. zeroth z ++ cs) (insert_past xs es 1 n v (omega arith)))
+    pub put_row : (n j : ℕ) (v : A) → AreBelow first low → n ≡ first + j → j < length xs → cells low first (set xs j v) es ≡ stored n v (cells low first xs es)
+    put_row n j v b e h = sym (insert_over low (numbered first xs ++ es) first n v b (omega (arith, e)) ∙ ap (λ cs. low ++ cs) (insert_at xs es first j n v e h))
+
+    pub put_end : (n : ℕ) (v : A) → AreBelow first low → length es ≡ 0 → n ≡ first + length xs → cells low first (xs ++ v ∷ []) es ≡ stored n v (cells low first xs es)
+    put_end n v b h e = sym (insert_over low (numbered first xs ++ es) first n v b (omega (arith, e)) ∙ ap (λ cs. low ++ cs) (insert_end xs es first n v h e))
+
+    pub put_rest : (n : ℕ) (v : A) → AreBelow first low → first + length xs ≤ n → cells low first xs (stored n v es) ≡ stored n v (cells low first xs es)
+    put_rest n v b h = sym (insert_over low (numbered first xs ++ es) first n v b (omega (arith, h)) ∙ ap (λ cs. low ++ cs) (insert_past xs es first n v h))
 
     -- storing under a new number adds an entry
-    more_zero_of : (z : Option A) (v : A) → is_some z ≡ false → ArePositive es → length (stored 0 v (zeroth z ++ (numbered 1 xs ++ es))) ≡ suc (length (zeroth z ++ (numbered 1 xs ++ es)))
-    more_zero_of None v e p = sym (ap length (put_zero_of None v p))
-    more_zero_of (Some x) v e p = cc
+    pub more_low : (n : ℕ) (v : A) → AreFrom first es → n < first → recalled n low ≡ None → length (stored n v (cells low first xs es)) ≡ suc (length (cells low first xs es))
+    more_low n v p h e =
+        let a = ap length (put_low n v p h) in
+        let b = length-append (stored n v low) (numbered first xs ++ es) in
+        let d = length_numbered xs es first in
+        let f = length_insert low n v e in
+        omega (arith, a, b, d, f, length_cells)
 
-    pub more_zero : (v : A) → is_some z ≡ false → ArePositive es → length (stored 0 v (zeroth z ++ (numbered 1 xs ++ es))) ≡ suc (length (zeroth z ++ (numbered 1 xs ++ es)))
-    more_zero v e p = more_zero_of z v e p
-
-    pub more_end : (n : ℕ) (v : A) → length es ≡ 0 → n ≡ suc (length xs) → length (stored n v (zeroth z ++ (numbered 1 xs ++ es))) ≡ suc (length (zeroth z ++ (numbered 1 xs ++ es)))
-    more_end n v h e =
-        let a = ap length (put_end n v h e) in
-        let b = length-append (zeroth z) (numbered 1 (xs ++ v ∷ []) ++ es) in
-        let d = length_numbered (xs ++ v ∷ []) es 1 in
+    pub more_end : (n : ℕ) (v : A) → AreBelow first low → length es ≡ 0 → n ≡ first + length xs → length (stored n v (cells low first xs es)) ≡ suc (length (cells low first xs es))
+    more_end n v under h e =
+        let a = ap length (put_end n v under h e) in
+        let b = length-append low (numbered first (xs ++ v ∷ []) ++ es) in
+        let d = length_numbered (xs ++ v ∷ []) es first in
         let f = length-append xs (v ∷ []) in
         omega (arith, a, b, d, f, length_cells)
 
-    pub more_rest : (n : ℕ) (v : A) → length xs < n → recalled n es ≡ None → length (stored n v (zeroth z ++ (numbered 1 xs ++ es))) ≡ suc (length (zeroth z ++ (numbered 1 xs ++ es)))
-    more_rest n v h e =
-        let a = ap length (put_rest n v h) in
-        let b = length-append (zeroth z) (numbered 1 xs ++ stored n v es) in
-        let d = length_numbered xs (stored n v es) 1 in
+    pub more_rest : (n : ℕ) (v : A) → AreBelow first low → first + length xs ≤ n → recalled n es ≡ None → length (stored n v (cells low first xs es)) ≡ suc (length (cells low first xs es))
+    more_rest n v under h e =
+        let a = ap length (put_rest n v under h) in
+        let b = length-append low (numbered first xs ++ stored n v es) in
+        let d = length_numbered xs (stored n v es) first in
         let f = length_insert es n v e in
         omega (arith, a, b, d, f, length_cells)
 
-  pub positive_stored : (es : List (ℕ × A)) (n : ℕ) (v : A) → 0 < n → ArePositive es → ArePositive (stored n v es)
-  positive_stored [] n v h p = (h, tt)
-  positive_stored (e ∷ es) n v h p =
-      elim (nat_cmp n e.0) as (λ o. ArePositive (match_ordering o ((n, v) ∷ e ∷ es) ((e.0, v) ∷ es) (e ∷ insert_entry nat_cmp es n v))) [
+  pub below_stored : (es : List (ℕ × A)) (first n : ℕ) (v : A) → n < first → AreBelow first es → AreBelow first (stored n v es)
+  below_stored [] first n v h p = (h, tt)
+  below_stored (e ∷ es) first n v h p =
+      elim (nat_cmp n e.0) as (λ o. AreBelow first (match_ordering o ((n, v) ∷ e ∷ es) ((e.0, v) ∷ es) (e ∷ insert_entry nat_cmp es n v))) [
         | Less ↦ (h, p)
         | Equal ↦ (p.0, p.1)
-        | Greater ↦ (p.0, positive_stored es n v h p.1)
+        | Greater ↦ (p.0, below_stored es first n v h p.1)
+      ]
+
+  pub from_stored : (es : List (ℕ × A)) (first n : ℕ) (v : A) → first ≤ n → AreFrom first es → AreFrom first (stored n v es)
+  from_stored [] first n v h p = (h, tt)
+  from_stored (e ∷ es) first n v h p =
+      elim (nat_cmp n e.0) as (λ o. AreFrom first (match_ordering o ((n, v) ∷ e ∷ es) ((e.0, v) ∷ es) (e ∷ insert_entry nat_cmp es n v))) [
+        | Less ↦ (h, p)
+        | Equal ↦ (p.0, p.1)
+        | Greater ↦ (p.0, from_stored es first n v h p.1)
       ]

@@ -1,5 +1,5 @@
 -- What the fields of the stack, the memo and the text table mean.
-use Rattle.std.specs.Prelude.{ℕ, suc, ◌<◌, List, [], ◌∷◌, ◌++◌, Option, Some, None, map, get_or}
+use Rattle.std.specs.Prelude.{ℕ, suc, ◌<◌, ◌≤◌, List, [], ◌∷◌, ◌++◌, Option, Some, None, map, get_or}
 use Rattle.std.specs.Prelude.{◌≡◌, length, ⊤, drop, take}
 use Rattle.pkcheck.specs.declared.machine.value.Value.{Value}
 use Rattle.pkcheck.specs.declared.machine.value.Value.TheVariants as value
@@ -46,15 +46,15 @@ abbrev pub numbered : {A : Type 0} → ℕ → List A → List (ℕ × A)
 numbered n [] = []
 numbered n (x ∷ xs) = (n, x) ∷ numbered (suc n) xs
 
--- the memo entry with number 0, if there is one
-abbrev pub zeroth : {A : Type 0} → Option A → List (ℕ × A)
-zeroth None = []
-zeroth (Some x) = (0, x) ∷ []
+-- these entries have numbers below `first`
+abbrev pub AreBelow : {A : Type 0} → ℕ → List (ℕ × A) → Type 0
+AreBelow first [] = ⊤
+AreBelow first (e ∷ es) = (e.0 < first) × AreBelow first es
 
--- none of these entries has number 0
-abbrev pub ArePositive : {A : Type 0} → List (ℕ × A) → Type 0
-ArePositive [] = ⊤
-ArePositive (e ∷ es) = (0 < e.0) × ArePositive es
+-- these entries have numbers from `first` on
+abbrev pub AreFrom : {A : Type 0} → ℕ → List (ℕ × A) → Type 0
+AreFrom first [] = ⊤
+AreFrom first (e ∷ es) = (first ≤ e.0) × AreFrom first es
 
 -- none of these entries is a mark
 abbrev pub AllObjects : List Slot → Type 0

@@ -1,7 +1,6 @@
 //! The memo: what is known about the objects stored under numbers.
 ghost use Rattle.pkcheck.specs.Private.Denials.{WantsMemo};
 ghost use Rattle.pkcheck.specs.Shape.{recalled, stored};
-ghost use Rattle.pkcheck.specs.Private.Slots.{zeroth};
 ghost use Rattle.std.specs.Prelude.{◌≡◌, ◌⊎◌, ◌<◌, ◌≤◌, ◌+◌, [], length, IfErr, OnOk, None, false};
 
 use crate::machine::pile::Pile;
@@ -12,21 +11,24 @@ use std::alloc::Global;
 use std::collections::BTreeMap;
 use std::marker::Model;
 
-/// What is known about the stored objects, by number. Most pickles number them consecutively, from
-/// 0 or (Python 2's `cPickle`) from 1, and these are found by index.
+/// What is known about the stored objects, by number. Most pickles number them consecutively, and
+/// these are found by index. No instruction can spell a number of more than 32 bits.
 pub struct Memo {
-    /// The entry of number 0.
-    zero: Option<Value>,
-    /// The entries from number 1 on that were stored in order.
+    /// The entries of numbers below `first`.
+    low: BTreeMap<u32, Value>,
+    /// The first number that was stored.
+    first: u32,
+    /// The entries from number `first` on that were stored in order.
     ordered: Pile<Value>,
-    /// The other entries. No instruction can spell a number of more than 32 bits.
+    /// The entries of greater numbers.
     rest: BTreeMap<u32, Value>,
 }
 
 impl Drop for Memo {
     fn drop(self) {
         let Memo {
-            zero: _zero,
+            low: _low,
+            first: _first,
             ordered: _ordered,
             rest: _rest,
         } = self;
@@ -34,15 +36,16 @@ impl Drop for Memo {
 }
 
 impl Model for Memo {
-    ghost use Rattle.std.specs.Prelude.{ℕ, List, ◌++◌};
+    ghost use Rattle.std.specs.Prelude.{ℕ, List, ◌++◌, ◌+◌, ◌^◌, ◌<◌, length};
     ghost use Rattle.pkcheck.specs.declared.machine.value.Value.{Value as Object};
-    ghost use Rattle.pkcheck.specs.Private.Slots.{ArePositive, numbered, zeroth};
+    ghost use Rattle.pkcheck.specs.Private.Slots.{AreBelow, AreFrom, numbered};
 
     ghost Value = { List (ℕ × Object) };
 
-    ghost view = { λ m. zeroth m.zero ++ (numbered 1 m.ordered ++ m.rest.entries) };
+    ghost view = { λ m. m.low.entries ++ (numbered m.first m.ordered ++ m.rest.entries) };
 
-    ghost invariant = { λ m. ArePositive m.rest.entries };
+    ghost invariant = { λ m. AreBelow m.first m.low.entries × AreFrom m.first m.rest.entries
+        × (length m.low.entries + length m.rest.entries < 2 ^ 63) };
 }
 
 impl Memo {
@@ -51,7 +54,8 @@ impl Memo {
         ensures { result ≡ [] }
     {
         Memo {
-            zero: None,
+            low: BTreeMap::new(alloc),
+            first: 0,
             ordered: Pile::new(alloc, Value::Unknown),
             rest: BTreeMap::new(alloc),
         }
@@ -61,7 +65,7 @@ impl Memo {
     pub fn clear(&mut self)
         ensures { self.new ≡ [] }
     {
-        self.zero = None;
+        self.low.clear();
         self.ordered.clear();
         self.rest.clear();
     }
@@ -71,7 +75,7 @@ impl Memo {
     pub fn len(&self) -> u64
         ensures { result ≡ length self.now }
     {
-        count(self.zero) + self.ordered.len() as u64 + self.rest.len() as u64
+        self.low.len() as u64 + self.rest.len() as u64 + self.ordered.len() as u64
     }
 
     /// What is known about the object stored under a number.
@@ -79,11 +83,12 @@ impl Memo {
     pub fn get(&self, number: u32) -> Option<Value>
         ensures { result ≡ recalled number self.now }
     {
-        if number == 0 {
-            return self.zero;
+        if number < self.first {
+            return found(&self.low, number);
         }
-        if number as usize <= self.ordered.len() {
-            return Some(self.ordered.entries()[(number - 1) as usize]);
+        let place = (number - self.first) as usize;
+        if place < self.ordered.len() {
+            return Some(self.ordered.entries()[place]);
         }
         found(&self.rest, number)
     }
@@ -98,9 +103,9 @@ impl Memo {
         ensures err { IfErr result (λ r. (self.new ≡ self.old)
             × WantsMemo limits.now.memo (stored number value self.old) r) }
     {
-        let last = self.ordered.len() as u64;
-        if number == last + 1 && self.rest.is_empty() {
-            if count(self.zero) + last >= limits.memo() {
+        let count = self.ordered.len() as u64;
+        if number == u64::from(self.first) + count && self.rest.is_empty() {
+            if self.low.len() as u64 + count >= limits.memo() {
                 return Err(Reason::TooLarge);
             }
             return match self.ordered.push(value) {
@@ -134,33 +139,41 @@ impl Memo {
         ensures err { IfErr result (λ r. (self.new ≡ self.old)
             × WantsMemo limits.now.memo (stored number value self.old) r) }
     {
-        let has_room = self.len() < limits.memo();
-        if number == 0 {
-            if self.zero.is_none() && !has_room {
-                return Err(Reason::TooLarge);
-            }
-            self.zero = Some(value);
-            return Ok(());
-        }
-        if number <= self.ordered.len() as u64 {
-            self.ordered.set((number - 1) as usize, value);
-            return Ok(());
-        }
         let Ok(number) = u32::try_from(number) else {
             return Err(Reason::OutOfMemory);
         };
+        let count = self.len();
+        if count == 0 {
+            return self.begin(limits, number, value);
+        }
+        let has_room = count < limits.memo();
+        if number < self.first {
+            return put(&mut self.low, has_room, number, value);
+        }
+        let place = (number - self.first) as usize;
+        if place < self.ordered.len() {
+            self.ordered.set(place, value);
+            return Ok(());
+        }
         put(&mut self.rest, has_room, number, value)
     }
-}
 
-/// The number of entries in an optional one: 1 or 0.
-fn count(value: Option<Value>) -> u64
-    ensures is { result ≡ length (zeroth value) }
-    ensures small { result ≤ 1 }
-{
-    match value {
-        Some(_) => 1,
-        None => 0,
+    /// Stores the first entry of an empty memo.
+    fn begin(&mut self, limits: &Limits, number: u32, value: Value) -> Result<(), Reason>
+        requires { self.old ≡ [] }
+        ensures ok { OnOk result (self.new ≡ stored number value self.old) }
+        ensures room { OnOk result (length self.new ≤ limits.now.memo) }
+        ensures err { IfErr result (λ r. (self.new ≡ self.old)
+            × WantsMemo limits.now.memo (stored number value self.old) r) }
+    {
+        if limits.memo() == 0 {
+            return Err(Reason::TooLarge);
+        }
+        self.first = number;
+        match self.ordered.push(value) {
+            Ok(()) => Ok(()),
+            Err(_) => Err(Reason::OutOfMemory),
+        }
     }
 }
 

@@ -1,14 +1,19 @@
 use Rattle.std.proofs.Common.{◌∙◌, ◌-◌, arith}
-use Rattle.pkcheck.proofs.Cells.{at_zero, at_row, at_rest}
+use Rattle.pkcheck.proofs.Cells.{at_low, at_row, at_rest}
 use Rattle.pkcheck.proofs.machine.memo.Memo.get.Goals as goal
 
-pub returns-then-number-eq0 : goal.returns-then-number-eq0
-returns-then-number-eq0 c = rw (← c.self.view_is, c.if-number-eq0.true) (at_zero c.self.inside.zero c.self.inside.ordered c.self.inside.rest.entries c.self.invariant)
+pub returns-then-number-self : goal.returns-then-number-self
+returns-then-number-self c =
+    let m = c.self.inside in
+    rw (← c.self.view_is) (c.found.ensures ∙ at_low m.low.entries m.first m.ordered m.rest.entries c.args.number c.self.invariant.1 (omega arith))
 
-pub returns-then-number-len : goal.returns-then-number-len
-returns-then-number-len c =
+pub returns-then-place-len : goal.returns-then-place-len
+returns-then-place-len c =
+    let m = c.self.inside in
     rw (← c.self.view_is)
-    (rw c.entries.ensures (at_row c.self.inside.zero c.self.inside.ordered c.self.inside.rest.entries c.args.number (c.args.number - 1) _ (omega arith) (omega arith)))
+    (rw c.entries.ensures (at_row m.low.entries m.first m.ordered m.rest.entries c.args.number (c.args.number - m.first) _ c.self.invariant.0 (omega arith) (omega arith)))
 
 pub returns : goal.returns
-returns c = rw (← c.self.view_is) (c.found.ensures ∙ at_rest c.self.inside.zero c.self.inside.ordered c.self.inside.rest.entries c.args.number (omega arith))
+returns c =
+    let m = c.self.inside in
+    rw (← c.self.view_is) (c.found-2.ensures ∙ at_rest m.low.entries m.first m.ordered m.rest.entries c.args.number c.self.invariant.0 (omega arith))
