@@ -16,6 +16,12 @@ use crate::admission::{is_good, is_plain, is_utf8};
 use pkops::laws::{growth, one_code};
 use pkops::{Arg, Layout, Limits, Op, Width, count_behind, layout_of_op, op_of_byte};
 
+/// The code of SHORT_BINUNICODE.
+const SHORT_TEXT: u8 = 0x8c;
+
+/// The code of SHORT_BINBYTES.
+const SHORT_BYTES: u8 = 0x43;
+
 /// The most bytes that are searched for the ends of lines.
 const LINES: usize = 257;
 
@@ -32,14 +38,14 @@ pub(crate) struct Front {
 }
 
 /// The number of bytes of the instructions that begin with a code, for opcodes of which every
-/// argument has the same length and is admitted; 0 for all others.
+/// argument has the same length and is admitted; 0 for all others, and for STOP and FRAME.
 static LENGTHS: [u8; 256] = [
     // 0x00
     0, 0, 0, 0, 0, 0, 0, 0, 0, 0, 0, 0, 0, 0, 0, 0,
     // 0x10
     0, 0, 0, 0, 0, 0, 0, 0, 0, 0, 0, 0, 0, 0, 0, 0,
     // 0x20
-    0, 0, 0, 0, 0, 0, 0, 0, 1, 1, 0, 0, 0, 0, 1, 0,
+    0, 0, 0, 0, 0, 0, 0, 0, 1, 1, 0, 0, 0, 0, 0, 0,
     // 0x30
     1, 1, 1, 0, 0, 0, 0, 0, 0, 0, 0, 0, 0, 0, 0, 0,
     // 0x40
@@ -53,7 +59,7 @@ static LENGTHS: [u8; 256] = [
     // 0x80
     0, 1, 0, 0, 0, 1, 1, 1, 1, 1, 0, 0, 0, 0, 0, 1,
     // 0x90
-    1, 1, 1, 1, 1, 9, 0, 1, 1, 0, 0, 0, 0, 0, 0, 0,
+    1, 1, 1, 1, 1, 0, 0, 1, 1, 0, 0, 0, 0, 0, 0, 0,
     // 0xA0
     0, 0, 0, 0, 0, 0, 0, 0, 0, 0, 0, 0, 0, 0, 0, 0,
     // 0xB0
@@ -76,18 +82,45 @@ fn length_of(code: u8) -> u8
 }
 
 /// The instruction that the bytes begin with, if they hold all of it, its payload is within the
-/// limit of its opcode, it is not longer than a buffer may hold, and its lines have at most 256
-/// bytes.
+/// limit of its opcode, it is not longer than a buffer may hold, and its lines end in the first 257
+/// bytes. Never STOP, which ends a pickle, nor FRAME.
 #[inline(always)]
 pub(crate) fn front_of(bytes: &[u8], limits: &Limits) -> Option<Front>
     ensures { IfSome result (λ front. IsFront (payload_limit limits.now front.op)
         front.op front.split front.length bytes.now) }
 {
+    growth();
     if bytes.len() == 0 {
         return None;
     }
     let code = bytes[0];
-    let length = front_length(code, bytes, limits);
+    let length = usize::from(length_of(code));
+    if length == 0 {
+        return varying_front(code, bytes, limits);
+    }
+    if length > bytes.len() {
+        return None;
+    }
+    let Some(op) = op_of_byte(code) else {
+        return None;
+    };
+    Some(Front {
+        op,
+        split: 0,
+        length,
+    })
+}
+
+/// Like `front_of`, for opcodes whose arguments vary in length. The length comes from a call, and
+/// is a number without an opcode, because it needs no stack slot then.
+#[inline(always)]
+fn varying_front(code: u8, bytes: &[u8], limits: &Limits) -> Option<Front>
+    requires some { 0 < length bytes.now }
+    requires code { code ≡ slice_index bytes.now 0 }
+    ensures { IfSome result (λ front. IsFront (payload_limit limits.now front.op)
+        front.op front.split front.length bytes.now) }
+{
+    let length = varying_length(code, bytes, limits);
     if length == 0 {
         return None;
     }
@@ -98,27 +131,9 @@ pub(crate) fn front_of(bytes: &[u8], limits: &Limits) -> Option<Front>
     Some(Front { op, split, length })
 }
 
-/// The number of bytes of the instruction that the bytes begin with, or 0 if `front_of` finds none.
-/// It returns a number and no opcode, because it needs no stack slot then.
-#[inline(always)]
-fn front_length(code: u8, bytes: &[u8], limits: &Limits) -> usize
-    requires some { 0 < length bytes.now }
-    requires code { code ≡ slice_index bytes.now 0 }
-    ensures { (op : SpecOp) → code_of op ≡ code → result ≢ 0
-        → IsInFront (payload_limit limits.now op) op result bytes.now }
-{
-    growth();
-    let length = usize::from(length_of(code));
-    if length == 0 {
-        return varying_length(code, bytes, limits);
-    }
-    if length > bytes.len() {
-        return 0;
-    }
-    length
-}
-
-/// Like `front_length`, for opcodes whose arguments vary in length.
+/// The number of bytes of the instruction that the bytes begin with, if its argument varies in
+/// length, or 0 if `front_of` finds none. Short texts and byte strings, the most frequent ones,
+/// come first.
 #[inline(never)]
 fn varying_length(code: u8, bytes: &[u8], limits: &Limits) -> usize
     requires some { 0 < length bytes.now }
@@ -127,6 +142,12 @@ fn varying_length(code: u8, bytes: &[u8], limits: &Limits) -> usize
         → IsInFront (payload_limit limits.now op) op result bytes.now }
 {
     one_code();
+    if code == SHORT_TEXT {
+        return counted_length(Op::ShortBinUnicode, Width::One, bytes, limits.counted());
+    }
+    if code == SHORT_BYTES {
+        return counted_length(Op::ShortBinBytes, Width::One, bytes, limits.passed());
+    }
     let Some(op) = op_of_byte(code) else {
         return 0;
     };
@@ -151,7 +172,7 @@ fn limit_of(op: Op, limits: &Limits) -> u64
 
 /// The number of bytes of the instruction with a payload that the bytes begin with, or 0 if they
 /// don't hold all of it, or it is not good or too long.
-#[inline]
+#[inline(always)]
 fn counted_length(op: Op, width: Width, bytes: &[u8], limit: u64) -> usize
     requires some { 0 < length bytes.now }
     requires code { code_of op ≡ slice_index bytes.now 0 }

@@ -2,8 +2,6 @@
 
 ghost use Rattle.std.specs.Prelude.{◌≡◌, ◌≤◌, [], IfSome, length, true};
 ghost use Rattle.std.specs.Borrow.{sem};
-ghost use Rattle.pkread.specs.Core as phase;
-ghost use Rattle.pkread.specs.Core.{phase_after};
 ghost use Rattle.pkread.specs.Reading.{source_name, source_of};
 ghost use Rattle.pkops.specs.Inst.{instruction_of};
 ghost use Rattle.pkops.specs.Scanning.{longest};
@@ -198,7 +196,7 @@ impl<'r, R: Source> Reader<'r, R> {
         let Some(front) = front_of(bytes, self.core.limits()) else {
             return None;
         };
-        if !stays_open(front.op) || !self.core.has_room(front.length) {
+        if !self.core.has_room(front.length) {
             return None;
         }
         Some(Inst::spelled(front.op, front.split, &bytes[..front.length]))
@@ -238,18 +236,5 @@ impl<'r, R: Source> Reader<'r, R> {
         ensures byte { TakesOneAhead R.left R.failures self.old result self.new }
     {
         self.core.again(self.source)
-    }
-}
-
-/// Whether `peek` may return an instruction with this opcode: the reader stays open after it, and
-/// it opens no frame. FRAME is left to `next_head`, so that a loop over `peek` need not ask for it.
-#[inline(always)]
-fn stays_open(op: Op) -> bool
-    ensures { result ≡ true → phase_after op ≡ phase.Open }
-{
-    match op {
-        Op::Stop => false,
-        Op::Frame => false,
-        _ => true,
     }
 }

@@ -20,9 +20,11 @@ use Rattle.pkops.specs.declared.Layout.TheVariants as layout
 use Rattle.pkops.specs.declared.Width.{Width}
 use Rattle.pkops.specs.declared.Width.TheVariants as width
 use Rattle.pkops.specs.declared.Op.{Op}
+use Rattle.pkops.specs.declared.Op.TheVariants as op
 use Rattle.pkread.proofs.Bytes.Plain.{any_rule, takes_any, text_admitted, text_rule}
 use Rattle.pkread.proofs.Bytes.Taken.{AreBytes-take}
 use Rattle.pkread.proofs.Bytes.Texts.{line_admitted, pair_admitted}
+use Rattle.pkread.specs.Core.{Open, phase_after}
 use Rattle.pkread.specs.Private.Gathering.{HasFixedLength, IsFront, IsInFront}
 use Rattle.pkread.specs.Private.Judging.{is_plain}
 use Rattle.pkread.specs.Private.Taking.{AreAllBytes}
@@ -74,7 +76,7 @@ field_few (layout.Counted width.Eight signed) = omega arith
 -- an opcode with an argument of fixed length, of which all are good
 pub fixed_front : FieldLaws → (limit n : ℕ) (o : Op) (bytes : List ℕ) → HasFixedLength o n →
     AreAllBytes bytes → n ≤ length bytes → code_of o ≡ get_or bytes 0 0 →
-    IsInFront limit o n bytes
+    IsFront limit o 0 n bytes
 fixed_front fields limit n o [] h fits room code = absurd (omega (arith, room, h.length_is))
 fixed_front fields limit n o (x ∷ rest) h fits room code =
     let size = field_len (layout_at o) in
@@ -88,16 +90,31 @@ fixed_front fields limit n o (x ∷ rest) h fits room code =
     let same : suc size ≡ n = sym is in
     let lies : Lies limit o whole.0 0 (take n (x ∷ rest)) =
     subst (λ (m : ℕ). Lies limit o whole.0 0 (take m (x ∷ rest))) same (rw (← code) whole.1) in
-    (0, record {
+    record {
       found = record {
         arg = whole.0;
         lies = lies;
         good = record { suits = lies.laid.suits; contents = rw any.contents tt };
         admitted = any.admitted whole.0;
       };
+      goes_on = h.goes_on;
       few = omega (arith, is, few);
       within = room;
-    })
+    }
+
+-- an opcode with an argument that varies in length is no STOP
+counted_goes_on : (o : Op) (size : Width) → layout_at o ≡ layout.Counted size false →
+    phase_after o ≡ Open
+counted_goes_on op.Stop size e = absurd cc
+counted_goes_on _ size e = refl
+
+line_goes_on : (o : Op) (most : ℕ) → layout_at o ≡ layout.Line most → phase_after o ≡ Open
+line_goes_on op.Stop most e = absurd cc
+line_goes_on _ most e = refl
+
+pair_goes_on : (o : Op) (most : ℕ) → layout_at o ≡ layout.Pair most → phase_after o ≡ Open
+pair_goes_on op.Stop most e = absurd cc
+pair_goes_on _ most e = refl
 
 -- the number in the first bytes doesn't depend on those behind them
 number_take : (i n k : ℕ) (xs : List ℕ) → i + n ≤ k →
@@ -159,6 +176,7 @@ counted_front counts limit n o size (x ∷ rest) lay fits code head within is ro
         };
         admitted = text_admitted o size false (Counted payload) lay;
       };
+      goes_on = counted_goes_on o size lay;
       few = few;
       within = room;
     })
@@ -230,6 +248,7 @@ module _ (o : Op) (most end : ℕ) (line : List ℕ) (lay : layout_at o ≡ layo
           good = good;
           admitted = line_admitted o most (Line (take end line)) lay;
         };
+        goes_on = line_goes_on o most lay;
         few = omega (arith, low, few);
         within = omega (arith, high);
       })
@@ -291,6 +310,7 @@ module _ (o : Op) (most first second : ℕ) (lines behind : List ℕ)
           good = good;
           admitted = pair_admitted o most (Pair (take first lines) (take second behind)) lay;
         };
+        goes_on = pair_goes_on o most lay;
         few = omega (arith, both, long, length-take count rest, few);
         within = omega (arith, both, long, length-take count rest);
       })

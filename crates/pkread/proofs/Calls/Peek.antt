@@ -29,9 +29,9 @@ seen core source = record {
 -- an instruction at the front of the bytes at hand is next
 pub is_next : (s : ReaderState) (count split n : ℕ) (o : Op) (bytes : List ℕ) (j : Instruction)
     (f : IsFront (payload_limit s.limits o) o split n bytes) → j ≡ instruction o f.found.arg →
-    s.phase ≡ Open → phase_after o ≡ Open → BeginsWith s.source.left bytes →
+    s.phase ≡ Open → BeginsWith s.source.left bytes →
     length bytes ≤ count → s.taken + n ≤ all_bytes → IsNext s count j
-is_next s count split n o bytes j f same open' goes_on begins at_hand within =
+is_next s count split n o bytes j f same open' begins at_hand within =
     let i : Instruction = instruction o f.found.arg in
     let limit = payload_limit s.limits o in
     let e : take n bytes ≡ spelling i = f.found.lies.spelled in
@@ -40,7 +40,7 @@ is_next s count split n o bytes j f same open' goes_on begins at_hand within =
     let long : n ≡ length (spelling i) = omega (arith, ap length e, length-take n bytes, enough) in
     rw same (record {
       phase = open';
-      goes_on = goes_on;
+      goes_on = f.goes_on;
       allowed = is_allowed limit (take n bytes) o i (found_gathered _ _ _ _ f.found) refl;
       begins = rw e at (begins_front n s.source.left bytes begins);
       at_hand = omega (arith, long, enough, at_hand);

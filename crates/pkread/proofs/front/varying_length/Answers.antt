@@ -6,9 +6,9 @@ use Rattle.pkread.proofs.front.varying_length.Goals as goal
 
 pub returns-in-Counted-default-false : goal.returns-in-Counted-default-false
 returns-in-Counted-default-false c o code ne =
-    subst (λ (x : Op). IsInFront (payload_limit c.args.limits.now x) x c.counted_length.result
+    subst (λ (x : Op). IsInFront (payload_limit c.args.limits.now x) x c.counted_length-in-Counted-default-false.result
     c.args.bytes.now) (c.one_code.ensures c.in-Some.op o (c.in-Some.ensures.found ∙ sym code))
-    (rw c.limit_of.ensures at (c.counted_length.ensures ne))
+    (rw c.limit_of.ensures at (c.counted_length-in-Counted-default-false.ensures ne))
 
 pub returns-in-Line : goal.returns-in-Line
 returns-in-Line c o code ne =

@@ -17,5 +17,5 @@ returns-clause-next g c =
     (c.if-not-is_open.ensures.none refl)) c.ahead-bytes.ensures.first in
     is_next old _ c.in-Some.front.split c.in-Some.front.length c.in-Some.front.op bytes _ front
     (c.spelled.ensures _ _ front.found.lies) (c.if-not-is_open.ensures.open refl)
-    (c.if-not-stays_open.ensures refl) begins c.ahead-bytes.ensures.within
+    begins c.ahead-bytes.ensures.within
     (c.if-not-has_room.ensures refl)
