@@ -81,7 +81,7 @@ pub fn check_heard<R: Source, L: Listener>(
             let at = reader.taken();
             let length = inst.len();
             let heard = listener.hear(at, &inst, session.marks());
-            let verdict = session.judge(&inst, policy);
+            let verdict = session.judge_lent(&inst, policy);
             reader.advance(length as usize);
             heard?;
             if let Err(reason) = verdict {
@@ -99,7 +99,7 @@ pub fn check_heard<R: Source, L: Listener>(
             }
             Ok(Next::Inst { at, inst }) => {
                 listener.hear(at, &inst, session.marks())?;
-                if let Err(reason) = session.judge_slowly(&inst, policy) {
+                if let Err(reason) = session.judge(&inst, policy) {
                     return Ok(Err(session.refuse(at, reason)));
                 }
             }

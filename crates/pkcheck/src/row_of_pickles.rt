@@ -90,7 +90,7 @@ pub fn check_all<R: Source>(
     'instructions: loop {
         if let Some(inst) = reader.peek() {
             let length = inst.len() as usize;
-            if let Err(reason) = session.judge(&inst, policy) {
+            if let Err(reason) = session.judge_lent(&inst, policy) {
                 let at = reader.taken();
                 reader.advance(length);
                 return Err(refused(pickles, session, at, reason));
@@ -127,7 +127,7 @@ pub fn check_all<R: Source>(
                 }
             }
             Ok(Head::Inst { at, inst }) => {
-                if let Err(reason) = session.judge_slowly(&inst, policy) {
+                if let Err(reason) = session.judge(&inst, policy) {
                     return Err(refused(pickles, session, at, reason));
                 }
             }

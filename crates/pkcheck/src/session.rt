@@ -5,6 +5,7 @@ ghost use Rattle.pkops.specs.Admitted.{is_admitted};
 ghost use Rattle.pkops.specs.Inst.{instruction_of};
 ghost use Rattle.pkops.specs.Payloads.{is_passed};
 ghost use Rattle.pkops.specs.Spelling.{Instruction};
+ghost use Rattle.pkread.specs.Framing.{other};
 ghost use Rattle.pkread.specs.Pieces.{number_of, role_of};
 ghost use Rattle.pkcheck.specs.Covers.{Covers};
 ghost use Rattle.pkcheck.specs.Import.{policy_of};
@@ -53,8 +54,26 @@ impl Session {
         }
     }
 
-    /// Judges an instruction, first by the frame rules and then by the machine.
+    /// Judges a lent instruction, first by the frame rules and then by the machine.
     #[inline(always)]
+    pub fn judge_lent(&mut self, inst: &Inst<'_>, policy: &Policy<'_>) -> Result<(), Reason>
+        requires admitted { IsTrue (is_admitted (instruction_of inst.now)) }
+        requires role { role_of (instruction_of inst.now).op
+            (number_of (instruction_of inst.now).arg) ≡ other }
+        requires running { self.old.machine.stopped ≡ false }
+        requires well { self.old.machine.refused ≡ None }
+        ensures ok { IfOk result (λ _. BothGoOn (policy_of policy.now) (instruction_of inst.now)
+            self.old.frame self.old.machine self.new.frame self.new.machine) }
+        ensures err { IfErr result (IsRefused (policy_of policy.now) (instruction_of inst.now)
+            self.old.frame self.old.machine self.new.machine) }
+    {
+        self.frames.take_other(inst.len())?;
+        self.machine.step(inst, policy)?;
+        Ok(())
+    }
+
+    /// Judges an instruction that a loop seldom meets: any one that `peek` does not lend.
+    #[inline(never)]
     pub fn judge(&mut self, inst: &Inst<'_>, policy: &Policy<'_>) -> Result<(), Reason>
         requires admitted { IsTrue (is_admitted (instruction_of inst.now)) }
         requires running { self.old.machine.stopped ≡ false }
@@ -67,20 +86,6 @@ impl Session {
         self.frames.take(inst.op(), inst.len(), frame_length(inst))?;
         self.machine.step(inst, policy)?;
         Ok(())
-    }
-
-    /// Judges an instruction that a loop seldom meets.
-    #[inline(never)]
-    pub fn judge_slowly(&mut self, inst: &Inst<'_>, policy: &Policy<'_>) -> Result<(), Reason>
-        requires admitted { IsTrue (is_admitted (instruction_of inst.now)) }
-        requires running { self.old.machine.stopped ≡ false }
-        requires well { self.old.machine.refused ≡ None }
-        ensures ok { IfOk result (λ _. BothGoOn (policy_of policy.now) (instruction_of inst.now)
-            self.old.frame self.old.machine self.new.frame self.new.machine) }
-        ensures err { IfErr result (IsRefused (policy_of policy.now) (instruction_of inst.now)
-            self.old.frame self.old.machine self.new.machine) }
-    {
-        self.judge(inst, policy)
     }
 
     /// Judges an instruction with this opcode and length whose payload was skipped.

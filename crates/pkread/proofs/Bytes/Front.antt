@@ -24,7 +24,8 @@ use Rattle.pkops.specs.declared.Op.TheVariants as op
 use Rattle.pkread.proofs.Bytes.Plain.{any_rule, takes_any, text_admitted, text_rule}
 use Rattle.pkread.proofs.Bytes.Taken.{AreBytes-take}
 use Rattle.pkread.proofs.Bytes.Texts.{line_admitted, pair_admitted}
-use Rattle.pkread.specs.Core.{Open, phase_after}
+use Rattle.pkread.specs.Framing.{other}
+use Rattle.pkread.specs.Pieces.{role_of}
 use Rattle.pkread.specs.Private.Gathering.{HasFixedLength, IsFront, IsInFront}
 use Rattle.pkread.specs.Private.Judging.{is_plain}
 use Rattle.pkread.specs.Private.Taking.{AreAllBytes}
@@ -97,24 +98,27 @@ fixed_front fields limit n o (x ∷ rest) h fits room code =
         good = record { suits = lies.laid.suits; contents = rw any.contents tt };
         admitted = any.admitted whole.0;
       };
-      goes_on = h.goes_on;
+      role = h.role;
       few = omega (arith, is, few);
       within = room;
     }
 
--- an opcode with an argument that varies in length is no STOP
-counted_goes_on : (o : Op) (size : Width) → layout_at o ≡ layout.Counted size false →
-    phase_after o ≡ Open
-counted_goes_on op.Stop size e = absurd cc
-counted_goes_on _ size e = refl
+-- an opcode with an argument that varies in length is neither STOP nor FRAME
+counted_role : (o : Op) (size : Width) → layout_at o ≡ layout.Counted size false →
+    role_of o 0 ≡ other
+counted_role op.Stop size e = absurd cc
+counted_role op.Frame size e = absurd cc
+counted_role _ size e = refl
 
-line_goes_on : (o : Op) (most : ℕ) → layout_at o ≡ layout.Line most → phase_after o ≡ Open
-line_goes_on op.Stop most e = absurd cc
-line_goes_on _ most e = refl
+line_role : (o : Op) (most : ℕ) → layout_at o ≡ layout.Line most → role_of o 0 ≡ other
+line_role op.Stop most e = absurd cc
+line_role op.Frame most e = absurd cc
+line_role _ most e = refl
 
-pair_goes_on : (o : Op) (most : ℕ) → layout_at o ≡ layout.Pair most → phase_after o ≡ Open
-pair_goes_on op.Stop most e = absurd cc
-pair_goes_on _ most e = refl
+pair_role : (o : Op) (most : ℕ) → layout_at o ≡ layout.Pair most → role_of o 0 ≡ other
+pair_role op.Stop most e = absurd cc
+pair_role op.Frame most e = absurd cc
+pair_role _ most e = refl
 
 -- the number in the first bytes doesn't depend on those behind them
 number_take : (i n k : ℕ) (xs : List ℕ) → i + n ≤ k →
@@ -176,7 +180,7 @@ counted_front counts limit n o size (x ∷ rest) lay fits code head within is ro
         };
         admitted = text_admitted o size false (Counted payload) lay;
       };
-      goes_on = counted_goes_on o size lay;
+      role = counted_role o size lay;
       few = few;
       within = room;
     })
@@ -248,7 +252,7 @@ module _ (o : Op) (most end : ℕ) (line : List ℕ) (lay : layout_at o ≡ layo
           good = good;
           admitted = line_admitted o most (Line (take end line)) lay;
         };
-        goes_on = line_goes_on o most lay;
+        role = line_role o most lay;
         few = omega (arith, low, few);
         within = omega (arith, high);
       })
@@ -310,7 +314,7 @@ module _ (o : Op) (most first second : ℕ) (lines behind : List ℕ)
           good = good;
           admitted = pair_admitted o most (Pair (take first lines) (take second behind)) lay;
         };
-        goes_on = pair_goes_on o most lay;
+        role = pair_role o most lay;
         few = omega (arith, both, long, length-take count rest, few);
         within = omega (arith, both, long, length-take count rest);
       })

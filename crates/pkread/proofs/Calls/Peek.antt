@@ -5,10 +5,13 @@ use Rattle.std.proofs.lemmas.List.{length-take, take_all}
 use Rattle.pkops.specs.Payloads.{payload_limit}
 use Rattle.pkops.specs.Spelling.{Instruction, instruction, spelling}
 use Rattle.pkops.specs.declared.Op.{Op}
+use Rattle.pkops.specs.declared.Op.TheVariants as op
 use Rattle.pkread.proofs.Bytes.Front.{begins_front, takes_shown}
 use Rattle.pkread.proofs.Bytes.Judged.{found_gathered}
 use Rattle.pkread.proofs.Calls.Next.{is_allowed, seen_so}
 use Rattle.pkread.specs.Core.{CoreView, Open, phase_after}
+use Rattle.pkread.specs.Framing.{other}
+use Rattle.pkread.specs.Pieces.{number_of, role_of}
 use Rattle.pkread.specs.Held.{most_held}
 use Rattle.pkread.specs.Peek.{IsNext, PassesOver}
 use Rattle.pkread.specs.Private.Gathering.{IsFront}
@@ -26,6 +29,16 @@ seen core source = record {
   phase = core.phase;
 }
 
+-- the role of an opcode that is neither STOP nor FRAME doesn't depend on its argument
+role_with : (o : Op) (n : ℕ) → role_of o 0 ≡ other → role_of o n ≡ other
+role_with op.Stop n e = e
+role_with op.Frame n e = absurd cc
+role_with _ n e = refl
+
+goes_on : (o : Op) → role_of o 0 ≡ other → phase_after o ≡ Open
+goes_on op.Stop e = absurd cc
+goes_on _ e = refl
+
 -- an instruction at the front of the bytes at hand is next
 pub is_next : (s : ReaderState) (count split n : ℕ) (o : Op) (bytes : List ℕ) (j : Instruction)
     (f : IsFront (payload_limit s.limits o) o split n bytes) → j ≡ instruction o f.found.arg →
@@ -40,7 +53,8 @@ is_next s count split n o bytes j f same open' begins at_hand within =
     let long : n ≡ length (spelling i) = omega (arith, ap length e, length-take n bytes, enough) in
     rw same (record {
       phase = open';
-      goes_on = f.goes_on;
+      goes_on = goes_on o f.role;
+      role = role_with o (number_of f.found.arg) f.role;
       allowed = is_allowed limit (take n bytes) o i (found_gathered _ _ _ _ f.found) refl;
       begins = rw e at (begins_front n s.source.left bytes begins);
       at_hand = omega (arith, long, enough, at_hand);

@@ -11,7 +11,8 @@ use Rattle.pkops.specs.Spelling.{line_feed, size_of}
 use Rattle.pkops.specs.Table.{code_of}
 use Rattle.pkops.specs.declared.Op.{Op}
 use Rattle.pkread.specs.Admission.{objection}
-use Rattle.pkread.specs.Core.{Open, phase_after}
+use Rattle.pkread.specs.Framing.{other}
+use Rattle.pkread.specs.Pieces.{role_of}
 use Rattle.pkread.specs.Private.Judging.{is_plain}
 use Rattle.pkread.specs.Private.Progress.{Intake}
 use Rattle.pkread.specs.Private.Taking.{AreAllBytes, LackRow, Took}
@@ -103,19 +104,19 @@ pub record Finds (limit : ℕ) (op : Op) (split : ℕ) (old new : Intake) : Type
   pub took : Took bytes old new
   pub found : IsFound limit new.bytes op split
 
--- an instruction of this opcode has n bytes, whatever they are, is good and admitted, and is no
--- STOP
+-- an instruction of this opcode has n bytes, whatever they are, is good and admitted, and is
+-- neither STOP nor FRAME
 pub record HasFixedLength (op : Op) (n : ℕ) : Type 0 where
   pub fixed : IsFixed (layout_at op)
   pub length_is : n ≡ field_len (layout_at op) + 1
   pub plain : is_plain op ≡ true
-  pub goes_on : phase_after op ≡ Open
+  pub role : role_of op 0 ≡ other
 
--- the first n bytes are an instruction of this opcode, which is no STOP and is short enough for any
--- buffer
+-- the first n bytes are an instruction of this opcode, which is neither STOP nor FRAME and short
+-- enough for any buffer
 pub record IsFront (limit : ℕ) (op : Op) (split n : ℕ) (bytes : List ℕ) : Type 0 where
   pub found : IsFound limit (take n bytes) op split
-  pub goes_on : phase_after op ≡ Open
+  pub role : role_of op 0 ≡ other
   pub few : n ≤ 131_075
   pub within : n ≤ length bytes
 

@@ -162,8 +162,8 @@ returns-in-Ok-Ended-clause-answer g c =
     (c.into_imports.ensures ∙ r.2.imports) in
     (r.3, record { right = w.0; each = subst (λ p. AreHeardBehind [] p r.3) (sym w.1) r.4 }, r.5)
 
-pub returns-in-Err-judge_slowly-clause-answer : goal.returns-in-Err-judge_slowly-clause-answer
-returns-in-Err-judge_slowly-clause-answer g c =
+pub returns-in-Err-judge-clause-answer : goal.returns-in-Err-judge-clause-answer
+returns-in-Err-judge-clause-answer g c =
     let k = c.next.follows.holds-at-none in
     let r = c.instructions.invariant.checked in
     let took = took_next _ _ _ r.0 _ r.2.reads r.2.read_limits _ refl c.nexts.ensures.given
@@ -174,8 +174,8 @@ returns-in-Err-judge_slowly-clause-answer g c =
     (instruction_of c.in-Ok-Inst.inst) took _ c.marks-in-Ok-Inst.ensures in
     let refused = refused_took _ _ _ _ _ r.0 r.1 _ _ _ r.2 _ c.in-Ok-Inst.at
     (instruction_of c.in-Ok-Inst.inst) _ took (seen_so _ _ _ k.3 (search rules))
-    (longest c.args.policy.now) _ _ _ c.in-Err-judge_slowly.ensures.err refl in
-    let w = refusal_of _ _ _ _ _ r.0 r.1 _ _ _ r.2 _ _ _ _ _ _ _ c.refuse-in-Err-judge_slowly.ensures refl
+    (longest c.args.policy.now) _ _ _ c.in-Err-judge.ensures.err refl in
+    let w = refusal_of _ _ _ _ _ r.0 r.1 _ _ _ r.2 _ _ _ _ _ _ _ c.refuse-in-Err-judge.ensures refl
     refused in
     let each = subst (λ p. AreHeardBehind [] p (r.3 ++ x ∷ [])) (sym w.1)
     (heard_more [] r.0 r.3 (instruction_of c.in-Ok-Inst.inst) x r.4 here) in (
@@ -213,7 +213,7 @@ instructions-preserved g c =
     let here = heard_here _ _ _ r.0 r.1 _ _ _ r.2 _ c.in-Ok-Inst.at
     (instruction_of c.in-Ok-Inst.inst) took _ c.marks-in-Ok-Inst.ensures in
     let checked = checked_took _ _ _ _ _ r.0 r.1 _ _ _ r.2 _ _ _ c.in-Ok-Inst.at
-    (instruction_of c.in-Ok-Inst.inst) took c.in_default-judge_slowly.ensures.ok in
+    (instruction_of c.in-Ok-Inst.inst) took c.in_default-judge.ensures.ok in
     let each = heard_more [] r.0 r.3 (instruction_of c.in-Ok-Inst.inst) x r.4 here in
     record {
       same = k.0 ∙ c.instructions.invariant.same;

@@ -99,7 +99,7 @@ instructions-preserved-in-Some g c =
         _,
         _,
         checked_took _ _ _ _ _ r.4 r.5 _ _ _ r.6 _ _ _ _ (instruction_of inst)
-            took c.in_default-judge.ensures.ok,
+            took c.in_default-judge_lent.ensures.ok,
         r.7,
       );
     }
@@ -329,23 +329,23 @@ returns-in-Err-judge_passed-clause-count g c =
     k.3 refl) _ (c.in-Err-judge_passed.ensures.err i
     (long_passed _ _ _ _ _ _ _ _ _ w _ c.taken.ensures)))
 
-pub returns-in-Err-judge_slowly-clause-answer : goal.returns-in-Err-judge_slowly-clause-answer
-returns-in-Err-judge_slowly-clause-answer g c =
+pub returns-in-Err-judge-clause-answer : goal.returns-in-Err-judge-clause-answer
+returns-in-Err-judge-clause-answer g c =
     let taking = c.rows.ensures.taking in
     let k = c.next_head.follows.holds-at-none in
     let r = c.instructions.invariant.row in
     let took = took_head _ _ _ r.4 _ r.6.reads r.6.read_limits _ c.heads.ensures.given
     c.next_head.result c.in-Ok-Inst.at c.in-Ok-Inst.inst k.1
     (cc (c.in-Ok-Inst.is, c.in-Ok-Inst.field-0-is)) in
-    let e = c.refused-in-Err-judge_slowly.ensures in
+    let e = c.refused-in-Err-judge.ensures in
     told _ _ _ _ _ _ _ _ _ _ _ _ _ _ refl e.pickle e.no.place e.no.why e.no.pair
     (row_refused taking _ _ _ _ _ _ _ _ _ r.3 _ _ _ _
     (refused_took _ _ _ _ _ r.4 r.5 _ _ _ r.6 _ c.in-Ok-Inst.at
     (instruction_of c.in-Ok-Inst.inst) _ took (seen_so _ _ _ k.3 (search rules))
-    (longest c.args.policy.now) _ _ _ c.in-Err-judge_slowly.ensures.err refl).0 (λ is. r.7))
+    (longest c.args.policy.now) _ _ _ c.in-Err-judge.ensures.err refl).0 (λ is. r.7))
 
-pub returns-in-Err-judge_slowly-clause-count : goal.returns-in-Err-judge_slowly-clause-count
-returns-in-Err-judge_slowly-clause-count g c =
+pub returns-in-Err-judge-clause-count : goal.returns-in-Err-judge-clause-count
+returns-in-Err-judge-clause-count g c =
     let taking = c.rows.ensures.taking in
     let k = c.next_head.follows.holds-at-none in
     let r = c.instructions.invariant.row in
@@ -358,16 +358,16 @@ returns-in-Err-judge_slowly-clause-count g c =
     (seen_so c.next_head.follows.lender-at-none.core.ahead
     (sight g.R.Source.left g.R.Source.failures c.next_head.follows.lender-at-none.source.now)
     (sight g.R.Source.left g.R.Source.failures c.next_head.follows.lender-at-none.source.now)
-    k.3 refl) (longest c.args.policy.now) _ _ _ c.in-Err-judge_slowly.ensures.err refl).0 in
-    count_on _ _ _ _ _ _ _ _ _ (returns-in-Err-judge_slowly-clause-answer g c) _ _
+    k.3 refl) (longest c.args.policy.now) _ _ _ c.in-Err-judge.ensures.err refl).0 in
+    count_on _ _ _ _ _ _ _ _ _ (returns-in-Err-judge-clause-answer g c) _ _
     (sight g.R.Source.left g.R.Source.failures c.next_head.follows.lender-at-none.source.now)
-    c.refused-in-Err-judge_slowly.ensures.no.why (none_failed taking _ _ _ _ _ _ _ _ _ r.3)
+    c.refused-in-Err-judge.ensures.no.why (none_failed taking _ _ _ _ _ _ _ _ _ r.3)
     (search rules) (count_took _ _ _ _ _ r.4 r.5 _ _ _ r.6 _ c.in-Ok-Inst.at
     (instruction_of c.in-Ok-Inst.inst) _ _ _ _ _ no refl took
     (seen_so c.next_head.follows.lender-at-none.core.ahead
     (sight g.R.Source.left g.R.Source.failures c.next_head.follows.lender-at-none.source.now)
     (sight g.R.Source.left g.R.Source.failures c.next_head.follows.lender-at-none.source.now)
-    k.3 refl) _ c.in-Err-judge_slowly.ensures.err)
+    k.3 refl) _ c.in-Err-judge.ensures.err)
 
 pub instructions-preserved-in_default-judge_passed :
     goal.instructions-preserved-in_default-judge_passed
@@ -411,7 +411,7 @@ instructions-preserved g c =
         _,
         _,
         checked_took _ _ _ _ _ r.4 r.5 _ _ _ r.6 _ _ _ c.in-Ok-Inst.at
-            (instruction_of c.in-Ok-Inst.inst) took c.in_default-judge_slowly.ensures.ok,
+            (instruction_of c.in-Ok-Inst.inst) took c.in_default-judge.ensures.ok,
         r.7,
       );
     }
