@@ -11,7 +11,7 @@
 #define ROOM 512              /* names up to this length need no second call */
 
 /* The indexes of `HELD` in storklocker._answers. */
-enum { VERDICT, ROW_VERDICT, REASONS };
+enum { VERDICT, ROW_VERDICT, REASONS, ASKED };
 
 struct state {
     PyObject *held, *pairs;
@@ -171,18 +171,8 @@ static PyObject *pair_of(const struct storklocker_verdict *v, const uint8_t *roo
         "s#s#", module, (Py_ssize_t)v->module_length, name, (Py_ssize_t)v->name_length);
 }
 
-/* Keeps the arguments in a verdict, for its `missing`. */
-static PyObject *keeping(PyObject *verdict, const struct request *r) {
-    PyObject *asked = Py_BuildValue(
-        "OOy#", r->data, r->allow, (const char *)&r->settings, (Py_ssize_t)sizeof r->settings);
-    if (asked == NULL || PyObject_SetAttrString(verdict, "_asked", asked) < 0)
-        Py_CLEAR(verdict);
-    Py_XDECREF(asked);
-    return verdict;
-}
-
 /* The answer of a call; None if `is_short` and one accepted pickle is all of the bytes. Calls again
-   if the names don't fit. */
+   if the names don't fit. A verdict keeps the arguments for its `missing`. */
 static PyObject *answered(
     PyObject *module, PyObject *args, call_of_pairs *call, int kind, int is_short) {
     const struct state *state = PyModule_GetState(module);
@@ -205,7 +195,10 @@ static PyObject *answered(
         PyMem_Free(room);
     int is_import =
         v.reason == STORKLOCKER_IMPORT_OFF_LIST || v.reason == STORKLOCKER_UNKNOWN_IMPORT;
-    return made != NULL && kind == VERDICT && is_import ? keeping(made, &r) : made;
+    PyObject *asked = PyTuple_GetItem(state->held, ASKED);
+    if (made != NULL && kind == VERDICT && is_import && PyObject_SetAttr(made, asked, args) < 0)
+        Py_CLEAR(made);
+    return made;
 }
 
 static PyObject *verdict(PyObject *module, PyObject *args) {

@@ -154,7 +154,7 @@ class RowVerdict(Verdict):
         return f"no in pickle {self.pickles} at {self.at}: {self._reason(most)}"
 
 
-HELD = (Verdict, RowVerdict, REASONS)
+HELD = (Verdict, RowVerdict, REASONS, "_asked")
 """Objects that the extension module builds answers from, in the order of `_storklocker.c`."""
 
 

@@ -176,7 +176,8 @@ class Guard:
         self._allow = allow
         self._limits = limits
         self._old_strings = old_strings
-        self._settings = settings
+        is_own = settings == settings_of(allow, None, "unknown")
+        self._settings = None if is_own else settings  # None is faster: they are the list's own
         self._fix_imports = bool(fix_imports)
         self._on_refusal = on_refusal
         self._enforce = bool(enforce)
@@ -232,9 +233,7 @@ class Guard:
         listed = self._listed_for(data) if self._fix_imports else self._new
         no = verdict_unless_whole(data, listed, self._settings)
         if no is not None:
-            refused = self._told(no, data)
-            if self._enforce:
-                raise refused
+            self._refuse(no, data)
         if self._is_plain and encoding is None and errors is None and buffers is None:
             return _loads(data, fix_imports=False)
         encoding, errors = self._decoding(encoding, errors)
@@ -335,9 +334,9 @@ class Guard:
 
     def _refuse(self, verdict: Verdict, data: bytes) -> None:
         """Reports a refusal, and raises it unless it isn't enforced."""
-        refused = self._told(verdict, data)
         if self._enforce:
-            raise refused
+            raise self._told(verdict, data)  # a variable of it would make a cycle with this frame
+        self._told(verdict, data)
 
     def _refusal_of(self, data: bytes) -> Optional[Refused]:
         """The exception for `data`, reported to `on_refusal`, or None if it is one accepted pickle.

@@ -246,12 +246,14 @@ def imports_of(
     return _imports_under(data, allow, settings_of(allow, limits, old_strings))
 
 
-def _imports_under(data: bytes, allow: AllowList, settings: bytes) -> Tuple[Verdict, bytes]:
+def _imports_under(
+    data: bytes, allow: AllowList, settings: Optional[bytes]
+) -> Tuple[Verdict, bytes]:
     (verdict,), room = with_room(lambda size: _imports(data, allow, settings, size))
     return verdict, room
 
 
-def missing_of(data: bytes, allow: AllowList, settings: bytes) -> List[Import]:
+def missing_of(data: bytes, allow: AllowList, settings: Optional[bytes]) -> List[Import]:
     """The imports that the list doesn't permit, each once."""
     _, room = _imports_under(data, allow, settings)
     return imports_in(it for it in dict.fromkeys(records(room)) if not allow._has(it))

@@ -6,6 +6,7 @@ import bz2
 import collections
 import contextlib
 import ctypes
+import gc
 import gzip
 import io
 import lzma
@@ -141,6 +142,35 @@ class Loads(unittest.TestCase):
                 GUARD.loads(data)
             with self.assertRaises(pickle.UnpicklingError):
                 GUARD.loads(data)
+
+    def test_a_refusal_leaves_the_garbage_collector_nothing(self):
+        GUARD.load(io.BytesIO(b"N."))  # imports what it needs
+        calls = [
+            lambda: GUARD.loads(HOSTILE),
+            lambda: GUARD.loads(b"N.N."),
+            lambda: GUARD.load(io.BytesIO(HOSTILE)),
+            lambda: GUARD.Unpickler(io.BytesIO(HOSTILE)).load(),
+        ]
+        for number, call in enumerate(calls):
+            gc.collect()
+            gc.disable()
+            try:
+                call()
+            except Refused:
+                pass
+            with self.subTest(number=number):
+                self.assertEqual(gc.collect(), 0)
+            gc.enable()
+
+    def test_what_is_missing_under_limits_of_the_guard(self):
+        limits = storklocker.Limits(stack=3)
+        for guard in (NOTHING, Guard(NOTHING.allow, limits=limits)):
+            for data in (b"(cm\na\ncm\nb\nt.", b"(cm\na\ncm\nb\nNNt."):
+                with self.subTest(guard=guard), self.assertRaises(Refused) as raised:
+                    guard.loads(data)
+                found = raised.exception.verdict.missing
+                fits = guard is NOTHING or b"N" not in data
+                self.assertEqual([it.name for it in found], ["a", "b"] if fits else ["a"])
 
     def test_bad_input(self):
         for given in (None, "N.", 5, [78, 46], object()):
