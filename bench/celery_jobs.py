@@ -2,39 +2,43 @@
 
 import os
 import time
-from typing import Any, Dict, Tuple
+from typing import Any, Dict
 
+import redis  # type: ignore[import]
 import storklocker  # type: ignore[import]
 from celery import Celery  # type: ignore[import]
 from storklocker import lists
 from storklocker.contrib.kombu import register  # type: ignore[import]
 
 REDIS = f"redis://127.0.0.1:{os.environ['REDIS_PORT']}"
-app = Celery("jobs", broker=f"{REDIS}/1", backend=f"{REDIS}/2")
+QUEUE = os.environ.get("QUEUE", "bare")
+app = Celery("jobs", broker=f"{REDIS}/1")
 app.conf.update(
     task_serializer="pickle",
-    result_serializer="pickle",
     accept_content=["pickle"],
+    task_ignore_result=True,
     worker_hijack_root_logger=False,
     worker_prefetch_multiplier=64,
 )
-if os.environ.get("GUARD"):
-    allowed = lists.DATETIME | lists.STANDARD_TYPES
-    register(storklocker.Guard(allowed), app)
-_began: Dict[str, Any] = {}
-
-
-@app.task(ignore_result=True)  # type: ignore[misc]
-def work(payload: object) -> None:
-    """A job that does nothing. The first one starts the clock."""
-    _began.setdefault("at", (time.perf_counter(), time.process_time()))
-    _began["count"] = _began.get("count", 0) + 1
+if QUEUE == "guarded":
+    register(storklocker.Guard(lists.DATETIME | lists.STANDARD_TYPES), app)
+signals: Any = redis.Redis.from_url(f"{REDIS}/2")
+_began: Dict[str, int] = {}
 
 
 @app.task  # type: ignore[misc]
-def finish() -> Tuple[int, float, float]:
-    """The number of jobs done since the first, and their wall time and CPU time in seconds."""
-    at = _began["at"]
-    told = (_began["count"], time.perf_counter() - at[0], time.process_time() - at[1])
-    _began.clear()
-    return told
+def begin() -> None:
+    """Starts the clock as soon as all of the batch is in the queue."""
+    signals.blpop("queued")
+    _began["at"] = time.process_time_ns()
+
+
+@app.task  # type: ignore[misc]
+def work(payload: object) -> None:
+    """A job that does nothing."""
+
+
+@app.task  # type: ignore[misc]
+def finish() -> None:
+    """Tells the CPU time of the batch in nanoseconds."""
+    signals.rpush("done", time.process_time_ns() - _began["at"])

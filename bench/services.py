@@ -5,7 +5,6 @@ It needs Debian's python3 with the packages that python/services installs, and t
 """
 import argparse
 import datetime
-import gc
 import importlib
 import os
 import pathlib
@@ -27,6 +26,8 @@ import storklocker  # type: ignore[import]  # noqa: E402
 from storklocker import lists  # noqa: E402
 
 CELERY_TARGET, DJANGO_TARGET, DASK_TARGET = 1.05, 1.5, 1.8
+JOBS, PAIRS = 10, 3
+"""The jobs of a batch, and the pairs of workers: each pair lies elsewhere in memory."""
 BOUND = 1.5
 """How many times its target a figure may reach before it counts as a regression."""
 
@@ -44,41 +45,57 @@ def large(count: int) -> List[Dict[str, object]]:
     ]
 
 
-def celery(jobs: int) -> float:
-    """A worker's CPU time per job, bare and behind the guard, by payload."""
-    payloads: Dict[str, object] = {"195 bytes": small(), "12 KB": large(220)}
-    took: Dict[Tuple[str, str], List[Tuple[int, float, float]]] = {}
+def celery(rounds: int) -> float:
+    """Compares the CPU times of a bare and of a guarded worker, by payload."""
+    print("| Celery | a job, bare, µs | guarded, µs | times, median | quartiles |")
+    print("|---|---|---|---|---|")
+    median, processors = 0.0, os.sched_getaffinity(0)
+    os.sched_setaffinity(0, {max(processors)})  # both workers get the same speed
     with tempfile.TemporaryDirectory() as folder, common.redis_server(folder) as port:
         os.environ["REDIS_PORT"] = str(port)
-        for turn in range(3):
-            for guard in ("", "1"):
-                log = pathlib.Path(folder, "log")
-                words = ("-m", "celery", "--workdir", str(HERE), "-A", "celery_jobs", "worker")
-                more = {"GUARD": guard, "C_FORCE_ROOT": "1"}
-                with common.process(*words, "-P", "solo", "-l", "error", log=log, **more):
-                    for name, payload in payloads.items():
-                        took.setdefault((name, guard), []).append(worked(payload, jobs))
-    print("| Celery | Jobs a second, bare | guarded | Processor time, times bare |")
-    print("|---|---|---|---|")
-    worst = 0.0
-    for name in payloads:
-        bare, kept = (min(took[name, guard], key=lambda it: it[2]) for guard in ("", "1"))
-        ratio = kept[2] / kept[0] / (bare[2] / bare[0])
-        paces = f"{bare[0] / bare[1]:.0f} | {kept[0] / kept[1]:.0f}"
-        print(f"| {name} | {paces} | {ratio:.3f} |", flush=True)
-        worst = ratio if name == "195 bytes" else worst
-    return worst
+        for name, payload in (("12 KB", large(220)), ("195 bytes", small())):
+            times: List[Tuple[float, float]] = []
+            for _ in range(PAIRS):
+                with worker(folder, "bare"), worker(folder, "guarded"):
+                    batches(payload, 3)  # warms up
+                    times += batches(payload, rounds)
+            bare, kept = (1e6 * statistics.median(it) for it in zip(*times))
+            low, median, high = statistics.quantiles([kept / bare for bare, kept in times], n=4)
+            spread = f"{median:.3f} | {low:.3f} to {high:.3f}"
+            print(f"| {name} | {bare:.0f} | {kept:.0f} | {spread} |", flush=True)
+    os.sched_setaffinity(0, processors)
+    return median
 
 
-def worked(payload: object, jobs: int) -> Any:
-    """What a worker reports about this many jobs."""
+def worker(folder: str, queue: str) -> Any:
+    """A worker of one process, which takes the jobs of this queue."""
+    words = ("-m", "celery", "--workdir", str(HERE), "-A", "celery_jobs", "worker", "-Q", queue)
+    more = {"QUEUE": queue, "C_FORCE_ROOT": "1", "PYTHONHASHSEED": "0"}
+    log = pathlib.Path(folder, queue)
+    return common.process(*words, "-n", queue, "-P", "solo", "-l", "error", log=log, **more)
+
+
+def batches(payload: object, rounds: int) -> List[Tuple[float, float]]:
+    """The CPU time of a job in each round, bare and guarded. The batches of a round lie around the
+    same moment, because the speed of a busy machine changes.
+    """
+    found = []
+    for _ in range(rounds):
+        took = [batch(payload, queue) for queue in ("bare", "guarded", "guarded", "bare")]
+        found.append(((took[0] + took[3]) / 2, (took[1] + took[2]) / 2))
+    return found
+
+
+def batch(payload: object, queue: str) -> float:
+    """The CPU time of a job in seconds. The worker has the whole batch before it begins."""
     import celery_jobs
 
-    for _ in range(jobs):
-        celery_jobs.work.delay(payload)
-    told = celery_jobs.finish.delay().get(timeout=300)
-    gc.collect()  # a result that is freed later asks a Redis that has ended
-    return told
+    celery_jobs.begin.apply_async(queue=queue)
+    for _ in range(JOBS):
+        celery_jobs.work.apply_async((payload,), queue=queue)
+    celery_jobs.finish.apply_async(queue=queue)
+    celery_jobs.signals.rpush("queued", 1)
+    return int(celery_jobs.signals.blpop("done", 60)[1]) / JOBS / 1e9
 
 
 def django(rounds: int) -> float:
@@ -185,13 +202,13 @@ def dask(count: int) -> float:
 
 def main() -> int:
     words = argparse.ArgumentParser(description=__doc__.splitlines()[0])
-    words.add_argument("--jobs", type=int, default=2000, help="Celery jobs of each kind (2000)")
+    words.add_argument("--rounds", type=int, default=60, help="rounds of Celery's workers (60)")
     words.add_argument("--count", type=int, default=100_000, help="pickles in the bag (100,000)")
     words.add_argument("--only", choices=("celery", "django", "dask"), help="only this service")
     asked = words.parse_args()
     kept = []
     if asked.only in (None, "celery"):
-        kept.append(told("Celery at 195 bytes", celery(asked.jobs), CELERY_TARGET))
+        kept.append(told("Celery at 195 bytes", celery(asked.rounds), CELERY_TARGET))
     if asked.only in (None, "django"):
         kept.append(told("a get of 24 KB", django(60), DJANGO_TARGET))
     if asked.only in (None, "dask"):
