@@ -88,11 +88,11 @@ def _plain_guard(allow: AllowList) -> "Guard":
 
 
 @functools.lru_cache(maxsize=None)
-def _reader() -> Callable[[Any, Callable[[bytes], Verdict]], Optional[Tuple[bytes, Verdict]]]:
-    """`next_pickle`, imported on first use."""
-    from ._reading import next_pickle
+def _later(module: str) -> Any:
+    """A module of this package that few guards need, imported on first use."""
+    from importlib import import_module
 
-    return next_pickle
+    return import_module(f"{__package__}.{module}")
 
 
 def _hint(pair: Optional[Tuple[str, str]], allow: AllowList, fix_imports: bool) -> str:
@@ -289,9 +289,8 @@ class Guard:
     @staticmethod
     def context(value: Any) -> ContextManager[None]:
         """`storklocker.context`."""
-        from ._refusal import context
-
-        return context(value)
+        held: ContextManager[None] = _later("_refusal").context(value)
+        return held
 
     def _has_old_names(self, data: bytes) -> bool:
         """Whether the pickle uses the names of Python 2, which follows from its first instruction.
@@ -325,9 +324,8 @@ class Guard:
         bytes of the input if `data` is only its front.
         """
         if self._on_refusal is not None:
-            from ._refusal import Refusal, context_now
-
-            self._on_refusal(Refusal(verdict, data, context_now(), self._enforce))
+            told = _later("_refusal")
+            self._on_refusal(told.Refusal(verdict, data, told.CONTEXT.get(), self._enforce))
         if verdict.accepted:
             return MoreBytes(verdict, length or len(data))
         return Refused(verdict, _hint(verdict.pair, self._allow, self._fix_imports))
@@ -360,7 +358,7 @@ class Guard:
         """Bytes that begin with the next pickle of a file, which is accepted. None if only an
         Unpickler can read it.
         """
-        found = _reader()(file, self._judge)
+        found: Optional[Tuple[bytes, Verdict]] = _later("_reading").next_pickle(file, self._judge)
         if found is None:
             return None
         data, verdict = found

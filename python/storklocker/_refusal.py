@@ -8,7 +8,7 @@ from typing import Any, Iterator, Tuple
 
 from ._answers import Import, Verdict
 
-_context: "contextvars.ContextVar[Any]" = contextvars.ContextVar(
+CONTEXT: "contextvars.ContextVar[Any]" = contextvars.ContextVar(
     "storklocker.context", default=None
 )
 
@@ -69,13 +69,8 @@ def context(value: Any) -> Iterator[None]:
     """Sets the `context` of refusals within the block, for every guard: what is being loaded, such
     as the key of a cache entry.
     """
-    token = _context.set(value)
+    token = CONTEXT.set(value)
     try:
         yield
     finally:
-        _context.reset(token)
-
-
-def context_now() -> Any:
-    """The current value of `context`."""
-    return _context.get()
+        CONTEXT.reset(token)

@@ -13,7 +13,6 @@ without requeueing, its body isn't logged, and the guard's hook gets the task's 
 
 from __future__ import annotations
 
-import functools
 from typing import Any, Callable, Optional
 
 from .. import Guard
@@ -27,14 +26,14 @@ def register(guard: Guard, app: Optional[Any] = None) -> None:
     """
     from kombu import serialization
 
-    loader = Loader(guard)
+    loads = Loader(guard).loads
 
     def decode(data: Any) -> Any:
-        return loader.loads(data.encode() if isinstance(data, str) else data)
+        return loads(data.encode() if isinstance(data, str) else data)
 
     serialization.register("pickle", guard.dumps, decode, CONTENT_TYPE, "binary")
     if app is not None:
-        app.Task.Strategy = functools.partial(_strategy, guard)
+        app.Task.Strategy = staticmethod(_strategy)
 
 
 def register_database(guard: Guard) -> None:
@@ -48,22 +47,26 @@ def register_database(guard: Guard) -> None:
                 column.type.pickler = Loader(guard)
 
 
-def _strategy(guard: Guard, task: Any, app: Any, consumer: Any, **named: Any) -> Callable[..., Any]:
+def _strategy(task: Any, app: Any, consumer: Any, **named: Any) -> Callable[..., Any]:
     """Celery's default strategy for a task, which also rejects messages that the guard refuses."""
     from celery.exceptions import InvalidTaskError
     from celery.worker.strategy import default
     from kombu.exceptions import DecodeError
 
+    from .._refusal import CONTEXT  # for each message, `guard.context` would take much longer
+
     handle = default(task, app, consumer, **named)
 
     def handle_guarded(message: Any, *given: Any, **named: Any) -> Any:
         headers = message.headers or {}
+        token = CONTEXT.set({"task": headers.get("task"), "id": headers.get("id")})
         try:
-            with guard.context({"task": headers.get("task"), "id": headers.get("id")}):
-                return handle(message, *given, **named)
+            return handle(message, *given, **named)
         except DecodeError as error:
             # Celery logs the body of a rejected message.
             message.body = b""
             raise InvalidTaskError(f"the message was refused: {error}") from None
+        finally:
+            CONTEXT.reset(token)
 
     return handle_guarded
