@@ -233,7 +233,9 @@ class Guard:
         listed = self._listed_for(data) if self._fix_imports else self._new
         no = verdict_unless_whole(data, listed, self._settings)
         if no is not None:
-            self._refuse(no, data)
+            if self._enforce:
+                raise self._told(no, data)  # a variable of it would make a cycle with this frame
+            self._told(no, data)
         if self._is_plain and encoding is None and errors is None and buffers is None:
             return _loads(data, fix_imports=False)
         encoding, errors = self._decoding(encoding, errors)
@@ -333,7 +335,7 @@ class Guard:
     def _refuse(self, verdict: Verdict, data: bytes) -> None:
         """Reports a refusal, and raises it unless it isn't enforced."""
         if self._enforce:
-            raise self._told(verdict, data)  # a variable of it would make a cycle with this frame
+            raise self._told(verdict, data)
         self._told(verdict, data)
 
     def _refusal_of(self, data: bytes) -> Optional[Refused]:
