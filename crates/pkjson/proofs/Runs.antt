@@ -1,5 +1,5 @@
 -- The plain run of an accepted pickle, and its answer.
-pub mod BareOpcodes
+pub mod Fronts
 pub mod PlainStep
 pub mod PlainRun
 pub mod RunToStop

@@ -3,6 +3,7 @@
 pub mod Arena
 pub mod Acting
 pub mod Mirrors
+pub mod Fronts
 pub mod Standing
 pub mod Kinds
 pub mod Cells

@@ -6,6 +6,7 @@ mod arena;
 mod build;
 mod error;
 mod exporting;
+mod front;
 mod halt;
 mod integer;
 mod judge;

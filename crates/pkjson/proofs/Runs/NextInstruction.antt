@@ -20,7 +20,8 @@ use Rattle.pkjson.specs.Private.Held.{parts}
 use Rattle.pkjson.specs.Private.Mirrors.{EntriesBelow}
 use Rattle.pkjson.specs.Plain.{Fault, OtherOpcode, is_plain_data}
 use Rattle.pkjson.specs.Private.Replayed.{Replays}
-use Rattle.pkjson.specs.Private.Standing.{IsFront, Stands, StandsAt}
+use Rattle.pkjson.specs.Private.Fronts.{HasFront, IsFront}
+use Rattle.pkjson.specs.Private.Standing.{Stands, StandsAt}
 use Rattle.pkjson.proofs.Runs.Answered.{replays}
 use Rattle.pkjson.proofs.Runs.RunToStop.{rest_is}
 use Rattle.pkjson.proofs.Runs.PlainRun.{stands_at, other_opcode, faulty, lacks_nothing, stands_behind, stops_here}
@@ -33,6 +34,9 @@ only_stop action w = absurd w
 module _ (limits : Bounds) (bytes rest : List ℕ) (at : ℕ) (h : Held) (acc : IsAccepted limits bytes) (inv : (p : List Instruction) → AcceptedAs limits bytes p → Stands limits.counted p rest at (parts h)) where
   pub entries_there : EntriesBelow (length (parts h).kept) (parts h).shape.entries
   entries_there = (inv acc.0 acc.1).mirrors.held.entries
+
+  pub a_front : HasFront limits.counted rest
+  a_front = let s = stands_at limits.counted acc.0 rest at (parts h) (inv acc.0 acc.1) in (s.0, spellings s.1.after ++ s.1.tail, s.1.spelled, s.1.here)
 
   pub no_front : IsFront limits.counted rest None → ⊥
   no_front f = let s = stands_at limits.counted acc.0 rest at (parts h) (inv acc.0 acc.1) in f s.0 (spellings s.1.after ++ s.1.tail) s.1.spelled s.1.here

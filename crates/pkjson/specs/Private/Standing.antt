@@ -1,9 +1,6 @@
 -- How far a plain pickle has been replayed.
-use Rattle.std.specs.Prelude.{◌≡◌, ◌⊎◌, ℕ, Bool, List, [], ◌∷◌, ◌++◌, length, All, Option, Some}
-use Rattle.std.specs.Prelude.{None}
-use Rattle.pkops.specs.declared.Inst.{Inst}
+use Rattle.std.specs.Prelude.{◌≡◌, ◌⊎◌, ℕ, Bool, List, [], ◌∷◌, ◌++◌, All}
 use Rattle.pkops.specs.declared.Op.TheVariants as op
-use Rattle.pkops.specs.Inst.{instruction_of}
 use Rattle.pkops.specs.Spelling.{Instruction, spelling}
 use Rattle.pkread.specs.Admission.{IsAllowed}
 use Rattle.pkread.specs.Sequence.{spellings}
@@ -17,14 +14,6 @@ use Rattle.pkjson.specs.Private.Mirrors.{MirrorsState}
 abbrev pub HasStop : List Instruction → Type 0
 HasStop [] = ⊥
 HasStop (i ∷ is) = (i.op ≡ op.Stop) ⊎ HasStop is
-
--- the instruction at the front of the bytes, if there is one, and the number of bytes that spell it
-abbrev pub IsFront : ℕ → List ℕ → Option (Inst × ℕ) → Type 0
-IsFront limit bytes None =
-    (i : Instruction) (more : List ℕ) → bytes ≡ spelling i ++ more → IsAllowed limit i → ⊥
-IsFront limit bytes (Some p) =
-    (i : Instruction) (more : List ℕ) → bytes ≡ spelling i ++ more → IsAllowed limit i
-    → (instruction_of p.0 ≡ i) × (p.1 ≡ length (spelling i))
 
 -- the pickle p was replayed up to the bytes `rest`, which are at this offset; these are its
 -- objects, and no fault was found

@@ -6,9 +6,10 @@ use Rattle.pkjson.specs.Private.Arena.{no_object}
 use Rattle.pkjson.specs.Private.Halts.{IsHalted}
 use Rattle.pkjson.specs.Private.Held.{parts}
 use Rattle.pkjson.specs.Plain.{OtherKey, LargeNumber, is_plain_data}
-use Rattle.pkjson.specs.Private.Standing.{IsFront, Stands}
+use Rattle.pkjson.specs.Private.Fronts.{IsFront}
+use Rattle.pkjson.specs.Private.Standing.{Stands}
 use Rattle.pkjson.proofs.Entries.{all_after}
-use Rattle.pkjson.proofs.Runs.NextInstruction.{entries_there, no_front, within, some, other, faults, never_lacks, never_empty, ends, on}
+use Rattle.pkjson.proofs.Runs.NextInstruction.{a_front, entries_there, no_front, within, some, other, faults, never_lacks, never_empty, ends, on}
 use Rattle.pkjson.proofs.Runs.RunToStop.{stands_first}
 use Rattle.pkjson.proofs.replay.replay.Goals as goal
 
@@ -21,6 +22,11 @@ instructions-init c =
           (subst (λ n. Stands c.args.limits.now.counted p c.args.bytes.now n no_object) e
           (stands_first c.args.limits.now c.args.bytes.now p w)),
     )
+
+pub whole_at_front-requires : goal.whole_at_front-requires
+whole_at_front-requires c = a_front c.args.limits.now c.args.bytes.now c.instructions.rest.now
+    (length c.args.bytes.now - length c.instructions.rest.now) c.instructions.arena c.requires
+    c.instructions.invariant.1
 
 pub unreachable-requires : goal.unreachable-requires
 unreachable-requires c = no_front c.args.limits.now c.args.bytes.now c.instructions.rest.now

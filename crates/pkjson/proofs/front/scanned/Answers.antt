@@ -1,7 +1,7 @@
 use Rattle.std.proofs.Common.{ap, ◌∙◌}
 use Rattle.pkops.specs.Answer.{Whole, shown_scan}
 use Rattle.pkjson.proofs.Runs.RunToStop.{front_answers, whole_same, whole_more, whole_bad}
-use Rattle.pkjson.proofs.replay.whole_at_front.Goals as goal
+use Rattle.pkjson.proofs.front.scanned.Goals as goal
 
 pub returns-in-Whole : goal.returns-in-Whole
 returns-in-Whole c = λ i more e h. whole_same i _ _ _ (c.scan.ensures.only (Whole i _) (front_answers _ _ more i e h) ∙ ap shown_scan c.in-Whole.is)
