@@ -8,7 +8,7 @@ ghost use Rattle.pkjson.specs.Export.{IsValueOf, IsTextOf, IsNotExported, IsAcce
 ghost use Rattle.pkjson.specs.Private.Arena.{holds};
 ghost use Rattle.pkjson.specs.Private.Held.{parts};
 ghost use Rattle.pkjson.specs.Private.Settled.{AreGivenBelow};
-ghost use Rattle.pkjson.specs.Private.Nodes.{heap, IsClosed, AreOrdered};
+ghost use Rattle.pkjson.specs.Private.Nodes.{heap, size, IsClosed, AreOrdered};
 ghost use Rattle.pkjson.specs.Private.Result.{HasValue, IsValue, IsText, IsTooLarge};
 ghost use Rattle.pkjson.specs.Private.Result.{TellsRefusal};
 
@@ -16,9 +16,9 @@ use crate::arena::Arena;
 use crate::build::build;
 use crate::error::ExportError;
 use crate::judge::{Weight, weigh};
-use crate::node::Node;
 use crate::replay::replay;
 use crate::settle::settle;
+use crate::settled::Settled;
 use crate::writing::text_of;
 use pkcheck::{Policy, check};
 use pkops::Limits;
@@ -161,13 +161,13 @@ fn no_weights(alloc: Global, count: usize) -> Result<Vec<Option<Weight>>, AllocE
 /// Checks that an object has a value within the limits.
 fn judged(
     alloc: Global,
-    nodes: &[Node<'_>],
+    nodes: &Settled<'_, '_>,
     place: usize,
     deepest: u32,
     most: u32,
 ) -> Result<(), ExportError>
     requires closed { IsClosed nodes.now }
-    requires place { place < length nodes.now }
+    requires place { place < size nodes.now }
     requires deepest { deepest ≤ 1_000_000 }
     requires most { most ≤ 1_000_000 }
     ensures ok { OnOk result (HasValue (heap nodes.now) deepest most place) }
@@ -188,14 +188,14 @@ fn judged(
 /// The value of an object, within the limits.
 fn value_of(
     alloc: Global,
-    nodes: &[Node<'_>],
+    nodes: &Settled<'_, '_>,
     place: usize,
     deepest: u32,
     most: u32,
 ) -> Result<Value, ExportError>
     requires closed { IsClosed nodes.now }
     requires ordered { AreOrdered nodes.now }
-    requires place { place < length nodes.now }
+    requires place { place < size nodes.now }
     requires deepest { deepest ≤ 1_000_000 }
     requires most { most ≤ 1_000_000 }
     ensures ok { IfOk result (λ w. IsValue (heap nodes.now) deepest most place (view w)) }
@@ -211,13 +211,13 @@ fn value_of(
 /// The text of the value of an object, within the limits.
 fn written(
     alloc: Global,
-    nodes: &[Node<'_>],
+    nodes: &Settled<'_, '_>,
     place: usize,
     deepest: u32,
     most: u32,
 ) -> Result<Vec<u8>, ExportError>
     requires closed { IsClosed nodes.now }
-    requires place { place < length nodes.now }
+    requires place { place < size nodes.now }
     requires deepest { deepest ≤ 1_000_000 }
     requires most { most ≤ 1_000_000 }
     ensures ok { IfOk result (λ text. IsText (heap nodes.now) deepest most place text.items) }

@@ -1,9 +1,7 @@
 //! The instruction at the front of the bytes of an accepted pickle.
 
-ghost use Rattle.std.specs.Prelude.{◌≡◌, ◌==◌, ◌≤◌, ◌+◌, ℕ, Bool, IfSome, Some, length, drop};
-ghost use Rattle.std.specs.Prelude.{position};
-ghost use Rattle.pkops.specs.Lying.{count_in};
-ghost use Rattle.pkops.specs.Spelling.{layout_at, size_of};
+ghost use Rattle.std.specs.Prelude.{◌≡◌, ◌==◌, ℕ, Bool, IfSome, Some, position};
+ghost use Rattle.pkops.specs.Spelling.{layout_at};
 ghost use Rattle.pkops.specs.declared.Layout.TheVariants as layout;
 ghost use Rattle.pkops.specs.declared.Op.{Op as SpecOp};
 ghost use Rattle.pkjson.specs.Private.Fronts.{HasFront, IsFront, Measures};
@@ -17,10 +15,14 @@ pub fn whole_at_front<'a>(bytes: &'a [u8], limits: &Limits) -> Option<(Inst<'a>,
     requires { HasFront limits.now.counted bytes.now }
     ensures { IsFront limits.now.counted bytes.now result }
 {
-    if let Some(found) = spelled_at_front(bytes) {
-        return Some(found);
+    if let Some((inst, length)) = spelled_at_front(bytes) {
+        return Some((inst, length));
     }
-    scanned(bytes, limits)
+    // Wrapped again, so that the result needs no stack slot.
+    match scanned(bytes, limits) {
+        Some((inst, length)) => Some((inst, length)),
+        None => None,
+    }
 }
 
 /// Like `whole_at_front`, but checks the contents.

@@ -2,12 +2,13 @@
 
 ghost use Rattle.std.specs.Prelude.{◌≡◌, ◌<◌, ◌≤◌, ◌+◌, ◌^◌, min, max, length, All, MatchOption};
 ghost use Rattle.std.specs.Prelude.{IfSome};
-ghost use Rattle.pkjson.specs.Private.Nodes.{heap, named_members, IsClosed};
+ghost use Rattle.pkjson.specs.Private.Nodes.{heap, size, named_members, IsClosed};
 ghost use Rattle.pkjson.specs.Private.Weighs.{Weighs, IsDeeper, ItemsWeigh, AreDeeper};
 ghost use Rattle.pkjson.specs.Private.Weighs.{MembersWeigh};
 ghost use Rattle.pkjson.specs.Private.Weighs.{MembersDeeper, IsTrusted, IsBounded, HaveRoom};
 
 use crate::node::Node;
+use crate::settled::Settled;
 
 /// The depth of a value, and the number of values in it, which stops at a cap.
 #[derive(Clone, Copy)]
@@ -49,15 +50,15 @@ fn raised(inner: Weight, cap: u32) -> Weight
 /// `done` keeps the results.
 #[cycle(judging)]
 pub fn weigh(
-    nodes: &[Node<'_>],
+    nodes: &Settled<'_, '_>,
     done: &mut [Option<Weight>],
     place: usize,
     levels: u32,
     cap: u32,
 ) -> Option<Weight>
     requires closed { IsClosed nodes.now }
-    requires place { place < length nodes.now }
-    requires same { length done.old ≡ length nodes.now }
+    requires place { place < size nodes.now }
+    requires same { length done.old ≡ size nodes.now }
     requires trusted { IsTrusted (heap nodes.now) cap done.old }
     requires room { HaveRoom levels cap }
     ensures trusted { IsTrusted (heap nodes.now) cap done.new }
@@ -85,15 +86,15 @@ pub fn weigh(
 /// The weight of an object that isn't in `done`.
 #[cycle(judging)]
 fn weigh_node(
-    nodes: &[Node<'_>],
+    nodes: &Settled<'_, '_>,
     done: &mut [Option<Weight>],
     place: usize,
     levels: u32,
     cap: u32,
 ) -> Option<Weight>
     requires closed { IsClosed nodes.now }
-    requires place { place < length nodes.now }
-    requires same { length done.old ≡ length nodes.now }
+    requires place { place < size nodes.now }
+    requires same { length done.old ≡ size nodes.now }
     requires trusted { IsTrusted (heap nodes.now) cap done.old }
     requires room { HaveRoom levels cap }
     ensures trusted { IsTrusted (heap nodes.now) cap done.new }
@@ -101,7 +102,7 @@ fn weigh_node(
     ensures weight { MatchOption result
         (IsDeeper (heap nodes.now) levels place) (Weighs (heap nodes.now) cap place) }
 {
-    match &nodes[place] {
+    match nodes.node(place) {
         Node::List(items) => {
             if levels == 0 {
                 return None;
@@ -130,15 +131,15 @@ fn weigh_node(
 /// The greatest depth and the sum of the counts of these objects, if none is too deep.
 #[cycle(judging)]
 fn weigh_items(
-    nodes: &[Node<'_>],
+    nodes: &Settled<'_, '_>,
     done: &mut [Option<Weight>],
     items: &[usize],
     levels: u32,
     cap: u32,
 ) -> Option<Weight>
     requires closed { IsClosed nodes.now }
-    requires places { All (λ x. x < length nodes.now) items.now }
-    requires same { length done.old ≡ length nodes.now }
+    requires places { All (λ x. x < size nodes.now) items.now }
+    requires same { length done.old ≡ size nodes.now }
     requires trusted { IsTrusted (heap nodes.now) cap done.old }
     requires room { HaveRoom levels cap }
     ensures trusted { IsTrusted (heap nodes.now) cap done.new }
@@ -163,15 +164,15 @@ fn weigh_items(
 /// The greatest depth and the sum of the counts of the members' values, if none is too deep.
 #[cycle(judging)]
 fn weigh_members(
-    nodes: &[Node<'_>],
+    nodes: &Settled<'_, '_>,
     done: &mut [Option<Weight>],
     members: &[(&str, usize)],
     levels: u32,
     cap: u32,
 ) -> Option<Weight>
     requires closed { IsClosed nodes.now }
-    requires places { All (λ p. p.1 < length nodes.now) members.now }
-    requires same { length done.old ≡ length nodes.now }
+    requires places { All (λ p. p.1 < size nodes.now) members.now }
+    requires same { length done.old ≡ size nodes.now }
     requires trusted { IsTrusted (heap nodes.now) cap done.old }
     requires room { HaveRoom levels cap }
     ensures trusted { IsTrusted (heap nodes.now) cap done.new }

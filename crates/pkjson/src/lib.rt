@@ -19,6 +19,7 @@ mod objects;
 mod ranks;
 mod replay;
 mod settle;
+mod settled;
 mod slots;
 mod standing;
 mod texts;

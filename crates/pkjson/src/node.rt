@@ -1,14 +1,14 @@
 //! Objects in their final state.
 
 /// What an object holds. Other objects are referred to by number.
-#[derive(Drop)]
-pub enum Node<'a> {
+#[derive(Clone, Copy)]
+pub enum Node<'s, 'a> {
     Null,
     Bool(bool),
     Int(i64),
-    Text(&'a str),
+    Text(&'s str),
     /// The items of a list or a tuple.
-    List(&'a [usize]),
+    List(&'s [usize]),
     /// The members of a dict, in the byte order of their keys.
-    Dict(Vec<(&'a str, usize)>),
+    Dict(&'s [(&'a str, usize)]),
 }

@@ -1,46 +1,55 @@
-//! Objects in their final state.
+//! Finds the members of each dict, in their final state.
 
-ghost use Rattle.std.specs.Prelude.{◌≡◌, ◌<◌, length, All, IfOk};
+ghost use Rattle.std.specs.Prelude.{◌≡◌, ◌<◌, length, All, IfOk, OnOk};
+ghost use Rattle.pkjson.specs.Private.Nodes.{nodes_of};
 ghost use Rattle.pkjson.specs.Private.Ranks.{AreRanks};
 ghost use Rattle.pkjson.specs.Private.Seen.{kept_all, kept_of};
-ghost use Rattle.pkjson.specs.Private.Settled.{AreGivenBelow, Settles, AreSettled};
+ghost use Rattle.pkjson.specs.Private.Settled.{AreGivenBelow, AreSettled, Adds};
 
-use crate::node::Node;
 use crate::objects::Object;
 use crate::ranks::{Ranks, ranks_of};
+use crate::settled::Settled;
 use std::alloc::{AllocError, Global};
 
-/// An object in its final state.
+/// Appends the members of an object that is a dict.
 fn settle_one<'a, 'b>(
     alloc: Global,
     ranks: &Ranks<'a, 'b>,
-    object: &'a Object<'b>,
-) -> Result<Node<'a>, AllocError>
+    object: &Object<'b>,
+    dicts: &mut Vec<Vec<(&'a str, usize)>>,
+) -> Result<(), AllocError>
     requires ranks { AreRanks ranks.now }
     requires given { All (λ x. x < length ranks.now.objects.now) (kept_of object.now).given }
-    ensures { IfOk result (Settles (kept_all ranks.now.objects.now) (kept_of object.now)) }
+    ensures { OnOk result (Adds (kept_all ranks.now.objects.now)
+        (length ranks.now.objects.now) object.now dicts.old.items dicts.new.items) }
 {
-    match object {
-        Object::Items(given) => Ok(Node::List(given)),
-        Object::Pairs(given) => Ok(Node::Dict(ranks.members(alloc, given)?)),
-        Object::Null => Ok(Node::Null),
-        Object::Bool(truth) => Ok(Node::Bool(*truth)),
-        Object::Int(number) => Ok(Node::Int(*number)),
-        Object::Lent(text) => Ok(Node::Text(text)),
-        Object::Decoded(text) => Ok(Node::Text(text.as_str())),
+    if let Object::Pairs(given) = object {
+        let members = ranks.members(alloc, given)?;
+        dicts.push(members)?;
     }
+    Ok(())
 }
 
 /// All objects in their final state.
-pub fn settle<'a>(alloc: Global, objects: &'a [Object<'_>]) -> Result<Vec<Node<'a>>, AllocError>
+pub fn settle<'a, 'b>(
+    alloc: Global,
+    objects: &'a [Object<'b>],
+) -> Result<Settled<'a, 'b>, AllocError>
     requires { AreGivenBelow (length objects.now) (kept_all objects.now) }
-    ensures { IfOk result (λ v. AreSettled (kept_all objects.now) (kept_all objects.now) v.items) }
+    ensures { IfOk result (λ s.
+        AreSettled (kept_all objects.now) (kept_all objects.now) (nodes_of s)) }
 {
     let ranks = ranks_of(alloc, objects)?;
-    let mut nodes = Vec::with_capacity(alloc, objects.len())?;
+    let mut dicts = Vec::new(alloc);
+    let mut places = Vec::with_capacity(alloc, objects.len())?;
     for object in objects {
-        let node = settle_one(alloc, &ranks, object)?;
-        nodes.push(node)?;
+        let place = dicts.len();
+        settle_one(alloc, &ranks, object, &mut dicts)?;
+        places.push(place)?;
     }
-    Ok(nodes)
+    Ok(Settled {
+        objects,
+        dicts,
+        places,
+    })
 }

@@ -14,12 +14,13 @@ use Rattle.pkjson.specs.declared.node.Node.{Node}
 use Rattle.pkjson.specs.Contents.{Kind, paired, characters, held_by}
 use Rattle.pkjson.specs.Private.Arena.{Kept, kind_at, given_in, holds}
 use Rattle.pkjson.specs.Private.Mirrors.{AreBelow, GivenBelow}
-use Rattle.pkjson.specs.Private.Nodes.{named_members, content, heap, IsBelow, IsClosed, AllAbove, Ascending, IsOrdered, AreOrdered}
+use Rattle.pkjson.specs.Private.Nodes.{named_members, content, heap_of, nodes_from, nodes_of, size, IsBelow, IsClosed, AllAbove, Ascending, IsOrdered, AreOrdered}
 use Rattle.pkjson.specs.Private.Settled.{AreGivenBelow, Settles, AreSettled}
 use Rattle.pkjson.specs.declared.objects.Object.{Object}
+use Rattle.pkjson.specs.declared.settled.Settled.{Settled}
 use Rattle.pkjson.specs.Private.Seen.{kept_of, kept_all}
 use Rattle.pkjson.proofs.Entries.{kept_append}
-use Rattle.pkjson.proofs.Parts.NodesHeld.{Member, take_more}
+use Rattle.pkjson.proofs.Parts.NodesHeld.{Dict, Member, take_more}
 
 abbrev by_text : Bor (List ℕ) → Bor (List ℕ) → Ordering
 by_text x y = slice_cmp nat_cmp x.now y.now
@@ -91,7 +92,7 @@ held_option : (kinds : ℕ → Option Kind) (o : Option Kept) → option_map (λ
 held_option kinds None = refl
 held_option kinds (Some k) = refl
 
-pub settled_heap : (all : List Kept) (ns : List Node) → AreSettled all all ns → (x : ℕ) → heap ns x ≡ holds all x
+pub settled_heap : (all : List Kept) (ns : List Node) → AreSettled all all ns → (x : ℕ) → heap_of ns x ≡ holds all x
 settled_heap all ns h x = settled_content all all ns h x ∙ held_option (kind_at all) (slice_get all x)
 
 none_some : {A C : Type 0} (x : A) → None ≡ Some x → C
@@ -111,13 +112,26 @@ settled_node all (k ∷ ks) (n ∷ ns) h (suc x) m e = settled_node all ks ns h.
 settled_node all [] (n ∷ ns) h x m e = absurd h
 settled_node all (k ∷ ks) [] h x m e = absurd h
 
-pub settled_closed : (all : List Kept) (ns : List Node) → AreSettled all all ns → IsClosed ns
-unfolding IsClosed
-settled_closed all ns h x m e = subst (λ z. IsBelow z m) (sym (settled_length all all ns h)) (settled_node all all ns h x m e).0
+pub kept_length : (os : List Object) → length (kept_all os) ≡ length os
+kept_length [] = refl
+kept_length (o ∷ os) = ap suc (kept_length os)
 
-pub settled_ordered : (all : List Kept) (ns : List Node) → AreSettled all all ns → AreOrdered ns
-unfolding AreOrdered
-settled_ordered all ns h x m e = (settled_node all all ns h x m e).1
+nodes_length : (ds : List Dict) (os : List Object) (ps : List ℕ) → length (nodes_from ds os ps) ≡ length os
+nodes_length ds [] ps = refl
+nodes_length ds (o ∷ os) [] = ap suc (nodes_length ds os [])
+nodes_length ds (o ∷ os) (p ∷ ps) = ap suc (nodes_length ds os ps)
+
+module _ (all : List Kept) (s : Settled) (h : AreSettled all all (nodes_of s)) where
+  pub settled_size : size s ≡ length all
+  settled_size = sym (nodes_length s.dicts.items s.objects.now s.places.items) ∙ settled_length all all (nodes_of s) h
+
+  pub settled_closed : IsClosed s
+  unfolding IsClosed
+  settled_closed x m e = subst (λ z. IsBelow z m) (sym settled_size) (settled_node all all (nodes_of s) h x m e).0
+
+  pub settled_ordered : AreOrdered s
+  unfolding AreOrdered
+  settled_ordered x m e = (settled_node all all (nodes_of s) h x m e).1
 
 pub all_below : (n : ℕ) (xs : List ℕ) → AreBelow n xs → All (λ x. x < n) xs
 all_below n [] h = All-nil (λ x. x < n)
@@ -135,12 +149,8 @@ given_there n (p ∷ os) (suc i) o h l e = given_there n os i o (All-tail (λ k.
 pub kept_more : (os : List Object) (i : ℕ) (o : Object) → i < length os → o ≡ get_or os i o → kept_all (take (i + 1) os) ≡ kept_all (take i os) ++ kept_of o ∷ []
 kept_more os i o l e = ap kept_all (take_more os i o l ∙ ap (λ z. take i os ++ z ∷ []) (sym e)) ∙ kept_append (take i os) o
 
-pub kept_length : (os : List Object) → length (kept_all os) ≡ length os
-kept_length [] = refl
-kept_length (o ∷ os) = ap suc (kept_length os)
-
 pub closed_there : (os ls : List Object) → ls ≡ os → AreGivenBelow (length (kept_all os)) (kept_all os) → AreGivenBelow (length ls) (kept_all ls)
 closed_there os ls e h = subst (λ z. AreGivenBelow (length z) (kept_all z)) (sym e) (subst (λ n. AreGivenBelow n (kept_all os)) (kept_length os) h)
 
-pub settled_there : (os ls : List Object) (ns ms : List Node) → ls ≡ os → ms ≡ ns → AreSettled (kept_all ls) (kept_all ls) ns → AreSettled (kept_all os) (kept_all os) ms
-settled_there os ls ns ms e f h = subst (λ m. AreSettled (kept_all os) (kept_all os) m) (sym f) (subst (λ z. AreSettled (kept_all z) (kept_all z) ns) e h)
+pub settled_there : (os ls : List Object) (ns : List Node) → ls ≡ os → AreSettled (kept_all ls) (kept_all ls) ns → AreSettled (kept_all os) (kept_all os) ns
+settled_there os ls ns e h = subst (λ z. AreSettled (kept_all z) (kept_all z) ns) e h

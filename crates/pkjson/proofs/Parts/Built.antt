@@ -1,17 +1,15 @@
 -- What can be built of the parts.
-use Rattle.std.proofs.Common.{◌≡◌, ℕ, suc, ◌+◌, ◌-◌, ◌<◌, ◌≤◌, List, [], ◌∷◌, ◌++◌, length, take, drop, get_or, refl, sym, ap, ◌∙◌, subst, arith, rules, Some, Bool, String, Global, string_bytes}
+use Rattle.std.proofs.Common.{◌≡◌, ℕ, suc, ◌+◌, ◌-◌, ◌<◌, ◌≤◌, List, [], ◌∷◌, ◌++◌, length, take, drop, get_or, refl, sym, ap, subst, arith, rules, Some, Bool, String, Global, string_bytes}
 use Rattle.std.specs.Ordering.{nat_cmp}
 use Rattle.std.specs.Cmp.Lexicographic.{slice_cmp}
 use Rattle.std.specs.declared.cmp.Ordering.TheVariants.{Greater}
-use Rattle.std.proofs.lemmas.Option.{slice_get_read}
 use Rattle.serde_json.specs.Data.{Data, null, boolean, string, depth, item, items_depth, Members, no_members, member, members_depth, put}
 use Rattle.serde_json.specs.View.{view, items_view}
 use Rattle.serde_json.specs.declared.value.Value.{Value, the_lemmas}
 use Rattle.serde_json.specs.declared.value.Value.TheVariants as value
-use Rattle.pkjson.specs.declared.node.Node.{Node}
 use Rattle.pkjson.specs.Unfolds.{Sequence, Pairs, Heap, Unfolds, UnfoldItems, UnfoldMembers}
 use Rattle.std.specs.Borrow.{Bor}
-use Rattle.pkjson.specs.Private.Nodes.{named_members, AllAbove, Ascending, AreOrdered, IsOrdered}
+use Rattle.pkjson.specs.Private.Nodes.{named_members, AllAbove, Ascending}
 use Rattle.pkjson.specs.Private.Fits.{Fits, ItemsFit, MembersFit}
 use Rattle.pkjson.proofs.Values.OneValue.{as_sequence, as_pairs}
 use Rattle.pkjson.proofs.Parts.Weights.{snoc, snoc_member, unfold_snoc, member_snoc, at_seam, member_seam}
@@ -75,7 +73,3 @@ pub member_built : (h : Heap) (ps : List (Bor (List ℕ) × ℕ)) (n : ℕ) (d :
     → UnfoldMembers h (named_members (take n ps)) ms → Unfolds h (get_or ps n d).1 v
     → UnfoldMembers h (named_members (take (n + 1) ps)) (put (get_or ps n d).0.now v ms)
 member_built h ps n d ms v l a u w = rw (named_more ps n d l, put_last h (named_members (take n ps)) _ (named_members (drop (suc n) ps)) ms v (subst Ascending (sym (named_seam ps n d l)) a) u) (member_snoc h (named_members (take n ps)) _ _ ms v u w)
-
-pub ordered : (ns : List Node) (x : ℕ) (n m : Node) → AreOrdered ns → x < length ns → n ≡ get_or ns x n → n ≡ m → IsOrdered m
-unfolding AreOrdered
-ordered ns x n m c h e f = c x m (slice_get_read ns (length ns) x n refl h e ∙ ap Some f)

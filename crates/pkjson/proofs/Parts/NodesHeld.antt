@@ -1,6 +1,7 @@
 -- What a node at a place says of the heap.
-use Rattle.std.proofs.Common.{◌≡◌, ℕ, suc, ◌+◌, ◌<◌, List, [], ◌∷◌, ◌++◌, length, take, drop, get_or, refl, sym, ap, ◌∙◌, subst, arith, Option, Some, None, add-one, ◌⊎◌, ◌≢◌, inl, inr, get_or-set_same, get_or-set_other, drop-cons}
-use Rattle.std.specs.Prelude.{option_map, slice_get, unwrap_or}
+use Rattle.std.proofs.Common.{◌≡◌, ℕ, zero, suc, ◌+◌, ◌<◌, List, [], ◌∷◌, ◌++◌, length, take, drop, get_or, refl, sym, ap, ◌∙◌, subst, arith, Option, Some, None, add-one, ◌⊎◌, ◌≢◌, inl, inr, get_or-set_same, get_or-set_other, drop-cons}
+use Rattle.std.specs.Prelude.{Vec, option_map, slice_get, slice_index, unwrap_or}
+use Rattle.std.proofs.Common.{◌≡◌, ℕ, List, length, refl, sym, ap, ◌∙◌, subst, Vec, Global}
 use Rattle.std.specs.Borrow.{Bor}
 use Rattle.std.proofs.lemmas.Option.{slice_get_read, slice_get_within, get_or_from_slice_get, slice_get-get_or}
 use Rattle.std.proofs.lemmas.List.{take-append-drop, map-append}
@@ -9,16 +10,47 @@ use Rattle.std.proofs.lemmas.Bool.{cases_lt}
 use Rattle.std.proofs.Math.ListN.{set, length-set}
 use Rattle.pkjson.specs.declared.node.Node.{Node}
 use Rattle.pkjson.specs.declared.judge.Weight.{Weight}
-use Rattle.pkjson.specs.Unfolds.{Heap}
-use Rattle.pkjson.specs.Private.Nodes.{heap, content, IsBelow, IsClosed, named_members}
+use Rattle.pkjson.specs.declared.objects.Object.{Object}
+use Rattle.pkjson.specs.declared.settled.Settled.{Settled}
+use Rattle.pkjson.specs.Unfolds.{Content, Heap}
+use Rattle.pkjson.specs.Private.Nodes.{content, node_of, nodes_from, nodes_of, size, IsBelow, IsClosed, IsNode, IsOrdered, Shows, AreOrdered, named_members}
 use Rattle.pkjson.specs.Private.Weighs.{Weighs, IsTrusted}
 
-pub held : (ns : List Node) (x : ℕ) (n m : Node) → x < length ns → n ≡ get_or ns x n → n ≡ m → heap ns x ≡ Some (content m)
-held ns x n m h e f = ap (option_map content) (slice_get_read ns (length ns) x n refl h e ∙ ap Some f)
+abbrev pub Member : Type 0
+Member = Bor (List ℕ) × ℕ
 
-pub below : (ns : List Node) (x : ℕ) (n m : Node) → IsClosed ns → x < length ns → n ≡ get_or ns x n → n ≡ m → IsBelow (length ns) m
-unfolding IsClosed
-below ns x n m c h e f = c x m (slice_get_read ns (length ns) x n refl h e ∙ ap Some f)
+-- the members of a dict
+abbrev pub Dict : Type 0
+Dict = Vec Member Global
+
+pub held : (o : Option Content) (n m : Node) → o ≡ Some (content n) → n ≡ m → o ≡ Some (content m)
+held o n m e f = e ∙ ap (λ z. Some (content z)) f
+
+pub below : (k : ℕ) (n m : Node) → IsBelow k n → n ≡ m → IsBelow k m
+below k n m b f = subst (IsBelow k) f b
+
+pub ordered : (n m : Node) → IsOrdered n → n ≡ m → IsOrdered m
+ordered n m o f = subst IsOrdered f o
+
+nodes_get : (ds : List Dict) (os : List Object) (ps : List ℕ) (x : ℕ) → slice_get (nodes_from ds os ps) x ≡ option_map (node_of ds (slice_index ps x)) (slice_get os x)
+nodes_get ds [] ps x = refl
+nodes_get ds (o ∷ os) [] zero = refl
+nodes_get ds (o ∷ os) [] (suc x) = nodes_get ds os [] x
+nodes_get ds (o ∷ os) (p ∷ ps) zero = refl
+nodes_get ds (o ∷ os) (p ∷ ps) (suc x) = nodes_get ds os ps x
+
+-- an object read where it lies
+pub node_there : (s : Settled) (x : ℕ) (o : Object) (n : Node) → x < size s → o ≡ get_or s.objects.now x o
+    → Shows (node_of s.dicts.items (slice_index s.places.items x) o) n → IsNode s x n
+unfolding IsClosed AreOrdered
+node_there s x o n l e w =
+    let is : slice_get (nodes_of s) x ≡ Some (node_of s.dicts.items (slice_index s.places.items x) o) =
+    nodes_get s.dicts.items s.objects.now s.places.items x ∙ ap (option_map (node_of s.dicts.items (slice_index s.places.items x))) (slice_get_read s.objects.now (length s.objects.now) x o refl l e) in
+    record {
+      held = ap (option_map content) is ∙ ap Some w.content;
+      below = λ closed. w.below _ (closed x _ is);
+      ordered = λ ordered. w.ordered (ordered x _ is);
+    }
 
 -- a list about a place
 pub seam : {A : Type 0} (xs : List A) (i : ℕ) (d : A) → i < length xs → take i xs ++ get_or xs i d ∷ drop (suc i) xs ≡ xs
@@ -48,9 +80,6 @@ trusted_set h cap done x w l t d y v e = elim (nat_apart y x) [
 
 pub found : (done : List (Option Weight)) (x : ℕ) (w : Weight) → x < length done → get_or done x None ≡ Some w → slice_get done x ≡ Some (Some w)
 found done x w l e = slice_get-get_or done x None l ∙ ap Some e
-
-abbrev pub Member : Type 0
-Member = Bor (List ℕ) × ℕ
 
 -- what stands where there is none
 abbrev pub no_member : Member

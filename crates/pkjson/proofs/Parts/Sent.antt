@@ -17,7 +17,8 @@ use Rattle.serde_json.proofs.FreeTexts.{text_of_value}
 use Rattle.pkjson.specs.declared.node.Node.{Node}
 use Rattle.pkjson.specs.declared.node.Node.TheVariants as node
 use Rattle.pkjson.specs.Unfolds.{Scalar, Sequence, Pairs, Heap, UnfoldItems, UnfoldMembers}
-use Rattle.pkjson.specs.Private.Nodes.{IsBelow, IsClosed, content, heap, named_members}
+use Rattle.pkjson.specs.Private.Nodes.{IsBelow, IsClosed, content, heap, named_members, nodes_of, size}
+use Rattle.pkjson.specs.declared.settled.Settled.{Settled}
 use Rattle.pkjson.specs.Private.Sends.{IsCompact, Sends, SendsArray, SendsObject}
 use Rattle.pkjson.proofs.Values.NoFloats.{floatless_in, integer_floatless}
 
@@ -103,9 +104,9 @@ below_prop n (node.List v) = Prim.hlevel props
 below_prop n (node.Dict v) = Prim.hlevel props
 below_prop n _ = Prim.hlevel props
 
-pub closed_prop : (ns : List Node) → IsProp (IsClosed ns)
+pub closed_prop : (s : Settled) → IsProp (IsClosed s)
 unfolding IsClosed
-closed_prop ns = Π_prop (λ x. Π_prop (λ m. Π_prop (λ e. below_prop (length ns) m)))
+closed_prop s = Π_prop (λ x. Π_prop (λ m. Π_prop (λ e. below_prop (size s) m)))
 
 -- no node is a float
 node_floatless : (n : Node) (d : Data) → content n ≡ Scalar d → has_float d ≡ false
@@ -120,8 +121,8 @@ heap_floatless : (o : Option Node) (d : Data) → option_map content o ≡ Some 
 heap_floatless None d e = absurd cc
 heap_floatless (Some n) d e = node_floatless n d cc
 
-module _ (ns : List Node) where
+module _ (s : Settled) where
   -- what is printed of the events of a value is its text
-  pub compact : (x : ℕ) (text : List ℕ) → ((log : Log) × Sends (heap ns) x (Some []) log × IsTextOf log text) → IsCompact (heap ns) x text
+  pub compact : (x : ℕ) (text : List ℕ) → ((log : Log) × Sends (heap s) x (Some []) log × IsTextOf log text) → IsCompact (heap s) x text
   unfolding Sends IsCompact
-  compact x text w = (w.1.0, w.1.1, text_of_value w.1.0 w.0 text w.1.2 w.2 (floatless_in (heap ns) (λ n. heap_floatless (slice_get ns n)) x w.1.0 w.1.1))
+  compact x text w = (w.1.0, w.1.1, text_of_value w.1.0 w.0 text w.1.2 w.2 (floatless_in (heap s) (λ n. heap_floatless (slice_get (nodes_of s) n)) x w.1.0 w.1.1))

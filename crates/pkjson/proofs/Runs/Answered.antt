@@ -18,7 +18,7 @@ use Rattle.pkjson.specs.Private.Arena.{Kept, holds}
 use Rattle.pkjson.specs.Contents.{contents}
 use Rattle.pkjson.specs.Export.{AcceptedAs, Results, IsValueOf, IsTextOf, IsNotExported}
 use Rattle.pkjson.specs.Private.Held.{parts}
-use Rattle.pkjson.specs.Private.Nodes.{heap}
+use Rattle.pkjson.specs.Private.Nodes.{heap_of}
 use Rattle.pkjson.specs.Plain.{is_plain_data}
 use Rattle.pkjson.specs.Private.Replayed.{Replays}
 use Rattle.pkjson.specs.Private.Result.{IsValue, IsText, IsTooLarge}
@@ -61,39 +61,39 @@ module _ (limits : Bounds) (bytes : List ℕ) (a : Held) (x : ℕ) (r : Replays 
 
 -- the nodes say the same
 module _ (ks : List Kept) (ns : List Node) (s : AreSettled ks ks ns) (deepest most x : ℕ) where
-  pub is_value : (v : Data) → IsValue (heap ns) deepest most x v → IsValue (holds ks) deepest most x v
-  is_value v h = (unfolds_same (heap ns) (holds ks) (settled_heap ks ns s) x v h.0, h.1, h.2)
+  pub is_value : (v : Data) → IsValue (heap_of ns) deepest most x v → IsValue (holds ks) deepest most x v
+  is_value v h = (unfolds_same (heap_of ns) (holds ks) (settled_heap ks ns s) x v h.0, h.1, h.2)
 
-  pub is_too_large : (e : ExportError) → IsTooLarge (heap ns) deepest most x e → IsTooLarge (holds ks) deepest most x e
-  is_too_large TooDeep h = λ v u. h v (unfolds_same (holds ks) (heap ns) (λ n. sym (settled_heap ks ns s n)) x v u)
-  is_too_large TooMany h = (h.0, unfolds_same (heap ns) (holds ks) (settled_heap ks ns s) x h.0 h.1, h.2, h.3)
+  pub is_too_large : (e : ExportError) → IsTooLarge (heap_of ns) deepest most x e → IsTooLarge (holds ks) deepest most x e
+  is_too_large TooDeep h = λ v u. h v (unfolds_same (holds ks) (heap_of ns) (λ n. sym (settled_heap ks ns s n)) x v u)
+  is_too_large TooMany h = (h.0, unfolds_same (heap_of ns) (holds ks) (settled_heap ks ns s) x h.0 h.1, h.2, h.3)
   is_too_large OutOfMemory h = tt
   is_too_large e h = absurd h
 
-  pub is_text : (text : List ℕ) → IsText (heap ns) deepest most x text → IsText (holds ks) deepest most x text
+  pub is_text : (text : List ℕ) → IsText (heap_of ns) deepest most x text → IsText (holds ks) deepest most x text
   is_text text h = (h.0, is_value h.0 h.1, h.2)
 
-  refusal_in : {A : Type 0} (r : Result A ExportError) → IfErr r (IsTooLarge (heap ns) deepest most x) → IfErr r (IsTooLarge (holds ks) deepest most x)
+  refusal_in : {A : Type 0} (r : Result A ExportError) → IfErr r (IsTooLarge (heap_of ns) deepest most x) → IfErr r (IsTooLarge (holds ks) deepest most x)
   refusal_in (Ok w) h = h
   refusal_in (Err e) h = is_too_large e h
 
-  value_in : (r : Result Value ExportError) → IfOk r (λ w. IsValue (heap ns) deepest most x (view w)) → IfOk r (λ w. IsValue (holds ks) deepest most x (view w))
+  value_in : (r : Result Value ExportError) → IfOk r (λ w. IsValue (heap_of ns) deepest most x (view w)) → IfOk r (λ w. IsValue (holds ks) deepest most x (view w))
   value_in (Ok w) h = is_value (view w) h
   value_in (Err e) h = h
 
-  text_in : (r : Result (Vec ℕ Global) ExportError) → IfOk r (λ t. IsText (heap ns) deepest most x t.items) → IfOk r (λ t. IsText (holds ks) deepest most x t.items)
+  text_in : (r : Result (Vec ℕ Global) ExportError) → IfOk r (λ t. IsText (heap_of ns) deepest most x t.items) → IfOk r (λ t. IsText (holds ks) deepest most x t.items)
   text_in (Ok t) h = is_text t.items h
   text_in (Err e) h = h
 
 -- the limits are those of the caller
 module _ (ks : List Kept) (ns : List Node) (s : AreSettled ks ks ns) (d m deepest most x : ℕ) (e : d ≡ deepest) (f : m ≡ most) where
-  pub value_held : (r : Result Value ExportError) → IfOk r (λ w. IsValue (heap ns) d m x (view w)) → IfOk r (λ w. IsValue (holds ks) deepest most x (view w))
+  pub value_held : (r : Result Value ExportError) → IfOk r (λ w. IsValue (heap_of ns) d m x (view w)) → IfOk r (λ w. IsValue (holds ks) deepest most x (view w))
   value_held r h = subst (λ k. IfOk r (λ w. IsValue (holds ks) deepest k x (view w))) f (subst (λ k. IfOk r (λ w. IsValue (holds ks) k m x (view w))) e (value_in ks ns s d m x r h))
 
-  pub text_held : (r : Result (Vec ℕ Global) ExportError) → IfOk r (λ t. IsText (heap ns) d m x t.items) → IfOk r (λ t. IsText (holds ks) deepest most x t.items)
+  pub text_held : (r : Result (Vec ℕ Global) ExportError) → IfOk r (λ t. IsText (heap_of ns) d m x t.items) → IfOk r (λ t. IsText (holds ks) deepest most x t.items)
   text_held r h = subst (λ k. IfOk r (λ t. IsText (holds ks) deepest k x t.items)) f (subst (λ k. IfOk r (λ t. IsText (holds ks) k m x t.items)) e (text_in ks ns s d m x r h))
 
-  pub refusal_held : {A : Type 0} (r : Result A ExportError) → IfErr r (IsTooLarge (heap ns) d m x) → IfErr r (IsTooLarge (holds ks) deepest most x)
+  pub refusal_held : {A : Type 0} (r : Result A ExportError) → IfErr r (IsTooLarge (heap_of ns) d m x) → IfErr r (IsTooLarge (holds ks) deepest most x)
   refusal_held r h = subst (λ k. IfErr r (IsTooLarge (holds ks) deepest k x)) f (subst (λ k. IfErr r (IsTooLarge (holds ks) k m x)) e (refusal_in ks ns s d m x r h))
 
 -- it is that of the bytes

@@ -1,9 +1,14 @@
 -- Objects in their final state.
-use Rattle.std.specs.Prelude.{◌≡◌, ◌<◌, ℕ, List, [], ◌∷◌, All, length}
+use Rattle.std.specs.Prelude.{◌≡◌, ◌<◌, ℕ, List, [], ◌∷◌, ◌++◌, All, length, Vec}
+use Rattle.std.specs.Borrow.{Bor}
+use Rattle.std.proofs.Common.{◌≡◌, ℕ, List, length, Vec, Global}
 use Rattle.pkjson.specs.declared.node.Node.{Node}
+use Rattle.pkjson.specs.declared.objects.Object.{Object}
+use Rattle.pkjson.specs.declared.objects.Object.TheVariants.{Pairs}
 use Rattle.pkjson.specs.Contents.{held_by}
 use Rattle.pkjson.specs.Private.Arena.{Kept, kind_at}
 use Rattle.pkjson.specs.Private.Nodes.{content, IsBelow, IsOrdered}
+use Rattle.pkjson.specs.Private.Ranks.{AreMembers}
 
 -- each object was given only objects with numbers below n
 abbrev pub AreGivenBelow : ℕ → List Kept → Type 0
@@ -21,3 +26,9 @@ AreSettled all [] [] = Unit {0}
 AreSettled all (k ∷ ks) (n ∷ ns) = Settles all k n × AreSettled all ks ns
 AreSettled all [] (n ∷ ns) = ⊥
 AreSettled all (k ∷ ks) [] = ⊥
+
+-- if the object is a dict, its members are added
+abbrev pub Adds : List Kept → ℕ → Object → (old new : List (Vec (Bor (List ℕ) × ℕ) Global)) → Type 0
+Adds all n (Pairs v) old new =
+    (d : Vec (Bor (List ℕ) × ℕ) Global) × (new ≡ old ++ d ∷ []) × AreMembers all n v.items d.items
+Adds all n o old new = new ≡ old

@@ -6,40 +6,40 @@ use Rattle.pkjson.proofs.Parts.NodesHeld.{held, below, trusted_set, take_more, s
 use Rattle.pkjson.proofs.judge.+judging.Goals as goal
 
 pub weigh_node-returns-then-levels-eq0-clause-weight : goal.weigh_node-returns-then-levels-eq0-clause-weight
-weigh_node-returns-then-levels-eq0-clause-weight t c = sequence_not_flat _ c.args.cap _ _ _ (omega arith) (held c.args.nodes.now c.args.place _ _ c.requires.place c.index-nodes-place.is c.in-List.is)
+weigh_node-returns-then-levels-eq0-clause-weight t c = sequence_not_flat _ c.args.cap _ _ _ (omega arith) (held _ _ _ c.node.ensures.held c.in-List.is)
 
 pub weigh_node-returns-then-levels-eq0-2-clause-weight : goal.weigh_node-returns-then-levels-eq0-2-clause-weight
-weigh_node-returns-then-levels-eq0-2-clause-weight t c = pairs_not_flat _ c.args.cap _ _ _ (omega arith) (held c.args.nodes.now c.args.place _ _ c.requires.place c.index-nodes-place.is c.in-Dict.is)
+weigh_node-returns-then-levels-eq0-2-clause-weight t c = pairs_not_flat _ c.args.cap _ _ _ (omega arith) (held _ _ _ c.node.ensures.held c.in-Dict.is)
 
 pub weigh_node-returns-in-Null-clause-weight : goal.weigh_node-returns-in-Null-clause-weight
-weigh_node-returns-in-Null-clause-weight t c = let e = held c.args.nodes.now c.args.place _ _ c.requires.place c.index-nodes-place.is c.in-Null.is in scalar_weighs _ _ _ _ c.requires.room.some e e refl refl
+weigh_node-returns-in-Null-clause-weight t c = let e = held _ _ _ c.node.ensures.held c.in-Null.is in scalar_weighs _ _ _ _ c.requires.room.some e e refl refl
 
 pub weigh_node-returns-in-Bool-clause-weight : goal.weigh_node-returns-in-Bool-clause-weight
-weigh_node-returns-in-Bool-clause-weight t c = let e = held c.args.nodes.now c.args.place _ _ c.requires.place c.index-nodes-place.is c.in-Bool.is in scalar_weighs _ _ _ _ c.requires.room.some e e refl refl
+weigh_node-returns-in-Bool-clause-weight t c = let e = held _ _ _ c.node.ensures.held c.in-Bool.is in scalar_weighs _ _ _ _ c.requires.room.some e e refl refl
 
 pub weigh_node-returns-in-Int-clause-weight : goal.weigh_node-returns-in-Int-clause-weight
-weigh_node-returns-in-Int-clause-weight t c = let e = held c.args.nodes.now c.args.place _ _ c.requires.place c.index-nodes-place.is c.in-Int.is in scalar_weighs _ _ _ _ c.requires.room.some e e refl refl
+weigh_node-returns-in-Int-clause-weight t c = let e = held _ _ _ c.node.ensures.held c.in-Int.is in scalar_weighs _ _ _ _ c.requires.room.some e e refl refl
 
 pub weigh_node-returns-in-Text-clause-weight : goal.weigh_node-returns-in-Text-clause-weight
-weigh_node-returns-in-Text-clause-weight t c = let e = held c.args.nodes.now c.args.place _ _ c.requires.place c.index-nodes-place.is c.in-Text.is in scalar_weighs _ _ _ _ c.requires.room.some e e refl refl
+weigh_node-returns-in-Text-clause-weight t c = let e = held _ _ _ c.node.ensures.held c.in-Text.is in scalar_weighs _ _ _ _ c.requires.room.some e e refl refl
 
 pub weigh_node-weigh_items-requires : goal.weigh_node-weigh_items-requires
-weigh_node-weigh_items-requires t c = let b = below c.args.nodes.now c.args.place _ _ c.requires.closed c.requires.place c.index-nodes-place.is c.in-List.is in search (rules, b)
+weigh_node-weigh_items-requires t c = let b = below _ _ _ (c.node.ensures.below c.requires.closed) c.in-List.is in search (rules, b)
 
 pub weigh_node-weigh_members-requires : goal.weigh_node-weigh_members-requires
-weigh_node-weigh_members-requires t c = let b = below c.args.nodes.now c.args.place _ _ c.requires.closed c.requires.place c.index-nodes-place.is c.in-Dict.is in search (rules, b)
+weigh_node-weigh_members-requires t c = let b = below _ _ _ (c.node.ensures.below c.requires.closed) c.in-Dict.is in search (rules, b)
 
 pub weigh_node-returns-in-Some-clause-weight : goal.weigh_node-returns-in-Some-clause-weight
-weigh_node-returns-in-Some-clause-weight t c = rw c.raised.ensures (sequence_weighs _ _ _ _ _ (held c.args.nodes.now c.args.place _ _ c.requires.place c.index-nodes-place.is c.in-List.is) c.in-Some.ensures.weight)
+weigh_node-returns-in-Some-clause-weight t c = rw c.raised.ensures (sequence_weighs _ _ _ _ _ (held _ _ _ c.node.ensures.held c.in-List.is) c.in-Some.ensures.weight)
 
 pub weigh_node-returns-in-None-clause-weight : goal.weigh_node-returns-in-None-clause-weight
-weigh_node-returns-in-None-clause-weight t c = sequence_deeper _ c.args.cap _ _ _ (c.args.levels - 1) (omega arith) (held c.args.nodes.now c.args.place _ _ c.requires.place c.index-nodes-place.is c.in-List.is) c.in-None.ensures.weight
+weigh_node-returns-in-None-clause-weight t c = sequence_deeper _ c.args.cap _ _ _ (c.args.levels - 1) (omega arith) (held _ _ _ c.node.ensures.held c.in-List.is) c.in-None.ensures.weight
 
 pub weigh_node-returns-in-Some-weigh_members-clause-weight : goal.weigh_node-returns-in-Some-weigh_members-clause-weight
-weigh_node-returns-in-Some-weigh_members-clause-weight t c = rw c.raised-in-Some-weigh_members.ensures (pairs_weigh _ _ _ _ _ (held c.args.nodes.now c.args.place _ _ c.requires.place c.index-nodes-place.is c.in-Dict.is) (rw c.deref.ensures.value at c.in-Some-weigh_members.ensures.weight))
+weigh_node-returns-in-Some-weigh_members-clause-weight t c = rw c.raised-in-Some-weigh_members.ensures (pairs_weigh _ _ _ _ _ (held _ _ _ c.node.ensures.held c.in-Dict.is) c.in-Some-weigh_members.ensures.weight)
 
 pub weigh_node-returns-in-None-weigh_members-clause-weight : goal.weigh_node-returns-in-None-weigh_members-clause-weight
-weigh_node-returns-in-None-weigh_members-clause-weight t c = pairs_deeper _ c.args.cap _ _ _ (c.args.levels - 1) (omega arith) (held c.args.nodes.now c.args.place _ _ c.requires.place c.index-nodes-place.is c.in-Dict.is) (rw c.deref.ensures.value at c.in-None-weigh_members.ensures.weight)
+weigh_node-returns-in-None-weigh_members-clause-weight t c = pairs_deeper _ c.args.cap _ _ _ (c.args.levels - 1) (omega arith) (held _ _ _ c.node.ensures.held c.in-Dict.is) c.in-None-weigh_members.ensures.weight
 
 pub weigh-returns-then-weight-levels-clause-weight : goal.weigh-returns-then-weight-levels-clause-weight
 weigh-returns-then-weight-levels-clause-weight t c = by_table _ _ c.args.done.now _ _ c.requires.trusted (found c.args.done.now c.args.place _ (omega (arith, c.requires.same, c.requires.place)) c.in-Some.is)

@@ -1,5 +1,5 @@
 use Rattle.std.proofs.Common.{◌≡◌, ◌≤◌, ◌+◌, ◌*◌, length, take}
-use Rattle.pkjson.specs.Private.Nodes.{heap, named_members}
+use Rattle.pkjson.specs.Private.Nodes.{heap, size, named_members}
 use Rattle.pkjson.specs.Private.Weighs.{ItemsWeigh, MembersWeigh, IsTrusted}
 use Rattle.pkjson.proofs.judge.+judging.Given as goal
 
@@ -17,7 +17,7 @@ decreases-weigh_members l = 3 * l.levels + 3
 
 abbrev pub invariant-weigh_items-loop-item : goal.invariant-weigh_items-loop-item
 invariant-weigh_items-loop-item l = record {
-  same : length l.done ≡ length l.nodes;
+  same : length l.done ≡ size l.nodes;
   trusted : IsTrusted (heap l.nodes) l.cap l.done;
   depth : l.sum.depth ≤ l.levels;
   count : l.sum.count ≤ l.cap;
@@ -26,7 +26,7 @@ invariant-weigh_items-loop-item l = record {
 
 abbrev pub invariant-weigh_members-loop-key : goal.invariant-weigh_members-loop-key
 invariant-weigh_members-loop-key l = record {
-  same : length l.done ≡ length l.nodes;
+  same : length l.done ≡ size l.nodes;
   trusted : IsTrusted (heap l.nodes) l.cap l.done;
   depth : l.sum.depth ≤ l.levels;
   count : l.sum.count ≤ l.cap;

@@ -1,7 +1,7 @@
-use Rattle.std.proofs.Common.{sym, subst, take, ◌+◌, ◌++◌, ◌∷◌, [], ◌<◌, All, length}
-use Rattle.pkjson.specs.Private.Seen.{kept_of, kept_all}
-use Rattle.pkjson.specs.Private.Settled.{AreSettled, Settles}
-use Rattle.pkjson.proofs.DictKeys.SettledMembers.{given_there, kept_more, settled_more}
+use Rattle.std.proofs.Common.{◌≡◌, rules, sym, subst, ◌<◌, All, length}
+use Rattle.pkjson.specs.Private.Seen.{kept_all, kept_of}
+use Rattle.pkjson.proofs.DictKeys.SettledMembers.{given_there}
+use Rattle.pkjson.proofs.DictKeys.DictsAdded.{all_settled, none_settled, settled_next}
 use Rattle.pkjson.proofs.settle.settle.Goals as goal
 
 pub settle_one-requires-clause-given : goal.settle_one-requires-clause-given
@@ -9,9 +9,13 @@ settle_one-requires-clause-given c =
     subst (λ os. All (λ x. x < length os) (kept_of c.object-item.result).given) (sym c.in_ok-ranks.ensures.objects)
     (given_there (length c.args.objects.now) c.args.objects.now c.loop-object.object-index c.object-item.result c.requires c.loop-object-test.true c.object-item.is)
 
+pub loop-object-init : goal.loop-object-init
+loop-object-init c = rw (c.new-dicts.ensures.items, c.in_ok-places.ensures.items) (none_settled (kept_all c.args.objects.now))
+
 pub loop-object-preserved : goal.loop-object-preserved
 loop-object-preserved c =
-    let s = subst (λ os. Settles (kept_all os) (kept_of c.object-item.result) c.in_ok-node.node) c.in_ok-ranks.ensures.objects c.in_ok-node.ensures in
-    subst (λ ns. AreSettled (kept_all c.args.objects.now) (kept_all (take (c.loop-object.object-index + 1) c.args.objects.now)) ns) (sym c.in_ok-push.ensures.items)
-    (subst (λ ks. AreSettled (kept_all c.args.objects.now) ks (c.loop-object.nodes.items ++ c.in_ok-node.node ∷ [])) (sym (kept_more c.args.objects.now c.loop-object.object-index c.object-item.result c.loop-object-test.true c.object-item.is))
-    (settled_more (kept_all c.args.objects.now) (kept_all (take c.loop-object.object-index c.args.objects.now)) c.loop-object.nodes.items (kept_of c.object-item.result) c.in_ok-node.node c.loop-object.invariant s))
+    let place : c.len-place.result ≡ length c.loop-object.dicts.items = search (rules, c.len-place.ensures) in
+    settled_next c.args.objects.now c.in_ok-ranks.ranks.objects.now c.loop-object.object-index c.object-item.result c.loop-object.dicts.items c.settle_one.new.dicts.items c.loop-object.places.items c.push.new.self.items c.len-place.result c.in_ok-ranks.ensures.objects c.loop-object-test.true c.object-item.is c.requires c.loop-object.invariant c.in_ok-settle_one.ensures place c.in_ok-push.ensures.items
+
+pub returns : goal.returns
+returns c = all_settled (kept_all c.args.objects.now) c.args.objects.now c.loop-object.object-index c.loop-object.dicts.items c.loop-object.places.items c.loop-object-test.false c.loop-object.invariant

@@ -1,4 +1,4 @@
-use Rattle.std.proofs.Common.{◌≡◌, ◌<◌, get_or, length, rules}
+use Rattle.std.proofs.Common.{◌≡◌, ◌<◌, get_or, rules}
 use Rattle.std.proofs.Math.Logic.{∥∥₁_elim, ∥∥₁_map}
 use Rattle.std.proofs.Math.Bridge.{le_prop}
 use Rattle.std.proofs.lemmas.List.Elements.{All-get_or}
@@ -6,53 +6,53 @@ use Rattle.std.proofs.lemmas.Result.{on_ok_weaker}
 use Rattle.serde_json.specs.Find.{of_integer}
 use Rattle.serde_json.specs.View.{number_view}
 use Rattle.pkjson.specs.Private.Fits.{Fits}
-use Rattle.pkjson.specs.Private.Nodes.{heap}
+use Rattle.pkjson.specs.Private.Nodes.{heap, size}
 use Rattle.pkjson.proofs.Parts.NodesHeld.{held, below, no_member}
 use Rattle.pkjson.proofs.Parts.Built.{fits_some, fits_items, fits_any, fits_members, item_fits, member_fits}
 use Rattle.pkjson.proofs.Parts.Sent.{array_sent, item_sent, member_sent, no_items_sent, no_members_sent, object_sent, sends_array, sends_bool, sends_int, sends_null, sends_object, sends_text}
 use Rattle.pkjson.proofs.writing.+sending.Goals as goal
 
 pub send-overflow_sub-levels : goal.send-overflow_sub-levels
-send-overflow_sub-levels g t c = ∥∥₁_elim c.requires.fits le_prop (fits_some _ _ _ _ (held c.args.nodes.now c.args.place _ _ c.requires.place c.index-nodes-place.is c.in-List.is))
+send-overflow_sub-levels g t c = ∥∥₁_elim c.requires.fits le_prop (fits_some _ _ _ _ (held _ _ _ c.node.ensures.held c.in-List.is))
 
 pub send-overflow_sub-levels-in-Dict : goal.send-overflow_sub-levels-in-Dict
-send-overflow_sub-levels-in-Dict g t c = ∥∥₁_elim c.requires.fits le_prop (fits_any _ _ _ _ (held c.args.nodes.now c.args.place _ _ c.requires.place c.index-nodes-place.is c.in-Dict.is))
+send-overflow_sub-levels-in-Dict g t c = ∥∥₁_elim c.requires.fits le_prop (fits_any _ _ _ _ (held _ _ _ c.node.ensures.held c.in-Dict.is))
 
 pub send-send_items-requires : goal.send-send_items-requires
 send-send_items-requires g t c =
-    let e = held c.args.nodes.now c.args.place _ _ c.requires.place c.index-nodes-place.is c.in-List.is in
-    let b = below c.args.nodes.now c.args.place _ _ c.requires.closed c.requires.place c.index-nodes-place.is c.in-List.is in
+    let e = held _ _ _ c.node.ensures.held c.in-List.is in
+    let b = below _ _ _ (c.node.ensures.below c.requires.closed) c.in-List.is in
     let f = ∥∥₁_map c.requires.fits (fits_items _ _ _ _ e) in
     let l = ∥∥₁_elim c.requires.fits le_prop (fits_some _ _ _ _ e) in
     search (rules, b, f, l)
 
 pub send-send_members-requires : goal.send-send_members-requires
 send-send_members-requires g t c =
-    let e = held c.args.nodes.now c.args.place _ _ c.requires.place c.index-nodes-place.is c.in-Dict.is in
-    let b = below c.args.nodes.now c.args.place _ _ c.requires.closed c.requires.place c.index-nodes-place.is c.in-Dict.is in
+    let e = held _ _ _ c.node.ensures.held c.in-Dict.is in
+    let b = below _ _ _ (c.node.ensures.below c.requires.closed) c.in-Dict.is in
     let f = ∥∥₁_map c.requires.fits (fits_members _ _ _ _ e) in
     let l = ∥∥₁_elim c.requires.fits le_prop (fits_any _ _ _ _ e) in
-    rw c.deref.ensures.value (search (rules, b, f, l))
+    (search (rules, b, f, l))
 
 pub send-returns-in-Null : goal.send-returns-in-Null
-send-returns-in-Null g t c = let e = held c.args.nodes.now c.args.place _ _ c.requires.place c.index-nodes-place.is c.in-Null.is in on_ok_weaker c.unit.result (λ w. sends_null _ _ _ _ e w) c.unit.ensures
+send-returns-in-Null g t c = let e = held _ _ _ c.node.ensures.held c.in-Null.is in on_ok_weaker c.unit.result (λ w. sends_null _ _ _ _ e w) c.unit.ensures
 
 pub send-returns-in-Bool : goal.send-returns-in-Bool
-send-returns-in-Bool g t c = let e = held c.args.nodes.now c.args.place _ _ c.requires.place c.index-nodes-place.is c.in-Bool.is in on_ok_weaker c.bool.result (λ w. sends_bool _ _ _ _ _ e w) c.bool.ensures
+send-returns-in-Bool g t c = let e = held _ _ _ c.node.ensures.held c.in-Bool.is in on_ok_weaker c.bool.result (λ w. sends_bool _ _ _ _ _ e w) c.bool.ensures
 
 pub send-returns-in-Int : goal.send-returns-in-Int
-send-returns-in-Int g t c = let e = held c.args.nodes.now c.args.place _ _ c.requires.place c.index-nodes-place.is c.in-Int.is in
+send-returns-in-Int g t c = let e = held _ _ _ c.node.ensures.held c.in-Int.is in
     let is : number_view c.from.result ≡ of_integer c.in-Int.number = search (rules, c.from.ensures) in
     on_ok_weaker c.serialize.result (λ w. sends_int _ _ _ _ c.in-Int.number _ e is w) c.serialize.ensures
 
 pub send-returns-in-Text : goal.send-returns-in-Text
-send-returns-in-Text g t c = let e = held c.args.nodes.now c.args.place _ _ c.requires.place c.index-nodes-place.is c.in-Text.is in on_ok_weaker c.str.result (λ w. sends_text _ _ _ _ _ e w) c.str.ensures
+send-returns-in-Text g t c = let e = held _ _ _ c.node.ensures.held c.in-Text.is in on_ok_weaker c.str.result (λ w. sends_text _ _ _ _ _ e w) c.str.ensures
 
 pub send-returns-in-List : goal.send-returns-in-List
-send-returns-in-List g t c = let e = held c.args.nodes.now c.args.place _ _ c.requires.place c.index-nodes-place.is c.in-List.is in on_ok_weaker c.send_items.result (λ w. sends_array _ _ _ _ _ e w) c.send_items.ensures
+send-returns-in-List g t c = let e = held _ _ _ c.node.ensures.held c.in-List.is in on_ok_weaker c.send_items.result (λ w. sends_array _ _ _ _ _ e w) c.send_items.ensures
 
 pub send-returns-in-Dict : goal.send-returns-in-Dict
-send-returns-in-Dict g t c = let e = held c.args.nodes.now c.args.place _ _ c.requires.place c.index-nodes-place.is c.in-Dict.is in on_ok_weaker c.send_members.result (λ w. sends_object _ _ _ _ _ e w) (rw c.deref.ensures.value at c.send_members.ensures)
+send-returns-in-Dict g t c = let e = held _ _ _ c.node.ensures.held c.in-Dict.is in on_ok_weaker c.send_members.result (λ w. sends_object _ _ _ _ _ e w) c.send_members.ensures
 
 pub send_items-loop-item-init : goal.send_items-loop-item-init
 send_items-loop-item-init g t c = no_items_sent _ _ _
@@ -73,7 +73,7 @@ send_members-loop-key-init g t c = no_members_sent _ _ _
 pub send_members-send-requires : goal.send_members-send-requires
 send_members-send-requires g t c =
     let member = get_or c.args.members.now c.loop-key.key-index no_member in
-    let p : member.1 < length c.args.nodes.now = All-get_or (λ p. p.1 < length c.args.nodes.now) c.args.members.now c.loop-key.key-index no_member c.loop-key-test.true c.requires.places in
+    let p : member.1 < size c.args.nodes.now = All-get_or (λ p. p.1 < size c.args.nodes.now) c.args.members.now c.loop-key.key-index no_member c.loop-key-test.true c.requires.places in
     let f : ∥ Fits (heap c.args.nodes.now) c.args.levels member.1 ∥₁ = ∥∥₁_map c.requires.fits (member_fits _ _ c.args.members.now c.loop-key.key-index no_member c.loop-key-test.true) in
     search (rules, c.requires.closed, p, f)
 

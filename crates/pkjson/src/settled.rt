@@ -1,0 +1,80 @@
+//! Objects in their final state, each looked at where it lies.
+
+ghost use Rattle.std.specs.Prelude.{◌≡◌, ◌<◌, slice_get, slice_index};
+ghost use Rattle.pkjson.specs.Private.Nodes.{members_in, node_of, size, IsNode, Shows};
+
+use crate::node::Node;
+use crate::objects::Object;
+
+/// The objects of a run, and the members of those that are dicts.
+#[derive(Drop)]
+pub struct Settled<'a, 'b> {
+    pub objects: &'a [Object<'b>],
+    /// The members of each dict, in the order of the objects.
+    pub dicts: Vec<Vec<(&'a str, usize)>>,
+    /// For each object, the number of dicts before it.
+    pub places: Vec<usize>,
+}
+
+impl<'a, 'b> Settled<'a, 'b> {
+    /// The number of objects.
+    pub fn len(&self) -> usize
+        ensures { result ≡ size self.now }
+    {
+        self.objects.len()
+    }
+
+    /// What an object holds.
+    #[inline]
+    pub fn node(&self, number: usize) -> Node<'_, 'a>
+        requires { number < size self.now }
+        ensures { IsNode self.now number result }
+    {
+        let place = place_at(&self.places, number);
+        let objects = self.objects;
+        node_of(&objects[number], &self.dicts, place)
+    }
+}
+
+/// What an object holds, which is at this place among the dicts if it is one.
+#[inline]
+fn node_of<'s, 'a>(
+    object: &'s Object<'_>,
+    dicts: &'s [Vec<(&'a str, usize)>],
+    place: usize,
+) -> Node<'s, 'a>
+    ensures { Shows (node_of dicts.now place object.now) result }
+{
+    match object {
+        Object::Items(given) => Node::List(given),
+        Object::Pairs(_) => Node::Dict(members_at(dicts, place)),
+        Object::Null => Node::Null,
+        Object::Bool(truth) => Node::Bool(*truth),
+        Object::Int(value) => Node::Int(*value),
+        Object::Lent(text) => Node::Text(text),
+        Object::Decoded(text) => Node::Text(text.as_str()),
+    }
+}
+
+/// The members at a place among the dicts; none if there is no such place.
+#[inline]
+fn members_at<'s, 'a>(dicts: &'s [Vec<(&'a str, usize)>], place: usize) -> &'s [(&'a str, usize)]
+    ensures { result.now ≡ members_in (slice_get dicts.now place) }
+{
+    if place >= dicts.len() {
+        return &[];
+    }
+    &dicts[place]
+}
+
+/// The place of an object's dict; 0 if none is known.
+#[inline]
+fn place_at(places: &[usize], number: usize) -> usize
+    ensures { result ≡ slice_index places.now number }
+{
+    if number < places.len() {
+        places[number]
+    } else {
+        0
+    }
+}
