@@ -73,8 +73,15 @@ fn what_is_at_hand_is_peeked(rt: HostRuntime) {
     // BININT1, SHORT_BINUNICODE and INT, of 2, 3 and 3 bytes, then STOP.
     let mut memory = Memory::new(b"K\x05\x8c\x01aI7\n.");
     assert_eq!(rt; peek_on(&rt, &mut memory), (3, 8, Ok(Some((8, Op::Stop)))));
-    // A text that is cut, and one that isn't UTF-8.
+    // SHORT_BINBYTES, BINUNICODE, GLOBAL and INST, of 3, 6, 5 and 5 bytes, then FRAME.
+    let mut memory = Memory::new(b"C\x01\xffX\x01\0\0\0bcm\nf\nim\nf\n\x95\0\0\0\0\0\0\0\0");
+    assert_eq!(rt;
+        peek_on(&rt, &mut memory),
+        (4, 19, Ok(Some((19, Op::Frame))))
+    );
+    // A text and a GLOBAL that are cut, and a text that isn't UTF-8.
     assert_eq!(rt; peek_on(&rt, &mut Memory::new(b"N\x8c\x02a")).0, 1);
+    assert_eq!(rt; peek_on(&rt, &mut Memory::new(b"Ncm\nf")).0, 1);
     assert_eq!(rt; peek_on(&rt, &mut Memory::new(b"N\x8c\x01\xff")).0, 1);
     // A source with nothing at hand.
     let first = (0, 0, Ok(Some((0, Op::None))));

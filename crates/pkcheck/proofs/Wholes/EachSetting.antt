@@ -1,5 +1,5 @@
 -- The runs under each setting of old strings are among those under Unknown.
-use Rattle.std.proofs.Common.{◌≡◌, ℕ, zero, suc, Bool, true, false, cond, ltb, List, [], ◌∷◌, ◌++◌, length, map, Option, Some, None, Result, Ok, Err, refl, sym, ap, subst, ◌∙◌, arith}
+use Rattle.std.proofs.Common.{◌≡◌, ℕ, zero, suc, Bool, true, false, cond, ltb, List, [], ◌∷◌, ◌++◌, length, map, Option, Some, Result, Ok, Err, refl, sym, ap, subst, ◌∙◌, arith}
 use Rattle.std.specs.Prelude.{unwrap_or}
 use Rattle.std.specs.List.{list_all}
 use Rattle.std.specs.Char.{is_ascii}
@@ -17,12 +17,12 @@ use Rattle.pkcheck.specs.declared.effect.Gives.{Gives}
 use Rattle.pkcheck.specs.declared.effect.Gives.TheVariants.{Makes, MakesIntOrBool, MakesText, MayMake, Answers, Leaves}
 use Rattle.pkcheck.specs.declared.effect.Takes.TheVariants.{Objects}
 use Rattle.pkcheck.specs.Covers.{imports_of}
-use Rattle.pkcheck.specs.Effects.{Effect, Operates, Moves, Stops, Raises, ascii_string, effect_as, effect_of, is_old_string, pushes}
+use Rattle.pkcheck.specs.Effects.{Effect, Operates, Moves, Stops, Raises, effect_as, effect_of, is_old_string}
 use Rattle.pkcheck.specs.Shape.{Breach, Entry, Shape, Taken, moved, operands, put, top}
 use Rattle.pkcheck.specs.Runs.{Event, Did, Import, Foreign, Go, Named, NoImport, NotTexts, Object}
 use Rattle.pkcheck.specs.Runs.{ObjectClass, Outcome, Pair, Plain, Raise, Raised, State, Stepped}
 use Rattle.pkcheck.specs.Runs.{Stopped, Stuck, Text, WentOn, answered, asks, class_at, come_of}
-use Rattle.pkcheck.specs.Runs.{effect_asks, given, gone_on, int_or_bool, made_new, move_step}
+use Rattle.pkcheck.specs.Runs.{effect_asks, given, int_or_bool, made_new, move_step}
 use Rattle.pkcheck.specs.Runs.{named, operate_step, operated, perform, start, step_as, stop_step}
 use Rattle.pkcheck.specs.Runs.{text, with_answer}
 use Rattle.pkcheck.specs.WholeRuns.{AllListed, Ended, EndedBy, EndsWell, Reached, first_outcome, go_on, outcomes_after, run_as}

@@ -12,7 +12,7 @@ use Rattle.byteorder.specs.Endian.{little_from}
 use Rattle.byteorder.specs.Numbers.{little_from-lt}
 use Rattle.pkops.specs.Contents.{IsGood, Keeps, rule_of}
 use Rattle.pkops.specs.Growth.{CountLaws, FieldLaws}
-use Rattle.pkops.specs.Lying.{AreBytes, IsFixed, Lies, count_in, field_len}
+use Rattle.pkops.specs.Lying.{AreBytes, Lies, count_in, field_len}
 use Rattle.pkops.specs.Spelling.{Argument, Counted, Float, IsLine, Line, Nothing, Number, Pair, Signed, Suits, count_limit, instruction, layout_at, line_feed, size_of}
 use Rattle.pkops.specs.Table.{code_of}
 use Rattle.pkops.specs.declared.Layout.{Layout}
@@ -169,21 +169,23 @@ counted_front counts limit n o size (x ∷ rest) lay fits code head within is ro
     let left : n - (k + 1) ≡ count = omega (arith, is) in
     let head_is : k + 1 ≡ suc k = omega arith in
     let good' : is_plain o ≡ false → IsUtf8 (take (n - (k + 1)) (drop k rest)) =
-    λ e. subst (λ (m : ℕ). IsUtf8 (take (n - (k + 1)) (drop m (x ∷ rest)))) head_is (good e) in
-    (0, record {
-      found = record {
-        arg = Counted payload;
-        lies = lies;
-        good = record {
-          suits = lies.laid.suits;
-          contents = payload_keeps o size payload (is_plain o) lay refl (subst (λ (m : ℕ). is_plain o ≡ false → IsUtf8 (take m (drop k rest))) left good');
+    λ e. subst (λ (m : ℕ). IsUtf8 (take (n - (k + 1)) (drop m (x ∷ rest)))) head_is (good e) in (
+      0,
+      record {
+        found = record {
+          arg = Counted payload;
+          lies = lies;
+          good = record {
+            suits = lies.laid.suits;
+            contents = payload_keeps o size payload (is_plain o) lay refl (subst (λ (m : ℕ). is_plain o ≡ false → IsUtf8 (take m (drop k rest))) left good');
+          };
+          admitted = text_admitted o size false (Counted payload) lay;
         };
-        admitted = text_admitted o size false (Counted payload) lay;
-      };
-      role = counted_role o size lay;
-      few = few;
-      within = room;
-    })
+        role = counted_role o size lay;
+        few = few;
+        within = room;
+      },
+    )
 
 -- a line has no line feed before its end
 no_feed : (xs : List ℕ) (n : ℕ) → n ≤ length xs →
@@ -220,10 +222,13 @@ module _ (most end : ℕ) (line : List ℕ)
       let feed : get_or line end 0 ≡ 10 = grind (arith, nat_tests, ends.1) in
       let long : length line ≡ length (take count rest) = ap length is in
       let low : end + 1 ≤ count = omega (arith, inside, long, length-take count rest) in
-      let high : end + 1 ≤ length rest = omega (arith, inside, long, length-take count rest) in
-      (sym (take-take (end + 1) count rest low)
-          ∙ (ap (take (end + 1)) (sym is)
-          ∙ (take_more line end 0 inside ∙ ap (λ b. take end line ++ b ∷ []) feed)), low, high)
+      let high : end + 1 ≤ length rest = omega (arith, inside, long, length-take count rest) in (
+        sym (take-take (end + 1) count rest low)
+            ∙ (ap (take (end + 1)) (sym is)
+            ∙ (take_more line end 0 inside ∙ ap (λ b. take end line ++ b ∷ []) feed)),
+        low,
+        high,
+      )
 
 -- a line that ends in the bytes behind the code
 module _ (o : Op) (most end : ℕ) (line : List ℕ) (lay : layout_at o ≡ layout.Line most)
@@ -240,22 +245,24 @@ module _ (o : Op) (most end : ℕ) (line : List ℕ) (lay : layout_at o ≡ layo
       let high = whole.2 in
       let e : end + 2 ≡ suc (end + 1) = omega arith in
       let spelled : take (end + 2) (x ∷ rest) ≡ code_of o ∷ (take end line ++ line_feed ∷ []) =
-      rw (e, code) (ap (λ (l : List ℕ). x ∷ l) whole.0) in
-      (0, record {
-        found = record {
-          arg = Line (take end line);
-          lies = record {
-            laid = record { suits = front_suits; within = tt };
-            spelled = spelled;
-            split_is = refl;
+      rw (e, code) (ap (λ (l : List ℕ). x ∷ l) whole.0) in (
+        0,
+        record {
+          found = record {
+            arg = Line (take end line);
+            lies = record {
+              laid = record { suits = front_suits; within = tt };
+              spelled = spelled;
+              split_is = refl;
+            };
+            good = good;
+            admitted = line_admitted o most (Line (take end line)) lay;
           };
-          good = good;
-          admitted = line_admitted o most (Line (take end line)) lay;
-        };
-        role = line_role o most lay;
-        few = omega (arith, low, few);
-        within = omega (arith, high);
-      })
+          role = line_role o most lay;
+          few = omega (arith, low, few);
+          within = omega (arith, high);
+        },
+      )
 
   pub line_front : (count : ℕ) (bytes : List ℕ) → 0 < length bytes →
       code_of o ≡ get_or bytes 0 0 → line ≡ take count (drop 1 bytes) → count ≤ 256 →
@@ -302,22 +309,24 @@ module _ (o : Op) (most first second : ℕ) (lines behind : List ℕ)
       let e : first + second + 3 ≡ suc (first + 1 + (second + 1)) = omega arith in
       let spelled : take (first + second + 3) (x ∷ rest)
       ≡ code_of o ∷ ((take first lines ++ line_feed ∷ []) ++ (take second behind ++ line_feed ∷ []))
-      = rw (e, code) (ap (λ (l : List ℕ). x ∷ l) (cut ∙ halves)) in
-      (length (take first lines), record {
-        found = record {
-          arg = Pair (take first lines) (take second behind);
-          lies = record {
-            laid = record { suits = pair_suits; within = tt };
-            spelled = spelled;
-            split_is = refl;
+      = rw (e, code) (ap (λ (l : List ℕ). x ∷ l) (cut ∙ halves)) in (
+        length (take first lines),
+        record {
+          found = record {
+            arg = Pair (take first lines) (take second behind);
+            lies = record {
+              laid = record { suits = pair_suits; within = tt };
+              spelled = spelled;
+              split_is = refl;
+            };
+            good = good;
+            admitted = pair_admitted o most (Pair (take first lines) (take second behind)) lay;
           };
-          good = good;
-          admitted = pair_admitted o most (Pair (take first lines) (take second behind)) lay;
-        };
-        role = pair_role o most lay;
-        few = omega (arith, both, long, length-take count rest, few);
-        within = omega (arith, both, long, length-take count rest);
-      })
+          role = pair_role o most lay;
+          few = omega (arith, both, long, length-take count rest, few);
+          within = omega (arith, both, long, length-take count rest);
+        },
+      )
 
   pub pair_front : (count more : ℕ) (bytes : List ℕ) → 0 < length bytes →
       code_of o ≡ get_or bytes 0 0 → lines ≡ take count (drop 1 bytes) →

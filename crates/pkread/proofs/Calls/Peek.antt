@@ -1,5 +1,5 @@
 -- One call of `peek`, and one of `advance`.
-use Rattle.std.proofs.Common.{◌≡◌, ℕ, ◌+◌, ◌≤◌, List, [], length, take, refl, sym, ap, ◌∙◌, subst, inl, arith}
+use Rattle.std.proofs.Common.{◌≡◌, ℕ, ◌+◌, ◌≤◌, List, [], length, take, refl, sym, ap, subst, arith}
 use Rattle.std.specs.Prelude.{max}
 use Rattle.std.proofs.lemmas.List.{length-take, take_all}
 use Rattle.pkops.specs.Payloads.{payload_limit}

@@ -1,6 +1,6 @@
 -- How the arms take the bytes of one instruction.
 use Rattle.std.specs.Prelude.{◌≡◌, ◌≢◌, ◌⊎◌, ℕ, ◌+◌, ◌<◌, ◌≤◌, List, [], ◌∷◌, ◌++◌, length}
-use Rattle.std.specs.Prelude.{None, Result, MatchResult, false, take, true}
+use Rattle.std.specs.Prelude.{None, Result, MatchResult, take, true}
 use Rattle.std.specs.List.{AllByRecursion}
 use Rattle.std.specs.Io.KnownBytes.{IsAtEnd}
 use Rattle.pkops.specs.Contents.{IsGood}

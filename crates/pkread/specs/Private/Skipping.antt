@@ -1,15 +1,11 @@
 -- Bytes that are taken but not held. The contracts describe them as if the buffer held them.
-use Rattle.std.specs.Prelude.{◌≡◌, ◌≤◌, ◌+◌, [], ℕ, List, length, max, Result, MatchResult, false}
-use Rattle.std.specs.Prelude.{take}
+use Rattle.std.specs.Prelude.{◌≡◌, ◌≤◌, ℕ, List, length, max, Result, MatchResult, false}
 use Rattle.pkops.specs.Limits.{Bounds}
 use Rattle.pkops.specs.Lying.{Lies}
 use Rattle.pkops.specs.Payloads.{is_passed, payload_limit_at}
-use Rattle.pkops.specs.Scanning.{longest}
 use Rattle.pkops.specs.Spelling.{Counted}
 use Rattle.pkops.specs.declared.Op.{Op}
-use Rattle.pkops.specs.declared.Op.TheVariants as op
 use Rattle.pkread.specs.Heads.{HoldsFew, SkipsBy}
-use Rattle.pkread.specs.Held.{most_held}
 use Rattle.pkread.specs.Private.Gathering.{Gathers, IsFound, Stops}
 use Rattle.pkread.specs.Private.Progress.{GatheringView, Intake}
 use Rattle.pkread.specs.Private.Taking.{LacksSome, Took, TookAll}

@@ -1,6 +1,4 @@
-use Rattle.std.proofs.Common.{ℕ, ◌+◌, ◌-◌, ◌≤◌, refl, subst, arith, drop, take, length}
-use Rattle.pkops.specs.Lying.{count_in}
-use Rattle.pkops.specs.Spelling.{size_of}
+use Rattle.std.proofs.Common.{ℕ, ◌+◌, ◌-◌, refl, subst, arith, drop, take}
 use Rattle.std.specs.Str.{IsUtf8}
 use Rattle.pkread.proofs.Bytes.Front.{counted_front}
 use Rattle.pkread.proofs.front.counted_length.Goals as goal

@@ -1,4 +1,4 @@
-use Rattle.std.proofs.Common.{◌≡◌, sym, arith}
+use Rattle.std.proofs.Common.{◌≡◌, arith}
 use Rattle.pkops.specs.Payloads.{payload_limit}
 use Rattle.pkread.specs.Private.Gathering.{HasFixedLength}
 use Rattle.pkread.proofs.Bytes.Front.{fixed_front}

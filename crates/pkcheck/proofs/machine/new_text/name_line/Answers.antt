@@ -1,5 +1,4 @@
 use Rattle.std.proofs.lemmas.Str.{IsUtf8-string_bytes}
-use Rattle.std.specs.Str.{IsUtf8}
 use Rattle.pkcheck.proofs.machine.new_text.name_line.Goals as goal
 
 pub name_text-requires-clause-utf8 : goal.name_text-requires-clause-utf8

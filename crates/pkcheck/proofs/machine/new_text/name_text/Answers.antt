@@ -1,5 +1,3 @@
-use Rattle.pkcheck.specs.Runs.{text}
-use Rattle.pkops.specs.Inst.{instruction_of}
 use Rattle.pkcheck.proofs.Resolving.{text_seen, text_sees}
 use Rattle.pkcheck.proofs.machine.new_text.name_text.Goals as goal
 

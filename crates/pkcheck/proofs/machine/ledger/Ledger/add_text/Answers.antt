@@ -1,6 +1,4 @@
 use Rattle.std.proofs.Common.{[], ◌∷◌}
-use Rattle.pkops.specs.Inst.{instruction_of}
-use Rattle.pkcheck.specs.Runs.{text}
 use Rattle.pkcheck.proofs.Stepping.Errs.{ok_on, on_each}
 use Rattle.pkcheck.proofs.Noting.{are_grown, asked_grown}
 use Rattle.pkcheck.proofs.Resolving.{same_table}

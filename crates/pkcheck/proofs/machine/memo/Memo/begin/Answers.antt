@@ -1,4 +1,4 @@
-use Rattle.std.proofs.Common.{◌∙◌, inr, refl, sym, arith}
+use Rattle.std.proofs.Common.{◌∙◌, inr, refl, arith}
 use Rattle.pkcheck.proofs.Cells.{no_cells}
 use Rattle.pkcheck.proofs.machine.memo.Memo.begin.Goals as goal
 use Rattle.pkcheck.proofs.machine.memo.Memo.begin.Goals.{in-Ok, in-Err}
