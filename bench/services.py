@@ -46,9 +46,11 @@ def large(count: int) -> List[Dict[str, object]]:
 
 
 def celery(rounds: int) -> float:
-    """Compares the CPU times of a bare and of a guarded worker, by payload."""
-    print("| Celery | a job, bare, µs | guarded, µs | times, median | quartiles |")
-    print("|---|---|---|---|---|")
+    """Compares the CPU times of a bare and of a guarded worker, by payload. Jobs a second are those
+    of a processor that does nothing else.
+    """
+    print("| Celery | µs a job, bare | guarded | Jobs a second | guarded | Times | Quartiles |")
+    print("|---|---|---|---|---|---|---|")
     median, processors = 0.0, os.sched_getaffinity(0)
     os.sched_setaffinity(0, {max(processors)})  # both workers get the same speed
     with tempfile.TemporaryDirectory() as folder, common.redis_server(folder) as port:
@@ -61,8 +63,8 @@ def celery(rounds: int) -> float:
                     times += batches(payload, rounds)
             bare, kept = (1e6 * statistics.median(it) for it in zip(*times))
             low, median, high = statistics.quantiles([kept / bare for bare, kept in times], n=4)
-            spread = f"{median:.3f} | {low:.3f} to {high:.3f}"
-            print(f"| {name} | {bare:.0f} | {kept:.0f} | {spread} |", flush=True)
+            paces = f"{bare:.0f} | {kept:.0f} | {1e6 / bare:.0f} | {1e6 / kept:.0f}"
+            print(f"| {name} | {paces} | {median:.3f} | {low:.3f} to {high:.3f} |", flush=True)
     os.sched_setaffinity(0, processors)
     return median
 
