@@ -1,7 +1,7 @@
 #!/usr/bin/env python3
 """Compares the Python package with pickle.loads, in microseconds of CPU time per call.
 
-The status is 1 if one of BOUNDS is exceeded.
+The status is 1 if a figure is more than BOUND times its target.
 """
 import argparse
 import collections
@@ -26,13 +26,15 @@ PYTHON = program.ROOT / "python"
 sys.path.insert(0, str(PYTHON))
 
 PAIRS = [("collections", "OrderedDict"), ("datetime", "datetime"), ("decimal", "Decimal")]
-BOUNDS = {
+TARGETS = {
     "check of 198 bytes, in microseconds": 2.5,
     "guarded load of 198 bytes, times bare": 1.6,
     "guarded load of 340 kB, times bare": 1.4,
     "refusal, in microseconds": 3,
     "import, in milliseconds": 3,
 }
+BOUND = 1.5
+"""How many times its target a figure may reach before it counts as a regression."""
 REFUSED = b"\x80\x04\x8c\x05posix\x94\x8c\x06system\x94\x93\x94."
 
 
@@ -106,7 +108,7 @@ def many(count: int) -> List[Tuple[str, str]]:
 
 
 def pickles(storklocker: ModuleType, asked: argparse.Namespace) -> List[float]:
-    """Prints a row for each size, and returns what the first three of BOUNDS bound."""
+    """Prints a row for each size, and returns the first three figures of TARGETS."""
     few = storklocker.AllowList(PAIRS)
     guard, checks, ratios = storklocker.Guard(few), [], []
     print(
@@ -233,12 +235,11 @@ def main() -> int:
     found = [*pickles(storklocker, asked), lists(storklocker, asked)]
     threads(storklocker, asked)
     found.append(imported(asked))
-    exceeded = 0
-    for (what, bound), value in zip(BOUNDS.items(), found):
-        if value > bound:
-            exceeded = 1
-            print(f"\n{what}: {value:.2f}; the bound is {bound}")
-    return exceeded
+    print()
+    for (what, target), value in zip(TARGETS.items(), found):
+        fault = ", TOO SLOW" if value > BOUND * target else ""
+        print(f"{what}: {value:.2f} (target: {target}){fault}")
+    return int(any(value > BOUND * target for target, value in zip(TARGETS.values(), found)))
 
 
 if __name__ == "__main__":
