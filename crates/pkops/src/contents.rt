@@ -1,7 +1,6 @@
 //! What an argument may contain: a rule for each opcode, and a test of the rule.
 
 ghost use Rattle.std.specs.Prelude.{◌≡◌, MatchBool};
-ghost use Rattle.std.specs.Str.{is_utf8};
 ghost use Rattle.pkops.specs.Contents.{Keeps, rule_of};
 ghost use Rattle.pkops.specs.Deciding.{passes};
 ghost use Rattle.pkops.specs.Spelling.{shown_arg};
@@ -12,6 +11,7 @@ use crate::contents::float::is_float_line;
 use crate::contents::name::{is_ascii, is_name};
 use crate::contents::numeral::{is_int_line, is_long_line, is_memo_number};
 use crate::contents::old_string::is_string_line;
+use crate::contents::utf8::is_utf8;
 use crate::op::Op;
 
 pub mod digit;
@@ -20,6 +20,7 @@ pub mod float;
 pub mod name;
 pub mod numeral;
 pub mod old_string;
+pub mod utf8;
 
 /// A rule for the contents of an argument, beyond its layout. Rules belong to opcodes, not to
 /// kinds: INT, GET and PUT share a kind.
@@ -94,14 +95,5 @@ fn passes(rule: Rule, arg: Arg<'_>) -> bool
         (Rule::Names, Arg::Pair(module, name)) => is_name(module) && is_name(name),
         (Rule::Ascii, Arg::Line(line)) => is_ascii(line),
         _ => false,
-    }
-}
-
-fn is_utf8(payload: &[u8]) -> bool
-    ensures { result ≡ is_utf8 payload.now }
-{
-    match str::from_utf8(payload) {
-        Ok(_) => true,
-        Err(_) => false,
     }
 }

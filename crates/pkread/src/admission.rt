@@ -1,7 +1,6 @@
 //! Which instructions are refused, and for which reason.
 
 ghost use Rattle.std.specs.Prelude.{◌≡◌, IfErr, IfNone, IfOk, IfSome, MatchBool, false, true};
-ghost use Rattle.std.specs.Str.{IsUtf8};
 ghost use Rattle.pkops.specs.Contents.{IsGood};
 ghost use Rattle.pkops.specs.Inst.{instruction_of};
 ghost use Rattle.pkops.specs.Spelling.{Suits, instruction, layout_at, shown_arg};
@@ -72,17 +71,6 @@ pub(crate) fn is_good(op: Op, arg: Arg<'_>) -> bool
     match Inst::judged(op, arg) {
         Some(_) => true,
         None => false,
-    }
-}
-
-/// Whether the bytes are UTF-8.
-#[inline(always)]
-pub(crate) fn is_utf8(payload: &[u8]) -> bool
-    ensures { MatchBool result (IsUtf8 payload.now) (¬ (IsUtf8 payload.now)) }
-{
-    match str::from_utf8(payload) {
-        Ok(_) => true,
-        Err(_) => false,
     }
 }
 

@@ -9,12 +9,12 @@ ghost use Rattle.pkread.specs.Private.Gathering.{TakesArgument, TakesCount, Take
 ghost use Rattle.pkread.specs.Private.Progress.{KeepsRest, intake};
 ghost use Rattle.pkread.specs.Private.Taking.{TakesAll};
 
-use crate::admission::{is_good, is_plain, is_utf8, judged};
+use crate::admission::{is_good, is_plain, judged};
 use crate::gathering::Gathering;
 use crate::refusal::Reason;
 use crate::source::Source;
 use pkops::laws::growth;
-use pkops::{Arg, Op, Width, count_behind, is_count};
+use pkops::{Arg, Op, Width, count_behind, is_count, is_utf8};
 
 /// How a count is spelled, and its limit.
 #[derive(Clone, Copy, Debug)]

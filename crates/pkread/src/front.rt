@@ -12,9 +12,9 @@ ghost use Rattle.pkops.specs.declared.Op.{Op as SpecOp};
 ghost use Rattle.pkread.specs.Private.Gathering.{HasFixedLength, IsFront, IsInFront};
 ghost use Rattle.pkread.specs.Private.Judging.{is_plain};
 
-use crate::admission::{is_good, is_plain, is_utf8};
+use crate::admission::{is_good, is_plain};
 use pkops::laws::{growth, one_code};
-use pkops::{Arg, Layout, Limits, Op, Width, count_behind, layout_of_op, op_of_byte};
+use pkops::{Arg, Layout, Limits, Op, Width, count_behind, is_utf8, layout_of_op, op_of_byte};
 
 /// The code of SHORT_BINUNICODE.
 const SHORT_TEXT: u8 = 0x8c;

@@ -1,0 +1,21 @@
+//! Payloads that are UTF-8.
+
+ghost use Rattle.std.specs.Prelude.{MatchBool};
+ghost use Rattle.std.specs.Str.{IsUtf8};
+
+/// The length from which on `simdutf8` is faster than `std`.
+const LONG: usize = 40;
+
+/// Whether the bytes are UTF-8.
+#[inline]
+pub fn is_utf8(bytes: &[u8]) -> bool
+    ensures { MatchBool result (IsUtf8 bytes.now) (¬ (IsUtf8 bytes.now)) }
+{
+    if bytes.len() >= LONG {
+        return simdutf8::is_utf8(bytes);
+    }
+    match str::from_utf8(bytes) {
+        Ok(_) => true,
+        Err(_) => false,
+    }
+}
