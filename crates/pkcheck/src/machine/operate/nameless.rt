@@ -39,9 +39,10 @@ fn replace(stack: &mut Stack, limits: &Limits, takes: Takes, gives: Gives) -> Re
     }
 }
 
-/// Applies the operation of an opcode that imports nothing.
-#[inline(never)]
-pub fn operate_unnamed(stack: &mut Stack, limits: &Limits, op: Op) -> Result<(), Reason>
+/// Applies the operation of an opcode that imports nothing. Where the compiler knows the opcode,
+/// it drops the tests of all other operations.
+#[inline(always)]
+fn operate_as(stack: &mut Stack, limits: &Limits, op: Op) -> Result<(), Reason>
     requires within { length stack.old ≤ limits.now.stack }
     requires unnamed { IsUnnamed (effect_of op) }
     ensures ok { OnOk result (Replaces (effect_of op) stack.old stack.new) }
@@ -52,4 +53,30 @@ pub fn operate_unnamed(stack: &mut Stack, limits: &Limits, op: Op) -> Result<(),
 {
     let operation = operation_of(op);
     replace(stack, limits, operation.takes, operation.gives)
+}
+
+/// Applies the operation of an opcode that imports nothing. The most frequent operations have arms
+/// of their own.
+#[inline(never)]
+pub fn operate_unnamed(stack: &mut Stack, limits: &Limits, op: Op) -> Result<(), Reason>
+    requires within { length stack.old ≤ limits.now.stack }
+    requires unnamed { IsUnnamed (effect_of op) }
+    ensures ok { OnOk result (Replaces (effect_of op) stack.old stack.new) }
+    ensures sees { OnOk result (StaysSeen stack.old stack.new) }
+    ensures room { OnOk result (length stack.new ≤ limits.now.stack) }
+    ensures kept { OnErr result (stack.new ≡ stack.old) }
+    ensures err { IfErr result (IsReplaceFault limits.now (effect_of op) stack.old) }
+{
+    match op {
+        Op::Append => operate_as(stack, limits, Op::Append),
+        Op::Appends => operate_as(stack, limits, Op::Appends),
+        Op::SetItem => operate_as(stack, limits, Op::SetItem),
+        Op::SetItems => operate_as(stack, limits, Op::SetItems),
+        Op::Tuple => operate_as(stack, limits, Op::Tuple),
+        Op::Tuple1 => operate_as(stack, limits, Op::Tuple1),
+        Op::Tuple2 => operate_as(stack, limits, Op::Tuple2),
+        Op::Reduce => operate_as(stack, limits, Op::Reduce),
+        Op::Build => operate_as(stack, limits, Op::Build),
+        _ => operate_as(stack, limits, op),
+    }
 }

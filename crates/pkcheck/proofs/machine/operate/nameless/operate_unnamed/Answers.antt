@@ -1,9 +1,28 @@
-use Rattle.pkcheck.specs.Effects.{effect_of}
-use Rattle.pkcheck.proofs.Stepping.Operations.{unnamed_is}
 use Rattle.pkcheck.proofs.machine.operate.nameless.operate_unnamed.Goals as goal
 
-pub returns-clause-ok : goal.returns-clause-ok
-returns-clause-ok c = rw (unnamed_is (effect_of c.args.op) c.operation_of-operation.result c.requires.unnamed c.operation_of-operation.ensures) c.replace.ensures.ok
+pub returns-in-Append-clause-ok : goal.returns-in-Append-clause-ok
+returns-in-Append-clause-ok c = rw (c.in-Append.is) c.operate_as.ensures.ok
 
-pub returns-clause-err : goal.returns-clause-err
-returns-clause-err c = rw (unnamed_is (effect_of c.args.op) c.operation_of-operation.result c.requires.unnamed c.operation_of-operation.ensures) c.replace.ensures.err
+pub returns-in-Appends-clause-ok : goal.returns-in-Appends-clause-ok
+returns-in-Appends-clause-ok c = rw (c.in-Appends.is) c.operate_as-in-Appends.ensures.ok
+
+pub returns-in-SetItem-clause-ok : goal.returns-in-SetItem-clause-ok
+returns-in-SetItem-clause-ok c = rw (c.in-SetItem.is) c.operate_as-in-SetItem.ensures.ok
+
+pub returns-in-SetItems-clause-ok : goal.returns-in-SetItems-clause-ok
+returns-in-SetItems-clause-ok c = rw (c.in-SetItems.is) c.operate_as-in-SetItems.ensures.ok
+
+pub returns-in-Tuple-clause-ok : goal.returns-in-Tuple-clause-ok
+returns-in-Tuple-clause-ok c = rw (c.in-Tuple.is) c.operate_as-in-Tuple.ensures.ok
+
+pub returns-in-Tuple1-clause-ok : goal.returns-in-Tuple1-clause-ok
+returns-in-Tuple1-clause-ok c = rw (c.in-Tuple1.is) c.operate_as-in-Tuple1.ensures.ok
+
+pub returns-in-Tuple2-clause-ok : goal.returns-in-Tuple2-clause-ok
+returns-in-Tuple2-clause-ok c = rw (c.in-Tuple2.is) c.operate_as-in-Tuple2.ensures.ok
+
+pub returns-in-Reduce-clause-ok : goal.returns-in-Reduce-clause-ok
+returns-in-Reduce-clause-ok c = rw (c.in-Reduce.is) c.operate_as-in-Reduce.ensures.ok
+
+pub returns-in-Build-clause-ok : goal.returns-in-Build-clause-ok
+returns-in-Build-clause-ok c = rw (c.in-Build.is) c.operate_as-in-Build.ensures.ok
