@@ -1,6 +1,7 @@
 -- What an operation that imports nothing does to the stack. It doesn't depend on the texts or the
 -- memo.
-use Rattle.std.specs.Prelude.{ℕ, ◌⊎◌, List, false, None}
+use Rattle.std.specs.Prelude.{ℕ, ◌≡◌, ◌≤◌, ◌⊎◌, IfErr, List, None, OnErr, OnOk, Result, false}
+use Rattle.std.specs.Prelude.{length}
 use Rattle.pkcheck.specs.declared.machine.value.Value.{Value}
 use Rattle.pkcheck.specs.Effects.{Effect, number_stored}
 use Rattle.pkread.specs.declared.Reason.{Reason}
@@ -35,3 +36,12 @@ IsReplaceFault limits e old r =
     (record { entries = seen ts old; memo = m })) (within limits (number_stored e i)))
     (record { reason = r; pair = None })
     ⊎ (MayWantMemory e × IsForMemory (record { reason = r; pair = None }))
+
+-- what an operation that imports nothing answers, and what it does to the stack
+pub record HasOperated {A : Type 0} (limits : Bounds) (e : Effect) (old new : List (Entry Value))
+    (answer : Result A Reason) : Type 0 where
+  pub ok : OnOk answer (Replaces e old new)
+  pub sees : OnOk answer (StaysSeen old new)
+  pub room : OnOk answer (length new ≤ limits.stack)
+  pub kept : OnErr answer (new ≡ old)
+  pub err : IfErr answer (IsReplaceFault limits e old)
