@@ -11,6 +11,7 @@ mod operate;
 mod pile;
 pub(crate) mod stack;
 mod stepping;
+mod terms;
 pub(crate) mod texts;
 pub(crate) mod value;
 
@@ -41,6 +42,7 @@ use crate::machine::effects::class_passed;
 use crate::machine::held::Held;
 use crate::machine::ledger::Ledger;
 use crate::machine::stepping::advance;
+use crate::machine::terms::Terms;
 use crate::old_strings::OldStrings;
 use crate::policy::Policy;
 use pkops::{Inst, Limits, Op};
@@ -54,10 +56,8 @@ pub use stepping::Moved;
 /// operations answer, the class of every other object, and the characters of a text.
 #[derive(Drop)]
 pub struct Machine {
-    alloc: Global,
+    terms: Terms,
     held: Held,
-    limits: Limits,
-    old_strings: OldStrings,
     refused: Option<Reason>,
     off: Option<Asked>,
     stopped: bool,
@@ -75,8 +75,8 @@ impl Model for Machine {
 
     ghost view = { λ m. record {
       knowledge = m.held.knowledge;
-      limits = m.limits;
-      old_strings = m.old_strings;
+      limits = m.terms.limits;
+      old_strings = m.terms.old_strings;
       imports = m.held.imports;
       off = option_map asked_shown m.off;
       refused = m.refused;
@@ -86,7 +86,7 @@ impl Model for Machine {
 
     // A machine that has refused nothing is within its limits and holds no pair. One that has
     // refused holds a pair exactly if the import was off the list.
-    ghost invariant = { λ m. (m.refused ≡ None → FitsLimits m.limits m.held.knowledge)
+    ghost invariant = { λ m. (m.refused ≡ None → FitsLimits m.terms.limits m.held.knowledge)
         × (m.refused ≡ None → m.off ≡ None)
         × (is_some (pair_shown (option_map asked_shown m.off)) ≡ has_off_list m.refused) };
 }
@@ -107,10 +107,12 @@ impl Machine {
         ensures covers { Covers result.knowledge start }
     {
         Machine {
-            alloc,
+            terms: Terms {
+                alloc,
+                limits: *limits,
+                old_strings,
+            },
             held: Held::new(alloc),
-            limits: *limits,
-            old_strings,
             refused: None,
             off: None,
             stopped: false,
@@ -157,15 +159,7 @@ impl Machine {
         if let Some(reason) = self.refused {
             return Err(reason);
         }
-        match advance(
-            self.alloc,
-            &mut self.held,
-            &self.limits,
-            self.old_strings,
-            inst,
-            policy,
-            &mut self.off,
-        ) {
+        match advance(&mut self.held, &self.terms, inst, policy, &mut self.off) {
             Ok(moved) => {
                 stop_after(moved, &mut self.stopped);
                 Ok(moved)
@@ -193,7 +187,7 @@ impl Machine {
         if let Some(earlier) = self.refused {
             return Err(earlier);
         }
-        match self.held.make(&self.limits, class_passed(op)) {
+        match self.held.make(&self.terms.limits, class_passed(op)) {
             Ok(()) => Ok(Moved::On),
             Err(reason) => {
                 self.refused = Some(reason);
@@ -257,7 +251,7 @@ impl Machine {
     {
         match memo {
             Memo::Fresh => {
-                self.held.list_in(self.alloc, apart)?;
+                self.held.list_in(self.terms.alloc, apart)?;
                 self.held.clear();
             }
             Memo::Kept => self.held.clear_stack(),

@@ -1,5 +1,9 @@
 -- What a ledger holds: the texts that a pickle made, and the imports that it requested.
 use Rattle.std.specs.Prelude.{ℕ, ◌<◌, List, [], ◌∷◌, Option, Some, None, get_or, length, ◌≡◌, ⊤}
+use Rattle.std.specs.Borrow.{Bor}
+use Rattle.std.specs.Option.{option_map}
+use Rattle.pkops.specs.Operands.{pair_named}
+use Rattle.pkops.specs.Spelling.{Instruction}
 use Rattle.pkcheck.specs.declared.import.Named.{Named}
 use Rattle.pkcheck.specs.declared.import.Named.TheVariants as named
 use Rattle.pkcheck.specs.declared.machine.ledger.Entry.{Entry}
@@ -56,3 +60,7 @@ AreCopies copies texts written =
 abbrev pub AreNumbered : ℕ → List Value → Type 0
 AreNumbered count [] = ⊤
 AreNumbered count (v ∷ vs) = IsNumbered count v × AreNumbered count vs
+
+-- the two texts are those that the instruction names, and there are none if it names none
+abbrev pub Spells : Option (Bor (List ℕ) × Bor (List ℕ)) → Instruction → Type 0
+Spells names i = option_map (λ pair. (pair.0.now, pair.1.now)) names ≡ pair_named i

@@ -24,8 +24,9 @@ use crate::machine::ledger::Ledger;
 use crate::machine::memo::Memo;
 use crate::machine::moves::apply;
 use crate::machine::new_text::make_text;
-use crate::machine::operate::{Denial, lines_of, operate_named, operate_unnamed};
+use crate::machine::operate::{Denial, Spelled, lines_of, operate_named, operate_unnamed};
 use crate::machine::stack::Stack;
+use crate::machine::terms::Terms;
 use crate::machine::value::Value;
 use crate::policy::Policy;
 use pkops::{Inst, Limits, Op};
@@ -155,23 +156,18 @@ impl Held {
 
     /// Pushes the text that an instruction spells.
     #[inline(always)]
-    pub fn make_text(
-        &mut self,
-        alloc: Global,
-        limits: &Limits,
-        inst: &Inst<'_>,
-    ) -> Result<(), Reason>
+    pub fn make_text(&mut self, terms: &Terms, inst: &Inst<'_>) -> Result<(), Reason>
         requires spells { IsSpelled (instruction_of inst.now).arg }
         ensures ok { OnOk result (self.new.knowledge
             ≡ with_item (Some (Text (text (instruction_of inst.now)))) self.old.knowledge) }
-        ensures room { OnOk result (length self.new.knowledge.entries ≤ limits.now.stack) }
+        ensures room { OnOk result (length self.new.knowledge.entries ≤ terms.now.limits.stack) }
         ensures texts { OnOk result (self.new.texts ≡ suc self.old.texts) }
         ensures imports { OnOk result (self.new.imports ≡ self.old.imports) }
         ensures kept { OnErr result (self.new ≡ self.old) }
-        ensures err { IfErr result (WantsRoom limits.now.stack
+        ensures err { IfErr result (WantsRoom terms.now.limits.stack
             (length self.old.knowledge.entries)) }
     {
-        make_text(alloc, &mut self.stack, &mut self.ledger, limits, inst)
+        make_text(&mut self.stack, &mut self.ledger, terms, inst)
     }
 
     /// Applies a move to the stack and the memo.
@@ -221,37 +217,31 @@ impl Held {
     #[inline(always)]
     pub fn operate_named(
         &mut self,
-        alloc: Global,
-        limits: &Limits,
+        terms: &Terms,
         inst: &Inst,
         policy: &Policy,
     ) -> Result<bool, Denial>
-        requires within { length self.old.knowledge.entries ≤ limits.now.stack }
+        requires within { length self.old.knowledge.entries ≤ terms.now.limits.stack }
         requires operation { IsOperation (effect_of (instruction_of inst.now).op) }
         ensures ok { IfOk result (λ b. Proceeds (learn (policy_of policy.now)
             (effect_of (instruction_of inst.now).op)
             (instruction_of inst.now) self.old.knowledge) self.new.knowledge
             self.old.imports self.new.imports b) }
-        ensures room { OnOk result ((length self.new.knowledge.entries ≤ limits.now.stack)
+        ensures room { OnOk result ((length self.new.knowledge.entries ≤ terms.now.limits.stack)
             × (length self.new.knowledge.memo ≡ length self.old.knowledge.memo)) }
         ensures texts { self.new.texts ≡ self.old.texts }
         ensures kept { OnErr result (self.new ≡ self.old) }
         ensures err { IfErr result (λ d. IsDenied (and_then (learn (policy_of policy.now)
             (effect_of (instruction_of inst.now).op) (instruction_of inst.now) self.old.knowledge)
-            (within limits.now (number_stored (effect_of (instruction_of inst.now).op)
+            (within terms.now.limits (number_stored (effect_of (instruction_of inst.now).op)
             (instruction_of inst.now)))) d
             ⊎ (MayWantMemory (effect_of (instruction_of inst.now).op) × IsForMemory d)) }
     {
-        let lines = lines_of(inst);
-        operate_named(
-            alloc,
-            &mut self.stack,
-            &mut self.ledger,
-            limits,
-            inst.op(),
-            lines,
-            policy,
-        )
+        let spelled = Spelled {
+            op: inst.op(),
+            lines: lines_of(inst),
+        };
+        operate_named(&mut self.stack, &mut self.ledger, terms, &spelled, policy)
     }
 
     /// Pops the result. Refuses with `LeftOver` if anything else is on the stack.

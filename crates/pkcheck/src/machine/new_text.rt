@@ -13,11 +13,11 @@ ghost use Rattle.pkcheck.specs.Shape.{Item};
 
 use crate::machine::ledger::Ledger;
 use crate::machine::stack::Stack;
+use crate::machine::terms::Terms;
 use crate::machine::texts::text_spelled;
 use crate::machine::value::Value;
 use pkops::{Arg, Inst, Limits, Op};
 use pkread::Reason;
-use std::alloc::Global;
 
 /// Adds a text to the table, and pushes its number.
 #[inline(never)]
@@ -55,10 +55,9 @@ fn name_text(
 /// instruction into memory in every step.
 #[inline(never)]
 fn name_payload(
-    alloc: Global,
     stack: &mut Stack,
     ledger: &mut Ledger,
-    limits: &Limits,
+    terms: &Terms,
     op: Op,
     payload: &[u8],
 ) -> Result<(), Reason>
@@ -71,22 +70,21 @@ fn name_payload(
     ensures grows { OnOk result (HasMoreTexts ledger.old.texts ledger.new.texts) }
     ensures count { OnOk result (length ledger.new.texts ≡ suc (length ledger.old.texts)) }
     ensures asked { OnOk result (ledger.new.asked ≡ ledger.old.asked) }
-    ensures room { OnOk result (length stack.new ≤ limits.now.stack) }
+    ensures room { OnOk result (length stack.new ≤ terms.now.limits.stack) }
     ensures err { IfErr result (λ r. (stack.new ≡ stack.old) × (ledger.new ≡ ledger.old)
-        × WantsRoom limits.now.stack (length stack.old) r) }
+        × WantsRoom terms.now.limits.stack (length stack.old) r) }
 {
     let inst = Inst::known(op, Arg::Counted(payload));
-    let text = text_spelled(alloc, &inst)?;
-    name_text(stack, ledger, limits, text.as_bytes())
+    let text = text_spelled(terms.alloc, &inst)?;
+    name_text(stack, ledger, &terms.limits, text.as_bytes())
 }
 
 /// Like `name_text`, for an opcode and its line. See `name_payload`.
 #[inline(never)]
 fn name_line(
-    alloc: Global,
     stack: &mut Stack,
     ledger: &mut Ledger,
-    limits: &Limits,
+    terms: &Terms,
     op: Op,
     line: &[u8],
 ) -> Result<(), Reason>
@@ -99,22 +97,21 @@ fn name_line(
     ensures grows { OnOk result (HasMoreTexts ledger.old.texts ledger.new.texts) }
     ensures count { OnOk result (length ledger.new.texts ≡ suc (length ledger.old.texts)) }
     ensures asked { OnOk result (ledger.new.asked ≡ ledger.old.asked) }
-    ensures room { OnOk result (length stack.new ≤ limits.now.stack) }
+    ensures room { OnOk result (length stack.new ≤ terms.now.limits.stack) }
     ensures err { IfErr result (λ r. (stack.new ≡ stack.old) × (ledger.new ≡ ledger.old)
-        × WantsRoom limits.now.stack (length stack.old) r) }
+        × WantsRoom terms.now.limits.stack (length stack.old) r) }
 {
     let inst = Inst::known(op, Arg::Line(line));
-    let text = text_spelled(alloc, &inst)?;
-    name_text(stack, ledger, limits, text.as_bytes())
+    let text = text_spelled(terms.alloc, &inst)?;
+    name_text(stack, ledger, &terms.limits, text.as_bytes())
 }
 
 /// Adds the text of an instruction to the table, and pushes its number.
 #[inline(always)]
 pub fn make_text(
-    alloc: Global,
     stack: &mut Stack,
     ledger: &mut Ledger,
-    limits: &Limits,
+    terms: &Terms,
     inst: &Inst<'_>,
 ) -> Result<(), Reason>
     requires spells { IsSpelled (instruction_of inst.now).arg }
@@ -125,21 +122,21 @@ pub fn make_text(
     ensures grows { OnOk result (HasMoreTexts ledger.old.texts ledger.new.texts) }
     ensures count { OnOk result (length ledger.new.texts ≡ suc (length ledger.old.texts)) }
     ensures asked { OnOk result (ledger.new.asked ≡ ledger.old.asked) }
-    ensures room { OnOk result (length stack.new ≤ limits.now.stack) }
+    ensures room { OnOk result (length stack.new ≤ terms.now.limits.stack) }
     ensures err { IfErr result (λ r. (stack.new ≡ stack.old) × (ledger.new ≡ ledger.old)
-        × WantsRoom limits.now.stack (length stack.old) r) }
+        × WantsRoom terms.now.limits.stack (length stack.old) r) }
 {
     match inst.arg() {
         Arg::Counted(payload) if holds_utf8(inst.op()) => {
-            name_text(stack, ledger, limits, payload)?;
+            name_text(stack, ledger, &terms.limits, payload)?;
             Ok(())
         }
         Arg::Counted(payload) => {
-            name_payload(alloc, stack, ledger, limits, inst.op(), payload)?;
+            name_payload(stack, ledger, terms, inst.op(), payload)?;
             Ok(())
         }
         Arg::Line(line) => {
-            name_line(alloc, stack, ledger, limits, inst.op(), line)?;
+            name_line(stack, ledger, terms, inst.op(), line)?;
             Ok(())
         }
         _ => unreachable!(),

@@ -12,7 +12,7 @@ mod permitted;
 mod receiver;
 
 use crate::import::Asked;
-pub use named::operate_named;
+pub use named::{Spelled, operate_named};
 pub use nameless::operate_unnamed;
 use pkops::{Arg, Inst};
 use pkread::Reason;

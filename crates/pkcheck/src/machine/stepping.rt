@@ -20,12 +20,12 @@ use crate::machine::effects::{Action, action_of};
 use crate::machine::held::Held;
 use crate::machine::old_text::is_ascii_string;
 use crate::machine::operate::Denial;
+use crate::machine::terms::Terms;
 use crate::machine::value::int_or_bool;
 use crate::old_strings::OldStrings;
 use crate::policy::Policy;
-use pkops::{Inst, Limits};
+use pkops::Inst;
 use pkread::Reason;
-use std::alloc::Global;
 
 /// What an accepted step did.
 #[derive(Clone, Copy, Debug, PartialEq, Eq)]
@@ -42,59 +42,57 @@ pub enum Moved {
 /// `off`, so the result of a step stays small.
 #[inline(always)]
 pub fn advance(
-    alloc: Global,
     held: &mut Held,
-    limits: &Limits,
-    old_strings: OldStrings,
+    terms: &Terms,
     inst: &Inst,
     policy: &Policy,
     off: &mut Option<Asked>,
 ) -> Result<Moved, Reason>
-    requires stack { length held.old.knowledge.entries ≤ limits.now.stack }
-    requires memo { length held.old.knowledge.memo ≤ limits.now.memo }
+    requires stack { length held.old.knowledge.entries ≤ terms.now.limits.stack }
+    requires memo { length held.old.knowledge.memo ≤ terms.now.limits.memo }
     requires none { off.old ≡ None }
-    ensures ok { IfOk result (λ v. GoesTo (effect_as old_strings (instruction_of inst.now))
-        (advance old_strings (policy_of policy.now) limits.now
+    ensures ok { IfOk result (λ v. GoesTo (effect_as terms.now.old_strings (instruction_of inst.now))
+        (advance terms.now.old_strings (policy_of policy.now) terms.now.limits
         (instruction_of inst.now) held.old.knowledge) held.new.knowledge
         held.old.imports held.new.imports v) }
-    ensures room { OnOk result ((length held.new.knowledge.entries ≤ limits.now.stack)
-        × (length held.new.knowledge.memo ≤ limits.now.memo)) }
+    ensures room { OnOk result ((length held.new.knowledge.entries ≤ terms.now.limits.stack)
+        × (length held.new.knowledge.memo ≤ terms.now.limits.memo)) }
     ensures texts { OnOk result (held.new.texts
-        ≡ texts_after (effect_as old_strings (instruction_of inst.now)) held.old.texts) }
+        ≡ texts_after (effect_as terms.now.old_strings (instruction_of inst.now)) held.old.texts) }
     ensures off { OnOk result (off.new ≡ None) }
     ensures kept { OnErr result (held.new ≡ held.old) }
-    ensures err { IfErr result (λ r. IsRefusedFor (advance old_strings (policy_of policy.now)
-        limits.now (instruction_of inst.now) held.old.knowledge) r (option_map asked_shown off.new)
-        ⊎ (MayWantMemory (effect_as old_strings (instruction_of inst.now))
+    ensures err { IfErr result (λ r. IsRefusedFor (advance terms.now.old_strings (policy_of policy.now)
+        terms.now.limits (instruction_of inst.now) held.old.knowledge) r (option_map asked_shown off.new)
+        ⊎ (MayWantMemory (effect_as terms.now.old_strings (instruction_of inst.now))
         × IsWantOfMemory r (option_map asked_shown off.new))) }
 {
     let op = inst.op();
     match action_of(op) {
         Action::Makes(class) => {
-            held.make(limits, class)?;
+            held.make(&terms.limits, class)?;
             Ok(Moved::On)
         }
         Action::MakesIntOrBool => {
-            held.make(limits, int_or_bool(inst))?;
+            held.make(&terms.limits, int_or_bool(inst))?;
             Ok(Moved::On)
         }
         Action::MakesText => {
-            held.make_text(alloc, limits, inst)?;
+            held.make_text(terms, inst)?;
             Ok(Moved::On)
         }
         Action::ReadsOldString => {
-            read_copy(alloc, held, limits, old_strings, inst)?;
+            read_copy(held, terms, inst)?;
             Ok(Moved::On)
         }
         Action::Moves(what) => {
-            held.apply(limits, what, inst)?;
+            held.apply(&terms.limits, what, inst)?;
             Ok(Moved::On)
         }
         Action::Operates => {
-            held.operate(limits, op)?;
+            held.operate(&terms.limits, op)?;
             Ok(Moved::On)
         }
-        Action::Imports => import(alloc, held, limits, inst, policy, off),
+        Action::Imports => import(held, terms, inst, policy, off),
         Action::Stops => {
             finish(held)?;
             Ok(Moved::Stopped)
@@ -105,67 +103,55 @@ pub fn advance(
 /// Pushes what a Python 2 string decodes to. It reads a copy of the instruction. Passing the
 /// address of the original would force it into memory in every step.
 #[inline(always)]
-fn read_copy(
-    alloc: Global,
-    held: &mut Held,
-    limits: &Limits,
-    old_strings: OldStrings,
-    inst: &Inst,
-) -> Result<(), Reason>
+fn read_copy(held: &mut Held, terms: &Terms, inst: &Inst) -> Result<(), Reason>
     requires old { is_old_string (instruction_of inst.now).op ≡ true }
     requires spells { IsSpelled (instruction_of inst.now).arg }
-    requires memo { length held.old.knowledge.memo ≤ limits.now.memo }
-    ensures ok { (p : Pairs) → OnOk result (GoesTo (effect_as old_strings (instruction_of inst.now))
-        (advance old_strings p limits.now (instruction_of inst.now) held.old.knowledge)
+    requires memo { length held.old.knowledge.memo ≤ terms.now.limits.memo }
+    ensures ok { (p : Pairs) → OnOk result (GoesTo (effect_as terms.now.old_strings (instruction_of inst.now))
+        (advance terms.now.old_strings p terms.now.limits (instruction_of inst.now) held.old.knowledge)
         held.new.knowledge held.old.imports held.new.imports Moved.On) }
-    ensures room { OnOk result ((length held.new.knowledge.entries ≤ limits.now.stack)
-        × (length held.new.knowledge.memo ≤ limits.now.memo)) }
+    ensures room { OnOk result ((length held.new.knowledge.entries ≤ terms.now.limits.stack)
+        × (length held.new.knowledge.memo ≤ terms.now.limits.memo)) }
     ensures texts { OnOk result (held.new.texts
-        ≡ texts_after (effect_as old_strings (instruction_of inst.now)) held.old.texts) }
+        ≡ texts_after (effect_as terms.now.old_strings (instruction_of inst.now)) held.old.texts) }
     ensures kept { OnErr result (held.new ≡ held.old) }
-    ensures err { (p : Pairs) → IfErr result (λ r. IsDenied (advance old_strings p limits.now
+    ensures err { (p : Pairs) → IfErr result (λ r. IsDenied (advance terms.now.old_strings p terms.now.limits
         (instruction_of inst.now) held.old.knowledge) (record { reason = r; pair = None })
-        ⊎ (MayWantMemory (effect_as old_strings (instruction_of inst.now))
+        ⊎ (MayWantMemory (effect_as terms.now.old_strings (instruction_of inst.now))
         × IsForMemory (record { reason = r; pair = None }))) }
 {
     let copy = Inst::known(inst.op(), inst.arg());
-    read_old_string(alloc, held, limits, old_strings, &copy)?;
+    read_old_string(held, terms, &copy)?;
     Ok(())
 }
 
 /// Pushes what a Python 2 string decodes to. Refuses with `NotAscii` if it must be ASCII but is
 /// not.
 #[inline(never)]
-fn read_old_string(
-    alloc: Global,
-    held: &mut Held,
-    limits: &Limits,
-    old_strings: OldStrings,
-    inst: &Inst,
-) -> Result<(), Reason>
+fn read_old_string(held: &mut Held, terms: &Terms, inst: &Inst) -> Result<(), Reason>
     requires old { is_old_string (instruction_of inst.now).op ≡ true }
     requires spells { IsSpelled (instruction_of inst.now).arg }
-    requires memo { length held.old.knowledge.memo ≤ limits.now.memo }
-    ensures ok { (p : Pairs) → OnOk result (GoesTo (effect_as old_strings (instruction_of inst.now))
-        (advance old_strings p limits.now (instruction_of inst.now) held.old.knowledge)
+    requires memo { length held.old.knowledge.memo ≤ terms.now.limits.memo }
+    ensures ok { (p : Pairs) → OnOk result (GoesTo (effect_as terms.now.old_strings (instruction_of inst.now))
+        (advance terms.now.old_strings p terms.now.limits (instruction_of inst.now) held.old.knowledge)
         held.new.knowledge held.old.imports held.new.imports Moved.On) }
-    ensures room { OnOk result ((length held.new.knowledge.entries ≤ limits.now.stack)
-        × (length held.new.knowledge.memo ≤ limits.now.memo)) }
+    ensures room { OnOk result ((length held.new.knowledge.entries ≤ terms.now.limits.stack)
+        × (length held.new.knowledge.memo ≤ terms.now.limits.memo)) }
     ensures texts { OnOk result (held.new.texts
-        ≡ texts_after (effect_as old_strings (instruction_of inst.now)) held.old.texts) }
+        ≡ texts_after (effect_as terms.now.old_strings (instruction_of inst.now)) held.old.texts) }
     ensures kept { OnErr result (held.new ≡ held.old) }
-    ensures err { (p : Pairs) → IfErr result (λ r. IsDenied (advance old_strings p limits.now
+    ensures err { (p : Pairs) → IfErr result (λ r. IsDenied (advance terms.now.old_strings p terms.now.limits
         (instruction_of inst.now) held.old.knowledge) (record { reason = r; pair = None })
-        ⊎ (MayWantMemory (effect_as old_strings (instruction_of inst.now))
+        ⊎ (MayWantMemory (effect_as terms.now.old_strings (instruction_of inst.now))
         × IsForMemory (record { reason = r; pair = None }))) }
 {
-    match old_strings {
-        OldStrings::Unknown => held.answer(limits),
-        OldStrings::Bytes => held.make(limits, Class::Bytes),
+    match terms.old_strings {
+        OldStrings::Unknown => held.answer(&terms.limits),
+        OldStrings::Bytes => held.make(&terms.limits, Class::Bytes),
         OldStrings::Ascii => {
-            let is_ascii = is_ascii_string(alloc, inst)?;
+            let is_ascii = is_ascii_string(terms.alloc, inst)?;
             if is_ascii {
-                held.make_text(alloc, limits, inst)
+                held.make_text(terms, inst)
             } else {
                 Err(Reason::NotAscii)
             }
@@ -194,37 +180,36 @@ fn finish(held: &mut Held) -> Result<(), Reason>
 /// Applies an instruction that imports a pair.
 #[inline(always)]
 fn import(
-    alloc: Global,
     held: &mut Held,
-    limits: &Limits,
+    terms: &Terms,
     inst: &Inst,
     policy: &Policy,
     off: &mut Option<Asked>,
 ) -> Result<Moved, Reason>
     requires operation { IsOperation (effect_of (instruction_of inst.now).op) }
-    requires stack { length held.old.knowledge.entries ≤ limits.now.stack }
-    requires memo { length held.old.knowledge.memo ≤ limits.now.memo }
+    requires stack { length held.old.knowledge.entries ≤ terms.now.limits.stack }
+    requires memo { length held.old.knowledge.memo ≤ terms.now.limits.memo }
     requires none { off.old ≡ None }
     ensures ok { IfOk result (λ v. GoesTo (effect_of (instruction_of inst.now).op)
         (and_then (learn (policy_of policy.now) (effect_of (instruction_of inst.now).op)
-        (instruction_of inst.now) held.old.knowledge) (within limits.now
+        (instruction_of inst.now) held.old.knowledge) (within terms.now.limits
         (number_stored (effect_of (instruction_of inst.now).op) (instruction_of inst.now))))
         held.new.knowledge
         held.old.imports held.new.imports v) }
-    ensures room { OnOk result ((length held.new.knowledge.entries ≤ limits.now.stack)
-        × (length held.new.knowledge.memo ≤ limits.now.memo)) }
+    ensures room { OnOk result ((length held.new.knowledge.entries ≤ terms.now.limits.stack)
+        × (length held.new.knowledge.memo ≤ terms.now.limits.memo)) }
     ensures texts { held.new.texts ≡ held.old.texts }
     ensures off { OnOk result (off.new ≡ None) }
     ensures kept { OnErr result (held.new ≡ held.old) }
     ensures err { IfErr result (λ r. IsRefusedFor (and_then (learn (policy_of policy.now)
         (effect_of (instruction_of inst.now).op)
-        (instruction_of inst.now) held.old.knowledge) (within limits.now
+        (instruction_of inst.now) held.old.knowledge) (within terms.now.limits
         (number_stored (effect_of (instruction_of inst.now).op) (instruction_of inst.now)))) r
         (option_map asked_shown off.new)
         ⊎ (MayWantMemory (effect_of (instruction_of inst.now).op)
         × IsWantOfMemory r (option_map asked_shown off.new))) }
 {
-    match held.operate_named(alloc, limits, inst, policy) {
+    match held.operate_named(terms, inst, policy) {
         Ok(true) => Ok(Moved::Import),
         Ok(false) => Ok(Moved::On),
         Err(denial) => Err(put_aside(denial, off)),

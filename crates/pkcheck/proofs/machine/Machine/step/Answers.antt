@@ -15,9 +15,9 @@ returns-in-Ok-clause-goes_on c =
       rw (← c.self.view_is) g.1,
       rw (← c.self.view_is) (λ j. record {
         knowledge = k;
-        limits = c.self.inside.limits;
+        limits = c.self.inside.terms.limits;
         old_strings
-            = c.self.inside.old_strings;
+            = c.self.inside.terms.old_strings;
         imports = g.2 j;
         off = option_map asked_shown
             ((c.in-Ok.ensures.off ∙ sym (c.self.invariant.1 c.in_default.is)) j);
@@ -45,9 +45,9 @@ returns-in-Ok-clause-unknown c = unknown_by (policy_of c.args.policy.now) (instr
 pub returns-in-Ok-clause-texts : goal.returns-in-Ok-clause-texts
 returns-in-Ok-clause-texts c =
     let g = c.in-Ok.ensures.ok in
-    rw (← c.self.view_is) (c.in-Ok.ensures.texts ∙ texts_by_setting c.self.inside.old_strings
+    rw (← c.self.view_is) (c.in-Ok.ensures.texts ∙ texts_by_setting c.self.inside.terms.old_strings
     (instruction_of c.args.inst.now) c.self.inside.held.texts
-    (not_raised c.self.inside.old_strings (policy_of c.args.policy.now) c.self.inside.limits
+    (not_raised c.self.inside.terms.old_strings (policy_of c.args.policy.now) c.self.inside.terms.limits
     (instruction_of c.args.inst.now) c.self.inside.held.knowledge _ g.1))
 
 pub returns-in-Err-clause-fails : goal.returns-in-Err-clause-fails
@@ -57,8 +57,8 @@ returns-in-Err-clause-fails c fresh =
     (rw (← c.self.view_is) (λ j. record {
       knowledge = (kept j).knowledge;
       limits =
-          c.self.inside.limits;
-      old_strings = c.self.inside.old_strings;
+          c.self.inside.terms.limits;
+      old_strings = c.self.inside.terms.old_strings;
       imports = (kept j).imports;
       off = option_map asked_shown c.advance.new.off;
       refused = Some c.in-Err.reason;

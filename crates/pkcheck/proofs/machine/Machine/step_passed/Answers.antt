@@ -15,14 +15,14 @@ pub returns-in-Ok-clause-step : goal.returns-in-Ok-clause-step
 returns-in-Ok-clause-step c i same =
     let p = policy_of c.args.policy.now in
     let e = passed_effect c.args.self.now.old_strings i (subst (λ o. IsTrue (is_passed o)) (sym same) c.requires.passed) ∙ (ap effect_of same ∙ c.class_passed.ensures c.requires.passed) in
-    let stack = subst (λ (k : Knowledge). length k.entries ≤ c.self.inside.limits.stack) c.in-Ok.ensures.ok c.in-Ok.ensures.room in
+    let stack = subst (λ (k : Knowledge). length k.entries ≤ c.self.inside.terms.limits.stack) c.in-Ok.ensures.ok c.in-Ok.ensures.room in
     goes_on p i c.args.self.now _ On
     (passes p i c.args.self.now _ c.class_passed.result e (rw (← c.self.view_is) stack) (rw (← c.self.view_is) (c.self.invariant.0 c.in_default.is).1) c.requires.running
     (rw (← c.self.view_is) (λ j. record {
       knowledge = c.in-Ok.ensures.ok j;
       limits =
-          c.self.inside.limits;
-      old_strings = c.self.inside.old_strings;
+          c.self.inside.terms.limits;
+      old_strings = c.self.inside.terms.old_strings;
       imports =
           c.make.ensures.imports j;
       off = option_map asked_shown c.self.inside.off;
@@ -43,8 +43,8 @@ returns-in-Err-clause-step c i same =
     (rw (← c.self.view_is) (λ j. record {
       knowledge = (c.in-Err.ensures.kept j).knowledge;
       limits =
-          c.self.inside.limits;
-      old_strings = c.self.inside.old_strings;
+          c.self.inside.terms.limits;
+      old_strings = c.self.inside.terms.old_strings;
       imports =
           (c.in-Err.ensures.kept j).imports;
       off = None;

@@ -34,7 +34,7 @@ returns-clause-ok c =
       memo =
           m;
     }) c.self.inside.ledger.asked c.operate_named.new.ledger.asked b)
-    c.self.invariant.memo c.operate_named.ensures.grows (c.operate_named.ensures.ok (instruction_of c.args.inst.now) c.lines_of-lines.ensures.named (remembered c.self.inside.ledger.texts c.self.inside.memo))))
+    c.self.invariant.memo c.operate_named.ensures.grows (c.operate_named.ensures.ok (instruction_of c.args.inst.now) c.lines_of.ensures.named (remembered c.self.inside.ledger.texts c.self.inside.memo))))
 
 pub returns-clause-err : goal.returns-clause-err
 returns-clause-err c =
@@ -43,6 +43,6 @@ returns-clause-err c =
     (and_then (learn (policy_of c.args.policy.now) (effect_of o)
     (instruction_of c.args.inst.now) (resolved c.self.inside.ledger.texts
     (record { entries = c.self.inside.stack; memo = c.self.inside.memo })))
-    (within c.args.limits.now (number_stored (effect_of o) (instruction_of c.args.inst.now)))) d
+    (within c.args.terms.now.limits (number_stored (effect_of o) (instruction_of c.args.inst.now)))) d
     ⊎ (MayWantMemory (effect_of o) × IsForMemory d))) c.op.ensures.op
-    (c.operate_named.ensures.err (instruction_of c.args.inst.now) c.lines_of-lines.ensures.named (remembered c.self.inside.ledger.texts c.self.inside.memo)))
+    (c.operate_named.ensures.err (instruction_of c.args.inst.now) c.lines_of.ensures.named (remembered c.self.inside.ledger.texts c.self.inside.memo)))

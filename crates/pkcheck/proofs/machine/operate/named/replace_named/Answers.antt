@@ -14,53 +14,53 @@ use Rattle.pkcheck.proofs.machine.operate.named.replace_named.Goals as goal
 pub returns-in_err-found-clause-err : goal.returns-in_err-found-clause-err
 returns-in_err-found-clause-err c =
     let p = err_from_is_err_and c.from_residual.result c.from_residual.ensures.1 in
-    rw (p.1, p.2) (λ i named m. inl (within_denied _ c.args.limits.now 0
+    rw (p.1, p.2) (λ i named m. inl (within_denied _ c.args.terms.now.limits 0
     (record { reason = c.in_err-found.field-0.0; pair = None })
-    (lack_denied (policy_of c.args.policy.now) c.args.takes c.args.names c.args.gives i
+    (lack_denied (policy_of c.args.request.now.policy.now) c.args.request.now.operation.takes c.args.request.now.operation.names c.args.request.now.operation.gives i
     (record { entries = seen c.args.ledger.now.texts c.args.stack.now; memo = m })
     c.in_err-found.field-0.0
-    (found_lacks c.args.ledger.now.texts c.args.takes c.args.stack.now c.requires.sees c.in_err-found.field-0.0 c.in_err-found.ensures.err))))
+    (found_lacks c.args.ledger.now.texts c.args.request.now.operation.takes c.args.stack.now c.requires.sees c.in_err-found.field-0.0 c.in_err-found.ensures.err))))
 
 pub returns-in_err-named-clause-err : goal.returns-in_err-named-clause-err
 returns-in_err-named-clause-err c =
     let p = err_from_is_err_and c.from_residual-in_err-named.result c.from_residual-in_err-named.ensures.1 in
-    let found = found_seen c.args.ledger.now.texts c.args.takes c.args.stack.now c.requires.sees _ c.in_ok-found.ensures.ok in
+    let found = found_seen c.args.ledger.now.texts c.args.request.now.operation.takes c.args.stack.now c.requires.sees _ c.in_ok-found.ensures.ok in
     rw (p.1, p.2) (λ i named m.
-    let d = rw c.operands-operands.ensures at (c.in_err-named.ensures.err i (c.names_of-spelled.ensures i named)) in
+    let d = rw c.operands-operands.ensures at (c.in_err-named.ensures.err i named) in
     elim d [
-      | inl e ↦ inl (within_denied _ c.args.limits.now 0 c.in_err-named.field-0.0 (judged_denied (policy_of c.args.policy.now) c.args.takes c.args.names c.args.gives i (record { entries = seen c.args.ledger.now.texts c.args.stack.now; memo = m }) _ c.in_err-named.field-0.0 found e))
+      | inl e ↦ inl (within_denied _ c.args.terms.now.limits 0 c.in_err-named.field-0.0 (judged_denied (policy_of c.args.request.now.policy.now) c.args.request.now.operation.takes c.args.request.now.operation.names c.args.request.now.operation.gives i (record { entries = seen c.args.ledger.now.texts c.args.stack.now; memo = m }) _ c.in_err-named.field-0.0 found e))
       | inr e ↦ inr (inl e.0, e.1)
     ])
 
 pub permitted_name-requires : goal.permitted_name-requires
 permitted_name-requires c =
-    let is = found_is c.args.ledger.now.texts c.args.takes c.args.stack.now c.requires.sees _ c.in_ok-found.ensures.ok in
+    let is = found_is c.args.ledger.now.texts c.args.request.now.operation.takes c.args.stack.now c.requires.sees _ c.in_ok-found.ensures.ok in
     record { numbered = rw c.operands-operands.ensures (are_numbered c.args.ledger.now.texts _ _ is.operands) }
 
 pub give-requires-clause-first : goal.give-requires-clause-first
 give-requires-clause-first c e =
     let i = instruction op.None Nothing in
-    c.in_ok-found.ensures.first (left_there c.args.takes c.args.gives i c.requires.given (given_none c.args.ledger.now.texts c.value_of-value.result _ e (c.value_of-value.ensures c.args.ledger.now.texts i)))
+    c.in_ok-found.ensures.first (left_there c.args.request.now.operation.takes c.args.request.now.operation.gives i c.requires.given (given_none c.args.ledger.now.texts c.value_of-value.result _ e (c.value_of-value.ensures c.args.ledger.now.texts i)))
 
 pub give-requires-clause-there : goal.give-requires-clause-there
 give-requires-clause-there c e =
     let i = instruction op.None Nothing in
-    c.in_ok-found.ensures.there (left_there c.args.takes c.args.gives i c.requires.given (given_none c.args.ledger.now.texts c.value_of-value.result _ e (c.value_of-value.ensures c.args.ledger.now.texts i)))
+    c.in_ok-found.ensures.there (left_there c.args.request.now.operation.takes c.args.request.now.operation.gives i c.requires.given (given_none c.args.ledger.now.texts c.value_of-value.result _ e (c.value_of-value.ensures c.args.ledger.now.texts i)))
 
 pub returns-in-Ok-clause-ok : goal.returns-in-Ok-clause-ok
 returns-in-Ok-clause-ok c i named m =
-    let fits = rw c.operands-operands.ensures at (c.in_ok-named.ensures.ok i (c.names_of-spelled.ensures i named)) in
-    let found = found_seen c.args.ledger.now.texts c.args.takes c.args.stack.now c.requires.sees _ c.in_ok-found.ensures.ok in
-    let is = found_is c.args.ledger.now.texts c.args.takes c.args.stack.now c.requires.sees _ c.in_ok-found.ensures.ok in
+    let fits = rw c.operands-operands.ensures at (c.in_ok-named.ensures.ok i named) in
+    let found = found_seen c.args.ledger.now.texts c.args.request.now.operation.takes c.args.stack.now c.requires.sees _ c.in_ok-found.ensures.ok in
+    let is = found_is c.args.ledger.now.texts c.args.request.now.operation.takes c.args.stack.now c.requires.sees _ c.in_ok-found.ensures.ok in
     let put = put_seen c.args.ledger.now.texts c.args.ledger.now.texts (same_table c.args.ledger.now.texts) c.value_of-value.result _ (c.value_of-value.ensures c.args.ledger.now.texts i) _ is in
     rw c.in_ok-is_import.ensures.ok.0
-    (does_pass (policy_of c.args.policy.now) c.args.takes c.args.names c.args.gives i (record { entries = seen c.args.ledger.now.texts c.args.stack.now; memo = m }) _ c.args.ledger.now.texts c.in_ok-named.named found fits
+    (does_pass (policy_of c.args.request.now.policy.now) c.args.request.now.operation.takes c.args.request.now.operation.names c.args.request.now.operation.gives i (record { entries = seen c.args.ledger.now.texts c.args.stack.now; memo = m }) _ c.args.ledger.now.texts c.in_ok-named.named found fits
     (seen c.args.ledger.now.texts c.give.new.stack) c.args.ledger.now.asked _ c.in_ok-is_import.is_import (ap (seen c.args.ledger.now.texts) c.in-Ok.ensures.ok ∙ put) refl c.in_ok-is_import.ensures.ok.1)
 
 pub returns-in-Ok-clause-sees : goal.returns-in-Ok-clause-sees
 returns-in-Ok-clause-sees c =
     let i = instruction op.None Nothing in
-    let is = found_is c.args.ledger.now.texts c.args.takes c.args.stack.now c.requires.sees _ c.in_ok-found.ensures.ok in
+    let is = found_is c.args.ledger.now.texts c.args.request.now.operation.takes c.args.stack.now c.requires.sees _ c.in_ok-found.ensures.ok in
     rw (c.in_ok-is_import.ensures.ok.0, c.in-Ok.ensures.ok) (put_sees c.args.ledger.now.texts c.args.ledger.now.texts (same_table c.args.ledger.now.texts) c.value_of-value.result _ (c.value_of-value.ensures c.args.ledger.now.texts i) _ is)
 
 pub returns-in-Err-clause-kept : goal.returns-in-Err-clause-kept
@@ -70,8 +70,8 @@ returns-in-Err-clause-kept c =
 
 pub returns-in-Err-clause-err : goal.returns-in-Err-clause-err
 returns-in-Err-clause-err c =
-    let found = found_seen c.args.ledger.now.texts c.args.takes c.args.stack.now c.requires.sees _ c.in_ok-found.ensures.ok in
+    let found = found_seen c.args.ledger.now.texts c.args.request.now.operation.takes c.args.stack.now c.requires.sees _ c.in_ok-found.ensures.ok in
     rw c.from.ensures (λ i named m.
-    let fits = rw c.operands-operands.ensures at (c.in_ok-named.ensures.ok i (c.names_of-spelled.ensures i named)) in
-    unroomed (policy_of c.args.policy.now) c.args.takes c.args.names c.args.gives i (record { entries = seen c.args.ledger.now.texts c.args.stack.now; memo = m }) _ c.args.ledger.now.texts c.in_ok-named.named found fits
-    c.args.ledger.now.texts c.value_of-value.result (c.value_of-value.ensures c.args.ledger.now.texts i) c.args.limits.now c.in-Err.reason c.in-Err.ensures.err.1 (rw (length_seen, length_below c.in_ok-found.found.place c.args.stack.now c.in_ok-found.ensures.within) c.in-Err.ensures.err.2))
+    let fits = rw c.operands-operands.ensures at (c.in_ok-named.ensures.ok i named) in
+    unroomed (policy_of c.args.request.now.policy.now) c.args.request.now.operation.takes c.args.request.now.operation.names c.args.request.now.operation.gives i (record { entries = seen c.args.ledger.now.texts c.args.stack.now; memo = m }) _ c.args.ledger.now.texts c.in_ok-named.named found fits
+    c.args.ledger.now.texts c.value_of-value.result (c.value_of-value.ensures c.args.ledger.now.texts i) c.args.terms.now.limits c.in-Err.reason c.in-Err.ensures.err.1 (rw (length_seen, length_below c.in_ok-found.found.place c.args.stack.now c.in_ok-found.ensures.within) c.in-Err.ensures.err.2))
