@@ -1,15 +1,51 @@
 """Answers of the checker, and the exceptions for refusals."""
 
-from __future__ import annotations
-
 import enum
 import functools
+import operator
 import pickle
-from collections import namedtuple
 
 TYPE_CHECKING = False  # importing `typing` would take half the time of importing the package
 if TYPE_CHECKING:
-    from typing import Any, Dict, Optional, Tuple
+    from collections import namedtuple
+    from typing import Any, Dict, Iterable, Optional, Tuple
+else:  # that of `collections` compiles code for each class, which would take a tenth of it
+
+    def namedtuple(name: str, words: str) -> type:
+        """A class of tuples with named fields."""
+        fields = tuple(words.split())
+        members = {field: property(operator.itemgetter(k)) for k, field in enumerate(fields)}
+        members.update(__slots__=(), __match_args__=fields, _fields=fields)
+        return type(name, (_Fields,), members)
+
+
+class _Fields(tuple):  # type: ignore[type-arg]
+    """The methods of a named tuple."""
+
+    __slots__ = ()
+    _fields: "Tuple[str, ...]"
+
+    def __new__(cls, *values: "Any") -> "Any":
+        return cls._make(values)
+
+    @classmethod
+    def _make(cls, values: "Iterable[Any]") -> "Any":
+        return tuple.__new__(cls, values)
+
+    def _asdict(self) -> "Dict[str, Any]":
+        return dict(zip(self._fields, self))
+
+    def _replace(self, **named: "Any") -> "Any":
+        return type(self)(**{**self._asdict(), **named})
+
+    __replace__ = _replace
+
+    def __repr__(self) -> str:
+        fields = ", ".join([f"{name}={value!r}" for name, value in self._asdict().items()])
+        return f"{type(self).__name__}({fields})"
+
+    def __getnewargs__(self) -> "Tuple[Any, ...]":
+        return tuple(self)
 
 
 class Reason(enum.IntEnum):
@@ -62,17 +98,14 @@ class Import(namedtuple("Import", "module name")):
 
     __slots__ = ()
 
-    module: Optional[str]
-    name: Optional[str]
+    module: "Optional[str]"
+    name: "Optional[str]"
+
+    def __new__(cls, module: "Optional[str]", name: "Optional[str]") -> "Import":
+        return super().__new__(cls, module, name)
 
 
-class Verdict(
-    namedtuple(
-        "Verdict",
-        "accepted taken imports at reason number pair pickles",
-        defaults=(0, 0, 0, None, None, None, 0),
-    )
-):
+class Verdict(namedtuple("Verdict", "accepted taken imports at reason number pair pickles")):
     """The answer of the checker. It is true if the pickle is accepted.
 
     `str` gives the line that the program prints.
@@ -85,19 +118,32 @@ class Verdict(
     """If accepted: the number of imports."""
     at: int
     """If refused: the offset of the refused instruction."""
-    reason: Optional[Reason]
+    reason: "Optional[Reason]"
     """If refused: the reason."""
-    number: Optional[int]
+    number: "Optional[int]"
     """The code byte of UnknownOpcode, the protocol of UnsupportedProtocol, or the memo number of
     MissingMemo.
     """
-    pair: Optional[Tuple[str, str]]
+    pair: "Optional[Tuple[str, str]]"
     """The module and the name that ended the check, for ImportOffList."""
     pickles: int
     """The number of accepted pickles. In a refused row, those before the refused one."""
-    _asked: Tuple[Any, ...] = ()
+    _asked: "Tuple[Any, ...]" = ()
     """The arguments of the check, if it refused an import; `missing` needs them."""
-    _missing: Optional[Tuple[Import, ...]] = None
+    _missing: "Optional[Tuple[Import, ...]]" = None
+
+    def __new__(
+        cls,
+        accepted: bool,
+        taken: int = 0,
+        imports: int = 0,
+        at: int = 0,
+        reason: "Optional[Reason]" = None,
+        number: "Optional[int]" = None,
+        pair: "Optional[Tuple[str, str]]" = None,
+        pickles: int = 0,
+    ) -> "Verdict":
+        return super().__new__(cls, accepted, taken, imports, at, reason, number, pair, pickles)
 
     def __bool__(self) -> bool:
         return self.accepted
@@ -106,7 +152,7 @@ class Verdict(
         return self.line()
 
     @property
-    def missing(self) -> Tuple[Import, ...]:
+    def missing(self) -> "Tuple[Import, ...]":
         """Each import off the list, once, in order. Found on first access, in one pass.
 
         It contains only `pair` if no list makes the pickle acceptable, for a row of pickles, and in
@@ -116,18 +162,18 @@ class Verdict(
         if self._missing is None:
             found: Tuple[Import, ...] = ()
             if asked:
-                from ._lists import missing_of
+                from ._imports import missing_of
 
                 found = tuple(missing_of(*asked))
             self._missing = found or (() if self.pair is None else (Import(*self.pair),))
             self._asked = ()
         return self._missing
 
-    def __getstate__(self) -> Optional[Dict[str, Any]]:
+    def __getstate__(self) -> "Optional[Dict[str, Any]]":
         # A copy keeps the imports that were found, but not the bytes.
         return {"_missing": self._missing} if self._missing else None
 
-    def line(self, most: Optional[int] = None) -> str:
+    def line(self, most: "Optional[int]" = None) -> str:
         """The program's line. With `most`, a longer name is cut after that many bytes, followed by
         the number of bytes left out.
         """
@@ -135,7 +181,7 @@ class Verdict(
             return f"yes: {self.taken} bytes, {self.imports} imports"
         return f"no at {self.at}: {self._reason(most)}"
 
-    def _reason(self, most: Optional[int]) -> str:
+    def _reason(self, most: "Optional[int]") -> str:
         more = ""
         if self.number is not None:
             more = f"({self.number})"
@@ -147,7 +193,7 @@ class Verdict(
 class RowVerdict(Verdict):
     """The answer of the checker for a row of pickles."""
 
-    def line(self, most: Optional[int] = None) -> str:
+    def line(self, most: "Optional[int]" = None) -> str:
         """The program's line for a row."""
         if self.accepted:
             return f"yes: {self.taken} bytes, {self.pickles} pickles, {self.imports} imports"
@@ -193,17 +239,17 @@ class Refused(pickle.UnpicklingError):
         return self.verdict.at
 
     @property
-    def reason(self) -> Optional[Reason]:
+    def reason(self) -> "Optional[Reason]":
         """Why the pickle is refused."""
         return self.verdict.reason
 
     @property
-    def number(self) -> Optional[int]:
+    def number(self) -> "Optional[int]":
         """The number that the reason carries."""
         return self.verdict.number
 
     @property
-    def pair(self) -> Optional[Tuple[str, str]]:
+    def pair(self) -> "Optional[Tuple[str, str]]":
         """The module and the name of an import off the list."""
         return self.verdict.pair
 
@@ -250,7 +296,7 @@ class ListFault(ValueError):
 
 
 @functools.lru_cache(maxsize=None)
-def _shown_as() -> Dict[int, str]:
+def _shown_as() -> "Dict[int, str]":
     """The program's spelling of each byte in quotes."""
     return {
         byte: chr(byte) if 32 <= byte <= 126 and byte not in b'"\\' else f"\\x{byte:02x}"
@@ -258,7 +304,7 @@ def _shown_as() -> Dict[int, str]:
     }
 
 
-def _quoted(text: str, most: Optional[int]) -> str:
+def _quoted(text: str, most: "Optional[int]") -> str:
     """The text in quotes, as the program prints it, cut after `most` bytes."""
     data = text.encode()
     shown = data if most is None else data[:most]

@@ -1,19 +1,17 @@
 """The guard, a replacement for the module `pickle`."""
 
-from __future__ import annotations
-
 import functools
 import pickle
 
 from . import _names
-from ._answers import Import, MoreBytes, Reason, Refused, Verdict
+from ._answers import MoreBytes, Reason, Refused, Verdict
 from ._limits import Limits
-from ._lists import AllowList, imports_in, imports_of, missing_of, records, settings_of
+from ._lists import AllowList, settings_of
 from ._storklocker import verdict, verdict_unless_whole
 
 TYPE_CHECKING = False
 if TYPE_CHECKING:
-    from typing import Any, Callable, ContextManager, Iterable, List, Optional, Tuple, Type
+    from typing import Any, Callable, ContextManager, Iterable, Optional, Tuple, Type
 
     from ._refusal import Refusal
     from ._unpickler import GuardedUnpickler
@@ -22,48 +20,20 @@ ASYNC_FROM = 1 << 16
 """The least size in bytes for which `loads_async` uses a thread."""
 
 _FRONT = 4096
-_NOTHING = AllowList([])
 _loads = pickle.loads
-
-
-def imports(
-    data: bytes, *, limits: Optional[Limits] = None, old_strings: str = "unknown"
-) -> List[Import]:
-    """The imports of the pickle in any run, in order, each as often as it is made.
-
-    An import that the pickle doesn't reveal is `Import(None, None)`. Raises Refused if no list
-    makes the pickle acceptable.
-    """
-    verdict, room = imports_of(data, _NOTHING, limits, old_strings)
-    if not verdict:
-        raise Refused(verdict)
-    return imports_in(records(room))
-
-
-def missing(
-    data: bytes,
-    allow: AllowList,
-    *,
-    limits: Optional[Limits] = None,
-    old_strings: str = "unknown",
-) -> List[Import]:
-    """The imports of the pickle that the list doesn't permit, each once. The limits of the list
-    apply. Empty if no list makes the pickle acceptable.
-    """
-    return missing_of(data, allow, settings_of(allow, limits, old_strings))
 
 
 def loads(
     data: bytes,
     allow: AllowList,
     *,
-    limits: Optional[Limits] = None,
+    limits: "Optional[Limits]" = None,
     old_strings: str = "unknown",
     fix_imports: bool = False,
-    encoding: Optional[str] = None,
-    errors: Optional[str] = None,
-    buffers: Optional[Iterable[Any]] = None,
-) -> Any:
+    encoding: "Optional[str]" = None,
+    errors: "Optional[str]" = None,
+    buffers: "Optional[Iterable[Any]]" = None,
+) -> "Any":
     """`pickle.loads` for untrusted input: short for `Guard(allow, ..).loads(data, ..)`.
 
     Raises Refused if the pickle is refused, MoreBytes if more bytes follow it, and otherwise what
@@ -88,14 +58,14 @@ def _plain_guard(allow: AllowList) -> "Guard":
 
 
 @functools.lru_cache(maxsize=None)
-def _later(module: str) -> Any:
+def _later(module: str) -> "Any":
     """A module of this package that few guards need, imported on first use."""
     from importlib import import_module
 
     return import_module(f"{__package__}.{module}")
 
 
-def _hint(pair: Optional[Tuple[str, str]], allow: AllowList, fix_imports: bool) -> str:
+def _hint(pair: "Optional[Tuple[str, str]]", allow: AllowList, fix_imports: bool) -> str:
     """The hint for a pair that Python 3 has renamed."""
     if pair is None or fix_imports or pair[0] not in _names.RENAMED:
         return ""
@@ -164,10 +134,10 @@ class Guard:
         self,
         allow: AllowList,
         *,
-        limits: Optional[Limits] = None,
+        limits: "Optional[Limits]" = None,
         old_strings: str = "unknown",
         fix_imports: bool = False,
-        on_refusal: Optional[Callable[[Refusal], Any]] = None,
+        on_refusal: "Optional[Callable[[Refusal], Any]]" = None,
         enforce: bool = True,
     ) -> None:
         settings = settings_of(allow, limits, old_strings)
@@ -199,7 +169,7 @@ class Guard:
     def __repr__(self) -> str:
         return f"Guard({self._allow!r})"
 
-    def __reduce__(self) -> Tuple[Any, ...]:
+    def __reduce__(self) -> "Tuple[Any, ...]":
         return (
             _guard_of,
             (
@@ -215,14 +185,14 @@ class Guard:
 
     def loads(
         self,
-        data: Any,
+        data: "Any",
         /,
         *,
-        fix_imports: Optional[bool] = None,
-        encoding: Optional[str] = None,
-        errors: Optional[str] = None,
-        buffers: Optional[Iterable[Any]] = None,
-    ) -> Any:
+        fix_imports: "Optional[bool]" = None,
+        encoding: "Optional[str]" = None,
+        errors: "Optional[str]" = None,
+        buffers: "Optional[Iterable[Any]]" = None,
+    ) -> "Any":
         """The object of the pickle in `data`, which must contain nothing else.
 
         `data` is bytes or a buffer, which is copied first. Raises Refused, MoreBytes if more bytes
@@ -243,13 +213,13 @@ class Guard:
 
     def load(
         self,
-        file: Any,
+        file: "Any",
         *,
-        fix_imports: Optional[bool] = None,
-        encoding: Optional[str] = None,
-        errors: Optional[str] = None,
-        buffers: Optional[Iterable[Any]] = None,
-    ) -> Any:
+        fix_imports: "Optional[bool]" = None,
+        encoding: "Optional[str]" = None,
+        errors: "Optional[str]" = None,
+        buffers: "Optional[Iterable[Any]]" = None,
+    ) -> "Any":
         """The object of the next pickle in a file. Leaves the file right after the pickle.
 
         Raises EOFError at the end of the file, Refused (and seeks back, if the file can), and
@@ -261,7 +231,7 @@ class Guard:
             return self.Unpickler(file, encoding=encoding, errors=errors, buffers=buffers).load()
         return self._loaded(data, encoding, errors, buffers)
 
-    async def loads_async(self, data: Any, /, **named: Any) -> Any:
+    async def loads_async(self, data: "Any", /, **named: "Any") -> "Any":
         """`loads`, which runs in a thread from 65,536 bytes on, so that the check of a large pickle
         doesn't block the event loop.
         """
@@ -289,7 +259,7 @@ class Guard:
         return self._unpickler
 
     @staticmethod
-    def context(value: Any) -> ContextManager[None]:
+    def context(value: "Any") -> "ContextManager[None]":
         """`storklocker.context`."""
         held: ContextManager[None] = _later("_refusal").context(value)
         return held
@@ -307,7 +277,7 @@ class Guard:
         """The verdict on the pickle at the front of `data`."""
         return verdict(data, self._listed_for(data), self._settings)
 
-    def _decoding(self, encoding: Optional[str], errors: Optional[str]) -> Tuple[str, str]:
+    def _decoding(self, encoding: "Optional[str]", errors: "Optional[str]") -> "Tuple[str, str]":
         """The encoding and errors for Python 2 strings: those of `old_strings`, or if that is
         unknown those of the caller.
         """
@@ -338,14 +308,14 @@ class Guard:
             raise self._told(verdict, data)
         self._told(verdict, data)
 
-    def _refusal_of(self, data: bytes) -> Optional[Refused]:
+    def _refusal_of(self, data: bytes) -> "Optional[Refused]":
         """The exception for `data`, reported to `on_refusal`, or None if it is one accepted pickle.
         """
         listed = self._listed_for(data)
         verdict = verdict_unless_whole(data, listed, self._settings)
         return None if verdict is None else self._told(verdict, data)
 
-    def _copied(self, data: Any) -> bytes:
+    def _copied(self, data: "Any") -> bytes:
         """A copy of a buffer as bytes. Checks the front of a long buffer before copying all of it.
         """
         view = memoryview(data)
@@ -356,7 +326,7 @@ class Guard:
                 raise self._told(verdict, front, view.nbytes)
         return bytes(view)
 
-    def _next_in(self, file: Any) -> Optional[bytes]:
+    def _next_in(self, file: "Any") -> "Optional[bytes]":
         """Bytes that begin with the next pickle of a file, which is accepted. None if only an
         Unpickler can read it.
         """
@@ -371,8 +341,8 @@ class Guard:
         return data
 
     def _loaded(
-        self, data: bytes, encoding: str, errors: str, buffers: Optional[Iterable[Any]]
-    ) -> Any:
+        self, data: bytes, encoding: str, errors: str, buffers: "Optional[Iterable[Any]]"
+    ) -> "Any":
         """The object of an accepted pickle, with its imports under the names that were checked."""
         read: Any = _loads
         if self._has_old_names(data):
@@ -383,10 +353,10 @@ class Guard:
 def _guard_of(
     kind: "Type[Guard]",
     allow: AllowList,
-    limits: Optional[Limits],
+    limits: "Optional[Limits]",
     old_strings: str,
     fix_imports: bool,
-    on_refusal: Optional[Callable[[Refusal], Any]],
+    on_refusal: "Optional[Callable[[Refusal], Any]]",
     enforce: bool,
 ) -> Guard:
     return kind(

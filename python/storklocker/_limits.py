@@ -1,15 +1,15 @@
 """The limits of a check."""
 
-from __future__ import annotations
-
 import functools
 import operator
 import struct
-from collections import namedtuple
 
 TYPE_CHECKING = False
 if TYPE_CHECKING:
+    from collections import namedtuple
     from typing import Any, Tuple
+else:
+    from ._answers import namedtuple
 
 UNBOUND = (1 << 32) - 1
 """The greatest memo number."""
@@ -65,7 +65,7 @@ class Limits(namedtuple("Limits", "counted stack memo passed numbers large")):
             bool(large),
         )
 
-    def __reduce__(self) -> Tuple[Any, ...]:
+    def __reduce__(self) -> "Tuple[Any, ...]":
         return (limits_of, tuple(self))
 
 

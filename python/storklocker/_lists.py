@@ -1,20 +1,18 @@
 """Allow lists."""
 
-from __future__ import annotations
-
 import functools
 import os
 
 from . import _names
-from ._answers import LIST_FAULTS, Import, ListFault, Verdict
+from ._answers import LIST_FAULTS, ListFault
 from ._limits import OLD_STRINGS, UNBOUND, Limits, limits_of, packed
 from ._storklocker import Pairs as _Pairs
-from ._storklocker import imports as _imports
 from ._storklocker import read_list
 
 TYPE_CHECKING = False
 if TYPE_CHECKING:
-    from typing import Any, Callable, Iterable, Iterator, List, Mapping, Optional, Tuple, Union
+    from typing import Any, Callable, Iterable, Iterator, List, Mapping, Optional, Tuple
+    from typing import Type, Union
 
     Pair = Tuple[str, str]
     Names = Tuple[Optional[bytes], Optional[bytes]]
@@ -40,16 +38,16 @@ class AllowList(_Pairs):
     """
 
     __slots__ = ("_limits", "_loaded", "_fixed", "_guard", "__weakref__")
-    _limits: Optional[Limits]
-    _loaded: Optional["AllowList"]
-    _fixed: Optional["AllowList"]
-    _guard: Any
+    _limits: "Optional[Limits]"
+    _loaded: "Optional[AllowList]"
+    _fixed: "Optional[AllowList]"
+    _guard: "Any"
 
-    def __new__(cls, pairs: Union[Iterable[Pair], Mapping[str, Iterable[str]]]) -> "AllowList":
+    def __new__(cls, pairs: "Union[Iterable[Pair], Mapping[str, Iterable[str]]]") -> "AllowList":
         return cls._of(_encoded(pairs), None)
 
     @classmethod
-    def _of(cls, pairs: Iterable[Tuple[bytes, bytes]], limits: Optional[Limits]) -> "AllowList":
+    def _of(cls, pairs: "Iterable[Tuple[bytes, bytes]]", limits: "Optional[Limits]") -> "AllowList":
         settings = packed(STANDARD if limits is None else limits, "unknown", False)
         made = super().__new__(cls, tuple(sorted(set(pairs))), settings)
         made._limits = limits
@@ -57,7 +55,7 @@ class AllowList(_Pairs):
         return made
 
     @classmethod
-    def from_text(cls, text: Union[str, bytes]) -> "AllowList":
+    def from_text(cls, text: "Union[str, bytes]") -> "AllowList":
         """Parses the text of a list file. Raises ListFault if it is not one.
 
         If its limits leave out `numbers`, the limit of `STANDARD` applies.
@@ -75,29 +73,29 @@ class AllowList(_Pairs):
         return cls._of(((module or b"", name or b"") for module, name in records(room)), limits)
 
     @classmethod
-    def from_file(cls, file: Union[str, "os.PathLike[str]"]) -> "AllowList":
+    def from_file(cls, file: "Union[str, os.PathLike[str]]") -> "AllowList":
         """Reads a list file. Raises ListFault if it is not one, and OSError if reading fails."""
         with open(os.fspath(file), "rb") as opened:
             return cls.from_text(opened.read())
 
     @property
-    def limits(self) -> Optional[Limits]:
+    def limits(self) -> "Optional[Limits]":
         """The limits of its list file; None for a list made from pairs."""
         return self._limits
 
-    def __iter__(self) -> Iterator[Pair]:
+    def __iter__(self) -> "Iterator[Pair]":
         for module, name in self._pairs:
             yield (module.decode(), name.decode())
 
     def __len__(self) -> int:
         return len(self._pairs)
 
-    def __contains__(self, pair: Any) -> bool:
+    def __contains__(self, pair: "Any") -> bool:
         if not _is_pair(pair):
             return False
         return self._has(_bytes_of_pair(pair))
 
-    def _has(self, names: Names) -> bool:
+    def _has(self, names: "Names") -> bool:
         """Whether it contains a pair of encoded names. The names of an unknown import are None, and
         no list contains them.
         """
@@ -129,7 +127,7 @@ class AllowList(_Pairs):
         limits = "" if self._limits is None else f" within {self._limits!r}"
         return f"AllowList([{', '.join(shown)}]){limits}"
 
-    def __reduce__(self) -> Tuple[Any, ...]:
+    def __reduce__(self) -> "Tuple[Any, ...]":
         return (_list_of, (type(self), self._pairs, self._limits))
 
     def _for_loading(self) -> "AllowList":
@@ -147,19 +145,19 @@ class AllowList(_Pairs):
             self._fixed = self._of(pairs, self._limits)
         return self._fixed
 
-    def _without(self, lost: List[Pair]) -> "AllowList":
+    def _without(self, lost: "List[Pair]") -> "AllowList":
         left = set(self._pairs) - {_bytes_of_pair(pair) for pair in lost}
         return self._of(left, self._limits)
 
 
 def _list_of(
-    kind: "type[AllowList]", pairs: Tuple[Tuple[bytes, bytes], ...], limits: Optional[Limits]
+    kind: "Type[AllowList]", pairs: "Tuple[Tuple[bytes, bytes], ...]", limits: "Optional[Limits]"
 ) -> AllowList:
     return kind._of(pairs, limits)
 
 
 @functools.lru_cache(maxsize=64)
-def _within(one: Optional[Limits], other: Optional[Limits]) -> Optional[Limits]:
+def _within(one: "Optional[Limits]", other: "Optional[Limits]") -> "Optional[Limits]":
     if one is None or other is None:
         return one or other
     return limits_of(*(min(mine, its) for mine, its in zip(one, other)))
@@ -170,11 +168,11 @@ def _bytes_of(text: str) -> bytes:
     return text.encode("utf-8", "surrogatepass")
 
 
-def _bytes_of_pair(pair: Pair) -> Tuple[bytes, bytes]:
+def _bytes_of_pair(pair: "Pair") -> "Tuple[bytes, bytes]":
     return (_bytes_of(pair[0]), _bytes_of(pair[1]))
 
 
-def _is_pair(pair: Any) -> bool:
+def _is_pair(pair: "Any") -> bool:
     return (
         isinstance(pair, (tuple, list))
         and len(pair) == 2
@@ -183,7 +181,7 @@ def _is_pair(pair: Any) -> bool:
     )
 
 
-def _pairs_in(given: Any) -> Iterator[Any]:
+def _pairs_in(given: "Any") -> "Iterator[Any]":
     """The items of the argument, each with its description for errors."""
     if not hasattr(given, "keys"):  # how a dict tells mappings from pairs
         for place, pair in enumerate(given):
@@ -198,7 +196,7 @@ def _pairs_in(given: Any) -> Iterator[Any]:
             yield (f"a name of module {module!r}", (module, name))
 
 
-def _encoded(given: Any) -> Iterator[Tuple[bytes, bytes]]:
+def _encoded(given: "Any") -> "Iterator[Tuple[bytes, bytes]]":
     if isinstance(given, (str, bytes)) or not hasattr(given, "__iter__"):
         raise TypeError(
             f"an AllowList takes pairs, or a mapping of modules to names, not {given!r:.80}"
@@ -211,7 +209,7 @@ def _encoded(given: Any) -> Iterator[Tuple[bytes, bytes]]:
         yield (pair[0].encode(), pair[1].encode())
 
 
-def with_room(call: Callable[[int], Tuple[Any, ...]]) -> Tuple[Any, bytes]:
+def with_room(call: "Callable[[int], Tuple[Any, ...]]") -> "Tuple[Any, bytes]":
     """Calls with growing room until the answer fits. Returns the answer and the bytes in the room.
     """
     size = 4096
@@ -225,7 +223,7 @@ def with_room(call: Callable[[int], Tuple[Any, ...]]) -> Tuple[Any, bytes]:
 
 
 def settings_of(
-    allow: AllowList, limits: Optional[Limits], old_strings: str, keeps_memo: bool = False
+    allow: AllowList, limits: "Optional[Limits]", old_strings: str, keeps_memo: bool = False
 ) -> bytes:
     """The settings of a check as the library reads them. The limits of the list apply too."""
     if not isinstance(allow, AllowList):
@@ -237,29 +235,7 @@ def settings_of(
     return packed(_within(limits, allow._limits) or STANDARD, old_strings, keeps_memo)
 
 
-def imports_of(
-    data: bytes, allow: AllowList, limits: Optional[Limits], old_strings: str
-) -> Tuple[Verdict, bytes]:
-    """Checks a pickle, permitting every import. The limits of the list apply. Returns the Verdict
-    and the encoded imports.
-    """
-    return _imports_under(data, allow, settings_of(allow, limits, old_strings))
-
-
-def _imports_under(
-    data: bytes, allow: AllowList, settings: Optional[bytes]
-) -> Tuple[Verdict, bytes]:
-    (verdict,), room = with_room(lambda size: _imports(data, allow, settings, size))
-    return verdict, room
-
-
-def missing_of(data: bytes, allow: AllowList, settings: Optional[bytes]) -> List[Import]:
-    """The imports that the list doesn't permit, each once."""
-    _, room = _imports_under(data, allow, settings)
-    return imports_in(it for it in dict.fromkeys(records(room)) if not allow._has(it))
-
-
-def records(room: bytes) -> Iterator[Names]:
+def records(room: bytes) -> "Iterator[Names]":
     """Decodes the pairs that the library wrote; both names of an unknown import are None."""
     at = 0
     while at < len(room):
@@ -273,16 +249,6 @@ def records(room: bytes) -> Iterator[Names]:
             texts.append(room[at : at + length])
             at += length
         yield (texts[0], texts[1])
-
-
-def imports_in(names: Iterable[Names]) -> List[Import]:
-    """The imports with these names."""
-    return [
-        Import(None, None)
-        if module is None or name is None
-        else Import(module.decode(), name.decode())
-        for module, name in names
-    ]
 
 
 _AS_IT_IS = AllowList([])

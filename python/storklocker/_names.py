@@ -1,7 +1,5 @@
 """How CPython maps the names of Python 2 to those of Python 3, from its own tables."""
 
-from __future__ import annotations
-
 import _compat_pickle as tables
 import functools
 
@@ -20,7 +18,7 @@ def are_old(data: bytes) -> bool:
     return data[:1] != b"\x80" or data[1:2] < b"\x03"
 
 
-def renamed(pair: Pair) -> Pair:
+def renamed(pair: "Pair") -> "Pair":
     """The pair that CPython imports for this one from a pickle of protocol 0 to 2, with
     `fix_imports`.
     """
@@ -31,7 +29,7 @@ def renamed(pair: Pair) -> Pair:
 
 
 @functools.lru_cache(maxsize=None)
-def _backwards() -> Tuple[Dict[Pair, List[Pair]], Dict[str, List[str]]]:
+def _backwards() -> "Tuple[Dict[Pair, List[Pair]], Dict[str, List[str]]]":
     """The two tables, inverted."""
     pairs: Dict[Pair, List[Pair]] = {}
     for old, new in tables.NAME_MAPPING.items():
@@ -42,7 +40,7 @@ def _backwards() -> Tuple[Dict[Pair, List[Pair]], Dict[str, List[str]]]:
     return pairs, modules
 
 
-def old_names(pair: Pair) -> Iterator[Pair]:
+def old_names(pair: "Pair") -> "Iterator[Pair]":
     """Each pair that `renamed` maps to this one."""
     pairs, modules = _backwards()
     yield from pairs.get(pair, ())
@@ -51,7 +49,7 @@ def old_names(pair: Pair) -> Iterator[Pair]:
             yield (module, pair[1])
 
 
-def is_lost(pair: Pair) -> bool:
+def is_lost(pair: "Pair") -> bool:
     """Whether Python 3 has renamed the pair, and this Python has no module with the old name."""
     if renamed(pair) == pair:
         return False

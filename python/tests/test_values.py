@@ -2,6 +2,7 @@
 processes.
 """
 
+import collections
 import copy
 import io
 import multiprocessing
@@ -163,6 +164,20 @@ class Copies(unittest.TestCase):
         for again in copies(guard):
             self.assertEqual(again.loads(b"U\x01a."), b"a")
             self.assertEqual(again.allow, BY_PAIRS)
+
+    def test_named_tuples(self):
+        for value in (FEW, storklocker.Import("a", "b"), storklocker.check(b"ca\nb\n.", BY_PAIRS)):
+            words = value._fields
+            twin = collections.namedtuple(type(value).__name__, words)(*value)
+            self.assertEqual(repr(value), repr(twin))
+            self.assertEqual(value._asdict(), twin._asdict())
+            self.assertEqual([getattr(value, word) for word in words], [*twin])
+            self.assertEqual(type(value)._make(twin), value)
+            again = value._replace(**{words[0]: 7})
+            self.assertEqual((type(again), again), (type(value), (7, *value[1:])))
+            with self.assertRaises(TypeError):
+                value._replace(other=7)
+        self.assertEqual(storklocker.Verdict.__match_args__, storklocker.Verdict._fields)
 
     def test_another_process(self):
         for way in ("spawn", "fork"):

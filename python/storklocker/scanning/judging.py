@@ -8,8 +8,9 @@ from typing import Any, BinaryIO, Deque, Dict, Iterator, List, NamedTuple, Optio
 
 from .._answers import Reason, Verdict
 from .._checking import check
+from .._imports import imports_in, imports_of
 from .._limits import Limits
-from .._lists import AllowList, imports_in, imports_of, records
+from .._lists import AllowList, records
 from .containers import UNPACKED, Finding, Piece, Stream, pieces_of
 from .dangers import dangers_in
 from .reaching import READERS_STOP, reaches
