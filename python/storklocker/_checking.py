@@ -13,6 +13,11 @@ if TYPE_CHECKING:
     from ._limits import Limits
     from ._lists import AllowList
 
+INTERRUPTIBLE_FROM = 1 << 22
+"""The least size in bytes of a row whose check a signal can interrupt. Such a check takes a hundred
+times as long as starting a thread, unless the row is mostly payloads.
+"""
+
 
 def check(
     data: bytes,
@@ -44,7 +49,12 @@ def check_row(
     """Checks pickles that follow one another up to the end of `data`. Returns a RowVerdict.
 
     Its `pickles` counts the accepted ones, and `at` counts from the first byte. `one_unpickler`
-    means that one Unpickler loads them all and keeps its memo.
+    means that one Unpickler loads them all and keeps its memo. From 4 MiB on, Ctrl-C ends a call in
+    the main thread at once, and the check runs to its end in the background.
     """
     settings = settings_of(allow, limits, old_strings, bool(one_unpickler))
+    if type(data) is bytes and len(data) >= INTERRUPTIBLE_FROM:
+        from ._waiting import interruptible
+
+        return interruptible(row_verdict, data, allow, settings)
     return row_verdict(data, allow, settings)

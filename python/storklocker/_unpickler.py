@@ -100,7 +100,12 @@ class GuardedUnpickler(pickle.Unpickler):
     def _load(self, feed: _Feed) -> Any:
         if self._is_spent:
             raise pickle.UnpicklingError("a load of this Unpickler failed: create a new one")
-        end = self._admitted()
+        self._find_place()
+        try:
+            end = self._admitted()
+        except BaseException:  # also an interrupt: the next `load` starts from the same byte
+            self._put_back()
+            raise
         feed.__init__(self._bytes)  # type: ignore[misc]
         feed.seek(self._taken)
         feed.end = end
@@ -118,7 +123,6 @@ class GuardedUnpickler(pickle.Unpickler):
         """Reads until the next pickle is accepted. Returns the offset of its end, or of its start
         if the end isn't known.
         """
-        self._find_place()
         if self._steps_back and len(self._bytes) == self._taken:
             self._read_on()
         elif not self._steps_back:
