@@ -51,7 +51,8 @@ pub fn advance(
     requires stack { length held.old.knowledge.entries ≤ terms.now.limits.stack }
     requires memo { length held.old.knowledge.memo ≤ terms.now.limits.memo }
     requires none { off.old ≡ None }
-    ensures ok { IfOk result (λ v. GoesTo (effect_as terms.now.old_strings (instruction_of inst.now))
+    ensures ok { IfOk result (λ v. GoesTo
+        (effect_as terms.now.old_strings (instruction_of inst.now))
         (advance terms.now.old_strings (policy_of policy.now) terms.now.limits
         (instruction_of inst.now) held.old.knowledge) held.new.knowledge
         held.old.imports held.new.imports v) }
@@ -61,8 +62,9 @@ pub fn advance(
         ≡ texts_after (effect_as terms.now.old_strings (instruction_of inst.now)) held.old.texts) }
     ensures off { OnOk result (off.new ≡ None) }
     ensures kept { OnErr result (held.new ≡ held.old) }
-    ensures err { IfErr result (λ r. IsRefusedFor (advance terms.now.old_strings (policy_of policy.now)
-        terms.now.limits (instruction_of inst.now) held.old.knowledge) r (option_map asked_shown off.new)
+    ensures err { IfErr result (λ r. IsRefusedFor
+        (advance terms.now.old_strings (policy_of policy.now) terms.now.limits
+        (instruction_of inst.now) held.old.knowledge) r (option_map asked_shown off.new)
         ⊎ (MayWantMemory (effect_as terms.now.old_strings (instruction_of inst.now))
         × IsWantOfMemory r (option_map asked_shown off.new))) }
 {
@@ -107,15 +109,18 @@ fn read_copy(held: &mut Held, terms: &Terms, inst: &Inst) -> Result<(), Reason>
     requires old { is_old_string (instruction_of inst.now).op ≡ true }
     requires spells { IsSpelled (instruction_of inst.now).arg }
     requires memo { length held.old.knowledge.memo ≤ terms.now.limits.memo }
-    ensures ok { (p : Pairs) → OnOk result (GoesTo (effect_as terms.now.old_strings (instruction_of inst.now))
-        (advance terms.now.old_strings p terms.now.limits (instruction_of inst.now) held.old.knowledge)
+    ensures ok { (p : Pairs) → OnOk result (GoesTo
+        (effect_as terms.now.old_strings (instruction_of inst.now))
+        (advance terms.now.old_strings p terms.now.limits
+        (instruction_of inst.now) held.old.knowledge)
         held.new.knowledge held.old.imports held.new.imports Moved.On) }
     ensures room { OnOk result ((length held.new.knowledge.entries ≤ terms.now.limits.stack)
         × (length held.new.knowledge.memo ≤ terms.now.limits.memo)) }
     ensures texts { OnOk result (held.new.texts
         ≡ texts_after (effect_as terms.now.old_strings (instruction_of inst.now)) held.old.texts) }
     ensures kept { OnErr result (held.new ≡ held.old) }
-    ensures err { (p : Pairs) → IfErr result (λ r. IsDenied (advance terms.now.old_strings p terms.now.limits
+    ensures err { (p : Pairs) → IfErr result (λ r. IsDenied
+        (advance terms.now.old_strings p terms.now.limits
         (instruction_of inst.now) held.old.knowledge) (record { reason = r; pair = None })
         ⊎ (MayWantMemory (effect_as terms.now.old_strings (instruction_of inst.now))
         × IsForMemory (record { reason = r; pair = None }))) }
@@ -132,15 +137,18 @@ fn read_old_string(held: &mut Held, terms: &Terms, inst: &Inst) -> Result<(), Re
     requires old { is_old_string (instruction_of inst.now).op ≡ true }
     requires spells { IsSpelled (instruction_of inst.now).arg }
     requires memo { length held.old.knowledge.memo ≤ terms.now.limits.memo }
-    ensures ok { (p : Pairs) → OnOk result (GoesTo (effect_as terms.now.old_strings (instruction_of inst.now))
-        (advance terms.now.old_strings p terms.now.limits (instruction_of inst.now) held.old.knowledge)
+    ensures ok { (p : Pairs) → OnOk result (GoesTo
+        (effect_as terms.now.old_strings (instruction_of inst.now))
+        (advance terms.now.old_strings p terms.now.limits
+        (instruction_of inst.now) held.old.knowledge)
         held.new.knowledge held.old.imports held.new.imports Moved.On) }
     ensures room { OnOk result ((length held.new.knowledge.entries ≤ terms.now.limits.stack)
         × (length held.new.knowledge.memo ≤ terms.now.limits.memo)) }
     ensures texts { OnOk result (held.new.texts
         ≡ texts_after (effect_as terms.now.old_strings (instruction_of inst.now)) held.old.texts) }
     ensures kept { OnErr result (held.new ≡ held.old) }
-    ensures err { (p : Pairs) → IfErr result (λ r. IsDenied (advance terms.now.old_strings p terms.now.limits
+    ensures err { (p : Pairs) → IfErr result (λ r. IsDenied
+        (advance terms.now.old_strings p terms.now.limits
         (instruction_of inst.now) held.old.knowledge) (record { reason = r; pair = None })
         ⊎ (MayWantMemory (effect_as terms.now.old_strings (instruction_of inst.now))
         × IsForMemory (record { reason = r; pair = None }))) }

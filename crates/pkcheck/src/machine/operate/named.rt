@@ -10,9 +10,8 @@ ghost use Rattle.pkcheck.specs.Private.Denials.{judged, IsDenied, IsForMemory, M
 ghost use Rattle.pkcheck.specs.Private.Denials.{MayWantMemory, Proceeds, WellGiven};
 ghost use Rattle.pkcheck.specs.Private.Denials.{IgnoresArgument};
 ghost use Rattle.pkcheck.specs.Private.Actions.{IsOperation, effect_in};
-ghost use Rattle.pkcheck.specs.Effects.{Operates, effect_of, number_stored};
+ghost use Rattle.pkcheck.specs.Effects.{effect_of, number_stored};
 ghost use Rattle.pkops.specs.Contents.{IsGood};
-ghost use Rattle.pkops.specs.Operands.{pair_named};
 ghost use Rattle.pkops.specs.Spelling.{Instruction, Pair, instruction};
 
 use crate::import::{Named, asked_by};
