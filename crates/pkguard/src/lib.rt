@@ -20,7 +20,7 @@ ghost use Rattle.pkguard.specs.Settings.{PermitsPairs, Sets, limits_by, limits_w
 ghost use Rattle.pkguard.specs.Settings.{listed_by, loading_by};
 
 use pkcheck::laws::halving;
-use pkcheck::{Loading, OldStrings, Pair, Policy, check_all, check_as};
+use pkcheck::{Loading, Pair, Policy, check_all, check_as};
 use pkops::Limits;
 use pkread::Memory;
 pub use settings::Settings;
@@ -59,9 +59,12 @@ pub extern "C" fn pkguard_check_pairs(
     *out = match settings::old_strings_in(settings) {
         None => verdict::of_usage(),
         Some(old) => {
-            let limits = settings::limits_by(settings);
-            let policy = settings::policy_by(settings, pairs);
-            answered(alloc, &policy, &limits, old, pickle, room)
+            let terms = Terms {
+                policy: settings::policy_by(settings, pairs),
+                limits: settings::limits_by(settings),
+                loading: settings::loading_by(settings, old),
+            };
+            answered(alloc, &terms, pickle, room)
         }
     };
     out.status
@@ -92,7 +95,17 @@ pub extern "C" fn pkguard_check_list(
 {
     *out = match settings::old_strings_in(settings) {
         None => verdict::of_usage(),
-        Some(old) => listed(alloc, list, settings, old, pickle, room),
+        Some(old) => match list::list_from(alloc, list) {
+            Err(error) => verdict::of_fault(error),
+            Ok(allow) => {
+                let terms = Terms {
+                    limits: settings::limits_within(settings, &allow.limits()),
+                    policy: Policy::Listed(&allow),
+                    loading: settings::loading_by(settings, old),
+                };
+                answered(alloc, &terms, pickle, room)
+            }
+        },
     };
     out.status
 }
@@ -124,10 +137,12 @@ pub extern "C" fn pkguard_check_row(
     *out = match settings::old_strings_in(settings) {
         None => verdict::of_usage(),
         Some(old) => {
-            let limits = settings::limits_by(settings);
-            let policy = settings::policy_by(settings, pairs);
-            let loading = settings::loading_by(settings, old);
-            answered_row(alloc, &policy, &limits, loading, pickles, room)
+            let terms = Terms {
+                policy: settings::policy_by(settings, pairs),
+                limits: settings::limits_by(settings),
+                loading: settings::loading_by(settings, old),
+            };
+            answered_row(alloc, &terms, pickles, room)
         }
     };
     out.status
@@ -189,8 +204,12 @@ pub extern "C" fn pkguard_imports(
     *out = match settings::old_strings_in(settings) {
         None => verdict::of_usage(),
         Some(old) => {
-            let limits = settings::limits_by(settings);
-            imported(alloc, &limits, old, pickle, room, wanted)
+            let terms = Terms {
+                policy: Policy::AnyImport,
+                limits: settings::limits_by(settings),
+                loading: settings::loading_by(settings, old),
+            };
+            imported(alloc, &terms, pickle, room, wanted)
         }
     };
     out.status
@@ -222,24 +241,33 @@ fn read(
     }
 }
 
+/// What a check obeys.
+#[derive(Clone, Copy)]
+struct Terms<'a> {
+    policy: Policy<'a>,
+    limits: Limits,
+    loading: Loading,
+}
+
 /// The verdict of `check` with every import permitted, and the imports if it accepts.
 fn imported(
     alloc: Global,
-    limits: &Limits,
-    old: OldStrings,
+    terms: &Terms<'_>,
     pickle: &[u8],
     room: &mut [u8],
     wanted: &mut u64,
 ) -> Verdict
+    requires { policy_of terms.now.policy ≡ None }
     ensures bound { result.status ≤ 1 }
-    ensures yes { result.status ≡ 0
-        → IsImports old limits.now pickle.now room.old room.new wanted.new result }
-    ensures no { result.status ≡ 1
-        → IsNo old None limits.now pickle.now room.old room.new result }
+    ensures yes { result.status ≡ 0 → IsImports terms.now.loading.old_strings terms.now.limits
+        pickle.now room.old room.new wanted.new result }
+    ensures no { result.status ≡ 1 → IsNo terms.now.loading.old_strings None terms.now.limits
+        pickle.now room.old room.new result }
     ensures nothing { result.status ≢ 0 → wanted.new ≡ wanted.old }
 {
     let mut source = Memory::new(pickle);
-    match check_as(alloc, &mut source, &Policy::AnyImport, limits, old) {
+    let old = terms.loading.old_strings;
+    match check_as(alloc, &mut source, &terms.policy, &terms.limits, old) {
         Ok(yes) => {
             *wanted = encoding::give_imports(&yes.imports, room);
             verdict::of_yes(yes.taken, &yes.imports, 1)
@@ -248,70 +276,44 @@ fn imported(
     }
 }
 
-/// The verdict of `check` under a list file.
-fn listed(
-    alloc: Global,
-    list: &[u8],
-    settings: &Settings,
-    old: OldStrings,
-    pickle: &[u8],
-    room: &mut [u8],
-) -> Verdict
-    ensures bound { result.status ≤ 2 }
-    ensures yes { result.status ≡ 0 → Under list.now (λ policy limits. IsYes old policy
-        (limits_within limits settings.now) pickle.now room.old room.new result) }
-    ensures no { result.status ≡ 1 → Under list.now (λ policy limits. IsNo old policy
-        (limits_within limits settings.now) pickle.now room.old room.new result) }
-    ensures fault { result.status ≡ 2 → IsListFault list.now room.old room.new result }
-{
-    match list::list_from(alloc, list) {
-        Err(error) => verdict::of_fault(error),
-        Ok(allow) => {
-            let limits = settings::limits_within(settings, &allow.limits());
-            answered(alloc, &Policy::Listed(&allow), &limits, old, pickle, room)
-        }
-    }
-}
-
 /// The verdict of `check`.
-fn answered(
-    alloc: Global,
-    policy: &Policy<'_>,
-    limits: &Limits,
-    old: OldStrings,
-    pickle: &[u8],
-    room: &mut [u8],
-) -> Verdict
+fn answered(alloc: Global, terms: &Terms<'_>, pickle: &[u8], room: &mut [u8]) -> Verdict
     ensures bound { result.status ≤ 1 }
-    ensures yes { result.status ≡ 0
-        → IsYes old (policy_of policy.now) limits.now pickle.now room.old room.new result }
-    ensures no { result.status ≡ 1
-        → IsNo old (policy_of policy.now) limits.now pickle.now room.old room.new result }
+    ensures yes { result.status ≡ 0 → IsYes terms.now.loading.old_strings
+        (policy_of terms.now.policy) terms.now.limits pickle.now room.old room.new result }
+    ensures no { result.status ≡ 1 → IsNo terms.now.loading.old_strings
+        (policy_of terms.now.policy) terms.now.limits pickle.now room.old room.new result }
 {
     let mut source = Memory::new(pickle);
-    match check_as(alloc, &mut source, policy, limits, old) {
+    let Loading { old_strings, .. } = terms.loading;
+    match check_as(
+        alloc,
+        &mut source,
+        &terms.policy,
+        &terms.limits,
+        old_strings,
+    ) {
         Ok(yes) => verdict::of_yes(yes.taken, &yes.imports, 1),
         Err(no) => verdict::of_no(&no, 0, room),
     }
 }
 
 /// The verdict of `check_all`.
-fn answered_row(
-    alloc: Global,
-    policy: &Policy<'_>,
-    limits: &Limits,
-    loading: Loading,
-    pickles: &[u8],
-    room: &mut [u8],
-) -> Verdict
+fn answered_row(alloc: Global, terms: &Terms<'_>, pickles: &[u8], room: &mut [u8]) -> Verdict
     ensures bound { result.status ≤ 1 }
-    ensures yes { result.status ≡ 0 → IsYesOfRow loading (policy_of policy.now) limits.now
-        pickles.now room.old room.new result }
-    ensures no { result.status ≡ 1 → IsNoOfRow loading (policy_of policy.now) limits.now
-        pickles.now room.old room.new result }
+    ensures yes { result.status ≡ 0 → IsYesOfRow terms.now.loading (policy_of terms.now.policy)
+        terms.now.limits pickles.now room.old room.new result }
+    ensures no { result.status ≡ 1 → IsNoOfRow terms.now.loading (policy_of terms.now.policy)
+        terms.now.limits pickles.now room.old room.new result }
 {
     let mut source = Memory::new(pickles);
-    match check_all(alloc, &mut source, policy, limits, loading) {
+    match check_all(
+        alloc,
+        &mut source,
+        &terms.policy,
+        &terms.limits,
+        terms.loading,
+    ) {
         Ok(yes) => verdict::of_yes(yes.taken, &yes.imports, yes.pickles),
         Err(all) => verdict::of_no(&all.no, all.pickle, room),
     }

@@ -27,6 +27,13 @@ pub enum Outcome {
     Unread,
 }
 
+/// What a pickle may import, and how large it may be.
+#[derive(Clone, Copy)]
+pub struct Permitted<'a> {
+    pub policy: &'a Policy<'a>,
+    pub limits: &'a Limits,
+}
+
 /// Checks the pickle at the front of a source, decoding Python 2 strings as `old` says, and writes
 /// the line of the answer.
 ///
@@ -36,19 +43,18 @@ pub enum Outcome {
 pub fn check_to<R: Source, W: Write>(
     alloc: Global,
     source: &mut R,
-    policy: &Policy<'_>,
-    limits: &Limits,
-    out: &mut W,
+    permitted: &Permitted<'_>,
     old: OldStrings,
+    out: &mut W,
 ) -> Result<Outcome, io::Error>
     ensures { IfOk result (λ outcome. (answer : Result Yes No)
-        × IsRightAnswer old (policy_of policy.now) limits.now
+        × IsRightAnswer old (policy_of permitted.now.policy.now) permitted.now.limits.now
         (sight R.left R.failures source.old) (sight R.left R.failures source.new) answer
         × CountsFailures (R.failures source.old) (R.failures source.new) answer
         × Appends (W.contents out.old) (W.contents out.new) (verdict_line answer)
         × (outcome ≡ outcome_of answer)) }
 {
-    let answer = check_as(alloc, source, policy, limits, old);
+    let answer = check_as(alloc, source, permitted.policy, permitted.limits, old);
     write_verdict(&answer, out)?;
     match answer {
         Ok(_) => Ok(Outcome::Done),

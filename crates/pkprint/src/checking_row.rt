@@ -8,10 +8,9 @@ ghost use Rattle.pkcheck.specs.declared.YesAll.{YesAll};
 ghost use Rattle.pkcheck.specs.declared.NoAll.{NoAll};
 ghost use Rattle.pkprint.specs.Verdict.{outcome_of_row, row_line};
 
-use crate::checking::Outcome;
+use crate::checking::{Outcome, Permitted};
 use crate::printing::write_row;
-use pkcheck::{Loading, Policy, check_all};
-use pkops::Limits;
+use pkcheck::{Loading, check_all};
 use pkread::Source;
 use std::alloc::Global;
 use std::io;
@@ -26,19 +25,18 @@ use std::io::Write;
 pub fn check_all_to<R: Source, W: Write>(
     alloc: Global,
     source: &mut R,
-    policy: &Policy<'_>,
-    limits: &Limits,
-    out: &mut W,
+    permitted: &Permitted<'_>,
     loading: Loading,
+    out: &mut W,
 ) -> Result<Outcome, io::Error>
     ensures { IfOk result (λ outcome. (answer : Result YesAll NoAll)
-        × IsRightOfRow loading (policy_of policy.now) limits.now
+        × IsRightOfRow loading (policy_of permitted.now.policy.now) permitted.now.limits.now
         (sight R.left R.failures source.old) (sight R.left R.failures source.new) answer
         × CountsInRow (R.failures source.old) (R.failures source.new) answer
         × Appends (W.contents out.old) (W.contents out.new) (row_line answer)
         × (outcome ≡ outcome_of_row answer)) }
 {
-    let answer = check_all(alloc, source, policy, limits, loading);
+    let answer = check_all(alloc, source, permitted.policy, permitted.limits, loading);
     write_row(&answer, out)?;
     match answer {
         Ok(_) => Ok(Outcome::Done),

@@ -9,7 +9,7 @@ use crate::replacing::NewFile;
 use pkargs::{Job, Pickles, Usage, command_of};
 use pkcheck::{Loading, OldStrings, Policy};
 use pkops::Limits;
-use pkprint::{Outcome, check_all_to, check_to, dis_to, imports_to, write_no};
+use pkprint::{Outcome, Permitted, check_all_to, check_to, dis_to, imports_to, write_no};
 use pkread::{Reason, Refusal};
 use std::alloc::Global;
 use std::fs;
@@ -67,15 +67,15 @@ fn done<'a, R: Files<File = File>, O: Write>(
             old,
             pickles,
             file,
-        } => check_file(
-            rt,
-            alloc,
-            allow.as_str(),
-            *old,
-            *pickles,
-            file.as_str(),
-            out,
-        ),
+        } => {
+            let check = Check {
+                allow: allow.as_str(),
+                old: *old,
+                pickles: *pickles,
+                file: file.as_str(),
+            };
+            check_file(rt, alloc, &check, out)
+        }
         Job::Json { file } => json_file(rt, alloc, file.as_str(), out),
         Job::Optimize { file, out: to } => {
             optimize_file(rt, alloc, file.as_str(), to.as_str(), out)
@@ -83,30 +83,39 @@ fn done<'a, R: Files<File = File>, O: Write>(
     }
 }
 
+/// The words of a check.
+#[derive(Clone, Copy)]
+struct Check<'a> {
+    allow: &'a str,
+    old: OldStrings,
+    pickles: Pickles,
+    file: &'a str,
+}
+
 /// `check --allow LIST [--old-strings OBJECT] [--all [--one-unpickler]] FILE`, under the limits of
 /// the list.
 fn check_file<'a, R: Files, O: Write>(
     rt: &R,
     alloc: Global,
-    allow: &'a str,
-    old: OldStrings,
-    pickles: Pickles,
-    file: &'a str,
+    check: &Check<'a>,
     out: &mut O,
 ) -> Result<Outcome, Fault<'a>> {
-    let list = read_list(rt, alloc, allow)?;
-    let Ok(mut source) = open_source(rt, alloc, file) else {
-        return Err(Fault::Unread(file));
+    let list = read_list(rt, alloc, check.allow)?;
+    let Ok(mut source) = open_source(rt, alloc, check.file) else {
+        return Err(Fault::Unread(check.file));
     };
-    let (policy, limits) = (Policy::Listed(&list), list.limits());
-    let written = match pickles {
-        Pickles::First => check_to(alloc, &mut source, &policy, &limits, out, old),
+    let permitted = Permitted {
+        policy: &Policy::Listed(&list),
+        limits: &list.limits(),
+    };
+    let written = match check.pickles {
+        Pickles::First => check_to(alloc, &mut source, &permitted, check.old, out),
         Pickles::Row(memo) => {
             let loading = Loading {
                 memo,
-                old_strings: old,
+                old_strings: check.old,
             };
-            check_all_to(alloc, &mut source, &policy, &limits, out, loading)
+            check_all_to(alloc, &mut source, &permitted, loading, out)
         }
     };
     match written {

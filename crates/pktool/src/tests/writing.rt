@@ -2,7 +2,7 @@
 use crate::exporting::json_to;
 use pkcheck::{Loading, Memo, OldStrings, Policy};
 use pkops::Limits;
-use pkprint::{Outcome, check_all_to, check_to, dis_to, imports_to};
+use pkprint::{Outcome, Permitted, check_all_to, check_to, dis_to, imports_to};
 use pkread::Memory;
 use std::alloc::Global;
 use std::io;
@@ -59,15 +59,19 @@ fn answer(
     out: &mut Tiring,
 ) -> Result<Outcome, io::Error> {
     let source = &mut Memory::new(pickle);
-    let (policy, limits) = (&Policy::AnyImport, &Limits::STANDARD);
+    let limits = &Limits::STANDARD;
+    let permitted = Permitted {
+        policy: &Policy::AnyImport,
+        limits,
+    };
     let old = OldStrings::Unknown;
     let loading = Loading {
         memo: Memo::Kept,
         old_strings: old,
     };
     match call {
-        Call::Check => check_to(alloc, source, policy, limits, out, old),
-        Call::CheckAll => check_all_to(alloc, source, policy, limits, out, loading),
+        Call::Check => check_to(alloc, source, &permitted, old, out),
+        Call::CheckAll => check_all_to(alloc, source, &permitted, loading, out),
         Call::Dis => dis_to(alloc, source, limits, out),
         Call::Imports => imports_to(alloc, source, limits, out),
         Call::Json => json_to(alloc, source, limits, out),
