@@ -26,20 +26,11 @@ use pkops::Inst;
 use std::alloc::Global;
 
 /// The stack and the memo, which refer to objects by number, and the objects.
+#[derive(Drop)]
 pub struct Arena<'a> {
     pub stack: Vec<Slot>,
     pub memo: Memo,
     pub objects: Vec<Object<'a>>,
-}
-
-impl Drop for Arena<'_> {
-    fn drop(self) {
-        let Arena {
-            stack: _stack,
-            memo: _memo,
-            objects: _objects,
-        } = self;
-    }
 }
 
 impl<'a> Arena<'a> {
@@ -52,6 +43,14 @@ impl<'a> Arena<'a> {
             memo: Memo::new(alloc),
             objects: Vec::new(alloc),
         }
+    }
+
+    /// The objects, without the stack and the memo.
+    pub fn into_objects(self) -> Vec<Object<'a>>
+        ensures { result ≡ self.entry.objects }
+    {
+        let Arena { objects, .. } = self;
+        objects
     }
 
     /// The number of the object on top of the stack; `None` if the top is a mark or missing.

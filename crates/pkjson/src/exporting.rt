@@ -1,21 +1,21 @@
 //! Exports a plain pickle.
 
 ghost use Rattle.std.specs.Prelude.{◌≡◌, ◌<◌, ◌≤◌, length, replicate, IfOk, IfErr, OnOk};
-ghost use Rattle.std.specs.Prelude.{None};
 ghost use Rattle.serde_json.specs.View.{view};
 ghost use Rattle.pkread.specs.Rows.{sight};
 ghost use Rattle.pkjson.specs.Export.{IsValueOf, IsTextOf, IsNotExported, IsAccepted};
 ghost use Rattle.pkjson.specs.Private.Arena.{holds};
-ghost use Rattle.pkjson.specs.Private.Held.{parts};
+ghost use Rattle.pkjson.specs.Private.Seen.{kept_all};
 ghost use Rattle.pkjson.specs.Private.Settled.{AreGivenBelow};
 ghost use Rattle.pkjson.specs.Private.Nodes.{heap, size, IsClosed, AreOrdered};
 ghost use Rattle.pkjson.specs.Private.Result.{HasValue, IsValue, IsText, IsTooLarge};
 ghost use Rattle.pkjson.specs.Private.Result.{TellsRefusal};
+ghost use Rattle.pkjson.specs.Private.Weighs.{no_weight};
 
-use crate::arena::Arena;
 use crate::build::build;
 use crate::error::ExportError;
 use crate::judge::{Weight, weigh};
+use crate::objects::Object;
 use crate::replay::replay;
 use crate::settle::settle;
 use crate::settled::Settled;
@@ -45,8 +45,8 @@ pub fn export(alloc: Global, bytes: &[u8], limits: &Limits) -> Result<Value, Exp
     ensures error { IfErr result (IsNotExported limits.now bytes.now) }
 {
     accept(alloc, bytes, limits)?;
-    let (arena, place) = replay(alloc, bytes, limits)?;
-    settled_value(alloc, &arena, place, limits)
+    let (objects, place) = replay(alloc, bytes, limits)?;
+    settled_value(alloc, &objects, place, limits)
 }
 
 /// The JSON text of the value that `export` returns, in UTF-8 and without spaces. It is written
@@ -60,25 +60,25 @@ pub fn export_text(alloc: Global, bytes: &[u8], limits: &Limits) -> Result<Vec<u
     ensures error { IfErr result (IsNotExported limits.now bytes.now) }
 {
     accept(alloc, bytes, limits)?;
-    let (arena, place) = replay(alloc, bytes, limits)?;
-    settled_text(alloc, &arena, place, limits)
+    let (objects, place) = replay(alloc, bytes, limits)?;
+    settled_text(alloc, &objects, place, limits)
 }
 
 /// The value of an object in its final state, within the limits.
 fn settled_value(
     alloc: Global,
-    arena: &Arena<'_>,
+    objects: &[Object<'_>],
     place: usize,
     limits: &Limits,
 ) -> Result<Value, ExportError>
-    requires within { place < length (parts arena.now).kept }
-    requires closed { AreGivenBelow (length (parts arena.now).kept) (parts arena.now).kept }
+    requires within { place < length objects.now }
+    requires closed { AreGivenBelow (length objects.now) (kept_all objects.now) }
     ensures ok { IfOk result (λ w. IsValue
-        (holds (parts arena.now).kept) limits.now.depth limits.now.values place (view w)) }
+        (holds (kept_all objects.now)) limits.now.depth limits.now.values place (view w)) }
     ensures err { IfErr result (IsTooLarge
-        (holds (parts arena.now).kept) limits.now.depth limits.now.values place) }
+        (holds (kept_all objects.now)) limits.now.depth limits.now.values place) }
 {
-    let Ok(nodes) = settle(alloc, &arena.objects) else {
+    let Ok(nodes) = settle(alloc, objects) else {
         return Err(ExportError::OutOfMemory);
     };
     value_of(alloc, &nodes, place, deepest(limits), most(limits))
@@ -87,18 +87,18 @@ fn settled_value(
 /// The text of the value of an object in its final state, within the limits.
 fn settled_text(
     alloc: Global,
-    arena: &Arena<'_>,
+    objects: &[Object<'_>],
     place: usize,
     limits: &Limits,
 ) -> Result<Vec<u8>, ExportError>
-    requires within { place < length (parts arena.now).kept }
-    requires closed { AreGivenBelow (length (parts arena.now).kept) (parts arena.now).kept }
+    requires within { place < length objects.now }
+    requires closed { AreGivenBelow (length objects.now) (kept_all objects.now) }
     ensures ok { IfOk result (λ text. IsText
-        (holds (parts arena.now).kept) limits.now.depth limits.now.values place text.items) }
+        (holds (kept_all objects.now)) limits.now.depth limits.now.values place text.items) }
     ensures err { IfErr result (IsTooLarge
-        (holds (parts arena.now).kept) limits.now.depth limits.now.values place) }
+        (holds (kept_all objects.now)) limits.now.depth limits.now.values place) }
 {
-    let Ok(nodes) = settle(alloc, &arena.objects) else {
+    let Ok(nodes) = settle(alloc, objects) else {
         return Err(ExportError::OutOfMemory);
     };
     written(alloc, &nodes, place, deepest(limits), most(limits))
@@ -148,12 +148,12 @@ fn refusal_of(at: u64, reason: Reason) -> ExportError
 }
 
 /// A missing weight for each of `count` objects.
-fn no_weights(alloc: Global, count: usize) -> Result<Vec<Option<Weight>>, AllocError>
-    ensures { IfOk result (λ v. v.items ≡ replicate count None) }
+fn no_weights(alloc: Global, count: usize) -> Result<Vec<Weight>, AllocError>
+    ensures { IfOk result (λ v. v.items ≡ replicate count no_weight) }
 {
     let mut weights = Vec::with_capacity(alloc, count)?;
     for _place in 0..count {
-        weights.push(None)?;
+        weights.push(Weight { depth: 0, count: 0 })?;
     }
     Ok(weights)
 }

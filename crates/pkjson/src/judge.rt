@@ -47,11 +47,11 @@ fn raised(inner: Weight, cap: u32) -> Weight
 }
 
 /// The object's weight, if its depth is at most this many levels. Each object is weighed once, and
-/// `done` keeps the results.
+/// `done` keeps the results; a count of 0 means that there is none yet.
 #[cycle(judging)]
 pub fn weigh(
     nodes: &Settled<'_, '_>,
-    done: &mut [Option<Weight>],
+    done: &mut [Weight],
     place: usize,
     levels: u32,
     cap: u32,
@@ -66,20 +66,20 @@ pub fn weigh(
     ensures weight { MatchOption result
         (IsDeeper (heap nodes.now) levels place) (Weighs (heap nodes.now) cap place) }
 {
-    if let Some(weight) = done[place] {
-        if weight.depth <= levels {
-            Some(weight)
-        } else {
-            None
-        }
-    } else {
-        match weigh_node(nodes, done, place, levels, cap) {
+    let known = done[place];
+    if known.count == 0 {
+        return match weigh_node(nodes, done, place, levels, cap) {
             Some(weight) => {
-                done[place] = Some(weight);
+                done[place] = weight;
                 Some(weight)
             }
             None => None,
-        }
+        };
+    }
+    if known.depth <= levels {
+        Some(known)
+    } else {
+        None
     }
 }
 
@@ -87,7 +87,7 @@ pub fn weigh(
 #[cycle(judging)]
 fn weigh_node(
     nodes: &Settled<'_, '_>,
-    done: &mut [Option<Weight>],
+    done: &mut [Weight],
     place: usize,
     levels: u32,
     cap: u32,
@@ -132,7 +132,7 @@ fn weigh_node(
 #[cycle(judging)]
 fn weigh_items(
     nodes: &Settled<'_, '_>,
-    done: &mut [Option<Weight>],
+    done: &mut [Weight],
     items: &[usize],
     levels: u32,
     cap: u32,
@@ -165,7 +165,7 @@ fn weigh_items(
 #[cycle(judging)]
 fn weigh_members(
     nodes: &Settled<'_, '_>,
-    done: &mut [Option<Weight>],
+    done: &mut [Weight],
     members: &[(&str, usize)],
     levels: u32,
     cap: u32,

@@ -3,12 +3,14 @@
 ghost use Rattle.std.specs.Prelude.{IfOk, IfErr};
 ghost use Rattle.pkjson.specs.Export.{IsAccepted, IsNotExported};
 ghost use Rattle.pkjson.specs.Private.Replayed.{Replays};
+ghost use Rattle.pkjson.specs.Private.Seen.{kept_all};
 
 use crate::action::{Action, plain_action};
 use crate::arena::Arena;
 use crate::error::ExportError;
 use crate::front::whole_at_front;
 use crate::halt::Halt;
+use crate::objects::Object;
 use pkops::Limits;
 use std::alloc::Global;
 
@@ -18,9 +20,9 @@ pub fn replay<'a>(
     alloc: Global,
     bytes: &'a [u8],
     limits: &Limits,
-) -> Result<(Arena<'a>, usize), ExportError>
+) -> Result<(Vec<Object<'a>>, usize), ExportError>
     requires { IsAccepted limits.now bytes.now }
-    ensures ok { IfOk result (λ r. Replays limits.now bytes.now r.0 r.1) }
+    ensures ok { IfOk result (λ r. Replays limits.now bytes.now (kept_all r.0.items) r.1) }
     ensures err { IfErr result (IsNotExported limits.now bytes.now) }
 {
     let mut arena = Arena::new(alloc);
@@ -37,7 +39,7 @@ pub fn replay<'a>(
             let Some(place) = arena.top() else {
                 unreachable!()
             };
-            return Ok((arena, place));
+            return Ok((arena.into_objects(), place));
         }
         match arena.act(alloc, action, &inst) {
             Ok(()) => {}

@@ -148,9 +148,3 @@ given_there n (p ∷ os) (suc i) o h l e = given_there n os i o (All-tail (λ k.
 
 pub kept_more : (os : List Object) (i : ℕ) (o : Object) → i < length os → o ≡ get_or os i o → kept_all (take (i + 1) os) ≡ kept_all (take i os) ++ kept_of o ∷ []
 kept_more os i o l e = ap kept_all (take_more os i o l ∙ ap (λ z. take i os ++ z ∷ []) (sym e)) ∙ kept_append (take i os) o
-
-pub closed_there : (os ls : List Object) → ls ≡ os → AreGivenBelow (length (kept_all os)) (kept_all os) → AreGivenBelow (length ls) (kept_all ls)
-closed_there os ls e h = subst (λ z. AreGivenBelow (length z) (kept_all z)) (sym e) (subst (λ n. AreGivenBelow n (kept_all os)) (kept_length os) h)
-
-pub settled_there : (os ls : List Object) (ns : List Node) → ls ≡ os → AreSettled (kept_all ls) (kept_all ls) ns → AreSettled (kept_all os) (kept_all os) ns
-settled_there os ls ns e h = subst (λ z. AreSettled (kept_all z) (kept_all z) ns) e h

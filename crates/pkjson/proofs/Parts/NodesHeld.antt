@@ -1,6 +1,6 @@
 -- What a node at a place says of the heap.
-use Rattle.std.proofs.Common.{◌≡◌, ℕ, zero, suc, ◌+◌, ◌<◌, List, [], ◌∷◌, ◌++◌, length, take, drop, get_or, refl, sym, ap, ◌∙◌, subst, arith, Option, Some, None, add-one, ◌⊎◌, ◌≢◌, inl, inr, get_or-set_same, get_or-set_other, drop-cons}
-use Rattle.std.specs.Prelude.{Vec, option_map, slice_get, slice_index, unwrap_or}
+use Rattle.std.proofs.Common.{◌≡◌, ℕ, zero, suc, ◌+◌, ◌<◌, List, [], ◌∷◌, ◌++◌, length, take, drop, get_or, refl, sym, ap, ◌∙◌, subst, arith, Option, Some, add-one, ◌⊎◌, ◌≢◌, inl, inr, get_or-set_same, get_or-set_other, drop-cons}
+use Rattle.std.specs.Prelude.{Vec, option_map, slice_get, slice_index}
 use Rattle.std.proofs.Common.{◌≡◌, ℕ, List, length, refl, sym, ap, ◌∙◌, subst, Vec, Global}
 use Rattle.std.specs.Borrow.{Bor}
 use Rattle.std.proofs.lemmas.Option.{slice_get_read, slice_get_within, get_or_from_slice_get, slice_get-get_or}
@@ -14,7 +14,7 @@ use Rattle.pkjson.specs.declared.objects.Object.{Object}
 use Rattle.pkjson.specs.declared.settled.Settled.{Settled}
 use Rattle.pkjson.specs.Unfolds.{Content, Heap}
 use Rattle.pkjson.specs.Private.Nodes.{content, node_of, nodes_from, nodes_of, size, IsBelow, IsClosed, IsNode, IsOrdered, Shows, AreOrdered, named_members}
-use Rattle.pkjson.specs.Private.Weighs.{Weighs, IsTrusted}
+use Rattle.pkjson.specs.Private.Weighs.{Weighs, IsTrusted, no_weight}
 
 abbrev pub Member : Type 0
 Member = Bor (List ℕ) × ℕ
@@ -62,24 +62,17 @@ take_more xs i d h = rw (add-one, take-suc xs i d h) refl
 nat_apart : (a b : ℕ) → (a ≡ b) ⊎ (a ≢ b)
 nat_apart a b = elim (cases_lt a b) [ inl p ↦ inr (omega arith) | inr p ↦ elim (cases_lt b a) [ inl q ↦ inr (omega arith) | inr q ↦ inl (omega arith) ] ]
 
-some_same : (w v : Weight) → Some w ≡ Some v → w ≡ v
-some_same w v e = ap (λ o. unwrap_or o w) e
-
-pub trusted_set : (h : Heap) (cap : ℕ) (done : List (Option Weight)) (x : ℕ) (w : Weight) → x < length done → IsTrusted h cap done → Weighs h cap x w → IsTrusted h cap (set done x (Some w))
+pub trusted_set : (h : Heap) (cap : ℕ) (done : List Weight) (x : ℕ) (w : Weight) → x < length done → IsTrusted h cap done → Weighs h cap x w → IsTrusted h cap (set done x w)
 unfolding IsTrusted
-trusted_set h cap done x w l t d y v e = elim (nat_apart y x) [
+trusted_set h cap done x w l t d y v e some = elim (nat_apart y x) [
   | inl q ↦ subst (λ z. Weighs h cap z v) (sym q) (subst (λ u. Weighs h cap x u)
-      (some_same w v (sym (get_or-set_same done x (Some w) None l) ∙ ap
-      (λ z. get_or (set done x (Some w)) z None) (sym q) ∙ get_or_from_slice_get (set done x (Some w))
-      y (Some v) None e)) d)
-  | inr q ↦ t y v (slice_get-get_or done y None
-      (subst (λ n. y < n) (length-set done x (Some w)) (slice_get_within (set done x (Some w)) y
-      (Some v) e)) ∙ ap Some (sym (get_or-set_other done x y (Some w) None q) ∙ get_or_from_slice_get
-      (set done x (Some w)) y (Some v) None e))
+      (sym (get_or-set_same done x w no_weight l) ∙ ap (λ z. get_or (set done x w) z no_weight) (sym q)
+      ∙ get_or_from_slice_get (set done x w) y v no_weight e) d)
+  | inr q ↦ t y v (slice_get-get_or done y no_weight
+      (subst (λ n. y < n) (length-set done x w) (slice_get_within (set done x w) y v e)) ∙ ap Some
+      (sym (get_or-set_other done x y w no_weight q) ∙ get_or_from_slice_get (set done x w) y v no_weight
+      e)) some
 ]
-
-pub found : (done : List (Option Weight)) (x : ℕ) (w : Weight) → x < length done → get_or done x None ≡ Some w → slice_get done x ≡ Some (Some w)
-found done x w l e = slice_get-get_or done x None l ∙ ap Some e
 
 -- what stands where there is none
 abbrev pub no_member : Member

@@ -1,24 +1,22 @@
 -- From a weight to the answer.
-use Rattle.std.proofs.Common.{◌≡◌, ℕ, ◌+◌, ◌<◌, ◌≤◌, List, length, get_or, replicate, sym, ap, ◌∙◌, subst, arith, Option, Some, None}
+use Rattle.std.proofs.Common.{◌≡◌, ℕ, ◌+◌, ◌<◌, ◌≤◌, List, length, get_or, replicate, sym, ap, ◌∙◌, subst, arith}
 use Rattle.std.proofs.lemmas.Option.{slice_get_within, get_or_from_slice_get}
 use Rattle.std.proofs.lemmas.List.{length-replicate, get_or-replicate}
 use Rattle.serde_json.specs.Data.{Data, depth}
 use Rattle.pkjson.specs.declared.judge.Weight.{Weight}
 use Rattle.pkjson.specs.Unfolds.{Heap, Unfolds, count}
-use Rattle.pkjson.specs.Private.Weighs.{Weighs, IsDeeper, IsTrusted}
+use Rattle.pkjson.specs.Private.Weighs.{Weighs, IsDeeper, IsTrusted, no_weight}
 use Rattle.pkjson.specs.Private.Fits.{Fits}
 use Rattle.pkjson.specs.Private.Result.{HasValue, IsValue, IsText}
 use Rattle.pkjson.specs.Private.Sends.{IsCompact}
 use Rattle.pkjson.proofs.Values.OneValue.{unique}
 
-none_some : {A : Type 0} (w : Weight) → None ≡ Some w → A
-none_some w e = cc
-
-pub blank_trusted : (h : Heap) (cap n : ℕ) (done : List (Option Weight)) → done ≡ replicate n None → IsTrusted h cap done
+pub blank_trusted : (h : Heap) (cap n : ℕ) (done : List Weight) → done ≡ replicate n no_weight → IsTrusted h cap done
 unfolding IsTrusted
-blank_trusted h cap n done d x w e =
-    let l : x < n = subst (λ k. x < k) (ap length d ∙ length-replicate n None) (slice_get_within done x (Some w) e) in
-    none_some w (sym (get_or-replicate n x None None l) ∙ ap (λ t. get_or t x None) (sym d) ∙ get_or_from_slice_get done x (Some w) None e)
+blank_trusted h cap n done d x w e some =
+    let l : x < n = subst (λ k. x < k) (ap length d ∙ length-replicate n no_weight) (slice_get_within done x w e) in
+    let is : no_weight ≡ w = sym (get_or-replicate n x no_weight no_weight l) ∙ ap (λ t. get_or t x no_weight) (sym d) ∙ get_or_from_slice_get done x w no_weight e in
+    absurd (omega (arith, some, ap (λ v. v.count) is))
 
 module _ (h : Heap) (x : ℕ) where
   pub all_deeper : (fuel : ℕ) → IsDeeper h fuel x → (v : Data) → Unfolds h x v → fuel < depth v

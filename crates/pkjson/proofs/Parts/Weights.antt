@@ -1,10 +1,11 @@
 -- What the weights of parts say of the whole.
-use Rattle.std.proofs.Common.{◌≡◌, ℕ, suc, zero, ◌+◌, ◌<◌, ◌≤◌, List, [], ◌∷◌, ◌++◌, refl, sym, arith, Option, Some}
-use Rattle.std.specs.Prelude.{max, min, slice_get}
+use Rattle.std.proofs.Common.{◌≡◌, ℕ, suc, zero, ◌+◌, ◌<◌, ◌≤◌, List, [], ◌∷◌, ◌++◌, length, refl, sym, arith, Some}
+use Rattle.std.specs.Prelude.{max, min, get_or}
+use Rattle.std.proofs.lemmas.Option.{slice_get-get_or}
 use Rattle.serde_json.specs.Data.{Data, array, object, depth, Items, no_items, item, items_depth, Members, no_members, member, members_depth}
 use Rattle.pkjson.specs.declared.judge.Weight.{Weight}
 use Rattle.pkjson.specs.Unfolds.{Scalar, Sequence, Pairs, Heap, Unfolds, UnfoldItems, UnfoldMembers, count, items_count, members_count}
-use Rattle.pkjson.specs.Private.Weighs.{Weighs, IsDeeper, ItemsWeigh, AreDeeper, MembersWeigh, MembersDeeper, IsTrusted}
+use Rattle.pkjson.specs.Private.Weighs.{Weighs, IsDeeper, ItemsWeigh, AreDeeper, MembersWeigh, MembersDeeper, IsTrusted, no_weight}
 use Rattle.pkjson.proofs.Values.OneValue.{as_sequence, as_pairs, unique}
 
 unfoldable pub snoc : Items → Data → Items
@@ -126,9 +127,9 @@ module _ (h : Heap) (cap : ℕ) where
   unfolding Weighs
   weighs_at_most x w i = omega (arith, i.3)
 
-  pub by_table : (done : List (Option Weight)) (x : ℕ) (w : Weight) → IsTrusted h cap done → slice_get done x ≡ Some (Some w) → Weighs h cap x w
+  pub by_table : (done : List Weight) (x : ℕ) → IsTrusted h cap done → x < length done → 0 < (get_or done x no_weight).count → Weighs h cap x (get_or done x no_weight)
   unfolding IsTrusted
-  by_table done x w t e = t x w e
+  by_table done x t l some = t x (get_or done x no_weight) (slice_get-get_or done x no_weight l) some
 
 -- what holds itself alone
 pub self_deeper : (h : Heap) (x : ℕ) (n : ℕ) → h x ≡ Some (Sequence (x ∷ [])) → IsDeeper h n x

@@ -1,5 +1,5 @@
 -- From the end of a plain run to the answer.
-use Rattle.std.proofs.Common.{◌≡◌, ℕ, true, List, length, refl, sym, ap, ◌∙◌, subst, Result, Ok, Err, Vec, Global}
+use Rattle.std.proofs.Common.{◌≡◌, ◌<◌, ℕ, true, List, length, refl, sym, ap, ◌∙◌, subst, Result, Ok, Err, Vec, Global}
 use Rattle.serde_json.specs.Data.{Data}
 use Rattle.std.specs.Prelude.{IfOk, IfErr}
 use Rattle.serde_json.specs.View.{view}
@@ -13,6 +13,7 @@ use Rattle.pkjson.specs.declared.arena.Arena.{Arena as Held}
 use Rattle.pkjson.specs.declared.error.ExportError.{ExportError}
 use Rattle.pkjson.specs.declared.error.ExportError.TheVariants.{TooDeep, TooMany, OutOfMemory}
 use Rattle.pkjson.specs.declared.node.Node.{Node}
+use Rattle.pkjson.specs.declared.objects.Object.{Object}
 use Rattle.pkjson.specs.Private.Acting.{ActsAs}
 use Rattle.pkjson.specs.Private.Arena.{Kept, holds}
 use Rattle.pkjson.specs.Contents.{contents}
@@ -22,12 +23,13 @@ use Rattle.pkjson.specs.Private.Nodes.{heap_of}
 use Rattle.pkjson.specs.Plain.{is_plain_data}
 use Rattle.pkjson.specs.Private.Replayed.{Replays}
 use Rattle.pkjson.specs.Private.Result.{IsValue, IsText, IsTooLarge}
-use Rattle.pkjson.specs.Private.Settled.{AreSettled}
+use Rattle.pkjson.specs.Private.Seen.{kept_all}
+use Rattle.pkjson.specs.Private.Settled.{AreGivenBelow, AreSettled}
 use Rattle.pkjson.specs.Private.Standing.{StandsAt}
 use Rattle.pkjson.proofs.Values.NoFloats.{floatless}
 use Rattle.pkjson.proofs.Kept.EventsMirrored.{mirrors_contents}
 use Rattle.pkjson.proofs.Runs.PlainRun.{stops_here}
-use Rattle.pkjson.proofs.DictKeys.SettledMembers.{settled_heap, all_given_below}
+use Rattle.pkjson.proofs.DictKeys.SettledMembers.{settled_heap, all_given_below, kept_length}
 use Rattle.pkjson.proofs.Kept.OperandsTaken.{ok_same, top_below}
 use Rattle.pkjson.proofs.Values.ByContents.{unfolds_same}
 
@@ -35,7 +37,7 @@ pub replays : (limits : Bounds) (bytes : List ℕ) (p : List Instruction) (rest 
     (a : Held) (i : Instruction) → AcceptedAs limits bytes p
     → StandsAt limits.counted p rest at (parts a) i → is_plain_data i.op ≡ true
     → ActsAs Stops (effect_of i.op) → (x : ℕ) (es : List (Entry ℕ))
-    → top (parts a).shape.entries ≡ Ok (x, es) → Replays limits bytes a x
+    → top (parts a).shape.entries ≡ Ok (x, es) → Replays limits bytes (parts a).kept x
 replays limits bytes p rest at a i w h plain acts x es t =
     let r = stops_here limits.counted p rest at (parts a) i h plain acts in
     let q : r.0.0 ≡ x = ap (λ z. z.0) (ok_same r.0 (x, es) (sym r.1 ∙ t)) in
@@ -47,15 +49,15 @@ replays limits bytes p rest at a i w h plain acts x es t =
       closed = all_given_below (length (parts a).kept) (parts a).kept h.mirrors.closed;
     }
 
-module _ (limits : Bounds) (bytes : List ℕ) (a : Held) (x : ℕ) (r : Replays limits bytes a x) where
-  pub is_value_of : (v : Data) → IsValue (holds (parts a).kept) limits.depth limits.values x v → IsValueOf limits bytes v
+module _ (limits : Bounds) (bytes : List ℕ) (ks : List Kept) (x : ℕ) (r : Replays limits bytes ks x) where
+  pub is_value_of : (v : Data) → IsValue (holds ks) limits.depth limits.values x v → IsValueOf limits bytes v
   is_value_of v h =
-      let u = unfolds_same (holds (parts a).kept) (contents r.events) r.holds x v h.0 in
+      let u = unfolds_same (holds ks) (contents r.events) r.holds x v h.0 in
       record { object = x; events = r.events; results = r.results; unfolds = u; shallow = h.1; few = h.2; floatless = floatless r.events x v u }
 
-  pub is_refused : (e : ExportError) → IsTooLarge (holds (parts a).kept) limits.depth limits.values x e → IsNotExported limits bytes e
-  is_refused TooDeep h = record { object = x; events = r.events; results = r.results; deep = λ v u. h v (unfolds_same (contents r.events) (holds (parts a).kept) (λ n. sym (r.holds n)) x v u) }
-  is_refused TooMany h = record { object = x; events = r.events; results = r.results; value = h.0; unfolds = unfolds_same (holds (parts a).kept) (contents r.events) r.holds x h.0 h.1; shallow = h.2; many = h.3 }
+  pub is_refused : (e : ExportError) → IsTooLarge (holds ks) limits.depth limits.values x e → IsNotExported limits bytes e
+  is_refused TooDeep h = record { object = x; events = r.events; results = r.results; deep = λ v u. h v (unfolds_same (contents r.events) (holds ks) (λ n. sym (r.holds n)) x v u) }
+  is_refused TooMany h = record { object = x; events = r.events; results = r.results; value = h.0; unfolds = unfolds_same (holds ks) (contents r.events) r.holds x h.0 h.1; shallow = h.2; many = h.3 }
   is_refused OutOfMemory h = tt
   is_refused e h = absurd h
 
@@ -97,15 +99,25 @@ module _ (ks : List Kept) (ns : List Node) (s : AreSettled ks ks ns) (d m deepes
   refusal_held r h = subst (λ k. IfErr r (IsTooLarge (holds ks) deepest k x)) f (subst (λ k. IfErr r (IsTooLarge (holds ks) k m x)) e (refusal_in ks ns s d m x r h))
 
 -- it is that of the bytes
-module _ (limits : Bounds) (bytes : List ℕ) (a : Held) (x : ℕ) (p : Replays limits bytes a x) where
-  pub value_answered : (r : Result Value ExportError) → IfOk r (λ w. IsValue (holds (parts a).kept) limits.depth limits.values x (view w)) → IfOk r (λ w. IsValueOf limits bytes (view w))
-  value_answered (Ok w) h = is_value_of limits bytes a x p (view w) h
-  value_answered (Err e) h = h
+module _ (limits : Bounds) (bytes : List ℕ) (os : List Object) (x : ℕ) (p : Replays limits bytes (kept_all os) x) where
+  pub result_within : x < length os
+  result_within = subst (λ n. x < n) (kept_length os) p.within
 
-  pub text_answered : (r : Result (Vec ℕ Global) ExportError) → IfOk r (λ t. IsText (holds (parts a).kept) limits.depth limits.values x t.items) → IfOk r (λ t. IsTextOf limits bytes t.items)
-  text_answered (Ok t) h = (h.0, is_value_of limits bytes a x p h.0 h.1, h.2)
-  text_answered (Err e) h = h
+  pub result_closed : AreGivenBelow (length os) (kept_all os)
+  result_closed = subst (λ n. AreGivenBelow n (kept_all os)) (kept_length os) p.closed
 
-  pub refusal_answered : {A : Type 0} (r : Result A ExportError) → IfErr r (IsTooLarge (holds (parts a).kept) limits.depth limits.values x) → IfErr r (IsNotExported limits bytes)
-  refusal_answered (Ok w) h = h
-  refusal_answered (Err e) h = is_refused limits bytes a x p e h
+  module _ (ls : List Object) (e : ls ≡ os) where
+    there : Replays limits bytes (kept_all ls) x
+    there = subst (λ z. Replays limits bytes (kept_all z) x) (sym e) p
+
+    pub value_answered : (r : Result Value ExportError) → IfOk r (λ w. IsValue (holds (kept_all ls)) limits.depth limits.values x (view w)) → IfOk r (λ w. IsValueOf limits bytes (view w))
+    value_answered (Ok w) h = is_value_of limits bytes (kept_all ls) x there (view w) h
+    value_answered (Err f) h = h
+
+    pub text_answered : (r : Result (Vec ℕ Global) ExportError) → IfOk r (λ t. IsText (holds (kept_all ls)) limits.depth limits.values x t.items) → IfOk r (λ t. IsTextOf limits bytes t.items)
+    text_answered (Ok t) h = (h.0, is_value_of limits bytes (kept_all ls) x there h.0 h.1, h.2)
+    text_answered (Err f) h = h
+
+    pub refusal_answered : {A : Type 0} (r : Result A ExportError) → IfErr r (IsTooLarge (holds (kept_all ls)) limits.depth limits.values x) → IfErr r (IsNotExported limits bytes)
+    refusal_answered (Ok w) h = h
+    refusal_answered (Err f) h = is_refused limits bytes (kept_all ls) x there f h

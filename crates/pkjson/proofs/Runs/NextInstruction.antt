@@ -91,7 +91,7 @@ module _ (limits : Bounds) (bytes rest : List ℕ) (at : ℕ) (h : Held) (acc : 
             let r = stops_here limits.counted acc.0 rest at (parts h) (instruction_of inst) (here acc.0 acc.1) (plain_here Stops plain acts) (acts_here Stops plain acts) in
             err_ok b.0 r.0 (sym b.1 ∙ r.1)
 
-        pub ends : (x : ℕ) (es : List (Entry ℕ)) → top (parts h).shape.entries ≡ Ok (x, es) → Replays limits bytes h x
+        pub ends : (x : ℕ) (es : List (Entry ℕ)) → top (parts h).shape.entries ≡ Ok (x, es) → Replays limits bytes (parts h).kept x
         ends x es t = replays limits bytes acc.0 rest at h (instruction_of inst) acc.1 (here acc.0 acc.1) (plain_here Stops plain acts) (acts_here Stops plain acts) x es t
 
 -- how much was followed

@@ -1,5 +1,5 @@
 -- The depth of a value, and the number of values in it.
-use Rattle.std.specs.Prelude.{◌≡◌, ℕ, ◌^◌, min, ◌<◌, ◌≤◌, List, Option, Some, slice_get}
+use Rattle.std.specs.Prelude.{◌≡◌, ℕ, ◌^◌, min, ◌<◌, ◌≤◌, List, Some, slice_get}
 use Rattle.serde_json.specs.Data.{Data, depth, Items, items_depth, Members, members_depth}
 use Rattle.pkjson.specs.declared.judge.Weight.{Weight}
 use Rattle.pkjson.specs.Unfolds.{Heap, Unfolds, UnfoldItems, UnfoldMembers, count, items_count}
@@ -37,9 +37,14 @@ MembersWeigh h cap ps w =
 unfoldable pub MembersDeeper : Heap → ℕ → List (List ℕ × ℕ) → Type 0
 MembersDeeper h levels ps = (ms : Members) → UnfoldMembers h ps ms → levels < members_depth ms
 
+-- what is recorded of an object that isn't weighed yet
+abbrev pub no_weight : Weight
+no_weight = record { depth = 0; count = 0 }
+
 -- each recorded weight is right
-unfoldable pub IsTrusted : Heap → ℕ → List (Option Weight) → Type 0
-IsTrusted h cap done = (x : ℕ) (w : Weight) → slice_get done x ≡ Some (Some w) → Weighs h cap x w
+unfoldable pub IsTrusted : Heap → ℕ → List Weight → Type 0
+IsTrusted h cap done =
+    (x : ℕ) (w : Weight) → slice_get done x ≡ Some w → 0 < w.count → Weighs h cap x w
 
 -- a weight of at most this depth, with a count up to the cap
 pub record IsBounded (levels cap : ℕ) (w : Weight) : Type 0 where

@@ -2,7 +2,7 @@ use Rattle.std.proofs.Common.{arith, refl, rules, ◌∙◌, subst, ◌-◌}
 use Rattle.pkjson.specs.Private.Nodes.{heap}
 use Rattle.pkjson.specs.Private.Weighs.{AreDeeper, MembersDeeper}
 use Rattle.pkjson.proofs.Parts.Weights.{no_items_weigh, one_more, one_deeper, no_members_weigh, member_more, member_deeper, scalar_weighs, sequence_weighs, pairs_weigh, sequence_deeper, pairs_deeper, sequence_not_flat, pairs_not_flat, weighs_more, weighs_at_most, by_table}
-use Rattle.pkjson.proofs.Parts.NodesHeld.{held, below, trusted_set, take_more, seam, found, named_more, named_seam, no_member}
+use Rattle.pkjson.proofs.Parts.NodesHeld.{held, below, trusted_set, take_more, seam, named_more, named_seam, no_member}
 use Rattle.pkjson.proofs.judge.+judging.Goals as goal
 
 pub weigh_node-returns-then-levels-eq0-clause-weight : goal.weigh_node-returns-then-levels-eq0-clause-weight
@@ -41,17 +41,17 @@ weigh_node-returns-in-Some-weigh_members-clause-weight t c = rw c.raised-in-Some
 pub weigh_node-returns-in-None-weigh_members-clause-weight : goal.weigh_node-returns-in-None-weigh_members-clause-weight
 weigh_node-returns-in-None-weigh_members-clause-weight t c = pairs_deeper _ c.args.cap _ _ _ (c.args.levels - 1) (omega arith) (held _ _ _ c.node.ensures.held c.in-Dict.is) c.in-None-weigh_members.ensures.weight
 
-pub weigh-returns-then-weight-levels-clause-weight : goal.weigh-returns-then-weight-levels-clause-weight
-weigh-returns-then-weight-levels-clause-weight t c = by_table _ _ c.args.done.now _ _ c.requires.trusted (found c.args.done.now c.args.place _ (omega (arith, c.requires.same, c.requires.place)) c.in-Some.is)
+pub weigh-returns-then-known-levels-clause-weight : goal.weigh-returns-then-known-levels-clause-weight
+weigh-returns-then-known-levels-clause-weight t c = by_table _ _ c.args.done.now _ c.requires.trusted (omega (arith, c.requires.same, c.requires.place)) (omega (arith, c.if-known-eq0.false))
 
-pub weigh-returns-then-weight-levels-clause-bounds : goal.weigh-returns-then-weight-levels-clause-bounds
-weigh-returns-then-weight-levels-clause-bounds t c = record { depth = c.if-weight-levels.true; count = weighs_at_most _ _ _ _ (by_table _ _ c.args.done.now _ _ c.requires.trusted (found c.args.done.now c.args.place _ (omega (arith, c.requires.same, c.requires.place)) c.in-Some.is)) }
+pub weigh-returns-then-known-levels-clause-bounds : goal.weigh-returns-then-known-levels-clause-bounds
+weigh-returns-then-known-levels-clause-bounds t c = record { depth = c.if-known-levels.true; count = weighs_at_most _ _ _ _ (by_table _ _ c.args.done.now _ c.requires.trusted (omega (arith, c.requires.same, c.requires.place)) (omega (arith, c.if-known-eq0.false))) }
 
-pub weigh-returns-else-weight-levels-clause-weight : goal.weigh-returns-else-weight-levels-clause-weight
-weigh-returns-else-weight-levels-clause-weight t c = weighs_more _ c.args.cap _ _ _ (by_table _ _ c.args.done.now _ _ c.requires.trusted (found c.args.done.now c.args.place _ (omega (arith, c.requires.same, c.requires.place)) c.in-Some.is)) c.if-weight-levels.false
+pub weigh-returns-else-known-levels-clause-weight : goal.weigh-returns-else-known-levels-clause-weight
+weigh-returns-else-known-levels-clause-weight t c = weighs_more _ c.args.cap _ _ _ (by_table _ _ c.args.done.now _ c.requires.trusted (omega (arith, c.requires.same, c.requires.place)) (omega (arith, c.if-known-eq0.false))) c.if-known-levels.false
 
-pub weigh-returns-in-Some-weigh_node-clause-trusted : goal.weigh-returns-in-Some-weigh_node-clause-trusted
-weigh-returns-in-Some-weigh_node-clause-trusted t c = trusted_set _ _ _ _ _ (omega (arith, c.weigh_node.auto.done, c.requires.same)) c.in-Some-weigh_node.ensures.trusted c.in-Some-weigh_node.ensures.weight
+pub weigh-returns-in-Some-clause-trusted : goal.weigh-returns-in-Some-clause-trusted
+weigh-returns-in-Some-clause-trusted t c = trusted_set _ _ _ _ _ (omega (arith, c.weigh_node.auto.done, c.requires.same)) c.in-Some.ensures.trusted c.in-Some.ensures.weight
 
 pub weigh_items-loop-item-init : goal.weigh_items-loop-item-init
 weigh_items-loop-item-init t c = record { same = c.requires.same; trusted = c.requires.trusted; depth = omega arith; count = omega arith; sum = no_items_weigh _ _ }

@@ -7,6 +7,8 @@ use Rattle.pkjson.specs.Private.Halts.{IsHalted}
 use Rattle.pkjson.specs.Private.Held.{parts}
 use Rattle.pkjson.specs.Plain.{OtherKey, LargeNumber, is_plain_data}
 use Rattle.pkjson.specs.Private.Fronts.{IsFront}
+use Rattle.pkjson.specs.Private.Replayed.{Replays}
+use Rattle.pkjson.specs.Private.Seen.{kept_all}
 use Rattle.pkjson.specs.Private.Standing.{Stands}
 use Rattle.pkjson.proofs.Entries.{all_after}
 use Rattle.pkjson.proofs.Runs.NextInstruction.{a_front, entries_there, no_front, within, some, other, faults, never_lacks, never_empty, ends, on}
@@ -54,13 +56,14 @@ unreachable-requires-in_default-top c = never_empty c.args.limits.now c.args.byt
     c.in-Some-plain_action.ensures.acts) c.in_default-top.ensures
 
 pub returns-in-Stops-clause-ok : goal.returns-in-Stops-clause-ok
-returns-in-Stops-clause-ok c = ends c.args.limits.now c.args.bytes.now c.instructions.rest.now
+returns-in-Stops-clause-ok c = subst (λ v. Replays c.args.limits.now c.args.bytes.now (kept_all v.items)
+    c.in-Some-top.place) (sym c.into_objects.ensures) (ends c.args.limits.now c.args.bytes.now c.instructions.rest.now
     (length c.args.bytes.now - length c.instructions.rest.now) c.instructions.arena c.requires
     c.instructions.invariant.1 c.in-Some.inst c.in-Some.length
     (subst (λ o. IsFront c.args.limits.now.counted c.instructions.rest.now o) c.in-Some.is
     c.whole_at_front.ensures) c.op.result c.op.ensures.op (sym c.in-Some-plain_action.ensures.plain)
     (subst (λ z. ActsAs z (effect_of c.op.result)) c.in-Stops.is
-    c.in-Some-plain_action.ensures.acts) c.in-Some-top.place _ c.in-Some-top.ensures
+    c.in-Some-plain_action.ensures.acts) c.in-Some-top.place _ c.in-Some-top.ensures)
 
 pub act-requires : goal.act-requires
 act-requires c = entries_there c.args.limits.now c.args.bytes.now c.instructions.rest.now (length c.args.bytes.now - length c.instructions.rest.now) c.instructions.arena c.requires c.instructions.invariant.1
