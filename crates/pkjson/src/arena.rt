@@ -101,7 +101,7 @@ impl<'a> Arena<'a> {
     }
 
     /// Gives the operands to the object below them.
-    fn fill(&mut self, takes: Takes) -> Result<(), Halt>
+    fn fill(&mut self, alloc: Global, takes: Takes) -> Result<(), Halt>
         requires { EntriesBelow (length (parts self.old).kept) (parts self.old).shape.entries }
         ensures ok { OnOk result (and_then (found_above takes (parts self.old).shape.entries)
             (λ t. Ok (filled_of t (parts self.old))) ≡ Ok (parts self.new)) }
@@ -110,7 +110,7 @@ impl<'a> Arena<'a> {
         let Some((place, receiver)) = receiver_of(&self.stack, takes) else {
             return Err(Halt::Lacks);
         };
-        match fill(&mut self.stack, &mut self.objects, place, receiver) {
+        match fill(alloc, &mut self.stack, &mut self.objects, place, receiver) {
             Ok(()) => Ok(()),
             Err(_) => Err(Halt::OutOfMemory),
         }
@@ -132,7 +132,7 @@ impl<'a> Arena<'a> {
                 Ok(kind) => self.make(alloc, takes, kind),
                 Err(halt) => Err(halt),
             },
-            Action::Fills(takes, _) => self.fill(takes),
+            Action::Fills(takes, _) => self.fill(alloc, takes),
             Action::Moves(what) => {
                 apply(
                     &mut self.stack,

@@ -3,6 +3,7 @@
 ghost use Rattle.std.specs.Prelude.{◌≡◌, ◌≤◌, ◌<◌, ◌+◌, [], ◌∷◌, ◌++◌, length, take, drop, IfOk};
 ghost use Rattle.std.specs.Prelude.{OnOk};
 ghost use Rattle.pkcheck.specs.Shape.{Item};
+ghost use Rattle.pkjson.specs.Contents.{OfItems};
 ghost use Rattle.pkjson.specs.Private.Arena.{kept_by, received, more_given};
 ghost use Rattle.pkjson.specs.Private.Kinds.{kind_seen};
 ghost use Rattle.pkjson.specs.Private.Seen.{kept_of, kept_all, seen_entries, numbers_of};
@@ -17,6 +18,9 @@ use std::alloc::{AllocError, Global};
 pub enum Object<'a> {
     /// A list or a tuple.
     Items(Vec<usize>),
+    /// A list or a tuple made with one item, which needs no memory of its own: a file may consist of
+    /// tuples of one.
+    Single(usize),
     /// A dict: alternating keys and values.
     Pairs(Vec<usize>),
     Null,
@@ -36,7 +40,7 @@ fn object_of<'a>(alloc: Global, kind: Kind<'a>, slots: &[Slot]) -> Result<Object
     }) }
 {
     match kind {
-        Kind::Items => Ok(Object::Items(numbers(alloc, slots)?)),
+        Kind::Items => items_of(alloc, slots),
         Kind::Pairs => Ok(Object::Pairs(numbers(alloc, slots)?)),
         Kind::Null => Ok(Object::Null),
         Kind::Bool(truth) => Ok(Object::Bool(truth)),
@@ -44,6 +48,19 @@ fn object_of<'a>(alloc: Global, kind: Kind<'a>, slots: &[Slot]) -> Result<Object
         Kind::Lent(text) => Ok(Object::Lent(text)),
         Kind::Decoded(text) => Ok(Object::Decoded(text)),
     }
+}
+
+/// A list or a tuple of the objects among these entries.
+fn items_of<'a>(alloc: Global, slots: &[Slot]) -> Result<Object<'a>, AllocError>
+    ensures { IfOk result (λ object. kept_of object ≡ record {
+      kind = OfItems;
+      given = numbers_of slots.now;
+    }) }
+{
+    if let [Slot::Object(number)] = slots {
+        return Ok(Object::Single(*number));
+    }
+    Ok(Object::Items(numbers(alloc, slots)?))
 }
 
 /// Replaces all entries from a place on with a new object made from them.
@@ -72,13 +89,27 @@ pub fn make<'a>(
     Ok(())
 }
 
+/// This number and those of the objects among these entries.
+fn numbers_after(alloc: Global, first: usize, slots: &[Slot]) -> Result<Vec<usize>, AllocError>
+    ensures { IfOk result (λ v. v.items ≡ first ∷ numbers_of slots.now) }
+{
+    let mut found = vec![in alloc; first]?;
+    add_numbers(&mut found, slots)?;
+    Ok(found)
+}
+
 /// Gives the objects among these entries to an object.
-fn receive(object: &mut Object<'_>, slots: &[Slot]) -> Result<(), AllocError>
+fn receive(alloc: Global, object: &mut Object<'_>, slots: &[Slot]) -> Result<(), AllocError>
     ensures { OnOk result
         (kept_of object.new ≡ more_given (numbers_of slots.now) (kept_of object.old)) }
 {
     match object {
         Object::Items(given) => add_numbers(given, slots),
+        Object::Single(first) => {
+            let given = numbers_after(alloc, *first, slots)?;
+            *object = Object::Items(given);
+            Ok(())
+        }
         Object::Pairs(given) => add_numbers(given, slots),
         _ => Ok(()),
     }
@@ -86,6 +117,7 @@ fn receive(object: &mut Object<'_>, slots: &[Slot]) -> Result<(), AllocError>
 
 /// Gives an object everything above it on the stack.
 pub fn fill(
+    alloc: Global,
     stack: &mut Vec<Slot>,
     objects: &mut Vec<Object<'_>>,
     place: usize,
@@ -98,7 +130,7 @@ pub fn fill(
         ≡ received (receiver ∷ numbers_of (drop (place + 1) stack.old.items))
         (kept_all objects.old.items)) }
 {
-    receive(&mut objects[receiver], &stack[place + 1..])?;
+    receive(alloc, &mut objects[receiver], &stack[place + 1..])?;
     stack.truncate(place + 1);
     Ok(())
 }

@@ -1,6 +1,6 @@
 //! Ranks of long keys. A long key is compared only a few times, however often it is set.
 
-ghost use Rattle.std.specs.Prelude.{◌≡◌, ◌<◌, length, All, IfOk, IfSome};
+ghost use Rattle.std.specs.Prelude.{◌≡◌, ◌<◌, length, All, IfOk, IfSome, Some};
 ghost use Rattle.std.specs.Map.{values_of};
 ghost use Rattle.pkjson.specs.Private.Arena.{kind_at};
 ghost use Rattle.pkjson.specs.Contents.{characters};
@@ -22,7 +22,7 @@ const LONG: usize = 64;
 pub struct Ranks<'a, 'b> {
     pub objects: &'a [Object<'b>],
     pub texts: Vec<(&'a str, usize)>,
-    pub places: Vec<Option<usize>>,
+    pub places: Vec<Option<u32>>,
 }
 
 /// The ranks of all keys of the dicts that have a long key.
@@ -114,7 +114,7 @@ fn places_of(
     alloc: Global,
     objects: &[Object<'_>],
     texts: &[(&str, usize)],
-) -> Result<Vec<Option<usize>>, AllocError>
+) -> Result<Vec<Option<u32>>, AllocError>
     ensures { IfOk result (λ v. ArePlaces texts.now (kept_all objects.now) v.items) }
 {
     if texts.is_empty() {
@@ -122,10 +122,23 @@ fn places_of(
     }
     let mut places = Vec::with_capacity(alloc, objects.len())?;
     for number in 0..objects.len() {
-        let place = place_of(texts, text_at(objects, number));
+        let place = short(place_of(texts, text_at(objects, number)));
         places.push(place)?;
     }
     Ok(places)
+}
+
+/// A position in half the memory, if it fits.
+fn short(place: Option<usize>) -> Option<u32>
+    ensures { IfSome result (λ p. place ≡ Some p) }
+{
+    let Some(place) = place else {
+        return None;
+    };
+    match u32::try_from(place) {
+        Ok(place) => Some(place),
+        Err(_) => None,
+    }
 }
 
 /// The position of a text in an ascending list, if it is there.
@@ -173,7 +186,7 @@ impl<'a, 'b> Ranks<'a, 'b> {
         &self,
         alloc: Global,
         given: &[usize],
-    ) -> Result<Option<BTreeMap<usize, (&'a str, usize)>>, AllocError>
+    ) -> Result<Option<BTreeMap<u32, (&'a str, usize)>>, AllocError>
         requires ranks { AreRanks self.now }
         requires given { All (λ x. x < length self.now.objects.now) given.now }
         ensures { IfOk result (λ found. IfSome found (λ m. AreMembers
@@ -186,7 +199,7 @@ impl<'a, 'b> Ranks<'a, 'b> {
             let Some(place) = self.place(given[index]) else {
                 return Ok(None);
             };
-            let member = (self.texts[place].0, given[index + 1]);
+            let member = (self.texts[place as usize].0, given[index + 1]);
             pairs.insert(place, member)?;
             index += 2;
         }
@@ -194,7 +207,7 @@ impl<'a, 'b> Ranks<'a, 'b> {
     }
 
     /// The position of an object's text.
-    fn place(&self, number: usize) -> Option<usize>
+    fn place(&self, number: usize) -> Option<u32>
         requires { AreRanks self.now }
         ensures { IfSome result (StandsIn self.now.texts.items
             (characters (kind_at (kept_all self.now.objects.now) number))) }

@@ -1,18 +1,19 @@
 //! Objects in their final state, each looked at where it lies.
 
 ghost use Rattle.std.specs.Prelude.{◌≡◌, ◌<◌, slice_get, slice_index};
-ghost use Rattle.pkjson.specs.Private.Nodes.{members_in, node_of, size, IsNode, Shows};
+ghost use Rattle.pkjson.specs.Private.Nodes.{members_in, members_of, node_of, size, IsNode, Shows};
 
 use crate::node::Node;
 use crate::objects::Object;
+use std::slice;
 
 /// The objects of a run, and the members of those that are dicts.
 #[derive(Drop)]
 pub struct Settled<'a, 'b> {
     pub objects: &'a [Object<'b>],
-    /// The members of each dict, in the order of the objects.
+    /// The members of each dict that has some, in the order of the objects.
     pub dicts: Vec<Vec<(&'a str, usize)>>,
-    /// For each object, the number of dicts before it.
+    /// For each object, the number of such dicts before it.
     pub places: Vec<usize>,
 }
 
@@ -36,7 +37,7 @@ impl<'a, 'b> Settled<'a, 'b> {
     }
 }
 
-/// What an object holds, which is at this place among the dicts if it is one.
+/// What an object holds; the members of a dict that has some are at this place.
 #[inline]
 fn node_of<'s, 'a>(
     object: &'s Object<'_>,
@@ -47,13 +48,29 @@ fn node_of<'s, 'a>(
 {
     match object {
         Object::Items(given) => Node::List(given),
-        Object::Pairs(_) => Node::Dict(members_at(dicts, place)),
+        Object::Single(number) => Node::List(slice::from_ref(number)),
+        Object::Pairs(given) => Node::Dict(members_of(given, dicts, place)),
         Object::Null => Node::Null,
         Object::Bool(truth) => Node::Bool(*truth),
         Object::Int(value) => Node::Int(*value),
         Object::Lent(text) => Node::Text(text),
         Object::Decoded(text) => Node::Text(text.as_str()),
     }
+}
+
+/// The members of a dict that was given these; those of a dict that has some are at this place.
+#[inline]
+fn members_of<'s, 'a>(
+    given: &[usize],
+    dicts: &'s [Vec<(&'a str, usize)>],
+    place: usize,
+) -> &'s [(&'a str, usize)]
+    ensures { result.now ≡ members_of given.now dicts.now place }
+{
+    if given.is_empty() {
+        return &[];
+    }
+    members_at(dicts, place)
 }
 
 /// The members at a place among the dicts; none if there is no such place.

@@ -1,5 +1,5 @@
 -- Keys by the places of their texts.
-use Rattle.std.proofs.Common.{◌≡◌, ℕ, zero, suc, ◌+◌, ◌<◌, ◌≤◌, List, [], ◌∷◌, ◌++◌, length, drop, get_or, refl, sym, ap, ◌∙◌, subst, arith, inl, inr, Option, IfSome, Ordering, Less, Equal, Greater, All}
+use Rattle.std.proofs.Common.{◌≡◌, ℕ, zero, suc, ◌+◌, ◌<◌, ◌≤◌, List, [], ◌∷◌, ◌++◌, length, drop, get_or, refl, sym, ap, ◌∙◌, subst, arith, inl, inr, Option, Some, None, IfSome, Ordering, Less, Equal, Greater, All}
 use Rattle.std.specs.Ordering.{nat_cmp, is_eq, match_ordering, ordering_reverse}
 use Rattle.std.specs.Cmp.{nat_cmp_is}
 use Rattle.std.specs.Cmp.Lexicographic.{slice_cmp}
@@ -35,6 +35,11 @@ pub text_there : (ts : List Member) (i : ℕ) (d : Member) → i < length ts →
 text_there [] i d l e = absurd (omega arith)
 text_there (t ∷ ts) zero d l e = ap (λ m. m.0.now) e
 text_there (t ∷ ts) (suc i) d l e = text_there ts i d (omega arith) e
+
+-- a place that is kept is the one that was found
+pub short_place : (P : ℕ → Type 0) (o q : Option ℕ) → IfSome o P → IfSome q (λ p. o ≡ Some p) → IfSome q P
+short_place P o (Some p) h e = subst (λ z. IfSome z P) e h
+short_place P o None h e = tt
 
 -- the next object's place
 pub places_more : (ts : List Member) (ks : List Kept) (ps : List (Option ℕ)) (p : Option ℕ) → ArePlaces ts ks ps → length ps < length ks → IfSome p (StandsIn ts (characters (kind_at ks (length ps)))) → ArePlaces ts ks (ps ++ p ∷ [])

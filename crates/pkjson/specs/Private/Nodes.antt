@@ -33,14 +33,20 @@ abbrev pub members_in : Option (Vec (Bor (List ℕ) × ℕ) Global) → List (Bo
 members_in (Some v) = v.items
 members_in None = []
 
+-- the members of a dict that was given these: none if these are none, and else those at this place
+abbrev pub members_of : List ℕ → List (Vec (Bor (List ℕ) × ℕ) Global) → ℕ → List (Bor (List ℕ) × ℕ)
+members_of [] dicts place = []
+members_of (x ∷ xs) dicts place = members_in (slice_get dicts place)
+
 -- the bytes or numbers, lent
-abbrev lent : {A : Type 0} → A → Bor A
+abbrev pub lent : {A : Type 0} → A → Bor A
 lent a = record { ref_ptr = (0, 0); now = a }
 
--- what the object holds, which is at this place if it is a dict
+-- what the object holds; the members of a dict that was given some are at this place
 abbrev pub node_of : List (Vec (Bor (List ℕ) × ℕ) Global) → ℕ → Object → Node
 node_of dicts place (object.Items v) = Items (lent v.items)
-node_of dicts place (object.Pairs v) = Dict (lent (members_in (slice_get dicts place)))
+node_of dicts place (object.Single n) = Items (lent (n ∷ []))
+node_of dicts place (object.Pairs v) = Dict (lent (members_of v.items dicts place))
 node_of dicts place object.Null = Null
 node_of dicts place (object.Bool b) = Bool b
 node_of dicts place (object.Int i) = Int i

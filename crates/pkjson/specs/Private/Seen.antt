@@ -5,8 +5,8 @@ use Rattle.pkcheck.specs.Shape.{Breach, Entry, Mark, Item, Shape, Taken}
 use Rattle.serde_json.specs.Data.{null, boolean, number, string}
 use Rattle.serde_json.specs.Find.{of_integer}
 use Rattle.pkjson.specs.declared.objects.Object.{Object}
-use Rattle.pkjson.specs.declared.objects.Object.TheVariants.{Items, Pairs, Null, Bool as Truth, Int}
-use Rattle.pkjson.specs.declared.objects.Object.TheVariants.{Lent, Decoded}
+use Rattle.pkjson.specs.declared.objects.Object.TheVariants.{Items, Single, Pairs, Null, Bool as Truth}
+use Rattle.pkjson.specs.declared.objects.Object.TheVariants.{Int, Lent, Decoded}
 use Rattle.pkjson.specs.declared.slots.Slot.{Slot}
 use Rattle.pkjson.specs.declared.slots.Slot.TheVariants as slot
 use Rattle.pkjson.specs.Contents.{OfItems, OfPairs, OfValue}
@@ -16,6 +16,7 @@ use Rattle.pkjson.specs.Private.Acting.{IsLacking}
 -- the object that the program's `Object` stands for
 abbrev pub kept_of : Object → Kept
 kept_of (Items v) = record { kind = OfItems; given = v.items }
+kept_of (Single n) = record { kind = OfItems; given = n ∷ [] }
 kept_of (Pairs v) = record { kind = OfPairs; given = v.items }
 kept_of Null = record { kind = OfValue null; given = [] }
 kept_of (Truth b) = record { kind = OfValue (boolean b); given = [] }

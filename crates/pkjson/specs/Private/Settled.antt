@@ -27,8 +27,14 @@ AreSettled all (k ∷ ks) (n ∷ ns) = Settles all k n × AreSettled all ks ns
 AreSettled all [] (n ∷ ns) = ⊥
 AreSettled all (k ∷ ks) [] = ⊥
 
--- if the object is a dict, its members are added
+-- the members of a dict that was given these are added, unless these are none
+abbrev pub AddsMembers : List Kept → ℕ → List ℕ
+    → (old new : List (Vec (Bor (List ℕ) × ℕ) Global)) → Type 0
+AddsMembers all n [] old new = new ≡ old
+AddsMembers all n (x ∷ xs) old new =
+    (d : Vec (Bor (List ℕ) × ℕ) Global) × (new ≡ old ++ d ∷ []) × AreMembers all n (x ∷ xs) d.items
+
+-- if the object is a dict that was given some, its members are added
 abbrev pub Adds : List Kept → ℕ → Object → (old new : List (Vec (Bor (List ℕ) × ℕ) Global)) → Type 0
-Adds all n (Pairs v) old new =
-    (d : Vec (Bor (List ℕ) × ℕ) Global) × (new ≡ old ++ d ∷ []) × AreMembers all n v.items d.items
+Adds all n (Pairs v) old new = AddsMembers all n v.items old new
 Adds all n o old new = new ≡ old

@@ -1,8 +1,11 @@
-use Rattle.std.proofs.Common.{sym, subst, length}
+use Rattle.std.proofs.Common.{subst, sym, length, OnOk}
 use Rattle.pkjson.specs.Private.Seen.{kept_all}
-use Rattle.pkjson.specs.Private.Ranks.{AreMembers}
-use Rattle.pkjson.specs.Private.Settled.{Adds}
+use Rattle.pkjson.specs.Private.Settled.{Adds, AddsMembers}
 use Rattle.pkjson.proofs.settle.settle_one.Goals as goal
 
-pub returns-in_ok-push : goal.returns-in_ok-push
-returns-in_ok-push c = subst (λ o. Adds (kept_all c.args.ranks.now.objects.now) (length c.args.ranks.now.objects.now) o c.args.dicts.now.items c.push.new.self.items) (sym c.in-Pairs.is) (c.in_ok-members.members, c.in_ok-push.ensures.items, subst (λ g. AreMembers (kept_all c.args.ranks.now.objects.now) (length c.args.ranks.now.objects.now) g c.in_ok-members.members.items) c.deref.ensures.value c.in_ok-members.ensures)
+pub returns-in-Pairs : goal.returns-in-Pairs
+returns-in-Pairs c =
+    let all = kept_all c.args.ranks.now.objects.now in
+    let n = length c.args.ranks.now.objects.now in
+    subst (λ o. OnOk c.settle_dict.result (Adds all n o c.args.dicts.now.items c.settle_dict.new.dicts.items)) (sym c.in-Pairs.is)
+    (subst (λ xs. OnOk c.settle_dict.result (AddsMembers all n xs c.args.dicts.now.items c.settle_dict.new.dicts.items)) c.deref.ensures.value c.settle_dict.ensures)
