@@ -54,7 +54,7 @@ impl<'a> Arena<'a> {
     }
 
     /// The number of the object on top of the stack; `None` if the top is a mark or missing.
-    pub fn top(&self) -> Option<usize>
+    pub fn top(&self) -> Option<u32>
         ensures { MatchOption result (IsLacking (top (parts self.now).shape.entries))
             (λ n. top (parts self.now).shape.entries
             ≡ Ok (n, drop 1 (parts self.now).shape.entries)) }

@@ -11,9 +11,9 @@ use std::marker::Model;
 /// found by index.
 pub struct Memo {
     /// The entries from number 0 on that were stored in order.
-    ordered: Vec<usize>,
+    ordered: Vec<u32>,
     /// The other entries.
-    rest: BTreeMap<u64, usize>,
+    rest: BTreeMap<u64, u32>,
 }
 
 impl Drop for Memo {
@@ -53,7 +53,7 @@ impl Memo {
     }
 
     /// The object stored under a number.
-    pub fn get(&self, number: u64) -> Option<usize>
+    pub fn get(&self, number: u64) -> Option<u32>
         ensures { result ≡ recalled number self.now }
     {
         if number < self.ordered.len() as u64 {
@@ -63,7 +63,7 @@ impl Memo {
     }
 
     /// Stores an object under a number.
-    pub fn store(&mut self, number: u64, object: usize) -> Result<(), AllocError>
+    pub fn store(&mut self, number: u64, object: u32) -> Result<(), AllocError>
         ensures { OnOk result (self.new ≡ stored number object self.old) }
     {
         let count = self.ordered.len() as u64;
@@ -81,7 +81,7 @@ impl Memo {
 }
 
 /// The entry of a number in the tree.
-fn found(rest: &BTreeMap<u64, usize>, number: u64) -> Option<usize>
+fn found(rest: &BTreeMap<u64, u32>, number: u64) -> Option<u32>
     ensures { result ≡ recalled number rest.now.entries }
 {
     match rest.get(&number) {

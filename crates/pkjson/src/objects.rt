@@ -58,12 +58,13 @@ fn items_of<'a>(alloc: Global, slots: &[Slot]) -> Result<Object<'a>, AllocError>
     }) }
 {
     if let [Slot::Object(number)] = slots {
-        return Ok(Object::Single(*number));
+        return Ok(Object::Single(*number as usize));
     }
     Ok(Object::Items(numbers(alloc, slots)?))
 }
 
-/// Replaces all entries from a place on with a new object made from them.
+/// Replaces all entries from a place on with a new object made from them. Numbers have 32 bits: more
+/// objects need more memory than there is.
 #[tactic(auto, using(crate::proofs::Entries::shown_append, crate::proofs::Entries::kept_append))]
 pub fn make<'a>(
     alloc: Global,
@@ -81,7 +82,9 @@ pub fn make<'a>(
           given = kept_by (kind_seen kind.entry) (numbers_of (drop place stack.old.items));
         } ∷ []) }
 {
-    let number = objects.len();
+    let Ok(number) = u32::try_from(objects.len()) else {
+        return Err(AllocError);
+    };
     let object = object_of(alloc, kind, &stack[place..])?;
     objects.push(object)?;
     stack.truncate(place);

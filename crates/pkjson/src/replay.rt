@@ -39,7 +39,7 @@ pub fn replay<'a>(
             let Some(place) = arena.top() else {
                 unreachable!()
             };
-            return Ok((arena.into_objects(), place));
+            return Ok((arena.into_objects(), place as usize));
         }
         match arena.act(alloc, action, &inst) {
             Ok(()) => {}

@@ -9,11 +9,11 @@ ghost use Rattle.pkjson.specs.Private.Seen.{numbers_of, seen_entries, FindsPlace
 use crate::action::Takes;
 use std::alloc::{AllocError, Global};
 
-/// An entry of the stack: a mark, or an object by its number.
+/// An entry of the stack: a mark, or an object by its number, in 8 bytes.
 #[derive(Clone, Copy)]
 pub enum Slot {
     Mark,
-    Object(usize),
+    Object(u32),
 }
 
 /// The place of the topmost mark.
@@ -69,12 +69,12 @@ pub fn receiver_of(slots: &[Slot], takes: Takes) -> Option<(usize, usize)>
     }
     match slots[place - 1] {
         Slot::Mark => None,
-        Slot::Object(number) => Some((place - 1, number)),
+        Slot::Object(number) => Some((place - 1, number as usize)),
     }
 }
 
 /// The number of the object on top.
-pub fn top(slots: &[Slot]) -> Option<usize>
+pub fn top(slots: &[Slot]) -> Option<u32>
     ensures { MatchOption result (IsLacking (top (seen_entries slots.now [])))
         (λ n. top (seen_entries slots.now []) ≡ Ok (n, drop 1 (seen_entries slots.now []))) }
 {
@@ -114,7 +114,7 @@ fn add_number(found: &mut Vec<usize>, slot: Slot) -> Result<(), AllocError>
     ensures { OnOk result (found.new.items ≡ found.old.items ++ numbers_of (slot ∷ [])) }
 {
     match slot {
-        Slot::Object(number) => Ok(found.push(number)?),
+        Slot::Object(number) => Ok(found.push(number as usize)?),
         Slot::Mark => Ok(()),
     }
 }

@@ -30,7 +30,7 @@ pub fn keys_are_texts(objects: &[Object<'_>], slots: &[Slot]) -> bool
     let mut is_key = true;
     for slot in slots {
         if let Slot::Object(number) = *slot {
-            if is_key && !is_text(objects, number) {
+            if is_key && !is_text(objects, number as usize) {
                 return false;
             }
             is_key = !is_key;
