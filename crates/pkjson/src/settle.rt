@@ -62,7 +62,9 @@ pub fn settle<'a, 'b>(
     let mut dicts = Vec::new(alloc);
     let mut places = Vec::with_capacity(alloc, objects.len())?;
     for object in objects {
-        let place = dicts.len();
+        let Ok(place) = u32::try_from(dicts.len()) else {
+            return Err(AllocError);
+        };
         settle_one(alloc, &ranks, object, &mut dicts)?;
         places.push(place)?;
     }

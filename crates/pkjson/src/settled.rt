@@ -14,7 +14,7 @@ pub struct Settled<'a, 'b> {
     /// The members of each dict that has some, in the order of the objects.
     pub dicts: Vec<Vec<(&'a str, usize)>>,
     /// For each object, the number of such dicts before it.
-    pub places: Vec<usize>,
+    pub places: Vec<u32>,
 }
 
 impl<'a, 'b> Settled<'a, 'b> {
@@ -86,11 +86,11 @@ fn members_at<'s, 'a>(dicts: &'s [Vec<(&'a str, usize)>], place: usize) -> &'s [
 
 /// The place of an object's dict; 0 if none is known.
 #[inline]
-fn place_at(places: &[usize], number: usize) -> usize
+fn place_at(places: &[u32], number: usize) -> usize
     ensures { result ≡ slice_index places.now number }
 {
     if number < places.len() {
-        places[number]
+        places[number] as usize
     } else {
         0
     }
