@@ -18,8 +18,8 @@ use std::alloc::{AllocError, Global};
 pub enum Object<'a> {
     /// A list or a tuple.
     Items(Vec<usize>),
-    /// A list or a tuple made with one item, which needs no memory of its own: a file may consist of
-    /// tuples of one.
+    /// A list or a tuple made with one item, which needs no memory of its own: a hostile file is
+    /// nothing but tuples of one.
     Single(usize),
     /// A dict: alternating keys and values.
     Pairs(Vec<usize>),
@@ -63,8 +63,8 @@ fn items_of<'a>(alloc: Global, slots: &[Slot]) -> Result<Object<'a>, AllocError>
     Ok(Object::Items(numbers(alloc, slots)?))
 }
 
-/// Replaces all entries from a place on with a new object made from them. Numbers have 32 bits: more
-/// objects need more memory than there is.
+/// Replaces all entries from a place on with a new object made from them. Numbers have 32 bits, and
+/// more objects than that are refused: they need over 128 GiB.
 #[tactic(auto, using(crate::proofs::Entries::shown_append, crate::proofs::Entries::kept_append))]
 pub fn make<'a>(
     alloc: Global,

@@ -5,8 +5,8 @@ use Rattle.pkcheck.specs.Shape.{Breach, Entry, Mark, Item, Shape, Taken}
 use Rattle.serde_json.specs.Data.{null, boolean, number, string}
 use Rattle.serde_json.specs.Find.{of_integer}
 use Rattle.pkjson.specs.declared.objects.Object.{Object}
-use Rattle.pkjson.specs.declared.objects.Object.TheVariants.{Items, Single, Pairs, Null, Bool as Truth}
-use Rattle.pkjson.specs.declared.objects.Object.TheVariants.{Int, Lent, Decoded}
+use Rattle.pkjson.specs.declared.objects.Object.TheVariants.{Items, Single, Pairs, Null}
+use Rattle.pkjson.specs.declared.objects.Object.TheVariants.{Bool as Truth, Int, Lent, Decoded}
 use Rattle.pkjson.specs.declared.slots.Slot.{Slot}
 use Rattle.pkjson.specs.declared.slots.Slot.TheVariants as slot
 use Rattle.pkjson.specs.Contents.{OfItems, OfPairs, OfValue}
