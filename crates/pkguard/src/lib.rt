@@ -20,7 +20,7 @@ ghost use Rattle.pkguard.specs.Settings.{PermitsPairs, Sets, limits_by, limits_w
 ghost use Rattle.pkguard.specs.Settings.{listed_by, loading_by};
 
 use pkcheck::laws::halving;
-use pkcheck::{Loading, Pair, Policy, check_all, check_as};
+use pkcheck::{Loading, OldStrings, Pair, Policy, check_all, check_as};
 use pkops::Limits;
 use pkread::Memory;
 pub use settings::Settings;
@@ -95,17 +95,13 @@ pub extern "C" fn pkguard_check_list(
 {
     *out = match settings::old_strings_in(settings) {
         None => verdict::of_usage(),
-        Some(old) => match list::list_from(alloc, list) {
-            Err(error) => verdict::of_fault(error),
-            Ok(allow) => {
-                let terms = Terms {
-                    limits: settings::limits_within(settings, &allow.limits()),
-                    policy: Policy::Listed(&allow),
-                    loading: settings::loading_by(settings, old),
-                };
-                answered(alloc, &terms, pickle, room)
-            }
-        },
+        Some(old_strings) => {
+            let served = Served {
+                settings,
+                old_strings,
+            };
+            listed(alloc, list, &served, pickle, room)
+        }
     };
     out.status
 }
@@ -273,6 +269,43 @@ fn imported(
             verdict::of_yes(yes.taken, &yes.imports, 1)
         }
         Err(no) => verdict::of_no(&no, 0, room),
+    }
+}
+
+/// Settings that this version serves, and how they decode Python 2 strings.
+#[derive(Clone, Copy)]
+struct Served<'a> {
+    settings: &'a Settings,
+    old_strings: OldStrings,
+}
+
+/// The verdict of `check` under a list file.
+fn listed(
+    alloc: Global,
+    list: &[u8],
+    served: &Served<'_>,
+    pickle: &[u8],
+    room: &mut [u8],
+) -> Verdict
+    ensures bound { result.status ≤ 2 }
+    ensures yes { result.status ≡ 0 → Under list.now (λ policy limits. IsYes served.now.old_strings
+        policy (limits_within limits served.now.settings.now)
+        pickle.now room.old room.new result) }
+    ensures no { result.status ≡ 1 → Under list.now (λ policy limits. IsNo served.now.old_strings
+        policy (limits_within limits served.now.settings.now)
+        pickle.now room.old room.new result) }
+    ensures fault { result.status ≡ 2 → IsListFault list.now room.old room.new result }
+{
+    match list::list_from(alloc, list) {
+        Err(error) => verdict::of_fault(error),
+        Ok(allow) => {
+            let terms = Terms {
+                limits: settings::limits_within(served.settings, &allow.limits()),
+                policy: Policy::Listed(&allow),
+                loading: settings::loading_by(served.settings, served.old_strings),
+            };
+            answered(alloc, &terms, pickle, room)
+        }
     }
 }
 
