@@ -4,3 +4,4 @@ pub mod Noted
 pub mod Followed
 pub mod NewNumbers
 pub mod WritesKept
+pub mod Parts

@@ -31,6 +31,7 @@ use Rattle.pkopt.specs.Answer.{Checks, pickle, Optimizes, PassesLimit, FailsChec
 use Rattle.pkread.specs.Rows.{in_memory}
 use Rattle.pkopt.specs.Private.Fates.{Aims, IsSlim, StopsSlim, IsPastAt, IsPlanFor}
 use Rattle.pkopt.specs.Private.FrameBytes.{framed_bytes}
+use Rattle.pkopt.specs.Private.Places.{places_behind}
 use Rattle.pkopt.specs.Private.Fronts.{EndsInStop}
 use Rattle.pkopt.specs.Limit.{IsPastLimit}
 use Rattle.pkopt.specs.OneFrame.{has_frame, optimized}
@@ -147,7 +148,7 @@ is_traced limits bytes left rest answer accepted hs x y e is h first heard =
     (traced_memory limits left rest accepted hs x y (subst (λ a. IsRightAndHeard None (holding_all limits) (in_memory left) (in_memory rest) a hs) is h) first heard)
 
 -- what the second pass is given
-pub aims_at : (limits : Bounds) (bytes : List ℕ) (x : Traced) (plan : Plan) → (t : IsTraced limits bytes x) → IsPlanFor (pickle t.checks) plan → Aims bytes x.trace.places.items x.taken plan (pickle t.checks)
+pub aims_at : (limits : Bounds) (bytes : List ℕ) (x : Traced) (plan : Plan) → (t : IsTraced limits bytes x) → IsPlanFor (pickle t.checks) plan → Aims bytes (places_behind 0 x.trace.parts.items) x.taken plan (pickle t.checks)
 aims_at limits bytes x plan t planned = record { rest = t.checks.rest; spelled = t.checks.accepted.bytes.bytes; places_so = t.tracks.places; taken_so = t.count; planned = planned }
 
 pub plan_for : (p : List Instruction) (plan : Plan) (found : List (Option ℕ)) (writes : ℕ) → plan.sources.items ≡ found → AreNumbers found writes plan.limit plan.numbers.items → found ≡ sources [] p → writes ≡ length (after_all p []) → IsPlanFor p plan

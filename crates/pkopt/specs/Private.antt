@@ -1,6 +1,7 @@
 -- Definitions that only private functions cite. They need not be trusted: the contract of
 -- `optimize` follows from them.
 pub mod Traces
+pub mod Entries
 pub mod Fronts
 pub mod Memories
 pub mod Places

@@ -1,10 +1,10 @@
 //! What happens to each instruction in the slim form.
 
 ghost use Rattle.std.specs.Prelude.{◌≡◌, None, slice_index_or};
-ghost use Rattle.pkopt.specs.Private.Fates.{fate_in, fetched_fate, kept_fate};
+ghost use Rattle.pkopt.specs.Private.Fates.{fetched_fate, kept_fate};
 ghost use Rattle.pkopt.specs.Private.Fates.{next_fate, passed_fate, stored_fate};
 
-use crate::memo::{MemoUse, memo_use};
+use crate::entry::Entry;
 use pkops::Op;
 
 /// What happens to an instruction.
@@ -24,37 +24,40 @@ pub(crate) enum Fate {
 #[derive(Drop)]
 pub(crate) struct Plan {
     /// For each read, the write that it reads.
-    pub sources: Vec<Option<u32>>,
+    pub sources: Vec<Entry>,
     /// For each write that is read, its new number.
-    pub numbers: Vec<Option<u32>>,
+    pub numbers: Vec<Entry>,
     /// The limit on the memo: no write may have it as its number.
     pub limit: u32,
 }
 
 /// The new number of a write, if it stays.
-fn number_of(numbers: &[Option<u32>], write: usize) -> Option<u32>
+#[inline(always)]
+pub(crate) fn number_of(numbers: &[Entry], write: usize) -> Option<u32>
     ensures { result ≡ slice_index_or numbers.now write None }
 {
     if write < numbers.len() {
-        numbers[write]
+        numbers[write].number()
     } else {
         None
     }
 }
 
 /// The write that a read reads, if there is one.
-fn source_of(sources: &[Option<u32>], read: usize) -> Option<u32>
+#[inline(always)]
+pub(crate) fn source_of(sources: &[Entry], read: usize) -> Option<u32>
     ensures { result ≡ slice_index_or sources.now read None }
 {
     if read < sources.len() {
-        sources[read]
+        sources[read].number()
     } else {
         None
     }
 }
 
 /// The fate of a write under a number that the instruction names.
-fn stored_fate(number: Option<u32>, limit: u32) -> Fate
+#[inline(always)]
+pub(crate) fn stored_fate(number: Option<u32>, limit: u32) -> Fate
     ensures { result ≡ stored_fate limit number }
 {
     match number {
@@ -70,7 +73,8 @@ fn stored_fate(number: Option<u32>, limit: u32) -> Fate
 }
 
 /// The fate of a write under the number of memo entries.
-fn next_fate(number: Option<u32>, limit: u32) -> Fate
+#[inline(always)]
+pub(crate) fn next_fate(number: Option<u32>, limit: u32) -> Fate
     ensures { result ≡ next_fate limit number }
 {
     match number {
@@ -86,6 +90,7 @@ fn next_fate(number: Option<u32>, limit: u32) -> Fate
 }
 
 /// The fate of a read of a write with this new number.
+#[inline(always)]
 fn kept_fate(number: Option<u32>) -> Fate
     ensures { result ≡ kept_fate number }
 {
@@ -96,7 +101,8 @@ fn kept_fate(number: Option<u32>) -> Fate
 }
 
 /// The fate of a read.
-fn fetched_fate(numbers: &[Option<u32>], source: Option<u32>) -> Fate
+#[inline(always)]
+pub(crate) fn fetched_fate(numbers: &[Entry], source: Option<u32>) -> Fate
     ensures { result ≡ fetched_fate numbers.now source }
 {
     match source {
@@ -106,23 +112,12 @@ fn fetched_fate(numbers: &[Option<u32>], source: Option<u32>) -> Fate
 }
 
 /// The fate of an instruction that does not use the memo.
-fn passed_fate(op: Op) -> Fate
+#[inline(always)]
+pub(crate) fn passed_fate(op: Op) -> Fate
     ensures { result ≡ passed_fate op }
 {
     match op {
         Op::Frame => Fate::Goes,
         _ => Fate::Stays,
-    }
-}
-
-/// The fate of an instruction after this many writes and reads.
-pub(crate) fn fate_of(plan: &Plan, op: Op, writes: usize, reads: usize) -> Fate
-    ensures { result ≡ fate_in plan.now op writes reads }
-{
-    match memo_use(op) {
-        MemoUse::Stores => stored_fate(number_of(&plan.numbers, writes), plan.limit),
-        MemoUse::StoresNext => next_fate(number_of(&plan.numbers, writes), plan.limit),
-        MemoUse::Fetches => fetched_fate(&plan.numbers, source_of(&plan.sources, reads)),
-        MemoUse::Neither => passed_fate(op),
     }
 }

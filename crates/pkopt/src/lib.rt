@@ -2,6 +2,7 @@
 //! the result is proved to be a run of the original.
 #![tactic(auto)]
 
+mod entry;
 mod fate;
 mod frame;
 pub mod laws;

@@ -3,19 +3,16 @@
 ghost use Rattle.std.specs.Prelude.{◌≡◌, ◌≤◌, IfOk, List, None, Option, Some, cond, min, suc, ℕ};
 ghost use Rattle.pkopt.specs.Private.Passes.{AreKept, AreNumbers};
 
+use crate::entry::Entry;
 use std::alloc::{AllocError, Global};
 
 /// For each write, whether some read reads it.
-fn kept_among(
-    alloc: Global,
-    sources: &[Option<u32>],
-    writes: usize,
-) -> Result<Vec<bool>, AllocError>
+fn kept_among(alloc: Global, sources: &[Entry], writes: usize) -> Result<Vec<bool>, AllocError>
     ensures { IfOk result (λ kept. AreKept sources.now writes kept.items) }
 {
     let mut kept = vec![in alloc; false; writes]?;
     for source in sources {
-        if let Some(write) = *source {
+        if let Some(write) = source.number() {
             let write = write as usize;
             if write < kept.len() {
                 kept[write] = true;
@@ -46,14 +43,15 @@ fn number_after(stays: bool, next: u32, limit: u32) -> u32
 
 /// Numbers the writes that stay. Once the numbers reach the limit, all further writes get the
 /// limit.
-fn numbered(alloc: Global, kept: &[bool], limit: u32) -> Result<Vec<Option<u32>>, AllocError>
+fn numbered(alloc: Global, kept: &[bool], limit: u32) -> Result<Vec<Entry>, AllocError>
     ensures { IfOk result (λ numbers. (vs : List (Option ℕ)) (writes : ℕ) →
         AreKept vs writes kept.now → AreNumbers vs writes limit numbers.items) }
 {
     let mut numbers = Vec::new(alloc);
     let mut next: u32 = 0;
     for stays in kept {
-        numbers.push(number_if(*stays, next))?;
+        let number = Entry::new(number_if(*stays, next))?;
+        numbers.push(number)?;
         next = number_after(*stays, next, limit);
     }
     Ok(numbers)
@@ -62,10 +60,10 @@ fn numbered(alloc: Global, kept: &[bool], limit: u32) -> Result<Vec<Option<u32>>
 /// For each write that some read reads, its new number, or the limit if the number is greater.
 pub(crate) fn new_numbers(
     alloc: Global,
-    sources: &[Option<u32>],
+    sources: &[Entry],
     writes: usize,
     limit: u32,
-) -> Result<Vec<Option<u32>>, AllocError>
+) -> Result<Vec<Entry>, AllocError>
     ensures { IfOk result (λ numbers. AreNumbers sources.now writes limit numbers.items) }
 {
     let kept = kept_among(alloc, sources, writes)?;

@@ -8,6 +8,7 @@ ghost use Rattle.pkopt.specs.Private.Fates.{IsPlanFor};
 ghost use Rattle.pkopt.specs.Private.Tracing.{IsTraced};
 ghost use Rattle.pkopt.specs.Writers.{after_all, sources as sources_of};
 
+use crate::entry::Entry;
 use crate::fate::Plan;
 use crate::frame::{put_in_frame, room_for};
 use crate::numbers::new_numbers;
@@ -35,7 +36,7 @@ fn lacks_memory() -> Refusal
 /// Plans what happens to the memo instructions of a pickle.
 fn plan_of(
     alloc: Global,
-    sources: Vec<Option<u32>>,
+    sources: Vec<Entry>,
     writes: u32,
     limits: &Limits,
 ) -> Result<Plan, AllocError>
@@ -133,16 +134,17 @@ pub fn optimized_form(alloc: Global, bytes: &[u8], limits: &Limits) -> Result<Fo
     let Trace {
         memo,
         sources,
-        places,
+        parts,
         writes,
+        ..
     } = trace;
     drop(memo);
     let Ok(plan) = plan_of(alloc, sources, writes, limits) else {
         return Err(lacks_memory());
     };
-    let framed = any_frame(&places);
+    let framed = any_frame(&parts);
     let room = room_for(framed);
-    let mut slim = match slim_of(alloc, bytes, &places, taken as usize, room, &plan) {
+    let mut slim = match slim_of(alloc, bytes, &parts, taken as usize, room, &plan) {
         Ok(slim) => slim,
         Err(refusal) => return Err(refusal),
     };

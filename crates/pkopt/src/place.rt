@@ -1,8 +1,9 @@
-//! The offsets of the instructions in a pickle that may change.
+//! Where the instructions of a pickle that may change lie.
 
-ghost use Rattle.std.specs.Prelude.{◌≡◌, false};
+ghost use Rattle.std.specs.Prelude.{◌≡◌, ◌<◌, ◌^◌, false, length};
 ghost use Rattle.pkops.specs.Inst.{instruction_of};
-ghost use Rattle.pkopt.specs.Private.Places.{stays_as_is, place_of};
+ghost use Rattle.pkops.specs.Spelling.{spelling};
+ghost use Rattle.pkopt.specs.Private.Places.{end_of, place_behind, stays_as_is};
 ghost use Rattle.pkopt.specs.Slim.{is_frame};
 ghost use Rattle.std.specs.List.{list_any};
 
@@ -19,8 +20,36 @@ pub(crate) struct Place {
     pub op: Op,
 }
 
+/// A part of a pickle: bytes that stay as they are, and then an instruction that may change. A
+/// pickle has millions of these, so a part has only four bytes. More bytes that stay are a part
+/// without such an instruction: its opcode is one that never changes.
+#[derive(Clone, Copy)]
+pub(crate) struct Part {
+    /// The length of the instruction in bytes.
+    pub size: u16,
+    /// How many bytes before it stay.
+    pub gap: u8,
+    /// Its opcode.
+    pub op: Op,
+}
+
+impl Part {
+    /// The place of its instruction, if the part begins at this offset.
+    #[inline(always)]
+    pub(crate) fn place_behind(self, from: u64) -> Place
+        requires { end_of from self < 2 ^ 64 }
+        ensures { result ≡ place_behind from self }
+    {
+        Place {
+            at: from + u64::from(self.gap),
+            size: self.size,
+            op: self.op,
+        }
+    }
+}
+
 /// Whether instructions with this opcode never change: they don't use the memo and aren't FRAME.
-#[inline]
+#[inline(always)]
 pub(crate) fn is_plain(op: Op) -> bool
     ensures { result ≡ stays_as_is op }
 {
@@ -37,11 +66,11 @@ pub(crate) fn is_plain(op: Op) -> bool
     }
 }
 
-/// Whether one of the places is that of a FRAME.
-pub(crate) fn any_frame(places: &[Place]) -> bool
-    ensures { result ≡ list_any (λ place. is_frame place.op) places.now }
+/// Whether one of the parts has a FRAME.
+pub(crate) fn any_frame(parts: &[Part]) -> bool
+    ensures { result ≡ list_any (λ part. is_frame part.op) parts.now }
 {
-    places.iter().any(|place| is_frame(place.op))
+    parts.iter().any(|part| is_frame(part.op))
 }
 
 /// Whether the opcode is FRAME.
@@ -51,14 +80,12 @@ fn is_frame(op: Op) -> bool
     matches!(op, Op::Frame)
 }
 
-/// The place of an instruction that may change. Its length fits, because its only possible line is
-/// a number.
-#[inline]
-pub(crate) fn place_of(at: u64, inst: &Inst<'_>) -> Place
+/// The length in bytes of an instruction that may change. It fits, because the only possible line
+/// of such an instruction is a number.
+#[inline(always)]
+pub(crate) fn size_of(inst: &Inst<'_>) -> u16
     requires { stays_as_is (instruction_of inst.now).op ≡ false }
-    ensures { result ≡ place_of at (instruction_of inst.now) }
+    ensures { result ≡ length (spelling (instruction_of inst.now)) }
 {
-    let op = inst.op();
-    let size = inst.len() as u16;
-    Place { at, size, op }
+    inst.len() as u16
 }

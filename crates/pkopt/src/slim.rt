@@ -1,18 +1,19 @@
 //! Writes the slim form of a pickle.
 
-ghost use Rattle.std.specs.Prelude.{◌≡◌, ◌<◌, ◌≤◌, ◌+◌, ◌-◌, ◌++◌, ◌^◌, IfErr, IfOk, List, OnOk};
-ghost use Rattle.std.specs.Prelude.{drop, length, replicate, take};
+ghost use Rattle.std.specs.Prelude.{◌≡◌, ◌<◌, ◌≤◌, ◌+◌, ◌-◌, ◌++◌, ◌^◌, ◌≢◌, IfErr, IfOk, List};
+ghost use Rattle.std.specs.Prelude.{OnOk, drop, length, replicate, take};
 ghost use Rattle.pkops.specs.Spelling.{Instruction};
-ghost use Rattle.pkopt.specs.Private.Fates.{AddsPlace, Aims, Emitted, FailsPlace, IsSlim};
-ghost use Rattle.pkopt.specs.Private.Fates.{StopsSlim};
-ghost use Rattle.pkopt.specs.Private.Fates.{reads_after, refusal_at, writes_after};
-ghost use Rattle.pkopt.specs.Private.Passes.{memo_use};
+ghost use Rattle.pkopt.specs.Private.Fates.{AddsPlace, Aims, Emitted, FailsBy, FailsPlace, IsSlim};
+ghost use Rattle.pkopt.specs.Private.Fates.{StopsSlim, refusal_at};
+ghost use Rattle.pkopt.specs.declared.fate.Fate.TheVariants.{IsPast};
+ghost use Rattle.pkopt.specs.Private.Places.{end_behind, places_behind};
 
-use crate::fate::{Fate, Plan, fate_of};
+use crate::fate::{
+    Fate, Plan, fetched_fate, next_fate, number_of, passed_fate, source_of, stored_fate,
+};
 use crate::memo::{MemoUse, memo_use};
-use crate::place::Place;
+use crate::place::{Part, Place, is_plain};
 use crate::renumbering::push_renumbered;
-use pkops::Op;
 use pkread::{Reason, Refusal};
 use std::alloc::{AllocError, Global};
 
@@ -29,31 +30,6 @@ pub(crate) struct Slim {
     /// The offset in the pickle of the first byte not copied yet. Those bytes end at the current
     /// instruction.
     from: usize,
-}
-
-/// The number of memo writes after an instruction.
-fn writes_after(op: Op, writes: usize) -> usize
-    requires { writes < 2 ^ 63 }
-    ensures is { result ≡ writes_after (memo_use op) writes }
-    ensures few { result ≤ writes + 1 }
-{
-    match memo_use(op) {
-        MemoUse::Stores => writes + 1,
-        MemoUse::StoresNext => writes + 1,
-        _ => writes,
-    }
-}
-
-/// The number of memo reads after an instruction.
-fn reads_after(op: Op, reads: usize) -> usize
-    requires { reads < 2 ^ 63 }
-    ensures is { result ≡ reads_after (memo_use op) reads }
-    ensures few { result ≤ reads + 1 }
-{
-    match memo_use(op) {
-        MemoUse::Fetches => reads + 1,
-        _ => reads,
-    }
 }
 
 impl Slim {
@@ -75,6 +51,7 @@ impl Slim {
     }
 
     /// Copies the unchanged bytes up to `here`, and skips the bytes from there to `there`.
+    #[inline(always)]
     fn copy(&mut self, bytes: &[u8], here: usize, there: usize) -> Result<(), AllocError>
         requires low { self.old.from ≤ here }
         requires high { here ≤ length bytes.now }
@@ -91,6 +68,7 @@ impl Slim {
 
     /// Writes what is left of the instruction at a place. Unchanged bytes are copied only when
     /// something else follows them.
+    #[inline(always)]
     fn emit(&mut self, fate: Fate, place: Place, bytes: &[u8]) -> Result<(), AllocError>
         requires low { self.old.from ≤ place.at }
         requires high { place.at + place.size ≤ length bytes.now }
@@ -101,17 +79,39 @@ impl Slim {
     {
         let here = place.at as usize;
         let there = here + usize::from(place.size);
+        if let Fate::Stays = fate {
+            return Ok(());
+        }
+        self.copy(bytes, here, there)?;
         match fate {
-            Fate::Stays => Ok(()),
-            Fate::Gets(number) => {
-                self.copy(bytes, here, there)?;
-                push_renumbered(&mut self.bytes, place.op, number)
-            }
-            _ => self.copy(bytes, here, there),
+            Fate::Gets(number) => push_renumbered(&mut self.bytes, place.op, number),
+            _ => Ok(()),
         }
     }
 
+    /// Writes what is left of the instruction at a place, unless its number would be the limit.
+    #[inline(always)]
+    fn settle(&mut self, fate: Fate, place: Place, bytes: &[u8]) -> Result<(), Reason>
+        requires low { self.old.from ≤ place.at }
+        requires high { place.at + place.size ≤ length bytes.now }
+        ensures goes_on { OnOk result (fate ≢ IsPast) }
+        ensures form { OnOk result (Emitted fate place bytes.now self.old self.new) }
+        ensures from { OnOk result (self.new.from ≤ place.at + place.size) }
+        ensures err { IfErr result (λ reason. FailsBy fate reason) }
+        ensures writes { self.new.writes ≡ self.old.writes }
+        ensures reads { self.new.reads ≡ self.old.reads }
+    {
+        if let Fate::IsPast = fate {
+            return Err(Reason::TooLarge);
+        }
+        let Ok(()) = self.emit(fate, place, bytes) else {
+            return Err(Reason::OutOfMemory);
+        };
+        Ok(())
+    }
+
     /// Processes one more instruction that may change.
+    #[inline(always)]
     fn add(&mut self, plan: &Plan, place: Place, bytes: &[u8]) -> Result<(), Reason>
         requires writes { self.old.writes < 2 ^ 63 }
         requires reads { self.old.reads < 2 ^ 63 }
@@ -122,15 +122,25 @@ impl Slim {
         ensures ok { OnOk result (AddsPlace plan.now bytes.now place self.old self.new) }
         ensures err { IfErr result (λ reason. FailsPlace plan.now place.op self.old reason) }
     {
-        let fate = fate_of(plan, place.op, self.writes, self.reads);
-        if let Fate::IsPast = fate {
-            return Err(Reason::TooLarge);
+        let op = place.op;
+        match memo_use(op) {
+            MemoUse::Stores => {
+                let number = number_of(&plan.numbers, self.writes);
+                self.settle(stored_fate(number, plan.limit), place, bytes)?;
+                self.writes += 1;
+            }
+            MemoUse::StoresNext => {
+                let number = number_of(&plan.numbers, self.writes);
+                self.settle(next_fate(number, plan.limit), place, bytes)?;
+                self.writes += 1;
+            }
+            MemoUse::Fetches => {
+                let source = source_of(&plan.sources, self.reads);
+                self.settle(fetched_fate(&plan.numbers, source), place, bytes)?;
+                self.reads += 1;
+            }
+            MemoUse::Neither => self.settle(passed_fate(op), place, bytes)?,
         }
-        let Ok(()) = self.emit(fate, place, bytes) else {
-            return Err(Reason::OutOfMemory);
-        };
-        self.writes = writes_after(place.op, self.writes);
-        self.reads = reads_after(place.op, self.reads);
         Ok(())
     }
 }
@@ -145,29 +155,38 @@ fn refused(at: u64, reason: Reason) -> Refusal
     }
 }
 
-/// The slim form of the pickle at the front of the bytes, after `room` zero bytes. `places` has
-/// those of its instructions that may change.
+/// The slim form of the pickle at the front of the bytes, after `room` zero bytes. `parts` has
+/// those up to its last instruction that may change.
 #[inline(never)]
 pub(crate) fn slim_of(
     alloc: Global,
     bytes: &[u8],
-    places: &[Place],
+    parts: &[Part],
     taken: usize,
     room: usize,
     plan: &Plan,
 ) -> Result<Vec<u8>, Refusal>
-    requires { (p : List Instruction) × Aims bytes.now places.now taken plan.now p }
+    requires aims { (p : List Instruction)
+        × Aims bytes.now (places_behind 0 parts.now) taken plan.now p }
+    requires fits { end_behind 0 parts.now < 2 ^ 64 }
     ensures ok { IfOk result (λ slim. (p : List Instruction) →
-        Aims bytes.now places.now taken plan.now p →
+        Aims bytes.now (places_behind 0 parts.now) taken plan.now p →
         IsSlim p plan.now.limit room slim.items) }
     ensures err { IfErr result (λ refusal. (p : List Instruction) →
-        Aims bytes.now places.now taken plan.now p → StopsSlim p plan.now.limit refusal) }
+        Aims bytes.now (places_behind 0 parts.now) taken plan.now p →
+        StopsSlim p plan.now.limit refusal) }
 {
     let Ok(mut slim) = Slim::new(alloc, room, taken) else {
         return Err(refused(0, Reason::OutOfMemory));
     };
-    for place in places {
-        if let Err(reason) = slim.add(plan, *place, bytes) {
+    let mut end = 0;
+    for part in parts {
+        let place = part.place_behind(end);
+        end = place.at + u64::from(place.size);
+        if is_plain(place.op) {
+            continue;
+        }
+        if let Err(reason) = slim.add(plan, place, bytes) {
             return Err(refused(place.at, reason));
         }
     }

@@ -1,22 +1,43 @@
 //! Records the memo and the frames of a pickle while it is checked.
 
-ghost use Rattle.std.specs.Prelude.{◌≡◌, ◌+◌, ◌++◌, ◌∷◌, [], OnOk};
+ghost use Rattle.std.specs.Prelude.{◌≡◌, ◌+◌, ◌++◌, ◌∷◌, ◌<◌, ◌≤◌, [], IfOk, OnOk, false, ℕ};
 ghost use Rattle.pkops.specs.Inst.{instruction_of};
 ghost use Rattle.pkops.specs.Operands.{memo_number};
 ghost use Rattle.pkopt.specs.Private.Memories.{Notes, write_held};
-ghost use Rattle.pkopt.specs.Private.Passes.{IsNewTrace, NotesStep};
+ghost use Rattle.pkopt.specs.Private.Passes.{IsNewTrace, Marks, NotesStep, Skips};
+ghost use Rattle.pkopt.specs.Private.Places.{place, stays_as_is};
 
+use crate::entry::Entry;
 use crate::memo::{Memo, MemoUse, memo_use};
-use crate::place::{Place, is_plain, place_of};
+use crate::place::{Part, is_plain, size_of};
 use pkcheck::Listener;
-use pkops::Inst;
+use pkops::{Inst, Op};
 use std::alloc::{AllocError, Global};
 
+/// The most bytes that stay in a part with an instruction that may change.
+const MOST_BEFORE: u64 = 255;
+
+/// The most bytes in a part without such an instruction.
+const MOST: u16 = 65_535;
+
 /// The memo number that an instruction names; 0 if it names none.
+#[inline(always)]
 fn number_of(inst: &Inst<'_>) -> usize
     ensures { result ≡ memo_number (instruction_of inst.now) }
 {
     inst.memo_number().unwrap_or(0) as usize
+}
+
+/// The length of the next part without an instruction that may change, if so many bytes stay.
+fn part_of(bytes: u64) -> u16
+    ensures fits { result ≤ bytes }
+    ensures some { 0 < bytes → 0 < result }
+{
+    if bytes < u64::from(MOST) {
+        bytes as u16
+    } else {
+        MOST
+    }
 }
 
 /// What the first pass has learned about the memo and the frames of a pickle.
@@ -24,13 +45,14 @@ fn number_of(inst: &Inst<'_>) -> usize
 pub(crate) struct Trace {
     /// The last write of each number.
     pub memo: Memo,
-    /// The number of writes. It can't overflow: with 2^32 writes the other fields would take some
-    /// 100 GB.
+    /// The number of writes. It can't overflow: 2^32 writes would take 16 GB of parts alone.
     pub writes: u32,
     /// For each read, the write that it reads.
-    pub sources: Vec<Option<u32>>,
-    /// The places of the instructions that may change.
-    pub places: Vec<Place>,
+    pub sources: Vec<Entry>,
+    /// The parts up to the last instruction that may change.
+    pub parts: Vec<Part>,
+    /// The offset at which these parts end.
+    pub end: u64,
 }
 
 impl Trace {
@@ -42,7 +64,8 @@ impl Trace {
             memo: Memo::new(alloc),
             writes: 0,
             sources: Vec::new(alloc),
-            places: Vec::new(alloc),
+            parts: Vec::new(alloc),
+            end: 0,
         }
     }
 
@@ -51,7 +74,8 @@ impl Trace {
         ensures writes { OnOk result (self.new.writes ≡ self.old.writes + 1) }
         ensures memo { OnOk result (Notes number self.old.writes self.old.memo self.new.memo) }
         ensures sources { self.new.sources.items ≡ self.old.sources.items }
-        ensures places { self.new.places.items ≡ self.old.places.items }
+        ensures parts { self.new.parts.items ≡ self.old.parts.items }
+        ensures end { self.new.end ≡ self.old.end }
     {
         let Some(writes) = self.writes.checked_add(1) else {
             return Err(AllocError);
@@ -68,27 +92,115 @@ impl Trace {
         ensures sources { OnOk result (self.new.sources.items ≡ self.old.sources.items
             ++ write_held self.old.memo.first self.old.memo.ordered.items
             self.old.memo.rest.entries number ∷ []) }
-        ensures places { self.new.places.items ≡ self.old.places.items }
+        ensures parts { self.new.parts.items ≡ self.old.parts.items }
+        ensures end { self.new.end ≡ self.old.end }
     {
-        let source = self.memo.get(number);
+        let source = Entry::new(self.memo.get(number))?;
         self.sources.push(source)?;
         Ok(())
     }
 
-    /// Records what one more instruction does to the memo.
-    fn follow(&mut self, inst: &Inst<'_>) -> Result<(), AllocError>
-        ensures step { OnOk result (NotesStep (instruction_of inst.now) self.old self.new) }
-        ensures places { self.new.places.items ≡ self.old.places.items }
+    /// Records what an instruction of this opcode, which names this number, does to the memo.
+    #[inline(always)]
+    fn follow(&mut self, op: Op, number: usize) -> Result<(), AllocError>
+        ensures step { OnOk result (NotesStep op number self.old self.new) }
+        ensures parts { self.new.parts.items ≡ self.old.parts.items }
+        ensures end { self.new.end ≡ self.old.end }
     {
-        match memo_use(inst.op()) {
-            MemoUse::Stores => self.write(number_of(inst)),
+        match memo_use(op) {
+            MemoUse::Stores => self.write(number),
             MemoUse::StoresNext => {
                 let next = self.memo.len();
                 self.write(next)
             }
-            MemoUse::Fetches => self.read(number_of(inst)),
+            MemoUse::Fetches => self.read(number),
             MemoUse::Neither => Ok(()),
         }
+    }
+
+    /// Records a part of bytes that stay as they are.
+    fn stay(&mut self, size: u16) -> Result<(), AllocError>
+        ensures skips { OnOk result (Skips self.old self.new) }
+        ensures end { OnOk result (self.new.end ≡ self.old.end + size) }
+        ensures writes { self.new.writes ≡ self.old.writes }
+        ensures memo { self.new.memo ≡ self.old.memo }
+        ensures sources { self.new.sources.items ≡ self.old.sources.items }
+    {
+        let Some(end) = self.end.checked_add(u64::from(size)) else {
+            return Err(AllocError);
+        };
+        let (gap, op) = (0, Op::Stop);
+        self.parts.push(Part { size, gap, op })?;
+        self.end = end;
+        Ok(())
+    }
+
+    /// Records so many bytes that stay as they are.
+    #[inline(never)]
+    fn pass(&mut self, count: u64) -> Result<(), AllocError>
+        ensures skips { OnOk result (Skips self.old self.new) }
+        ensures end { OnOk result (self.new.end ≡ self.old.end + count) }
+        ensures writes { self.new.writes ≡ self.old.writes }
+        ensures memo { self.new.memo ≡ self.old.memo }
+        ensures sources { self.new.sources.items ≡ self.old.sources.items }
+    {
+        let mut left = count;
+        while left > 0 {
+            let size = part_of(left);
+            self.stay(size)?;
+            left -= u64::from(size);
+        }
+        Ok(())
+    }
+
+    /// Records the bytes before an instruction at this offset, except for the result: the gap
+    /// before it.
+    #[inline(always)]
+    fn pass_to(&mut self, at: u64) -> Result<u8, AllocError>
+        ensures skips { OnOk result (Skips self.old self.new) }
+        ensures gap { IfOk result (λ gap. self.new.end + gap ≡ at) }
+        ensures writes { self.new.writes ≡ self.old.writes }
+        ensures memo { self.new.memo ≡ self.old.memo }
+        ensures sources { self.new.sources.items ≡ self.old.sources.items }
+    {
+        let Some(count) = at.checked_sub(self.end) else {
+            return Err(AllocError);
+        };
+        if count <= MOST_BEFORE {
+            return Ok(count as u8);
+        }
+        self.pass(count)?;
+        Ok(0)
+    }
+
+    /// Records where an instruction that may change lies.
+    #[inline(always)]
+    fn place(&mut self, at: u64, op: Op, size: u16) -> Result<(), AllocError>
+        requires { stays_as_is op ≡ false }
+        ensures places { OnOk result (Marks (place at size op) self.old self.new) }
+        ensures writes { self.new.writes ≡ self.old.writes }
+        ensures memo { self.new.memo ≡ self.old.memo }
+        ensures sources { self.new.sources.items ≡ self.old.sources.items }
+    {
+        let Some(end) = at.checked_add(u64::from(size)) else {
+            return Err(AllocError);
+        };
+        let gap = self.pass_to(at)?;
+        self.parts.push(Part { size, gap, op })?;
+        self.end = end;
+        Ok(())
+    }
+
+    /// Records an instruction that may change, at this offset and of this length. It names this
+    /// memo number, or 0.
+    #[inline(never)]
+    fn take(&mut self, at: u64, op: Op, size: u16, number: usize) -> Result<(), AllocError>
+        requires { stays_as_is op ≡ false }
+        ensures places { OnOk result (Marks (place at size op) self.old self.new) }
+        ensures step { OnOk result (NotesStep op number self.old self.new) }
+    {
+        self.place(at, op, size)?;
+        self.follow(op, number)
     }
 }
 
@@ -100,13 +212,13 @@ impl Listener for Trace {
 
     ghost hears = { Hears };
 
-    #[inline]
+    // Inlined into the check, so that an instruction that never changes costs only comparisons.
+    #[inline(always)]
     fn hear(&mut self, at: u64, inst: &Inst<'_>, _marks: usize) -> Result<(), AllocError> {
         if is_plain(inst.op()) {
             return Ok(());
         }
-        self.places.push(place_of(at, inst))?;
-        self.follow(inst)
+        self.take(at, inst.op(), size_of(inst), number_of(inst))
     }
 
     ghost hears_none = { hears_none };

@@ -1,15 +1,17 @@
 -- What is known along a pickle, heard instruction by instruction.
 use Rattle.std.proofs.Common.{◌≡◌, ℕ, ◌+◌, true, false, cond, List, [], ◌∷◌, ◌++◌, length, Option, Result, Ok, Err, refl, sym, ap, subst, ◌∙◌, append-nil, length-append}
 use Rattle.std.specs.Prelude.{OnOk}
+use Rattle.pkops.specs.declared.Op.{Op}
 use Rattle.pkops.specs.Operands.{memo_number}
 use Rattle.pkops.specs.Spelling.{Instruction, spelling}
 use Rattle.pkread.specs.Sequence.{spellings}
 use Rattle.pkcheck.specs.Effects.{effect_of}
 use Rattle.pkcheck.specs.Heard.{Heard, heard, AreHeardBehind}
+use Rattle.pkopt.specs.declared.place.Part.{Part}
 use Rattle.pkopt.specs.declared.place.Place.{Place}
 use Rattle.pkopt.specs.declared.trace.Trace.{Trace}
-use Rattle.pkopt.specs.Private.Passes.{IsNewTrace, FollowsWrites, Hears, NotesStep, Tracks}
-use Rattle.pkopt.specs.Private.Places.{stays_as_is, place_of, places_from, places_told, told}
+use Rattle.pkopt.specs.Private.Passes.{IsNewTrace, EndsSo, FollowsWrites, Hears, Marks, NotesStep, Tracks}
+use Rattle.pkopt.specs.Private.Places.{end_behind, place, stays_as_is, place_of, places_behind, places_from, places_told, told}
 use Rattle.pkopt.specs.Writers.{Writes, read_by, sources, after_all}
 use Rattle.pkopt.proofs.MemoWrites.Noted.{none_remembered}
 use Rattle.pkopt.proofs.SlimForm.PlainInstructions.{plain_is}
@@ -17,28 +19,30 @@ use Rattle.pkopt.proofs.SlimForm.Unchanged.{spellings-append}
 
 -- one plain instruction is heard
 pub plain_heard : (x : Trace) (at marks : ℕ) (i : Instruction) → stays_as_is i.op ≡ true → Hears x x (heard at i marks ∷ [])
-plain_heard x at marks i e = λ ws h.
+plain_heard x at marks i e = λ ws h ends.
     let plain = plain_is i e in
     record {
       follows = subst (λ (w : Writes). FollowsWrites w x) (sym (plain.no_write ws)) h;
+      ends = ends;
       sources_now = sym (append-nil x.sources.items) ∙ ap (λ (l : List (Option ℕ)). x.sources.items ++ l) (sym (append-nil (read_by (effect_of i.op) (memo_number i) ws) ∙ plain.no_read ws));
-      places_now = sym (append-nil x.places.items) ∙ ap (λ b. x.places.items ++ cond b [] (place_of at i ∷ [])) (sym e);
+      places_now = sym (append-nil (places_behind 0 x.parts.items)) ∙ ap (λ b. places_behind 0 x.parts.items ++ cond b [] (place_of at i ∷ [])) (sym e);
     }
 
 -- another one is heard
-pub other_heard : {A E : Type 0} (r : Result A E) (x y z : Trace) (at marks : ℕ) (i : Instruction)
-    → stays_as_is i.op ≡ false → y.memo ≡ x.memo → y.writes ≡ x.writes
-    → y.sources.items ≡ x.sources.items → y.places.items ≡ x.places.items ++ place_of at i ∷ []
-    → OnOk r (NotesStep i y z) → z.places.items ≡ y.places.items
-    → OnOk r (Hears x z (heard at i marks ∷ []))
-other_heard (Ok a) x y z at marks i e memo writes found grown step same = λ ws h.
-    let s = step ws (record { holds = rw memo h.holds; count = writes ∙ h.count }) in
+pub other_heard : {A E : Type 0} (r : Result A E) (x y : Trace) (at marks : ℕ) (i : Instruction)
+    (o : Op) (size n : ℕ) → o ≡ i.op → size ≡ length (spelling i) → n ≡ memo_number i
+    → stays_as_is i.op ≡ false → OnOk r (Marks (place at size o) x y)
+    → OnOk r (NotesStep o n x y) → OnOk r (Hears x y (heard at i marks ∷ []))
+other_heard (Ok a) x y at marks i o size n code long number e placed step = λ ws h ends.
+    let s = (subst (λ n. NotesStep i.op n x y) number (subst (λ o. NotesStep o n x y) code step)) ws h in
+    let p = (subst (λ n. Marks (place at n i.op) x y) long (subst (λ o. Marks (place at size o) x y) code placed)) ends in
     record {
       follows = s.0;
-      sources_now = s.1 ∙ ap (λ (l : List (Option ℕ)). l ++ read_by (effect_of i.op) (memo_number i) ws) found ∙ ap (λ (l : List (Option ℕ)). x.sources.items ++ l) (sym (append-nil (read_by (effect_of i.op) (memo_number i) ws)));
-      places_now = same ∙ grown ∙ ap (λ b. x.places.items ++ cond b [] (place_of at i ∷ [])) (sym e);
+      ends = p.0;
+      sources_now = s.1 ∙ ap (λ (l : List (Option ℕ)). x.sources.items ++ l) (sym (append-nil (read_by (effect_of i.op) (memo_number i) ws)));
+      places_now = p.1 ∙ ap (λ b. places_behind 0 x.parts.items ++ cond b [] (place_of at i ∷ [])) (sym e);
     }
-other_heard (Err a) x y z at marks i e memo writes found grown step same = tt
+other_heard (Err a) x y at marks i o size n code long number e placed step = tt
 
 -- all of a pickle was heard
 heard_told : (before is : List Instruction) (hs : List Heard) → AreHeardBehind before is hs → told hs ≡ is
@@ -59,10 +63,12 @@ heard_places before (i ∷ is) [] h = absurd h
 
 pub heard_tracks : (x y : Trace) (p : List Instruction) (hs : List Heard) → IsNewTrace x → AreHeardBehind [] p hs → Hears x y hs → Tracks p y
 heard_tracks x y p hs first each h =
-    let s = h [] (record { holds = none_remembered x.memo.first x.memo.ordered.items x.memo.rest.entries first.ordered first.rest; count = first.writes }) in
+    let nothing : EndsSo x = first.end ∙ ap (end_behind 0) (sym first.parts) in
+    let s = h [] (record { holds = none_remembered x.memo.first x.memo.ordered.items x.memo.rest.entries first.ordered first.rest; count = first.writes }) nothing in
     let all = heard_told [] p hs each in
     record {
       reads = s.sources_now ∙ ap (λ (l : List (Option ℕ)). l ++ sources [] (told hs)) first.sources ∙ ap (sources []) all;
       writes = s.follows.count ∙ ap (λ q. length (after_all q [])) all;
-      places = s.places_now ∙ ap (λ (l : List Place). l ++ places_told hs) first.places ∙ heard_places [] p hs each;
+      places = s.places_now ∙ ap (λ (l : List Part). places_behind 0 l ++ places_told hs) first.parts ∙ heard_places [] p hs each;
+      ends = sym s.ends;
     }

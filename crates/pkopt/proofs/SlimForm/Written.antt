@@ -1,5 +1,5 @@
 -- The slim form, written instruction by instruction.
-use Rattle.std.proofs.Common.{◌≡◌, ℕ, ◌+◌, ◌<◌, ◌≤◌, replicate, List, [], ◌∷◌, ◌++◌, length, take, drop, get_or, Option, inl, inr, refl, sym, ap, subst, ◌∙◌, arith, append_assoc, append-nil, length-append}
+use Rattle.std.proofs.Common.{◌≡◌, ℕ, ◌+◌, ◌<◌, ◌≤◌, true, false, cond, replicate, List, [], ◌∷◌, ◌++◌, length, take, drop, get_or, Option, inl, inr, refl, sym, ap, subst, ◌∙◌, arith, append_assoc, append-nil, length-append}
 use Rattle.std.specs.Prelude.{◌≢◌}
 use Rattle.std.proofs.Math.ListN.{drop_of_length-le}
 use Rattle.std.proofs.lemmas.List.{drop_more}
@@ -10,11 +10,12 @@ use Rattle.pkcheck.specs.Effects.{effect_of}
 use Rattle.pkopt.specs.declared.fate.Fate.{Fate}
 use Rattle.pkopt.specs.declared.fate.Fate.TheVariants.{IsPast}
 use Rattle.pkopt.specs.declared.fate.Plan.{Plan}
+use Rattle.pkopt.specs.declared.place.Part.{Part}
 use Rattle.pkopt.specs.declared.place.Place.{Place}
 use Rattle.pkopt.specs.declared.slim.Slim.{Slim}
 use Rattle.pkopt.specs.Private.Fates.{fate_by, fate_in, reads_after, writes_after, AddsPlace, Aims, Emits, FailsPlace, IsSlim, StopsSlim, form_up_to, refusal_at}
 use Rattle.pkopt.specs.Private.Passes.{memo_use}
-use Rattle.pkopt.specs.Private.Places.{places_from}
+use Rattle.pkopt.specs.Private.Places.{end_of, place_behind, places_behind, places_from, stays_as_is}
 use Rattle.pkopt.specs.Slim.{left_of, slim_from}
 use Rattle.pkopt.specs.Writers.{Writes, after, sources, new_number, after_all}
 use Rattle.pkopt.specs.Private.Hearing.{after_all-more}
@@ -64,11 +65,30 @@ module _ (bytes : List ℕ) (places : List Place) (taken : ℕ) (room : ℕ) (pl
     ahead_so = aims.places_so;
   }
 
-  pub slimmed_at : (k : ℕ) (d : Place) (out : Slim) → k < length places → Slimmed (drop k places) out → Slimmed (get_or places k d ∷ drop (k + 1) places) out
-  slimmed_at k d out lt h = subst (λ (l : List Place). Slimmed l out) (drop_more places k d lt) h
+  -- the next part
+  slimmed_at : (parts : List Part) (from k : ℕ) (d : Part) (out : Slim) → k < length parts → Slimmed (places_behind from (drop k parts)) out → Slimmed (places_behind from (get_or parts k d ∷ drop (k + 1) parts)) out
+  slimmed_at parts from k d out lt h = subst (λ (l : List Part). Slimmed (places_behind from l) out) (drop_more parts k d lt) h
 
-  pub slimmed_end : (k : ℕ) (out : Slim) → length places ≤ k → Slimmed (drop k places) out → Slimmed [] out
-  slimmed_end k out le h = subst (λ (l : List Place). Slimmed l out) (drop_of_length-le places le) h
+  -- it has an instruction that may change
+  pub slimmed_place : (parts : List Part) (from k : ℕ) (d : Part) (out : Slim) (place : Place) (size : ℕ) → k < length parts → place ≡ place_behind from (get_or parts k d) → size ≡ place.size → stays_as_is place.op ≡ false → Slimmed (places_behind from (drop k parts)) out → Slimmed (place ∷ places_behind (place.at + size) (drop (k + 1) parts)) out
+  slimmed_place parts from k d out place size lt e same changes h =
+      let part = get_or parts k d in
+      let later = drop (k + 1) parts in
+      subst (λ n. Slimmed (place ∷ places_behind (place.at + n) later) out) (sym same)
+      (subst (λ (x : Place). stays_as_is x.op ≡ false → Slimmed (x ∷ places_behind (x.at + x.size) later) out) (sym e)
+      (λ f. subst (λ b. Slimmed (cond b (places_behind (end_of from part) later) (place_behind from part ∷ places_behind (end_of from part) later)) out) f (slimmed_at parts from k d out lt h)) changes)
+
+  -- or it has none
+  pub slimmed_past : (parts : List Part) (from k : ℕ) (d : Part) (out : Slim) (place : Place) (size : ℕ) → k < length parts → place ≡ place_behind from (get_or parts k d) → size ≡ place.size → stays_as_is place.op ≡ true → Slimmed (places_behind from (drop k parts)) out → Slimmed (places_behind (place.at + size) (drop (k + 1) parts)) out
+  slimmed_past parts from k d out place size lt e same plain h =
+      let part = get_or parts k d in
+      let later = drop (k + 1) parts in
+      subst (λ n. Slimmed (places_behind (place.at + n) later) out) (sym same)
+      (subst (λ (x : Place). stays_as_is x.op ≡ true → Slimmed (places_behind (x.at + x.size) later) out) (sym e)
+      (λ f. subst (λ b. Slimmed (cond b (places_behind (end_of from part) later) (place_behind from part ∷ places_behind (end_of from part) later)) out) f (slimmed_at parts from k d out lt h)) plain)
+
+  pub slimmed_end : (parts : List Part) (from k : ℕ) (out : Slim) → length parts ≤ k → Slimmed (places_behind from (drop k parts)) out → Slimmed [] out
+  slimmed_end parts from k out le h = subst (λ (l : List Part). Slimmed (places_behind from l) out) (drop_of_length-le parts le) h
 
   -- the form grows by what these instructions spell
   grown : (form more : List ℕ) (is js : List Instruction) → form ≡ replicate room 0 ++ spellings is → more ≡ spellings js → form ++ more ≡ replicate room 0 ++ spellings (is ++ js)

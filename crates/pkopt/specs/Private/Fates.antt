@@ -95,11 +95,14 @@ pub record AddsPlace (plan : Plan) (bytes : List ℕ) (place : Place) (old new :
   pub from_now : new.from ≤ place.at + place.size
   pub form_now : Emitted (fate_in plan place.op old.writes old.reads) place bytes old new
 
--- the instruction was not processed: an allocation was refused, or its number would be the limit
+-- an instruction with this fate was not processed: an allocation was refused, or its number would
+-- be the limit
+abbrev pub FailsBy : Fate → Reason → Type 0
+FailsBy fate r = (r ≡ reason.OutOfMemory) ⊎ ((r ≡ reason.TooLarge) × (fate ≡ IsPast))
+
+-- the instruction was not processed
 abbrev pub FailsPlace : Plan → Op → Slim → Reason → Type 0
-FailsPlace plan o old r =
-    (r ≡ reason.OutOfMemory)
-    ⊎ ((r ≡ reason.TooLarge) × (fate_in plan o old.writes old.reads ≡ IsPast))
+FailsPlace plan o old r = FailsBy (fate_in plan o old.writes old.reads) r
 
 -- the refusal; a refused allocation is reported at offset 0
 abbrev pub refusal_at : ℕ → Reason → Refusal

@@ -8,7 +8,7 @@ use Rattle.pkcheck.specs.Heard.{Heard}
 use Rattle.pkopt.specs.declared.place.Place.{Place}
 use Rattle.pkopt.specs.declared.trace.Trace.{Trace}
 use Rattle.pkopt.specs.Private.Passes.{FollowsWrites, Hears}
-use Rattle.pkopt.specs.Private.Places.{stays_as_is, place_of, places_told, told}
+use Rattle.pkopt.specs.Private.Places.{stays_as_is, place_of, places_behind, places_told, told}
 use Rattle.pkopt.specs.Writers.{Writes, after, read_by, sources, after_all}
 
 pub after_all-more :
@@ -50,19 +50,20 @@ places_told-more (h ∷ hs) ks =
     (places_told ks)
 
 pub hears_none : (x : Trace) → Hears x x []
-hears_none x = λ ws h. record {
+hears_none x = λ ws h e. record {
   follows = h;
+  ends = e;
   sources_now = sym (append-nil x.sources.items);
-  places_now = sym (append-nil x.places.items);
+  places_now = sym (append-nil (places_behind 0 x.parts.items));
 }
 
 pub hears_more :
     (x y z : Trace) (hs : List Heard) (h : Heard)
     → Hears x y hs → Hears y z (h ∷ []) → Hears x z (hs ++ h ∷ [])
-hears_more x y z hs h f g = λ ws s.
-    let a = f ws s in
+hears_more x y z hs h f g = λ ws s e.
+    let a = f ws s e in
     let behind = after_all (told hs) ws in
-    let b = g behind a.follows in
+    let b = g behind a.follows a.ends in
     let all = told-more hs h in
     let one = h ∷ [] in
     let read = read_at h.instruction behind in
@@ -78,9 +79,11 @@ hears_more x y z hs h f g = λ ws s.
           ∙ append_assoc x.sources.items (sources ws (told hs)) read
           ∙ ap (λ (l : List (Option ℕ)). x.sources.items ++ l)
           (sym (ap (sources ws) all ∙ sources-more (told hs) h.instruction ws));
+      ends = b.ends;
       places_now =
           b.places_now
           ∙ ap (λ (l : List Place). l ++ places_told one) a.places_now
-          ∙ append_assoc x.places.items (places_told hs) (places_told one)
-          ∙ ap (λ (l : List Place). x.places.items ++ l) (sym (places_told-more hs one));
+          ∙ append_assoc (places_behind 0 x.parts.items) (places_told hs) (places_told one)
+          ∙ ap (λ (l : List Place). places_behind 0 x.parts.items ++ l)
+          (sym (places_told-more hs one));
     }

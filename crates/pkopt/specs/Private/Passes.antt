@@ -1,18 +1,18 @@
 -- The state of the two passes over a pickle, and their results.
-use Rattle.std.specs.Prelude.{◌≡◌, ℕ, ◌<◌, Bool, false, cond, min, List, [], ◌++◌, length, Option}
-use Rattle.std.specs.Prelude.{Some, None, slice_index_or}
+use Rattle.std.specs.Prelude.{◌≡◌, ℕ, ◌<◌, Bool, false, cond, min, List, [], ◌∷◌, ◌++◌, length}
+use Rattle.std.specs.Prelude.{Option, Some, None, slice_index_or}
 use Rattle.pkops.specs.declared.Op.{Op}
 use Rattle.pkops.specs.declared.Op.TheVariants as op
 use Rattle.pkops.specs.Spelling.{Instruction}
-use Rattle.pkops.specs.Operands.{memo_number}
 use Rattle.pkcheck.specs.Effects.{effect_of}
 use Rattle.pkcheck.specs.Heard.{Heard}
 use Rattle.pkopt.specs.declared.memo.MemoUse.{MemoUse}
 use Rattle.pkopt.specs.declared.trace.Trace.{Trace}
 use Rattle.pkopt.specs.declared.memo.MemoUse.TheVariants.{Stores, StoresNext, Fetches, Neither}
 use Rattle.pkopt.specs.Private.Memories.{HoldsWrites}
-use Rattle.pkopt.specs.Private.Places.{places_from, places_told, told}
-use Rattle.pkopt.specs.Writers.{Writes, after, read_by, sources, is_read, new_number, after_all}
+use Rattle.pkopt.specs.declared.place.Place.{Place}
+use Rattle.pkopt.specs.Private.Places.{end_behind, places_behind, places_from, places_told, told}
+use Rattle.pkopt.specs.Writers.{Writes, read_by, wrote, sources, is_read, new_number, after_all}
 
 -- how an opcode uses the memo
 abbrev pub memo_use : Op → MemoUse
@@ -31,34 +31,52 @@ pub record IsNewTrace (t : Trace) : Type 0 where
   pub rest : t.memo.rest.entries ≡ []
   pub writes : t.writes ≡ 0
   pub sources : t.sources.items ≡ []
-  pub places : t.places.items ≡ []
+  pub parts : t.parts.items ≡ []
+  pub end : t.end ≡ 0
 
 -- the trace counts these writes, and its memo holds the last of each number
 pub record FollowsWrites (ws : Writes) (t : Trace) : Type 0 where
   pub holds : HoldsWrites ws t.memo
   pub count : t.writes ≡ length ws
 
--- what one more instruction does to the memo was recorded
-abbrev pub NotesStep : Instruction → Trace → Trace → Type 0
-NotesStep i old new = (ws : Writes) → FollowsWrites ws old →
-    FollowsWrites (after i ws) new
-    × (new.sources.items ≡ old.sources.items ++ read_by (effect_of i.op) (memo_number i) ws)
+-- what an instruction of this opcode, which names this number, does to the memo was recorded
+abbrev pub NotesStep : Op → ℕ → Trace → Trace → Type 0
+NotesStep o n old new = (ws : Writes) → FollowsWrites ws old →
+    FollowsWrites (wrote (effect_of o) n ws) new
+    × (new.sources.items ≡ old.sources.items ++ read_by (effect_of o) n ws)
+
+-- the parts end where the trace says
+abbrev pub EndsSo : Trace → Type 0
+EndsSo t = t.end ≡ end_behind 0 t.parts.items
+
+-- no instruction that may change was recorded
+abbrev pub Skips : Trace → Trace → Type 0
+Skips old new = EndsSo old →
+    EndsSo new × (places_behind 0 new.parts.items ≡ places_behind 0 old.parts.items)
+
+-- this place was recorded
+abbrev pub Marks : Place → Trace → Trace → Type 0
+Marks at old new = EndsSo old →
+    EndsSo new × (places_behind 0 new.parts.items ≡ places_behind 0 old.parts.items ++ at ∷ [])
 
 -- all these instructions were heard, after these writes
 pub record HearsBehind (ws : Writes) (old new : Trace) (hs : List Heard) : Type 0 where
   pub follows : FollowsWrites (after_all (told hs) ws) new
   pub sources_now : new.sources.items ≡ old.sources.items ++ sources ws (told hs)
-  pub places_now : new.places.items ≡ old.places.items ++ places_told hs
+  pub ends : EndsSo new
+  pub places_now :
+      places_behind 0 new.parts.items ≡ places_behind 0 old.parts.items ++ places_told hs
 
 abbrev pub Hears : Trace → Trace → List Heard → Type 0
-Hears old new hs = (ws : Writes) → FollowsWrites ws old → HearsBehind ws old new hs
+Hears old new hs = (ws : Writes) → FollowsWrites ws old → EndsSo old → HearsBehind ws old new hs
 
 -- the trace of a whole pickle: the write that each read reads, the number of writes, and the places
 -- of the instructions that may change
 pub record Tracks (p : List Instruction) (t : Trace) : Type 0 where
   pub reads : t.sources.items ≡ sources [] p
   pub writes : t.writes ≡ length (after_all p [])
-  pub places : t.places.items ≡ places_from 0 p
+  pub places : places_behind 0 t.parts.items ≡ places_from 0 p
+  pub ends : end_behind 0 t.parts.items ≡ t.end
 
 -- for each write, whether it is read
 pub record AreKept (vs : List (Option ℕ)) (writes : ℕ) (kept : List Bool) : Type 0 where

@@ -4,6 +4,7 @@ use Rattle.pkops.specs.declared.Op.{Op}
 use Rattle.pkops.specs.declared.Op.TheVariants as op
 use Rattle.pkops.specs.Spelling.{Instruction, spelling}
 use Rattle.pkcheck.specs.Heard.{Heard}
+use Rattle.pkopt.specs.declared.place.Part.{Part}
 use Rattle.pkopt.specs.declared.place.Place.{Place}
 
 -- instructions with this opcode never change: they don't use the memo and aren't FRAME
@@ -18,9 +19,13 @@ stays_as_is op.LongBinGet = false
 stays_as_is op.Frame = false
 stays_as_is o = true
 
+-- a place from its parts
+abbrev pub place : (at size : ℕ) → Op → Place
+place at size op = record { at = at; size = size; op = op }
+
 -- the place of an instruction at this offset
 abbrev pub place_of : ℕ → Instruction → Place
-place_of at i = record { at = at; size = length (spelling i); op = i.op }
+place_of at i = place at (length (spelling i)) i.op
 
 -- the places of the instructions that may change, if the first instruction is at this offset
 abbrev pub places_from : ℕ → List Instruction → List Place
@@ -40,3 +45,23 @@ places_told [] = []
 places_told (h ∷ hs) =
     cond (stays_as_is h.instruction.op) (places_told hs)
     (place_of h.at h.instruction ∷ places_told hs)
+
+-- the offset behind a part that begins at this offset
+abbrev pub end_of : ℕ → Part → ℕ
+end_of from part = from + part.gap + part.size
+
+-- the place of its instruction
+abbrev pub place_behind : ℕ → Part → Place
+place_behind from part = place (from + part.gap) part.size part.op
+
+-- the offset behind parts that begin at this offset
+abbrev pub end_behind : ℕ → List Part → ℕ
+end_behind from [] = from
+end_behind from (part ∷ parts) = end_behind (end_of from part) parts
+
+-- the places of their instructions that may change
+abbrev pub places_behind : ℕ → List Part → List Place
+places_behind from [] = []
+places_behind from (part ∷ parts) =
+    cond (stays_as_is part.op) (places_behind (end_of from part) parts)
+    (place_behind from part ∷ places_behind (end_of from part) parts)

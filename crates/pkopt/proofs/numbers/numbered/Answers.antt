@@ -1,11 +1,11 @@
-use Rattle.std.proofs.Common.{arith, sym, ap, length, length-append, ◌+◌, ◌∷◌, []}
+use Rattle.std.proofs.Common.{arith, sym, ap, length, length-append, ◌+◌, ◌∷◌, ◌++◌, ◌∙◌, [], ℕ, Option}
 use Rattle.pkopt.proofs.MemoWrites.WritesKept.{numbers_on, after_within}
 use Rattle.pkopt.proofs.numbers.numbered.Goals as goal
 
 pub loop-stays-preserved : goal.loop-stays-preserved
 loop-stays-preserved c =
     let i = c.loop-stays.invariant in
-    let grown = c.in_ok-push.ensures.items in
+    let grown = c.in_ok-push.ensures.items ∙ ap (λ (x : Option ℕ). c.loop-stays.numbers.items ++ x ∷ []) c.in_ok-number.ensures in
     let more = ap length grown in
     let parts = length-append c.loop-stays.numbers.items (c.number_if.result ∷ []) in
     let count = i.count in
