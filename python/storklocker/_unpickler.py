@@ -34,16 +34,20 @@ def loads_renaming(data: bytes, **named: Any) -> Any:
     return _Renaming(io.BytesIO(data), **named).load()
 
 
+PEEKED = 4096  # the bytes that are shown ahead where the end of the pickle isn't known
+
+
 class _Feed(io.BytesIO):
     """The file of the superclass: bytes that were accepted. `end` is the end of the pickle, if
-    known.
+    known. The superclass takes nothing after its STOP, however much it is shown.
     """
 
     end = 0
 
     def peek(self, count: int = 0, /) -> bytes:
         at = self.tell()
-        return self.getvalue()[at : min(at + count, self.end)] if at < self.end else b""
+        end = self.end if at < self.end else at + PEEKED
+        return self.getvalue()[at : min(at + count, end)]
 
 
 class GuardedUnpickler(pickle.Unpickler):
