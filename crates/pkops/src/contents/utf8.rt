@@ -6,13 +6,14 @@ ghost use Rattle.std.specs.Str.{IsUtf8};
 /// The length from which on `simdutf8` is faster than `std`.
 const LONG: usize = 40;
 
-/// Whether the bytes are UTF-8.
+/// Whether the bytes are UTF-8. Long ones are checked without byte shuffles, because the shipped
+/// libraries also run on processors that lack them.
 #[inline]
 pub fn is_utf8(bytes: &[u8]) -> bool
     ensures { MatchBool result (IsUtf8 bytes.now) (¬ (IsUtf8 bytes.now)) }
 {
     if bytes.len() >= LONG {
-        return simdutf8::is_utf8(bytes);
+        return simdutf8::is_utf8_baseline(bytes);
     }
     match str::from_utf8(bytes) {
         Ok(_) => true,
