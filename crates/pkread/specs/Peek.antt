@@ -1,6 +1,7 @@
 -- What `peek` shows of the next instruction, and what `advance` does with it.
 use Rattle.std.specs.Prelude.{◌≡◌, ℕ, ◌+◌, ◌≤◌, length, max}
 use Rattle.pkops.specs.Payloads.{payload_limit}
+use Rattle.pkops.specs.Scanning.{longest}
 use Rattle.pkops.specs.Spelling.{Instruction, spelling}
 use Rattle.pkread.specs.Admission.{IsAllowedBy}
 use Rattle.pkread.specs.Core.{Open, phase_after}
@@ -20,7 +21,7 @@ pub record IsNext (s : ReaderState) (count : ℕ) (i : Instruction) : Type 0 whe
   pub begins : BeginsWith s.source.left (spelling i)
   pub at_hand : length (spelling i) ≤ count
   pub within : s.taken + length (spelling i) ≤ all_bytes
-  pub few : length (spelling i) ≤ 131_075
+  pub few : length (spelling i) ≤ longest s.limits.counted
 
 -- its bytes are taken
 pub record PassesOver (old : ReaderState) (i : Instruction) (new : ReaderState) : Type 0 where

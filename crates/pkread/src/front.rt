@@ -1,8 +1,9 @@
 //! The instruction at the front of the bytes that a source has at hand.
 
-ghost use Rattle.std.specs.Prelude.{◌≡◌, ◌≢◌, ◌<◌, ◌+◌, ◌∷◌, ◌++◌, ◌==◌, ℕ, IfSome, List, false};
-ghost use Rattle.std.specs.Prelude.{length, position, slice_index, true};
+ghost use Rattle.std.specs.Prelude.{◌≡◌, ◌≢◌, ◌<◌, ◌≤◌, ◌⊎◌, ◌+◌, ◌∷◌, ◌++◌, ◌==◌, ℕ, IfSome};
+ghost use Rattle.std.specs.Prelude.{List, false, length, position, slice_index, true};
 ghost use Rattle.std.specs.Str.{IsUtf8};
+ghost use Rattle.pkops.specs.Limits.{Bounds};
 ghost use Rattle.pkops.specs.Lying.{Lies};
 ghost use Rattle.pkops.specs.Payloads.{payload_limit};
 ghost use Rattle.pkops.specs.Spelling.{Argument, IsLine, layout_at, line_feed, size_of};
@@ -25,7 +26,7 @@ const SHORT_BYTES: u8 = 0x43;
 /// The most bytes that are searched for the ends of lines.
 const LINES: usize = 257;
 
-/// The most bytes of an instruction that is lent. A buffer may hold as many whatever the limits.
+/// The most bytes that a buffer may hold whatever the limits.
 const MOST: usize = 131_075;
 
 /// An instruction at the front of some bytes. `split` is the length of the first of two lines,
@@ -86,8 +87,8 @@ fn length_of(code: u8) -> u8
 /// bytes. Never STOP, which ends a pickle, nor FRAME.
 #[inline(always)]
 pub(crate) fn front_of(bytes: &[u8], limits: &Limits) -> Option<Front>
-    ensures { IfSome result (λ front. IsFront (payload_limit limits.now front.op)
-        front.op front.split front.length bytes.now) }
+    ensures { IfSome result (λ front. IsFront limits.now front.op front.split front.length
+        bytes.now) }
 {
     growth();
     if bytes.len() == 0 {
@@ -117,8 +118,8 @@ pub(crate) fn front_of(bytes: &[u8], limits: &Limits) -> Option<Front>
 fn varying_front(code: u8, bytes: &[u8], limits: &Limits) -> Option<Front>
     requires some { 0 < length bytes.now }
     requires code { code ≡ slice_index bytes.now 0 }
-    ensures { IfSome result (λ front. IsFront (payload_limit limits.now front.op)
-        front.op front.split front.length bytes.now) }
+    ensures { IfSome result (λ front. IsFront limits.now front.op front.split front.length
+        bytes.now) }
 {
     let length = varying_length(code, bytes, limits);
     if length == 0 {
@@ -139,20 +140,20 @@ fn varying_length(code: u8, bytes: &[u8], limits: &Limits) -> usize
     requires some { 0 < length bytes.now }
     requires code { code ≡ slice_index bytes.now 0 }
     ensures { (op : SpecOp) → code_of op ≡ code → result ≢ 0
-        → IsInFront (payload_limit limits.now op) op result bytes.now }
+        → IsInFront limits.now op result bytes.now }
 {
     one_code();
     if code == SHORT_TEXT {
-        return counted_length(Op::ShortBinUnicode, Width::One, bytes, limits.counted());
+        return counted_length(Op::ShortBinUnicode, Width::One, bytes, limits);
     }
     if code == SHORT_BYTES {
-        return counted_length(Op::ShortBinBytes, Width::One, bytes, limits.passed());
+        return counted_length(Op::ShortBinBytes, Width::One, bytes, limits);
     }
     let Some(op) = op_of_byte(code) else {
         return 0;
     };
     match layout_of_op(op) {
-        Layout::Counted(width, false) => counted_length(op, width, bytes, limit_of(op, limits)),
+        Layout::Counted(width, false) => counted_length(op, width, bytes, limits),
         Layout::Line(most) => line_length(op, most, bytes),
         Layout::Pair(most) => pair_length(op, most, bytes),
         _ => 0,
@@ -160,6 +161,7 @@ fn varying_length(code: u8, bytes: &[u8], limits: &Limits) -> usize
 }
 
 /// The limit on the payload of an opcode.
+#[inline(always)]
 fn limit_of(op: Op, limits: &Limits) -> u64
     ensures { result ≡ payload_limit limits.now op }
 {
@@ -173,11 +175,11 @@ fn limit_of(op: Op, limits: &Limits) -> u64
 /// The number of bytes of the instruction with a payload that the bytes begin with, or 0 if they
 /// don't hold all of it, or it is not good or too long.
 #[inline(always)]
-fn counted_length(op: Op, width: Width, bytes: &[u8], limit: u64) -> usize
+fn counted_length(op: Op, width: Width, bytes: &[u8], limits: &Limits) -> usize
     requires some { 0 < length bytes.now }
     requires code { code_of op ≡ slice_index bytes.now 0 }
     requires lay { layout_at op ≡ layout.Counted width false }
-    ensures { result ≢ 0 → IsInFront limit op result bytes.now }
+    ensures { result ≢ 0 → IsInFront limits.now op result bytes.now }
 {
     growth();
     let head = head_length(width);
@@ -185,14 +187,22 @@ fn counted_length(op: Op, width: Width, bytes: &[u8], limit: u64) -> usize
         return 0;
     }
     let count = count_behind(width, bytes);
-    if count > limit || ((bytes.len() - head) as u64) < count {
+    if count > limit_of(op, limits) || ((bytes.len() - head) as u64) < count {
         return 0;
     }
     let length = head + count as usize;
-    if length > MOST || !takes_payload(op, &bytes[head..length]) {
+    if !fits_buffer(length, count, limits) || !takes_payload(op, &bytes[head..length]) {
         return 0;
     }
     length
+}
+
+/// Whether a buffer may hold an instruction of this length with a payload of `count` bytes.
+#[inline(always)]
+fn fits_buffer(length: usize, count: u64, limits: &Limits) -> bool
+    ensures { result ≡ true → (count ≤ limits.now.counted) ⊎ (length ≤ 131_075) }
+{
+    length <= MOST || count <= limits.counted()
 }
 
 /// The number of bytes in front of a payload: the code and the count.
@@ -220,7 +230,7 @@ fn line_length(op: Op, most: usize, bytes: &[u8]) -> usize
     requires some { 0 < length bytes.now }
     requires code { code_of op ≡ slice_index bytes.now 0 }
     requires lay { layout_at op ≡ layout.Line most }
-    ensures { (limit : ℕ) → result ≢ 0 → IsInFront limit op result bytes.now }
+    ensures { (limits : Bounds) → result ≢ 0 → IsInFront limits op result bytes.now }
 {
     let line = &bytes[1..bytes.len().min(LINES)];
     let Some(end) = end_of_line(line) else {
@@ -237,7 +247,7 @@ fn pair_length(op: Op, most: usize, bytes: &[u8]) -> usize
     requires some { 0 < length bytes.now }
     requires code { code_of op ≡ slice_index bytes.now 0 }
     requires lay { layout_at op ≡ layout.Pair most }
-    ensures { (limit : ℕ) → result ≢ 0 → IsInFront limit op result bytes.now }
+    ensures { (limits : Bounds) → result ≢ 0 → IsInFront limits op result bytes.now }
 {
     let lines = &bytes[1..bytes.len().min(LINES)];
     let Some(first) = end_of_line(lines) else {

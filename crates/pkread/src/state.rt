@@ -145,7 +145,7 @@ impl Core {
         requires open { self.old.phase ≡ phase.Open }
         requires none { self.old.ahead ≡ [] }
         requires within { self.old.taken + count ≤ all_bytes }
-        requires few { count ≤ 131_075 }
+        requires few { count ≤ longest self.old.limits.counted }
         ensures { self.new ≡ record self.old {
           held = record self.old.held { peak = max self.old.held.peak count };
           taken = self.old.taken + count;

@@ -1,9 +1,10 @@
 -- The instruction at the front of the bytes that a source has at hand.
-use Rattle.std.proofs.Common.{◌≡◌, ℕ, suc, zero, ◌+◌, ◌-◌, ◌*◌, ◌<◌, ◌≤◌, Bool, false, true, List, [], ◌∷◌, ◌++◌, length, take, drop, get_or, Option, None, Some, refl, sym, ap, subst, ◌∙◌, arith, append_assoc, length-append}
+use Rattle.std.proofs.Common.{◌≡◌, ◌⊎◌, inl, inr, ℕ, suc, zero, ◌+◌, ◌-◌, ◌*◌, ◌<◌, ◌≤◌, Bool, false, true, List, [], ◌∷◌, ◌++◌, length, take, drop, get_or, Option, None, Some, refl, sym, ap, subst, ◌∙◌, arith, append_assoc, length-append}
 use Rattle.std.specs.Prelude.{◌≢◌, ◌==◌, position, slice_index}
 use Rattle.std.specs.List.{AllByRecursion, position_or_len}
 use Rattle.std.specs.Io.KnownBytes.{Consumes}
 use Rattle.std.specs.Str.{IsUtf8}
+use Rattle.std.proofs.Math.Nat.{le-max_left, le-max_right}
 use Rattle.std.proofs.Math.Seq.{take-add}
 use Rattle.std.proofs.lemmas.List.{get_or-take, length-drop, length-take, take-append-drop, take-append-le, take-take, take_all, take_at, take_more}
 use Rattle.std.proofs.lemmas.List.Quantifiers.{position-Some}
@@ -12,7 +13,10 @@ use Rattle.byteorder.specs.Endian.{little_from}
 use Rattle.byteorder.specs.Numbers.{little_from-lt}
 use Rattle.pkops.specs.Contents.{IsGood, Keeps, rule_of}
 use Rattle.pkops.specs.Growth.{CountLaws, FieldLaws}
+use Rattle.pkops.specs.Limits.{Bounds}
 use Rattle.pkops.specs.Lying.{AreBytes, Lies, count_in, field_len}
+use Rattle.pkops.specs.Payloads.{payload_limit}
+use Rattle.pkops.specs.Scanning.{longest}
 use Rattle.pkops.specs.Spelling.{Argument, Counted, Float, IsLine, Line, Nothing, Number, Pair, Signed, Suits, count_limit, instruction, layout_at, line_feed, size_of}
 use Rattle.pkops.specs.Table.{code_of}
 use Rattle.pkops.specs.declared.Layout.{Layout}
@@ -74,12 +78,25 @@ field_few (layout.Counted width.One signed) = omega arith
 field_few (layout.Counted width.Four signed) = omega arith
 field_few (layout.Counted width.Eight signed) = omega arith
 
+-- a buffer may hold as many bytes whatever the limits
+pub is_few : (counted n : ℕ) → n ≤ 131_075 → n ≤ longest counted
+is_few counted n few = let most = le-max_right (counted + 9) 131_075 in omega (arith, most, few)
+
+-- an instruction with a payload is not longer than a buffer may hold
+pub counted_few : (counted count n : ℕ) (size : Width) → n ≡ size_of size + 1 + count →
+    (count ≤ counted) ⊎ (n ≤ 131_075) → n ≤ longest counted
+counted_few counted count n size is (inl few) =
+    let head = field_few (layout.Counted size false) in
+    let most = le-max_left (counted + 9) 131_075 in omega (arith, is, head, most, few)
+counted_few counted count n size is (inr few) = is_few counted n few
+
 -- an opcode with an argument of fixed length, of which all are good
-pub fixed_front : FieldLaws → (limit n : ℕ) (o : Op) (bytes : List ℕ) → HasFixedLength o n →
-    AreAllBytes bytes → n ≤ length bytes → code_of o ≡ get_or bytes 0 0 →
-    IsFront limit o 0 n bytes
-fixed_front fields limit n o [] h fits room code = absurd (omega (arith, room, h.length_is))
-fixed_front fields limit n o (x ∷ rest) h fits room code =
+pub fixed_front : FieldLaws → (limits : Bounds) (n : ℕ) (o : Op) (bytes : List ℕ) →
+    HasFixedLength o n → AreAllBytes bytes → n ≤ length bytes → code_of o ≡ get_or bytes 0 0 →
+    IsFront limits o 0 n bytes
+fixed_front fields limits n o [] h fits room code = absurd (omega (arith, room, h.length_is))
+fixed_front fields limits n o (x ∷ rest) h fits room code =
+    let limit = payload_limit limits o in
     let size = field_len (layout_at o) in
     let few = field_few (layout_at o) in
     let behind : AreAllBytes rest = λ i. fits (suc i) in
@@ -99,7 +116,7 @@ fixed_front fields limit n o (x ∷ rest) h fits room code =
         admitted = any.admitted whole.0;
       };
       role = h.role;
-      few = omega (arith, is, few);
+      few = is_few limits.counted n (omega (arith, is, few));
       within = room;
     }
 
@@ -137,15 +154,17 @@ payload_keeps o size payload true lay e good = rw (any_rule o e) tt
 payload_keeps o size payload false lay e good = rw (text_rule o size false lay e) (good e)
 
 -- a payload that is good and within the limit
-pub counted_front : CountLaws → (limit n : ℕ) (o : Op) (size : Width) (bytes : List ℕ) →
+pub counted_front : CountLaws → (limits : Bounds) (n : ℕ) (o : Op) (size : Width) (bytes : List ℕ) →
     layout_at o ≡ layout.Counted size false → AreAllBytes bytes → code_of o ≡ get_or bytes 0 0 →
-    size_of size + 1 ≤ length bytes → count_in size (drop 1 bytes) ≤ limit →
-    n ≡ size_of size + 1 + count_in size (drop 1 bytes) → n ≤ length bytes → n ≤ 131_075 →
+    size_of size + 1 ≤ length bytes → count_in size (drop 1 bytes) ≤ payload_limit limits o →
+    n ≡ size_of size + 1 + count_in size (drop 1 bytes) → n ≤ length bytes →
+    n ≤ longest limits.counted →
     (is_plain o ≡ false → IsUtf8 (take (n - (size_of size + 1)) (drop (size_of size + 1) bytes))) →
-    IsInFront limit o n bytes
-counted_front counts limit n o size [] lay fits code head within is room few good =
+    IsInFront limits o n bytes
+counted_front counts limits n o size [] lay fits code head within is room few good =
     absurd (omega (arith, head))
-counted_front counts limit n o size (x ∷ rest) lay fits code head within is room few good =
+counted_front counts limits n o size (x ∷ rest) lay fits code head within is room few good =
+    let limit = payload_limit limits o in
     let k = size_of size in
     let count = count_in size rest in
     let field = take k rest in
@@ -237,9 +256,9 @@ module _ (o : Op) (most end : ℕ) (line : List ℕ) (lay : layout_at o ≡ layo
   front_suits = rw lay (is_line most end line found short)
 
   line_at : (x count : ℕ) (rest : List ℕ) → code_of o ≡ x → line ≡ take count rest →
-      count ≤ 256 → IsGood (instruction o (Line (take end line))) → (limit : ℕ) →
-      IsInFront limit o (end + 2) (x ∷ rest)
-  line_at x count rest code is few good limit =
+      count ≤ 256 → IsGood (instruction o (Line (take end line))) → (limits : Bounds) →
+      IsInFront limits o (end + 2) (x ∷ rest)
+  line_at x count rest code is few good limits =
       let whole = line_whole most end line found short count rest is in
       let low = whole.1 in
       let high = whole.2 in
@@ -259,18 +278,18 @@ module _ (o : Op) (most end : ℕ) (line : List ℕ) (lay : layout_at o ≡ layo
             admitted = line_admitted o most (Line (take end line)) lay;
           };
           role = line_role o most lay;
-          few = omega (arith, low, few);
+          few = is_few limits.counted (end + 2) (omega (arith, low, few));
           within = omega (arith, high);
         },
       )
 
   pub line_front : (count : ℕ) (bytes : List ℕ) → 0 < length bytes →
       code_of o ≡ get_or bytes 0 0 → line ≡ take count (drop 1 bytes) → count ≤ 256 →
-      IsGood (instruction o (Line (take end line))) → (limit : ℕ) →
-      IsInFront limit o (end + 2) bytes
-  line_front count [] some code is few good limit = absurd (omega (arith, some))
-  line_front count (x ∷ rest) some code is few good limit =
-      line_at x count rest code is few good limit
+      IsGood (instruction o (Line (take end line))) → (limits : Bounds) →
+      IsInFront limits o (end + 2) bytes
+  line_front count [] some code is few good limits = absurd (omega (arith, some))
+  line_front count (x ∷ rest) some code is few good limits =
+      line_at x count rest code is few good limits
 
 -- two lines that end in the bytes behind the code
 module _ (o : Op) (most first second : ℕ) (lines behind : List ℕ)
@@ -284,9 +303,9 @@ module _ (o : Op) (most first second : ℕ) (lines behind : List ℕ)
 
   pair_at : (x count more : ℕ) (rest : List ℕ) → code_of o ≡ x → lines ≡ take count rest →
       behind ≡ take more (drop (first + 1) lines) → count ≤ 256 →
-      IsGood (instruction o (Pair (take first lines) (take second behind))) → (limit : ℕ) →
-      IsInFront limit o (first + second + 3) (x ∷ rest)
-  pair_at x count more rest code is is' few good limit =
+      IsGood (instruction o (Pair (take first lines) (take second behind))) → (limits : Bounds) →
+      IsInFront limits o (first + second + 3) (x ∷ rest)
+  pair_at x count more rest code is is' few good limits =
       let one = line_whole most first lines found short count rest is in
       let two = line_whole most second behind found' short' more (drop (first + 1) lines) is' in
       let low = two.2 in
@@ -323,7 +342,8 @@ module _ (o : Op) (most first second : ℕ) (lines behind : List ℕ)
             admitted = pair_admitted o most (Pair (take first lines) (take second behind)) lay;
           };
           role = pair_role o most lay;
-          few = omega (arith, both, long, length-take count rest, few);
+          few = is_few limits.counted (first + second + 3)
+              (omega (arith, both, long, length-take count rest, few));
           within = omega (arith, both, long, length-take count rest);
         },
       )
@@ -331,11 +351,11 @@ module _ (o : Op) (most first second : ℕ) (lines behind : List ℕ)
   pub pair_front : (count more : ℕ) (bytes : List ℕ) → 0 < length bytes →
       code_of o ≡ get_or bytes 0 0 → lines ≡ take count (drop 1 bytes) →
       behind ≡ take more (drop (first + 1) lines) → count ≤ 256 →
-      IsGood (instruction o (Pair (take first lines) (take second behind))) → (limit : ℕ) →
-      IsInFront limit o (first + second + 3) bytes
-  pair_front count more [] some code is is' few good limit = absurd (omega (arith, some))
-  pair_front count more (x ∷ rest) some code is is' few good limit =
-      pair_at x count more rest code is is' few good limit
+      IsGood (instruction o (Pair (take first lines) (take second behind))) → (limits : Bounds) →
+      IsInFront limits o (first + second + 3) bytes
+  pair_front count more [] some code is is' few good limits = absurd (omega (arith, some))
+  pair_front count more (x ∷ rest) some code is is' few good limits =
+      pair_at x count more rest code is is' few good limits
 
 -- a line in front of its line feed is found
 feed_at : (line behind : List ℕ) → AllByRecursion (λ byte. byte ≢ line_feed) line →

@@ -41,7 +41,7 @@ goes_on _ e = refl
 
 -- an instruction at the front of the bytes at hand is next
 pub is_next : (s : ReaderState) (count split n : ℕ) (o : Op) (bytes : List ℕ) (j : Instruction)
-    (f : IsFront (payload_limit s.limits o) o split n bytes) → j ≡ instruction o f.found.arg →
+    (f : IsFront s.limits o split n bytes) → j ≡ instruction o f.found.arg →
     s.phase ≡ Open → BeginsWith s.source.left bytes →
     length bytes ≤ count → s.taken + n ≤ all_bytes → IsNext s count j
 is_next s count split n o bytes j f same open' begins at_hand within =

@@ -4,8 +4,10 @@ use Rattle.std.specs.Prelude.{None, Result, MatchResult, take, true}
 use Rattle.std.specs.List.{AllByRecursion}
 use Rattle.std.specs.Io.KnownBytes.{IsAtEnd}
 use Rattle.pkops.specs.Contents.{IsGood}
+use Rattle.pkops.specs.Limits.{Bounds}
 use Rattle.pkops.specs.Lying.{IsFixed, Lies, count_in, field_len}
-use Rattle.pkops.specs.Scanning.{Begun}
+use Rattle.pkops.specs.Payloads.{payload_limit}
+use Rattle.pkops.specs.Scanning.{Begun, longest}
 use Rattle.pkops.specs.Spelling.{Argument, IsLine, count_limit, instruction, layout_at}
 use Rattle.pkops.specs.Spelling.{line_feed, size_of}
 use Rattle.pkops.specs.Table.{code_of}
@@ -112,17 +114,17 @@ pub record HasFixedLength (op : Op) (n : ℕ) : Type 0 where
   pub plain : is_plain op ≡ true
   pub role : role_of op 0 ≡ other
 
--- the first n bytes are an instruction of this opcode, which is neither STOP nor FRAME and short
--- enough for any buffer
-pub record IsFront (limit : ℕ) (op : Op) (split n : ℕ) (bytes : List ℕ) : Type 0 where
-  pub found : IsFound limit (take n bytes) op split
+-- the first n bytes are an instruction of this opcode, which is neither STOP nor FRAME, within the
+-- limits and short enough for a buffer
+pub record IsFront (limits : Bounds) (op : Op) (split n : ℕ) (bytes : List ℕ) : Type 0 where
+  pub found : IsFound (payload_limit limits op) (take n bytes) op split
   pub role : role_of op 0 ≡ other
-  pub few : n ≤ 131_075
+  pub few : n ≤ longest limits.counted
   pub within : n ≤ length bytes
 
 -- like IsFront, wherever its first line ends
-abbrev pub IsInFront : ℕ → Op → ℕ → List ℕ → Type 0
-IsInFront limit op n bytes = (split : ℕ) × IsFront limit op split n bytes
+abbrev pub IsInFront : Bounds → Op → ℕ → List ℕ → Type 0
+IsInFront limits op n bytes = (split : ℕ) × IsFront limits op split n bytes
 
 -- takes a line, or says why not
 abbrev pub TakesLine : {A : Type 0} → ℕ → Result A Reason → Intake → Intake → Type 0
