@@ -124,8 +124,12 @@ impl<T: Copy + Drop> Pile<T> {
 /// The number of entries of the first allocation. A short pickle needs no second one.
 const FIRST: usize = 64;
 
-/// Lengthens a store by its own length, but by at least 4 and at most 64 entries. The new entry is
-/// not a parameter: the compiler would then keep it in memory even on the path without the call.
+/// The number of entries by which a store is lengthened: so few that a short pickle fills little,
+/// and so many that a long one seldom calls.
+const STEP: usize = 32;
+
+/// Lengthens a store. The new entry is not a parameter: the compiler would then keep it in memory
+/// even on the path without the call.
 #[inline(never)]
 fn lengthen<T: Copy + Drop>(store: &mut Vec<T>, filler: T) -> Result<(), AllocError>
     ensures ok { OnOk result (length store.old.items < length store.new.items) }
@@ -136,5 +140,5 @@ fn lengthen<T: Copy + Drop>(store: &mut Vec<T>, filler: T) -> Result<(), AllocEr
     if len == 0 {
         store.reserve(FIRST)?;
     }
-    store.resize(len + len.max(4).min(64), filler)
+    store.resize(len + STEP, filler)
 }
