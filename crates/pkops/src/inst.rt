@@ -15,7 +15,7 @@ use crate::arg::Arg;
 use crate::contents::{Rule, keeps, numeral};
 use crate::form::Form;
 use crate::layout::{Layout, is_count};
-use crate::lending::{argument_apart, is_bool_behind, memo_number_behind};
+use crate::lending::{argument_lent, is_bool_behind, memo_number_behind};
 use crate::op::Op;
 use crate::table::kind;
 
@@ -114,7 +114,7 @@ impl<'a> Inst<'a> {
     {
         match self.form {
             Form::Made(arg) => arg,
-            Form::Spelled(split, bytes) => argument_apart(self.op, split, bytes),
+            Form::Spelled(split, bytes) => argument_lent(self.op, split, bytes),
         }
     }
 

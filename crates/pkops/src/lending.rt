@@ -42,9 +42,22 @@ pub fn argument_of<'a>(op: Op, split: usize, bytes: &'a [u8]) -> Arg<'a>
     }
 }
 
-/// `argument_of` out of line, for large callers.
+/// `argument_of` for large callers: out of line, but for short texts, the most frequent of them.
+#[inline(always)]
+pub fn argument_lent<'a>(op: Op, split: usize, bytes: &'a [u8]) -> Arg<'a>
+    requires { (limit : ℕ) × (arg : Argument) × Lies limit op arg split bytes.now }
+    ensures { (limit : ℕ) (arg : Argument) →
+        Lies limit op arg split bytes.now → shown_arg result ≡ arg }
+{
+    match op {
+        Op::ShortBinUnicode => Arg::Counted(behind(2, bytes)),
+        _ => argument_apart(op, split, bytes),
+    }
+}
+
+/// `argument_of` out of line.
 #[inline(never)]
-pub fn argument_apart<'a>(op: Op, split: usize, bytes: &'a [u8]) -> Arg<'a>
+fn argument_apart<'a>(op: Op, split: usize, bytes: &'a [u8]) -> Arg<'a>
     requires { (limit : ℕ) × (arg : Argument) × Lies limit op arg split bytes.now }
     ensures { (limit : ℕ) (arg : Argument) →
         Lies limit op arg split bytes.now → shown_arg result ≡ arg }

@@ -3,8 +3,13 @@
 ghost use Rattle.std.specs.Prelude.{MatchBool};
 ghost use Rattle.std.specs.Str.{IsUtf8};
 
+use crate::contents::name::is_ascii;
+
 /// The length from which on `simdutf8` is faster than `std`.
 const LONG: usize = 40;
+
+/// The length up to which ASCII is found fastest byte by byte.
+const SHORT: usize = 16;
 
 /// Whether the bytes are UTF-8. Long ones are checked without byte shuffles, because the shipped
 /// libraries also run on processors that lack them.
@@ -14,6 +19,9 @@ pub fn is_utf8(bytes: &[u8]) -> bool
 {
     if bytes.len() >= LONG {
         return simdutf8::is_utf8_baseline(bytes);
+    }
+    if bytes.len() <= SHORT && is_ascii(bytes) {
+        return true;
     }
     match str::from_utf8(bytes) {
         Ok(_) => true,
