@@ -230,6 +230,10 @@ module _ (ts : List (List ℕ)) (t : List ℕ) (es : List (Entry Value)) (h : Se
 pub same_table : (ts : List (List ℕ)) → HasMoreTexts ts ts
 same_table ts = record { more = []; is = sym (append-nil ts) }
 
+pub table_kept : {A E : Type 0} (x : Result A E) (ts us : List (List ℕ)) → us ≡ ts → OnOk x (HasMoreTexts ts us)
+table_kept (Ok a) ts us e = record { more = []; is = e ∙ sym (append-nil ts) }
+table_kept (Err e) ts us h = tt
+
 -- ---- an object on top
 
 pub given_seen : (ts : List (List ℕ)) (v : Value) (o : Option Known) (es : List (Entry Value)) → StandsIf ts (Some v) o → seen ts (Item v ∷ es) ≡ put o [] ++ seen ts es

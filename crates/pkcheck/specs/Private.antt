@@ -11,3 +11,5 @@ pub mod Judging
 pub mod ListIndex
 pub mod NextPickle
 pub mod Replacing
+pub mod Advancing
+pub mod Importing

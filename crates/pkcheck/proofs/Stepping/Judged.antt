@@ -112,6 +112,20 @@ may_name NoName i ks a e = cc
 may_name OfArgument i ks a e = tt
 may_name OfOperands i ks a e = tt
 
+none_asked : (b : Bool) (r : Refusal) (a : Asked) → cond b (Err r) (Ok None) ≡ Ok (Some a) → ⊥
+none_asked true r a e = cc
+none_asked false r a e = cc
+
+-- an operation that has an import may list it
+pub judged_name : (p : Policy) (names : Names) (gives : Gives) (i : Instruction) (ks : List Known)
+    (us : List (List ℕ)) (n : Option Named) → IsSome n
+    → judged p names gives i ks ≡ Ok (option_map (named_asked us) n) → MayName names
+judged_name p NoName gives i ks us (Some n) s e =
+    absurd (none_asked (wrong_receiver gives ks) WrongClass (named_asked us n) e)
+judged_name p NoName gives i ks us None s e = cc
+judged_name p OfArgument gives i ks us n s e = tt
+judged_name p OfOperands gives i ks us n s e = tt
+
 pub within_denied : (x : Result Progress Refusal) (l : Bounds) (n : ℕ) (d : Denial) → IsDenied x d → IsDenied (and_then x (within l n)) d
 within_denied x l n d (f, e, g, h) = (f, rw e refl, g, h)
 

@@ -1,15 +1,16 @@
 -- What an operation that imports nothing does to the stack. It doesn't depend on the texts or the
 -- memo.
-use Rattle.std.specs.Prelude.{ℕ, ◌≡◌, ◌≤◌, ◌⊎◌, IfErr, List, None, OnErr, OnOk, Result, false}
+use Rattle.std.specs.Prelude.{ℕ, ◌≡◌, ◌≤◌, IfErr, List, None, OnErr, OnOk, Result, false}
 use Rattle.std.specs.Prelude.{length}
 use Rattle.pkcheck.specs.declared.machine.value.Value.{Value}
-use Rattle.pkcheck.specs.Effects.{Effect, number_stored}
+use Rattle.pkcheck.specs.Effects.{Effect}
 use Rattle.pkread.specs.declared.Reason.{Reason}
 use Rattle.pkops.specs.Spelling.{Instruction}
 use Rattle.pkops.specs.Limits.{Bounds}
-use Rattle.pkcheck.specs.Shape.{Entry, and_then}
-use Rattle.pkcheck.specs.Knowledge.{Asked, Known, Policy, learn, within}
-use Rattle.pkcheck.specs.Private.Denials.{IsDenied, IsForMemory, MayWantMemory, Proceeds}
+use Rattle.pkcheck.specs.Shape.{Entry}
+use Rattle.pkcheck.specs.Knowledge.{Asked, Known, Policy, learn}
+use Rattle.pkcheck.specs.Private.Advancing.{IsStepFault}
+use Rattle.pkcheck.specs.Private.Denials.{Proceeds}
 use Rattle.pkcheck.specs.Private.Slots.{Sees, seen}
 
 -- the effect turns the old entries into the new, and lists no import
@@ -32,10 +33,7 @@ IsReplaceFault limits e old r =
     (ts : List (List ℕ))
     → Sees ts old (seen ts old)
     → (p : Policy) (i : Instruction) (m : List (ℕ × Known))
-    → IsDenied (and_then (learn p e i
-    (record { entries = seen ts old; memo = m })) (within limits (number_stored e i)))
-    (record { reason = r; pair = None })
-    ⊎ (MayWantMemory e × IsForMemory (record { reason = r; pair = None }))
+    → IsStepFault p limits e i (record { entries = seen ts old; memo = m }) r None
 
 -- what an operation that imports nothing answers, and what it does to the stack
 pub record HasOperated {A : Type 0} (limits : Bounds) (e : Effect) (old new : List (Entry Value))

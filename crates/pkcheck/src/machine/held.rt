@@ -1,19 +1,19 @@
 //! What is known before an instruction: the stack, the memo, the texts that both refer to by
 //! number, and the imports so far.
-ghost use Rattle.std.specs.Prelude.{◌≡◌, ◌⊎◌, ◌≤◌, ◌++◌, [], length, IfOk, IfErr};
+ghost use Rattle.std.specs.Prelude.{◌≡◌, ◌≤◌, ◌++◌, [], length, IfOk, IfErr};
 ghost use Rattle.std.specs.Prelude.{None, OnErr, OnOk, Some, false, suc};
-ghost use Rattle.pkcheck.specs.Private.Denials.{IsDenied, IsForMemory, IsFaultOf, IsStopFault};
-ghost use Rattle.pkcheck.specs.Effects.{effect_of, number_moved, number_stored};
+ghost use Rattle.pkcheck.specs.Effects.{effect_of, number_moved};
 ghost use Rattle.pkcheck.specs.Private.Actions.{IsOperation, IsUnnamed};
-ghost use Rattle.pkcheck.specs.Private.Denials.{MayWantMemory, Proceeds, WantsRoom, with_item};
-ghost use Rattle.pkcheck.specs.Private.Denials.{with_made};
+ghost use Rattle.pkcheck.specs.Private.Advancing.{IsStepFault};
+ghost use Rattle.pkcheck.specs.Private.Denials.{IsFaultOf, IsStopFault, Proceeds, WantsRoom};
+ghost use Rattle.pkcheck.specs.Private.Denials.{pair_denied, with_item, with_made};
 ghost use Rattle.pkcheck.specs.Private.Spelled.{IsSpelled};
 ghost use Rattle.pkcheck.specs.Runs.{Text, text};
 ghost use Rattle.pkcheck.specs.Import.{policy_of};
-ghost use Rattle.pkcheck.specs.Knowledge.{learn, stop_learned, within, nothing_known};
+ghost use Rattle.pkcheck.specs.Knowledge.{learn, stop_learned, nothing_known};
 ghost use Rattle.pkcheck.specs.Knowledge.{Policy as Pairs};
 ghost use Rattle.pkops.specs.Spelling.{Instruction};
-ghost use Rattle.pkcheck.specs.Shape.{and_then, marks_of, moved, top};
+ghost use Rattle.pkcheck.specs.Shape.{marks_of, moved, top};
 ghost use Rattle.pkops.specs.Inst.{instruction_of};
 ghost use Rattle.pkops.specs.Operands.{memo_number};
 
@@ -202,11 +202,8 @@ impl Held {
             × (length self.new.knowledge.memo ≡ length self.old.knowledge.memo)) }
         ensures texts { self.new.texts ≡ self.old.texts }
         ensures kept { OnErr result (self.new ≡ self.old) }
-        ensures err { (p : Pairs) (i : Instruction) → IfErr result (λ r. IsDenied (and_then
-            (learn p (effect_of op) i self.old.knowledge)
-            (within limits.now (number_stored (effect_of op) i)))
-            (record { reason = r; pair = None })
-            ⊎ (MayWantMemory (effect_of op) × IsForMemory (record { reason = r; pair = None }))) }
+        ensures err { (p : Pairs) (i : Instruction) → IfErr result (λ r. IsStepFault p limits.now
+            (effect_of op) i self.old.knowledge r None) }
     {
         operate_unnamed(&mut self.stack, limits, op)?;
         Ok(())
@@ -223,19 +220,16 @@ impl Held {
     ) -> Result<bool, Denial>
         requires within { length self.old.knowledge.entries ≤ terms.now.limits.stack }
         requires operation { IsOperation (effect_of (instruction_of inst.now).op) }
-        ensures ok { IfOk result (λ b. Proceeds (learn (policy_of policy.now)
-            (effect_of (instruction_of inst.now).op)
-            (instruction_of inst.now) self.old.knowledge) self.new.knowledge
-            self.old.imports self.new.imports b) }
+        ensures ok { IfOk result (Proceeds (learn (policy_of policy.now)
+            (effect_of (instruction_of inst.now).op) (instruction_of inst.now) self.old.knowledge)
+            self.new.knowledge self.old.imports self.new.imports) }
         ensures room { OnOk result ((length self.new.knowledge.entries ≤ terms.now.limits.stack)
             × (length self.new.knowledge.memo ≡ length self.old.knowledge.memo)) }
         ensures texts { self.new.texts ≡ self.old.texts }
         ensures kept { OnErr result (self.new ≡ self.old) }
-        ensures err { IfErr result (λ d. IsDenied (and_then (learn (policy_of policy.now)
-            (effect_of (instruction_of inst.now).op) (instruction_of inst.now) self.old.knowledge)
-            (within terms.now.limits (number_stored (effect_of (instruction_of inst.now).op)
-            (instruction_of inst.now)))) d
-            ⊎ (MayWantMemory (effect_of (instruction_of inst.now).op) × IsForMemory d)) }
+        ensures err { IfErr result (λ d. IsStepFault (policy_of policy.now) terms.now.limits
+            (effect_of (instruction_of inst.now).op) (instruction_of inst.now) self.old.knowledge
+            d.reason (pair_denied d)) }
     {
         let spelled = Spelled {
             op: inst.op(),

@@ -1,18 +1,16 @@
 //! One step of the machine.
-ghost use Rattle.std.specs.Prelude.{◌≡◌, ◌⊎◌, ◌≤◌, length, option_map, true, None, Ok};
+ghost use Rattle.std.specs.Prelude.{◌≡◌, ◌≤◌, length, option_map, None, Ok};
 ghost use Rattle.std.specs.Prelude.{IfOk, IfErr, OnOk, OnErr};
-ghost use Rattle.pkcheck.specs.Effects.{effect_as, effect_of, is_old_string, number_stored};
-ghost use Rattle.pkcheck.specs.Knowledge.{advance, learn, stop_learned, within};
-ghost use Rattle.pkcheck.specs.Knowledge.{Policy as Pairs};
+ghost use Rattle.pkcheck.specs.Effects.{effect_as, effect_of};
+ghost use Rattle.pkcheck.specs.Knowledge.{stop_learned};
 ghost use Rattle.pkcheck.specs.Private.Actions.{IsOperation};
-ghost use Rattle.pkcheck.specs.Private.Spelled.{IsSpelled};
-ghost use Rattle.pkcheck.specs.Shape.{and_then, top};
+ghost use Rattle.pkcheck.specs.Private.Advancing.{Advances, HasReadOldString, IsAdvanceFault};
+ghost use Rattle.pkcheck.specs.Private.Advancing.{IsOldString, IsStepFault, LeadsTo};
+ghost use Rattle.pkcheck.specs.Shape.{top};
 ghost use Rattle.pkcheck.specs.View.{texts_after};
 ghost use Rattle.pkops.specs.Inst.{instruction_of};
 ghost use Rattle.pkcheck.specs.Import.{asked_shown, policy_of};
-ghost use Rattle.pkcheck.specs.Private.Denials.{IsDenied, IsForMemory, GoesTo, MayWantMemory};
-ghost use Rattle.pkcheck.specs.Private.Denials.{IsRefusedFor, IsStopFault, IsWantOfMemory};
-ghost use Rattle.pkcheck.specs.Private.Denials.{pair_denied};
+ghost use Rattle.pkcheck.specs.Private.Denials.{FitsLimits, IsStopFault, pair_denied};
 
 use crate::effect::Class;
 use crate::import::Asked;
@@ -48,25 +46,17 @@ pub fn advance(
     policy: &Policy,
     off: &mut Option<Asked>,
 ) -> Result<Moved, Reason>
-    requires stack { length held.old.knowledge.entries ≤ terms.now.limits.stack }
-    requires memo { length held.old.knowledge.memo ≤ terms.now.limits.memo }
+    requires room { FitsLimits terms.now.limits held.old.knowledge }
     requires none { off.old ≡ None }
-    ensures ok { IfOk result (λ v. GoesTo
-        (effect_as terms.now.old_strings (instruction_of inst.now))
-        (advance terms.now.old_strings (policy_of policy.now) terms.now.limits
-        (instruction_of inst.now) held.old.knowledge) held.new.knowledge
-        held.old.imports held.new.imports v) }
-    ensures room { OnOk result ((length held.new.knowledge.entries ≤ terms.now.limits.stack)
-        × (length held.new.knowledge.memo ≤ terms.now.limits.memo)) }
+    ensures ok { IfOk result (Advances terms.now (policy_of policy.now) (instruction_of inst.now)
+        held.old held.new) }
+    ensures room { OnOk result (FitsLimits terms.now.limits held.new.knowledge) }
     ensures texts { OnOk result (held.new.texts
         ≡ texts_after (effect_as terms.now.old_strings (instruction_of inst.now)) held.old.texts) }
     ensures off { OnOk result (off.new ≡ None) }
     ensures kept { OnErr result (held.new ≡ held.old) }
-    ensures err { IfErr result (λ r. IsRefusedFor
-        (advance terms.now.old_strings (policy_of policy.now) terms.now.limits
-        (instruction_of inst.now) held.old.knowledge) r (option_map asked_shown off.new)
-        ⊎ (MayWantMemory (effect_as terms.now.old_strings (instruction_of inst.now))
-        × IsWantOfMemory r (option_map asked_shown off.new))) }
+    ensures err { IfErr result (λ r. IsAdvanceFault terms.now (policy_of policy.now)
+        (instruction_of inst.now) held.old.knowledge r (option_map asked_shown off.new)) }
 {
     let op = inst.op();
     match action_of(op) {
@@ -106,24 +96,9 @@ pub fn advance(
 /// address of the original would force it into memory in every step.
 #[inline(always)]
 fn read_copy(held: &mut Held, terms: &Terms, inst: &Inst) -> Result<(), Reason>
-    requires old { is_old_string (instruction_of inst.now).op ≡ true }
-    requires spells { IsSpelled (instruction_of inst.now).arg }
+    requires old { IsOldString (instruction_of inst.now) }
     requires memo { length held.old.knowledge.memo ≤ terms.now.limits.memo }
-    ensures ok { (p : Pairs) → OnOk result (GoesTo
-        (effect_as terms.now.old_strings (instruction_of inst.now))
-        (advance terms.now.old_strings p terms.now.limits
-        (instruction_of inst.now) held.old.knowledge)
-        held.new.knowledge held.old.imports held.new.imports Moved.On) }
-    ensures room { OnOk result ((length held.new.knowledge.entries ≤ terms.now.limits.stack)
-        × (length held.new.knowledge.memo ≤ terms.now.limits.memo)) }
-    ensures texts { OnOk result (held.new.texts
-        ≡ texts_after (effect_as terms.now.old_strings (instruction_of inst.now)) held.old.texts) }
-    ensures kept { OnErr result (held.new ≡ held.old) }
-    ensures err { (p : Pairs) → IfErr result (λ r. IsDenied
-        (advance terms.now.old_strings p terms.now.limits
-        (instruction_of inst.now) held.old.knowledge) (record { reason = r; pair = None })
-        ⊎ (MayWantMemory (effect_as terms.now.old_strings (instruction_of inst.now))
-        × IsForMemory (record { reason = r; pair = None }))) }
+    ensures { HasReadOldString terms.now (instruction_of inst.now) held.old held.new result }
 {
     let copy = Inst::known(inst.op(), inst.arg());
     read_old_string(held, terms, &copy)?;
@@ -134,24 +109,9 @@ fn read_copy(held: &mut Held, terms: &Terms, inst: &Inst) -> Result<(), Reason>
 /// not.
 #[inline(never)]
 fn read_old_string(held: &mut Held, terms: &Terms, inst: &Inst) -> Result<(), Reason>
-    requires old { is_old_string (instruction_of inst.now).op ≡ true }
-    requires spells { IsSpelled (instruction_of inst.now).arg }
+    requires old { IsOldString (instruction_of inst.now) }
     requires memo { length held.old.knowledge.memo ≤ terms.now.limits.memo }
-    ensures ok { (p : Pairs) → OnOk result (GoesTo
-        (effect_as terms.now.old_strings (instruction_of inst.now))
-        (advance terms.now.old_strings p terms.now.limits
-        (instruction_of inst.now) held.old.knowledge)
-        held.new.knowledge held.old.imports held.new.imports Moved.On) }
-    ensures room { OnOk result ((length held.new.knowledge.entries ≤ terms.now.limits.stack)
-        × (length held.new.knowledge.memo ≤ terms.now.limits.memo)) }
-    ensures texts { OnOk result (held.new.texts
-        ≡ texts_after (effect_as terms.now.old_strings (instruction_of inst.now)) held.old.texts) }
-    ensures kept { OnErr result (held.new ≡ held.old) }
-    ensures err { (p : Pairs) → IfErr result (λ r. IsDenied
-        (advance terms.now.old_strings p terms.now.limits
-        (instruction_of inst.now) held.old.knowledge) (record { reason = r; pair = None })
-        ⊎ (MayWantMemory (effect_as terms.now.old_strings (instruction_of inst.now))
-        × IsForMemory (record { reason = r; pair = None }))) }
+    ensures { HasReadOldString terms.now (instruction_of inst.now) held.old held.new result }
 {
     match terms.old_strings {
         OldStrings::Unknown => held.answer(&terms.limits),
@@ -195,27 +155,17 @@ fn import(
     off: &mut Option<Asked>,
 ) -> Result<Moved, Reason>
     requires operation { IsOperation (effect_of (instruction_of inst.now).op) }
-    requires stack { length held.old.knowledge.entries ≤ terms.now.limits.stack }
-    requires memo { length held.old.knowledge.memo ≤ terms.now.limits.memo }
+    requires room { FitsLimits terms.now.limits held.old.knowledge }
     requires none { off.old ≡ None }
-    ensures ok { IfOk result (λ v. GoesTo (effect_of (instruction_of inst.now).op)
-        (and_then (learn (policy_of policy.now) (effect_of (instruction_of inst.now).op)
-        (instruction_of inst.now) held.old.knowledge) (within terms.now.limits
-        (number_stored (effect_of (instruction_of inst.now).op) (instruction_of inst.now))))
-        held.new.knowledge
-        held.old.imports held.new.imports v) }
-    ensures room { OnOk result ((length held.new.knowledge.entries ≤ terms.now.limits.stack)
-        × (length held.new.knowledge.memo ≤ terms.now.limits.memo)) }
+    ensures ok { IfOk result (LeadsTo (policy_of policy.now) terms.now.limits
+        (effect_of (instruction_of inst.now).op) (instruction_of inst.now) held.old held.new) }
+    ensures room { OnOk result (FitsLimits terms.now.limits held.new.knowledge) }
     ensures texts { held.new.texts ≡ held.old.texts }
     ensures off { OnOk result (off.new ≡ None) }
     ensures kept { OnErr result (held.new ≡ held.old) }
-    ensures err { IfErr result (λ r. IsRefusedFor (and_then (learn (policy_of policy.now)
-        (effect_of (instruction_of inst.now).op)
-        (instruction_of inst.now) held.old.knowledge) (within terms.now.limits
-        (number_stored (effect_of (instruction_of inst.now).op) (instruction_of inst.now)))) r
-        (option_map asked_shown off.new)
-        ⊎ (MayWantMemory (effect_of (instruction_of inst.now).op)
-        × IsWantOfMemory r (option_map asked_shown off.new))) }
+    ensures err { IfErr result (λ r. IsStepFault (policy_of policy.now) terms.now.limits
+        (effect_of (instruction_of inst.now).op) (instruction_of inst.now) held.old.knowledge r
+        (option_map asked_shown off.new)) }
 {
     match held.operate_named(terms, inst, policy) {
         Ok(true) => Ok(Moved::Import),

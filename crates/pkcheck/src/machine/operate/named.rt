@@ -1,16 +1,14 @@
 //! The operations that import a pair.
-ghost use Rattle.std.specs.Prelude.{◌≡◌, ◌⊎◌, ◌≤◌, ℕ, List, length, map, option_map, IfOk, IfErr};
-ghost use Rattle.std.specs.Prelude.{OnOk, OnErr, IfSome, Ok};
-ghost use Rattle.pkcheck.specs.Private.Slots.{known, seen, HasMoreTexts, Sees};
+ghost use Rattle.std.specs.Prelude.{◌≡◌, ◌⊎◌, ◌≤◌, length, map, option_map, IfOk, IfErr};
+ghost use Rattle.std.specs.Prelude.{IfSome, Ok};
+ghost use Rattle.pkcheck.specs.Private.Importing.{AreSeen, HasImported};
+ghost use Rattle.pkcheck.specs.Private.Slots.{known};
 ghost use Rattle.pkcheck.specs.Import.{policy_of};
 ghost use Rattle.pkcheck.specs.Private.Noted.{AreNumbered, IsNamedIf, Spells, named_asked};
-ghost use Rattle.pkcheck.specs.Knowledge.{Known, learn, within};
-ghost use Rattle.pkcheck.specs.Shape.{and_then};
-ghost use Rattle.pkcheck.specs.Private.Denials.{judged, IsDenied, IsForMemory, MayName, MayOperate};
-ghost use Rattle.pkcheck.specs.Private.Denials.{MayWantMemory, Proceeds, WellGiven};
-ghost use Rattle.pkcheck.specs.Private.Denials.{IgnoresArgument};
+ghost use Rattle.pkcheck.specs.Private.Denials.{judged, IgnoresArgument, IsDenied, IsForMemory};
+ghost use Rattle.pkcheck.specs.Private.Denials.{MayName, WellGiven};
 ghost use Rattle.pkcheck.specs.Private.Actions.{IsOperation, effect_in};
-ghost use Rattle.pkcheck.specs.Effects.{effect_of, number_stored};
+ghost use Rattle.pkcheck.specs.Effects.{effect_of};
 ghost use Rattle.pkops.specs.Contents.{IsGood};
 ghost use Rattle.pkops.specs.Spelling.{Instruction, Pair, instruction};
 
@@ -99,23 +97,11 @@ fn replace_named(
     requires within { length stack.old ≤ terms.now.limits.stack }
     requires given { WellGiven request.now.operation.gives request.now.operation.takes }
     requires plain { IgnoresArgument request.now.operation.gives }
-    requires sees { Sees ledger.old.texts stack.old (seen ledger.old.texts stack.old) }
-    ensures ok { (i : Instruction) → Spells request.now.names i → (m : List (ℕ × Known))
-        → IfOk result (λ b. Proceeds (learn (policy_of request.now.policy.now)
-        (effect_in request.now.operation) i
-        (record { entries = seen ledger.old.texts stack.old; memo = m }))
-        (record { entries = seen ledger.new.texts stack.new; memo = m })
-        ledger.old.asked ledger.new.asked b) }
-    ensures sees { OnOk result (Sees ledger.new.texts stack.new (seen ledger.new.texts stack.new)) }
-    ensures texts { ledger.new.texts ≡ ledger.old.texts }
-    ensures room { OnOk result (length stack.new ≤ terms.now.limits.stack) }
-    ensures kept { OnErr result ((stack.new ≡ stack.old) × (ledger.new ≡ ledger.old)) }
-    ensures err { (i : Instruction) → Spells request.now.names i → (m : List (ℕ × Known))
-        → IfErr result (λ d. IsDenied (and_then (learn (policy_of request.now.policy.now)
-        (effect_in request.now.operation) i
-        (record { entries = seen ledger.old.texts stack.old; memo = m }))
-        (within terms.now.limits (number_stored (effect_in request.now.operation) i))) d
-        ⊎ (MayOperate request.now.operation.names request.now.operation.gives × IsForMemory d)) }
+    requires sees { AreSeen (record { entries = stack.old; ledger = ledger.old }) }
+    ensures { HasImported (policy_of request.now.policy.now) terms.now.limits
+        (effect_in request.now.operation) request.now.names
+        (record { entries = stack.old; ledger = ledger.old })
+        (record { entries = stack.new; ledger = ledger.new }) result }
 {
     let found = stack.find(request.operation.takes)?;
     let operands = stack.operands(found.place);
@@ -145,23 +131,10 @@ pub fn operate_named(
     requires operation { IsOperation (effect_of spelled.now.op) }
     requires good { IfSome spelled.now.lines (λ pair.
         IsGood (instruction spelled.now.op (Pair pair.0.now pair.1.now))) }
-    requires sees { Sees ledger.old.texts stack.old (seen ledger.old.texts stack.old) }
-    ensures ok { (i : Instruction) → Spells spelled.now.lines i → (m : List (ℕ × Known))
-        → IfOk result (λ b. Proceeds (learn (policy_of policy.now) (effect_of spelled.now.op) i
-        (record { entries = seen ledger.old.texts stack.old; memo = m }))
-        (record { entries = seen ledger.new.texts stack.new; memo = m })
-        ledger.old.asked ledger.new.asked b) }
-    ensures sees { OnOk result (Sees ledger.new.texts stack.new (seen ledger.new.texts stack.new)) }
-    ensures grows { OnOk result (HasMoreTexts ledger.old.texts ledger.new.texts) }
-    ensures texts { ledger.new.texts ≡ ledger.old.texts }
-    ensures room { OnOk result (length stack.new ≤ terms.now.limits.stack) }
-    ensures kept { OnErr result ((stack.new ≡ stack.old) × (ledger.new ≡ ledger.old)) }
-    ensures err { (i : Instruction) → Spells spelled.now.lines i → (m : List (ℕ × Known))
-        → IfErr result (λ d. IsDenied (and_then (learn (policy_of policy.now)
-        (effect_of spelled.now.op) i
-        (record { entries = seen ledger.old.texts stack.old; memo = m }))
-        (within terms.now.limits (number_stored (effect_of spelled.now.op) i))) d
-        ⊎ (MayWantMemory (effect_of spelled.now.op) × IsForMemory d)) }
+    requires sees { AreSeen (record { entries = stack.old; ledger = ledger.old }) }
+    ensures { HasImported (policy_of policy.now) terms.now.limits (effect_of spelled.now.op)
+        spelled.now.lines (record { entries = stack.old; ledger = ledger.old })
+        (record { entries = stack.new; ledger = ledger.new }) result }
 {
     let request = Request {
         operation: operation_of(spelled.op),

@@ -79,4 +79,4 @@ returns-in_ok-operate-in-Operates-clause-ok c =
     c.args.held.now.imports c.operate.new.self.imports (effect_of c.op-op.result)
     c.in-Operates.ensures.well (c.in_ok-operate-in-Operates.ensures.ok
     (policy_of c.args.policy.now) (instruction_of c.args.inst.now)) room.0
-    (omega (arith, room.1, c.requires.memo)))
+    (omega (arith, room.1, c.requires.room.1)))

@@ -4,13 +4,15 @@ use Rattle.pkops.specs.Inst.{instruction_of}
 use Rattle.pkops.specs.Spelling.{instruction}
 use Rattle.pkcheck.proofs.machine.stepping.read_copy.Goals as goal
 
-pub returns-in_err-read_old_string-clause-err : goal.returns-in_err-read_old_string-clause-err
-returns-in_err-read_old_string-clause-err c p =
+pub returns-in_err-read_old_string : goal.returns-in_err-read_old_string
+returns-in_err-read_old_string c =
     let q = err_from_is_err_and c.from_residual.result c.from_residual.ensures.1 in
-    let same : instruction_of c.known-copy.result ≡ instruction_of c.args.inst.now = c.known-copy.ensures ∙ ap₂ instruction c.op.ensures.op c.arg.ensures.arg in
-    rw (q.1, q.2, sym same) (c.in_err-read_old_string.ensures.err p)
+    let same : instruction_of c.known-copy.result ≡ instruction_of c.args.inst.now =
+    c.known-copy.ensures ∙ ap₂ instruction c.op.ensures.op c.arg.ensures.arg in
+    rw (q.1, q.2, sym same) c.in_err-read_old_string.ensures
 
-pub returns-clause-ok : goal.returns-clause-ok
-returns-clause-ok c p =
-    let same : instruction_of c.known-copy.result ≡ instruction_of c.args.inst.now = c.known-copy.ensures ∙ ap₂ instruction c.op.ensures.op c.arg.ensures.arg in
-    rw (sym same) (c.in_ok-read_old_string.ensures.ok p)
+pub returns : goal.returns
+returns c =
+    let same : instruction_of c.known-copy.result ≡ instruction_of c.args.inst.now =
+    c.known-copy.ensures ∙ ap₂ instruction c.op.ensures.op c.arg.ensures.arg in
+    rw (sym same) c.in_ok-read_old_string.ensures

@@ -1,9 +1,14 @@
 use Rattle.pkcheck.proofs.machine.operate.named.operate_named.Goals as goal
 
-pub returns-clause-ok : goal.returns-clause-ok
-returns-clause-ok c i same m = rw (c.operation_of.ensures c.requires.operation)
-    (c.replace_named.ensures.ok i (c.names_of.ensures i same) m)
-
-pub returns-clause-err : goal.returns-clause-err
-returns-clause-err c i same m = rw (c.operation_of.ensures c.requires.operation)
-    (c.replace_named.ensures.err i (c.names_of.ensures i same) m)
+pub returns : goal.returns
+returns c =
+    let h = c.replace_named.ensures in
+    let is = c.operation_of.ensures c.requires.operation in
+    record {
+      ok = λ i same memo. rw is (h.ok i (c.names_of.ensures i same) memo);
+      sees = h.sees;
+      texts = h.texts;
+      room = h.room;
+      kept = h.kept;
+      err = λ i same memo. rw is (h.err i (c.names_of.ensures i same) memo);
+    }

@@ -1,0 +1,57 @@
+-- What a step of the machine does to what it holds, and when it is refused.
+use Rattle.std.specs.Prelude.{◌≡◌, ◌⊎◌, IfErr, None, OnErr, OnOk, Option, Result, true}
+use Rattle.pkcheck.specs.declared.machine.stepping.Moved.{Moved}
+use Rattle.pkcheck.specs.declared.machine.stepping.Moved.TheVariants.{On}
+use Rattle.pkcheck.specs.declared.machine.terms.Terms.{Terms}
+use Rattle.pkcheck.specs.Effects.{Effect, effect_as, is_old_string, number_stored}
+use Rattle.pkcheck.specs.Knowledge.{Asked, Knowledge, Policy, Progress, Refusal, learn, within}
+use Rattle.pkcheck.specs.Private.Denials.{FitsLimits, GoesTo, IsRefusedFor, IsWantOfMemory}
+use Rattle.pkcheck.specs.Private.Denials.{MayWantMemory}
+use Rattle.pkcheck.specs.Private.Slots.{Holding}
+use Rattle.pkcheck.specs.Private.Spelled.{IsSpelled}
+use Rattle.pkcheck.specs.Shape.{and_then}
+use Rattle.pkcheck.specs.View.{texts_after}
+use Rattle.pkops.specs.Limits.{Bounds}
+use Rattle.pkops.specs.Spelling.{Instruction}
+use Rattle.pkread.specs.declared.Reason.{Reason}
+
+-- the step of an instruction with this effect, with the limits checked
+abbrev pub learned : Policy → Bounds → Effect → Instruction → Knowledge → Result Progress Refusal
+learned p limits e i known = and_then (learn p e i known) (within limits (number_stored e i))
+
+-- the step leads from `old` to `new`, and reports this
+abbrev pub LeadsTo : Policy → Bounds → Effect → Instruction → Holding → Holding → Moved → Type 0
+LeadsTo p limits e i old new moved =
+    GoesTo e (learned p limits e i old.knowledge) new.knowledge old.imports new.imports moved
+
+-- the step is refused for this reason and with this pair, or because an allocation was refused
+abbrev pub IsStepFault : Policy → Bounds → Effect → Instruction → Knowledge → Reason
+    → Option Asked → Type 0
+IsStepFault p limits e i known r pair =
+    IsRefusedFor (learned p limits e i known) r pair
+    ⊎ (MayWantMemory e × IsWantOfMemory r pair)
+
+-- under these terms
+module _ (terms : Terms) (p : Policy) (i : Instruction) where
+  -- like LeadsTo
+  abbrev pub Advances : Holding → Holding → Moved → Type 0
+  Advances old new moved =
+      LeadsTo p terms.limits (effect_as terms.old_strings i) i old new moved
+
+  -- like IsStepFault
+  abbrev pub IsAdvanceFault : Knowledge → Reason → Option Asked → Type 0
+  IsAdvanceFault known r pair =
+      IsStepFault p terms.limits (effect_as terms.old_strings i) i known r pair
+
+-- an old string, with an argument that spells one
+abbrev pub IsOldString : Instruction → Type 0
+IsOldString i = (is_old_string i.op ≡ true) × IsSpelled i.arg
+
+-- what the step of an old string answers, and what it does, whatever the policy
+pub record HasReadOldString {A : Type 0} (terms : Terms) (i : Instruction) (old new : Holding)
+    (answer : Result A Reason) : Type 0 where
+  pub ok : (p : Policy) → OnOk answer (Advances terms p i old new On)
+  pub room : OnOk answer (FitsLimits terms.limits new.knowledge)
+  pub texts : OnOk answer (new.texts ≡ texts_after (effect_as terms.old_strings i) old.texts)
+  pub kept : OnErr answer (new ≡ old)
+  pub err : (p : Policy) → IfErr answer (λ r. IsAdvanceFault terms p i old.knowledge r None)
