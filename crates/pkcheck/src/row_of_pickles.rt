@@ -1,10 +1,11 @@
 //! Checks pickles that follow one another in a source.
 
-ghost use Rattle.std.specs.Prelude.{◌≡◌};
-ghost use Rattle.pkread.specs.Rows.{sight};
+ghost use Rattle.std.specs.Prelude.{◌≡◌, ◌<◌, [], None, true};
+ghost use Rattle.pkread.specs.Reading.{TakesNoneAhead, has_ended, state};
+ghost use Rattle.pkread.specs.Rows.{all_bytes, sight};
 ghost use Rattle.pkcheck.specs.Import.{policy_of};
 ghost use Rattle.pkcheck.specs.Private.Judging.{IsNoAt};
-ghost use Rattle.pkcheck.specs.Private.NextPickle.{listed_in};
+ghost use Rattle.pkcheck.specs.Private.NextPickle.{IsCounted, IsRestarted, LooksBehind, listed_in};
 ghost use Rattle.pkcheck.specs.RowOfPickles.{CountsInRow, IsRightOfRow};
 
 use crate::checking::No;
@@ -15,7 +16,7 @@ use crate::policy::Policy;
 use crate::session::Session;
 use pkops::Limits;
 use pkread::laws::{frames, heads, rows};
-use pkread::{Head, Reader, Reason, Source};
+use pkread::{Head, Reader, Reason, Refusal, Source};
 use std::alloc::Global;
 use std::error::Error;
 use std::fmt;
@@ -85,73 +86,124 @@ pub fn check_all<R: Source>(
     rows();
     let mut reader = Reader::new(alloc, source, limits);
     let mut session = Session::new(alloc, limits, loading.old_strings);
-    let mut apart = Ledger::new(alloc);
-    let mut pickles = 0u64;
+    let mut row = Row::new(alloc, loading.memo);
     'instructions: loop {
         if let Some(inst) = reader.peek() {
             let length = inst.len() as usize;
             if let Err(reason) = session.judge_lent(&inst, policy) {
                 let at = reader.taken();
                 reader.advance(length);
-                return Err(refused(pickles, session, at, reason));
+                return Err(row.refused(session, at, reason));
             }
             reader.advance(length);
             continue;
         }
         match reader.next_head() {
-            Err(refusal) => return Err(refused(pickles, session, refusal.at, refusal.reason)),
+            Err(refusal) => return Err(row.refused(session, refusal.at, refusal.reason)),
             Ok(Head::Ended) => {
                 let taken = reader.taken();
-                pickles += 1;
-                let Ok(()) = session.restart(loading.memo, &mut apart) else {
-                    return Err(refused(pickles, session, taken, Reason::OutOfMemory));
-                };
-                match reader.again() {
-                    Err(refusal) => {
-                        return Err(refused(pickles, session, refusal.at, refusal.reason));
-                    }
+                match row.next(&mut reader, &mut session) {
+                    Err(refusal) => return Err(row.refused(session, refusal.at, refusal.reason)),
                     Ok(true) => {}
-                    Ok(false) => {
-                        return Ok(YesAll {
-                            taken,
-                            pickles,
-                            imports: imports_of_row(loading.memo, apart, session),
-                        });
-                    }
+                    Ok(false) => return Ok(row.accepted(taken, session)),
                 }
             }
             Ok(Head::Passed { at, op, .. }) => {
-                let length = reader.taken() - at;
-                if let Err(reason) = session.judge_passed(op, length, policy) {
-                    return Err(refused(pickles, session, at, reason));
+                if let Err(reason) = session.judge_passed(op, reader.taken() - at, policy) {
+                    return Err(row.refused(session, at, reason));
                 }
             }
             Ok(Head::Inst { at, inst }) => {
                 if let Err(reason) = session.judge(&inst, policy) {
-                    return Err(refused(pickles, session, at, reason));
+                    return Err(row.refused(session, at, reason));
                 }
             }
         }
     }
 }
 
-/// The imports of a row. Those of pickles that the machine forgot are in `apart`.
-fn imports_of_row(memo: Memo, apart: Ledger, session: Session) -> Imports
-    ensures { result ≡ listed_in memo apart.asked session.machine.imports }
-{
-    match memo {
-        Memo::Fresh => Imports::from_ledger(apart),
-        Memo::Kept => session.into_imports(),
-    }
+/// The pickles of a row so far.
+#[derive(Drop)]
+struct Row {
+    memo: Memo,
+    pickles: u64,
+    /// The imports of pickles that the machine forgot.
+    apart: Ledger,
 }
 
-/// The refusal of a row at this pickle, offset and reason.
-fn refused(pickle: u64, session: Session, at: u64, reason: Reason) -> NoAll
-    ensures pickle { result.pickle ≡ pickle }
-    ensures no { IsNoAt at reason session.machine.off result.no }
-{
-    NoAll {
-        pickle,
-        no: session.refuse(at, reason),
+impl Row {
+    /// A row without a pickle.
+    fn new(alloc: Global, memo: Memo) -> Row
+        ensures { result ≡ record {
+          memo = memo;
+          pickles = 0;
+          apart = record { texts = []; asked = [] };
+        } }
+    {
+        Row {
+            memo,
+            pickles: 0,
+            apart: Ledger::new(alloc),
+        }
+    }
+
+    /// Counts a pickle that has ended. Returns whether another one begins, for which the session is
+    /// then ready.
+    fn next<R: Source>(
+        &mut self,
+        reader: &mut Reader<'_, R>,
+        session: &mut Session,
+    ) -> Result<bool, Refusal>
+        requires ended { has_ended (state R.left R.failures reader.old) ≡ true }
+        requires none { TakesNoneAhead reader.old }
+        requires room { self.old.pickles < all_bytes }
+        requires well { session.old.machine.refused ≡ None }
+        requires off { session.old.machine.off ≡ None }
+        ensures row { IsCounted self.old session.old.machine.imports self.new result }
+        ensures session { IsRestarted self.old.memo session.old session.new result }
+        ensures reader { LooksBehind R.left R.failures reader.old reader.new result }
+    {
+        self.pickles += 1;
+        let Ok(()) = session.restart(self.memo, &mut self.apart) else {
+            return Err(Refusal {
+                at: reader.taken(),
+                reason: Reason::OutOfMemory,
+            });
+        };
+        reader.again()
+    }
+
+    /// The accepted row, in which this many bytes were taken.
+    fn accepted(self, taken: u64, session: Session) -> YesAll
+        ensures taken { result.taken ≡ taken }
+        ensures pickles { result.pickles ≡ self.pickles }
+        ensures imports { result.imports
+            ≡ listed_in self.memo self.apart.asked session.machine.imports }
+    {
+        let Row {
+            memo,
+            pickles,
+            apart,
+        } = self;
+        let imports = match memo {
+            Memo::Fresh => Imports::from_ledger(apart),
+            Memo::Kept => session.into_imports(),
+        };
+        YesAll {
+            taken,
+            pickles,
+            imports,
+        }
+    }
+
+    /// The refusal of the pickle behind those so far, at this offset, for this reason.
+    fn refused(self, session: Session, at: u64, reason: Reason) -> NoAll
+        ensures pickle { result.pickle ≡ self.pickles }
+        ensures no { IsNoAt at reason session.machine.off result.no }
+    {
+        NoAll {
+            pickle: self.pickles,
+            no: session.refuse(at, reason),
+        }
     }
 }

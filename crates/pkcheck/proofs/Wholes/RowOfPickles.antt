@@ -1,5 +1,5 @@
 -- What is known along a row of pickles.
-use Rattle.std.proofs.Common.{Bool, true, false, Result, Ok, Err, ◌≡◌, ◌≢◌, ℕ, ◌+◌, ◌-◌, ◌*◌, ◌<◌, ◌≤◌, List, [], ◌∷◌, ◌++◌, length, Option, None, Some, refl, sym, ap, subst, ◌∙◌, arith, length-append, append-nil, append_assoc}
+use Rattle.std.proofs.Common.{Bool, true, false, Result, Ok, Err, IfErr, IfOk, ◌≡◌, ◌≢◌, ℕ, ◌+◌, ◌-◌, ◌*◌, ◌<◌, ◌≤◌, List, [], ◌∷◌, ◌++◌, length, Option, None, Some, refl, sym, ap, subst, ◌∙◌, arith, length-append, append-nil, append_assoc}
 use Rattle.std.specs.Prelude.{flat_map, All}
 use Rattle.std.specs.Io.KnownBytes.{IsAtEnd, prepend_known}
 use Rattle.std.proofs.lemmas.Grind.{flat_map-append}
@@ -16,9 +16,14 @@ use Rattle.pkread.specs.Rows.{Refuses, Sight, Takes, TakingLaws, all_bytes, unre
 use Rattle.pkread.specs.Sequence.{CountsAt, IsSequence, StopIsLast, spellings}
 use Rattle.pkread.specs.declared.Refusal.{Refusal as ReadRefusal}
 use Rattle.pkread.specs.declared.Reason.{Reason}
-use Rattle.pkread.specs.declared.Reason.TheVariants.{OutOfMemory, Truncated}
+use Rattle.pkread.specs.declared.Reason.TheVariants.{Truncated}
 use Rattle.pkops.specs.declared.Op.TheVariants.{Stop}
-use Rattle.pkcheck.proofs.Wholes.Checked.{Checked, IsReady, accepted, checked_again, refused_turned}
+use Rattle.pkcheck.proofs.Wholes.Checked.{Checked, IsReady, accepted, checked_again, count_took}
+use Rattle.pkcheck.proofs.Wholes.Checked.{refused_took, refused_turned}
+use Rattle.pkcheck.proofs.Wholes.Given.{Took}
+use Rattle.pkcheck.proofs.Covering.Answering.{Word}
+use Rattle.pkcheck.proofs.Covering.Showing.{IsLonger}
+use Rattle.pkcheck.specs.Private.Judging.{IsRefused}
 use Rattle.pkcheck.proofs.Wholes.NextPickle.{begins_next, imports_more}
 use Rattle.pkcheck.proofs.Wholes.Origins.{Begins, Origin, begins_afresh, begins_row}
 use Rattle.pkcheck.proofs.Wholes.FramesSoFar.{FrameLaws}
@@ -30,7 +35,7 @@ use Rattle.pkcheck.specs.View.{View}
 use Rattle.pkcheck.specs.Accepted.{AcceptedFrom}
 use Rattle.pkcheck.specs.Knowledge.{Knowledge, Policy, Asked, nothing_known}
 use Rattle.pkcheck.specs.Listing.{imports_among}
-use Rattle.pkcheck.specs.Private.NextPickle.{listed_apart, listed_in, moved_apart, restarted}
+use Rattle.pkcheck.specs.Private.NextPickle.{IsRefusedBehind, listed_apart, listed_in, moved_apart, restarted}
 use Rattle.pkcheck.specs.Refused.{RefusedFrom}
 use Rattle.pkcheck.specs.RowOfPickles.{AcceptedRow, AreAccepted, HasMore, IsAcceptedBehind, RefusedInRow, begins, bytes_of_all}
 use Rattle.pkcheck.specs.RowRuns.{Beginning, Pickle, imports_of_all, listed_before, sequences_of}
@@ -50,6 +55,10 @@ no_end (i ∷ front) last e = cc
 pub some_byte : (p : List Instruction) → StopIsLast p → 0 < length (spellings p)
 some_byte [] h = absurd (no_end h.0 h.1 h.2)
 some_byte (i ∷ p) h = omega (arith, length-append (spelling i) (spellings p))
+
+-- the reader has refused, after the source was asked
+refuses_again : (s t : ReaderState) (x : ReadRefusal) → IsRefusedBehind s t x → RefusesAgain s x (record s { source = t.source; phase = Refused x })
+refuses_again s t x h = record { place = h.place; why = h.why; after = refl }
 
 module _ (loading : Loading) (policy : Policy) (limits : Bounds) where
   -- these pickles were accepted, the next one begins here, and `apart` are the imports listed
@@ -129,8 +138,17 @@ module _ (taking : TakingLaws) (loading : Loading) (policy : Policy) (limits : B
   accepted_sequences old new before (x ∷ xs) (between, (a, same), rest) = All-cons (IsSequence (payload_limit limits)) x.instructions (sequences_of xs) (subst (IsSequence (payload_limit limits)) same a.sequence) (accepted_sequences between new (before ++ x ∷ []) xs rest)
 
   -- the row begins with no pickle
-  pub row_begins : (old : Sight) (apart : List Asked) → apart ≡ [] → RowSoFar loading policy limits old old (record { at = 0; beginning = begins loading.memo []; known = nothing_known }) 0 apart []
-  row_begins old apart none = record { each = taking.none old; from_is = refl; begins = refl; number = refl; few = omega arith; listed = none ∙ none_apart loading.memo }
+  pub row_begins : (old : Sight) (pickles : ℕ) (apart : List Asked) → pickles ≡ 0 → apart ≡ []
+      → RowSoFar loading policy limits old old
+      (record { at = 0; beginning = begins loading.memo []; known = nothing_known }) pickles apart []
+  row_begins old pickles apart e none = record {
+    each = taking.none old;
+    from_is = refl;
+    begins = refl;
+    number = e;
+    few = omega (arith, e);
+    listed = none ∙ none_apart loading.memo;
+  }
 
   -- the imports outside the machine after one more pickle
   apart_more : (memo : Memo) (apart own : List Asked) (before : List Pickle) (p : List Instruction)
@@ -227,6 +245,25 @@ module _ (taking : TakingLaws) (loading : Loading) (policy : Policy) (limits : B
     pub none_failed : here.failures ≡ old.failures
     none_failed = (accepted_bytes old here [] before h.each).count
 
+    -- an instruction that was read is refused
+    module _ (p : List Instruction) (asked : List (Option Asked)) (s : ReaderState) (still_open : ℕ)
+        (m : View)
+        (checked : Checked loading.old_strings policy limits here origin p asked s still_open m)
+        (t : ReaderState) (at : ℕ) (i : Instruction) (new : Sight)
+        (took : Took here origin.at limits p s at i t) (same : new ≡ t.source) where
+      pub row_took : (v : Word) × IsLonger policy v.text → (n : View) (why : Reason)
+          → (why ≡ Truncated → before ≢ [] → HasMore here) → IsRefused policy i still_open m n why
+          → RefusedInRow loading policy limits old new pickles at why n.off
+          × CountsAt why old.failures new.failures
+      row_took long n why more g =
+          let refused = (refused_took loading.old_strings policy limits here origin p asked s
+          still_open m checked t at i new took same long n why n.off g refl).0 in (
+            row_refused new at why n.off refused more,
+            subst (λ f. CountsAt why f new.failures) none_failed
+                (count_took loading.old_strings policy limits here origin p asked s still_open m
+                checked t at i new at why why n.off refused refl took same n g),
+          )
+
   module _ (laws : FrameLaws) (begins : ReadingGoesOn) (s : ReaderState) (same : s.limits ≡ limits) (b : Beginning) (m : View) (ready : IsReady loading.old_strings policy limits b m) where
     -- no byte was taken of the pickle that would begin
     turned : (x : ReadRefusal) (new : Sight) → x.at ≡ s.taken → Refuses (payload_limit_at limits []) s.source new [] s.taken s.taken x.reason → RefusedFrom s.taken loading.old_strings b policy limits s.source new x.at x.reason None
@@ -236,22 +273,16 @@ module _ (taking : TakingLaws) (loading : Loading) (policy : Policy) (limits : B
         let here = checked_again loading.old_strings policy limits s.source laws begins open' refl same b m ready in
         (refused_turned loading.old_strings policy limits s.source origin [] [] open' 0 m here (record s { source = new }) x new (record { no_stop = All-nil (λ i. i.op ≢ Stop); place = place; bytes = []; why = why }) refl).0
 
-    -- the reader refused after STOP
-    pub refused_again : NoByteIsRefused → (t : ReaderState) (x : ReadRefusal) → RefusesAgain s x t → RefusedFrom s.taken loading.old_strings b policy limits s.source t.source x.at x.reason None
-    refused_again law t x h = turned x t.source h.place (law (payload_limit_at limits []) s t x h).0
-
-    -- an allocation for the imports was refused
-    pub refused_growing : NoByteIsRefused → RefusedFrom s.taken loading.old_strings b policy limits s.source s.source s.taken OutOfMemory None
-    refused_growing law =
-        let x : ReadRefusal = record { at = s.taken; reason = OutOfMemory } in
-        refused_again law (record s { phase = Refused x }) x (record { place = refl; why = taking.none s.source; after = refl })
+    -- the reader refused after STOP, or an allocation for the imports was refused
+    pub refused_behind : NoByteIsRefused → (t : ReaderState) (x : ReadRefusal) → IsRefusedBehind s t x → RefusedFrom s.taken loading.old_strings b policy limits s.source t.source x.at x.reason None
+    refused_behind law t x h = turned x t.source h.place (law (payload_limit_at limits []) s _ x (refuses_again s t x h)).0
 
 -- the answer about a row, with equal parts replaced
 pub told : (loading : Loading) (policy : Policy) (limits : Bounds) (old new mid : Sight) (n m a b : ℕ) (x y : Reason) (u v : Option Asked) → new ≡ mid → n ≡ m → a ≡ b → x ≡ y → u ≡ v → RefusedInRow loading policy limits old mid m b y v → RefusedInRow loading policy limits old new n a x u
 told loading policy limits old new mid n m a b x y u v d e f g h r = rw (d, e, f, g, h) r
 
-pub told_yes : (loading : Loading) (policy : Policy) (limits : Bounds) (old new mid : Sight) (n m a : ℕ) (u v : List Asked) → new ≡ mid → n ≡ m → u ≡ v → AcceptedRow loading policy limits old mid m a v → AcceptedRow loading policy limits old new n a u
-told_yes loading policy limits old new mid n m a u v d e h r = rw (d, e, h) r
+pub told_yes : (loading : Loading) (policy : Policy) (limits : Bounds) (old new mid : Sight) (n m a b : ℕ) (u v : List Asked) → new ≡ mid → n ≡ m → a ≡ b → u ≡ v → AcceptedRow loading policy limits old mid m b v → AcceptedRow loading policy limits old new n a u
+told_yes loading policy limits old new mid n m a b u v d e f h r = rw (d, e, f, h) r
 
 -- the measure falls when an instruction is taken
 left_most : (taken : ℕ) (p : Phase) → left_to_do taken p ≤ 2 * (all_bytes - taken) + 1
@@ -274,18 +305,23 @@ pub count_on : (loading : Loading) (policy : Policy) (limits : Bounds) (old new 
 count_on loading policy limits old new n a x u r y b here e f g h = rw (e, ← f, g) h
 
 -- what `again` returned
-pub again_true : (s t : ReaderState) (r : Result Bool ReadRefusal) → StepsAgain s r t → r ≡ Ok true → Takes s.source t.source [] × (t.phase ≡ Open) × (t.taken ≡ s.taken) × (t.limits ≡ s.limits)
-again_true s t (Ok true) (room, takes, is) e = (takes, ap (λ x. x.phase) is, ap (λ x. x.taken) is, ap (λ x. x.limits) is)
-again_true s t (Ok false) h e = absurd cc
-again_true s t (Err x) h e = absurd cc
+on_from : {o s : ReaderState} (t : ReaderState) → o ≡ s → record o { source = t.source; phase = Open } ≡ record s { source = t.source; phase = Open }
+on_from t same =
+    let opened : ReaderState → ReaderState = λ s. record s { source = t.source; phase = Open } in
+    ap opened same
 
-pub again_false : (s t : ReaderState) (r : Result Bool ReadRefusal) → StepsAgain s r t → r ≡ Ok false → Takes s.source t.source [] × IsAtEnd t.source.left × (s.taken < all_bytes)
-again_false s t (Ok false) (room, takes, is) e = (takes, is.0, room)
-again_false s t (Ok true) h e = absurd cc
-again_false s t (Err x) h e = absurd cc
+pub again_true : (o s t : ReaderState) (r : Result Bool ReadRefusal) → o ≡ s → IfOk r (λ more. StepsAgain o (Ok more) t) → r ≡ Ok true → Takes s.source t.source [] × (t.phase ≡ Open) × (t.taken ≡ s.taken) × (t.limits ≡ s.limits)
+again_true o s t (Ok true) same (room, takes, is) e = (subst (λ z. Takes z.source t.source []) same takes, ap (λ x. x.phase) is, ap (λ x. x.taken) (is ∙ on_from t same), ap (λ x. x.limits) (is ∙ on_from t same))
+again_true o s t (Ok false) same h e = absurd cc
+again_true o s t (Err x) same h e = absurd cc
 
-pub again_refused : (s t : ReaderState) (r : Result Bool ReadRefusal) (x : ReadRefusal) → StepsAgain s r t → r ≡ Err x → RefusesAgain s x t
-again_refused s t r x h e = let k = rw e at h in k
+pub again_false : (o s t : ReaderState) (r : Result Bool ReadRefusal) → o ≡ s → IfOk r (λ more. StepsAgain o (Ok more) t) → r ≡ Ok false → Takes s.source t.source [] × IsAtEnd t.source.left × (s.taken < all_bytes)
+again_false o s t (Ok false) same (room, takes, is) e = (subst (λ z. Takes z.source t.source []) same takes, is.0, subst (λ z. z.taken < all_bytes) same room)
+again_false o s t (Ok true) same h e = absurd cc
+again_false o s t (Err x) same h e = absurd cc
+
+pub refused_from : (o s t : ReaderState) (r : Result Bool ReadRefusal) (x : ReadRefusal) → o ≡ s → IfErr r (IsRefusedBehind o t) → r ≡ Err x → IsRefusedBehind s t x
+refused_from o s t r x same h e = subst (λ z. IsRefusedBehind z t x) same (let b = rw e at h in b)
 
 known_ahead : (b : ℕ) (left : Option (List ℕ)) → prepend_known (b ∷ []) left ≢ Some []
 known_ahead b None = λ e. cc
@@ -295,9 +331,9 @@ known_ahead b (Some l) = λ e. cc
 pub some_ahead : (b : ℕ) (ahead : List ℕ) (now : Sight) → ahead ≡ b ∷ [] → HasMore (unread ahead now)
 some_ahead b ahead now is = rw is (known_ahead b now.left)
 
--- a refused allocation and a refusal by `again` do not mean that the source ended
-pub growing_is_not_cut : OutOfMemory ≡ Truncated → ⊥
-growing_is_not_cut e = cc
+-- such a refusal does not mean that the source ended
+pub behind_is_not_cut : (s t : ReaderState) (x : ReadRefusal) → IsRefusedBehind s t x → x.reason ≡ Truncated → ⊥
+behind_is_not_cut s t x h e = subst (WhyNoByte s.source t.source s.taken) e h.why
 
-pub again_is_not_cut : (s t : ReaderState) (x : ReadRefusal) → RefusesAgain s x t → x.reason ≡ Truncated → ⊥
-again_is_not_cut s t x h e = subst (WhyNoByte s.source t.source s.taken) e h.why
+pub behind_counts : (s t : ReaderState) (x : ReadRefusal) → IsRefusedBehind s t x → NoByteIsRefused → CountsAt x.reason s.source.failures t.source.failures
+behind_counts s t x h law = (law 0 s _ x (refuses_again s t x h)).1

@@ -1,5 +1,13 @@
--- What a machine keeps for the next pickle of a row.
-use Rattle.std.specs.Prelude.{false, List, [], ◌++◌}
+-- What is kept for the next pickle of a row.
+use Rattle.std.specs.Prelude.{◌≡◌, ℕ, ◌+◌, ◌++◌, Bool, false, IfErr, IfOk, List, [], None, Ok}
+use Rattle.std.specs.Prelude.{OnErr, OnOk, Option, Result}
+use Rattle.pkread.specs.Again.{StepsAgain, TakesOneAhead, WhyNoByte}
+use Rattle.pkread.specs.Core.{CoreView}
+use Rattle.pkread.specs.Reading.{KeepsSource, ReaderState, state}
+use Rattle.pkread.specs.declared.Refusal.{Refusal}
+use Rattle.pkread.specs.declared.reader.Reader.{Reader}
+use Rattle.pkcheck.specs.declared.row_of_pickles.Row.{Row}
+use Rattle.pkcheck.specs.Private.Judging.{SessionView}
 use Rattle.pkcheck.specs.declared.loading.Memo.{Memo}
 use Rattle.pkcheck.specs.declared.loading.Memo.TheVariants.{Fresh, Kept}
 use Rattle.pkcheck.specs.Knowledge.{Asked}
@@ -29,3 +37,30 @@ listed_apart Kept before = []
 abbrev pub listed_in : Memo → List Asked → List Asked → List Asked
 listed_in Fresh apart own = apart
 listed_in Kept apart own = own
+
+-- one more pickle is counted, and its imports are moved outside the machine, if they are
+pub record IsCounted (old : Row) (imports : List Asked) (new : Row) (answer : Result Bool Refusal)
+    : Type 0 where
+  pub memo : new.memo ≡ old.memo
+  pub number : new.pickles ≡ old.pickles + 1
+  pub apart : OnOk answer (new.apart.asked ≡ moved_apart old.memo old.apart.asked imports)
+
+-- the session is ready for another pickle; after a refusal, no pair is off the list
+pub record IsRestarted (memo : Memo) (old new : SessionView) (answer : Result Bool Refusal)
+    : Type 0 where
+  pub ready : OnOk answer (new ≡ record { frame = 0; machine = restarted memo old.machine })
+  pub off : OnErr answer (new.machine.off ≡ None)
+
+-- the refusal of a pickle of which no byte was taken
+pub record IsRefusedBehind (old new : ReaderState) (refusal : Refusal) : Type 0 where
+  pub place : refusal.at ≡ old.taken
+  pub why : WhyNoByte old.source new.source old.taken refusal.reason
+
+-- the reader was asked whether another pickle begins, or an allocation was refused before
+pub record LooksBehind {R : Type 0} (left : R → Option (List ℕ)) (failures : R → ℕ)
+    (old new : Reader R CoreView) (answer : Result Bool Refusal) : Type 0 where
+  pub source : KeepsSource old new
+  pub steps : IfOk answer (λ more. StepsAgain (state left failures old) (Ok more)
+      (state left failures new))
+  pub refused : IfErr answer (IsRefusedBehind (state left failures old) (state left failures new))
+  pub ahead : TakesOneAhead left failures old answer new

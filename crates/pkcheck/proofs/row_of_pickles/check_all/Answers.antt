@@ -2,42 +2,42 @@ use Rattle.std.proofs.Common.{rules, ◌<◌, [], ◌∷◌, ◌++◌, refl, sym
 use Rattle.pkops.specs.Inst.{instruction_of}
 use Rattle.pkops.specs.Payloads.{payload_limit}
 use Rattle.pkops.specs.Spelling.{Counted, Instruction, instruction}
-use Rattle.pkread.specs.Again.{StepsAgain}
 use Rattle.pkread.specs.Reading.{state}
 use Rattle.pkread.specs.Rows.{all_bytes, sight}
-use Rattle.pkcheck.proofs.Wholes.Checked.{checked_again, checked_first, checked_took, count_took}
-use Rattle.pkcheck.proofs.Wholes.Checked.{refused_turned, refused_took}
+use Rattle.pkcheck.proofs.Wholes.Checked.{checked_again, checked_first, checked_took}
+use Rattle.pkcheck.proofs.Wholes.Checked.{refused_turned}
 use Rattle.pkcheck.proofs.Wholes.FramesSoFar.{FrameLaws}
 use Rattle.pkcheck.proofs.Wholes.Given.{refused_head, seen_so, took_head, took_passed, took_peeked}
 use Rattle.pkcheck.proofs.Stepping.Longest.{longest}
 use Rattle.pkcheck.specs.Knowledge.{nothing_known}
-use Rattle.pkcheck.specs.Private.NextPickle.{restarted}
+use Rattle.pkcheck.specs.Private.NextPickle.{listed_in, restarted}
 use Rattle.pkcheck.specs.RowOfPickles.{begins}
 use Rattle.pkcheck.proofs.Wholes.Origins.{Origin}
 use Rattle.pkcheck.proofs.Wholes.Payloads.{long_passed}
-use Rattle.pkcheck.proofs.Wholes.RowOfPickles.{again_false, again_refused, again_true, all_listed}
-use Rattle.pkcheck.proofs.Wholes.RowOfPickles.{begins_first, count_on, less_to_do, next_ready}
-use Rattle.pkcheck.proofs.Wholes.RowOfPickles.{none_before, none_failed, pickle_more, refused_again}
-use Rattle.pkcheck.proofs.Wholes.RowOfPickles.{refused_growing, row_accepted, row_begins}
-use Rattle.pkcheck.proofs.Wholes.RowOfPickles.{row_refused, some_byte, this, told, told_yes}
-use Rattle.pkcheck.proofs.Wholes.RowOfPickles.{some_ahead, growing_is_not_cut, again_is_not_cut}
+use Rattle.pkcheck.proofs.Wholes.RowOfPickles.{again_false, again_true, all_listed, begins_first}
+use Rattle.pkcheck.proofs.Wholes.RowOfPickles.{behind_counts, behind_is_not_cut, count_on}
+use Rattle.pkcheck.proofs.Wholes.RowOfPickles.{less_to_do, next_ready, none_before, none_failed}
+use Rattle.pkcheck.proofs.Wholes.RowOfPickles.{pickle_more, refused_behind, refused_from, row_accepted}
+use Rattle.pkcheck.proofs.Wholes.RowOfPickles.{row_begins, row_refused, row_took, some_ahead}
+use Rattle.pkcheck.proofs.Wholes.RowOfPickles.{some_byte, this, told, told_yes}
 use Rattle.pkcheck.proofs.row_of_pickles.check_all.Goals as goal
 
 pub instructions-init : goal.instructions-init
 instructions-init g c =
-    let taking = c.rows.ensures.taking in
     let laws : FrameLaws = record {
       more = c.frames.ensures.more;
       all = c.frames.ensures.all;
       refused = c.frames.ensures.refused;
     } in
     record {
+      memo = ap (λ w. w.memo) c.new-row.ensures;
       same = refl;
       row = (
         _,
         _,
         [],
-        row_begins taking _ _ _ _ _ (ap (λ l. l.asked) c.new-apart.ensures),
+        row_begins c.rows.ensures.taking _ _ _ _ _ _ (ap (λ w. w.pickles) c.new-row.ensures)
+            (ap (λ w. w.apart.asked) c.new-row.ensures),
         [],
         [],
         rw (c.new-reader.ensures.state, c.new-session.ensures)
@@ -49,7 +49,6 @@ instructions-init g c =
 
 pub returns-in-Err-clause-answer : goal.returns-in-Err-clause-answer
 returns-in-Err-clause-answer g c =
-    let taking = c.rows.ensures.taking in
     let r = c.instructions.invariant.row in
     let inst = c.in-Some.inst in
     let shown = c.in-Some.ensures.next in
@@ -58,14 +57,12 @@ returns-in-Err-clause-answer g c =
     c.taken-at.result _ inst c.taken-at.ensures shown over in
     let e = c.refused.ensures in
     told _ _ _ _ _ _ _ _ _ _ _ _ _ _ refl e.pickle e.no.place e.no.why e.no.pair
-    (row_refused taking _ _ _ _ _ _ _ _ _ r.3 _ _ _ _
-    (refused_took _ _ _ _ _ r.4 r.5 _ _ _ r.6 _ c.taken-at.result (instruction_of inst) _ took
-    (seen_so _ _ _ c.advance.ensures.none (search rules)) (longest c.args.policy.now) _ _ _
-    c.in-Err.ensures.err refl).0 (λ is. r.7))
+    (row_took c.rows.ensures.taking _ _ _ _ _ _ _ _ _ r.3 r.4 r.5 _ _ _ r.6 _ c.taken-at.result
+    (instruction_of inst) _ took (seen_so _ _ _ c.advance.ensures.none (search rules))
+    (longest c.args.policy.now) _ _ (λ is. r.7) c.in-Err.ensures.err).0
 
 pub returns-in-Err-clause-count : goal.returns-in-Err-clause-count
 returns-in-Err-clause-count g c =
-    let taking = c.rows.ensures.taking in
     let r = c.instructions.invariant.row in
     let inst = c.in-Some.inst in
     let shown = c.in-Some.ensures.next in
@@ -73,13 +70,11 @@ returns-in-Err-clause-count g c =
     let took = took_peeked _ _ _ r.4 _ r.6.reads r.6.read_limits _ c.heads.ensures.peeked
     c.taken-at.result _ inst c.taken-at.ensures shown over in
     let now = sight g.R.Source.left g.R.Source.failures c.advance.new.self.source.now in
-    let seen = seen_so c.advance.new.self.core.ahead now now c.advance.ensures.none refl in
-    let no = (refused_took _ _ _ _ _ r.4 r.5 _ _ _ r.6 _ c.taken-at.result (instruction_of inst) now
-    took seen (longest c.args.policy.now) _ _ _ c.in-Err.ensures.err refl).0 in
     count_on _ _ _ _ _ _ _ _ _ (returns-in-Err-clause-answer g c) _ _ now c.refused.ensures.no.why
-    (none_failed taking _ _ _ _ _ _ _ _ _ r.3) (search rules)
-    (count_took _ _ _ _ _ r.4 r.5 _ _ _ r.6 _ c.taken-at.result (instruction_of inst) _ _ _ _ _ no
-    refl took seen _ c.in-Err.ensures.err)
+    refl (search rules) (row_took c.rows.ensures.taking _ _ _ _ _ _ _ _ _ r.3 r.4 r.5 _ _ _
+    r.6 _ c.taken-at.result (instruction_of inst) now took
+    (seen_so c.advance.new.self.core.ahead now now c.advance.ensures.none refl)
+    (longest c.args.policy.now) _ _ (λ is. r.7) c.in-Err.ensures.err).1
 
 pub instructions-preserved-in-Some : goal.instructions-preserved-in-Some
 instructions-preserved-in-Some g c =
@@ -90,6 +85,7 @@ instructions-preserved-in-Some g c =
     let took = took_peeked _ _ _ r.4 _ r.6.reads r.6.read_limits _ c.heads.ensures.peeked
     _ _ inst refl shown over in
     record {
+      memo = c.instructions.invariant.memo;
       same = c.advance-in-Some.ensures.source ∙ c.instructions.invariant.same;
       row = (
         _,
@@ -113,12 +109,11 @@ instructions-smaller-in-Some g c =
 
 pub returns-in-Err-next_head-clause-answer : goal.returns-in-Err-next_head-clause-answer
 returns-in-Err-next_head-clause-answer g c =
-    let taking = c.rows.ensures.taking in
     let k = c.next_head.follows.holds-at-none in
     let r = c.instructions.invariant.row in
     let e = c.refused-in-Err-next_head.ensures in
     told _ _ _ _ _ _ _ _ _ _ _ _ _ _ refl e.pickle e.no.place e.no.why (e.no.pair ∙ r.6.off)
-    (row_refused taking _ _ _ _ _ _ _ _ _ r.3 _ _ _ _
+    (row_refused c.rows.ensures.taking _ _ _ _ _ _ _ _ _ r.3 _ _ _ _
     (refused_turned _ _ _ _ _ r.4 r.5 _ _ _ r.6 _ c.in-Err-next_head.refusal _
     (refused_head _ _ _ r.4 _ r.6.reads r.6.read_limits _ c.heads.ensures.refused
     c.next_head.result c.in-Err-next_head.refusal k.1 (cc (c.in-Err-next_head.is)))
@@ -126,17 +121,16 @@ returns-in-Err-next_head-clause-answer g c =
 
 pub returns-in-Err-next_head-clause-count : goal.returns-in-Err-next_head-clause-count
 returns-in-Err-next_head-clause-count g c =
-    let taking = c.rows.ensures.taking in
     let k = c.next_head.follows.holds-at-none in
     let r = c.instructions.invariant.row in
     let w = (c.heads.ensures.refused _ _ _ r.4 _ _ c.next_head.result c.in-Err-next_head.refusal r.6.reads k.1
     (cc (c.in-Err-next_head.is))).1 in
     count_on _ _ _ _ _ _ _ _ _ (returns-in-Err-next_head-clause-answer g c) _ _ _ c.refused-in-Err-next_head.ensures.no.why
-    (r.6.reads.bytes.count ∙ none_failed taking _ _ _ _ _ _ _ _ _ r.3)
+    (r.6.reads.bytes.count ∙ none_failed c.rows.ensures.taking _ _ _ _ _ _ _ _ _ r.3)
     (seen_so _ _ _ k.3 (search rules)) w.failures
 
-pub overflow_add-pickles : goal.overflow_add-pickles
-overflow_add-pickles g c =
+pub next-requires-clause-room : goal.next-requires-clause-room
+next-requires-clause-room g c =
     let k = c.next_head.follows.holds-at-none in
     let r = c.instructions.invariant.row in
     let e = c.heads.ensures.ended _ _ _ r.4 _ _ c.next_head.result r.6.reads k.1
@@ -147,73 +141,41 @@ overflow_add-pickles g c =
     let range = c.taken-taken.type_inv in
     omega (arith, some, reads, few, range, c.taken-taken.ensures ∙ ap (λ s. s.taken) e.1)
 
-pub returns-in_default-restart-clause-answer : goal.returns-in_default-restart-clause-answer
-returns-in_default-restart-clause-answer g c =
+pub returns-in-Err-next-clause-answer : goal.returns-in-Err-next-clause-answer
+returns-in-Err-next-clause-answer g c =
     let taking = c.rows.ensures.taking in
     let k = c.next_head.follows.holds-at-none in
     let r = c.instructions.invariant.row in
     let e = c.heads.ensures.ended _ _ _ r.4 _ _ c.next_head.result r.6.reads k.1
     (cc (c.in-Ok-Ended.is, c.in-Ok-Ended.field-0-is)) in
-    let f = c.refused-in_default-restart.ensures in
-    told _ _ _ _ _ _ _ _ _ _ _ _ _ _ (seen_so _ _ _ k.3 (search rules) ∙ ap (λ s. s.source) e.1)
-    f.pickle (f.no.place ∙ (c.taken-taken.ensures ∙ ap (λ s. s.taken) e.1)) f.no.why
-    (f.no.pair ∙ (ap (λ v. v.machine.off) c.in_default-restart.ensures.kept ∙ r.6.off))
+    let x = c.in-Err-next.refusal in
+    let looks = c.next.ensures.reader in
+    let ahead = (let b = rw c.in-Err-next.is at looks.ahead in b) in
+    let off = (let b = rw c.in-Err-next.is at c.next.ensures.session.off in b) in
+    let h = refused_from _ _ _ c.next.result x e.1 looks.refused c.in-Err-next.is in
+    let f = c.refused-in-Err-next.ensures in
+    told _ _ _ _ _ _ _ _ _ _ _ _ _ _ (seen_so _ _ _ ahead (search rules))
+    (f.pickle ∙ c.next.ensures.row.number) f.no.place f.no.why (f.no.pair ∙ off)
     (row_refused taking _ _ _ _ _ _ _ _ _ (pickle_more taking _ _ _ _ _ _ _ _ _ r.3 r.4 r.5 _ _
     _ r.6 e.0 _ (taking.none _) nothing_known _ refl) _ _ _ _
-    (refused_growing taking c.args.loading _ _ r.6.laws c.rows.ensures.begins
-    (state g.R.Source.left g.R.Source.failures c.instructions.reader) r.6.read_limits _ _
-    (next_ready taking _ _ _ _ _ _ _ _ _ r.3 r.4 r.5 _ _ _ r.6 e.0) c.rows.ensures.refused)
-    (λ is. absurd (growing_is_not_cut is)))
-
-pub returns-in_default-restart-clause-count : goal.returns-in_default-restart-clause-count
-returns-in_default-restart-clause-count g c =
-    let taking = c.rows.ensures.taking in
-    let k = c.next_head.follows.holds-at-none in
-    let r = c.instructions.invariant.row in
-    let e = c.heads.ensures.ended _ _ _ r.4 _ _ c.next_head.result r.6.reads k.1
-    (cc (c.in-Ok-Ended.is, c.in-Ok-Ended.field-0-is)) in
-    count_on _ _ _ _ _ _ _ _ _ (returns-in_default-restart-clause-answer g c) _ _ _
-    c.refused-in_default-restart.ensures.no.why (r.6.reads.bytes.count ∙ none_failed taking _ _ _ _ _ _
-    _ _ _ r.3) (seen_so _ _ _ k.3 (search rules) ∙ ap (λ s. s.source) e.1) refl
-
-pub returns-in-Err-again-clause-answer : goal.returns-in-Err-again-clause-answer
-returns-in-Err-again-clause-answer g c =
-    let taking = c.rows.ensures.taking in
-    let k = c.next_head.follows.holds-at-none in
-    let r = c.instructions.invariant.row in
-    let e = c.heads.ensures.ended _ _ _ r.4 _ _ c.next_head.result r.6.reads k.1
-    (cc (c.in-Ok-Ended.is, c.in-Ok-Ended.field-0-is)) in
-    let steps = subst (λ s. StepsAgain s c.again.result
-    (state g.R.Source.left g.R.Source.failures c.again.new.self)) e.1 c.again.ensures.steps in
-    let h = again_refused _ _ c.again.result c.in-Err-again.refusal steps (cc (c.in-Err-again.is))
-    in
-    let ahead = (let b = rw c.in-Err-again.is at c.again.ensures.byte in b) in
-    let f = c.refused-in-Err-again.ensures in
-    told _ _ _ _ _ _ _ _ _ _ _ _ _ _ (seen_so _ _ _ ahead (search rules)) f.pickle f.no.place
-    f.no.why (f.no.pair ∙ (ap (λ v. v.machine.off) c.in-Ok.ensures.next ∙
-    (next_ready taking _ _ _ _ _ _ _ _ _ r.3 r.4 r.5 _ _ _ r.6 e.0).off))
-    (row_refused taking _ _ _ _ _ _ _ _ _ (pickle_more taking _ _ _ _ _ _ _ _ _ r.3 r.4 r.5 _ _
-    _ r.6 e.0 _ (taking.none _) nothing_known _ refl) _ _ _ _
-    (refused_again taking c.args.loading _ _ r.6.laws c.rows.ensures.begins _ r.6.read_limits _
+    (refused_behind taking c.args.loading _ _ r.6.laws c.rows.ensures.begins _ r.6.read_limits _
     _ (next_ready taking _ _ _ _ _ _ _ _ _ r.3 r.4 r.5 _ _ _ r.6 e.0) c.rows.ensures.refused _
-    c.in-Err-again.refusal h) (λ is. absurd (again_is_not_cut _ _ c.in-Err-again.refusal h is)))
+    x h) (λ is. absurd (behind_is_not_cut _ _ x h is)))
 
-pub returns-in-Err-again-clause-count : goal.returns-in-Err-again-clause-count
-returns-in-Err-again-clause-count g c =
-    let taking = c.rows.ensures.taking in
+pub returns-in-Err-next-clause-count : goal.returns-in-Err-next-clause-count
+returns-in-Err-next-clause-count g c =
     let k = c.next_head.follows.holds-at-none in
     let r = c.instructions.invariant.row in
     let e = c.heads.ensures.ended _ _ _ r.4 _ _ c.next_head.result r.6.reads k.1
     (cc (c.in-Ok-Ended.is, c.in-Ok-Ended.field-0-is)) in
-    let steps = subst (λ s. StepsAgain s c.again.result
-    (state g.R.Source.left g.R.Source.failures c.again.new.self)) e.1 c.again.ensures.steps in
-    let h = again_refused _ _ c.again.result c.in-Err-again.refusal steps (cc (c.in-Err-again.is))
-    in
-    let ahead = (let b = rw c.in-Err-again.is at c.again.ensures.byte in b) in
-    count_on _ _ _ _ _ _ _ _ _ (returns-in-Err-again-clause-answer g c) _ _ _
-    c.refused-in-Err-again.ensures.no.why (r.6.reads.bytes.count ∙ none_failed taking _ _ _ _ _
+    let x = c.in-Err-next.refusal in
+    let looks = c.next.ensures.reader in
+    let ahead = (let b = rw c.in-Err-next.is at looks.ahead in b) in
+    let h = refused_from _ _ _ c.next.result x e.1 looks.refused c.in-Err-next.is in
+    count_on _ _ _ _ _ _ _ _ _ (returns-in-Err-next-clause-answer g c) _ _ _
+    c.refused-in-Err-next.ensures.no.why (r.6.reads.bytes.count ∙ none_failed c.rows.ensures.taking _ _ _ _ _
     _ _ _ _ r.3) (seen_so _ _ _ ahead (search rules))
-    (c.rows.ensures.refused 0 _ _ c.in-Err-again.refusal h).1
+    (behind_counts _ _ x h c.rows.ensures.refused)
 
 pub instructions-preserved-in-Ok-true : goal.instructions-preserved-in-Ok-true
 instructions-preserved-in-Ok-true g c =
@@ -222,32 +184,32 @@ instructions-preserved-in-Ok-true g c =
     let r = c.instructions.invariant.row in
     let e = c.heads.ensures.ended _ _ _ r.4 _ _ c.next_head.result r.6.reads k.1
     (cc (c.in-Ok-Ended.is, c.in-Ok-Ended.field-0-is)) in
-    let steps = subst (λ s. StepsAgain s c.again.result
-    (state g.R.Source.left g.R.Source.failures c.again.new.self)) e.1 c.again.ensures.steps in
-    let h = again_true _ _ c.again.result steps (cc (c.in-Ok-true.is, c.in-Ok-true.field-0-test)) in
-    let ahead = (let b = rw (c.in-Ok-true.is, c.in-Ok-true.field-0-test) at c.again.ensures.byte in
-    b) in
-    let s = state g.R.Source.left g.R.Source.failures c.again.new.self in
-    let more = pickle_more taking _ _ _ _ _ _ _ _ _ r.3 r.4 r.5 _ _ _ r.6 e.0 s.source h.0
-    (restarted c.args.loading.memo c.instructions.session.machine).knowledge _
-    c.in-Ok.ensures.apart in
-    let machine = c.in-Ok.ensures.next in
-    let ready = next_ready taking _ _ _ _ _ _ _ _ _ r.3 r.4 r.5 _ _ _ r.6 e.0 in
+    let counted = c.next.ensures.row in
+    let looks = c.next.ensures.reader in
+    let s = state g.R.Source.left g.R.Source.failures c.next.new.reader in
+    let h = again_true _ _ _ c.next.result e.1 looks.steps (cc (c.in-Ok-true.is, c.in-Ok-true.field-0-test)) in
+    let ahead = (let b = rw (c.in-Ok-true.is, c.in-Ok-true.field-0-test) at looks.ahead in b) in
+    let kept = c.instructions.invariant.memo in
+    let apart = (let b = rw (c.in-Ok-true.is, kept) at counted.apart in b) in
+    let machine = (let b = rw (c.in-Ok-true.is, kept) at c.next.ensures.session.ready in b) in
     let memo = c.args.loading.memo in
+    let more = pickle_more taking _ _ _ _ _ _ _ _ _ r.3 r.4 r.5 _ _ _ r.6 e.0 s.source h.0
+    (restarted memo c.instructions.session.machine).knowledge _ apart in
+    let ready = next_ready taking _ _ _ _ _ _ _ _ _ r.3 r.4 r.5 _ _ _ r.6 e.0 in
     let row = r.2 ++ this r.4 r.5 ∷ [] in
     let origin : Origin = record {
       at = s.taken;
       beginning = begins memo row;
-      known =
-          (restarted memo c.instructions.session.machine).knowledge;
+      known = (restarted memo c.instructions.session.machine).knowledge;
     } in
     record {
-      same = search rules;
+      memo = counted.memo ∙ kept;
+      same = looks.source ∙ (k.0 ∙ c.instructions.invariant.same);
       row = (
         s.source,
         origin,
         row,
-        rw h.2 more,
+        rw (h.2, counted.number) more,
         [],
         [],
         rw machine
@@ -264,22 +226,28 @@ returns-in-Ok-false-clause-answer g c =
     let r = c.instructions.invariant.row in
     let e = c.heads.ensures.ended _ _ _ r.4 _ _ c.next_head.result r.6.reads k.1
     (cc (c.in-Ok-Ended.is, c.in-Ok-Ended.field-0-is)) in
-    let steps = subst (λ s. StepsAgain s c.again.result
-    (state g.R.Source.left g.R.Source.failures c.again.new.self)) e.1 c.again.ensures.steps in
-    let h = again_false _ _ c.again.result steps (cc (c.in-Ok-false.is, c.in-Ok-false.field-0-test))
+    let counted = c.next.ensures.row in
+    let looks = c.next.ensures.reader in
+    let s = state g.R.Source.left g.R.Source.failures c.next.new.reader in
+    let h = again_false _ _ _ c.next.result e.1 looks.steps (cc (c.in-Ok-false.is, c.in-Ok-false.field-0-test))
     in
-    let s = state g.R.Source.left g.R.Source.failures c.again.new.self in
-    let ahead = (let b = rw (c.in-Ok-false.is, c.in-Ok-false.field-0-test) at c.again.ensures.byte
-    in b) in
+    let ahead = (let b = rw (c.in-Ok-false.is, c.in-Ok-false.field-0-test) at looks.ahead in b) in
+    let kept = c.instructions.invariant.memo in
+    let apart = (let b = rw (c.in-Ok-false.is, kept) at counted.apart in b) in
+    let machine = (let b = rw (c.in-Ok-false.is, kept) at c.next.ensures.session.ready in b) in
     let more = pickle_more taking _ _ _ _ _ _ _ _ _ r.3 r.4 r.5 _ _ _ r.6 e.0 s.source h.0
-    nothing_known _ c.in-Ok.ensures.apart in
+    nothing_known _ apart in
     let is = c.taken-taken.ensures ∙ ap (λ s. s.taken) e.1 in
     let ready = next_ready taking _ _ _ _ _ _ _ _ _ r.3 r.4 r.5 _ _ _ r.6 e.0 in
-    told_yes _ _ _ _ _ _ _ _ _ _ _ (seen_so _ _ _ ahead (search rules)) refl
-    c.imports_of_row.ensures (row_accepted taking _ _ _ _ _ _ _ _ _ more _ _ (omega arith) h.1
+    let f = c.accepted.ensures in
+    told_yes _ _ _ _ _ _ _ _ _ _ _ _ (seen_so _ _ _ ahead (search rules)) f.taken
+    (f.pickles ∙ counted.number)
+    (f.imports ∙ ap (λ m. listed_in m c.next.new.self.apart.asked
+    c.next.new.session.machine.imports) (counted.memo ∙ kept))
+    (row_accepted taking _ _ _ _ _ _ _ _ _ more _ _ (omega arith) h.1
     is (subst (λ n. n < all_bytes) (sym is) h.2)
     (all_listed c.args.loading.memo _ _ _ more.listed
-    (ap (λ v. v.machine.imports) c.in-Ok.ensures.next ∙ ready.imports)))
+    (ap (λ v. v.machine.imports) machine ∙ ready.imports)))
 
 pub returns-in-Ok-false-clause-count : goal.returns-in-Ok-false-clause-count
 returns-in-Ok-false-clause-count g c =
@@ -287,7 +255,6 @@ returns-in-Ok-false-clause-count g c =
 
 pub returns-in-Err-judge_passed-clause-answer : goal.returns-in-Err-judge_passed-clause-answer
 returns-in-Err-judge_passed-clause-answer g c =
-    let taking = c.rows.ensures.taking in
     let k = c.next_head.follows.holds-at-none in
     let r = c.instructions.invariant.row in
     let w = took_passed _ _ _ r.4 _ r.6.reads r.6.read_limits _ c.heads.ensures.passed
@@ -296,42 +263,30 @@ returns-in-Err-judge_passed-clause-answer g c =
     let i : Instruction = instruction c.in-Ok-Passed.op (Counted w.payload) in
     let e = c.refused-in-Err-judge_passed.ensures in
     told _ _ _ _ _ _ _ _ _ _ _ _ _ _ refl e.pickle e.no.place e.no.why e.no.pair
-    (row_refused taking _ _ _ _ _ _ _ _ _ r.3 _ _ _ _
-    (refused_took _ _ _ _ _ r.4 r.5 _ _ _ r.6 _ c.in-Ok-Passed.at i _ w.took
-    (seen_so _ _ _ k.3 (search rules)) (longest c.args.policy.now) _ _ _
-    (c.in-Err-judge_passed.ensures.err i (long_passed _ _ _ _ _ _ _ _ _ w _ c.taken.ensures))
-    refl).0 (λ is. r.7))
+    (row_took c.rows.ensures.taking _ _ _ _ _ _ _ _ _ r.3 r.4 r.5 _ _ _ r.6 _ c.in-Ok-Passed.at i
+    _ w.took (seen_so _ _ _ k.3 (search rules)) (longest c.args.policy.now) _ _ (λ is. r.7)
+    (c.in-Err-judge_passed.ensures.err i
+    (long_passed _ _ _ _ _ _ _ _ _ w _ c.taken.ensures))).0
 
 pub returns-in-Err-judge_passed-clause-count : goal.returns-in-Err-judge_passed-clause-count
 returns-in-Err-judge_passed-clause-count g c =
-    let taking = c.rows.ensures.taking in
     let k = c.next_head.follows.holds-at-none in
     let r = c.instructions.invariant.row in
     let w = took_passed _ _ _ r.4 _ r.6.reads r.6.read_limits _ c.heads.ensures.passed
     c.next_head.result c.in-Ok-Passed.at c.in-Ok-Passed.op c.in-Ok-Passed.field-0-2 k.1
     (cc (c.in-Ok-Passed.is, c.in-Ok-Passed.field-0-is)) in
     let i : Instruction = instruction c.in-Ok-Passed.op (Counted w.payload) in
-    let no = (refused_took _ _ _ _ _ r.4 r.5 _ _ _ r.6 _ c.in-Ok-Passed.at i
-    (sight g.R.Source.left g.R.Source.failures c.next_head.follows.lender-at-none.source.now)
-    w.took (seen_so c.next_head.follows.lender-at-none.core.ahead
-    (sight g.R.Source.left g.R.Source.failures c.next_head.follows.lender-at-none.source.now)
-    (sight g.R.Source.left g.R.Source.failures c.next_head.follows.lender-at-none.source.now)
-    k.3 refl) (longest c.args.policy.now) _ _ _
-    (c.in-Err-judge_passed.ensures.err i (long_passed _ _ _ _ _ _ _ _ _ w _ c.taken.ensures))
-    refl).0 in
-    count_on _ _ _ _ _ _ _ _ _ (returns-in-Err-judge_passed-clause-answer g c) _ _
-    (sight g.R.Source.left g.R.Source.failures c.next_head.follows.lender-at-none.source.now)
-    c.refused-in-Err-judge_passed.ensures.no.why (none_failed taking _ _ _ _ _ _ _ _ _ r.3)
-    (search rules) (count_took _ _ _ _ _ r.4 r.5 _ _ _ r.6 _ c.in-Ok-Passed.at i _ _ _ _ _ no
-    refl w.took (seen_so c.next_head.follows.lender-at-none.core.ahead
-    (sight g.R.Source.left g.R.Source.failures c.next_head.follows.lender-at-none.source.now)
-    (sight g.R.Source.left g.R.Source.failures c.next_head.follows.lender-at-none.source.now)
-    k.3 refl) _ (c.in-Err-judge_passed.ensures.err i
-    (long_passed _ _ _ _ _ _ _ _ _ w _ c.taken.ensures)))
+    let lender = c.next_head.follows.lender-at-none in
+    let now = sight g.R.Source.left g.R.Source.failures lender.source.now in
+    count_on _ _ _ _ _ _ _ _ _ (returns-in-Err-judge_passed-clause-answer g c) _ _ now
+    c.refused-in-Err-judge_passed.ensures.no.why refl (search rules)
+    (row_took c.rows.ensures.taking _ _ _ _ _ _ _ _ _ r.3 r.4 r.5 _ _ _ r.6 _ c.in-Ok-Passed.at i now w.took
+    (seen_so lender.core.ahead now now k.3 refl) (longest c.args.policy.now) _ _ (λ is. r.7)
+    (c.in-Err-judge_passed.ensures.err i
+    (long_passed _ _ _ _ _ _ _ _ _ w _ c.taken.ensures))).1
 
 pub returns-in-Err-judge-clause-answer : goal.returns-in-Err-judge-clause-answer
 returns-in-Err-judge-clause-answer g c =
-    let taking = c.rows.ensures.taking in
     let k = c.next_head.follows.holds-at-none in
     let r = c.instructions.invariant.row in
     let took = took_head _ _ _ r.4 _ r.6.reads r.6.read_limits _ c.heads.ensures.given
@@ -339,35 +294,24 @@ returns-in-Err-judge-clause-answer g c =
     (cc (c.in-Ok-Inst.is, c.in-Ok-Inst.field-0-is)) in
     let e = c.refused-in-Err-judge.ensures in
     told _ _ _ _ _ _ _ _ _ _ _ _ _ _ refl e.pickle e.no.place e.no.why e.no.pair
-    (row_refused taking _ _ _ _ _ _ _ _ _ r.3 _ _ _ _
-    (refused_took _ _ _ _ _ r.4 r.5 _ _ _ r.6 _ c.in-Ok-Inst.at
+    (row_took c.rows.ensures.taking _ _ _ _ _ _ _ _ _ r.3 r.4 r.5 _ _ _ r.6 _ c.in-Ok-Inst.at
     (instruction_of c.in-Ok-Inst.inst) _ took (seen_so _ _ _ k.3 (search rules))
-    (longest c.args.policy.now) _ _ _ c.in-Err-judge.ensures.err refl).0 (λ is. r.7))
+    (longest c.args.policy.now) _ _ (λ is. r.7) c.in-Err-judge.ensures.err).0
 
 pub returns-in-Err-judge-clause-count : goal.returns-in-Err-judge-clause-count
 returns-in-Err-judge-clause-count g c =
-    let taking = c.rows.ensures.taking in
     let k = c.next_head.follows.holds-at-none in
     let r = c.instructions.invariant.row in
     let took = took_head _ _ _ r.4 _ r.6.reads r.6.read_limits _ c.heads.ensures.given
     c.next_head.result c.in-Ok-Inst.at c.in-Ok-Inst.inst k.1
     (cc (c.in-Ok-Inst.is, c.in-Ok-Inst.field-0-is)) in
-    let no = (refused_took _ _ _ _ _ r.4 r.5 _ _ _ r.6 _ c.in-Ok-Inst.at
-    (instruction_of c.in-Ok-Inst.inst) (sight g.R.Source.left g.R.Source.failures
-    c.next_head.follows.lender-at-none.source.now) took
-    (seen_so c.next_head.follows.lender-at-none.core.ahead
-    (sight g.R.Source.left g.R.Source.failures c.next_head.follows.lender-at-none.source.now)
-    (sight g.R.Source.left g.R.Source.failures c.next_head.follows.lender-at-none.source.now)
-    k.3 refl) (longest c.args.policy.now) _ _ _ c.in-Err-judge.ensures.err refl).0 in
-    count_on _ _ _ _ _ _ _ _ _ (returns-in-Err-judge-clause-answer g c) _ _
-    (sight g.R.Source.left g.R.Source.failures c.next_head.follows.lender-at-none.source.now)
-    c.refused-in-Err-judge.ensures.no.why (none_failed taking _ _ _ _ _ _ _ _ _ r.3)
-    (search rules) (count_took _ _ _ _ _ r.4 r.5 _ _ _ r.6 _ c.in-Ok-Inst.at
-    (instruction_of c.in-Ok-Inst.inst) _ _ _ _ _ no refl took
-    (seen_so c.next_head.follows.lender-at-none.core.ahead
-    (sight g.R.Source.left g.R.Source.failures c.next_head.follows.lender-at-none.source.now)
-    (sight g.R.Source.left g.R.Source.failures c.next_head.follows.lender-at-none.source.now)
-    k.3 refl) _ c.in-Err-judge.ensures.err)
+    let lender = c.next_head.follows.lender-at-none in
+    let now = sight g.R.Source.left g.R.Source.failures lender.source.now in
+    count_on _ _ _ _ _ _ _ _ _ (returns-in-Err-judge-clause-answer g c) _ _ now
+    c.refused-in-Err-judge.ensures.no.why refl (search rules)
+    (row_took c.rows.ensures.taking _ _ _ _ _ _ _ _ _ r.3 r.4 r.5 _ _ _ r.6 _ c.in-Ok-Inst.at (instruction_of c.in-Ok-Inst.inst) now took
+    (seen_so lender.core.ahead now now k.3 refl) (longest c.args.policy.now) _ _ (λ is. r.7)
+    c.in-Err-judge.ensures.err).1
 
 pub instructions-preserved-in_default-judge_passed :
     goal.instructions-preserved-in_default-judge_passed
@@ -379,6 +323,7 @@ instructions-preserved-in_default-judge_passed g c =
     (cc (c.in-Ok-Passed.is, c.in-Ok-Passed.field-0-is)) in
     let i : Instruction = instruction c.in-Ok-Passed.op (Counted w.payload) in
     record {
+      memo = c.instructions.invariant.memo;
       same = k.0 ∙ c.instructions.invariant.same;
       row = (
         _,
@@ -402,6 +347,7 @@ instructions-preserved g c =
     c.next_head.result c.in-Ok-Inst.at c.in-Ok-Inst.inst k.1
     (cc (c.in-Ok-Inst.is, c.in-Ok-Inst.field-0-is)) in
     record {
+      memo = c.instructions.invariant.memo;
       same = k.0 ∙ c.instructions.invariant.same;
       row = (
         _,

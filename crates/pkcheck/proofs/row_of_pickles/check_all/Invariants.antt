@@ -14,11 +14,12 @@ use Rattle.pkcheck.proofs.row_of_pickles.check_all.Given as goal
 
 abbrev pub invariant-instructions : goal.invariant-instructions
 invariant-instructions g l = record {
+  memo : l.row.memo ≡ l.fn.loading.memo;
   same : l.reader.source.ghost_name ≡ l.initial.reader.source.ghost_name;
   row : (here : Sight) × (origin : Origin) × (before : List Pickle)
       × RowSoFar l.fn.loading (policy_of l.fn.policy) l.fn.limits
-      (sight g.R.Source.left g.R.Source.failures l.fn.source) here origin l.pickles
-      l.apart.asked before
+      (sight g.R.Source.left g.R.Source.failures l.fn.source) here origin l.row.pickles
+      l.row.apart.asked before
       × (p : List Instruction) × (asked : List (Option Asked)) × Checked l.fn.loading.old_strings
       (policy_of l.fn.policy) l.fn.limits here origin p asked
       (state g.R.Source.left g.R.Source.failures l.reader) l.session.frame l.session.machine
