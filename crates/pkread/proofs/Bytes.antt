@@ -7,4 +7,5 @@ pub mod Judged
 pub mod Texts
 pub mod Plain
 pub mod Skipped
+pub mod Lengths
 pub mod Front

@@ -6,6 +6,7 @@ use pkread::{
 };
 use std::alloc::Global;
 use std::process::Abort;
+use std::test::Fail;
 
 // An instruction's offset and opcode, `None` at the end, or a refusal.
 type Answer = Result<Option<(u64, Op)>, Refusal>;
@@ -86,6 +87,17 @@ fn what_is_at_hand_is_peeked(rt: HostRuntime) {
     // A source with nothing at hand.
     let first = (0, 0, Ok(Some((0, Op::None))));
     assert_eq!(rt; peek_on(&rt, &mut Input::new(b"N.".as_slice())), first);
+}
+
+#[test]
+fn a_long_payload_is_peeked(rt: HostRuntime) -> Result<(), Fail> {
+    let mut long = Vec::new(rt.alloc());
+    long.extend_from_slice(b"X\x40\x0d\x03\0")?;
+    long.resize(200_005, b'a')?;
+    long.push(b'.')?;
+    let stops = (1, 200_005, Ok(Some((200_005, Op::Stop))));
+    assert_eq!(rt; peek_on(&rt, &mut Memory::new(&long)), stops);
+    Ok(())
 }
 
 // What `next_head` returns: an instruction, a skipped payload, or the end.

@@ -1,10 +1,9 @@
 -- The instruction at the front of the bytes that a source has at hand.
-use Rattle.std.proofs.Common.{◌≡◌, ◌⊎◌, inl, inr, ℕ, suc, zero, ◌+◌, ◌-◌, ◌*◌, ◌<◌, ◌≤◌, Bool, false, true, List, [], ◌∷◌, ◌++◌, length, take, drop, get_or, Option, None, Some, refl, sym, ap, subst, ◌∙◌, arith, append_assoc, length-append}
+use Rattle.std.proofs.Common.{◌≡◌, ℕ, suc, zero, ◌+◌, ◌-◌, ◌*◌, ◌<◌, ◌≤◌, Bool, false, true, List, [], ◌∷◌, ◌++◌, length, take, drop, get_or, Option, None, Some, refl, sym, ap, subst, ◌∙◌, arith, append_assoc, length-append}
 use Rattle.std.specs.Prelude.{◌≢◌, ◌==◌, position, slice_index}
 use Rattle.std.specs.List.{AllByRecursion, position_or_len}
 use Rattle.std.specs.Io.KnownBytes.{Consumes}
 use Rattle.std.specs.Str.{IsUtf8}
-use Rattle.std.proofs.Math.Nat.{le-max_left, le-max_right}
 use Rattle.std.proofs.Math.Seq.{take-add}
 use Rattle.std.proofs.lemmas.List.{get_or-take, length-drop, length-take, take-append-drop, take-append-le, take-take, take_all, take_at, take_more}
 use Rattle.std.proofs.lemmas.List.Quantifiers.{position-Some}
@@ -25,6 +24,7 @@ use Rattle.pkops.specs.declared.Width.{Width}
 use Rattle.pkops.specs.declared.Width.TheVariants as width
 use Rattle.pkops.specs.declared.Op.{Op}
 use Rattle.pkops.specs.declared.Op.TheVariants as op
+use Rattle.pkread.proofs.Bytes.Lengths.{field_few, is_few}
 use Rattle.pkread.proofs.Bytes.Plain.{any_rule, takes_any, text_admitted, text_rule}
 use Rattle.pkread.proofs.Bytes.Taken.{AreBytes-take}
 use Rattle.pkread.proofs.Bytes.Texts.{line_admitted, pair_admitted}
@@ -63,32 +63,6 @@ pub takes_shown : (count : ℕ) (window : List ℕ) (old new : Sight) → Begins
     Takes old new (take count window)
 takes_shown count window old new h le t same =
     record { bytes = consumes_shown count window old.left new.left h le t; count = same }
-
-field_few : (l : Layout) → field_len l ≤ 8
-field_few layout.Nothing = omega arith
-field_few layout.U1 = omega arith
-field_few layout.U2 = omega arith
-field_few layout.I4 = omega arith
-field_few layout.U4 = omega arith
-field_few layout.U8 = omega arith
-field_few layout.F8 = omega arith
-field_few (layout.Line most) = omega arith
-field_few (layout.Pair most) = omega arith
-field_few (layout.Counted width.One signed) = omega arith
-field_few (layout.Counted width.Four signed) = omega arith
-field_few (layout.Counted width.Eight signed) = omega arith
-
--- a buffer may hold as many bytes whatever the limits
-pub is_few : (counted n : ℕ) → n ≤ 131_075 → n ≤ longest counted
-is_few counted n few = let most = le-max_right (counted + 9) 131_075 in omega (arith, most, few)
-
--- an instruction with a payload is not longer than a buffer may hold
-pub counted_few : (counted count n : ℕ) (size : Width) → n ≡ size_of size + 1 + count →
-    (count ≤ counted) ⊎ (n ≤ 131_075) → n ≤ longest counted
-counted_few counted count n size is (inl few) =
-    let head = field_few (layout.Counted size false) in
-    let most = le-max_left (counted + 9) 131_075 in omega (arith, is, head, most, few)
-counted_few counted count n size is (inr few) = is_few counted n few
 
 -- an opcode with an argument of fixed length, of which all are good
 pub fixed_front : FieldLaws → (limits : Bounds) (n : ℕ) (o : Op) (bytes : List ℕ) →

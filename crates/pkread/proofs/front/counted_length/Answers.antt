@@ -1,6 +1,7 @@
 use Rattle.std.proofs.Common.{ℕ, ◌+◌, ◌-◌, refl, subst, arith, drop, take}
 use Rattle.std.specs.Str.{IsUtf8}
-use Rattle.pkread.proofs.Bytes.Front.{counted_few, counted_front}
+use Rattle.pkread.proofs.Bytes.Front.{counted_front}
+use Rattle.pkread.proofs.Bytes.Lengths.{counted_few}
 use Rattle.pkread.proofs.front.counted_length.Goals as goal
 
 pub returns : goal.returns
