@@ -3,3 +3,4 @@ pub mod SlimForm
 pub mod BothRuns
 pub mod OneFrame
 pub mod Optimized
+pub mod Pieces

@@ -1,4 +1,4 @@
 -- The frame around the slim form.
-pub mod RoomBefore
+pub mod Fronts
 pub mod FramedForm
 pub mod OneSequence

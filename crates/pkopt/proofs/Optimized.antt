@@ -1,7 +1,6 @@
 -- What the answers of `optimize` rest on.
-use Rattle.std.proofs.Common.{◌≡◌, ℕ, suc, ◌<◌, ◌≤◌, ◌^◌, Bool, true, false, List, [], ◌∷◌, ◌++◌, length, Option, None, Result, Ok, ◌⊎◌, inl, inr, refl, sym, ap, subst, ◌∙◌, arith, drop, length-drop, replicate}
+use Rattle.std.proofs.Common.{◌≡◌, ℕ, suc, ◌<◌, ◌≤◌, ◌^◌, Bool, true, false, List, [], ◌∷◌, ◌++◌, length, Option, None, Some, Result, cond, length-append, Ok, inl, inr, refl, sym, ap, subst, ◌∙◌, arith}
 use Rattle.std.proofs.lemmas.Bool.{cond_both}
-use Rattle.std.proofs.lemmas.List.{drop_at, length-replicate}
 use Rattle.std.specs.Prelude.{◌≢◌, All, slice_index_or}
 use Rattle.pkops.specs.Limits.{Bounds, holding_all}
 use Rattle.pkops.specs.Payloads.{is_passed, payload_limit}
@@ -27,22 +26,30 @@ use Rattle.pkopt.specs.declared.optimizing.Traced.{Traced}
 use Rattle.pkopt.specs.declared.trace.Trace.{Trace}
 use Rattle.pkopt.specs.Private.Passes.{AreNumbers, IsNewTrace, Hears}
 use Rattle.pkopt.specs.Private.Tracing.{IsTraced}
-use Rattle.pkopt.specs.Answer.{Checks, pickle, Optimizes, PassesLimit, FailsCheck, IsNotOptimized}
+use Rattle.pkopt.specs.Answer.{Checks, pickle, Optimizes, FailsCheck, IsNotOptimized}
 use Rattle.pkread.specs.Rows.{in_memory}
-use Rattle.pkopt.specs.Private.Fates.{Aims, IsSlim, StopsSlim, IsPastAt, IsPlanFor}
+use Rattle.pkopt.specs.Private.Fates.{Aims, IsSlim, IsPlanFor}
 use Rattle.pkopt.specs.Private.FrameBytes.{framed_bytes}
+use Rattle.pkopt.specs.Private.Outputs.{has_frames, output, slim_bytes}
 use Rattle.pkopt.specs.Private.Places.{places_behind}
+use Rattle.pkopt.specs.Private.Produced.{first_past}
 use Rattle.pkopt.specs.Private.Fronts.{EndsInStop}
 use Rattle.pkopt.specs.Limit.{IsPastLimit}
 use Rattle.pkopt.specs.OneFrame.{has_frame, optimized}
 use Rattle.pkopt.specs.RunsAlike.{RunsAlike}
-use Rattle.pkopt.specs.Slim.{slim}
+use Rattle.pkopt.specs.Slim.{is_frame, slim}
 use Rattle.pkopt.specs.Writers.{Writes, after, sources, new_number, after_all}
 use Rattle.pkopt.proofs.BothRuns.Faultless.{stays_faultless}
 use Rattle.pkopt.proofs.MemoWrites.NewNumbers.{after_all_le, new_least, new_up_to}
 use Rattle.pkopt.proofs.BothRuns.Heard.{heard_tracks}
-use Rattle.pkopt.proofs.OneFrame.FramedForm.{optimized_alike, optimized_framed, optimized_bytes, slim_bytes}
+use Rattle.pkopt.proofs.OneFrame.FramedForm.{optimized_alike, optimized_framed, optimized_bytes, unframed_bytes}
 use Rattle.pkopt.proofs.BothRuns.Origins.{counterpart}
+use Rattle.pkopt.proofs.MemoWrites.Parts.{framed_parts}
+use Rattle.pkopt.proofs.SlimForm.Unchanged.{framed_places}
+use Rattle.pkopt.proofs.SlimForm.Whole.{past_found, produced_slim}
+use Rattle.pkopt.specs.declared.place.Place.{Place}
+use Rattle.std.specs.List.{list_any}
+use Rattle.pkread.specs.declared.Reason.TheVariants.{TooLarge}
 use Rattle.pkopt.proofs.SlimForm.WritesRead.{all_read, after_all-append}
 use Rattle.pkopt.proofs.OneFrame.OneSequence.{optimized_sequence}
 use Rattle.pkopt.proofs.BothRuns.SlimRuns.{AreSmall, slim_alike}
@@ -82,22 +89,20 @@ none_past p limit le before (i, rest, parts, more, read, number) =
     omega (arith, less, le, number)
 
 spelled_by : (b : Bool) (limits : Bounds) (bytes : List ℕ) (c : Checks limits bytes)
-    → has_frame (pickle c) ≡ b → (out slim_out : List ℕ) → slim_out ≡ spellings (slim (pickle c))
-    → ((b ≡ true) × (out ≡ framed_bytes slim_out)) ⊎ ((b ≡ false) × (out ≡ slim_out))
-    → out ≡ spellings (optimized (pickle c))
-spelled_by b limits bytes c f out slim_out e (inl h) = h.1 ∙ ap framed_bytes e ∙ optimized_bytes limits.counted (pickle c) (ends_of limits bytes c) (f ∙ h.0)
-spelled_by b limits bytes c f out slim_out e (inr h) = h.1 ∙ e ∙ slim_bytes (pickle c) (f ∙ h.0)
+    → has_frame (pickle c) ≡ b → (result slim_out : List ℕ) → slim_out ≡ spellings (slim (pickle c))
+    → result ≡ cond b (framed_bytes slim_out) slim_out → result ≡ spellings (optimized (pickle c))
+spelled_by true limits bytes c f result slim_out e how = how ∙ ap framed_bytes e ∙ optimized_bytes limits.counted (pickle c) (ends_of limits bytes c) f
+spelled_by false limits bytes c f result slim_out e how = how ∙ e ∙ unframed_bytes (pickle c) f
 
--- the answer where the slim form was written
-pub optimizes : CountingIsExact → WellIsFree → WellCarriesOver
-    → (limits : Bounds) (bytes : List ℕ) (c : Checks limits bytes) (limit room : ℕ) (out : List ℕ)
+-- the answer where the slim form is produced
+optimizes : CountingIsExact → WellIsFree → WellCarriesOver
+    → (limits : Bounds) (bytes : List ℕ) (c : Checks limits bytes) (limit : ℕ) (out : List ℕ)
     (has : Bool) (result : List ℕ) → limit < 2 ^ 32 → length out < 2 ^ 64 → limit ≡ limits.memo
-    → IsSlim (pickle c) limit room out → has ≡ has_frame (pickle c)
-    → ((has ≡ true) × (result ≡ framed_bytes (drop room out))) ⊎ ((has ≡ false) × (result ≡ drop room out)) → Optimizes limits bytes result
-optimizes exact well_free carries limits bytes c limit room out has result lt short same h framed_so how =
+    → IsSlim (pickle c) limit out → has ≡ has_frame (pickle c)
+    → result ≡ cond has (framed_bytes out) out → Optimizes limits bytes result
+optimizes exact well_free carries limits bytes c limit out has result lt short same h framed_so how =
     let p = pickle c in
     let small = small_numbers p limit lt h.fits in
-    let form = ap (drop room) h.spelled ∙ drop_at (replicate room 0) (spellings (slim p)) room (length-replicate room 0) in
     let smaller : AreSmall (sources [] p) (length (after_all p [])) = λ w inside. let s = small w inside in omega (arith, s) in
     let list = permitted_by None in
     let free : (os : List Outcome) → IsFree (run p os start) = λ os. well_free list (run p os start) (c.accepted.sound os) in
@@ -106,19 +111,15 @@ optimizes exact well_free carries limits bytes c limit room out has result lt sh
     let framed = optimized_framed exact limits.counted p (ends_of limits bytes c) in
     record {
       checks = c;
-      spelled = spelled_by has limits bytes c (sym framed_so) result (drop room out) form how;
+      spelled = spelled_by has limits bytes c (sym framed_so) result out h.spelled how;
       alike = alike;
       read = all_read p smaller;
-      sequence = optimized_sequence limits.counted p small (let l = ap length form in let d = length-drop room out in omega (arith, l, d, short)) (ends_of limits bytes c);
+      sequence = optimized_sequence limits.counted p small (let l = ap length h.spelled in omega (arith, l, short)) (ends_of limits bytes c);
       framed = framed;
       sound = sound;
       faultless = stays_faultless p (optimized p) framed list sound (counterpart p smaller free);
       fits = none_past p limits.memo (subst (λ m. new_number (sources [] p) (length (after_all p [])) ≤ m) same h.fits);
     }
-
--- the refusal of a write past the limit
-pub passes_limit : (limits : Bounds) (bytes : List ℕ) (c : Checks limits bytes) (limit : ℕ) (refusal : Refusal) → limit ≡ limits.memo → IsPastAt (pickle c) limit refusal → PassesLimit limits bytes refusal
-passes_limit limits bytes c limit refusal same h = record { checks = c; before = h.before; past = subst (λ m. IsPastLimit m (pickle c) h.before) same h.past; place = h.place; reason = h.why }
 
 -- a check of bytes in memory
 pub checks_memory : (limits : Bounds) (bytes left rest : List ℕ) (taken : ℕ) (imports : List Asked) → left ≡ bytes → Accepted Unknown None (holding_all limits) (in_memory left) (in_memory rest) taken imports → Checks limits bytes
@@ -157,7 +158,26 @@ plan_for p plan found writes same h e w = record {
   writes = subst (λ (l : List (Option ℕ)). AreNumbers l (length (after_all p [])) plan.limit plan.numbers.items) e (subst (λ w. AreNumbers found w plan.limit plan.numbers.items) w h);
 }
 
--- the refusal where the slim form could not be written
-pub slim_refused : (limits : Bounds) (bytes : List ℕ) (c : Checks limits bytes) (limit : ℕ) (refusal : Refusal) → limit ≡ limits.memo → StopsSlim (pickle c) limit refusal → IsNotOptimized limits bytes refusal
-slim_refused limits bytes c limit refusal same (inl past) = inr (inl (passes_limit limits bytes c limit refusal same past))
-slim_refused limits bytes c limit refusal same (inr none) = inr (inr (record { checks = c; place = none.0; reason = none.1 }))
+-- the pickle is there
+pub taken_within : (limits : Bounds) (bytes : List ℕ) (x : Traced) → IsTraced limits bytes x → x.taken ≤ length bytes
+taken_within limits bytes x t =
+    let count = t.count in
+    let e = ap length t.checks.accepted.bytes.bytes in
+    let l = length-append (spellings (pickle t.checks)) t.checks.rest in
+    omega (arith, count, e, l)
+
+module _ (limits : Bounds) (bytes : List ℕ) (x : Traced) (plan : Plan) (t : IsTraced limits bytes x) (planned : IsPlanFor (pickle t.checks) plan) (same : plan.limit ≡ limits.memo) where
+  -- the form, if no write is past the limit
+  pub form_optimizes : CountingIsExact → WellIsFree → WellCarriesOver → plan.limit < 2 ^ 32 → first_past plan (places_behind 0 x.trace.parts.items) 0 0 ≡ None
+      → length (slim_bytes plan bytes x.taken x.trace.parts.items) < 2 ^ 64 → Optimizes limits bytes (output plan bytes x.taken x.trace.parts.items)
+  form_optimizes exact well_free carries lt none short =
+      let parts = x.trace.parts.items in
+      let framed_so = framed_parts parts 0 ∙ ap (list_any (λ (y : Place). is_frame y.op)) t.tracks.places ∙ framed_places (pickle t.checks) 0 in
+      optimizes exact well_free carries limits bytes t.checks plan.limit (slim_bytes plan bytes x.taken parts) (has_frames parts) (output plan bytes x.taken parts) lt short same
+      (produced_slim bytes (places_behind 0 parts) x.taken plan (pickle t.checks) (aims_at limits bytes x plan t planned) none) framed_so refl
+
+  -- the refusal of a write past the limit
+  pub past_refused : (refusal : Refusal) → first_past plan (places_behind 0 x.trace.parts.items) 0 0 ≡ Some refusal.at → refusal.reason ≡ TooLarge → IsNotOptimized limits bytes refusal
+  past_refused refusal found why =
+      let past = past_found bytes (places_behind 0 x.trace.parts.items) x.taken plan (pickle t.checks) (aims_at limits bytes x plan t planned) refusal.at found in
+      inr (inl (record { checks = t.checks; before = past.before; past = subst (λ m. IsPastLimit m (pickle t.checks) past.before) same past.past; place = past.place; reason = why }))

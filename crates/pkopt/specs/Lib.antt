@@ -5,6 +5,7 @@ pub mod RunsAlike
 pub mod Faultless
 pub mod Limit
 pub mod Answer
+pub mod Output
 pub mod Laws
 -- what a check sees of bytes in memory
 pub use Rattle.pkread.specs.Rows

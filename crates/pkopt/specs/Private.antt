@@ -7,6 +7,9 @@ pub mod Memories
 pub mod Places
 pub mod Passes
 pub mod Fates
+pub mod Sinks
+pub mod Produced
+pub mod Outputs
 pub mod FrameBytes
 pub mod Tracing
 pub mod Hearing

@@ -1,32 +1,34 @@
-//! Puts the bytes of a pickle into one frame.
+//! The front of a form that is inside a frame.
 
-ghost use Rattle.std.specs.Prelude.{◌≡◌, ◌≤◌, ◌++◌, IfOk, OnOk, cond, drop, length};
+ghost use Rattle.std.specs.Prelude.{◌≡◌, ◌<◌, ◌≤◌, ◌^◌, [], IfOk, cond};
 ghost use Rattle.pkops.specs.Table.{code_of};
 ghost use Rattle.pkops.specs.declared.Op.TheVariants.{Frame};
-ghost use Rattle.pkopt.specs.Private.FrameBytes.{frame_front, framed_bytes, head_length};
+ghost use Rattle.pkopt.specs.Private.FrameBytes.{front_from, head_from};
 
+use crate::measure::Measure;
 use pkops::{Op, row};
 use std::alloc::{AllocError, Global};
 
-/// The length of a FRAME instruction in bytes.
-const ROOM: usize = 9;
-
-/// The room to leave for a FRAME: its length, or 0 without one.
-pub(crate) fn room_for(framed: bool) -> usize
-    ensures { result ≡ cond framed 9 0 }
-{
-    if framed { ROOM } else { 0 }
+/// What stands in a form for the first bytes of the slim form.
+#[derive(Drop)]
+pub(crate) struct Front {
+    /// The bytes in the form.
+    pub bytes: Vec<u8>,
+    /// For how many bytes of the slim form they stand.
+    pub head: usize,
 }
 
 /// The number of bytes before the frame: two for a leading PROTO, otherwise 0.
-fn head_length(bytes: &[u8]) -> usize
-    ensures is { result ≡ head_length bytes.now }
-    ensures fits { result ≤ length bytes.now }
+fn head_length(measure: Measure) -> usize
+    ensures is { result ≡ head_from measure }
+    ensures fits { result ≤ measure.len }
+    ensures short { result ≤ 2 }
 {
-    let [code, _, ..] = bytes else {
-        return 0;
-    };
-    if *code == 0x80 { 2 } else { 0 }
+    if measure.len >= 2 && measure.first == 0x80 {
+        2
+    } else {
+        0
+    }
 }
 
 /// The code byte of a FRAME.
@@ -36,33 +38,34 @@ fn frame_code() -> u8
     row(Op::Frame).code
 }
 
-/// A leading PROTO, then the FRAME around the other bytes of the pickle.
-fn front_of(alloc: Global, bytes: &[u8]) -> Result<Vec<u8>, AllocError>
-    ensures { IfOk result (λ front. front.items ≡ frame_front bytes.now) }
+/// A leading PROTO, then the FRAME around the other bytes of the slim form.
+fn framed_front(alloc: Global, measure: Measure) -> Result<Front, AllocError>
+    ensures bytes { IfOk result (λ front. front.bytes.items ≡ front_from measure) }
+    ensures head { IfOk result (λ front. front.head ≡ head_from measure) }
+    ensures fits { IfOk result (λ front. front.head ≤ measure.len) }
 {
-    let head = head_length(bytes);
-    let contents = (bytes.len() - head) as u64;
-    let mut front = Vec::new(alloc);
-    front.extend_from_slice(&bytes[..head])?;
-    front.push(frame_code())?;
-    front.extend_from_slice(&contents.to_le_bytes())?;
-    Ok(front)
+    let head = head_length(measure);
+    let contents = measure.len - head as u64;
+    let mut bytes = Vec::new(alloc);
+    bytes.extend_from_slice(&[measure.first, measure.second][..head])?;
+    bytes.push(frame_code())?;
+    bytes.extend_from_slice(&contents.to_le_bytes())?;
+    Ok(Front { bytes, head })
 }
 
-/// Overwrites the front of a buffer.
-fn write_over(out: &mut [u8], front: &[u8])
-    requires { length front.now ≤ length out.old }
-    ensures { out.new ≡ front.now ++ drop (length front.now) out.old }
+/// The front of a form, given the measure of the slim form. Without a frame it is empty.
+pub(crate) fn front_of(alloc: Global, measure: Measure, framed: bool) -> Result<Front, AllocError>
+    ensures bytes { IfOk result (λ front.
+        front.bytes.items ≡ cond framed (front_from measure) []) }
+    ensures head { IfOk result (λ front. front.head ≡ cond framed (head_from measure) 0) }
+    ensures fits { IfOk result (λ front. front.head ≤ measure.len) }
+    ensures small { IfOk result (λ _. measure.len < 2 ^ 64) }
 {
-    out[..front.len()].copy_from_slice(front);
-}
-
-/// Puts a pickle into one frame, except a leading PROTO. The buffer begins with room for a FRAME.
-pub(crate) fn put_in_frame(alloc: Global, out: &mut Vec<u8>) -> Result<(), AllocError>
-    requires { 9 ≤ length out.old.items }
-    ensures { OnOk result (out.new.items ≡ framed_bytes (drop 9 out.old.items)) }
-{
-    let front = front_of(alloc, &out[ROOM..])?;
-    write_over(out, &front);
-    Ok(())
+    if framed {
+        return framed_front(alloc, measure);
+    }
+    Ok(Front {
+        bytes: Vec::new(alloc),
+        head: 0,
+    })
 }

@@ -6,12 +6,17 @@ mod entry;
 mod fate;
 mod frame;
 pub mod laws;
+mod measure;
 mod memo;
 mod numbers;
 mod optimizing;
 mod place;
 mod renumbering;
+mod rest;
+mod sink;
 mod slim;
 mod trace;
+mod writing;
 
-pub use optimizing::{Form, optimize, optimized_form};
+pub use optimizing::{optimize, optimized_form};
+pub use writing::Form;

@@ -10,11 +10,10 @@ ghost use Rattle.pkopt.specs.Writers.{after_all, sources as sources_of};
 
 use crate::entry::Entry;
 use crate::fate::Plan;
-use crate::frame::{put_in_frame, room_for};
 use crate::numbers::new_numbers;
-use crate::place::any_frame;
-use crate::slim::slim_of;
+use crate::slim::first_past;
 use crate::trace::Trace;
+use crate::writing::Form;
 use pkcheck::laws::same_ends;
 use pkcheck::{Policy, check, check_heard};
 use pkops::Limits;
@@ -30,6 +29,17 @@ fn lacks_memory() -> Refusal
     Refusal {
         at: 0,
         reason: Reason::OutOfMemory,
+    }
+}
+
+/// The refusal of a write whose new number would be the limit.
+fn too_large(at: u64) -> Refusal
+    ensures at { result.at ≡ at }
+    ensures reason { result.reason ≡ reason.TooLarge }
+{
+    Refusal {
+        at,
+        reason: Reason::TooLarge,
     }
 }
 
@@ -109,22 +119,18 @@ fn heard_check(alloc: Global, bytes: &[u8], limits: &Limits) -> Result<Traced, R
     }
 }
 
-/// The optimized form of a pickle.
-#[derive(Debug, Drop, PartialEq, Eq)]
-pub struct Form {
-    /// The length of the pickle in bytes, up to and including STOP.
-    pub taken: u64,
-    /// The optimized form.
-    pub bytes: Vec<u8>,
-}
-
-/// The optimized form, as `optimize` returns it, and the length of the original.
+/// The optimized form, as `optimize` returns it. Nothing of it is written yet, and the only errors
+/// after this are those of the writer.
 ///
 /// # Errors
 ///
 /// Those of `optimize`.
-pub fn optimized_form(alloc: Global, bytes: &[u8], limits: &Limits) -> Result<Form, Refusal>
-    ensures ok { IfOk result (λ form. Optimizes limits.now bytes.now form.bytes.items) }
+pub fn optimized_form<'a>(
+    alloc: Global,
+    bytes: &'a [u8],
+    limits: &Limits,
+) -> Result<Form<'a>, Refusal>
+    ensures ok { IfOk result (λ form. Optimizes limits.now bytes.now form.bytes) }
     ensures taken { IfOk result (λ form. TakesAsChecked limits.now bytes.now form.taken) }
     ensures err { IfErr result (λ refusal. IsNotOptimized limits.now bytes.now refusal) }
 {
@@ -136,25 +142,23 @@ pub fn optimized_form(alloc: Global, bytes: &[u8], limits: &Limits) -> Result<Fo
         sources,
         parts,
         writes,
-        ..
+        end,
     } = trace;
     drop(memo);
     let Ok(plan) = plan_of(alloc, sources, writes, limits) else {
         return Err(lacks_memory());
     };
-    let framed = any_frame(&parts);
-    let room = room_for(framed);
-    let mut slim = match slim_of(alloc, bytes, &parts, taken as usize, room, &plan) {
-        Ok(slim) => slim,
-        Err(refusal) => return Err(refusal),
-    };
-    if !framed {
-        return Ok(Form { taken, bytes: slim });
+    if let Some(at) = first_past(&parts, &plan) {
+        return Err(too_large(at));
     }
-    let Ok(()) = put_in_frame(alloc, &mut slim) else {
+    // The parts end at the end of an instruction.
+    if end > taken {
+        return Err(lacks_memory());
+    }
+    let Ok(form) = Form::new(alloc, bytes, taken as usize, parts, plan) else {
         return Err(lacks_memory());
     };
-    Ok(Form { taken, bytes: slim })
+    Ok(form)
 }
 
 /// Optimizes the pickle at the front of the bytes: drops memo writes that nothing reads, renumbers
@@ -173,8 +177,15 @@ pub fn optimize(alloc: Global, bytes: &[u8], limits: &Limits) -> Result<Vec<u8>,
     ensures ok { IfOk result (λ out. Optimizes limits.now bytes.now out.items) }
     ensures err { IfErr result (λ refusal. IsNotOptimized limits.now bytes.now refusal) }
 {
-    match optimized_form(alloc, bytes, limits) {
-        Ok(form) => Ok(form.bytes),
-        Err(refusal) => Err(refusal),
-    }
+    let form = match optimized_form(alloc, bytes, limits) {
+        Ok(form) => form,
+        Err(refusal) => return Err(refusal),
+    };
+    let Ok(mut out) = Vec::with_capacity(alloc, form.len() as usize) else {
+        return Err(lacks_memory());
+    };
+    let Ok(()) = form.write_to(&mut out) else {
+        return Err(lacks_memory());
+    };
+    Ok(out)
 }

@@ -1,5 +1,6 @@
 -- The parts of a pickle, recorded one after another.
-use Rattle.std.proofs.Common.{◌≡◌, ℕ, ◌+◌, ◌<◌, ◌≤◌, ◌^◌, Bool, true, false, cond, ◌||◌, List, [], ◌∷◌, ◌++◌, length, drop, get_or, refl, sym, ap, subst, ◌∙◌, arith, append-nil}
+use Rattle.std.proofs.Common.{◌≡◌, ℕ, ◌+◌, ◌<◌, ◌≤◌, Bool, true, false, cond, ◌||◌, List, [], ◌∷◌, ◌++◌, length, drop, get_or, refl, sym, ap, subst, ◌∙◌, arith, append-nil}
+use Rattle.std.proofs.Math.ListN.{drop_of_length-le}
 use Rattle.std.proofs.lemmas.List.{drop_more}
 use Rattle.std.specs.List.{list_any}
 use Rattle.pkops.specs.declared.Op.{Op}
@@ -73,15 +74,41 @@ marked_at part at end end' parts parts' changes grown here moved h =
           ∙ ap (λ n. places_behind 0 parts ++ place n part.size part.op ∷ []) behind,
     )
 
--- the next part ends, and so do the parts behind it, where the numbers of 64 bits do
-pub short_behind : (parts : List Part) (from k : ℕ) (d : Part) (x : Place) (size : ℕ) → k < length parts → x ≡ place_behind from (get_or parts k d) → size ≡ x.size
-    → end_behind from (drop k parts) < 2 ^ 64 → (x.at + size < 2 ^ 64) × (end_behind (x.at + size) (drop (k + 1) parts) < 2 ^ 64)
-short_behind parts from k d x size lt e same h =
-    let s : end_behind (end_of from (get_or parts k d)) (drop (k + 1) parts) < 2 ^ 64 = subst (λ (l : List Part). end_behind from l < 2 ^ 64) (drop_more parts k d lt) h in
+-- the next part ends below this number, and so do the parts behind it, where all of them do
+pub short_behind : (top : ℕ) (parts : List Part) (from k : ℕ) (d : Part) (x : Place) (size : ℕ) → k < length parts → x ≡ place_behind from (get_or parts k d) → size ≡ x.size
+    → end_behind from (drop k parts) < top → (x.at + size < top) × (end_behind (x.at + size) (drop (k + 1) parts) < top)
+short_behind top parts from k d x size lt e same h =
+    let s : end_behind (end_of from (get_or parts k d)) (drop (k + 1) parts) < top = subst (λ (l : List Part). end_behind from l < top) (drop_more parts k d lt) h in
     let here : end_of from (get_or parts k d) ≡ x.at + size = sym (ap (λ n. x.at + n) same ∙ ap (λ (y : Place). y.at + y.size) e) in
-    let rest = subst (λ n. end_behind n (drop (k + 1) parts) < 2 ^ 64) here s in
+    let rest = subst (λ n. end_behind n (drop (k + 1) parts) < top) here s in
     let least = behind_least (drop (k + 1) parts) (x.at + size) in
     (omega (arith, rest, least), rest)
 
-pub ends_short : (parts : List Part) (from k : ℕ) (d : Part) → k < length parts → end_behind from (drop k parts) < 2 ^ 64 → end_of from (get_or parts k d) < 2 ^ 64
-ends_short parts from k d lt h = (short_behind parts from k d (place_behind from (get_or parts k d)) (get_or parts k d).size lt refl refl h).0
+pub ends_short : (top : ℕ) (parts : List Part) (from k : ℕ) (d : Part) → k < length parts → end_behind from (drop k parts) < top → end_of from (get_or parts k d) < top
+ends_short top parts from k d lt h = (short_behind top parts from k d (place_behind from (get_or parts k d)) (get_or parts k d).size lt refl refl h).0
+
+-- the next part has an instruction that may change
+pub places_next : (parts : List Part) (from k : ℕ) (d : Part) (x : Place) (size : ℕ) → k < length parts → x ≡ place_behind from (get_or parts k d) → size ≡ x.size → stays_as_is x.op ≡ false
+    → places_behind from (drop k parts) ≡ x ∷ places_behind (x.at + size) (drop (k + 1) parts)
+places_next parts from k d x size lt e same changes =
+    let part = get_or parts k d in
+    let later = drop (k + 1) parts in
+    ap (places_behind from) (drop_more parts k d lt)
+    ∙ ap (λ b. cond b (places_behind (end_of from part) later) (place_behind from part ∷ places_behind (end_of from part) later)) (ap (λ (y : Place). stays_as_is y.op) (sym e) ∙ changes)
+    ∙ ap (λ (y : Place). y ∷ places_behind (y.at + y.size) later) (sym e)
+    ∙ ap (λ n. x ∷ places_behind (x.at + n) later) (sym same)
+
+-- or it has none
+pub places_past : (parts : List Part) (from k : ℕ) (d : Part) (x : Place) (size : ℕ) → k < length parts → x ≡ place_behind from (get_or parts k d) → size ≡ x.size → stays_as_is x.op ≡ true
+    → places_behind from (drop k parts) ≡ places_behind (x.at + size) (drop (k + 1) parts)
+places_past parts from k d x size lt e same plain =
+    let part = get_or parts k d in
+    let later = drop (k + 1) parts in
+    ap (places_behind from) (drop_more parts k d lt)
+    ∙ ap (λ b. cond b (places_behind (end_of from part) later) (place_behind from part ∷ places_behind (end_of from part) later)) (ap (λ (y : Place). stays_as_is y.op) (sym e) ∙ plain)
+    ∙ ap (λ (y : Place). places_behind (y.at + y.size) later) (sym e)
+    ∙ ap (λ n. places_behind (x.at + n) later) (sym same)
+
+-- no part is left
+pub places_none : (parts : List Part) (from k : ℕ) → length parts ≤ k → places_behind from (drop k parts) ≡ []
+places_none parts from k le = ap (places_behind from) (drop_of_length-le parts le)

@@ -330,5 +330,5 @@ in_frame_bytes (i ∷ is) h e = bytes_by (is_proto i.op) i is refl h.0
 pub optimized_bytes : (limit : ℕ) (p : List Instruction) → EndsInStop limit p → has_frame p ≡ true → framed_bytes (spellings (slim p)) ≡ spellings (optimized p)
 optimized_bytes limit p h f = in_frame_bytes (slim p) (protos_slim (sources [] p) limit [] p h) (slim_ends (sources [] p) [] p (ends_by limit p h)).0 ∙ sym (ap (λ b. spellings (cond b (in_frame (slim p)) (slim p))) f)
 
-pub slim_bytes : (p : List Instruction) → has_frame p ≡ false → spellings (slim p) ≡ spellings (optimized p)
-slim_bytes p f = sym (ap (λ b. spellings (cond b (in_frame (slim p)) (slim p))) f)
+pub unframed_bytes : (p : List Instruction) → has_frame p ≡ false → spellings (slim p) ≡ spellings (optimized p)
+unframed_bytes p f = sym (ap (λ b. spellings (cond b (in_frame (slim p)) (slim p))) f)

@@ -6,7 +6,7 @@ use Rattle.std.proofs.lemmas.Bool.{eq-eqb}
 use Rattle.pkops.specs.declared.Op.{Op}
 use Rattle.pkops.specs.declared.Op.TheVariants as op
 use Rattle.pkops.specs.Operands.{memo_number, names_memo_entry}
-use Rattle.pkops.specs.Spelling.{Instruction, spelling}
+use Rattle.pkops.specs.Spelling.{Nothing, Instruction, instruction, spelling}
 use Rattle.pkread.specs.Sequence.{spellings}
 use Rattle.pkcheck.specs.declared.effect.Move.TheVariants as move
 use Rattle.pkcheck.specs.Effects.{Effect, Moves, effect_of}
@@ -14,7 +14,7 @@ use Rattle.pkopt.specs.declared.fate.Fate.{Fate}
 use Rattle.pkopt.specs.declared.fate.Fate.TheVariants.{Goes, Stays, Gets, IsPast}
 use Rattle.pkopt.specs.declared.memo.MemoUse.{MemoUse}
 use Rattle.pkopt.specs.declared.memo.MemoUse.TheVariants.{Stores, StoresNext, Fetches, Neither}
-use Rattle.pkopt.specs.Private.Fates.{stored_fate, next_fate, fetched_fate, kept_fate, passed_fate, fate_by, Emits, writes_after, reads_after}
+use Rattle.pkopt.specs.Private.Fates.{stored_fate, next_fate, fetched_fate, kept_fate, passed_fate, fate_by, writes_after, reads_after}
 use Rattle.pkopt.specs.Private.Passes.{AreNumbers, memo_use}
 use Rattle.pkopt.specs.Slim.{renumbered, is_frame, read_left, left_of}
 use Rattle.pkopt.specs.Writers.{Writes, last_write, wrote, after, read_by, sources, is_this, is_read, new_number, after_all}
@@ -40,6 +40,12 @@ is_read_at : (k : ℕ) (vs : List (Option ℕ)) (w : ℕ) → get_or vs k None �
 is_read_at k [] w e = cc
 is_read_at zero (v ∷ vs) w e = or_left _ _ (ap (is_this w) e ∙ eq-eqb w w refl)
 is_read_at (suc k) (v ∷ vs) w e = or_right _ _ (is_read_at k vs w e)
+
+-- what an instruction of this opcode, spelled by these bytes, adds to the output
+abbrev pub Emits : Fate → Op → List ℕ → List ℕ → List ℕ → Type 0
+Emits Stays o spelled old new = new ≡ old ++ spelled
+Emits (Gets n) o spelled old new = names_memo_entry o ≡ true → new ≡ old ++ spelling (renumbered n (instruction o Nothing))
+Emits f o spelled old new = new ≡ old
 
 -- where the second pass stands, behind these writes and before these instructions
 pub record At (vs : List (Option ℕ)) (total limit : ℕ) (ws : Writes) (left : List Instruction) (writes reads : ℕ) : Type 0 where

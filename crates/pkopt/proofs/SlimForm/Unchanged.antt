@@ -6,9 +6,8 @@ use Rattle.std.proofs.Math.Seq.{take-add, take-append_seam, drop-append_seam}
 use Rattle.pkops.specs.Spelling.{Instruction, spelling}
 use Rattle.pkread.specs.Sequence.{spellings}
 use Rattle.pkopt.specs.declared.place.Place.{Place}
-use Rattle.pkopt.specs.declared.slim.Slim.{Slim}
 use Rattle.pkopt.specs.OneFrame.{has_frame}
-use Rattle.pkopt.specs.Private.Fates.{form_up_to}
+use Rattle.pkopt.specs.Private.Produced.{between}
 use Rattle.pkopt.specs.Private.Places.{stays_as_is, place_of, places_from}
 use Rattle.pkopt.specs.Slim.{is_frame, slim_from}
 use Rattle.pkopt.specs.Writers.{Writes, after, sources, after_all}
@@ -111,6 +110,17 @@ behind_first bytes a b from here e = ap (λ n. drop n bytes) here ∙ ap (drop (
 pub second : (bytes a b c : List ℕ) (from n : ℕ) → from ≡ length a → n ≡ length b → bytes ≡ a ++ (b ++ c) → take n (drop from bytes) ≡ b
 second bytes a b c from n here size e = ap (take n) (behind_first bytes a (b ++ c) from here e) ∙ ap (λ n. take n (b ++ c)) size ∙ take-append_seam b c
 
+-- a pass with the bytes that it has produced
+pub record Slim : Type 0 where
+  pub writes : ℕ
+  pub reads : ℕ
+  pub from : ℕ
+  pub bytes : List ℕ
+
+-- the slim form up to this offset: the bytes produced, then the unchanged bytes not produced yet
+abbrev pub form_up_to : ℕ → List ℕ → Slim → List ℕ
+form_up_to here bytes out = out.bytes ++ between out.from here bytes
+
 -- a run that goes on
 run_on : (bytes : List ℕ) (from here n : ℕ) → from ≤ here → take (here + n - from) (drop from bytes) ≡ take (here - from) (drop from bytes) ++ take n (drop here bytes)
 run_on bytes from here n le =
@@ -122,11 +132,11 @@ run_on bytes from here n le =
 -- the form grows by what stays as it is
 pub form_on : (bytes : List ℕ) (out : Slim) (here n : ℕ) → out.from ≤ here → form_up_to (here + n) bytes out ≡ form_up_to here bytes out ++ take n (drop here bytes)
 form_on bytes out here n le =
-    ap (λ (l : List ℕ). out.bytes.items ++ l) (run_on bytes out.from here n le)
-    ∙ sym (append_assoc out.bytes.items (take (here - out.from) (drop out.from bytes)) (take n (drop here bytes)))
+    ap (λ (l : List ℕ). out.bytes ++ l) (run_on bytes out.from here n le)
+    ∙ sym (append_assoc out.bytes (take (here - out.from) (drop out.from bytes)) (take n (drop here bytes)))
 
 -- all of it is written
-pub form_written : (bytes : List ℕ) (out : Slim) (here : ℕ) → out.from ≡ here → form_up_to here bytes out ≡ out.bytes.items
+pub form_written : (bytes : List ℕ) (out : Slim) (here : ℕ) → out.from ≡ here → form_up_to here bytes out ≡ out.bytes
 form_written bytes out here e =
     let none : here - out.from ≡ 0 = omega (arith, e) in
-    ap (λ k. out.bytes.items ++ take k (drop out.from bytes)) none ∙ append-nil out.bytes.items
+    ap (λ k. out.bytes ++ take k (drop out.from bytes)) none ∙ append-nil out.bytes

@@ -1,33 +1,36 @@
 -- The slim form, written instruction by instruction.
-use Rattle.std.proofs.Common.{◌≡◌, ℕ, ◌+◌, ◌<◌, ◌≤◌, true, false, cond, replicate, List, [], ◌∷◌, ◌++◌, length, take, drop, get_or, Option, inl, inr, refl, sym, ap, subst, ◌∙◌, arith, append_assoc, append-nil, length-append}
+use Rattle.std.proofs.Common.{◌≡◌, ℕ, ◌+◌, ◌≤◌, List, [], ◌∷◌, ◌++◌, length, take, drop, Option, refl, sym, ap, subst, ◌∙◌, arith, append_assoc, append-nil, length-append}
 use Rattle.std.specs.Prelude.{◌≢◌}
-use Rattle.std.proofs.Math.ListN.{drop_of_length-le}
-use Rattle.std.proofs.lemmas.List.{drop_more}
 use Rattle.pkops.specs.Spelling.{Instruction, spelling}
 use Rattle.pkread.specs.Sequence.{spellings}
-use Rattle.pkread.specs.declared.Reason.{Reason}
 use Rattle.pkcheck.specs.Effects.{effect_of}
 use Rattle.pkopt.specs.declared.fate.Fate.{Fate}
 use Rattle.pkopt.specs.declared.fate.Fate.TheVariants.{IsPast}
 use Rattle.pkopt.specs.declared.fate.Plan.{Plan}
-use Rattle.pkopt.specs.declared.place.Part.{Part}
 use Rattle.pkopt.specs.declared.place.Place.{Place}
-use Rattle.pkopt.specs.declared.slim.Slim.{Slim}
-use Rattle.pkopt.specs.Private.Fates.{fate_by, fate_in, reads_after, writes_after, AddsPlace, Aims, Emits, FailsPlace, IsSlim, StopsSlim, form_up_to, refusal_at}
+use Rattle.pkopt.specs.Private.Fates.{fate_by, fate_in, reads_after, writes_after, Aims, IsPastAt, IsSlim}
 use Rattle.pkopt.specs.Private.Passes.{memo_use}
-use Rattle.pkopt.specs.Private.Places.{end_of, place_behind, places_behind, places_from, stays_as_is}
+use Rattle.pkopt.specs.Private.Places.{places_from}
 use Rattle.pkopt.specs.Slim.{left_of, slim_from}
 use Rattle.pkopt.specs.Writers.{Writes, after, sources, new_number, after_all}
 use Rattle.pkopt.specs.Private.Hearing.{after_all-more}
-use Rattle.pkopt.proofs.SlimForm.Fates.{At, RightFor, fate_right, at_next, on_right, past_right}
+use Rattle.pkopt.proofs.SlimForm.Fates.{At, Emits, RightFor, fate_right, at_next, on_right, past_right}
 use Rattle.pkopt.proofs.SlimForm.WritesRead.{after_all-append}
-use Rattle.pkopt.proofs.SlimForm.Unchanged.{AllPlain, Next, after_plain, form_on, form_written, next_place, none_ahead, second, slim_plain, sources_plain, spellings-append}
+use Rattle.pkopt.proofs.SlimForm.Unchanged.{AllPlain, Next, Slim, after_plain, form_on, form_up_to, form_written, next_place, none_ahead, second, slim_plain, sources_plain, spellings-append}
 
 slim_from-append : (vs : List (Option ℕ)) (ws : Writes) (is js : List Instruction) → slim_from vs ws (is ++ js) ≡ slim_from vs ws is ++ slim_from vs (after_all is ws) js
 slim_from-append vs ws [] js = refl
 slim_from-append vs ws (x ∷ xs) js = ap (λ (l : List Instruction). left_of vs ws (effect_of x.op) x ++ l) (slim_from-append vs (after x ws) xs js) ∙ sym (append_assoc (left_of vs ws (effect_of x.op) x) (slim_from vs (after x ws) xs) (slim_from vs (after_all xs (after x ws)) js))
 
-module _ (bytes : List ℕ) (places : List Place) (taken : ℕ) (room : ℕ) (plan : Plan) (p : List Instruction) (aims : Aims bytes places taken plan p) where
+-- one more instruction was processed
+pub record AddsPlace (plan : Plan) (bytes : List ℕ) (place : Place) (old new : Slim) : Type 0 where
+  pub goes_on : fate_in plan place.op old.writes old.reads ≢ IsPast
+  pub writes_now : new.writes ≡ writes_after (memo_use place.op) old.writes
+  pub reads_now : new.reads ≡ reads_after (memo_use place.op) old.reads
+  pub from_now : new.from ≤ place.at + place.size
+  pub form_now : Emits (fate_in plan place.op old.writes old.reads) place.op (take place.size (drop place.at bytes)) (form_up_to place.at bytes old) (form_up_to (place.at + place.size) bytes new)
+
+module _ (bytes : List ℕ) (places : List Place) (taken : ℕ) (plan : Plan) (p : List Instruction) (aims : Aims bytes places taken plan p) where
   abbrev vs : List (Option ℕ)
   vs = sources [] p
 
@@ -39,7 +42,7 @@ module _ (bytes : List ℕ) (places : List Place) (taken : ℕ) (room : ℕ) (pl
     pub parts : p ≡ before ++ left
     pub here : at ≡ length (spellings before)
     pub place : At vs total plan.limit (after_all before []) left writes reads
-    pub spelled : form ≡ replicate room 0 ++ spellings (slim_from vs [] before)
+    pub spelled : form ≡ spellings (slim_from vs [] before)
 
   -- and the places of what isn't plain among what is left
   pub record Slimmed (ahead : List Place) (out : Slim) : Type 0 where
@@ -50,7 +53,7 @@ module _ (bytes : List ℕ) (places : List Place) (taken : ℕ) (room : ℕ) (pl
     pub begun : out.from ≤ at
     pub ahead_so : ahead ≡ places_from at left
 
-  pub slimmed_first : (out : Slim) → out.writes ≡ 0 → out.reads ≡ 0 → out.from ≡ 0 → out.bytes.items ≡ replicate room 0 → Slimmed places out
+  pub slimmed_first : (out : Slim) → out.writes ≡ 0 → out.reads ≡ 0 → out.from ≡ 0 → out.bytes ≡ [] → Slimmed places out
   slimmed_first out writes reads from empty = record {
     before = [];
     left = p;
@@ -59,42 +62,16 @@ module _ (bytes : List ℕ) (places : List Place) (taken : ℕ) (room : ℕ) (pl
       parts = refl;
       here = refl;
       place = record { counted = writes; reading = ap (λ k. drop k vs) reads; bounded = omega arith; within = omega arith };
-      spelled = form_written bytes out 0 from ∙ empty ∙ sym (append-nil (replicate room 0));
+      spelled = form_written bytes out 0 from ∙ empty;
     };
     begun = omega (arith, from);
     ahead_so = aims.places_so;
   }
 
-  -- the next part
-  slimmed_at : (parts : List Part) (from k : ℕ) (d : Part) (out : Slim) → k < length parts → Slimmed (places_behind from (drop k parts)) out → Slimmed (places_behind from (get_or parts k d ∷ drop (k + 1) parts)) out
-  slimmed_at parts from k d out lt h = subst (λ (l : List Part). Slimmed (places_behind from l) out) (drop_more parts k d lt) h
-
-  -- it has an instruction that may change
-  pub slimmed_place : (parts : List Part) (from k : ℕ) (d : Part) (out : Slim) (place : Place) (size : ℕ) → k < length parts → place ≡ place_behind from (get_or parts k d) → size ≡ place.size → stays_as_is place.op ≡ false → Slimmed (places_behind from (drop k parts)) out → Slimmed (place ∷ places_behind (place.at + size) (drop (k + 1) parts)) out
-  slimmed_place parts from k d out place size lt e same changes h =
-      let part = get_or parts k d in
-      let later = drop (k + 1) parts in
-      subst (λ n. Slimmed (place ∷ places_behind (place.at + n) later) out) (sym same)
-      (subst (λ (x : Place). stays_as_is x.op ≡ false → Slimmed (x ∷ places_behind (x.at + x.size) later) out) (sym e)
-      (λ f. subst (λ b. Slimmed (cond b (places_behind (end_of from part) later) (place_behind from part ∷ places_behind (end_of from part) later)) out) f (slimmed_at parts from k d out lt h)) changes)
-
-  -- or it has none
-  pub slimmed_past : (parts : List Part) (from k : ℕ) (d : Part) (out : Slim) (place : Place) (size : ℕ) → k < length parts → place ≡ place_behind from (get_or parts k d) → size ≡ place.size → stays_as_is place.op ≡ true → Slimmed (places_behind from (drop k parts)) out → Slimmed (places_behind (place.at + size) (drop (k + 1) parts)) out
-  slimmed_past parts from k d out place size lt e same plain h =
-      let part = get_or parts k d in
-      let later = drop (k + 1) parts in
-      subst (λ n. Slimmed (places_behind (place.at + n) later) out) (sym same)
-      (subst (λ (x : Place). stays_as_is x.op ≡ true → Slimmed (places_behind (x.at + x.size) later) out) (sym e)
-      (λ f. subst (λ b. Slimmed (cond b (places_behind (end_of from part) later) (place_behind from part ∷ places_behind (end_of from part) later)) out) f (slimmed_at parts from k d out lt h)) plain)
-
-  pub slimmed_end : (parts : List Part) (from k : ℕ) (out : Slim) → length parts ≤ k → Slimmed (places_behind from (drop k parts)) out → Slimmed [] out
-  slimmed_end parts from k out le h = subst (λ (l : List Part). Slimmed (places_behind from l) out) (drop_of_length-le parts le) h
-
   -- the form grows by what these instructions spell
-  grown : (form more : List ℕ) (is js : List Instruction) → form ≡ replicate room 0 ++ spellings is → more ≡ spellings js → form ++ more ≡ replicate room 0 ++ spellings (is ++ js)
+  grown : (form more : List ℕ) (is js : List Instruction) → form ≡ spellings is → more ≡ spellings js → form ++ more ≡ spellings (is ++ js)
   grown form more is js e f =
-      ap (λ (l : List ℕ). l ++ more) e ∙ append_assoc (replicate room 0) (spellings is) more
-      ∙ ap (λ (l : List ℕ). replicate room 0 ++ l) (ap (λ (l : List ℕ). spellings is ++ l) f ∙ sym (spellings-append is js))
+      ap (λ (l : List ℕ). l ++ more) e ∙ ap (λ (l : List ℕ). spellings is ++ l) f ∙ sym (spellings-append is js)
 
   -- the plain instructions stay as they are
   stood_plain : (before q js : List Instruction) (at writes reads : ℕ) (form : List ℕ) → AllPlain q → Stood before (q ++ js) at writes reads form → Stood (before ++ q) js (at + length (spellings q)) writes reads (form ++ spellings q)
@@ -113,7 +90,7 @@ module _ (bytes : List ℕ) (places : List Place) (taken : ℕ) (room : ℕ) (pl
           bounded = subst (λ (x : Writes). length x ≤ total) (after_plain q js ws plain) h.place.bounded;
           within = h.place.within;
         });
-        spelled = grown form (spellings q) (slim_from vs [] before) q h.spelled refl ∙ ap (λ l. replicate room 0 ++ spellings l) (sym (slim_from-append vs [] before q ∙ ap (λ (l : List Instruction). slim_from vs [] before ++ l) (slim_plain vs q ws plain)));
+        spelled = grown form (spellings q) (slim_from vs [] before) q h.spelled refl ∙ ap (λ l. spellings l) (sym (slim_from-append vs [] before q ∙ ap (λ (l : List Instruction). slim_from vs [] before ++ l) (slim_plain vs q ws plain)));
       }
 
   bytes_at : (before left : List Instruction) → p ≡ before ++ left → bytes ≡ spellings before ++ (spellings left ++ aims.rest)
@@ -189,16 +166,14 @@ module _ (bytes : List ℕ) (places : List Place) (taken : ℕ) (room : ℕ) (pl
         (fate_right vs total plan.limit plan.numbers.items aims.planned.writes ws i next.others out.writes out.reads there.place)
 
     -- it isn't passed
-    pub slimmed_halted : (r : Reason) → FailsPlace plan place.op out r → StopsSlim p plan.limit (refusal_at place.at r)
-    slimmed_halted r (inl e) = inr (ap (λ r. (refusal_at place.at r).at) e, ap (λ r. (refusal_at place.at r).reason) e)
-    slimmed_halted r (inr (e, q)) =
+    pub slimmed_halted : fate_in plan place.op out.writes out.reads ≡ IsPast → IsPastAt p plan.limit place.at
+    slimmed_halted q =
         let past = past_right vs total plan.limit plan.numbers.items aims.planned.writes ws i next.others (effect_of i.op) fate (subst (λ o. fate_in plan o out.writes out.reads ≡ IsPast) same q) right in
-        inl (record {
+        record {
           before = done;
           past = (i, next.others, there.parts, past.0, past.1, past.2);
-          place = ap (λ r. (refusal_at place.at r).at) e ∙ there.here;
-          why = ap (λ r. (refusal_at place.at r).reason) e;
-        })
+          place = there.here;
+        }
 
     -- it is passed
     pub slimmed_next : (new : Slim) → AddsPlace plan bytes place out new → Slimmed later new
@@ -229,7 +204,7 @@ module _ (bytes : List ℕ) (places : List Place) (taken : ℕ) (room : ℕ) (pl
                 (at_next vs total plan.limit plan.numbers.items aims.planned.writes ws i next.others out.writes out.reads there.place written.1)));
             spelled = written.0 (form_up_to place.at bytes out) form spelled spelled_at emitted
                 ∙ grown (form_up_to place.at bytes out) (spellings (left_of vs ws (effect_of i.op) i)) (slim_from vs [] done) (left_of vs ws (effect_of i.op) i) there.spelled refl
-                ∙ ap (λ l. replicate room 0 ++ spellings l) (ap (λ (l : List Instruction). slim_from vs [] done ++ l) (sym (append-nil (left_of vs ws (effect_of i.op) i))) ∙ sym (slim_from-append vs [] done (i ∷ [])));
+                ∙ ap (λ l. spellings l) (ap (λ (l : List Instruction). slim_from vs [] done ++ l) (sym (append-nil (left_of vs ws (effect_of i.op) i))) ∙ sym (slim_from-append vs [] done (i ∷ [])));
           };
           begun = adds.from_now;
           ahead_so = next.ahead ∙ ap (λ n. places_from n next.others) (sym (ap (λ n. n + place.size) stands_at ∙ ap (λ n. h.at + length (spellings next.plain) + n) size_so));
@@ -249,21 +224,11 @@ module _ (bytes : List ℕ) (places : List Place) (taken : ℕ) (room : ℕ) (pl
         let l = length-append (spellings h.before) (spellings h.left) in
         omega (arith, here, t, e, a, l)
 
-    pub begun_last : out.from ≤ taken
-    begun_last = let t = taken_at in let le = h.begun in omega (arith, t, le)
-
-    pub within_taken : taken ≤ length bytes
-    within_taken =
-        let t = aims.taken_so in
-        let e = ap length aims.spelled in
-        let l = length-append (spellings p) aims.rest in
-        omega (arith, t, e, l)
-
-    pub slimmed_last : (new : List ℕ) → new ≡ form_up_to taken bytes out → IsSlim p plan.limit room new
+    pub slimmed_last : (new : List ℕ) → new ≡ form_up_to taken bytes out → IsSlim p plan.limit new
     slimmed_last new written =
         let s = form_plain h.before h.left [] out h.at all_plain h.begun (subst (λ (l : List Instruction). Stood h.before l h.at out.writes out.reads (form_up_to h.at bytes out)) (sym (append-nil h.left)) h.stood) in
         let all : h.before ++ h.left ≡ p = sym h.stood.parts in
         record {
-          spelled = written ∙ ap (λ n. form_up_to n bytes out) taken_at ∙ s.spelled ∙ ap (λ q. replicate room 0 ++ spellings (slim_from vs [] q)) all;
+          spelled = written ∙ ap (λ n. form_up_to n bytes out) taken_at ∙ s.spelled ∙ ap (λ q. spellings (slim_from vs [] q)) all;
           fits = subst (λ (x : Writes). new_number vs (length x) ≤ plan.limit) (ap (λ q. after_all q []) all) s.place.within;
         }

@@ -1,0 +1,65 @@
+use Rattle.std.proofs.Common.{arith, sym, ap, ◌∙◌, ◌+◌, ◌++◌, List, drop}
+use Rattle.pkops.specs.declared.Op.TheVariants as op
+use Rattle.pkopt.specs.declared.place.Part.{Part}
+use Rattle.pkopt.specs.declared.place.Place.{Place}
+use Rattle.pkopt.specs.Private.Places.{places_behind}
+use Rattle.pkopt.specs.Private.Produced.{emitted, produced}
+use Rattle.pkopt.proofs.MemoWrites.Parts.{ends_short, places_next, short_behind}
+use Rattle.pkopt.proofs.SlimForm.Steps.{from_least, stepped}
+use Rattle.pkopt.proofs.slim.give_slim.Goals as goal
+
+abbrev none : Part
+none = record { size = 0; gap = 0; op = op.Int }
+
+pub place_behind-place-requires : goal.place_behind-place-requires
+place_behind-place-requires g c =
+    let short = ends_short (c.args.taken + 1) c.args.parts.now c.loop-part.end c.loop-part.part-index none c.loop-part-test.true c.loop-part.invariant.short in
+    let fits = c.ranges.taken.fits in
+    omega (arith, short, fits)
+
+pub overflow_add-end : goal.overflow_add-end
+overflow_add-end g c =
+    let short = (short_behind (c.args.taken + 1) c.args.parts.now c.loop-part.end c.loop-part.part-index none c.place_behind-place.result c.from.result c.loop-part-test.true c.place_behind-place.ensures c.from.ensures c.loop-part.invariant.short).0 in
+    let fits = c.ranges.taken.fits in
+    omega (arith, short, fits)
+
+pub emit-requires-clause-high : goal.emit-requires-clause-high
+emit-requires-clause-high g c =
+    let short = (short_behind (c.args.taken + 1) c.args.parts.now c.loop-part.end c.loop-part.part-index none c.place_behind-place.result c.from.result c.loop-part-test.true c.place_behind-place.ensures c.from.ensures c.loop-part.invariant.short).0 in
+    let there = c.requires.there in
+    let size = c.from.ensures in
+    omega (arith, short, there, size)
+
+pub loop-part-preserved : goal.loop-part-preserved
+loop-part-preserved g c =
+    let writes = c.loop-part.invariant.few_writes in
+    let reads = c.loop-part.invariant.few_reads in
+    let more_writes = c.fate-fate.ensures.few_writes in
+    let more_reads = c.fate-fate.ensures.few_reads in
+    let new_writes = c.emit.ensures.writes in
+    let new_reads = c.emit.ensures.reads in
+    let x = c.place_behind-place.result in
+    let pass = c.loop-part.pass in
+    let so_far = c.loop-part.invariant.so_far in
+    let next = places_next c.args.parts.now c.loop-part.end c.loop-part.part-index none x c.from.result c.loop-part-test.true c.place_behind-place.ensures c.from.ensures (sym c.if-is_plain.ensures) in
+    let later = places_behind (x.at + c.from.result) (drop (c.loop-part.part-index + 1) c.args.parts.now) in
+    let size = c.from.ensures in
+    let same = c.fate-fate.ensures.from in
+    let before = c.loop-part.invariant.behind in
+    let at = ap (λ (y : Place). y.at) c.place_behind-place.ensures in
+    let least = from_least c.fate-fate.result x c.fate-fate.new.self.from (omega (arith, same, before, at)) in
+    let now = c.in_ok-emit.ensures.from in
+    let piece = emitted c.fate-fate.result x c.args.bytes.now c.fate-fate.new.self.from in
+    record {
+      few_writes = omega (arith, writes, more_writes, new_writes);
+      few_reads = omega (arith, reads, more_reads, new_reads);
+      short = (short_behind (c.args.taken + 1) c.args.parts.now c.loop-part.end c.loop-part.part-index none x c.from.result c.loop-part-test.true c.place_behind-place.ensures c.from.ensures c.loop-part.invariant.short).1;
+      behind = omega (arith, least, now, size);
+      so_far = (
+        so_far.0 ++ piece,
+        g.met.S.Sink.takes_more _ _ _ so_far.0 piece so_far.1 c.in_ok-emit.ensures.form,
+        stepped c.args.plan.now c.args.bytes.now c.args.taken x later pass c.fate-fate.new.self c.emit.new.self c.fate-fate.result so_far.0 _
+            c.fate-fate.ensures.fate c.fate-fate.ensures.writes c.fate-fate.ensures.reads c.fate-fate.ensures.from new_writes new_reads c.in_ok-emit.ensures.from
+            (ap (λ (l : List Place). so_far.0 ++ produced c.args.plan.now c.args.bytes.now c.args.taken l pass) (sym next) ∙ so_far.2),
+      );
+    }

@@ -1,0 +1,125 @@
+//! The optimized form of a pickle, and how it is written.
+
+ghost use Rattle.std.specs.Prelude.{◌≡◌, ◌<◌, ◌≤◌, ◌^◌, IfOk, OnOk, length};
+ghost use Rattle.std.specs.Io.KnownBytes.{Appends};
+ghost use Rattle.pkopt.specs.Private.Outputs.{output, slim_bytes};
+ghost use Rattle.pkopt.specs.Private.Places.{end_behind};
+
+use crate::fate::Plan;
+use crate::frame::{Front, front_of};
+use crate::measure::Measure;
+use crate::place::{Part, any_frame};
+use crate::rest::Rest;
+use crate::slim::give_slim;
+use std::alloc::{AllocError, Global};
+use std::io;
+use std::io::Write;
+use std::marker::Model;
+
+/// The optimized form of a pickle. It borrows the pickle, and is complete only where it is written.
+#[derive(Drop)]
+pub struct Form<'a> {
+    /// The bytes that begin with the pickle.
+    bytes: &'a [u8],
+    /// The length of the pickle.
+    taken: usize,
+    /// The parts up to its last instruction that may change.
+    parts: Vec<Part>,
+    plan: Plan,
+    front: Front,
+    /// The length of the form.
+    len: u64,
+}
+
+impl<'a> Model for Form<'a> {
+    ghost use Rattle.std.specs.Prelude.{◌≡◌, ◌≤◌, length};
+    ghost use Rattle.pkopt.specs.Output.{Output};
+    ghost use Rattle.pkopt.specs.Private.Outputs.{written};
+    ghost use Rattle.pkopt.specs.Private.Places.{end_behind};
+
+    ghost Value = { Output };
+
+    ghost view = { λ f. record {
+      taken = f.taken;
+      bytes = written f.plan f.bytes.now f.taken
+          f.parts.items f.front.bytes.items f.front.head;
+    } };
+
+    ghost invariant = { λ f. (end_behind 0 f.parts.items ≤ f.taken)
+        × (f.taken ≤ length f.bytes.now)
+        × (f.len ≡ length (written f.plan f.bytes.now f.taken f.parts.items f.front.bytes.items
+        f.front.head)) };
+}
+
+impl<'a> Form<'a> {
+    /// The form of the pickle that is the first `taken` bytes.
+    ///
+    /// # Errors
+    ///
+    /// An error if an allocation is refused, or if the form would have 2^64 bytes.
+    pub(crate) fn new(
+        alloc: Global,
+        bytes: &'a [u8],
+        taken: usize,
+        parts: Vec<Part>,
+        plan: Plan,
+    ) -> Result<Form<'a>, AllocError>
+        requires within { end_behind 0 parts.items ≤ taken }
+        requires there { taken ≤ length bytes.now }
+        ensures taken { IfOk result (λ form. form.taken ≡ taken) }
+        ensures bytes { IfOk result (λ form.
+            form.bytes ≡ output plan bytes.now taken parts.items) }
+        ensures short { IfOk result (λ _.
+            length (slim_bytes plan bytes.now taken parts.items) < 2 ^ 64) }
+    {
+        let mut measure = Measure::new();
+        give_slim(bytes, &parts, taken, &plan, &mut measure)?;
+        let front = front_of(alloc, measure, any_frame(&parts))?;
+        let rest = measure.len - front.head as u64;
+        let Some(len) = rest.checked_add(front.bytes.len() as u64) else {
+            return Err(AllocError);
+        };
+        Ok(Form {
+            bytes,
+            taken,
+            parts,
+            plan,
+            front,
+            len,
+        })
+    }
+
+    /// The length of the pickle in bytes, up to and including STOP.
+    pub fn taken(&self) -> u64
+        ensures { result ≡ self.now.taken }
+    {
+        self.taken as u64
+    }
+
+    /// The length of the form in bytes.
+    pub fn len(&self) -> u64
+        ensures { result ≡ length self.now.bytes }
+    {
+        self.len
+    }
+
+    /// Writes the form. Each run of bytes that stay is one write, and so is each instruction that
+    /// changes: a writer that makes a system call for each of them should be buffered.
+    ///
+    /// # Errors
+    ///
+    /// The writer's. How much was written is then unspecified.
+    pub fn write_to<W: Write>(&self, out: &mut W) -> io::Result<()>
+        ensures { OnOk result (Appends (W.contents out.old) (W.contents out.new) self.now.bytes) }
+    {
+        out.write_all(&self.front.bytes)?;
+        let mut rest = Rest {
+            out,
+            skip: self.front.head,
+        };
+        give_slim(self.bytes, &self.parts, self.taken, &self.plan, &mut rest)?;
+        let Rest { out, skip: _ } = rest;
+        let _ = &*out;
+        Ok(())
+    }
+}
