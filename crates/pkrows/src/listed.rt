@@ -2,7 +2,6 @@
 
 use pkcheck::{Asked, Import, Machine, Policy, Yes, check};
 use pkops::{Arg, Inst, Limits, Op, Scan, scan};
-use pkopt::optimized_form;
 use pkread::Memory;
 use std::test::Fail;
 
@@ -82,21 +81,5 @@ fn instructions_are_the_same_by_what_they_say(rt: HostRuntime) -> Result<(), Fai
     assert_eq!(rt; one.same(&read), true);
     assert_eq!(rt; one.same(&two), false);
     assert_eq!(rt; one.same(&get), false);
-    Ok(())
-}
-
-#[test]
-fn forms_are_equal_by_their_bytes(rt: HostRuntime) -> Result<(), Fail> {
-    let Ok(form) = optimized_form(rt.alloc(), b"Nq\x00.", &Limits::STANDARD) else {
-        return Err(Fail::from("a form"));
-    };
-    let Ok(again) = optimized_form(rt.alloc(), b"Nq\x01.", &Limits::STANDARD) else {
-        return Err(Fail::from("a form"));
-    };
-    let Ok(shorter) = optimized_form(rt.alloc(), b"N.", &Limits::STANDARD) else {
-        return Err(Fail::from("a form"));
-    };
-    assert_eq!(rt; form == again, true);
-    assert_eq!(rt; form == shorter, false);
     Ok(())
 }

@@ -2,7 +2,7 @@
 
 use pkcheck::{Policy, check};
 use pkops::Limits;
-use pkopt::optimize;
+use pkopt::{optimize, optimized_form};
 use pkread::{Memory, Reason, Refusal};
 use std::process::Abort;
 use std::test::Fail;
@@ -55,6 +55,22 @@ fn optimize_each<T: Abort + AllocGlobal>(rt: &T, rows: &[(&[u8], &[u8])]) -> Res
         );
         assert_eq!(rt; answer.err().map(|no| no.reason), None, "{pickle:?}");
     }
+    Ok(())
+}
+
+/// A form tells its length and that of the pickle, and appends its bytes to what a writer holds.
+#[test]
+fn a_form_is_written(rt: HostRuntime) -> Result<(), Fail> {
+    let (pickle, wanted) = FRAMED[2];
+    let Ok(form) = optimized_form(rt.alloc(), pickle, &Limits::STANDARD) else {
+        return Err(Fail::from("a form"));
+    };
+    let mut out = Vec::from_slice(rt.alloc(), b"before")?;
+    form.write_to(&mut out)?;
+    assert_eq!(rt; &out[..6], b"before");
+    assert_eq!(rt; &out[6..], wanted);
+    assert_eq!(rt; form.len(), wanted.len() as u64);
+    assert_eq!(rt; form.taken(), pickle.len() as u64);
     Ok(())
 }
 

@@ -4,7 +4,7 @@ ghost use Rattle.std.specs.Io.KnownBytes.{Appends};
 ghost use Rattle.pktool.specs.Optimized.{EndsIn, HoldsBytes, sizes_line};
 
 use pkops::Limits;
-use pkopt::optimized_form;
+use pkopt::{Form, optimized_form};
 use pkprint::{Outcome, write_no};
 use std::alloc::Global;
 use std::io;
@@ -15,9 +15,13 @@ pub trait Place {
     // The bytes that it holds, if it reveals them.
     ghost holds: { Self → Option (List ℕ) } = { λ _. None };
 
-    /// Replaces what it holds with these bytes.
-    fn put(&mut self, bytes: &[u8]) -> io::Result<()>
-        ensures { OnOk result (HoldsBytes (holds self.new) bytes.now) };
+    /// Replaces what it holds with this form.
+    ///
+    /// # Errors
+    ///
+    /// An error if the form cannot be written.
+    fn put(&mut self, form: &Form<'_>) -> io::Result<()>
+        ensures { OnOk result (HoldsBytes (holds self.new) form.now.bytes) };
 }
 
 /// Why an optimization ends without an answer.
@@ -55,10 +59,10 @@ pub fn optimize_to<P: Place, W: Write>(
 {
     match optimized_form(alloc, bytes, limits) {
         Ok(form) => {
-            let Ok(()) = place.put(form.bytes.as_slice()) else {
+            let Ok(()) = place.put(&form) else {
                 return Err(Unoptimized::Unmade);
             };
-            write_sizes(form.taken, form.bytes.len(), out)?;
+            write_sizes(form.taken(), form.len(), out)?;
             Ok(Outcome::Done)
         }
         Err(refusal) => {
@@ -69,7 +73,7 @@ pub fn optimize_to<P: Place, W: Write>(
 }
 
 /// Writes the sizes before and after.
-fn write_sizes<W: Write>(before: u64, after: usize, out: &mut W) -> io::Result<()>
+fn write_sizes<W: Write>(before: u64, after: u64, out: &mut W) -> io::Result<()>
     ensures { OnOk result (Appends (W.contents out.old) (W.contents out.new)
         (sizes_line before after)) }
 {

@@ -1,9 +1,10 @@
 //! Files that are created or replaced as a whole.
 use crate::naming::{partial_name, real_name};
 use crate::optimizing::Place;
+use pkopt::Form;
 use std::alloc::Global;
 use std::fs::{File, Metadata, OpenFile, OpenOptions, Permissions};
-use std::io::{ErrorKind, Write};
+use std::io::{BufWriter, ErrorKind, Write};
 use std::os::unix::fs::{MetadataExt, OpenOptionsExt, PermissionsExt, fchown};
 use std::path::Path;
 use std::rt::Files;
@@ -23,6 +24,9 @@ const NOT_GROUP: u32 = 0o707;
 
 /// How many names are tried for the unfinished file.
 const MOST_NAMES: u32 = 100;
+
+/// How many bytes are gathered before they are written.
+const GATHERED: usize = 65_536;
 
 /// An output file, created or replaced as a whole, with content made from an input.
 ///
@@ -53,18 +57,18 @@ impl<'a, R> NewFile<'a, R> {
 }
 
 impl<'a, R: Files<File = File>> Place for NewFile<'a, R> {
-    fn put(&mut self, bytes: &[u8]) -> io::Result<()> {
+    fn put(&mut self, form: &Form<'_>) -> io::Result<()> {
         // Opened without truncation: this shows what is there, and whether it may be written.
         match OpenOptions::new().write(true).open(self.rt, self.path) {
             Ok(old) => {
                 if old.metadata()?.is_file() {
-                    replace(self.rt, self.alloc, self.path, &old, bytes)
+                    replace(self.rt, self.alloc, self.path, &old, form)
                 } else {
-                    write_in_place(old, self.input, bytes)
+                    write_in_place(self.alloc, &old, self.input, form)
                 }
             }
             Err(error) => match error.kind() {
-                ErrorKind::NotFound => create(self.rt, self.alloc, self.path, bytes),
+                ErrorKind::NotFound => create(self.rt, self.alloc, self.path, form),
                 _ => Err(error),
             },
         }
@@ -72,37 +76,45 @@ impl<'a, R: Files<File = File>> Place for NewFile<'a, R> {
 }
 
 /// Writes what is not a regular file, unless it is the input.
-fn write_in_place(mut file: File, input: &File, bytes: &[u8]) -> io::Result<()> {
+fn write_in_place(alloc: Global, file: &File, input: &File, form: &Form<'_>) -> io::Result<()> {
     if is_same(&file.metadata()?, &input.metadata()?) {
         return Err(io::Error::from(ErrorKind::InvalidInput));
     }
-    file.write_all(bytes)?;
-    sync(&file)
+    write_form(alloc, file, form)?;
+    sync(file)
+}
+
+/// Writes a form. Its small pieces are gathered first.
+fn write_form(alloc: Global, file: &File, form: &Form<'_>) -> io::Result<()> {
+    let mut out = BufWriter::with_capacity(alloc, GATHERED, file)?;
+    form.write_to(&mut out)?;
+    out.flush()
 }
 
 fn is_same(one: &Metadata, other: &Metadata) -> bool {
     one.dev() == other.dev() && one.ino() == other.ino()
 }
 
-/// Creates a file with these bytes where there was none.
+/// Creates a file with this form where there was none.
 fn create<R: Files<File = File>>(
     rt: &R,
     alloc: Global,
     path: &str,
-    bytes: &[u8],
+    form: &Form<'_>,
 ) -> io::Result<()> {
     let path = real_name(rt, alloc, path)?;
     let (file, partial) = create_beside(rt, alloc, path.as_str(), ANYONE)?;
-    take_name(rt, fill(file, None, bytes), partial.as_str(), path.as_str())
+    let filled = fill(alloc, &file, None, form);
+    take_name(rt, filled, partial.as_str(), path.as_str())
 }
 
-/// Replaces a regular file with one of these bytes.
+/// Replaces a regular file with one of this form.
 fn replace<R: Files<File = File>>(
     rt: &R,
     alloc: Global,
     path: &str,
     old: &File,
-    bytes: &[u8],
+    form: &Form<'_>,
 ) -> io::Result<()> {
     let path = real_name(rt, alloc, path)?;
     // A link to an open file, as in /proc, may show a name that the file no longer has.
@@ -110,12 +122,8 @@ fn replace<R: Files<File = File>>(
         return Err(io::Error::from(ErrorKind::NotFound));
     }
     let (file, partial) = create_beside(rt, alloc, path.as_str(), OWNER_ONLY)?;
-    take_name(
-        rt,
-        fill(file, Some(old), bytes),
-        partial.as_str(),
-        path.as_str(),
-    )
+    let filled = fill(alloc, &file, Some(old), form);
+    take_name(rt, filled, partial.as_str(), path.as_str())
 }
 
 /// Creates an empty file next to this one, and gives its name. If a name is taken, by another
@@ -146,10 +154,10 @@ fn create_beside<R: Files<File = File>>(
 }
 
 /// Writes a new file completely, then gives it the old one's owner and permissions.
-fn fill(mut file: File, old: Option<&File>, bytes: &[u8]) -> io::Result<()> {
-    file.write_all(bytes)?;
+fn fill(alloc: Global, file: &File, old: Option<&File>, form: &Form<'_>) -> io::Result<()> {
+    write_form(alloc, file, form)?;
     if let Some(old) = old {
-        give_permissions(&file, &old.metadata()?)?;
+        give_permissions(file, &old.metadata()?)?;
     }
     file.sync_all()
 }

@@ -4,6 +4,7 @@ ghost use Rattle.pkopt.specs.Answer.{Optimizes};
 
 use crate::optimizing::{Place, Unoptimized, optimize_to};
 use pkops::Limits;
+use pkopt::Form;
 use pkprint::Outcome;
 use std::alloc::Global;
 use std::io;
@@ -19,10 +20,10 @@ struct Kept {
 impl Place for Kept {
     ghost holds = { λ kept. Some kept.bytes.items };
 
-    fn put(&mut self, bytes: &[u8]) -> io::Result<()> {
-        let mut copy = Vec::new(self.alloc);
-        copy.extend_from_slice(bytes)?;
-        self.bytes = copy;
+    fn put(&mut self, form: &Form<'_>) -> io::Result<()> {
+        let mut written = Vec::new(self.alloc);
+        form.write_to(&mut written)?;
+        self.bytes = written;
         Ok(())
     }
 }

@@ -2,6 +2,7 @@
 use crate::exporting::json_to;
 use pkcheck::{Loading, Memo, OldStrings, Policy};
 use pkops::Limits;
+use pkopt::optimized_form;
 use pkprint::{Outcome, Permitted, check_all_to, check_to, dis_to, imports_to};
 use pkread::Memory;
 use std::alloc::Global;
@@ -93,6 +94,23 @@ fn fails_with_its_writer(rt: HostRuntime) -> Result<(), Fail> {
             let ended = answer(rt.alloc(), *call, pickle, &mut Tiring { left });
             assert!(rt; ended.is_err(), "{call:?} after {left} writes");
         }
+    }
+    Ok(())
+}
+
+#[test]
+fn a_form_fails_with_its_writer(rt: HostRuntime) -> Result<(), Fail> {
+    let pickle = b"\x80\x04\x95\x0a\0\0\0\0\0\0\0]\x94Nq\x01ah\x010.";
+    let Ok(form) = optimized_form(rt.alloc(), pickle, &Limits::STANDARD) else {
+        return Err(Fail::from("a form"));
+    };
+    let mut ample = Tiring { left: AMPLE };
+    form.write_to(&mut ample)?;
+    let needed = AMPLE.wrapping_sub(ample.left);
+    assert!(rt; needed > 1);
+    for left in 0..needed {
+        let ended = form.write_to(&mut Tiring { left });
+        assert!(rt; ended.is_err(), "after {left} writes");
     }
     Ok(())
 }
