@@ -1,5 +1,5 @@
 -- What the answers of `optimize` rest on.
-use Rattle.std.proofs.Common.{◌≡◌, ℕ, suc, ◌<◌, ◌≤◌, ◌^◌, Bool, true, false, List, [], ◌∷◌, ◌++◌, length, Option, None, Some, Result, cond, length-append, Ok, inl, inr, refl, sym, ap, subst, ◌∙◌, arith}
+use Rattle.std.proofs.Common.{◌≡◌, ℕ, zero, suc, ◌<◌, ◌≤◌, ◌^◌, Bool, true, false, List, [], ◌∷◌, ◌++◌, length, Option, None, Some, Result, cond, length-append, Ok, inl, inr, refl, sym, ap, subst, ◌∙◌, arith}
 use Rattle.std.proofs.lemmas.Bool.{cond_both}
 use Rattle.std.specs.Prelude.{◌≢◌, All, slice_index_or}
 use Rattle.pkops.specs.Limits.{Bounds, holding_all}
@@ -38,7 +38,7 @@ use Rattle.pkopt.specs.Limit.{IsPastLimit}
 use Rattle.pkopt.specs.OneFrame.{has_frame, optimized}
 use Rattle.pkopt.specs.RunsAlike.{RunsAlike}
 use Rattle.pkopt.specs.Slim.{is_frame, slim}
-use Rattle.pkopt.specs.Writers.{Writes, after, sources, new_number, after_all}
+use Rattle.pkopt.specs.Writers.{Writes, after, is_read, sources, new_number, after_all}
 use Rattle.pkopt.proofs.BothRuns.Faultless.{stays_faultless}
 use Rattle.pkopt.proofs.MemoWrites.NewNumbers.{after_all_le, new_least, new_up_to}
 use Rattle.pkopt.proofs.BothRuns.Heard.{heard_tracks}
@@ -181,3 +181,25 @@ module _ (limits : Bounds) (bytes : List ℕ) (x : Traced) (plan : Plan) (t : Is
   past_refused refusal found why =
       let past = past_found bytes (places_behind 0 x.trace.parts.items) x.taken plan (pickle t.checks) (aims_at limits bytes x plan t planned) refusal.at found in
       inr (inl (record { checks = t.checks; before = past.before; past = subst (λ m. IsPastLimit m (pickle t.checks) past.before) same past.past; place = past.place; reason = why }))
+
+-- no write has a number that is greater than its name
+least_number : (vs : List (Option ℕ)) (w : ℕ) → new_number vs w ≤ w
+least_number vs zero = omega arith
+least_number vs (suc w) =
+    let le = least_number vs w in
+    elim (is_read w vs) as (λ b. cond b (suc (new_number vs w)) (new_number vs w) ≤ suc w) [ true ↦ omega (arith, le) | false ↦ omega (arith, le) ]
+
+-- no write is past the limit if there are no more writes
+pub few_writes : (limits : Bounds) (bytes : List ℕ) (x : Traced) (plan : Plan) (t : IsTraced limits bytes x) → IsPlanFor (pickle t.checks) plan → x.trace.writes ≤ plan.limit → first_past plan (places_behind 0 x.trace.parts.items) 0 0 ≡ None
+few_writes limits bytes x plan t planned few =
+    let p = pickle t.checks in
+    let places = places_behind 0 x.trace.parts.items in
+    let count = t.tracks.writes in
+    let least = least_number (sources [] p) (length (after_all p [])) in
+    let fits : new_number (sources [] p) (length (after_all p [])) ≤ plan.limit = omega (arith, few, count, least) in
+    elim (first_past plan places 0 0) as (λ v. first_past plan places 0 0 ≡ v → first_past plan places 0 0 ≡ None) [
+      | None ↦ λ e. e
+      | Some at ↦ λ e.
+          let past = past_found bytes places x.taken plan p (aims_at limits bytes x plan t planned) at e in
+          absurd (none_past p plan.limit fits past.before past.past)
+    ] refl

@@ -1,16 +1,20 @@
 //! Optimizes a pickle.
 
-ghost use Rattle.std.specs.Prelude.{◌≡◌, ◌<◌, ◌^◌, IfErr, IfOk, OnOk, List, [], length};
+ghost use Rattle.std.specs.Prelude.{◌≡◌, ◌<◌, ◌≤◌, ◌^◌, ◌⊎◌, IfErr, IfNone, IfOk, IfSome, OnOk};
+ghost use Rattle.std.specs.Prelude.{List, None, Some, [], length};
 ghost use Rattle.pkops.specs.Spelling.{Instruction};
 ghost use Rattle.pkread.specs.declared.Reason.TheVariants as reason;
 ghost use Rattle.pkopt.specs.Answer.{IsNotOptimized, Optimizes, Checks, FailsCheck, TakesAsChecked};
 ghost use Rattle.pkopt.specs.Private.Fates.{IsPlanFor};
+ghost use Rattle.pkopt.specs.Private.Places.{end_behind, places_behind};
+ghost use Rattle.pkopt.specs.Private.Produced.{first_past};
 ghost use Rattle.pkopt.specs.Private.Tracing.{IsTraced};
 ghost use Rattle.pkopt.specs.Writers.{after_all, sources as sources_of};
 
 use crate::entry::Entry;
 use crate::fate::Plan;
 use crate::numbers::new_numbers;
+use crate::place::Part;
 use crate::slim::first_past;
 use crate::trace::Trace;
 use crate::writing::Form;
@@ -119,6 +123,21 @@ fn heard_check(alloc: Global, bytes: &[u8], limits: &Limits) -> Result<Traced, R
     }
 }
 
+/// The offset of the first write that is read and whose number would be the limit, if there is one.
+/// Numbers are less than the number of writes.
+fn past_limit(parts: &[Part], plan: &Plan, writes: u32) -> Option<u64>
+    requires { end_behind 0 parts.now < 2 ^ 64 }
+    ensures some { IfSome result (λ at.
+        first_past plan.now (places_behind 0 parts.now) 0 0 ≡ Some at) }
+    ensures none { IfNone result ((writes ≤ plan.now.limit)
+        ⊎ (first_past plan.now (places_behind 0 parts.now) 0 0 ≡ None)) }
+{
+    if writes <= plan.limit {
+        return None;
+    }
+    first_past(parts, plan)
+}
+
 /// The optimized form, as `optimize` returns it. Nothing of it is written yet, and the only errors
 /// after this are those of the writer.
 ///
@@ -148,7 +167,7 @@ pub fn optimized_form<'a>(
     let Ok(plan) = plan_of(alloc, sources, writes, limits) else {
         return Err(lacks_memory());
     };
-    if let Some(at) = first_past(&parts, &plan) {
+    if let Some(at) = past_limit(&parts, &plan, writes) {
         return Err(too_large(at));
     }
     // The parts end at the end of an instruction.

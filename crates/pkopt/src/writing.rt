@@ -13,12 +13,13 @@ use crate::rest::Rest;
 use crate::slim::give_slim;
 use std::alloc::{AllocError, Global};
 use std::io;
-use std::io::Write;
+use std::io::{ErrorKind, Write};
 use std::marker::Model;
 
 /// The optimized form of a pickle. It borrows the pickle, and is complete only where it is written.
 #[derive(Drop)]
 pub struct Form<'a> {
+    alloc: Global,
     /// The bytes that begin with the pickle.
     bytes: &'a [u8],
     /// The length of the pickle.
@@ -80,6 +81,7 @@ impl<'a> Form<'a> {
             return Err(AllocError);
         };
         Ok(Form {
+            alloc,
             bytes,
             taken,
             parts,
@@ -103,8 +105,7 @@ impl<'a> Form<'a> {
         self.len
     }
 
-    /// Writes the form. Each run of bytes that stay is one write, and so is each instruction that
-    /// changes: a writer that makes a system call for each of them should be buffered.
+    /// Writes the form. Small pieces are gathered first, so the writer needs no buffer.
     ///
     /// # Errors
     ///
@@ -116,10 +117,19 @@ impl<'a> Form<'a> {
         let mut rest = Rest {
             out,
             skip: self.front.head,
+            gathered: Vec::new(self.alloc),
+            error: None,
         };
-        give_slim(self.bytes, &self.parts, self.taken, &self.plan, &mut rest)?;
-        let Rest { out, skip: _ } = rest;
-        let _ = &*out;
-        Ok(())
+        let given = give_slim(self.bytes, &self.parts, self.taken, &self.plan, &mut rest);
+        let Rest {
+            out,
+            gathered,
+            error,
+            ..
+        } = rest;
+        let Ok(()) = given else {
+            return Err(error.unwrap_or(io::Error::from(ErrorKind::Other)));
+        };
+        out.write_all(&gathered)
     }
 }

@@ -4,7 +4,7 @@ use crate::optimizing::Place;
 use pkopt::Form;
 use std::alloc::Global;
 use std::fs::{File, Metadata, OpenFile, OpenOptions, Permissions};
-use std::io::{BufWriter, ErrorKind, Write};
+use std::io::ErrorKind;
 use std::os::unix::fs::{MetadataExt, OpenOptionsExt, PermissionsExt, fchown};
 use std::path::Path;
 use std::rt::Files;
@@ -24,9 +24,6 @@ const NOT_GROUP: u32 = 0o707;
 
 /// How many names are tried for the unfinished file.
 const MOST_NAMES: u32 = 100;
-
-/// How many bytes are gathered before they are written.
-const GATHERED: usize = 65_536;
 
 /// An output file, created or replaced as a whole, with content made from an input.
 ///
@@ -64,7 +61,7 @@ impl<'a, R: Files<File = File>> Place for NewFile<'a, R> {
                 if old.metadata()?.is_file() {
                     replace(self.rt, self.alloc, self.path, &old, form)
                 } else {
-                    write_in_place(self.alloc, &old, self.input, form)
+                    write_in_place(old, self.input, form)
                 }
             }
             Err(error) => match error.kind() {
@@ -76,19 +73,12 @@ impl<'a, R: Files<File = File>> Place for NewFile<'a, R> {
 }
 
 /// Writes what is not a regular file, unless it is the input.
-fn write_in_place(alloc: Global, file: &File, input: &File, form: &Form<'_>) -> io::Result<()> {
+fn write_in_place(mut file: File, input: &File, form: &Form<'_>) -> io::Result<()> {
     if is_same(&file.metadata()?, &input.metadata()?) {
         return Err(io::Error::from(ErrorKind::InvalidInput));
     }
-    write_form(alloc, file, form)?;
-    sync(file)
-}
-
-/// Writes a form. Its small pieces are gathered first.
-fn write_form(alloc: Global, file: &File, form: &Form<'_>) -> io::Result<()> {
-    let mut out = BufWriter::with_capacity(alloc, GATHERED, file)?;
-    form.write_to(&mut out)?;
-    out.flush()
+    form.write_to(&mut file)?;
+    sync(&file)
 }
 
 fn is_same(one: &Metadata, other: &Metadata) -> bool {
@@ -104,7 +94,7 @@ fn create<R: Files<File = File>>(
 ) -> io::Result<()> {
     let path = real_name(rt, alloc, path)?;
     let (file, partial) = create_beside(rt, alloc, path.as_str(), ANYONE)?;
-    let filled = fill(alloc, &file, None, form);
+    let filled = fill(file, None, form);
     take_name(rt, filled, partial.as_str(), path.as_str())
 }
 
@@ -122,7 +112,7 @@ fn replace<R: Files<File = File>>(
         return Err(io::Error::from(ErrorKind::NotFound));
     }
     let (file, partial) = create_beside(rt, alloc, path.as_str(), OWNER_ONLY)?;
-    let filled = fill(alloc, &file, Some(old), form);
+    let filled = fill(file, Some(old), form);
     take_name(rt, filled, partial.as_str(), path.as_str())
 }
 
@@ -154,10 +144,10 @@ fn create_beside<R: Files<File = File>>(
 }
 
 /// Writes a new file completely, then gives it the old one's owner and permissions.
-fn fill(alloc: Global, file: &File, old: Option<&File>, form: &Form<'_>) -> io::Result<()> {
-    write_form(alloc, file, form)?;
+fn fill(mut file: File, old: Option<&File>, form: &Form<'_>) -> io::Result<()> {
+    form.write_to(&mut file)?;
     if let Some(old) = old {
-        give_permissions(file, &old.metadata()?)?;
+        give_permissions(&file, &old.metadata()?)?;
     }
     file.sync_all()
 }

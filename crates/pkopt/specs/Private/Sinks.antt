@@ -77,3 +77,8 @@ drops_more a b c n m k xs ys (e, f) (g, h) =
       subst (Appends a c) (ap (λ s. drop n xs ++ drop s ys) e ∙ sym (drop_both n xs ys))
           (appends_then a b c (drop n xs) (drop m ys) f h),
     )
+
+-- what a writer holds, and then the bytes that were gathered for it
+abbrev pub with_gathered : Option (List ℕ) → List ℕ → Option (List ℕ)
+with_gathered None gathered = None
+with_gathered (Some held) gathered = Some (held ++ gathered)
