@@ -1,6 +1,9 @@
 //! What takes the bytes of a form.
 
-ghost use Rattle.std.specs.Prelude.{◌++◌, [], List, OnOk, ℕ};
+ghost use Rattle.std.specs.Prelude.{◌≡◌, ◌++◌, [], List, OnOk, ℕ};
+ghost use Rattle.pkopt.specs.Private.Sinks.{appended_more, appended_none};
+
+use std::alloc::AllocError;
 
 /// Takes the bytes of a form, one piece after another.
 pub(crate) trait Sink {
@@ -22,4 +25,19 @@ pub(crate) trait Sink {
 
     ghost takes_more: { (x y z : Self) (a b : List ℕ)
         → takes x y a → takes y z b → takes x z (a ++ b) };
+}
+
+impl Sink for Vec<u8> {
+    type Error = AllocError;
+
+    ghost takes = { λ x y bytes. y.items ≡ x.items ++ bytes };
+
+    #[inline(always)]
+    fn take(&mut self, piece: &[u8]) -> Result<(), AllocError> {
+        self.extend_from_slice(piece)
+    }
+
+    ghost takes_none = { λ x. appended_none x.items };
+
+    ghost takes_more = { λ x y z a b f g. appended_more x.items y.items z.items a b f g };
 }

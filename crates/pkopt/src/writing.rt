@@ -1,20 +1,70 @@
 //! The optimized form of a pickle, and how it is written.
 
-ghost use Rattle.std.specs.Prelude.{◌≡◌, ◌<◌, ◌≤◌, ◌^◌, IfOk, OnOk, length};
+ghost use Rattle.std.specs.Prelude.{◌≡◌, ◌<◌, ◌≤◌, ◌^◌, IfOk, IfSome, OnOk, length};
 ghost use Rattle.std.specs.Io.KnownBytes.{Appends};
 ghost use Rattle.pkopt.specs.Private.Outputs.{output, slim_bytes};
 ghost use Rattle.pkopt.specs.Private.Places.{end_behind};
+ghost use Rattle.pkopt.specs.Private.Sinks.{Measures};
 
 use crate::fate::Plan;
 use crate::frame::{Front, front_of};
 use crate::measure::Measure;
 use crate::place::{Part, any_frame};
 use crate::rest::Rest;
+use crate::sink::Sink;
 use crate::slim::give_slim;
 use std::alloc::{AllocError, Global};
 use std::io;
 use std::io::{ErrorKind, Write};
 use std::marker::Model;
+
+/// How many bytes a part has, on average, from which on the slim form is not made before it is
+/// written. Shorter parts cost more to find twice than to copy twice.
+const LONG: usize = 256;
+
+/// The slim form, if its parts are short.
+fn made_of(
+    alloc: Global,
+    bytes: &[u8],
+    parts: &[Part],
+    taken: usize,
+    plan: &Plan,
+) -> Result<Option<Vec<u8>>, AllocError>
+    requires within { end_behind 0 parts.now ≤ taken }
+    requires there { taken ≤ length bytes.now }
+    ensures { IfOk result (λ made. IfSome made (λ slim.
+        slim.items ≡ slim_bytes plan.now bytes.now taken parts.now)) }
+{
+    if parts.len() < taken / LONG {
+        return Ok(None);
+    }
+    let mut slim = Vec::with_capacity(alloc, taken)?;
+    give_slim(bytes, parts, taken, plan, &mut slim)?;
+    Ok(Some(slim))
+}
+
+/// The measure of the slim form, which may have been made.
+fn measure_of(
+    bytes: &[u8],
+    parts: &[Part],
+    taken: usize,
+    plan: &Plan,
+    made: &Option<Vec<u8>>,
+) -> Result<Measure, AllocError>
+    requires within { end_behind 0 parts.now ≤ taken }
+    requires there { taken ≤ length bytes.now }
+    requires made { IfSome made.now (λ slim.
+        slim.items ≡ slim_bytes plan.now bytes.now taken parts.now) }
+    ensures { IfOk result (λ measure.
+        Measures measure (slim_bytes plan.now bytes.now taken parts.now)) }
+{
+    let mut measure = Measure::new();
+    match made {
+        Some(slim) => measure.take(slim)?,
+        None => give_slim(bytes, parts, taken, plan, &mut measure)?,
+    }
+    Ok(measure)
+}
 
 /// The optimized form of a pickle. It borrows the pickle, and is complete only where it is written.
 #[derive(Drop)]
@@ -27,15 +77,17 @@ pub struct Form<'a> {
     /// The parts up to its last instruction that may change.
     parts: Vec<Part>,
     plan: Plan,
+    /// The slim form, if it is made.
+    made: Option<Vec<u8>>,
     front: Front,
     /// The length of the form.
     len: u64,
 }
 
 impl<'a> Model for Form<'a> {
-    ghost use Rattle.std.specs.Prelude.{◌≡◌, ◌≤◌, length};
+    ghost use Rattle.std.specs.Prelude.{◌≡◌, ◌≤◌, IfSome, length};
     ghost use Rattle.pkopt.specs.Output.{Output};
-    ghost use Rattle.pkopt.specs.Private.Outputs.{written};
+    ghost use Rattle.pkopt.specs.Private.Outputs.{slim_bytes, written};
     ghost use Rattle.pkopt.specs.Private.Places.{end_behind};
 
     ghost Value = { Output };
@@ -48,6 +100,9 @@ impl<'a> Model for Form<'a> {
 
     ghost invariant = { λ f. (end_behind 0 f.parts.items ≤ f.taken)
         × (f.taken ≤ length f.bytes.now)
+        × (f.front.head ≤ length (slim_bytes f.plan f.bytes.now f.taken f.parts.items))
+        × IfSome f.made (λ slim.
+        slim.items ≡ slim_bytes f.plan f.bytes.now f.taken f.parts.items)
         × (f.len ≡ length (written f.plan f.bytes.now f.taken f.parts.items f.front.bytes.items
         f.front.head)) };
 }
@@ -73,8 +128,8 @@ impl<'a> Form<'a> {
         ensures short { IfOk result (λ _.
             length (slim_bytes plan bytes.now taken parts.items) < 2 ^ 64) }
     {
-        let mut measure = Measure::new();
-        give_slim(bytes, &parts, taken, &plan, &mut measure)?;
+        let made = made_of(alloc, bytes, &parts, taken, &plan)?;
+        let measure = measure_of(bytes, &parts, taken, &plan, &made)?;
         let front = front_of(alloc, measure, any_frame(&parts))?;
         let rest = measure.len - front.head as u64;
         let Some(len) = rest.checked_add(front.bytes.len() as u64) else {
@@ -86,6 +141,7 @@ impl<'a> Form<'a> {
             taken,
             parts,
             plan,
+            made,
             front,
             len,
         })
@@ -114,6 +170,9 @@ impl<'a> Form<'a> {
         ensures { OnOk result (Appends (W.contents out.old) (W.contents out.new) self.now.bytes) }
     {
         out.write_all(&self.front.bytes)?;
+        if let Some(slim) = &self.made {
+            return out.write_all(&slim[self.front.head..]);
+        }
         let mut rest = Rest {
             out,
             skip: self.front.head,

@@ -31,6 +31,13 @@ pub counts_more :
 counts_more x y z a b f g = λ bytes h.
     subst (Measures z) (append_assoc bytes a b) (g (bytes ++ a) (f bytes h))
 
+pub appended_none : (xs : List ℕ) → xs ≡ xs ++ []
+appended_none xs = sym (append-nil xs)
+
+pub appended_more : (xs ys zs a b : List ℕ) → ys ≡ xs ++ a → zs ≡ ys ++ b → zs ≡ xs ++ (a ++ b)
+appended_more xs ys zs a b f g =
+    g ∙ ap (λ (l : List ℕ). l ++ b) f ∙ append_assoc xs a b
+
 -- the bytes except for the first `skip` were written
 abbrev pub Drops : Option (List ℕ) → Option (List ℕ) → ℕ → ℕ → List ℕ → Type 0
 Drops old new skip left bytes =

@@ -1,42 +1,54 @@
-use Rattle.std.proofs.Common.{arith, subst, ap, ◌∙◌, ◌-◌, List, cond, [], refl}
+use Rattle.std.proofs.Common.{◌≡◌, ◌∙◌, ◌-◌, List, [], ap, arith, cond, refl, subst}
+use Rattle.std.specs.Prelude.{IfSome}
 use Rattle.std.specs.List.{list_any}
 use Rattle.pkopt.specs.declared.place.Part.{Part}
 use Rattle.pkopt.specs.Private.FrameBytes.{front_from, head_from}
 use Rattle.pkopt.specs.Private.Outputs.{slim_bytes}
-use Rattle.pkopt.specs.Private.Places.{places_behind}
-use Rattle.pkopt.specs.Private.Produced.{at_start, produced}
 use Rattle.pkopt.specs.Private.Sinks.{Measures}
 use Rattle.pkopt.specs.Slim.{is_frame}
-use Rattle.pkopt.proofs.OneFrame.Fronts.{fronted, fronted_length, measured}
+use Rattle.pkopt.proofs.OneFrame.Fronts.{fronted, fronted_length}
 use Rattle.pkopt.proofs.writing.Form.new.Goals as goal
 
 pub invariant_of-result : goal.invariant_of-result
 invariant_of-result c =
-    let m = c.give_slim.new.sink in
-    let given = measured _ m _ c.new-measure.ensures c.in_ok-give_slim.ensures in
-    let slim = subst (λ (l : List Part). Measures m (produced c.args.plan c.args.bytes.now c.args.taken (places_behind 0 l) at_start)) c.deref.ensures.value given in
+    let m = c.in_ok-measure.measure in
+    let plan = c.args.plan in
+    let bytes = c.args.bytes.now in
+    let taken = c.args.taken in
+    let slim = subst (λ (l : List Part). Measures m (slim_bytes plan bytes taken l))
+    c.deref-2.ensures.value c.in_ok-measure.ensures in
+    let made = subst (λ (l : List Part). IfSome c.in_ok-made.made (λ v. v.items
+    ≡ slim_bytes plan bytes taken l)) c.deref.ensures.value c.in_ok-made.ensures in
     let front = c.in_ok-front.front in
+    let fits = c.in_ok-front.ensures.fits in
+    let count = slim.count in
     let size = front.bytes.ok.0 in
     let len = c.len.ensures in
     let sum = c.in-Some.ensures.1 in (
       c.requires.within,
       c.requires.there,
-      fronted_length m (slim_bytes c.args.plan c.args.bytes.now c.args.taken c.args.parts.items) front.bytes.items front.head (m.len - front.head) c.in-Some.len slim c.in_ok-front.ensures.fits refl (omega (arith, size, len, sum)),
+      omega (arith, fits, count),
+      made,
+      fronted_length m (slim_bytes plan bytes taken c.args.parts.items) front.bytes.items front.head
+          (m.len - front.head) c.in-Some.len slim fits refl (omega (arith, size, len, sum)),
     )
 
 pub returns-clause-bytes : goal.returns-clause-bytes
 returns-clause-bytes c =
-    let m = c.give_slim.new.sink in
-    let given = measured _ m _ c.new-measure.ensures c.in_ok-give_slim.ensures in
-    let slim = subst (λ (l : List Part). Measures m (produced c.args.plan c.args.bytes.now c.args.taken (places_behind 0 l) at_start)) c.deref.ensures.value given in
-    let framed = c.any_frame.ensures ∙ ap (list_any (λ (x : Part). is_frame x.op)) c.deref-2.ensures.value in
-    fronted _ m _ _ _ slim (c.in_ok-front.ensures.bytes ∙ ap (λ b. cond b (front_from m) []) framed) (c.in_ok-front.ensures.head ∙ ap (λ b. cond b (head_from m) 0) framed)
+    let m = c.in_ok-measure.measure in
+    let slim = subst (λ (l : List Part). Measures m (slim_bytes c.args.plan c.args.bytes.now
+    c.args.taken l)) c.deref-2.ensures.value c.in_ok-measure.ensures in
+    let framed = c.any_frame.ensures
+    ∙ ap (list_any (λ (x : Part). is_frame x.op)) c.deref-3.ensures.value in
+    fronted _ m _ _ _ slim
+    (c.in_ok-front.ensures.bytes ∙ ap (λ b. cond b (front_from m) []) framed)
+    (c.in_ok-front.ensures.head ∙ ap (λ b. cond b (head_from m) 0) framed)
 
 pub returns-clause-short : goal.returns-clause-short
 returns-clause-short c =
-    let m = c.give_slim.new.sink in
-    let given = measured _ m _ c.new-measure.ensures c.in_ok-give_slim.ensures in
-    let slim = subst (λ (l : List Part). Measures m (produced c.args.plan c.args.bytes.now c.args.taken (places_behind 0 l) at_start)) c.deref.ensures.value given in
+    let m = c.in_ok-measure.measure in
+    let slim = subst (λ (l : List Part). Measures m (slim_bytes c.args.plan c.args.bytes.now
+    c.args.taken l)) c.deref-2.ensures.value c.in_ok-measure.ensures in
     let count = slim.count in
     let small = c.in_ok-front.ensures.small in
     omega (arith, count, small)
