@@ -74,6 +74,23 @@ fn a_form_is_written(rt: HostRuntime) -> Result<(), Fail> {
     Ok(())
 }
 
+/// A form of long parts is written straight from the pickle.
+#[test]
+fn a_long_payload_is_written(rt: HostRuntime) -> Result<(), Fail> {
+    let mut pickle = Vec::from_slice(rt.alloc(), b"\x80\x04\x95\x47\x0d\x03\0\0\0\0\0")?;
+    pickle.extend_from_slice(b"B\x40\x0d\x03\0")?;
+    pickle.resize(200_016, b'a')?;
+    pickle.extend_from_slice(b"\x94.")?;
+    let mut wanted = Vec::from_slice(rt.alloc(), b"\x80\x04\x95\x46\x0d\x03\0\0\0\0\0")?;
+    wanted.extend_from_slice(&pickle[11..200_016])?;
+    wanted.push(b'.')?;
+    let Ok(out) = optimize(rt.alloc(), &pickle, &Limits::STANDARD) else {
+        return Err(Fail::from("a form"));
+    };
+    assert!(rt; out == wanted);
+    Ok(())
+}
+
 #[test]
 fn without_frames(rt: HostRuntime) -> Result<(), Fail> {
     optimize_each(&rt, &UNFRAMED)
