@@ -17,7 +17,7 @@ import tempfile
 import threading
 import time
 from types import ModuleType
-from typing import Callable, List, Optional, Sequence, Tuple
+from typing import Callable, List, Sequence, Tuple
 
 import program
 
@@ -183,24 +183,24 @@ def threads(storklocker: ModuleType, asked: argparse.Namespace) -> None:
         f"\n| Threads that check {len(data):,} bytes | checks a second | beside one |"
         "\n|---|---|---|"
     )
-    one: Optional[float] = None
+    most = {1: 0.0, 2: 0.0, 4: 0.0}
 
     def work() -> None:
         for _ in range(10):
             storklocker.check(data, listed)
 
-    for count in (1, 2, 4):
-        most = 0.0
-        for _ in range(max(3, asked.rounds // 3)):
+    # They take turns, because the speed of a shared machine changes within seconds.
+    for _ in range(max(3, asked.rounds // 3)):
+        for count, rate in most.items():
             workers = [threading.Thread(target=work) for _ in range(count)]
             started = time.perf_counter()
             for worker in workers:
                 worker.start()
             for worker in workers:
                 worker.join()
-            most = max(most, 10 * count / (time.perf_counter() - started))
-        one = one or most
-        print(f"| {count} | {most:,.0f} | {most / one:.2f} |")
+            most[count] = max(rate, 10 * count / (time.perf_counter() - started))
+    for count, rate in most.items():
+        print(f"| {count} | {rate:,.0f} | {rate / most[1]:.2f} |")
 
 
 def imported(asked: argparse.Namespace) -> float:

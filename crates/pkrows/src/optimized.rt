@@ -67,7 +67,7 @@ fn a_form_is_written(rt: HostRuntime) -> Result<(), Fail> {
     };
     let mut out = Vec::from_slice(rt.alloc(), b"before")?;
     form.write_to(&mut out)?;
-    assert_eq!(rt; &out[..6], b"before");
+    assert_eq!(rt; &out[..6], b"before".as_slice());
     assert_eq!(rt; &out[6..], wanted);
     assert_eq!(rt; form.len(), wanted.len() as u64);
     assert_eq!(rt; form.taken(), pickle.len() as u64);
