@@ -3,6 +3,7 @@ pub mod Numerals
 pub mod Floats
 pub mod Names
 pub mod OldStringsSpelled
+pub mod OldStringsLoop
 pub mod OldStrings
 pub mod FormsRead
 pub mod EscapesSpelled

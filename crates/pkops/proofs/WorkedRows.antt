@@ -6,7 +6,8 @@ use Rattle.pkops.specs.declared.op.Op.TheVariants as op
 use Rattle.pkops.specs.declared.op.Kind.TheVariants as kind
 use Rattle.pkops.specs.Table.{code_of, row_of}
 use Rattle.pkops.specs.Behind.{argument_behind}
-use Rattle.pkops.specs.Spelling.{Nothing, Number, Signed, Float, Line, Pair, Counted, instruction, layout_at, spelling}
+use Rattle.pkops.specs.Spelling.{Nothing, Number, Signed, Float, Line, Pair, Counted, instruction}
+use Rattle.pkops.specs.Spelling.{layout_at, spelling}
 use Rattle.pkops.specs.Admitted.{is_admitted}
 use Rattle.pkops.specs.Operands.{memo_entry, names_bool, pair_named}
 use Rattle.pkops.specs.Numerals.{IsIntLine, IsLongLine, IsMemoNumber}
@@ -19,21 +20,25 @@ use Rattle.pkops.specs.OldBytes.{old_bytes}
 use Rattle.pkops.specs.Text.{text_bytes}
 use Rattle.pkops.proofs.ContentsRules.EscapesSpelled.{points_of_spelled, spelled_points}
 use Rattle.pkops.proofs.ContentsRules.Floats.{float_is, is_float_of}
-use Rattle.pkops.proofs.ContentsRules.Numerals.{int_is, is_int_of, long_is, is_long_of, memo_number_is, is_memo_number_of}
+use Rattle.pkops.proofs.ContentsRules.Numerals.{int_is, is_int_of, long_is, is_long_of}
+use Rattle.pkops.proofs.ContentsRules.Numerals.{memo_number_is, is_memo_number_of}
 use Rattle.pkops.proofs.ContentsRules.OldStrings.{string_is, is_string_of}
 
 -- ---- spellings
 
-minus_one : spelling (instruction op.BinInt (Signed (negsuc 0))) ≡ 0x4a ∷ 0xff ∷ 0xff ∷ 0xff ∷ 0xff ∷ []
+minus_one : spelling (instruction op.BinInt (Signed (negsuc 0))) ≡ 0x4a ∷ 0xff ∷ 0xff ∷ 0xff ∷ 0xff
+    ∷ []
 minus_one = refl
 
 a_letter : spelling (instruction op.ShortBinUnicode (Counted (codes "a"))) ≡ 0x8c ∷ 0x01 ∷ 0x61 ∷ []
 a_letter = refl
 
-a_global : spelling (instruction op.Global (Pair (codes "m") (codes "f"))) ≡ 0x63 ∷ 0x6d ∷ 0x0a ∷ 0x66 ∷ 0x0a ∷ []
+a_global : spelling (instruction op.Global (Pair (codes "m") (codes "f"))) ≡ 0x63 ∷ 0x6d ∷ 0x0a
+    ∷ 0x66 ∷ 0x0a ∷ []
 a_global = refl
 
-a_memo_entry : spelling (instruction op.LongBinPut (Number 4 258)) ≡ 0x72 ∷ 0x02 ∷ 0x01 ∷ 0x00 ∷ 0x00 ∷ []
+a_memo_entry : spelling (instruction op.LongBinPut (Number 4 258)) ≡ 0x72 ∷ 0x02 ∷ 0x01 ∷ 0x00
+    ∷ 0x00 ∷ []
 a_memo_entry = refl
 
 no_bytes : spelling (instruction op.BinBytes (Counted [])) ≡ 0x42 ∷ 0x00 ∷ 0x00 ∷ 0x00 ∷ 0x00 ∷ []
@@ -53,33 +58,43 @@ byte_behind = refl
 two_bytes_behind : argument_behind (layout_at op.BinInt2) 0 (0x4d ∷ 0xff ∷ 0x00 ∷ []) ≡ Number 2 255
 two_bytes_behind = refl
 
-signed_behind : argument_behind (layout_at op.BinInt) 0 (0x4a ∷ 0xff ∷ 0xff ∷ 0xff ∷ 0xff ∷ []) ≡ Signed (negsuc 0)
+signed_behind : argument_behind (layout_at op.BinInt) 0 (0x4a ∷ 0xff ∷ 0xff ∷ 0xff ∷ 0xff ∷ [])
+    ≡ Signed (negsuc 0)
 signed_behind = refl
 
-four_bytes_behind : argument_behind (layout_at op.LongBinGet) 0 (0x6a ∷ 0x00 ∷ 0x00 ∷ 0x00 ∷ 0x80 ∷ []) ≡ Number 4 2_147_483_648
+four_bytes_behind : argument_behind (layout_at op.LongBinGet) 0
+    (0x6a ∷ 0x00 ∷ 0x00 ∷ 0x00 ∷ 0x80 ∷ []) ≡ Number 4 2_147_483_648
 four_bytes_behind = refl
 
-eight_bytes_behind : argument_behind (layout_at op.Frame) 0 (0x95 ∷ 0xff ∷ 0x00 ∷ 0x00 ∷ 0x00 ∷ 0x00 ∷ 0x00 ∷ 0x00 ∷ 0x00 ∷ []) ≡ Number 8 255
+eight_bytes_behind : argument_behind (layout_at op.Frame) 0
+    (0x95 ∷ 0xff ∷ 0x00 ∷ 0x00 ∷ 0x00 ∷ 0x00 ∷ 0x00 ∷ 0x00 ∷ 0x00 ∷ []) ≡ Number 8 255
 eight_bytes_behind = refl
 
 -- the float is -1.25
-float_behind : argument_behind (layout_at op.BinFloat) 0 (0x47 ∷ 0xbf ∷ 0xf4 ∷ 0x00 ∷ 0x00 ∷ 0x00 ∷ 0x00 ∷ 0x00 ∷ 0x00 ∷ []) ≡ Float (0xbf ∷ 0xf4 ∷ 0x00 ∷ 0x00 ∷ 0x00 ∷ 0x00 ∷ 0x00 ∷ 0x00 ∷ [])
+float_behind : argument_behind (layout_at op.BinFloat) 0
+    (0x47 ∷ 0xbf ∷ 0xf4 ∷ 0x00 ∷ 0x00 ∷ 0x00 ∷ 0x00 ∷ 0x00 ∷ 0x00 ∷ [])
+    ≡ Float (0xbf ∷ 0xf4 ∷ 0x00 ∷ 0x00 ∷ 0x00 ∷ 0x00 ∷ 0x00 ∷ 0x00 ∷ [])
 float_behind = refl
 
 line_behind : argument_behind (layout_at op.Int) 0 (codes "I1234\n") ≡ Line (codes "1234")
 line_behind = refl
 
-pair_behind : argument_behind (layout_at op.Global) 2 (codes "cos\nsystem\n") ≡ Pair (codes "os") (codes "system")
+pair_behind : argument_behind (layout_at op.Global) 2 (codes "cos\nsystem\n")
+    ≡ Pair (codes "os") (codes "system")
 pair_behind = refl
 
 -- the payload is the number 255, lowest byte first
-payload_behind : argument_behind (layout_at op.Long1) 0 (0x8a ∷ 0x02 ∷ 0xff ∷ 0x00 ∷ []) ≡ Counted (0xff ∷ 0x00 ∷ [])
+payload_behind : argument_behind (layout_at op.Long1) 0 (0x8a ∷ 0x02 ∷ 0xff ∷ 0x00 ∷ [])
+    ≡ Counted (0xff ∷ 0x00 ∷ [])
 payload_behind = refl
 
-longer_payload_behind : argument_behind (layout_at op.BinBytes) 0 (0x42 ∷ 0x03 ∷ 0x00 ∷ 0x00 ∷ 0x00 ∷ 0x61 ∷ 0x62 ∷ 0x63 ∷ []) ≡ Counted (codes "abc")
+longer_payload_behind : argument_behind (layout_at op.BinBytes) 0
+    (0x42 ∷ 0x03 ∷ 0x00 ∷ 0x00 ∷ 0x00 ∷ 0x61 ∷ 0x62 ∷ 0x63 ∷ []) ≡ Counted (codes "abc")
 longer_payload_behind = refl
 
-longest_payload_behind : argument_behind (layout_at op.BinBytes8) 0 (0x8e ∷ 0x03 ∷ 0x00 ∷ 0x00 ∷ 0x00 ∷ 0x00 ∷ 0x00 ∷ 0x00 ∷ 0x00 ∷ 0x61 ∷ 0x62 ∷ 0x63 ∷ []) ≡ Counted (codes "abc")
+longest_payload_behind : argument_behind (layout_at op.BinBytes8) 0
+    (0x8e ∷ 0x03 ∷ 0x00 ∷ 0x00 ∷ 0x00 ∷ 0x00 ∷ 0x00 ∷ 0x00 ∷ 0x00 ∷ 0x61 ∷ 0x62 ∷ 0x63 ∷ [])
+    ≡ Counted (codes "abc")
 longest_payload_behind = refl
 
 -- ---- the table
@@ -105,12 +120,14 @@ unfolding forms_behind encode_utf8
 escaped_text = refl
 
 -- an escape of eight digits, between plain bytes; digits of either case
-long_text : text_bytes (instruction op.Unicode (Line (codes "a\\U0001F60fb"))) ≡ Some (0x61 ∷ 0xf0 ∷ 0x9f ∷ 0x98 ∷ 0x8f ∷ 0x62 ∷ [])
+long_text : text_bytes (instruction op.Unicode (Line (codes "a\\U0001F60fb")))
+    ≡ Some (0x61 ∷ 0xf0 ∷ 0x9f ∷ 0x98 ∷ 0x8f ∷ 0x62 ∷ [])
 unfolding forms_behind encode_utf8
 long_text = refl
 
 -- two escapes, one behind the other: é and é
-two_escapes : text_bytes (instruction op.Unicode (Line (codes "\\u00e9\\U000000E9"))) ≡ Some (0xc3 ∷ 0xa9 ∷ 0xc3 ∷ 0xa9 ∷ [])
+two_escapes : text_bytes (instruction op.Unicode (Line (codes "\\u00e9\\U000000E9")))
+    ≡ Some (0xc3 ∷ 0xa9 ∷ 0xc3 ∷ 0xa9 ∷ [])
 unfolding forms_behind encode_utf8
 two_escapes = refl
 
@@ -227,11 +244,13 @@ old_string_by_number : old_bytes (instruction op.String (Line (codes "'\\x61'"))
 unfolding forms_behind
 old_string_by_number = refl
 
-old_string_of_escapes : old_bytes (instruction op.String (Line (codes "'\\n\\r\\t\\\\\\''"))) ≡ Some (0x0a ∷ 0x0d ∷ 0x09 ∷ 0x5c ∷ 0x27 ∷ [])
+old_string_of_escapes : old_bytes (instruction op.String (Line (codes "'\\n\\r\\t\\\\\\''")))
+    ≡ Some (0x0a ∷ 0x0d ∷ 0x09 ∷ 0x5c ∷ 0x27 ∷ [])
 unfolding forms_behind
 old_string_of_escapes = refl
 
-old_string_of_a_payload : old_bytes (instruction op.ShortBinString (Counted (0xe9 ∷ []))) ≡ Some (0xe9 ∷ [])
+old_string_of_a_payload : old_bytes (instruction op.ShortBinString (Counted (0xe9 ∷ [])))
+    ≡ Some (0xe9 ∷ [])
 old_string_of_a_payload = refl
 
 no_old_string : old_bytes (instruction op.ShortBinBytes (Counted (0xe9 ∷ []))) ≡ None

@@ -12,10 +12,12 @@ use Rattle.pkops.specs.Escapes.{IsTextLine, points_of}
 use Rattle.pkops.proofs.ContentsRules.EscapesSpelled.{points_of_spelled, spelled_points}
 use Rattle.pkops.proofs.ContentsRules.Floats.{float_is, is_float_of}
 use Rattle.pkops.proofs.ContentsRules.Names.{ascii_is, is_ascii_of, name_is, is_name_of}
-use Rattle.pkops.proofs.ContentsRules.Numerals.{int_is, is_int_of, long_is, is_long_of, memo_number_is, is_memo_number_of}
+use Rattle.pkops.proofs.ContentsRules.Numerals.{int_is, is_int_of, long_is, is_long_of}
+use Rattle.pkops.proofs.ContentsRules.Numerals.{memo_number_is, is_memo_number_of}
 use Rattle.pkops.proofs.ContentsRules.OldStrings.{string_is, is_string_of}
 
-some_read : (line : List ℕ) (read : Option (List ℕ)) → points_of line ≡ read → is_some read ≡ true → IsTextLine line
+some_read : (line : List ℕ) (read : Option (List ℕ)) → points_of line ≡ read → is_some read ≡ true
+    → IsTextLine line
 some_read line None e some = absurd cc
 some_read line (Some points) e some = (points, spelled_points line points e)
 
@@ -38,7 +40,8 @@ keeps_is rule.Escapes (Line line) e = some_read line (points_of line) refl e
 keeps_is rule.Escapes _ e = absurd cc
 keeps_is rule.Utf8 (Counted payload) e = IsUtf8-from_is_utf8 payload e
 keeps_is rule.Utf8 _ e = absurd cc
-keeps_is rule.Names (Pair first second) e = let p = and_parts (is_name first) (is_name second) e in (name_is first p.0, name_is second p.1)
+keeps_is rule.Names (Pair first second) e = let p = and_parts (is_name first) (is_name second) e in
+    (name_is first p.0, name_is second p.1)
 keeps_is rule.Names _ e = absurd cc
 keeps_is rule.Ascii (Line line) e = ascii_is line e
 keeps_is rule.Ascii _ e = absurd cc
@@ -59,7 +62,8 @@ passes_of rule.Escapes (Line line) h = text_of line h
 passes_of rule.Escapes _ h = absurd h
 passes_of rule.Utf8 (Counted payload) h = is_utf8-from_IsUtf8 payload h
 passes_of rule.Utf8 _ h = absurd h
-passes_of rule.Names (Pair first second) h = and_from _ _ (is_name_of first h.0) (is_name_of second h.1)
+passes_of rule.Names (Pair first second) h = and_from _ _ (is_name_of first h.0)
+    (is_name_of second h.1)
 passes_of rule.Names _ h = absurd h
 passes_of rule.Ascii (Line line) h = is_ascii_of line h
 passes_of rule.Ascii _ h = absurd h

@@ -1,5 +1,6 @@
 -- A line of plain bytes spells itself.
-use Rattle.std.proofs.Common.{◌≡◌, Bool, true, false, eqb, List, [], ◌∷◌, ℕ, Some, refl, sym, ap, ◌∙◌}
+use Rattle.std.proofs.Common.{◌≡◌, Bool, true, false, eqb, List, [], ◌∷◌, ℕ, Some, refl, sym, ap}
+use Rattle.std.proofs.Common.{◌∙◌}
 use Rattle.std.specs.Prelude.{encode_utf8_all, not}
 use Rattle.std.specs.Char.{is_ascii}
 use Rattle.std.specs.List.{list_all}
@@ -27,7 +28,8 @@ all_ascii (byte ∷ line) e =
 pub plain_ascii : (line : List ℕ) → list_all is_plain_ascii line ≡ true → IsAscii line
 plain_ascii line e = ascii_is line (all_ascii line e)
 
-plain_read : (line : List ℕ) → list_all is_plain_ascii line ≡ true → code_points Outside line ≡ Some line
+plain_read : (line : List ℕ) → list_all is_plain_ascii line ≡ true
+    → code_points Outside line ≡ Some line
 unfolding code_points
 plain_read [] e = refl
 plain_read (byte ∷ line) e =
@@ -36,9 +38,12 @@ plain_read (byte ∷ line) e =
     rw (not_so (eqb byte 92) q.1, plain_read line p.1) refl
 
 -- the code points of such a line are its bytes
-pub plain_points : (line : List ℕ) → list_all is_plain_ascii line ≡ true → points_of line ≡ Some line
+pub plain_points : (line : List ℕ) → list_all is_plain_ascii line ≡ true
+    → points_of line ≡ Some line
 plain_points line e = sym (named_is line) ∙ plain_read line e
 
 -- and so is its text
-pub plain_text : (line : List ℕ) → list_all is_plain_ascii line ≡ true → option_map encode_utf8_all (points_of line) ≡ Some line
-plain_text line e = ap (option_map encode_utf8_all) (plain_points line e) ∙ ap Some (encodes-IsAscii line (plain_ascii line e))
+pub plain_text : (line : List ℕ) → list_all is_plain_ascii line ≡ true
+    → option_map encode_utf8_all (points_of line) ≡ Some line
+plain_text line e = ap (option_map encode_utf8_all) (plain_points line e)
+    ∙ ap Some (encodes-IsAscii line (plain_ascii line e))

@@ -1,10 +1,13 @@
 -- The tests of numerals hold exactly of the numerals.
-use Rattle.std.proofs.Common.{◌≡◌, ℕ, suc, ◌+◌, ◌*◌, ◌-◌, ◌^◌, ◌<◌, Bool, true, false, ◌||◌, eqb, leb, List, [], ◌∷◌, ◌++◌, length, take, get_or, refl, sym, ap, ◌∙◌, arith, inl, inr}
+use Rattle.std.proofs.Common.{◌≡◌, ℕ, suc, ◌+◌, ◌*◌, ◌-◌, ◌^◌, ◌<◌, Bool, true, false, ◌||◌, eqb}
+use Rattle.std.proofs.Common.{leb, List, [], ◌∷◌, ◌++◌, length, take, get_or, refl, sym, ap, ◌∙◌}
+use Rattle.std.proofs.Common.{arith, inl, inr}
 use Rattle.std.specs.Prelude.{codes}
 use Rattle.std.specs.Char.{digit_value, is_ascii_digit}
 use Rattle.std.specs.List.{list_all}
 use Rattle.std.specs.Str.Parse.{AllDigits, digits_value}
-use Rattle.std.proofs.lemmas.Bool.{and_parts, and_from, or_cases, eqb-true, leb-true, ltb-true, lt-ltb}
+use Rattle.std.proofs.lemmas.Bool.{and_parts, and_from, or_cases, eqb-true, leb-true, ltb-true}
+use Rattle.std.proofs.lemmas.Bool.{lt-ltb}
 use Rattle.std.proofs.lemmas.Int.Digits.{digits_value-lt, digits_value_more}
 use Rattle.std.proofs.lemmas.Str.{digit_value_digit}
 use Rattle.std.proofs.Math.Nat.{pow-le-pow_right}
@@ -12,8 +15,11 @@ use Rattle.std.proofs.lemmas.Str.Parse.{digits_value-take-le}
 use Rattle.std.proofs.lemmas.List.{take_at, length-append}
 use Rattle.std.proofs.lemmas.List.Sums.{AllPass-from_list_all, list_all-from_AllPass}
 use Rattle.std.proofs.Math.Seq.{get_or-append_seam}
-use Rattle.pkops.specs.Numerals.{is_bool_line, IsPositive, IsNatural, IsNumeral, IsIntLine, IsLongLine, IsMemoNumber}
-use Rattle.pkops.specs.Deciding.{is_zero, is_positive, is_natural, is_negative, is_numeral, is_int_line, ends_in_l, is_marked_numeral, is_long_line, is_memo_number}
+use Rattle.pkops.specs.Numerals.{is_bool_line, IsPositive, IsNatural, IsNumeral, IsIntLine}
+use Rattle.pkops.specs.Numerals.{IsLongLine, IsMemoNumber}
+use Rattle.pkops.specs.Deciding.{is_zero, is_positive, is_natural, is_negative, is_numeral}
+use Rattle.pkops.specs.Deciding.{is_int_line, ends_in_l, is_marked_numeral, is_long_line}
+use Rattle.pkops.specs.Deciding.{is_memo_number}
 
 pub or_left : (a b : Bool) → a ≡ true → (a || b) ≡ true
 or_left a b e = rw e refl
@@ -47,7 +53,8 @@ pub is_natural_of : (text : List ℕ) → IsNatural text → is_natural text ≡
 is_natural_of text (inl e) = ap is_natural e
 is_natural_of text (inr p) = or_right (is_zero text) _ (is_positive_of text p)
 
-negative_is : (text : List ℕ) → is_negative text ≡ true → (digits : List ℕ) × IsPositive digits × (text ≡ codes "-" ++ digits)
+negative_is : (text : List ℕ) → is_negative text ≡ true → (digits : List ℕ) × IsPositive digits
+    × (text ≡ codes "-" ++ digits)
 negative_is [] e = absurd cc
 negative_is (sign ∷ digits) e =
     let p = and_parts _ _ e in
@@ -61,17 +68,20 @@ numeral_is text e = elim (or_cases (is_natural text) (is_negative text) e) [
 
 is_numeral_of : (text : List ℕ) → IsNumeral text → is_numeral text ≡ true
 is_numeral_of text (inl n) = or_left (is_natural text) _ (is_natural_of text n)
-is_numeral_of text (inr (digits, p, e)) = or_right (is_natural text) _ (ap is_negative e ∙ is_positive_of digits p)
+is_numeral_of text (inr (digits, p, e)) = or_right (is_natural text) _
+    (ap is_negative e ∙ is_positive_of digits p)
 
 pub int_is : (line : List ℕ) → is_int_line line ≡ true → IsIntLine line
-int_is line e = elim (or_cases (is_bool_line line) (is_numeral line) e) [ inl b ↦ inl b | inr n ↦ inr (numeral_is line n) ]
+int_is line e = elim (or_cases (is_bool_line line) (is_numeral line) e) [ inl b ↦ inl b
+    | inr n ↦ inr (numeral_is line n) ]
 
 pub is_int_of : (line : List ℕ) → IsIntLine line → is_int_line line ≡ true
 is_int_of line (inl b) = or_left (is_bool_line line) _ b
 is_int_of line (inr n) = or_right (is_bool_line line) _ (is_numeral_of line n)
 
 -- a line that ends in an L is what is before it, and the L
-marked : (line : List ℕ) → 0 < length line → get_or line (length line - 1) 0 ≡ 76 → line ≡ take (length line - 1) line ++ 76 ∷ []
+marked : (line : List ℕ) → 0 < length line → get_or line (length line - 1) 0 ≡ 76
+    → line ≡ take (length line - 1) line ++ 76 ∷ []
 marked [] some e = absurd (omega arith)
 marked (a ∷ []) some e = ap (λ (x : ℕ). x ∷ []) e
 marked (a ∷ b ∷ rest) some e =
@@ -85,20 +95,25 @@ long_is line e = elim (or_cases (is_numeral line) (is_marked_numeral line) e) [
   | inr m ↦
       let p = and_parts (ends_in_l line) _ m in
       let q = and_parts _ (eqb (get_or line (length line - 1) 0) 76) p.0 in
-      inr (take (length line - 1) line, numeral_is _ p.1, marked line (ltb-true 0 (length line) q.0) (eqb-true _ 76 q.1))
+      inr (take (length line - 1) line, numeral_is _ p.1,
+          marked line (ltb-true 0 (length line) q.0) (eqb-true _ 76 q.1))
 ]
 
-is_marked_of : (numeral : List ℕ) → IsNumeral numeral → is_marked_numeral (numeral ++ 76 ∷ []) ≡ true
+is_marked_of : (numeral : List ℕ) → IsNumeral numeral
+    → is_marked_numeral (numeral ++ 76 ∷ []) ≡ true
 is_marked_of numeral n =
     let len : length (numeral ++ 76 ∷ []) ≡ length numeral + 1 = length-append numeral (76 ∷ []) in
     let before : length (numeral ++ 76 ∷ []) - 1 ≡ length numeral = omega (arith, len) in
     let some : 0 < length (numeral ++ 76 ∷ []) = omega (arith, len) in
-    let last : get_or (numeral ++ 76 ∷ []) (length numeral) 0 ≡ 76 = get_or-append_seam numeral 76 [] 0 in
-    rw (lt-ltb 0 _ some, before, last, take_at numeral (76 ∷ []) (length numeral) refl, is_numeral_of numeral n) refl
+    let last : get_or (numeral ++ 76 ∷ []) (length numeral) 0 ≡ 76 =
+        get_or-append_seam numeral 76 [] 0 in
+    rw (lt-ltb 0 _ some, before, last, take_at numeral (76 ∷ []) (length numeral) refl,
+        is_numeral_of numeral n) refl
 
 pub is_long_of : (line : List ℕ) → IsLongLine line → is_long_line line ≡ true
 is_long_of line (inl n) = or_left (is_numeral line) _ (is_numeral_of line n)
-is_long_of line (inr (numeral, n, e)) = or_right (is_numeral line) _ (ap is_marked_numeral e ∙ is_marked_of numeral n)
+is_long_of line (inr (numeral, n, e)) = or_right (is_numeral line) _
+    (ap is_marked_numeral e ∙ is_marked_of numeral n)
 
 pub memo_number_is : (line : List ℕ) → is_memo_number line ≡ true → IsMemoNumber line
 memo_number_is line e =
@@ -109,12 +124,17 @@ pub is_memo_number_of : (line : List ℕ) → IsMemoNumber line → is_memo_numb
 is_memo_number_of line h = and_from _ _ (is_natural_of line h.natural) (lt-ltb _ _ h.small)
 
 -- what is said by one digit more
-pub one_more : (number said i : ℕ) (ds : List ℕ) → i < length ds → number ≡ digits_value 10 (take i ds) → said ≡ number * 10 + digit_value (get_or ds i 0) → said ≡ digits_value 10 (take (i + 1) ds)
+pub one_more : (number said i : ℕ) (ds : List ℕ) → i < length ds
+    → number ≡ digits_value 10 (take i ds) → said ≡ number * 10 + digit_value (get_or ds i 0)
+    → said ≡ digits_value 10 (take (i + 1) ds)
 one_more number said i ds within so_far is =
-    is ∙ ap (λ n. n * 10 + digit_value (get_or ds i 0)) so_far ∙ sym (digits_value_more 10 ds i within)
+    is ∙ ap (λ n. n * 10 + digit_value (get_or ds i 0)) so_far
+        ∙ sym (digits_value_more 10 ds i within)
 
 -- it stays within what all digits say
-pub one_more_small : (number said i : ℕ) (ds : List ℕ) → IsMemoNumber ds → i < length ds → number ≡ digits_value 10 (take i ds) → said ≡ number * 10 + digit_value (get_or ds i 0) → said < 2 ^ 32
+pub one_more_small : (number said i : ℕ) (ds : List ℕ) → IsMemoNumber ds → i < length ds
+    → number ≡ digits_value 10 (take i ds) → said ≡ number * 10 + digit_value (get_or ds i 0)
+    → said < 2 ^ 32
 one_more_small number said i ds is within so_far e =
     let more = one_more number said i ds within so_far e in
     let small = is.small in
@@ -131,7 +151,8 @@ all_digits (d ∷ ds) e =
     (omega arith, all_digits ds p.1)
 
 -- nine digits say a number of 32 bits
-pub few_digits : (ds : List ℕ) → list_all is_ascii_digit ds ≡ true → length ds < 10 → digits_value 10 ds < 2 ^ 32
+pub few_digits : (ds : List ℕ) → list_all is_ascii_digit ds ≡ true → length ds < 10
+    → digits_value 10 ds < 2 ^ 32
 few_digits ds e short =
     let below = digits_value-lt 10 ds (all_digits ds e) in
     let most = pow-le-pow_right {n = 10} (omega arith) {i = length ds} {j = 9} (omega arith) in

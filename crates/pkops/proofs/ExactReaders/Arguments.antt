@@ -1,5 +1,6 @@
 -- The reader of an argument is exact, whatever its layout.
-use Rattle.std.proofs.Common.{◌≡◌, ◌≢◌, ℕ, ◌^◌, ◌<◌, Bool, List, [], ◌++◌, length, Result, Ok, Err, refl, sym, ap, subst, ◌∙◌, arith, inl, inr}
+use Rattle.std.proofs.Common.{◌≡◌, ◌≢◌, ℕ, ◌^◌, ◌<◌, Bool, List, [], ◌++◌, length, Result, Ok, Err}
+use Rattle.std.proofs.Common.{refl, sym, ap, subst, ◌∙◌, arith, inl, inr}
 use Rattle.std.specs.Prelude.{FitsSigned}
 use Rattle.std.specs.Int.{w32, cast_signed, cast_unsigned}
 use Rattle.std.proofs.lemmas.List.{length-append}
@@ -13,14 +14,18 @@ use Rattle.pkops.specs.declared.fault.Fault.{Fault}
 use Rattle.pkops.specs.declared.fault.Fault.TheVariants.{UnknownOpcode, BadArgument, TooLarge}
 use Rattle.pkops.specs.declared.reading.Unread.{Unread}
 use Rattle.pkops.specs.declared.reading.Unread.TheVariants.{Short, Bad}
-use Rattle.pkops.specs.Spelling.{Argument, Nothing, Number, Signed, Float, Line, Pair, Counted, Suits, laid, IsLine}
+use Rattle.pkops.specs.Spelling.{Argument, Nothing, Number, Signed, Float, Line, Pair, Counted}
+use Rattle.pkops.specs.Spelling.{Suits, laid, IsLine}
 use Rattle.pkops.specs.Scanning.{IsWithin, MayBegin, IsNegative, IsAbove}
 use Rattle.pkops.specs.Private.Reading.{◌>>=◌, arg_at}
 use Rattle.pkops.proofs.ExactReaders.Exact.{IsBytes, Lacks, Takes, IsExact}
-use Rattle.pkops.proofs.ExactReaders.Fields.{ok_is, NoFault, self, number_exact, bytes_exact, some_left}
+use Rattle.pkops.proofs.ExactReaders.Fields.{ok_is, NoFault, self, number_exact, bytes_exact}
+use Rattle.pkops.proofs.ExactReaders.Fields.{some_left}
 use Rattle.pkops.proofs.ExactReaders.Lines.{LineFault, line_text, line_exact}
-use Rattle.pkops.proofs.ExactReaders.LinePairs.{bind_ok, bind_err, IsPair, PairFault, pair_text, pair_exact}
-use Rattle.pkops.proofs.ExactReaders.Payloads.{IsPayload, MayPayload, PayloadFault, counted, payload_exact}
+use Rattle.pkops.proofs.ExactReaders.LinePairs.{bind_ok, bind_err, IsPair, PairFault, pair_text}
+use Rattle.pkops.proofs.ExactReaders.LinePairs.{pair_exact}
+use Rattle.pkops.proofs.ExactReaders.Payloads.{IsPayload, MayPayload, PayloadFault, counted}
+use Rattle.pkops.proofs.ExactReaders.Payloads.{payload_exact}
 
 pub record IsArgument (limit : ℕ) (lay : Layout) (arg : Argument) : Type 0 where
   pub suits : Suits lay arg
@@ -32,18 +37,23 @@ ArgFault limit lay BadArgument bytes = IsNegative lay bytes
 ArgFault limit lay TooLarge bytes = IsAbove limit lay bytes
 
 abbrev pub ArgExact : ℕ → Layout → Type 0
-ArgExact limit lay = IsExact (arg_at limit lay) (IsArgument limit lay) (MayBegin limit lay) (laid lay) (ArgFault limit lay)
+ArgExact limit lay = IsExact (arg_at limit lay) (IsArgument limit lay) (MayBegin limit lay)
+    (laid lay) (ArgFault limit lay)
 
 -- an exact reader of x gives one of arguments, where each argument of the layout is one g x
-record Wraps {X : Type 0} (limit : ℕ) (lay : Layout) (Is : X → Type 0) (May : X → List ℕ → Type 0) (text : X → List ℕ) (Faulty : Fault → List ℕ → Type 0) (g : X → Argument) : Type 0 where
+record Wraps {X : Type 0} (limit : ℕ) (lay : Layout) (Is : X → Type 0) (May : X → List ℕ → Type 0)
+    (text : X → List ℕ) (Faulty : Fault → List ℕ → Type 0) (g : X → Argument) : Type 0 where
   forth : (x : X) → Is x → IsArgument limit lay (g x)
   back : (a : Argument) → IsArgument limit lay a → (x : X) × (a ≡ g x) × Is x
   may_forth : (x : X) (bytes : List ℕ) → May x bytes → MayBegin limit lay (g x) bytes
-  may_back : (a : Argument) (bytes : List ℕ) → MayBegin limit lay a bytes → (x : X) × (a ≡ g x) × May x bytes
+  may_back : (a : Argument) (bytes : List ℕ) → MayBegin limit lay a bytes
+      → (x : X) × (a ≡ g x) × May x bytes
   text_is : (x : X) → Is x → laid lay (g x) ≡ text x
   text_may : (x : X) (bytes : List ℕ) → May x bytes → laid lay (g x) ≡ text x
-  fault_forth : (fault : Fault) (bytes : List ℕ) → Faulty fault bytes → ArgFault limit lay fault bytes
-  fault_back : (fault : Fault) (bytes : List ℕ) → ArgFault limit lay fault bytes → Faulty fault bytes
+  fault_forth : (fault : Fault) (bytes : List ℕ) → Faulty fault bytes
+      → ArgFault limit lay fault bytes
+  fault_back : (fault : Fault) (bytes : List ℕ) → ArgFault limit lay fault bytes
+      → Faulty fault bytes
 
 module _ {X : Type 0} (read : List ℕ → Result (X × List ℕ) Unread) (Is : X → Type 0)
     (May : X → List ℕ → Type 0) (text : X → List ℕ) (Faulty : Fault → List ℕ → Type 0)
@@ -55,7 +65,8 @@ module _ {X : Type 0} (read : List ℕ → Result (X × List ℕ) Unread) (Is : 
   abbrev wrapped : List ℕ → Result (Argument × List ℕ) Unread
   wrapped bytes = read bytes >>= end
 
-  wrapped_takes : (bytes : List ℕ) (a : Argument) (rest : List ℕ) → IsBytes bytes → wrapped bytes ≡ Ok (a, rest) → Takes (IsArgument limit lay) (laid lay) bytes a rest
+  wrapped_takes : (bytes : List ℕ) (a : Argument) (rest : List ℕ) → IsBytes bytes
+      → wrapped bytes ≡ Ok (a, rest) → Takes (IsArgument limit lay) (laid lay) bytes a rest
   wrapped_takes bytes a rest fits e =
       let b = bind_ok (read bytes) end (a, rest) e in
       let t = ex.takes bytes b.0.0 b.0.1 fits b.1 in
@@ -64,46 +75,61 @@ module _ {X : Type 0} (read : List ℕ → Result (X × List ℕ) Unread) (Is : 
         parts = t.parts ∙ ap (λ (s : List ℕ). s ++ b.0.1) (sym (wr.text_is b.0.0 t.is));
         rest_fits = t.rest_fits;
       } in
-      subst (λ (p : Argument × List ℕ). Takes (IsArgument limit lay) (laid lay) bytes p.0 p.1) (ok_is (g b.0.0, b.0.1) (a, rest) b.2) made
+      subst (λ (p : Argument × List ℕ). Takes (IsArgument limit lay) (laid lay) bytes p.0 p.1)
+          (ok_is (g b.0.0, b.0.1) (a, rest) b.2) made
 
-  wrapped_again : (a : Argument) (rest : List ℕ) → IsArgument limit lay a → wrapped (laid lay a ++ rest) ≡ Ok (a, rest)
+  wrapped_again : (a : Argument) (rest : List ℕ) → IsArgument limit lay a
+      → wrapped (laid lay a ++ rest) ≡ Ok (a, rest)
   wrapped_again a rest h =
       let b = wr.back a h in
-      let text_is : laid lay a ++ rest ≡ text b.0 ++ rest = ap (λ (t : List ℕ). t ++ rest) (ap (laid lay) b.1 ∙ wr.text_is b.0 b.2) in
-      ap wrapped text_is ∙ (ap (λ r. r >>= end) (ex.again b.0 rest b.2) ∙ ap (λ (y : Argument). Ok (y, rest)) (sym b.1))
+      let text_is : laid lay a ++ rest ≡ text b.0 ++ rest =
+          ap (λ (t : List ℕ). t ++ rest) (ap (laid lay) b.1 ∙ wr.text_is b.0 b.2) in
+      ap wrapped text_is
+          ∙ (ap (λ r. r >>= end) (ex.again b.0 rest b.2)
+          ∙ ap (λ (y : Argument). Ok (y, rest)) (sym b.1))
 
-  wrapped_short : (bytes : List ℕ) → IsBytes bytes → wrapped bytes ≡ Err Short → Lacks (MayBegin limit lay) (laid lay) bytes
+  wrapped_short : (bytes : List ℕ) → IsBytes bytes → wrapped bytes ≡ Err Short
+      → Lacks (MayBegin limit lay) (laid lay) bytes
   wrapped_short bytes fits e = elim (bind_err (read bytes) end Short e) [
     | inl f ↦
         let l = ex.short bytes fits f in
-        record { value = g l.value; more = l.more; may = wr.may_forth l.value bytes l.may; parts = wr.text_may l.value bytes l.may ∙ l.parts; lacks = l.lacks }
+        record { value = g l.value; more = l.more; may = wr.may_forth l.value bytes l.may;
+            parts = wr.text_may l.value bytes l.may ∙ l.parts; lacks = l.lacks }
     | inr f ↦ absurd (let h = f.2 in cc)
   ]
 
-  wrapped_stays : (bytes : List ℕ) → Lacks (MayBegin limit lay) (laid lay) bytes → wrapped bytes ≡ Err Short
+  wrapped_stays : (bytes : List ℕ) → Lacks (MayBegin limit lay) (laid lay) bytes
+      → wrapped bytes ≡ Err Short
   wrapped_stays bytes h =
       let b = wr.may_back h.value bytes h.may in
-      ap (λ r. r >>= end) (ex.stays bytes (record { value = b.0; more = h.more; may = b.2; parts = sym (ap (laid lay) b.1 ∙ wr.text_may b.0 bytes b.2) ∙ h.parts; lacks = h.lacks }))
+      ap (λ r. r >>= end) (ex.stays bytes
+          (record { value = b.0; more = h.more; may = b.2;
+          parts = sym (ap (laid lay) b.1 ∙ wr.text_may b.0 bytes b.2) ∙ h.parts; lacks = h.lacks }))
 
-  wrapped_bad : (bytes : List ℕ) (fault : Fault) → IsBytes bytes → wrapped bytes ≡ Err (Bad fault) → ArgFault limit lay fault bytes
+  wrapped_bad : (bytes : List ℕ) (fault : Fault) → IsBytes bytes → wrapped bytes ≡ Err (Bad fault)
+      → ArgFault limit lay fault bytes
   wrapped_bad bytes fault fits e = elim (bind_err (read bytes) end (Bad fault) e) [
     | inl f ↦ wr.fault_forth fault bytes (ex.bad bytes fault fits f)
     | inr f ↦ absurd (let h = f.2 in cc)
   ]
 
-  wrapped_exact : IsExact wrapped (IsArgument limit lay) (MayBegin limit lay) (laid lay) (ArgFault limit lay)
+  wrapped_exact : IsExact wrapped (IsArgument limit lay) (MayBegin limit lay) (laid lay)
+      (ArgFault limit lay)
   wrapped_exact = record {
     takes = wrapped_takes;
     again = wrapped_again;
     short = wrapped_short;
     stays = wrapped_stays;
     bad = wrapped_bad;
-    faulty = λ bytes fault h. ap (λ r. r >>= end) (ex.faulty bytes fault (wr.fault_back fault bytes h));
+    faulty = λ bytes fault h. ap (λ r. r >>= end)
+        (ex.faulty bytes fault (wr.fault_back fault bytes h));
   }
 
 -- ---- each layout
 
-no_fault : (limit : ℕ) (lay : Layout) → ((bytes : List ℕ) → IsNegative lay bytes → ⊥) → ((bytes : List ℕ) → IsAbove limit lay bytes → ⊥) → (fault : Fault) (bytes : List ℕ) → ArgFault limit lay fault bytes → NoFault fault bytes
+no_fault : (limit : ℕ) (lay : Layout) → ((bytes : List ℕ) → IsNegative lay bytes → ⊥)
+    → ((bytes : List ℕ) → IsAbove limit lay bytes → ⊥) → (fault : Fault) (bytes : List ℕ)
+    → ArgFault limit lay fault bytes → NoFault fault bytes
 no_fault limit lay p q (UnknownOpcode code) bytes h = h
 no_fault limit lay p q BadArgument bytes h = p bytes h
 no_fault limit lay p q TooLarge bytes h = q bytes h
@@ -128,23 +154,28 @@ module _ (limit : ℕ) where
   u8_back (Number width x) h = (x, ap (λ (w : ℕ). Number w x) h.0, h.1)
   u8_back _ h = absurd h
 
-  i4_back : (a : Argument) → Suits layout.I4 a → (x : ℕ) × (a ≡ Signed (cast_signed w32 x)) × (x < 256 ^ 4)
-  i4_back (Signed z) h = (cast_unsigned w32 z, ap Signed (sym (to_z-of_z w32 z h)), (Fits-of_z h).fits)
+  i4_back : (a : Argument) → Suits layout.I4 a → (x : ℕ) × (a ≡ Signed (cast_signed w32 x))
+      × (x < 256 ^ 4)
+  i4_back (Signed z) h =
+      (cast_unsigned w32 z, ap Signed (sym (to_z-of_z w32 z h)), (Fits-of_z h).fits)
   i4_back _ h = absurd h
 
   f8_back : (a : Argument) → Suits layout.F8 a → (x : List ℕ) × (a ≡ Float x) × (length x ≡ 8)
   f8_back (Float x) h = (x, refl, h)
   f8_back _ h = absurd h
 
-  line_back : (most : ℕ) (a : Argument) → Suits (layout.Line most) a → (x : List ℕ) × (a ≡ Line x) × IsLine most x
+  line_back : (most : ℕ) (a : Argument) → Suits (layout.Line most) a
+      → (x : List ℕ) × (a ≡ Line x) × IsLine most x
   line_back most (Line x) h = (x, refl, h)
   line_back most _ h = absurd h
 
-  pair_back : (most : ℕ) (a : Argument) → Suits (layout.Pair most) a → (x : List ℕ × List ℕ) × (a ≡ Pair x.0 x.1) × IsPair most x
+  pair_back : (most : ℕ) (a : Argument) → Suits (layout.Pair most) a
+      → (x : List ℕ × List ℕ) × (a ≡ Pair x.0 x.1) × IsPair most x
   pair_back most (Pair x y) h = ((x, y), refl, h)
   pair_back most _ h = absurd h
 
-  u1_wraps : Wraps limit layout.U1 (λ y. y < 256 ^ 1) (λ y _. y < 256 ^ 1) (little_bytes 1) NoFault (Number 1)
+  u1_wraps : Wraps limit layout.U1 (λ y. y < 256 ^ 1) (λ y _. y < 256 ^ 1) (little_bytes 1) NoFault
+      (Number 1)
   u1_wraps = record {
     forth = λ x h. record { suits = (refl, h); within = tt };
     back = λ a h. u1_back a h.suits;
@@ -156,7 +187,8 @@ module _ (limit : ℕ) where
     fault_back = no_fault limit layout.U1 (λ _ h. h) (λ _ h. h);
   }
 
-  u2_wraps : Wraps limit layout.U2 (λ y. y < 256 ^ 2) (λ y _. y < 256 ^ 2) (little_bytes 2) NoFault (Number 2)
+  u2_wraps : Wraps limit layout.U2 (λ y. y < 256 ^ 2) (λ y _. y < 256 ^ 2) (little_bytes 2) NoFault
+      (Number 2)
   u2_wraps = record {
     forth = λ x h. record { suits = (refl, h); within = tt };
     back = λ a h. u2_back a h.suits;
@@ -168,7 +200,8 @@ module _ (limit : ℕ) where
     fault_back = no_fault limit layout.U2 (λ _ h. h) (λ _ h. h);
   }
 
-  u4_wraps : Wraps limit layout.U4 (λ y. y < 256 ^ 4) (λ y _. y < 256 ^ 4) (little_bytes 4) NoFault (Number 4)
+  u4_wraps : Wraps limit layout.U4 (λ y. y < 256 ^ 4) (λ y _. y < 256 ^ 4) (little_bytes 4) NoFault
+      (Number 4)
   u4_wraps = record {
     forth = λ x h. record { suits = (refl, h); within = tt };
     back = λ a h. u4_back a h.suits;
@@ -180,7 +213,8 @@ module _ (limit : ℕ) where
     fault_back = no_fault limit layout.U4 (λ _ h. h) (λ _ h. h);
   }
 
-  u8_wraps : Wraps limit layout.U8 (λ y. y < 256 ^ 8) (λ y _. y < 256 ^ 8) (little_bytes 8) NoFault (Number 8)
+  u8_wraps : Wraps limit layout.U8 (λ y. y < 256 ^ 8) (λ y _. y < 256 ^ 8) (little_bytes 8) NoFault
+      (Number 8)
   u8_wraps = record {
     forth = λ x h. record { suits = (refl, h); within = tt };
     back = λ a h. u8_back a h.suits;
@@ -198,7 +232,8 @@ module _ (limit : ℕ) where
   signed_fits : (x : ℕ) → x < 256 ^ 4 → FitsSigned w32 (cast_signed w32 x)
   signed_fits x h = sfits_to_z (Fits-of_lt (omega arith))
 
-  i4_wraps : Wraps limit layout.I4 (λ y. y < 256 ^ 4) (λ y _. y < 256 ^ 4) (little_bytes 4) NoFault signed
+  i4_wraps : Wraps limit layout.I4 (λ y. y < 256 ^ 4) (λ y _. y < 256 ^ 4)
+      (little_bytes 4) NoFault signed
   i4_wraps = record {
     forth = λ x h. record { suits = signed_fits x h; within = tt };
     back = λ a h. i4_back a h.suits;
@@ -222,17 +257,20 @@ module _ (limit : ℕ) where
     fault_back = no_fault limit layout.F8 (λ _ h. h) (λ _ h. h);
   }
 
-  line_forth : (most : ℕ) (fault : Fault) (bytes : List ℕ) → LineFault most fault bytes → ArgFault limit (layout.Line most) fault bytes
+  line_forth : (most : ℕ) (fault : Fault) (bytes : List ℕ) → LineFault most fault bytes
+      → ArgFault limit (layout.Line most) fault bytes
   line_forth most (UnknownOpcode code) bytes h = h
   line_forth most BadArgument bytes h = h
   line_forth most TooLarge bytes h = h
 
-  line_faults : (most : ℕ) (fault : Fault) (bytes : List ℕ) → ArgFault limit (layout.Line most) fault bytes → LineFault most fault bytes
+  line_faults : (most : ℕ) (fault : Fault) (bytes : List ℕ)
+      → ArgFault limit (layout.Line most) fault bytes → LineFault most fault bytes
   line_faults most (UnknownOpcode code) bytes h = h
   line_faults most BadArgument bytes h = h
   line_faults most TooLarge bytes h = h
 
-  line_wraps : (most : ℕ) → Wraps limit (layout.Line most) (IsLine most) (λ y _. IsLine most y) line_text (LineFault most) Line
+  line_wraps : (most : ℕ) → Wraps limit (layout.Line most) (IsLine most)
+      (λ y _. IsLine most y) line_text (LineFault most) Line
   line_wraps most = record {
     forth = λ x h. record { suits = h; within = tt };
     back = λ a h. line_back most a h.suits;
@@ -244,12 +282,14 @@ module _ (limit : ℕ) where
     fault_back = line_faults most;
   }
 
-  pair_forth : (most : ℕ) (fault : Fault) (bytes : List ℕ) → PairFault most fault bytes → ArgFault limit (layout.Pair most) fault bytes
+  pair_forth : (most : ℕ) (fault : Fault) (bytes : List ℕ) → PairFault most fault bytes
+      → ArgFault limit (layout.Pair most) fault bytes
   pair_forth most (UnknownOpcode code) bytes h = h
   pair_forth most BadArgument bytes h = h
   pair_forth most TooLarge bytes h = h
 
-  pair_faults : (most : ℕ) (fault : Fault) (bytes : List ℕ) → ArgFault limit (layout.Pair most) fault bytes → PairFault most fault bytes
+  pair_faults : (most : ℕ) (fault : Fault) (bytes : List ℕ)
+      → ArgFault limit (layout.Pair most) fault bytes → PairFault most fault bytes
   pair_faults most (UnknownOpcode code) bytes h = h
   pair_faults most BadArgument bytes h = h
   pair_faults most TooLarge bytes h = h
@@ -257,7 +297,8 @@ module _ (limit : ℕ) where
   abbrev pair : List ℕ × List ℕ → Argument
   pair x = Pair x.0 x.1
 
-  pair_wraps : (most : ℕ) → Wraps limit (layout.Pair most) (IsPair most) (λ x _. IsPair most x) pair_text (PairFault most) pair
+  pair_wraps : (most : ℕ) → Wraps limit (layout.Pair most) (IsPair most)
+      (λ x _. IsPair most x) pair_text (PairFault most) pair
   pair_wraps most = record {
     forth = λ x h. record { suits = h; within = tt };
     back = λ a h. pair_back most a h.suits;
@@ -270,25 +311,32 @@ module _ (limit : ℕ) where
   }
 
   module _ (size : Width) (signed : Bool) where
-    counted_back : (a : Argument) → IsArgument limit (layout.Counted size signed) a → (x : List ℕ) × (a ≡ Counted x) × IsPayload limit size signed x
+    counted_back : (a : Argument) → IsArgument limit (layout.Counted size signed) a
+        → (x : List ℕ) × (a ≡ Counted x) × IsPayload limit size signed x
     counted_back (Counted x) h = (x, refl, record { fits = h.suits; within = h.within })
     counted_back _ h = absurd h.suits
 
-    counted_may : (a : Argument) (bytes : List ℕ) → MayBegin limit (layout.Counted size signed) a bytes → (x : List ℕ) × (a ≡ Counted x) × MayPayload limit size signed x bytes
+    counted_may : (a : Argument) (bytes : List ℕ)
+        → MayBegin limit (layout.Counted size signed) a bytes
+        → (x : List ℕ) × (a ≡ Counted x) × MayPayload limit size signed x bytes
     counted_may (Counted x) bytes h = (x, refl, record { fits = h.suits; within = h.within })
     counted_may _ bytes h = absurd h.suits
 
-    counted_forth : (fault : Fault) (bytes : List ℕ) → PayloadFault limit size signed fault bytes → ArgFault limit (layout.Counted size signed) fault bytes
+    counted_forth : (fault : Fault) (bytes : List ℕ) → PayloadFault limit size signed fault bytes
+        → ArgFault limit (layout.Counted size signed) fault bytes
     counted_forth (UnknownOpcode code) bytes h = h
     counted_forth BadArgument bytes h = h
     counted_forth TooLarge bytes h = h
 
-    counted_faults : (fault : Fault) (bytes : List ℕ) → ArgFault limit (layout.Counted size signed) fault bytes → PayloadFault limit size signed fault bytes
+    counted_faults : (fault : Fault) (bytes : List ℕ)
+        → ArgFault limit (layout.Counted size signed) fault bytes
+        → PayloadFault limit size signed fault bytes
     counted_faults (UnknownOpcode code) bytes h = h
     counted_faults BadArgument bytes h = h
     counted_faults TooLarge bytes h = h
 
-    counted_wraps : Wraps limit (layout.Counted size signed) (IsPayload limit size signed) (MayPayload limit size signed) (counted size) (PayloadFault limit size signed) Counted
+    counted_wraps : Wraps limit (layout.Counted size signed) (IsPayload limit size signed)
+        (MayPayload limit size signed) (counted size) (PayloadFault limit size signed) Counted
     counted_wraps = record {
       forth = λ x h. record { suits = h.fits; within = h.within };
       back = counted_back;
@@ -301,35 +349,52 @@ module _ (limit : ℕ) where
     }
 
 -- an argument of no bytes
-nothing_again : (limit : ℕ) (a : Argument) (rest : List ℕ) → Suits layout.Nothing a → arg_at limit layout.Nothing (laid layout.Nothing a ++ rest) ≡ Ok (a, rest)
+nothing_again : (limit : ℕ) (a : Argument) (rest : List ℕ) → Suits layout.Nothing a
+    → arg_at limit layout.Nothing (laid layout.Nothing a ++ rest) ≡ Ok (a, rest)
 unfolding arg_at
 nothing_again limit Nothing rest h = refl
 nothing_again limit _ rest h = absurd h
 
-nothing_lacks : (a : Argument) (bytes more : List ℕ) → Suits layout.Nothing a → laid layout.Nothing a ≡ bytes ++ more → more ≢ [] → ⊥
-nothing_lacks Nothing bytes more h e lacks = let some = some_left more lacks in omega (arith, ap length e, length-append bytes more)
+nothing_lacks : (a : Argument) (bytes more : List ℕ) → Suits layout.Nothing a
+    → laid layout.Nothing a ≡ bytes ++ more → more ≢ [] → ⊥
+nothing_lacks Nothing bytes more h e lacks = let some = some_left more lacks in
+    omega (arith, ap length e, length-append bytes more)
 nothing_lacks _ bytes more h e lacks = absurd h
 
 nothing_exact : (limit : ℕ) → ArgExact limit layout.Nothing
 unfolding arg_at
 nothing_exact limit = record {
-  takes = λ bytes x rest fits e. let same = ok_is (Nothing, bytes) (x, rest) e in subst (λ (p : Argument × List ℕ). Takes (IsArgument limit layout.Nothing) (laid layout.Nothing) bytes p.0 p.1) same (record { is = record { suits = tt; within = tt }; parts = refl; rest_fits = fits });
+  takes = λ bytes x rest fits e. let same = ok_is (Nothing, bytes) (x, rest) e in
+      subst (λ (p : Argument × List ℕ). Takes (IsArgument limit layout.Nothing)
+          (laid layout.Nothing) bytes p.0 p.1) same
+      (record { is = record { suits = tt; within = tt }; parts = refl; rest_fits = fits });
   again = λ x rest h. nothing_again limit x rest h.suits;
   short = λ bytes fits e. absurd cc;
   stays = λ bytes h. absurd (nothing_lacks h.value bytes h.more h.may.suits h.parts h.lacks);
   bad = λ bytes fault fits e. absurd cc;
-  faulty = λ bytes fault h. absurd (no_fault limit layout.Nothing (λ _ p. p) (λ _ p. p) fault bytes h);
+  faulty = λ bytes fault h. absurd
+      (no_fault limit layout.Nothing (λ _ p. p) (λ _ p. p) fault bytes h);
 }
 
 pub arg_exact : (limit : ℕ) (lay : Layout) → ArgExact limit lay
 unfolding arg_at
 arg_exact limit layout.Nothing = nothing_exact limit
-arg_exact limit layout.U1 = wrapped_exact _ _ _ _ _ (number_exact 1) limit layout.U1 (Number 1) (u1_wraps limit)
-arg_exact limit layout.U2 = wrapped_exact _ _ _ _ _ (number_exact 2) limit layout.U2 (Number 2) (u2_wraps limit)
-arg_exact limit layout.I4 = wrapped_exact _ _ _ _ _ (number_exact 4) limit layout.I4 (signed limit) (i4_wraps limit)
-arg_exact limit layout.U4 = wrapped_exact _ _ _ _ _ (number_exact 4) limit layout.U4 (Number 4) (u4_wraps limit)
-arg_exact limit layout.U8 = wrapped_exact _ _ _ _ _ (number_exact 8) limit layout.U8 (Number 8) (u8_wraps limit)
-arg_exact limit layout.F8 = wrapped_exact _ _ _ _ _ (bytes_exact 8) limit layout.F8 Float (f8_wraps limit)
-arg_exact limit (layout.Line most) = wrapped_exact _ _ _ _ _ (line_exact most) limit (layout.Line most) Line (line_wraps limit most)
-arg_exact limit (layout.Pair most) = wrapped_exact _ _ _ _ _ (pair_exact most) limit (layout.Pair most) (pair limit) (pair_wraps limit most)
-arg_exact limit (layout.Counted size signed) = wrapped_exact _ _ _ _ _ (payload_exact limit size signed) limit (layout.Counted size signed) Counted (counted_wraps limit size signed)
+arg_exact limit layout.U1 = wrapped_exact _ _ _ _ _ (number_exact 1) limit layout.U1 (Number 1)
+    (u1_wraps limit)
+arg_exact limit layout.U2 = wrapped_exact _ _ _ _ _ (number_exact 2) limit layout.U2 (Number 2)
+    (u2_wraps limit)
+arg_exact limit layout.I4 = wrapped_exact _ _ _ _ _ (number_exact 4) limit layout.I4 (signed limit)
+    (i4_wraps limit)
+arg_exact limit layout.U4 = wrapped_exact _ _ _ _ _ (number_exact 4) limit layout.U4 (Number 4)
+    (u4_wraps limit)
+arg_exact limit layout.U8 = wrapped_exact _ _ _ _ _ (number_exact 8) limit layout.U8 (Number 8)
+    (u8_wraps limit)
+arg_exact limit layout.F8 = wrapped_exact _ _ _ _ _ (bytes_exact 8) limit layout.F8 Float
+    (f8_wraps limit)
+arg_exact limit (layout.Line most) = wrapped_exact _ _ _ _ _ (line_exact most) limit
+    (layout.Line most) Line (line_wraps limit most)
+arg_exact limit (layout.Pair most) = wrapped_exact _ _ _ _ _ (pair_exact most) limit
+    (layout.Pair most) (pair limit) (pair_wraps limit most)
+arg_exact limit (layout.Counted size signed) = wrapped_exact _ _ _ _ _
+    (payload_exact limit size signed) limit (layout.Counted size signed) Counted
+    (counted_wraps limit size signed)

@@ -1,5 +1,6 @@
 -- Where a line ends.
-use Rattle.std.proofs.Common.{◌≡◌, ◌≢◌, ◌⊎◌, ℕ, true, false, eqb, List, [], ◌∷◌, ◌++◌, length, refl, ap, arith, inl, inr}
+use Rattle.std.proofs.Common.{◌≡◌, ◌≢◌, ◌⊎◌, ℕ, true, false, eqb, List, [], ◌∷◌, ◌++◌, length, refl}
+use Rattle.std.proofs.Common.{ap, arith, inl, inr}
 use Rattle.std.specs.List.{AllByRecursion, position_or_len}
 use Rattle.std.proofs.lemmas.Bool.{eqb-true, eqb-false}
 
@@ -10,7 +11,8 @@ abbrev pub end_of : List ℕ → ℕ
 end_of bytes = position_or_len (λ byte. eqb byte 10) bytes
 
 not_ten : (x : ℕ) → x ≢ 10 → eqb x 10 ≡ false
-not_ten x h = elim (eqb x 10) as (λ v. eqb x 10 ≡ v → eqb x 10 ≡ false) [ true ↦ λ e. absurd (h (eqb-true x 10 e)) | false ↦ λ e. e ] refl
+not_ten x h = elim (eqb x 10) as (λ v. eqb x 10 ≡ v
+    → eqb x 10 ≡ false) [ true ↦ λ e. absurd (h (eqb-true x 10 e)) | false ↦ λ e. e ] refl
 
 pub end_at : (a rest : List ℕ) → Clean a → end_of (a ++ 10 ∷ rest) ≡ length a
 end_at [] rest h = refl
@@ -41,12 +43,16 @@ split_cons x bytes e s = (
 )
 
 split_now : (x : ℕ) (bytes : List ℕ) → eqb x 10 ≡ true → Splits (x ∷ bytes)
-split_now x bytes e = ([], bytes, record { clean = tt; parts = ap (λ (y : ℕ). y ∷ bytes) (eqb-true x 10 e); place = rw e refl })
+split_now x bytes e =
+    ([], bytes,
+    record { clean = tt; parts = ap (λ (y : ℕ). y ∷ bytes) (eqb-true x 10 e); place = rw e refl })
 
 pub either_end : (bytes : List ℕ) → Splits bytes ⊎ Clean bytes
 either_end [] = inr tt
 either_end (x ∷ bytes) =
     elim (eqb x 10) as (λ v. eqb x 10 ≡ v → Splits (x ∷ bytes) ⊎ Clean (x ∷ bytes)) [
       | true ↦ λ e. inl (split_now x bytes e)
-      | false ↦ λ e. elim (either_end bytes) [ inl s ↦ inl (split_cons x bytes e s) | inr c ↦ inr (eqb-false x 10 e, c) ]
+      | false ↦ λ e.
+            elim (either_end bytes) [ inl s ↦ inl (split_cons x bytes e s)
+            | inr c ↦ inr (eqb-false x 10 e, c) ]
     ] refl

@@ -1,5 +1,6 @@
 -- The reader of two lines is exact.
-use Rattle.std.proofs.Common.{◌≡◌, ◌⊎◌, ℕ, ◌<◌, List, [], ◌++◌, length, Result, Ok, Err, refl, sym, ap, subst, ◌∙◌, append_assoc, arith, inl, inr}
+use Rattle.std.proofs.Common.{◌≡◌, ◌⊎◌, ℕ, ◌<◌, List, [], ◌++◌, length, Result, Ok, Err, refl, sym}
+use Rattle.std.proofs.Common.{ap, subst, ◌∙◌, append_assoc, arith, inl, inr}
 use Rattle.std.proofs.lemmas.Bool.{cases_lt}
 use Rattle.std.proofs.lemmas.List.{length-append}
 use Rattle.pkops.specs.declared.fault.Fault.{Fault}
@@ -15,11 +16,13 @@ use Rattle.pkops.proofs.ExactReaders.Lines.{line_text, LineFault, line_exact}
 use Rattle.pkops.proofs.ExactReaders.Payloads.{cut}
 
 -- the value of a step that did not fail, and the fault of one that did
-pub bind_ok : {A B : Type 0} (r : Result A Unread) (f : A → Result B Unread) (y : B) → (r >>= f) ≡ Ok y → (x : A) × (r ≡ Ok x) × (f x ≡ Ok y)
+pub bind_ok : {A B : Type 0} (r : Result A Unread) (f : A → Result B Unread) (y : B)
+    → (r >>= f) ≡ Ok y → (x : A) × (r ≡ Ok x) × (f x ≡ Ok y)
 bind_ok (Ok x) f y e = (x, refl, e)
 bind_ok (Err d) f y e = absurd cc
 
-pub bind_err : {A B : Type 0} (r : Result A Unread) (f : A → Result B Unread) (d : Unread) → (r >>= f) ≡ Err d → (r ≡ Err d) ⊎ ((x : A) × (r ≡ Ok x) × (f x ≡ Err d))
+pub bind_err : {A B : Type 0} (r : Result A Unread) (f : A → Result B Unread) (d : Unread)
+    → (r >>= f) ≡ Err d → (r ≡ Err d) ⊎ ((x : A) × (r ≡ Ok x) × (f x ≡ Err d))
 bind_err (Ok x) f d e = inr (x, refl, e)
 bind_err (Err d') f d e = inl (let same : d' ≡ d = cc in cc)
 
@@ -32,7 +35,9 @@ IsPair most p = IsLine most p.0 × IsLine most p.1
 abbrev pub PairFault : ℕ → Fault → List ℕ → Type 0
 PairFault most (UnknownOpcode code) bytes = ⊥
 PairFault most BadArgument bytes = ⊥
-PairFault most TooLarge bytes = IsLong most bytes ⊎ ((first : List ℕ) × (after : List ℕ) × IsLine most first × (bytes ≡ line_text first ++ after) × IsLong most after)
+PairFault most TooLarge bytes = IsLong most bytes
+    ⊎ ((first : List ℕ) × (after : List ℕ) × IsLine most first × (bytes ≡ line_text first ++ after)
+    × IsLong most after)
 
 module _ (most : ℕ) where
   abbrev end : List ℕ → List ℕ × List ℕ → Result ((List ℕ × List ℕ) × List ℕ) Unread
@@ -41,7 +46,8 @@ module _ (most : ℕ) where
   abbrev then : List ℕ × List ℕ → Result ((List ℕ × List ℕ) × List ℕ) Unread
   then first = line_at most first.1 >>= end first.0
 
-  pair_takes : (bytes : List ℕ) (x : List ℕ × List ℕ) (rest : List ℕ) → IsBytes bytes → pair_at most bytes ≡ Ok (x, rest) → Takes (IsPair most) pair_text bytes x rest
+  pair_takes : (bytes : List ℕ) (x : List ℕ × List ℕ) (rest : List ℕ) → IsBytes bytes
+      → pair_at most bytes ≡ Ok (x, rest) → Takes (IsPair most) pair_text bytes x rest
   pair_takes bytes x rest fits e =
       let a = bind_ok (line_at most bytes) then (x, rest) e in
       let b = bind_ok (line_at most a.0.1) (end a.0.0) (x, rest) a.2 in
@@ -49,70 +55,96 @@ module _ (most : ℕ) where
       let t = (line_exact most).takes a.0.1 b.0.0 b.0.1 s.rest_fits b.1 in
       let made : Takes (IsPair most) pair_text bytes (a.0.0, b.0.0) b.0.1 = record {
         is = (s.is, t.is);
-        parts = s.parts ∙ (ap (λ (r : List ℕ). line_text a.0.0 ++ r) t.parts ∙ sym (append_assoc (line_text a.0.0) (line_text b.0.0) b.0.1));
+        parts = s.parts
+            ∙ (ap (λ (r : List ℕ). line_text a.0.0 ++ r) t.parts
+            ∙ sym (append_assoc (line_text a.0.0) (line_text b.0.0) b.0.1));
         rest_fits = t.rest_fits;
       } in
-      subst (λ (p : (List ℕ × List ℕ) × List ℕ). Takes (IsPair most) pair_text bytes p.0 p.1) (ok_is ((a.0.0, b.0.0), b.0.1) (x, rest) b.2) made
+      subst (λ (p : (List ℕ × List ℕ) × List ℕ). Takes (IsPair most) pair_text bytes p.0 p.1)
+          (ok_is ((a.0.0, b.0.0), b.0.1) (x, rest) b.2) made
 
-  first_read : (bytes first rest : List ℕ) → IsLine most first → bytes ≡ line_text first ++ rest → pair_at most bytes ≡ (line_at most rest >>= end first)
-  first_read bytes first rest h e = ap (pair_at most) e ∙ rw ((line_exact most).again first rest h) refl
+  first_read : (bytes first rest : List ℕ) → IsLine most first → bytes ≡ line_text first ++ rest
+      → pair_at most bytes ≡ (line_at most rest >>= end first)
+  first_read bytes first rest h e = ap (pair_at most) e
+      ∙ rw ((line_exact most).again first rest h) refl
 
-  pair_again : (x : List ℕ × List ℕ) (rest : List ℕ) → IsPair most x → pair_at most (pair_text x ++ rest) ≡ Ok (x, rest)
+  pair_again : (x : List ℕ × List ℕ) (rest : List ℕ) → IsPair most x
+      → pair_at most (pair_text x ++ rest) ≡ Ok (x, rest)
   pair_again x rest h =
-      first_read (pair_text x ++ rest) x.0 (line_text x.1 ++ rest) h.0 (append_assoc (line_text x.0) (line_text x.1) rest) ∙ rw ((line_exact most).again x.1 rest h.1) refl
+      first_read (pair_text x ++ rest) x.0 (line_text x.1 ++ rest) h.0
+          (append_assoc (line_text x.0) (line_text x.1) rest)
+          ∙ rw ((line_exact most).again x.1 rest h.1) refl
 
   empty_line : IsLine most []
   empty_line = record { short = omega arith; whole = tt }
 
-  pair_short : (bytes : List ℕ) → IsBytes bytes → pair_at most bytes ≡ Err Short → Lacks (λ x _. IsPair most x) pair_text bytes
+  pair_short : (bytes : List ℕ) → IsBytes bytes → pair_at most bytes ≡ Err Short
+      → Lacks (λ x _. IsPair most x) pair_text bytes
   pair_short bytes fits e = elim (bind_err (line_at most bytes) then Short e) [
     | inl f ↦
         let l = (line_exact most).short bytes fits f in
-        record { value = (l.value, []); more = l.more ++ line_text []; may = (l.may, empty_line); parts = ap (λ (t : List ℕ). t ++ line_text []) l.parts ∙ append_assoc bytes l.more (line_text []); lacks = not_nil (l.more ++ line_text []) (omega (arith, length-append l.more (line_text []))) }
+        record { value = (l.value, []); more = l.more ++ line_text []; may = (l.may, empty_line);
+            parts = ap (λ (t : List ℕ). t ++ line_text []) l.parts
+            ∙ append_assoc bytes l.more (line_text []); lacks =
+            not_nil (l.more ++ line_text []) (omega (arith, length-append l.more (line_text []))) }
     | inr f ↦ elim (bind_err (line_at most f.0.1) (end f.0.0) Short f.2) [
       | inl g ↦
           let s = (line_exact most).takes bytes f.0.0 f.0.1 fits f.1 in
           let l = (line_exact most).short f.0.1 s.rest_fits g in
-          record { value = (f.0.0, l.value); more = l.more; may = (s.is, l.may); parts = ap (λ (t : List ℕ). line_text f.0.0 ++ t) l.parts ∙ (sym (append_assoc (line_text f.0.0) f.0.1 l.more) ∙ ap (λ (t : List ℕ). t ++ l.more) (sym s.parts)); lacks = l.lacks }
+          record { value = (f.0.0, l.value); more = l.more; may = (s.is, l.may);
+              parts = ap (λ (t : List ℕ). line_text f.0.0 ++ t) l.parts
+              ∙ (sym (append_assoc (line_text f.0.0) f.0.1 l.more)
+              ∙ ap (λ (t : List ℕ). t ++ l.more) (sym s.parts)); lacks = l.lacks }
       | inr g ↦ absurd (let h = g.2 in cc)
     ]
   ]
 
-  pair_stays : (bytes : List ℕ) → Lacks (λ x _. IsPair most x) pair_text bytes → pair_at most bytes ≡ Err Short
+  pair_stays : (bytes : List ℕ) → Lacks (λ x _. IsPair most x) pair_text bytes
+      → pair_at most bytes ≡ Err Short
   pair_stays bytes h = elim (cases_lt (length bytes) (length (line_text h.value.0))) [
     | inl lt ↦
-        let c = cut bytes h.more (line_text h.value.0) (line_text h.value.1) (sym h.parts) (omega arith) in
+        let c = cut bytes h.more (line_text h.value.0) (line_text h.value.1) (sym h.parts)
+            (omega arith) in
         let some : 0 < length c.0 = omega (arith, ap length c.1, length-append bytes c.0) in
-        let f = (line_exact most).stays bytes (record { value = h.value.0; more = c.0; may = h.may.0; parts = c.1; lacks = not_nil c.0 some }) in
+        let f = (line_exact most).stays bytes
+            (record { value = h.value.0; more = c.0; may = h.may.0; parts = c.1;
+            lacks = not_nil c.0 some }) in
         rw f refl
     | inr le ↦
         let c = cut (line_text h.value.0) (line_text h.value.1) bytes h.more h.parts le in
-        let f = (line_exact most).stays c.0 (record { value = h.value.1; more = h.more; may = h.may.1; parts = c.2; lacks = h.lacks }) in
+        let f = (line_exact most).stays c.0
+            (record { value = h.value.1; more = h.more; may = h.may.1; parts = c.2;
+            lacks = h.lacks }) in
         first_read bytes h.value.0 c.0 h.may.0 c.1 ∙ rw f refl
   ]
 
-  first_fault : (fault : Fault) (bytes : List ℕ) → LineFault most fault bytes → PairFault most fault bytes
+  first_fault : (fault : Fault) (bytes : List ℕ) → LineFault most fault bytes
+      → PairFault most fault bytes
   first_fault (UnknownOpcode code) bytes h = absurd h
   first_fault BadArgument bytes h = absurd h
   first_fault TooLarge bytes h = inl h
 
-  second_fault : (fault : Fault) (bytes first after : List ℕ) → IsLine most first → bytes ≡ line_text first ++ after → LineFault most fault after → PairFault most fault bytes
+  second_fault : (fault : Fault) (bytes first after : List ℕ) → IsLine most first
+      → bytes ≡ line_text first ++ after → LineFault most fault after → PairFault most fault bytes
   second_fault (UnknownOpcode code) bytes first after is e h = absurd h
   second_fault BadArgument bytes first after is e h = absurd h
   second_fault TooLarge bytes first after is e h = inr (first, after, is, e, h)
 
-  pair_bad : (bytes : List ℕ) (fault : Fault) → IsBytes bytes → pair_at most bytes ≡ Err (Bad fault) → PairFault most fault bytes
+  pair_bad : (bytes : List ℕ) (fault : Fault) → IsBytes bytes → pair_at most bytes ≡ Err (Bad fault)
+      → PairFault most fault bytes
   pair_bad bytes fault fits e = elim (bind_err (line_at most bytes) then (Bad fault) e) [
     | inl f ↦ first_fault fault bytes ((line_exact most).bad bytes fault fits f)
     | inr f ↦ elim (bind_err (line_at most f.0.1) (end f.0.0) (Bad fault) f.2) [
       | inl g ↦
           let s = (line_exact most).takes bytes f.0.0 f.0.1 fits f.1 in
-          second_fault fault bytes f.0.0 f.0.1 s.is s.parts ((line_exact most).bad f.0.1 fault s.rest_fits g)
+          second_fault fault bytes f.0.0 f.0.1 s.is s.parts
+              ((line_exact most).bad f.0.1 fault s.rest_fits g)
       | inr g ↦ absurd (let h = g.2 in cc)
     ]
   ]
 
-  pair_faulty : (bytes : List ℕ) (fault : Fault) → PairFault most fault bytes → pair_at most bytes ≡ Err (Bad fault)
+  pair_faulty : (bytes : List ℕ) (fault : Fault) → PairFault most fault bytes
+      → pair_at most bytes ≡ Err (Bad fault)
   pair_faulty bytes (UnknownOpcode code) h = absurd h
   pair_faulty bytes BadArgument h = absurd h
   pair_faulty bytes TooLarge h = elim h [
@@ -120,7 +152,8 @@ module _ (most : ℕ) where
     | inr s ↦ first_read bytes s.0 s.1 s.2 s.3 ∙ rw ((line_exact most).faulty s.1 TooLarge s.4) refl
   ]
 
-pub pair_exact : (most : ℕ) → IsExact (pair_at most) (IsPair most) (λ x _. IsPair most x) pair_text (PairFault most)
+pub pair_exact : (most : ℕ) → IsExact (pair_at most) (IsPair most) (λ x _. IsPair most x) pair_text
+    (PairFault most)
 pair_exact most = record {
   takes = pair_takes most;
   again = pair_again most;

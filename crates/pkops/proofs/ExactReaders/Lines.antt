@@ -1,5 +1,7 @@
 -- The reader of a line is exact.
-use Rattle.std.proofs.Common.{◌≡◌, ◌≢◌, ℕ, zero, suc, ◌+◌, ◌<◌, ◌≤◌, true, false, leb, nat_eq, List, [], ◌∷◌, ◌++◌, length, take, drop, Some, None, Ok, Err, refl, sym, ap, subst, ◌∙◌, append_assoc, arith, inl, inr}
+use Rattle.std.proofs.Common.{◌≡◌, ◌≢◌, ℕ, zero, suc, ◌+◌, ◌<◌, ◌≤◌, true, false, leb, nat_eq, List}
+use Rattle.std.proofs.Common.{[], ◌∷◌, ◌++◌, length, take, drop, Some, None, Ok, Err, refl, sym, ap}
+use Rattle.std.proofs.Common.{subst, ◌∙◌, append_assoc, arith, inl, inr}
 use Rattle.std.specs.Prelude.{position}
 use Rattle.std.proofs.lemmas.Bool.{cases_lt, lt-ltb, le-ltb, le-leb, leb-true}
 use Rattle.std.proofs.lemmas.List.{take_at, drop_at, length-append, take-append-le}
@@ -14,7 +16,9 @@ use Rattle.pkops.proofs.ExactReaders.Exact.{IsBytes, Lacks, Takes, IsExact}
 use Rattle.pkops.proofs.ExactReaders.Fields.{after_fits, not_nil, some_left, ok_is}
 
 pub lt-leb : (a b : ℕ) → b < a → leb a b ≡ false
-lt-leb a b h = elim (leb a b) as (λ v. leb a b ≡ v → leb a b ≡ false) [ true ↦ λ e. absurd (let le = leb-true a b e in omega arith) | false ↦ λ e. e ] refl
+lt-leb a b h = elim (leb a b) as (λ v. leb a b ≡ v
+    → leb a b ≡ false) [ true ↦ λ e. absurd (let le = leb-true a b e in omega arith)
+    | false ↦ λ e. e ] refl
 
 Clean-take : (n : ℕ) (a : List ℕ) → Clean a → Clean (take n a)
 Clean-take zero a h = tt
@@ -43,7 +47,9 @@ module _ (most : ℕ) (bytes text rest : List ℕ) (s : IsSplit bytes text rest)
   place_is : position (λ byte. nat_eq byte 10) bytes ≡ Some (length text)
   place_is =
       let e = s.place in
-      let lt : end_of bytes < length bytes = omega (arith, e, ap length s.parts, length-append (line_text text) rest, length-append text (10 ∷ [])) in
+      let lt : end_of bytes < length bytes = omega
+          (arith, e, ap length s.parts, length-append (line_text text) rest,
+          length-append text (10 ∷ [])) in
       rw (lt-ltb _ _ lt, e) refl
 
   bytes_is : bytes ≡ text ++ 10 ∷ rest
@@ -52,8 +58,10 @@ module _ (most : ℕ) (bytes text rest : List ℕ) (s : IsSplit bytes text rest)
   line_ends : length text ≤ most → line_at most bytes ≡ Ok (text, rest)
   unfolding line_at
   line_ends le =
-      let front : take (length text) bytes ≡ text = ap (take (length text)) bytes_is ∙ take_at text (10 ∷ rest) (length text) refl in
-      let back : drop (length text + 1) bytes ≡ rest = ap (drop (length text + 1)) s.parts ∙ drop_at (line_text text) rest (length text + 1) (length-append text (10 ∷ [])) in
+      let front : take (length text) bytes ≡ text = ap (take (length text)) bytes_is
+          ∙ take_at text (10 ∷ rest) (length text) refl in
+      let back : drop (length text + 1) bytes ≡ rest = ap (drop (length text + 1)) s.parts
+          ∙ drop_at (line_text text) rest (length text + 1) (length-append text (10 ∷ [])) in
       rw (place_is, le-leb _ _ le, front, back) refl
 
   line_over : most < length text → line_at most bytes ≡ Err (Bad TooLarge)
@@ -63,15 +71,18 @@ module _ (most : ℕ) (bytes text rest : List ℕ) (s : IsSplit bytes text rest)
   over_is : most < length text → IsLong most bytes
   over_is lt = record {
     long = omega (arith, ap length bytes_is, length-append text (10 ∷ rest));
-    endless = rw (bytes_is, take-append-le (most + 1) text (10 ∷ rest) (omega arith)) (Clean-take (most + 1) text s.clean);
+    endless = rw (bytes_is, take-append-le (most + 1) text (10 ∷ rest) (omega arith))
+        (Clean-take (most + 1) text s.clean);
   }
 
   not_long : length text ≤ most → IsLong most bytes → ⊥
-  not_long le h = let far : most + 1 ≤ length text = clean_to (most + 1) text rest (rw bytes_is at h.endless) in omega arith
+  not_long le h = let far : most + 1 ≤ length text =
+      clean_to (most + 1) text rest (rw bytes_is at h.endless) in omega arith
 
 module _ (most : ℕ) (bytes : List ℕ) (clean : Clean bytes) where
   no_place : position (λ byte. nat_eq byte 10) bytes ≡ None
-  no_place = let e = no_end bytes clean in rw (le-ltb (end_of bytes) (length bytes) (omega arith)) refl
+  no_place = let e = no_end bytes clean in rw (le-ltb (end_of bytes) (length bytes) (omega arith))
+      refl
 
   line_short : length bytes ≤ most → line_at most bytes ≡ Err Short
   unfolding line_at
@@ -81,7 +92,8 @@ module _ (most : ℕ) (bytes : List ℕ) (clean : Clean bytes) where
   unfolding line_at
   line_long lt = rw (no_place, lt-leb _ _ lt) refl
 
-line_takes : (most : ℕ) (bytes x rest : List ℕ) → IsBytes bytes → line_at most bytes ≡ Ok (x, rest) → Takes (IsLine most) line_text bytes x rest
+line_takes : (most : ℕ) (bytes x rest : List ℕ) → IsBytes bytes → line_at most bytes ≡ Ok (x, rest)
+    → Takes (IsLine most) line_text bytes x rest
 line_takes most bytes x rest fits e =
     elim (either_end bytes) [
       | inr clean ↦ elim (cases_lt most (length bytes)) [
@@ -101,11 +113,15 @@ line_takes most bytes x rest fits e =
       ]
     ]
 
-line_again : (most : ℕ) (x rest : List ℕ) → IsLine most x → line_at most (line_text x ++ rest) ≡ Ok (x, rest)
+line_again : (most : ℕ) (x rest : List ℕ) → IsLine most x
+    → line_at most (line_text x ++ rest) ≡ Ok (x, rest)
 line_again most x rest h =
-    line_ends most (line_text x ++ rest) x rest (record { clean = h.whole; parts = refl; place = ap end_of (append_assoc x (10 ∷ []) rest) ∙ end_at x rest h.whole }) h.short
+    line_ends most (line_text x ++ rest) x rest
+        (record { clean = h.whole; parts = refl; place = ap end_of (append_assoc x (10 ∷ []) rest)
+        ∙ end_at x rest h.whole }) h.short
 
-line_lacks : (most : ℕ) (bytes : List ℕ) → line_at most bytes ≡ Err Short → Lacks (λ y _. IsLine most y) line_text bytes
+line_lacks : (most : ℕ) (bytes : List ℕ) → line_at most bytes ≡ Err Short
+    → Lacks (λ y _. IsLine most y) line_text bytes
 line_lacks most bytes e =
     elim (either_end bytes) [
       | inl s ↦ elim (cases_lt most (length s.0)) [
@@ -114,40 +130,52 @@ line_lacks most bytes e =
       ]
       | inr clean ↦ elim (cases_lt most (length bytes)) [
         | inl lt ↦ absurd (let f = line_long most bytes clean lt in cc)
-        | inr le ↦ record { value = bytes; more = 10 ∷ []; may = record { short = le; whole = clean }; parts = refl; lacks = not_nil (10 ∷ []) (omega arith) }
+        | inr le ↦ record { value = bytes; more = 10 ∷ [];
+              may = record { short = le; whole = clean }; parts = refl; lacks =
+              not_nil (10 ∷ []) (omega arith) }
       ]
     ]
 
 -- a front of a line that isn't the whole of it has no end
-front_of_line : (text bytes more : List ℕ) → text ++ 10 ∷ [] ≡ bytes ++ more → more ≢ [] → (rest : List ℕ) × (text ≡ bytes ++ rest)
+front_of_line : (text bytes more : List ℕ) → text ++ 10 ∷ [] ≡ bytes ++ more → more ≢ []
+    → (rest : List ℕ) × (text ≡ bytes ++ rest)
 front_of_line text [] more e h = (text, refl)
-front_of_line [] (x ∷ bytes) more e h = absurd (let lens = ap length e in let some = some_left more h in omega (arith, length-append bytes more))
+front_of_line [] (x ∷ bytes) more e h = absurd
+    (let lens = ap length e in let some = some_left more h in
+    omega (arith, length-append bytes more))
 front_of_line (y ∷ text) (x ∷ bytes) more e h =
     let tails : text ++ 10 ∷ [] ≡ bytes ++ more = cc in
     let ih = front_of_line text bytes more tails h in
     let heads : y ≡ x = cc in
     (ih.0, let f = ih.1 in cc)
 
-line_stays : (most : ℕ) (bytes : List ℕ) → Lacks (λ y _. IsLine most y) line_text bytes → line_at most bytes ≡ Err Short
+line_stays : (most : ℕ) (bytes : List ℕ) → Lacks (λ y _. IsLine most y) line_text bytes
+    → line_at most bytes ≡ Err Short
 line_stays most bytes h =
     let f = front_of_line h.value bytes h.more h.parts h.lacks in
-    line_short most bytes (Clean-front bytes f.0 (rw f.1 at h.may.whole)) (let s = h.may.short in omega (arith, ap length f.1, length-append bytes f.0))
+    line_short most bytes (Clean-front bytes f.0 (rw f.1 at h.may.whole))
+        (let s = h.may.short in omega (arith, ap length f.1, length-append bytes f.0))
 
-line_bad : (most : ℕ) (bytes : List ℕ) (fault : Fault) → line_at most bytes ≡ Err (Bad fault) → LineFault most fault bytes
+line_bad : (most : ℕ) (bytes : List ℕ) (fault : Fault) → line_at most bytes ≡ Err (Bad fault)
+    → LineFault most fault bytes
 line_bad most bytes fault e =
-    let found : IsLong most bytes → line_at most bytes ≡ Err (Bad TooLarge) → LineFault most fault bytes = λ long f. let same : TooLarge ≡ fault = cc in subst (λ (d : Fault). LineFault most d bytes) same long in
+    let found : IsLong most bytes → line_at most bytes ≡ Err (Bad TooLarge)
+        → LineFault most fault bytes = λ long f. let same : TooLarge ≡ fault = cc in
+        subst (λ (d : Fault). LineFault most d bytes) same long in
     elim (either_end bytes) [
       | inl s ↦ elim (cases_lt most (length s.0)) [
         | inl lt ↦ found (over_is most bytes s.0 s.1 s.2 lt) (line_over most bytes s.0 s.1 s.2 lt)
         | inr le ↦ absurd (let f = line_ends most bytes s.0 s.1 s.2 le in cc)
       ]
       | inr clean ↦ elim (cases_lt most (length bytes)) [
-        | inl lt ↦ found (record { long = lt; endless = Clean-take (most + 1) bytes clean }) (line_long most bytes clean lt)
+        | inl lt ↦ found (record { long = lt; endless = Clean-take (most + 1) bytes clean })
+              (line_long most bytes clean lt)
         | inr le ↦ absurd (let f = line_short most bytes clean le in cc)
       ]
     ]
 
-line_faulty : (most : ℕ) (bytes : List ℕ) (fault : Fault) → LineFault most fault bytes → line_at most bytes ≡ Err (Bad fault)
+line_faulty : (most : ℕ) (bytes : List ℕ) (fault : Fault) → LineFault most fault bytes
+    → line_at most bytes ≡ Err (Bad fault)
 line_faulty most bytes (UnknownOpcode code) h = absurd h
 line_faulty most bytes BadArgument h = absurd h
 line_faulty most bytes TooLarge h =
@@ -159,7 +187,8 @@ line_faulty most bytes TooLarge h =
       | inr clean ↦ line_long most bytes clean h.long
     ]
 
-pub line_exact : (most : ℕ) → IsExact (line_at most) (IsLine most) (λ y _. IsLine most y) line_text (LineFault most)
+pub line_exact : (most : ℕ) → IsExact (line_at most) (IsLine most) (λ y _. IsLine most y) line_text
+    (LineFault most)
 line_exact most = record {
   takes = line_takes most;
   again = line_again most;

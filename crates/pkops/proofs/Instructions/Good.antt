@@ -5,7 +5,8 @@ use Rattle.std.specs.Coded.{Coded-set, coded_ℕ, le_prop}
 use Rattle.std.proofs.Math.Logic.{∥∥₁_elim, ∥∥₁_map}
 use Rattle.pkops.specs.declared.layout.Layout.{Layout}
 use Rattle.pkops.specs.declared.layout.Layout.TheVariants as layout
-use Rattle.pkops.specs.Spelling.{Argument, Nothing, Number, Signed, Float, Line, Pair, Counted, Instruction, IsLine, Suits, layout_at}
+use Rattle.pkops.specs.Spelling.{Argument, Nothing, Number, Signed, Float, Line, Pair, Counted}
+use Rattle.pkops.specs.Spelling.{Instruction, IsLine, Suits, layout_at}
 use Rattle.pkops.specs.declared.contents.Rule.{Rule}
 use Rattle.pkops.specs.Contents.{rule_of, Keeps, IsGood}
 use Rattle.pkops.proofs.ContentsRules.Decided.{keeps_is, passes_of}
@@ -20,14 +21,18 @@ had_equal h = ∥∥₁_elim h (Coded-set coded_ℕ _ _) (λ x. x)
 had_none : ∥ ⊥ ∥₁ → ⊥
 had_none h = ∥∥₁_elim h (λ x y. absurd x) (λ x. x)
 
-had_clean : (text : List ℕ) → ∥ AllByRecursion (λ byte. byte ≢ 10) text ∥₁ → AllByRecursion (λ byte. byte ≢ 10) text
+had_clean : (text : List ℕ) → ∥ AllByRecursion (λ byte. byte ≢ 10) text ∥₁
+    → AllByRecursion (λ byte. byte ≢ 10) text
 had_clean [] h = tt
-had_clean (x ∷ text) h = (λ e. had_none (∥∥₁_map h (λ c. c.0 e)), had_clean text (∥∥₁_map h (λ c. c.1)))
+had_clean (x ∷ text) h =
+    (λ e. had_none (∥∥₁_map h (λ c. c.0 e)), had_clean text (∥∥₁_map h (λ c. c.1)))
 
 had_line : (most : ℕ) (text : List ℕ) → ∥ IsLine most text ∥₁ → IsLine most text
-had_line most text h = record { short = had_le (∥∥₁_map h (λ l. l.short)); whole = had_clean text (∥∥₁_map h (λ l. l.whole)) }
+had_line most text h = record { short = had_le (∥∥₁_map h (λ l. l.short));
+    whole = had_clean text (∥∥₁_map h (λ l. l.whole)) }
 
-had_number : (width n value : ℕ) → ∥ (width ≡ n) × (value < 256 ^ n) ∥₁ → (width ≡ n) × (value < 256 ^ n)
+had_number : (width n value : ℕ) → ∥ (width ≡ n) × (value < 256 ^ n) ∥₁
+    → (width ≡ n) × (value < 256 ^ n)
 had_number width n value h = (had_equal (∥∥₁_map h (λ p. p.0)), had_le (∥∥₁_map h (λ p. p.1)))
 
 had_suits : (lay : Layout) (a : Argument) → ∥ Suits lay a ∥₁ → Suits lay a
@@ -47,7 +52,8 @@ had_suits layout.F8 (Float bytes) h = had_equal h
 had_suits layout.F8 _ h = absurd (had_none h)
 had_suits (layout.Line most) (Line text) h = had_line most text h
 had_suits (layout.Line most) _ h = absurd (had_none h)
-had_suits (layout.Pair most) (Pair first second) h = (had_line most first (∥∥₁_map h (λ p. p.0)), had_line most second (∥∥₁_map h (λ p. p.1)))
+had_suits (layout.Pair most) (Pair first second) h =
+    (had_line most first (∥∥₁_map h (λ p. p.0)), had_line most second (∥∥₁_map h (λ p. p.1)))
 had_suits (layout.Pair most) _ h = absurd (had_none h)
 had_suits (layout.Counted size signed) (Counted payload) h = had_le h
 had_suits (layout.Counted size signed) _ h = absurd (had_none h)

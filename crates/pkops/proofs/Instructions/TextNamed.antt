@@ -1,5 +1,6 @@
 -- The text of an instruction as a function is the one that it names.
-use Rattle.std.proofs.Common.{MatchOption, ◌≡◌, ◌↔◌, ℕ, List, Option, Some, None, refl, sym, ap, ◌∙◌}
+use Rattle.std.proofs.Common.{MatchOption, ◌≡◌, ◌↔◌, ℕ, List, Option, Some, None, refl, sym, ap}
+use Rattle.std.proofs.Common.{◌∙◌}
 use Rattle.std.specs.Prelude.{encode_utf8_all}
 use Rattle.std.specs.Option.{option_map}
 use Rattle.pkops.specs.declared.contents.Rule.{Rule}
@@ -11,11 +12,15 @@ use Rattle.pkops.specs.Text.{NamesTextBy, NamesText, text_by, text_bytes}
 use Rattle.pkops.proofs.ContentsRules.EscapesSpelled.{points_of_spelled, spelled_points}
 
 -- the two sides of a line of UNICODE, given what is read of it
-line_forth : (line text : List ℕ) → (points : List ℕ) × SpellsText line points × (text ≡ encode_utf8_all points) → option_map encode_utf8_all (points_of line) ≡ Some text
+line_forth : (line text : List ℕ) → (points : List ℕ) × SpellsText line points
+    × (text ≡ encode_utf8_all points) → option_map encode_utf8_all (points_of line) ≡ Some text
 line_forth line text (points, spelled, e) =
-    ap (option_map encode_utf8_all) (points_of_spelled line points spelled) ∙ ap (λ (t : List ℕ). Some t) (sym e)
+    ap (option_map encode_utf8_all) (points_of_spelled line points spelled)
+        ∙ ap (λ (t : List ℕ). Some t) (sym e)
 
-line_back : (line text : List ℕ) (read : Option (List ℕ)) → points_of line ≡ read → option_map encode_utf8_all read ≡ Some text → (points : List ℕ) × SpellsText line points × (text ≡ encode_utf8_all points)
+line_back : (line text : List ℕ) (read : Option (List ℕ)) → points_of line ≡ read
+    → option_map encode_utf8_all read ≡ Some text → (points : List ℕ) × SpellsText line points
+    × (text ≡ encode_utf8_all points)
 line_back line text None is e = absurd cc
 line_back line text (Some points) is e = (points, spelled_points line points is, cc)
 
@@ -29,10 +34,13 @@ back rule.Escapes (Line line) text e = line_back line text (points_of line) refl
 back rule.Utf8 (Counted payload) text e = cc
 back _ _ text e = absurd cc
 
-pub text_is_named : (i : Instruction) (text : List ℕ) → NamesText i text ↔ (text_bytes i ≡ Some text)
+pub text_is_named : (i : Instruction) (text : List ℕ)
+    → NamesText i text ↔ (text_bytes i ≡ Some text)
 text_is_named i text = (forth (rule_of i.op) i.arg text, back (rule_of i.op) i.arg text)
 
 -- what is answered as the function says is answered as the relation says
-pub answered : {A : Type 0} (i : Instruction) (view : A → List ℕ) (text : Option A) → option_map view text ≡ text_bytes i → MatchOption text ((bytes : List ℕ) → NamesText i bytes → ⊥) (λ x. NamesText i (view x))
+pub answered : {A : Type 0} (i : Instruction) (view : A → List ℕ) (text : Option A)
+    → option_map view text ≡ text_bytes i → MatchOption text
+    ((bytes : List ℕ) → NamesText i bytes → ⊥) (λ x. NamesText i (view x))
 answered i view None e = λ bytes h. let f = forth (rule_of i.op) i.arg bytes h in cc
 answered i view (Some x) e = back (rule_of i.op) i.arg (view x) (sym e)

@@ -1,5 +1,7 @@
 -- Each opcode has its own code.
-use Rattle.std.proofs.Common.{◌≡◌, ◌≢◌, ℕ, zero, suc, ◌+◌, Bool, true, false, cond, List, [], ◌∷◌, Option, Some, None, IfSome, IfNone, slice_index_or, refl, ap, ◌∙◌, arith, inl, inr}
+use Rattle.std.proofs.Common.{◌≡◌, ◌≢◌, ℕ, zero, suc, ◌+◌, Bool, true, false, cond, List, [], ◌∷◌}
+use Rattle.std.proofs.Common.{Option, Some, None, IfSome, IfNone, slice_index_or, refl, ap, ◌∙◌}
+use Rattle.std.proofs.Common.{arith, inl, inr}
 use Rattle.std.specs.Prelude.{◌==◌}
 use Rattle.std.proofs.lemmas.Bool.{cases_Bool, eqb-true}
 use Rattle.pkops.specs.declared.op.Op.{Op}
@@ -26,7 +28,8 @@ abbrev have_codes : ℕ → List (Option Op) → Bool
 have_codes code [] = true
 have_codes code (o ∷ ops) = cond (has_code code o) (have_codes (code + 1) ops) false
 
-at_place : (first place code : ℕ) (ops : List (Option Op)) → first + place ≡ code → have_codes first ops ≡ true → IfSome (slice_index_or ops place None) (λ op. code_of op ≡ code)
+at_place : (first place code : ℕ) (ops : List (Option Op)) → first + place ≡ code
+    → have_codes first ops ≡ true → IfSome (slice_index_or ops place None) (λ op. code_of op ≡ code)
 at_place first place code [] sum e = tt
 at_place first zero code (None ∷ ops) sum e = tt
 at_place first zero code (Some o ∷ ops) sum e = elim (cases_Bool (code_of o == first)) [
@@ -39,12 +42,15 @@ at_place first (suc place) code (o ∷ ops) sum e = elim (cases_Bool (has_code f
 ]
 
 -- an opcode found is of the code, and where none is found the code is none's
-pub is_of : (ops : List (Option Op)) (place code : ℕ) → ops ≡ OPCODES → place ≡ code → IfSome (slice_index_or ops place None) (λ op. code_of op ≡ code)
+pub is_of : (ops : List (Option Op)) (place code : ℕ) → ops ≡ OPCODES → place ≡ code
+    → IfSome (slice_index_or ops place None) (λ op. code_of op ≡ code)
 is_of ops place code e same = at_place 0 place code ops (omega arith) (ap (have_codes 0) e)
 
 is_none_of : (code : ℕ) (o : Option Op) → o ≡ op_of code → IfNone o ((op : Op) → code_of op ≢ code)
 is_none_of code None e = λ op same. let f = found op in let g = ap op_of same in cc
 is_none_of code (Some o) e = tt
 
-pub is_none : (ops : List (Option Op)) (place code : ℕ) → ops ≡ OPCODES → place ≡ code → IfNone (slice_index_or ops place None) ((op : Op) → code_of op ≢ code)
-is_none ops place code e same = is_none_of code _ (ap (λ (l : List (Option Op)). slice_index_or l place None) e ∙ ap op_of same)
+pub is_none : (ops : List (Option Op)) (place code : ℕ) → ops ≡ OPCODES → place ≡ code
+    → IfNone (slice_index_or ops place None) ((op : Op) → code_of op ≢ code)
+is_none ops place code e same = is_none_of code _
+    (ap (λ (l : List (Option Op)). slice_index_or l place None) e ∙ ap op_of same)

@@ -6,4 +6,5 @@ use Rattle.pkops.proofs.writing.assemble.Given as goal
 
 -- the spellings so far and those of what is left are those of all
 abbrev pub invariant-loop-inst : goal.invariant-loop-inst
-invariant-loop-inst l = l.out.items ++ flat_map (λ inst. spelling (instruction_of inst)) (drop l.inst-index l.insts) ≡ flat_map (λ inst. spelling (instruction_of inst)) l.insts
+invariant-loop-inst l = l.out.items ++ flat_map (λ inst. spelling (instruction_of inst))
+    (drop l.inst-index l.insts) ≡ flat_map (λ inst. spelling (instruction_of inst)) l.insts

@@ -9,6 +9,7 @@ use Rattle.pkops.proofs.contents.escapes.read_escaped.Given as goal
 -- the text so far and what is left give what all names
 abbrev pub invariant-bytes : goal.invariant-bytes
 invariant-bytes l = record {
-  kept : joined (string_bytes l.text) (code_points l.state (drop l.byte-index l.line)) ≡ option_map encode_utf8_all (points_of l.line);
+  kept : joined (string_bytes l.text) (code_points l.state (drop l.byte-index l.line))
+      ≡ option_map encode_utf8_all (points_of l.line);
   small : IsPointSoFar l.state;
 }

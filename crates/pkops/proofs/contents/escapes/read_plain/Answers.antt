@@ -3,4 +3,5 @@ use Rattle.pkops.proofs.ContentsRules.EscapesPlain.{plain_ascii}
 use Rattle.pkops.proofs.contents.escapes.read_plain.Goals as goal
 
 pub unreachable-requires : goal.unreachable-requires
-unreachable-requires c = c.in-Err.ensures.cases.0 (IsUtf8-from_ascii c.args.line.now (plain_ascii c.args.line.now c.requires))
+unreachable-requires c = c.in-Err.ensures.cases.0
+    (IsUtf8-from_ascii c.args.line.now (plain_ascii c.args.line.now c.requires))

@@ -8,16 +8,24 @@ pub bytes-init : goal.bytes-init
 bytes-init c = record { kept = ap is_some (named_is c.args.line.now); small = tt }
 
 pub returns-in_default : goal.returns-in_default
-returns-in_default c = sym (ap is_some (stops c.bytes.state c.args.line.now c.bytes.byte-index (omega arith) c.in_default.ensures.step)) ∙ c.bytes.invariant.kept
+returns-in_default c =
+    sym (ap is_some
+    (stops c.bytes.state c.args.line.now c.bytes.byte-index
+    (omega arith) c.in_default.ensures.step)) ∙ c.bytes.invariant.kept
 
 pub bytes-preserved : goal.bytes-preserved
 bytes-preserved c = record {
-  kept = some_goes_on c.bytes.state c.in-Some.next c.in-Some.field-0-1 c.args.line.now c.bytes.byte-index (omega arith) c.in-Some.ensures.step ∙ c.bytes.invariant.kept;
+  kept = some_goes_on c.bytes.state c.in-Some.next c.in-Some.field-0-1 c.args.line.now
+      c.bytes.byte-index (omega arith) c.in-Some.ensures.step ∙ c.bytes.invariant.kept;
   small = c.in-Some.ensures.small;
 }
 
 pub returns-in-Outside : goal.returns-in-Outside
-returns-in-Outside c = rw c.in-Outside.is at (some_at_end c.bytes.state c.args.line.now c.bytes.byte-index _ (omega arith) c.bytes.invariant.kept)
+returns-in-Outside c =
+    rw c.in-Outside.is at (some_at_end c.bytes.state c.args.line.now c.bytes.byte-index _
+    (omega arith) c.bytes.invariant.kept)
 
 pub returns-in_default-matches : goal.returns-in_default-matches
-returns-in_default-matches c = let e = some_at_end c.bytes.state c.args.line.now c.bytes.byte-index _ (omega arith) c.bytes.invariant.kept in let n = not_ended c.bytes.state c.in_default-matches.not-Outside in sym n ∙ e
+returns-in_default-matches c = let e = some_at_end c.bytes.state c.args.line.now c.bytes.byte-index
+    _ (omega arith) c.bytes.invariant.kept in let n =
+    not_ended c.bytes.state c.in_default-matches.not-Outside in sym n ∙ e
