@@ -1,5 +1,6 @@
 -- The bytes behind a code.
-use Rattle.std.proofs.Common.{◌≡◌, ℕ, ◌+◌, ◌-◌, ◌<◌, ◌≤◌, Bool, List, [], ◌∷◌, ◌++◌, length, take, drop, refl, ap, ◌∙◌, inl, inr, arith, add-one, length-append}
+use Rattle.std.proofs.Common.{◌≡◌, ℕ, ◌+◌, ◌-◌, ◌<◌, ◌≤◌, Bool, List, [], ◌∷◌, ◌++◌, length, take}
+use Rattle.std.proofs.Common.{drop, refl, ap, ◌∙◌, inl, inr, arith, add-one, length-append}
 use Rattle.std.proofs.lemmas.List.{length-take, take-append-drop, take-append-le, take_at}
 use Rattle.std.proofs.lemmas.Bool.{cases_lt}
 use Rattle.pkops.specs.Growth.{BegunLaws, CountLaws, FieldLaws}
@@ -11,14 +12,16 @@ use Rattle.pkops.specs.declared.Layout.TheVariants as layout
 use Rattle.pkops.specs.declared.Width.{Width}
 use Rattle.pkops.specs.declared.Width.TheVariants as width
 use Rattle.pkops.specs.declared.Op.{Op}
-use Rattle.pkread.proofs.Bytes.Taken.{AreBytes-both, AreBytes-take, lacks_after, took_both, took_none}
+use Rattle.pkread.proofs.Bytes.Taken.{AreBytes-both, AreBytes-take, lacks_after, took_both}
+use Rattle.pkread.proofs.Bytes.Taken.{took_none}
 use Rattle.pkread.specs.Private.Gathering.{Counts, Grows, RowBehind, Stops}
 use Rattle.pkread.specs.Private.Progress.{Intake}
 use Rattle.pkread.specs.Rows.{FrontsBegin, Sight}
 use Rattle.pkread.specs.Private.Taking.{AreAllBytes, LackRow, LacksSome, Took, TookAll}
 use Rattle.pkread.specs.declared.arms.Count.{Count}
 use Rattle.pkread.specs.declared.refusal.Reason.{Reason}
-use Rattle.pkread.specs.declared.refusal.Reason.TheVariants.{Source, Truncated, BadArgument, TooLarge, OutOfMemory}
+use Rattle.pkread.specs.declared.refusal.Reason.TheVariants.{Source, Truncated, BadArgument}
+use Rattle.pkread.specs.declared.refusal.Reason.TheVariants.{TooLarge, OutOfMemory}
 
 -- the fronts of what begins an instruction
 pub begun_fronts : BegunLaws → (limit : ℕ) (b : List ℕ) → Begun limit b → FrontsBegin limit b
@@ -33,7 +36,8 @@ fronts_more laws limit b x h k l =
       | inl lt ↦ rw (take-append-le k b (x ∷ []) (omega arith))
           (begun_fronts laws limit b h k lt)
       | inr ge ↦ let same : k ≡ length b =
-          omega (arith, length-append b (x ∷ []), l) in rw (same, take_at b (x ∷ []) (length b) refl) h
+          omega (arith, length-append b (x ∷ []), l) in
+              rw (same, take_at b (x ∷ []) (length b) refl) h
     ]
 
 pub row_behind : (limit : ℕ) (m n : Sight) (run b : List ℕ) (u : ℕ) (r : Reason) → Begun limit b →
@@ -172,7 +176,8 @@ module _ (c : Count) (x : ℕ) (o : Op) (old mid new : Intake) (e : old.bytes �
   pub payload_stops : BegunLaws → CountLaws → (r : Reason) → LacksSome x mid new r →
       Stops c.limit old new r
   payload_stops laws counts r s =
-      let both : AreAllBytes (k.field ++ s.bytes) = AreBytes-both k.field s.bytes k.took.fit s.fit in
+      let both : AreAllBytes (k.field ++ s.bytes) =
+          AreBytes-both k.field s.bytes k.took.fit s.fit in
       let under = k.under in
       let within = k.within in
       let is = k.count in

@@ -1,11 +1,14 @@
 -- The instruction at the front of the bytes that a source has at hand.
-use Rattle.std.proofs.Common.{◌≡◌, ℕ, suc, zero, ◌+◌, ◌-◌, ◌*◌, ◌<◌, ◌≤◌, Bool, false, true, List, [], ◌∷◌, ◌++◌, length, take, drop, get_or, Option, None, Some, refl, sym, ap, subst, ◌∙◌, arith, append_assoc, length-append}
+use Rattle.std.proofs.Common.{◌≡◌, ℕ, suc, zero, ◌+◌, ◌-◌, ◌*◌, ◌<◌, ◌≤◌, Bool, false, true, List}
+use Rattle.std.proofs.Common.{[], ◌∷◌, ◌++◌, length, take, drop, get_or, Option, None, Some, refl}
+use Rattle.std.proofs.Common.{sym, ap, subst, ◌∙◌, arith, append_assoc, length-append}
 use Rattle.std.specs.Prelude.{◌≢◌, ◌==◌, position, slice_index}
 use Rattle.std.specs.List.{AllByRecursion, position_or_len}
 use Rattle.std.specs.Io.KnownBytes.{Consumes}
 use Rattle.std.specs.Str.{IsUtf8}
 use Rattle.std.proofs.Math.Seq.{take-add}
-use Rattle.std.proofs.lemmas.List.{get_or-take, length-drop, length-take, take-append-drop, take-append-le, take-take, take_all, take_at, take_more}
+use Rattle.std.proofs.lemmas.List.{get_or-take, length-drop, length-take, take-append-drop}
+use Rattle.std.proofs.lemmas.List.{take-append-le, take-take, take_all, take_at, take_more}
 use Rattle.std.proofs.lemmas.List.Quantifiers.{position-Some}
 use Rattle.std.proofs.lemmas.Bool.Decides.{Decides-ltb, nat_tests}
 use Rattle.byteorder.specs.Endian.{little_from}
@@ -16,7 +19,9 @@ use Rattle.pkops.specs.Limits.{Bounds}
 use Rattle.pkops.specs.Lying.{AreBytes, Lies, count_in, field_len}
 use Rattle.pkops.specs.Payloads.{payload_limit}
 use Rattle.pkops.specs.Scanning.{longest}
-use Rattle.pkops.specs.Spelling.{Argument, Counted, Float, IsLine, Line, Nothing, Number, Pair, Signed, Suits, count_limit, instruction, layout_at, line_feed, size_of}
+use Rattle.pkops.specs.Spelling.{Argument, Counted, Float, IsLine, Line, Nothing, Number, Pair}
+use Rattle.pkops.specs.Spelling.{Signed, Suits, count_limit, instruction, layout_at, line_feed}
+use Rattle.pkops.specs.Spelling.{size_of}
 use Rattle.pkops.specs.Table.{code_of}
 use Rattle.pkops.specs.declared.Layout.{Layout}
 use Rattle.pkops.specs.declared.Layout.TheVariants as layout
@@ -170,7 +175,8 @@ counted_front counts limits n o size (x ∷ rest) lay fits code head within is r
           lies = lies;
           good = record {
             suits = lies.laid.suits;
-            contents = payload_keeps o size payload (is_plain o) lay refl (subst (λ (m : ℕ). is_plain o ≡ false → IsUtf8 (take m (drop k rest))) left good');
+            contents = payload_keeps o size payload (is_plain o) lay refl
+                (subst (λ (m : ℕ). is_plain o ≡ false → IsUtf8 (take m (drop k rest))) left good');
           };
           admitted = text_admitted o size false (Counted payload) lay;
         };
@@ -187,7 +193,8 @@ no_feed : (xs : List ℕ) (n : ℕ) → n ≤ length xs →
 no_feed xs zero le h = tt
 no_feed [] (suc n) le h = absurd (omega (arith, le))
 no_feed (x ∷ xs) (suc n) le h = (
-  λ e. let f : (x == 10) ≡ false = h 0 (omega arith) in let t : true ≡ false = rw e at f in absurd cc,
+  λ e. let f : (x == 10) ≡ false = h 0 (omega arith) in let t : true ≡ false = rw e at f in
+      absurd cc,
   no_feed xs n (omega (arith, le)) (λ k lt. h (suc k) (omega (arith, lt))),
 )
 

@@ -1,5 +1,7 @@
 -- What was gathered is judged.
-use Rattle.std.proofs.Common.{◌≡◌, ◌≢◌, ℕ, ◌<◌, ◌≤◌, List, [], ◌∷◌, ◌++◌, length, take, Option, Some, None, Result, Ok, Err, refl, sym, ap, ◌∙◌, subst, inl, arith, append-nil}
+use Rattle.std.proofs.Common.{◌≡◌, ◌≢◌, ℕ, ◌<◌, ◌≤◌, List, [], ◌∷◌, ◌++◌, length, take, Option}
+use Rattle.std.proofs.Common.{Some, None, Result, Ok, Err, refl, sym, ap, ◌∙◌, subst, inl, arith}
+use Rattle.std.proofs.Common.{append-nil}
 use Rattle.std.specs.Prelude.{IfErr, IfOk, IfSome, MatchResult}
 use Rattle.std.proofs.lemmas.List.{take_all, length-take}
 use Rattle.pkops.specs.Answer.{IsWhole}
@@ -18,14 +20,17 @@ use Rattle.pkread.proofs.Reasons.Objections.{objection_is_amiss}
 use Rattle.pkread.proofs.Reasons.OneRow.{OneAnswer, one_row}
 use Rattle.pkread.specs.Admission.{objection}
 use Rattle.pkread.proofs.Bytes.Taken.{took_both}
-use Rattle.pkread.specs.Private.Gathering.{Finds, Gathers, Grows, IsFound, RowBehind, Stops, TakesFound, TakesWhole}
+use Rattle.pkread.specs.Private.Gathering.{Finds, Gathers, Grows, IsFound, RowBehind, Stops}
+use Rattle.pkread.specs.Private.Gathering.{TakesFound, TakesWhole}
 use Rattle.pkread.specs.Private.Progress.{Intake}
 use Rattle.pkread.specs.Rows.{FrontsBegin, IsAmiss, Refuses, ShowsReason, Sight, Takes}
 use Rattle.pkread.specs.Private.Judging.{TakesAnyArgument}
 use Rattle.pkread.specs.Private.Taking.{LacksSome, Took}
 use Rattle.pkread.specs.declared.gather.Found.{Found}
 use Rattle.pkread.specs.declared.refusal.Reason.{Reason}
-use Rattle.pkread.specs.declared.refusal.Reason.TheVariants.{Source, Truncated, UnknownOpcode, BadArgument, TooLarge, ExtensionCode, UnsupportedProtocol, OutOfMemory}
+use Rattle.pkread.specs.declared.refusal.Reason.TheVariants.{Source, Truncated, UnknownOpcode}
+use Rattle.pkread.specs.declared.refusal.Reason.TheVariants.{BadArgument, TooLarge, ExtensionCode}
+use Rattle.pkread.specs.declared.refusal.Reason.TheVariants.{UnsupportedProtocol, OutOfMemory}
 
 -- what is good is whole
 pub whole_of : (limit : ℕ) (o : Op) (arg : Argument) (split : ℕ) (b : List ℕ) →

@@ -1,5 +1,7 @@
 -- The lines behind a code.
-use Rattle.std.proofs.Common.{◌≡◌, ◌≢◌, ℕ, ◌+◌, ◌-◌, ◌%◌, ◌^◌, ◌≤◌, ◌⊎◌, List, [], ◌∷◌, ◌++◌, length, refl, sym, ap, ◌∙◌, subst, inl, inr, arith, length-append, append_assoc}
+use Rattle.std.proofs.Common.{◌≡◌, ◌≢◌, ℕ, ◌+◌, ◌-◌, ◌%◌, ◌^◌, ◌≤◌, ◌⊎◌, List, [], ◌∷◌, ◌++◌}
+use Rattle.std.proofs.Common.{length, refl, sym, ap, ◌∙◌, subst, inl, inr, arith, length-append}
+use Rattle.std.proofs.Common.{append_assoc}
 use Rattle.std.specs.List.{AllByRecursion}
 use Rattle.std.proofs.lemmas.List.{take_all}
 use Rattle.pkops.specs.Growth.{BegunLaws}
@@ -18,7 +20,8 @@ use Rattle.pkread.specs.Private.Progress.{Intake}
 use Rattle.pkread.specs.Rows.{FrontsBegin, Sight, Takes}
 use Rattle.pkread.specs.Private.Taking.{Took}
 use Rattle.pkread.specs.declared.refusal.Reason.{Reason}
-use Rattle.pkread.specs.declared.refusal.Reason.TheVariants.{Source, Truncated, TooLarge, OutOfMemory}
+use Rattle.pkread.specs.declared.refusal.Reason.TheVariants.{Source, Truncated, TooLarge}
+use Rattle.pkread.specs.declared.refusal.Reason.TheVariants.{OutOfMemory}
 
 abbrev Endless : List ℕ → Type 0
 Endless c = AllByRecursion (λ byte. byte ≢ 10) c

@@ -1,5 +1,7 @@
 -- Payloads that are skipped.
-use Rattle.std.proofs.Common.{◌≡◌, ℕ, ◌+◌, ◌-◌, ◌<◌, ◌≤◌, true, false, List, [], ◌∷◌, ◌++◌, length, take, drop, refl, sym, ap, subst, ◌∙◌, inl, inr, arith, length-append, Result, Ok, Err}
+use Rattle.std.proofs.Common.{◌≡◌, ℕ, ◌+◌, ◌-◌, ◌<◌, ◌≤◌, true, false, List, [], ◌∷◌, ◌++◌, length}
+use Rattle.std.proofs.Common.{take, drop, refl, sym, ap, subst, ◌∙◌, inl, inr, arith, length-append}
+use Rattle.std.proofs.Common.{Result, Ok, Err}
 use Rattle.std.specs.Prelude.{IsTrue, max, Bool, if◌then◌else◌}
 use Rattle.std.proofs.lemmas.List.{length-take, take-append-drop}
 use Rattle.pkops.specs.Admitted.{is_admitted_by}
@@ -22,7 +24,8 @@ use Rattle.pkread.specs.Heads.{HoldsFew, SkipsBy}
 use Rattle.pkread.specs.Private.Gathering.{Counts, Finds, Stops}
 use Rattle.pkread.specs.Private.Judging.{is_plain}
 use Rattle.pkread.specs.Private.Progress.{Intake}
-use Rattle.pkread.specs.Private.Skipping.{GrowsSkipping, HeldWhole, RefusedHead, SkipsAll, StopsSkipping, holding}
+use Rattle.pkread.specs.Private.Skipping.{GrowsSkipping, HeldWhole, RefusedHead, SkipsAll}
+use Rattle.pkread.specs.Private.Skipping.{StopsSkipping, holding}
 use Rattle.pkread.specs.Private.Taking.{LacksSome, Took, TookAll, TookBlock}
 use Rattle.pkread.specs.Rows.{FrontsBegin, Refuses}
 use Rattle.pkread.specs.declared.arms.Count.{Count}

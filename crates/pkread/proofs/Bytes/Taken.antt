@@ -1,15 +1,21 @@
 -- Reads, and what several of them take.
-use Rattle.std.proofs.Common.{◌≡◌, ◌≢◌, ℕ, zero, suc, ◌+◌, ◌-◌, ◌%◌, ◌^◌, ◌<◌, ◌≤◌, List, [], ◌∷◌, ◌++◌, length, take, drop, get_or, Option, None, Some, refl, sym, ap, subst, ◌∙◌, arith, length-append, append_assoc, append-nil, Result, Ok, Err}
+use Rattle.std.proofs.Common.{◌≡◌, ◌≢◌, ℕ, zero, suc, ◌+◌, ◌-◌, ◌%◌, ◌^◌, ◌<◌, ◌≤◌, List, [], ◌∷◌}
+use Rattle.std.proofs.Common.{◌++◌, length, take, drop, get_or, Option, None, Some, refl, sym, ap}
+use Rattle.std.proofs.Common.{subst, ◌∙◌, arith, length-append, append_assoc, append-nil, Result}
+use Rattle.std.proofs.Common.{Ok, Err}
 use Rattle.std.specs.Io.KnownBytes.{Consumes}
 use Rattle.std.specs.List.{AllByRecursion}
-use Rattle.std.proofs.lemmas.List.{drop-take, drop_at, get_or-drop, length-drop, length-take, take-take, take_at}
+use Rattle.std.proofs.lemmas.List.{drop-take, drop_at, get_or-drop, length-drop, length-take}
+use Rattle.std.proofs.lemmas.List.{take-take, take_at}
 use Rattle.std.proofs.Math.Seq.{take-add}
 use Rattle.pkread.proofs.Bytes.Takes.{Consumes-more, Takes-more, Takes-none}
 use Rattle.pkread.specs.Rows.{Sight, Takes, all_bytes}
 use Rattle.pkread.specs.Private.Progress.{Intake}
-use Rattle.pkread.specs.Private.Taking.{AreAllBytes, LackRow, LacksSome, PulledInto, ReadsSome, ReadsByte, ReadsNone, TakesAll, Took, TookAll}
+use Rattle.pkread.specs.Private.Taking.{AreAllBytes, LackRow, LacksSome, PulledInto, ReadsSome}
+use Rattle.pkread.specs.Private.Taking.{ReadsByte, ReadsNone, TakesAll, Took, TookAll}
 use Rattle.pkread.specs.declared.refusal.Reason.{Reason}
-use Rattle.pkread.specs.declared.refusal.Reason.TheVariants.{Source, Truncated, TooLarge, OutOfMemory}
+use Rattle.pkread.specs.declared.refusal.Reason.TheVariants.{Source, Truncated, TooLarge}
+use Rattle.pkread.specs.declared.refusal.Reason.TheVariants.{OutOfMemory}
 
 pub AreBytes-take : (n : ℕ) (c : List ℕ) → AreAllBytes c → AreAllBytes (take n c)
 AreBytes-take zero c f i = omega arith

@@ -1,5 +1,6 @@
 -- What was taken from a source, and faults of it.
-use Rattle.std.proofs.Common.{ℕ, List, [], ◌++◌, Option, None, Some, sym, ap, ◌∙◌, append_assoc, append-nil}
+use Rattle.std.proofs.Common.{ℕ, List, [], ◌++◌, Option, None, Some, sym, ap, ◌∙◌, append_assoc}
+use Rattle.std.proofs.Common.{append-nil}
 use Rattle.std.specs.Io.KnownBytes.{Consumes}
 use Rattle.pkops.specs.Scanning.{HasFault}
 use Rattle.pkops.specs.declared.Fault.{Fault}

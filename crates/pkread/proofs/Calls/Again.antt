@@ -1,5 +1,6 @@
 -- One call of `again`.
-use Rattle.std.proofs.Common.{◌≡◌, ◌≢◌, ℕ, ◌<◌, Bool, true, false, List, [], ◌∷◌, Option, None, Some, Result, Ok, Err, refl, sym, subst, ◌∙◌, arith, inr}
+use Rattle.std.proofs.Common.{◌≡◌, ◌≢◌, ℕ, ◌<◌, Bool, true, false, List, [], ◌∷◌, Option, None}
+use Rattle.std.proofs.Common.{Some, Result, Ok, Err, refl, sym, subst, ◌∙◌, arith, inr}
 use Rattle.std.specs.Result.{IfErr, IfOk}
 use Rattle.pkops.specs.Growth.{BegunLaws}
 use Rattle.pkread.proofs.Calls.Next.{counts_at}
@@ -12,7 +13,8 @@ use Rattle.pkread.specs.Private.Taking.{ReadsNone}
 use Rattle.pkread.specs.Reading.{ReaderState, is_ended}
 use Rattle.pkread.specs.Rows.{ShowsReason, Sight, Takes, all_bytes, unread}
 use Rattle.pkread.specs.declared.refusal.Reason.{Reason}
-use Rattle.pkread.specs.declared.refusal.Reason.TheVariants.{Source, Truncated, TooLarge, OutOfMemory}
+use Rattle.pkread.specs.declared.refusal.Reason.TheVariants.{Source, Truncated, TooLarge}
+use Rattle.pkread.specs.declared.refusal.Reason.TheVariants.{OutOfMemory}
 use Rattle.pkread.specs.declared.refusal.Refusal.{Refusal}
 
 -- a read of a byte gave none, before the end

@@ -1,5 +1,6 @@
 -- One call of `next`.
-use Rattle.std.proofs.Common.{◌≡◌, ℕ, ◌+◌, ◌≤◌, List, [], length, Result, refl, sym, ap, ◌∙◌, subst, arith}
+use Rattle.std.proofs.Common.{◌≡◌, ℕ, ◌+◌, ◌≤◌, List, [], length, Result, refl, sym, ap, ◌∙◌, subst}
+use Rattle.std.proofs.Common.{arith}
 use Rattle.std.specs.Prelude.{max, None}
 use Rattle.std.specs.Result.{MatchResult}
 use Rattle.std.proofs.lemmas.List.{take_all}
@@ -11,7 +12,8 @@ use Rattle.pkread.specs.Admission.{IsAllowed, objection}
 use Rattle.pkread.specs.Core.{Phase, Open, Refused, phase_after}
 use Rattle.pkread.specs.Private.Gathering.{Gathers}
 use Rattle.pkread.specs.Private.Progress.{Intake}
-use Rattle.pkread.specs.Reading.{ReaderState, Gives, GivesNext, RefusesAt, StepsFrom, ShowsNext, ShowsFrom}
+use Rattle.pkread.specs.Reading.{ReaderState, Gives, GivesNext, RefusesAt, StepsFrom, ShowsNext}
+use Rattle.pkread.specs.Reading.{ShowsFrom}
 use Rattle.pkread.specs.Rows.{Refuses, ShowsReason, Sight, all_bytes, unread}
 use Rattle.pkread.specs.Sequence.{CountsAt}
 use Rattle.pkread.specs.declared.reader.Next.{Next}

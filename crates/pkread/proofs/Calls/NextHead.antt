@@ -1,5 +1,6 @@
 -- One call of `next_head`.
-use Rattle.std.proofs.Common.{◌≡◌, ℕ, ◌<◌, ◌≤◌, false, List, [], Result, sym, ap, ◌∙◌, subst, arith, length}
+use Rattle.std.proofs.Common.{◌≡◌, ℕ, ◌<◌, ◌≤◌, false, List, [], Result, sym, ap, ◌∙◌, subst, arith}
+use Rattle.std.proofs.Common.{length}
 use Rattle.std.specs.Result.{MatchResult}
 use Rattle.pkops.specs.Limits.{Bounds}
 use Rattle.pkops.specs.Payloads.{is_passed, payload_limit_at}
@@ -7,7 +8,8 @@ use Rattle.pkops.specs.Spelling.{Instruction, spelling}
 use Rattle.pkops.specs.declared.Op.{Op}
 use Rattle.pkread.proofs.Calls.Next.{IsGathered, come, counts_at, gives_whole, spelled}
 use Rattle.pkread.specs.Core.{Phase, Open, Refused, phase_after}
-use Rattle.pkread.specs.Heads.{GivesHead, HoldsFew, Skips, RefusesHead, ShowsHead, ShowsHeadFrom, StepsHeadFrom}
+use Rattle.pkread.specs.Heads.{GivesHead, HoldsFew, Skips, RefusesHead, ShowsHead, ShowsHeadFrom}
+use Rattle.pkread.specs.Heads.{StepsHeadFrom}
 use Rattle.pkread.specs.Private.Skipping.{HeldWhole, RefusedHead, SkippedOne, TookHead}
 use Rattle.pkread.specs.Private.Collecting.{IfHeld}
 use Rattle.pkread.specs.Private.Progress.{Intake}

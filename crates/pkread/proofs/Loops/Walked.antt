@@ -1,5 +1,7 @@
 -- The instructions that a walk over a slice has given.
-use Rattle.std.proofs.Common.{◌≡◌, ◌≢◌, ℕ, Bool, true, false, List, [], ◌∷◌, ◌++◌, length, Option, Some, None, Result, Ok, Err, refl, sym, ap, ◌∙◌, subst, arith, length-append, append_assoc}
+use Rattle.std.proofs.Common.{◌≡◌, ◌≢◌, ℕ, Bool, true, false, List, [], ◌∷◌, ◌++◌, length, Option}
+use Rattle.std.proofs.Common.{Some, None, Result, Ok, Err, refl, sym, ap, ◌∙◌, subst, arith}
+use Rattle.std.proofs.Common.{length-append, append_assoc}
 use Rattle.std.specs.Prelude.{MatchBool, MatchOption}
 use Rattle.std.proofs.lemmas.List.Elements.{All-nil, All-push}
 use Rattle.pkops.specs.Inst.{instruction_of}
@@ -25,25 +27,36 @@ walk_begins bytes limit = record {
 
 -- what one call does, by whether the walk is done
 abbrev WalksFrom : Bool → Walk → Option (Result (ℕ × Inst) Refusal) → Walk → Type 0
-WalksFrom done old item new = MatchBool done ((item ≡ None) × (new ≡ old)) (MatchOption item ⊥ (λ x. Yields old x new))
+WalksFrom done old item new = MatchBool done ((item ≡ None) × (new ≡ old))
+    (MatchOption item ⊥ (λ x. Yields old x new))
 
-some_not_none : (x : Result (ℕ × Inst) Refusal) → let a : Option (Result (ℕ × Inst) Refusal) = Some x in a ≡ None → ⊥
+some_not_none : (x : Result (ℕ × Inst) Refusal) → let a : Option (Result (ℕ × Inst) Refusal) =
+    Some x in a ≡ None → ⊥
 some_not_none x e = cc
 
-item_given : (p : List Instruction) (d : Bool) (w v : Walk) (item : Option (Result (ℕ × Inst) Refusal)) (at : ℕ) (i : Inst) → MatchBool d (StopIsLast p) (NoStop p) → WalksFrom d w item v → item ≡ Some (Ok (at, i)) → NoStop p × GivesItem w at (instruction_of i) v
+item_given : (p : List Instruction) (d : Bool) (w v : Walk)
+    (item : Option (Result (ℕ × Inst) Refusal)) (at : ℕ) (i : Inst)
+    → MatchBool d (StopIsLast p) (NoStop p) → WalksFrom d w item v → item ≡ Some (Ok (at, i))
+    → NoStop p × GivesItem w at (instruction_of i) v
 item_given p true w v item at i so h e = absurd (some_not_none (Ok (at, i)) (sym e ∙ h.0))
 item_given p false w v item at i so h e = (so, rw e at h)
 
-refusal_given : (p : List Instruction) (d : Bool) (w v : Walk) (item : Option (Result (ℕ × Inst) Refusal)) (r : Refusal) → MatchBool d (StopIsLast p) (NoStop p) → WalksFrom d w item v → item ≡ Some (Err r) → NoStop p × RefusesItem w r v
+refusal_given : (p : List Instruction) (d : Bool) (w v : Walk)
+    (item : Option (Result (ℕ × Inst) Refusal)) (r : Refusal)
+    → MatchBool d (StopIsLast p) (NoStop p) → WalksFrom d w item v → item ≡ Some (Err r)
+    → NoStop p × RefusesItem w r v
 refusal_given p true w v item r so h e = absurd (some_not_none (Err r) (sym e ∙ h.0))
 refusal_given p false w v item r so h e = (so, rw e at h)
 
-none_given : (p : List Instruction) (d : Bool) (w v : Walk) (item : Option (Result (ℕ × Inst) Refusal)) → MatchBool d (StopIsLast p) (NoStop p) → WalksFrom d w item v → item ≡ None → StopIsLast p × (v ≡ w)
+none_given : (p : List Instruction) (d : Bool) (w v : Walk)
+    (item : Option (Result (ℕ × Inst) Refusal)) → MatchBool d (StopIsLast p) (NoStop p)
+    → WalksFrom d w item v → item ≡ None → StopIsLast p × (v ≡ w)
 none_given p true w v item so h e = (so, h.1)
 none_given p false w v item so h e = let h' = rw e at h in absurd h'
 
 -- STOP ends the instructions, and no other does
-so_far_by : (p : List Instruction) (i : Instruction) (o : Op) → NoStop p → i.op ≡ o → MatchBool (is_stop o) (StopIsLast (p ++ i ∷ [])) (NoStop (p ++ i ∷ []))
+so_far_by : (p : List Instruction) (i : Instruction) (o : Op) → NoStop p → i.op ≡ o
+    → MatchBool (is_stop o) (StopIsLast (p ++ i ∷ [])) (NoStop (p ++ i ∷ []))
 so_far_by p i op.Stop a e = (p, i, refl, e, a)
 so_far_by p i _ a e = All-push (λ j. j.op ≢ op.Stop) p i a (λ f. cc)
 
@@ -57,9 +70,15 @@ item_is_walked bytes limit p w v item at i h k e =
       record {
         same_limit = g.limit ∙ h.same_limit;
         each = All-push (IsAllowed limit) p j h.each allowed;
-        so_far = subst (λ (d : Bool). MatchBool d (StopIsLast (p ++ j ∷ [])) (NoStop (p ++ j ∷ []))) (sym g.done) (so_far_by p j j.op o.0 refl);
-        parts = h.parts ∙ (ap (λ (b : List ℕ). spellings p ++ b) g.bytes ∙ (sym (append_assoc (spellings p) (spelling j) v.bytes) ∙ ap (λ (b : List ℕ). b ++ v.bytes) (sym (spellings-more p j))));
-        offset = omega (arith, g.offset, h.offset, ap length (spellings-more p j), length-append (spellings p) (spelling j));
+        so_far = subst (λ (d : Bool). MatchBool d (StopIsLast (p ++ j ∷ [])) (NoStop (p ++ j ∷ [])))
+            (sym g.done) (so_far_by p j j.op o.0 refl);
+        parts = h.parts
+            ∙ (ap (λ (b : List ℕ). spellings p ++ b) g.bytes
+            ∙ (sym (append_assoc (spellings p) (spelling j) v.bytes)
+            ∙ ap (λ (b : List ℕ). b ++ v.bytes) (sym (spellings-more p j))));
+        offset = omega
+            (arith, g.offset, h.offset, ap length (spellings-more p j),
+            length-append (spellings p) (spelling j));
       },
       g,
     )

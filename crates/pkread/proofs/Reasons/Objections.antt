@@ -22,18 +22,22 @@ unadmitted op.Proto (Number width protocol) = tt
 unadmitted op.Proto _ = tt
 unadmitted _ arg = tt
 
-unless : (good : Bool) (x r : Reason) → IsObjection x → (if good then None else Some x) ≡ Some r → IsObjection r
+unless : (good : Bool) (x r : Reason) → IsObjection x → (if good then None else Some x) ≡ Some r
+    → IsObjection r
 unless true x r k e = cc
 unless false x r k e = let f : x ≡ r = cc in rw (← f) k
 
-amiss : (limit : ℕ) (b : List ℕ) (i : Instruction) (n : ℕ) (r : Reason) → IsObjection r → IsWhole limit b i n → objection i ≡ Some r → IsAmiss limit b r
+amiss : (limit : ℕ) (b : List ℕ) (i : Instruction) (n : ℕ) (r : Reason) → IsObjection r
+    → IsWhole limit b i n → objection i ≡ Some r → IsAmiss limit b r
 amiss limit b i n ExtensionCode k w e = (i, n, w, e)
 amiss limit b i n (UnsupportedProtocol p) k w e = (i, n, w, e)
 amiss limit b i n _ k w e = absurd k
 
 -- an instruction that is whole and not admitted is amiss
-pub objection_is_amiss : (limit : ℕ) (b : List ℕ) (i : Instruction) (n : ℕ) (r : Reason) → IsWhole limit b i n → objection i ≡ Some r → IsAmiss limit b r
-objection_is_amiss limit b i n r w e = amiss limit b i n r (unless (is_admitted i) (unadmitted_by i.op i.arg) r (unadmitted i.op i.arg) e) w e
+pub objection_is_amiss : (limit : ℕ) (b : List ℕ) (i : Instruction) (n : ℕ) (r : Reason)
+    → IsWhole limit b i n → objection i ≡ Some r → IsAmiss limit b r
+objection_is_amiss limit b i n r w e = amiss limit b i n r
+    (unless (is_admitted i) (unadmitted_by i.op i.arg) r (unadmitted i.op i.arg) e) w e
 
 admitted_by : (good : Bool) (x : Reason) → (if good then None else Some x) ≡ None → IsTrue good
 admitted_by true x e = refl

@@ -1,5 +1,6 @@
 -- At most one reason of reading has its row.
-use Rattle.std.proofs.Common.{◌≡◌, ◌≢◌, ℕ, ◌+◌, ◌%◌, ◌^◌, ◌<◌, List, Some, None, refl, sym, ◌∙◌, arith, inl, inr}
+use Rattle.std.proofs.Common.{◌≡◌, ◌≢◌, ℕ, ◌+◌, ◌%◌, ◌^◌, ◌<◌, List, Some, None, refl, sym, ◌∙◌}
+use Rattle.std.proofs.Common.{arith, inl, inr}
 use Rattle.pkops.specs.Answer.{Answer, Answers, Bad, More, Whole}
 use Rattle.pkops.specs.declared.Fault.TheVariants as fault
 use Rattle.pkread.specs.Admission.{objection}
@@ -7,11 +8,14 @@ use Rattle.pkread.specs.Private.Judging.{fault_reason}
 use Rattle.pkread.specs.Genops.{EndsOrIsAmiss}
 use Rattle.pkread.specs.Rows.{IsAmiss, ShowsReason, Sight, all_bytes}
 use Rattle.pkread.specs.declared.refusal.Reason.{Reason}
-use Rattle.pkread.specs.declared.refusal.Reason.TheVariants.{Source, Truncated, UnknownOpcode, BadArgument, TooLarge, ExtensionCode, UnsupportedProtocol, OutOfMemory}
+use Rattle.pkread.specs.declared.refusal.Reason.TheVariants.{Source, Truncated, UnknownOpcode}
+use Rattle.pkread.specs.declared.refusal.Reason.TheVariants.{BadArgument, TooLarge, ExtensionCode}
+use Rattle.pkread.specs.declared.refusal.Reason.TheVariants.{UnsupportedProtocol, OutOfMemory}
 
 -- what `pkops` promises of the answers of a scan
 abbrev pub OneAnswer : Type 0
-OneAnswer = (limit : ℕ) (bytes : List ℕ) (r s : Answer) → Answers limit bytes r → Answers limit bytes s → r ≡ s
+OneAnswer = (limit : ℕ) (bytes : List ℕ) (r s : Answer) → Answers limit bytes r
+    → Answers limit bytes s → r ≡ s
 
 -- what is known of the source where the bytes only begin an instruction
 abbrev Waits : Sight → Sight → ℕ → Reason → Type 0
@@ -45,12 +49,14 @@ waits_alone o n t TooLarge TooLarge p q = refl
 waits_alone o n t TooLarge _ p q = absurd q
 waits_alone o n t _ s p q = absurd p
 
-comes_alone : (o n : Sight) (t : ℕ) (a : Answer) (r s : Reason) → ComesWith o n t a r → ComesWith o n t a s → s ≡ r
+comes_alone : (o n : Sight) (t : ℕ) (a : Answer) (r s : Reason) → ComesWith o n t a r
+    → ComesWith o n t a s → s ≡ r
 comes_alone o n t (Whole i k) r s p q = cc
 comes_alone o n t More r s p q = waits_alone o n t r s p q
 comes_alone o n t (Bad f) r s p q = q ∙ sym p
 
-row_comes : (limit : ℕ) (o n : Sight) (b : List ℕ) (t : ℕ) (r : Reason) → r ≢ OutOfMemory → ShowsReason limit o n b t r → (a : Answer) × Answers limit b a × ComesWith o n t a r
+row_comes : (limit : ℕ) (o n : Sight) (b : List ℕ) (t : ℕ) (r : Reason) → r ≢ OutOfMemory
+    → ShowsReason limit o n b t r → (a : Answer) × Answers limit b a × ComesWith o n t a r
 row_comes limit o n b t Source ne w = (More, w.1, w.0.count)
 row_comes limit o n b t Truncated ne w = (More, w.3, (w.0.count, w.2))
 row_comes limit o n b t (UnknownOpcode c) ne w = (Bad (fault.UnknownOpcode c), w.1, refl)
@@ -64,11 +70,14 @@ row_comes limit o n b t (UnsupportedProtocol p) ne w = (Whole w.1.0 w.1.1, w.1.2
 row_comes limit o n b t OutOfMemory ne w = absurd (ne refl)
 row_comes limit o n b t _ ne w = absurd w.1
 
-along : (limit : ℕ) (o n : Sight) (b : List ℕ) (t : ℕ) (r s : Reason) (a c : Answer) → a ≡ c → ComesWith o n t a r → ComesWith o n t c s → s ≡ r
+along : (limit : ℕ) (o n : Sight) (b : List ℕ) (t : ℕ) (r s : Reason) (a c : Answer) → a ≡ c
+    → ComesWith o n t a r → ComesWith o n t c s → s ≡ r
 along limit o n b t r s a c e p q = comes_alone o n t c r s (rw e at p) q
 
 -- two reasons with their rows are one, want of memory aside
-pub one_row : OneAnswer → (limit : ℕ) (o n : Sight) (b : List ℕ) (t : ℕ) (r : Reason) → ShowsReason limit o n b t r → r ≢ OutOfMemory → (s : Reason) → s ≢ OutOfMemory → ShowsReason limit o n b t s → s ≡ r
+pub one_row : OneAnswer → (limit : ℕ) (o n : Sight) (b : List ℕ) (t : ℕ) (r : Reason)
+    → ShowsReason limit o n b t r → r ≢ OutOfMemory → (s : Reason) → s ≢ OutOfMemory
+    → ShowsReason limit o n b t s → s ≡ r
 one_row one limit o n b t r p ne s nf q =
     let x = row_comes limit o n b t r ne p in
     let y = row_comes limit o n b t s nf q in
@@ -78,8 +87,10 @@ one_row one limit o n b t r p ne s nf q =
 abbrev blind : Sight
 blind = record { left = None; failures = 0 }
 
-refused_row : (limit : ℕ) (b : List ℕ) (r : Reason) → EndsOrIsAmiss limit b r → ShowsReason limit blind blind b 0 r × (r ≢ OutOfMemory)
-refused_row limit b Truncated w = ((record { bytes = tt; count = refl }, tt, omega arith, w), λ e. cc)
+refused_row : (limit : ℕ) (b : List ℕ) (r : Reason) → EndsOrIsAmiss limit b r
+    → ShowsReason limit blind blind b 0 r × (r ≢ OutOfMemory)
+refused_row limit b Truncated w =
+    ((record { bytes = tt; count = refl }, tt, omega arith, w), λ e. cc)
 refused_row limit b (UnknownOpcode c) w = ((record { bytes = tt; count = refl }, w), λ e. cc)
 refused_row limit b BadArgument w = ((record { bytes = tt; count = refl }, w), λ e. cc)
 refused_row limit b TooLarge w = ((record { bytes = tt; count = refl }, inl w), λ e. cc)
@@ -88,7 +99,8 @@ refused_row limit b (UnsupportedProtocol p) w = ((record { bytes = tt; count = r
 refused_row limit b _ w = absurd w
 
 -- the same of the bytes of a slice
-pub one_refused : OneAnswer → (limit : ℕ) (b : List ℕ) (r : Reason) → EndsOrIsAmiss limit b r → (s : Reason) → EndsOrIsAmiss limit b s → s ≡ r
+pub one_refused : OneAnswer → (limit : ℕ) (b : List ℕ) (r : Reason) → EndsOrIsAmiss limit b r
+    → (s : Reason) → EndsOrIsAmiss limit b s → s ≡ r
 one_refused one limit b r p s q =
     let x = refused_row limit b r p in
     let y = refused_row limit b s q in
@@ -96,10 +108,12 @@ one_refused one limit b r p s q =
 
 -- a reason that is refused, and no other is
 abbrev pub RefusedAlone : ℕ → List ℕ → Reason → Type 0
-RefusedAlone limit bytes reason = EndsOrIsAmiss limit bytes reason × ((other : Reason) → EndsOrIsAmiss limit bytes other → other ≡ reason)
+RefusedAlone limit bytes reason = EndsOrIsAmiss limit bytes reason
+    × ((other : Reason) → EndsOrIsAmiss limit bytes other → other ≡ reason)
 
 -- what is refused for one reason is refused for no other
-pub alone : OneAnswer → (limit : ℕ) (b : List ℕ) (r : Reason) → EndsOrIsAmiss limit b r → RefusedAlone limit b r
+pub alone : OneAnswer → (limit : ℕ) (b : List ℕ) (r : Reason) → EndsOrIsAmiss limit b r
+    → RefusedAlone limit b r
 alone one limit b r p = (p, one_refused one limit b r p)
 
 amiss_refused : (limit : ℕ) (b : List ℕ) (r : Reason) → IsAmiss limit b r → EndsOrIsAmiss limit b r
@@ -107,5 +121,6 @@ amiss_refused limit b Truncated p = absurd p
 amiss_refused limit b _ p = p
 
 -- the same of what is amiss
-pub amiss_alone : OneAnswer → (limit : ℕ) (b : List ℕ) (r : Reason) → IsAmiss limit b r → RefusedAlone limit b r
+pub amiss_alone : OneAnswer → (limit : ℕ) (b : List ℕ) (r : Reason) → IsAmiss limit b r
+    → RefusedAlone limit b r
 amiss_alone one limit b r p = alone one limit b r (amiss_refused limit b r p)

@@ -1,4 +1,5 @@
-use Rattle.pkread.proofs.Loops.Run.{end_of_heads, head_is_read, passed_is_read, peeked_is_read, reading_begins, refusal_of_heads}
+use Rattle.pkread.proofs.Loops.Run.{end_of_heads, head_is_read, passed_is_read, peeked_is_read}
+use Rattle.pkread.proofs.Loops.Run.{reading_begins, refusal_of_heads}
 use Rattle.pkread.proofs.laws.heads.Goals as goal
 
 pub returns-clause-begins : goal.returns-clause-begins

@@ -1,4 +1,5 @@
-use Rattle.pkread.proofs.Loops.Run.{end_is_read, next_is_read, peeked_is_read, reading_begins, refusal_is_read}
+use Rattle.pkread.proofs.Loops.Run.{end_is_read, next_is_read, peeked_is_read, reading_begins}
+use Rattle.pkread.proofs.Loops.Run.{refusal_is_read}
 use Rattle.pkread.proofs.laws.nexts.Goals as goal
 
 pub returns-clause-begins : goal.returns-clause-begins

@@ -11,4 +11,5 @@ pub returns-clause-refused : goal.returns-clause-refused
 returns-clause-refused c = no_byte_is_refused c.growth.ensures.begun c.one_answer.ensures
 
 pub returns-clause-taking : goal.returns-clause-taking
-returns-clause-taking c = record { none = takes_none; more = λ old between new first second p q. Takes-more p q }
+returns-clause-taking c =
+    record { none = takes_none; more = λ old between new first second p q. Takes-more p q }

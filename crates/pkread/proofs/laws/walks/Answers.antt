@@ -1,4 +1,5 @@
-use Rattle.pkread.proofs.Loops.Walked.{end_is_walked, item_is_walked, refusal_is_walked, walk_begins}
+use Rattle.pkread.proofs.Loops.Walked.{end_is_walked, item_is_walked, refusal_is_walked}
+use Rattle.pkread.proofs.Loops.Walked.{walk_begins}
 use Rattle.pkread.proofs.laws.walks.Goals as goal
 
 pub returns-clause-begins : goal.returns-clause-begins

@@ -4,7 +4,8 @@ use Rattle.pkread.specs.Core.{Open}
 use Rattle.pkread.specs.Private.Gathering.{Gathers}
 use Rattle.pkread.specs.Reading.{state}
 use Rattle.pkread.specs.Rows.{Refuses}
-use Rattle.pkread.proofs.Calls.Next.{come, gives_whole, is_allowed, refuses_at, seen_so, shows_open, steps_open}
+use Rattle.pkread.proofs.Calls.Next.{come, gives_whole, is_allowed, refuses_at, seen_so, shows_open}
+use Rattle.pkread.proofs.Calls.Next.{steps_open}
 use Rattle.pkread.proofs.Bytes.Judged.{found_gathered}
 use Rattle.pkread.proofs.reader.Reader+R.next.Goals as goal
 

@@ -5,7 +5,8 @@ use Rattle.pkread.specs.Held.{most_held}
 use Rattle.pkread.specs.Private.Skipping.{HeldWhole, RefusedHead, SkippedOne}
 use Rattle.pkread.specs.Reading.{state}
 use Rattle.pkread.proofs.Calls.Next.{come, is_allowed, seen_so}
-use Rattle.pkread.proofs.Calls.NextHead.{gives_held, gives_skipped, refuses_head, shows_head_open, steps_head_open}
+use Rattle.pkread.proofs.Calls.NextHead.{gives_held, gives_skipped, refuses_head, shows_head_open}
+use Rattle.pkread.proofs.Calls.NextHead.{steps_head_open}
 use Rattle.pkread.proofs.Bytes.Judged.{found_gathered}
 use Rattle.pkread.proofs.reader.Reader+R.next_head.Goals as goal
 
