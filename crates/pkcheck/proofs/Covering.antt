@@ -6,6 +6,8 @@ pub mod Following
 pub mod Refusing
 pub mod Answering
 pub mod Soundness
+pub mod StepImports
 pub mod Showing
 pub mod Standing
+pub mod FirstFault
 pub mod Examples

@@ -1,5 +1,6 @@
 -- What a ledger holds, and the imports that names refer to.
-use Rattle.std.proofs.Common.{◌≡◌, ℕ, zero, suc, ◌<◌, ◌≤◌, List, [], ◌∷◌, ◌++◌, Option, None, Some, length, map, take, get_or, refl, ap, arith, length-append}
+use Rattle.std.proofs.Common.{◌≡◌, ℕ, zero, suc, ◌<◌, ◌≤◌, List, [], ◌∷◌, ◌++◌, Option, None, Some}
+use Rattle.std.proofs.Common.{length, map, take, get_or, refl, ap, arith, length-append}
 use Rattle.std.proofs.Math.ListN.{get_or-append}
 use Rattle.std.proofs.Math.Seq.{take-append_seam, take-length}
 use Rattle.pkcheck.specs.declared.machine.ledger.Entry.{Entry}
@@ -21,47 +22,59 @@ module _ (ts us : List (List ℕ)) (g : HasMoreTexts ts us) where
 -- ---- a table of texts that grew
 
 module _ (ts us ws vs : List (List ℕ)) (g : HasMoreTexts ts us) (h : HasMoreTexts ws vs) where
-  entry_grown : (e : Entry) → IsEntry (length ts) (length ws) e → entry_asked us vs e ≡ entry_asked ts ws e
+  entry_grown : (e : Entry) → IsEntry (length ts) (length ws) e
+      → entry_asked us vs e ≡ entry_asked ts ws e
   entry_grown entry.Unknown k = refl
-  entry_grown (entry.Made m n) k = λ i. AskedPair (text_grown ts us g m k.0 i) (text_grown ts us g n k.1 i)
-  entry_grown (entry.Written m n) k = λ i. AskedPair (text_grown ws vs h m k.0 i) (text_grown ws vs h n k.1 i)
+  entry_grown (entry.Made m n) k = λ i. AskedPair (text_grown ts us g m k.0 i)
+      (text_grown ts us g n k.1 i)
+  entry_grown (entry.Written m n) k = λ i. AskedPair (text_grown ws vs h m k.0 i)
+      (text_grown ws vs h n k.1 i)
 
   is_grown : (e : Entry) → IsEntry (length ts) (length ws) e → IsEntry (length us) (length vs) e
   is_grown entry.Unknown k = tt
-  is_grown (entry.Made m n) k = let l = longer ts us g in (omega (arith, l, k.0), omega (arith, l, k.1))
-  is_grown (entry.Written m n) k = let l = longer ws vs h in (omega (arith, l, k.0), omega (arith, l, k.1))
+  is_grown (entry.Made m n) k = let l = longer ts us g in
+      (omega (arith, l, k.0), omega (arith, l, k.1))
+  is_grown (entry.Written m n) k = let l = longer ws vs h in
+      (omega (arith, l, k.0), omega (arith, l, k.1))
 
-  pub asked_grown : (es : List Entry) → AreEntries (length ts) (length ws) es → map (entry_asked us vs) es ≡ map (entry_asked ts ws) es
+  pub asked_grown : (es : List Entry) → AreEntries (length ts) (length ws) es
+      → map (entry_asked us vs) es ≡ map (entry_asked ts ws) es
   asked_grown [] k = refl
   asked_grown (e ∷ es) k = λ i. entry_grown e k.0 i ∷ asked_grown es k.1 i
 
-  pub are_grown : (es : List Entry) → AreEntries (length ts) (length ws) es → AreEntries (length us) (length vs) es
+  pub are_grown : (es : List Entry) → AreEntries (length ts) (length ws) es
+      → AreEntries (length us) (length vs) es
   are_grown [] k = tt
   are_grown (e ∷ es) k = (is_grown e k.0, are_grown es k.1)
 
 -- ---- one import more or fewer
 
 -- the earlier imports come before the new one
-pub listed_before : (a : Option Asked) (listed : List Asked) → take (length listed) (asks_more a listed) ≡ listed
+pub listed_before : (a : Option Asked) (listed : List Asked)
+    → take (length listed) (asks_more a listed) ≡ listed
 listed_before None listed = take-length listed
 listed_before (Some a) listed = take-append_seam listed (a ∷ [])
 
-pub are_more : (made written : ℕ) (es : List Entry) (e : Entry) → AreEntries made written es → IsEntry made written e → AreEntries made written (es ++ e ∷ [])
+pub are_more : (made written : ℕ) (es : List Entry) (e : Entry) → AreEntries made written es
+    → IsEntry made written e → AreEntries made written (es ++ e ∷ [])
 are_more made written [] e h k = (k, tt)
 are_more made written (d ∷ es) e h k = (h.0, are_more made written es e h.1 k)
 
-pub are_kept : (made written count : ℕ) (es : List Entry) → AreEntries made written es → AreEntries made written (take count es)
+pub are_kept : (made written count : ℕ) (es : List Entry) → AreEntries made written es
+    → AreEntries made written (take count es)
 are_kept made written zero es h = tt
 are_kept made written (suc n) [] h = tt
 are_kept made written (suc n) (e ∷ es) h = (h.0, are_kept made written n es h.1)
 
-pub map_more : {A B : Type 0} (f : A → B) (xs : List A) (x : A) → map f (xs ++ x ∷ []) ≡ map f xs ++ f x ∷ []
+pub map_more : {A B : Type 0} (f : A → B) (xs : List A) (x : A)
+    → map f (xs ++ x ∷ []) ≡ map f xs ++ f x ∷ []
 map_more f [] x = refl
 map_more f (y ∷ xs) x = ap (λ l. f y ∷ l) (map_more f xs x)
 
 -- ---- operands
 
-pub are_numbered : (ts : List (List ℕ)) (vs : List Value) (ks : List Known) → Pointwise (StandsAs ts) vs ks → AreNumbered (length ts) vs
+pub are_numbered : (ts : List (List ℕ)) (vs : List Value) (ks : List Known)
+    → Pointwise (StandsAs ts) vs ks → AreNumbered (length ts) vs
 are_numbered ts [] ks h = tt
 are_numbered ts (v ∷ vs) (k ∷ ks) h = (h.0.numbered, are_numbered ts vs ks h.1)
 are_numbered ts (v ∷ vs) [] h = absurd h

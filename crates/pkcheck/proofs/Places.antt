@@ -1,5 +1,7 @@
 -- Places on the stack and its marks, in terms of the entries of the store.
-use Rattle.std.proofs.Common.{◌≡◌, ℕ, zero, suc, ◌+◌, ◌-◌, ◌<◌, ◌≤◌, List, [], ◌∷◌, ◌++◌, length, take, drop, Ok, refl, sym, subst, ap, ◌∙◌, arith, add-one, append-nil, length-drop}
+use Rattle.std.proofs.Common.{◌≡◌, ℕ, zero, suc, ◌+◌, ◌-◌, ◌<◌, ◌≤◌, List, [], ◌∷◌, ◌++◌, length}
+use Rattle.std.proofs.Common.{take, drop, Ok, refl, sym, subst, ap, ◌∙◌, arith, add-one, append-nil}
+use Rattle.std.proofs.Common.{length-drop}
 use Rattle.std.proofs.lemmas.List.{append_assoc, take-append-drop}
 use Rattle.std.proofs.Math.Seq.{drop-append_seam, take-append_seam}
 use Rattle.pkcheck.specs.declared.machine.stack.slots.Slot.{Slot}
@@ -17,11 +19,13 @@ use Rattle.pkcheck.proofs.Limited.{length_shown}
 
 shown_over : (xs : List Slot) (es : List (Entry Value)) → shown xs es ≡ shown xs [] ++ es
 shown_over [] es = refl
-shown_over (x ∷ xs) es = rw (shown_over xs (entry_of x ∷ es), shown_over xs (entry_of x ∷ []), append_assoc) refl
+shown_over (x ∷ xs) es =
+    rw (shown_over xs (entry_of x ∷ es), shown_over xs (entry_of x ∷ []), append_assoc) refl
 
 -- the entries from a place on, and those below it
 divided : (n : ℕ) (xs : List Slot) → shown xs [] ≡ shown (drop n xs) [] ++ shown (take n xs) []
-divided n xs = ap (λ l. shown l []) (sym (take-append-drop n xs)) ∙ shown_append (take n xs) (drop n xs) [] ∙ shown_over (drop n xs) (shown (take n xs) [])
+divided n xs = ap (λ l. shown l []) (sym (take-append-drop n xs))
+    ∙ shown_append (take n xs) (drop n xs) [] ∙ shown_over (drop n xs) (shown (take n xs) [])
 
 how_many : (n : ℕ) (xs : List Slot) → length (shown xs []) - n ≡ length (shown (drop n xs) [])
 how_many n xs = rw (length_shown xs, length_shown (drop n xs), length-drop n xs) refl
@@ -32,7 +36,8 @@ below_shown n xs =
     ∙ ap (drop (length (shown (drop n xs) []))) (divided n xs)
     ∙ drop-append_seam (shown (drop n xs) []) (shown (take n xs) [])
 
-from_bottom_shown : (xs : List Slot) (es : List (Entry Value)) (ks : List Value) → from_bottom (shown xs es) ks ≡ from_bottom es (values_of xs ++ ks)
+from_bottom_shown : (xs : List Slot) (es : List (Entry Value)) (ks : List Value)
+    → from_bottom (shown xs es) ks ≡ from_bottom es (values_of xs ++ ks)
 from_bottom_shown [] es ks = refl
 from_bottom_shown (slot.Mark ∷ xs) es ks = from_bottom_shown xs (Mark ∷ es) ks
 from_bottom_shown (slot.Object v ∷ xs) es ks = from_bottom_shown xs (Item v ∷ es) ks
@@ -46,17 +51,20 @@ above_shown n xs =
     ∙ append-nil (values_of (drop n xs))
 
 -- the first object from a place on
-left_first : (ss : List Slot) (below : List (Entry Value)) → FirstObject ss → shown (take 1 ss) below ≡ front (values_of ss) ++ below
+left_first : (ss : List Slot) (below : List (Entry Value)) → FirstObject ss
+    → shown (take 1 ss) below ≡ front (values_of ss) ++ below
 left_first (slot.Object v ∷ ss) below h = refl
 left_first (slot.Mark ∷ ss) below h = absurd h
 left_first [] below h = absurd h
 
-left_is : (xs : List Slot) (n : ℕ) (below : List (Entry Value)) → FirstObject (drop n xs) → shown (take (suc n) xs) below ≡ front (values_of (drop n xs)) ++ shown (take n xs) below
+left_is : (xs : List Slot) (n : ℕ) (below : List (Entry Value)) → FirstObject (drop n xs)
+    → shown (take (suc n) xs) below ≡ front (values_of (drop n xs)) ++ shown (take n xs) below
 left_is xs zero below h = left_first xs below h
 left_is (x ∷ xs) (suc n) below h = left_is xs n (entry_of x ∷ below) h
 left_is [] (suc n) below h = absurd h
 
-has_object : (takes : Takes) (xs : List Slot) → HasFirst takes → StartsWell takes xs → FirstObject xs
+has_object : (takes : Takes) (xs : List Slot) → HasFirst takes → StartsWell takes xs
+    → FirstObject xs
 has_object (Objects k) [] h w = let e = w.0 in absurd (omega (arith, h, e))
 has_object (Objects k) (slot.Object v ∷ xs) h w = tt
 has_object (Objects k) (slot.Mark ∷ xs) h w = absurd w.1
@@ -69,17 +77,23 @@ object_there (x ∷ xs) (suc n) h = let g = object_there xs n h in omega (arith,
 object_there [] zero h = absurd h
 object_there [] (suc n) h = absurd h
 
-pub first_there : (takes : Takes) (n : ℕ) (xs : List Slot) → HasFirst takes → StartsWell takes (drop n xs) → n < length (shown xs [])
+pub first_there : (takes : Takes) (n : ℕ) (xs : List Slot) → HasFirst takes
+    → StartsWell takes (drop n xs) → n < length (shown xs [])
 first_there takes n xs h w =
     let there = object_there xs n (has_object takes (drop n xs) h w) in
     omega (arith, there, length_shown xs)
 
-pub first_left : (takes : Takes) (n : ℕ) (xs : List Slot) → HasFirst takes → StartsWell takes (drop n xs) → below (n + 1) (shown xs []) ≡ front (above n (shown xs [])) ++ below n (shown xs [])
-first_left takes n xs h w = rw (below_shown (n + 1) xs, above_shown n xs, below_shown n xs, add-one) (left_is xs n [] (has_object takes (drop n xs) h w))
+pub first_left : (takes : Takes) (n : ℕ) (xs : List Slot) → HasFirst takes
+    → StartsWell takes (drop n xs) → below (n + 1) (shown xs []) ≡ front (above n (shown xs []))
+    ++ below n (shown xs [])
+first_left takes n xs h w = rw (below_shown (n + 1) xs, above_shown n xs, below_shown n xs, add-one)
+    (left_is xs n [] (has_object takes (drop n xs) h w))
 
 -- the topmost entry and the rest
-pub one_more : {A : Type 0} (es : List (Entry A)) → 0 < length es → (e : Entry A) × (es ≡ e ∷ below (length es - 1) es)
-one_more (e ∷ es) h = (e, let k : length (e ∷ es) - (length (e ∷ es) - 1) ≡ 1 = omega arith in rw k refl)
+pub one_more : {A : Type 0} (es : List (Entry A)) → 0 < length es
+    → (e : Entry A) × (es ≡ e ∷ below (length es - 1) es)
+one_more (e ∷ es) h =
+    (e, let k : length (e ∷ es) - (length (e ∷ es) - 1) ≡ 1 = omega arith in rw k refl)
 one_more [] h = absurd (omega arith)
 
 -- ---- the parts of the stack, in terms of the entries of the store
@@ -87,21 +101,31 @@ one_more [] h = absurd (omega arith)
 pub how_long : (xs : List Slot) (es : List (Entry Value)) → shown xs [] ≡ es → length es ≡ length xs
 how_long xs es is = sym (ap length is) ∙ length_shown xs
 
-pub place_within : (n : ℕ) (xs : List Slot) (es : List (Entry Value)) → shown xs [] ≡ es → n ≤ length es → n ≤ length xs
+pub place_within : (n : ℕ) (xs : List Slot) (es : List (Entry Value)) → shown xs [] ≡ es
+    → n ≤ length es → n ≤ length xs
 place_within n xs es is h = let k = how_long xs es is in omega (arith, h, k)
 
-pub found_at : (takes : Takes) (n : ℕ) (xs : List Slot) (es : List (Entry Value)) → shown xs [] ≡ es → operands takes (shown xs []) ≡ Ok (record { operands = values_of (drop n xs); below = shown (take n xs) [] }) → operands takes es ≡ Ok (record { operands = above n es; below = below n es })
-found_at takes n xs es is h = subst (λ fs. operands takes fs ≡ Ok (record { operands = above n fs; below = below n fs })) is (h ∙ (λ i. Ok (record { operands = sym (above_shown n xs) i; below = sym (below_shown n xs) i })))
+pub found_at : (takes : Takes) (n : ℕ) (xs : List Slot) (es : List (Entry Value)) → shown xs [] ≡ es
+    → operands takes (shown xs [])
+    ≡ Ok (record { operands = values_of (drop n xs); below = shown (take n xs) [] })
+    → operands takes es ≡ Ok (record { operands = above n es; below = below n es })
+found_at takes n xs es is h = subst
+    (λ fs. operands takes fs ≡ Ok (record { operands = above n fs; below = below n fs })) is
+    (h
+    ∙ (λ i. Ok (record { operands = sym (above_shown n xs) i; below = sym (below_shown n xs) i })))
 
-pub length_below : {A : Type 0} (n : ℕ) (es : List (Entry A)) → n ≤ length es → length (below n es) ≡ n
+pub length_below : {A : Type 0} (n : ℕ) (es : List (Entry A)) → n ≤ length es
+    → length (below n es) ≡ n
 length_below n es h = let k = length-drop (length es - n) es in omega (arith, h, k)
 
 pub below_all : {A : Type 0} (n : ℕ) (es : List (Entry A)) → length es ≤ n → below n es ≡ es
 below_all n es h = let k : length es - n ≡ 0 = omega (arith, h) in rw k refl
 
-pub below_marks : (n : ℕ) (xs : List Slot) → length (bars 0 (take n xs)) ≡ marks_of (below n (shown xs []))
+pub below_marks : (n : ℕ) (xs : List Slot) → length (bars 0 (take n xs))
+    ≡ marks_of (below n (shown xs []))
 below_marks n xs = rw (below_shown n xs) (marks_shown (take n xs))
 
-pub front_marks : {A : Type 0} (vs : List A) (es : List (Entry A)) → marks_of (front vs ++ es) ≡ marks_of es
+pub front_marks : {A : Type 0} (vs : List A) (es : List (Entry A))
+    → marks_of (front vs ++ es) ≡ marks_of es
 front_marks [] es = refl
 front_marks (v ∷ vs) es = refl

@@ -1,6 +1,8 @@
 -- Replaces entries of the stack by one entry.
 use Rattle.std.specs.List.{slice_get}
-use Rattle.std.proofs.Common.{◌≡◌, ℕ, zero, suc, Some, ◌+◌, ◌%◌, ◌<◌, not, eqb, List, [], ◌∷◌, ◌++◌, length, take, get_or, refl, sym, ap, ◌∙◌, arith, add-one, append-nil, length-append}
+use Rattle.std.proofs.Common.{◌≡◌, ℕ, zero, suc, Some, ◌+◌, ◌%◌, ◌<◌, not, eqb, List, [], ◌∷◌, ◌++◌}
+use Rattle.std.proofs.Common.{length, take, get_or, refl, sym, ap, ◌∙◌, arith, add-one, append-nil}
+use Rattle.std.proofs.Common.{length-append}
 use Rattle.std.proofs.Math.Seq.{take-suc}
 use Rattle.std.proofs.lemmas.Bool.Decides.{nat_tests}
 use Rattle.pkcheck.specs.declared.machine.value.Value.{Value}
@@ -21,20 +23,29 @@ pub is_even_length : {A : Type 0} (xs : List A) → is_even xs ≡ eqb (length x
 is_even_length [] = refl
 is_even_length (x ∷ xs) = ap not (is_even_length xs) ∙ sym (parity (length xs))
 
-pub count_bar : (xs : List Slot) (n : ℕ) (d : Slot) → n < length xs → get_or xs n d ≡ slot.Mark → length (values_of (take (n + 1) xs)) ≡ length (values_of (take n xs))
-count_bar xs n d h e = rw (add-one, take-suc xs n d, e, values_append (take n xs) (slot.Mark ∷ []), append-nil) refl
+pub count_bar : (xs : List Slot) (n : ℕ) (d : Slot) → n < length xs → get_or xs n d ≡ slot.Mark
+    → length (values_of (take (n + 1) xs)) ≡ length (values_of (take n xs))
+count_bar xs n d h e =
+    rw (add-one, take-suc xs n d, e, values_append (take n xs) (slot.Mark ∷ []), append-nil) refl
 
-pub count_object : (xs : List Slot) (n : ℕ) (d : Slot) (v : Value) → n < length xs → get_or xs n d ≡ slot.Object v → length (values_of (take (n + 1) xs)) ≡ length (values_of (take n xs)) + 1
-count_object xs n d v h e = rw (add-one, take-suc xs n d, e, values_append (take n xs) (slot.Object v ∷ []), length-append (values_of (take n xs)) (v ∷ [])) refl
+pub count_object : (xs : List Slot) (n : ℕ) (d : Slot) (v : Value) → n < length xs
+    → get_or xs n d ≡ slot.Object v → length (values_of (take (n + 1) xs))
+    ≡ length (values_of (take n xs)) + 1
+count_object xs n d v h e =
+    rw (add-one, take-suc xs n d, e, values_append (take n xs) (slot.Object v ∷ []),
+    length-append (values_of (take n xs)) (v ∷ [])) refl
 
 -- the index of an object is the number of objects before it
-pub object_at : (xs : List Slot) (n : ℕ) (d : Slot) (v : Value) → n < length xs → get_or xs n d ≡ slot.Object v → slice_get (values_of xs) (length (values_of (take n xs))) ≡ Some v
+pub object_at : (xs : List Slot) (n : ℕ) (d : Slot) (v : Value) → n < length xs
+    → get_or xs n d ≡ slot.Object v → slice_get (values_of xs) (length (values_of (take n xs)))
+    ≡ Some v
 object_at (x ∷ xs) zero d v h e = rw e refl
 object_at (slot.Mark ∷ xs) (suc n) d v h e = object_at xs n d v (omega (arith, h)) e
 object_at (slot.Object w ∷ xs) (suc n) d v h e = object_at xs n d v (omega (arith, h)) e
 object_at [] n d v h e = absurd (omega (arith, h))
 
-pub both : (ks : List Value) (j k : Value) → length ks ≡ 2 → slice_get ks 0 ≡ Some j → slice_get ks 1 ≡ Some k → ks ≡ j ∷ k ∷ []
+pub both : (ks : List Value) (j k : Value) → length ks ≡ 2 → slice_get ks 0 ≡ Some j
+    → slice_get ks 1 ≡ Some k → ks ≡ j ∷ k ∷ []
 both (x ∷ y ∷ []) j k h e f = cc
 both (x ∷ y ∷ z ∷ ks) j k h e f = absurd (omega (arith, h))
 both (x ∷ []) j k h e f = absurd (omega (arith, h))

@@ -1,5 +1,6 @@
 -- How the view of the stack changes with its entries.
-use Rattle.std.proofs.Common.{◌≡◌, ℕ, suc, ◌<◌, List, [], ◌∷◌, ◌++◌, length, take, drop, get_or, Ok, Err, refl, ◌+◌, arith, length-drop}
+use Rattle.std.proofs.Common.{◌≡◌, ℕ, suc, ◌<◌, List, [], ◌∷◌, ◌++◌, length, take, drop, get_or, Ok}
+use Rattle.std.proofs.Common.{Err, refl, ◌+◌, arith, length-drop}
 use Rattle.std.proofs.Math.Seq.{take-suc, drop-cons}
 use Rattle.pkcheck.specs.declared.machine.value.Value.{Value}
 use Rattle.pkcheck.specs.declared.machine.stack.slots.Slot.{Slot}
@@ -7,32 +8,47 @@ use Rattle.pkcheck.specs.declared.machine.stack.slots.Slot.TheVariants as slot
 use Rattle.pkcheck.specs.Shape.{NoItem, Entry, slice, items}
 use Rattle.pkcheck.specs.Private.Slots.{FirstObject, entry_of, shown, values_of}
 
-pub shown_append : (xs ys : List Slot) (below : List (Entry Value)) → shown (xs ++ ys) below ≡ shown ys (shown xs below)
+pub shown_append : (xs ys : List Slot) (below : List (Entry Value))
+    → shown (xs ++ ys) below ≡ shown ys (shown xs below)
 shown_append [] ys below = refl
 shown_append (x ∷ xs) ys below = shown_append xs ys (entry_of x ∷ below)
 
 -- the topmost of the lowest entries
-pub shown_take : (xs : List Slot) (m n : ℕ) (d x : Slot) → m ≡ suc n → n < length xs → get_or xs n d ≡ x → shown (take m xs) [] ≡ entry_of x ∷ shown (take n xs) []
+pub shown_take : (xs : List Slot) (m n : ℕ) (d x : Slot) → m ≡ suc n → n < length xs
+    → get_or xs n d ≡ x → shown (take m xs) [] ≡ entry_of x ∷ shown (take n xs) []
 shown_take xs m n d x is h e = rw (is, take-suc xs n d, e) (shown_append (take n xs) (x ∷ []) [])
 
-pub values_drop : (xs : List Slot) (m n : ℕ) (d x : Slot) → m ≡ suc n → n < length xs → get_or xs n d ≡ x → values_of (drop n xs) ≡ values_of (x ∷ drop m xs)
+pub values_drop : (xs : List Slot) (m n : ℕ) (d x : Slot) → m ≡ suc n → n < length xs
+    → get_or xs n d ≡ x → values_of (drop n xs) ≡ values_of (x ∷ drop m xs)
 values_drop xs m n d x is h e = rw (is, drop-cons xs n d, e) refl
 
 module _ (xs : List Slot) (m n : ℕ) (d : Slot) (is : m ≡ suc n) (h : n < length xs) where
-  pub slice_at_bar : get_or xs n d ≡ slot.Mark → slice (shown (take m xs) []) (values_of (drop m xs)) ≡ Ok (record { operands = values_of (drop n xs); below = shown (take n xs) [] })
-  slice_at_bar e = rw (shown_take xs m n d slot.Mark is h e, values_drop xs m n d slot.Mark is h e) refl
+  pub slice_at_bar : get_or xs n d ≡ slot.Mark
+      → slice (shown (take m xs) []) (values_of (drop m xs))
+      ≡ Ok (record { operands = values_of (drop n xs); below = shown (take n xs) [] })
+  slice_at_bar e = rw (shown_take xs m n d slot.Mark is h e, values_drop xs m n d slot.Mark is h e)
+      refl
 
-  pub slice_at_object : (v : Value) → get_or xs n d ≡ slot.Object v → slice (shown (take m xs) []) (values_of (drop m xs)) ≡ slice (shown (take n xs) []) (values_of (drop n xs))
-  slice_at_object v e = rw (shown_take xs m n d (slot.Object v) is h e, values_drop xs m n d (slot.Object v) is h e) refl
+  pub slice_at_object : (v : Value) → get_or xs n d ≡ slot.Object v
+      → slice (shown (take m xs) []) (values_of (drop m xs))
+      ≡ slice (shown (take n xs) []) (values_of (drop n xs))
+  slice_at_object v e = rw (shown_take xs m n d (slot.Object v) is h e,
+      values_drop xs m n d (slot.Object v) is h e) refl
 
-  pub items_at_bar : (k : ℕ) (j : ℕ) → k ≡ suc j → get_or xs n d ≡ slot.Mark → items k (shown (take m xs) []) (values_of (drop m xs)) ≡ Err NoItem
+  pub items_at_bar : (k : ℕ) (j : ℕ) → k ≡ suc j → get_or xs n d ≡ slot.Mark
+      → items k (shown (take m xs) []) (values_of (drop m xs)) ≡ Err NoItem
   items_at_bar k j e g = rw (e, shown_take xs m n d slot.Mark is h g) refl
 
-  pub items_at_object : (k j : ℕ) (v : Value) → k ≡ suc j → get_or xs n d ≡ slot.Object v → items k (shown (take m xs) []) (values_of (drop m xs)) ≡ items j (shown (take n xs) []) (values_of (drop n xs))
-  items_at_object k j v e g = rw (e, shown_take xs m n d (slot.Object v) is h g, values_drop xs m n d (slot.Object v) is h g) refl
+  pub items_at_object : (k j : ℕ) (v : Value) → k ≡ suc j → get_or xs n d ≡ slot.Object v
+      → items k (shown (take m xs) []) (values_of (drop m xs))
+      ≡ items j (shown (take n xs) []) (values_of (drop n xs))
+  items_at_object k j v e g =
+      rw (e, shown_take xs m n d (slot.Object v) is h g,
+      values_drop xs m n d (slot.Object v) is h g) refl
 
 pub starts_well : (xs : List Slot) (n k : ℕ) → n + k ≡ length xs → length (drop n xs) ≡ k
 starts_well xs n k e = omega (arith, length-drop n xs)
 
-pub first_object : (xs : List Slot) (n : ℕ) (d : Slot) → n < length xs → (v : Value) → get_or xs n d ≡ slot.Object v → FirstObject (drop n xs)
+pub first_object : (xs : List Slot) (n : ℕ) (d : Slot) → n < length xs → (v : Value)
+    → get_or xs n d ≡ slot.Object v → FirstObject (drop n xs)
 first_object xs n d h v e = rw (drop-cons xs n d, e) tt

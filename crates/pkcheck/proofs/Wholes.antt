@@ -9,8 +9,10 @@ pub mod FramesSoFar
 pub mod Faultless
 pub mod Given
 pub mod Payloads
+pub mod Refusals
 pub mod Checked
 pub mod Hearing
+pub mod AnotherPickle
 pub mod RowOfPickles
 pub mod Exclusive
 pub mod EachSetting

@@ -1,7 +1,9 @@
 -- No rule of the list file has the fault OutOfMemory.
-use Rattle.std.proofs.Common.{◌≢◌, ◌==◌, ℕ, not, length, Bool, true, false, cond, Option, Some, None, codes}
+use Rattle.std.proofs.Common.{◌≢◌, ◌==◌, ℕ, not, length, Bool, true, false, cond, Option, Some}
+use Rattle.std.proofs.Common.{None, codes}
 use Rattle.std.specs.Str.{bytes_eq}
-use Rattle.toml.specs.Data.{Data, string, integer, float, boolean, datetime, array, table, Members, no_members, member, get_member}
+use Rattle.toml.specs.Data.{Data, string, integer, float, boolean, datetime, array, table, Members}
+use Rattle.toml.specs.Data.{no_members, member, get_member}
 use Rattle.pkops.specs.Limits.{Bounds}
 use Rattle.pkcheck.specs.declared.allow.error.AllowError.{AllowError}
 use Rattle.pkcheck.specs.declared.allow.error.AllowError.TheVariants.{Shape, Version, OutOfMemory}
@@ -16,11 +18,13 @@ use Rattle.pkcheck.specs.ListFile.{are_names}
 abbrev IsOfRule : Option AllowError → Type 0
 IsOfRule fault = fault ≢ Some OutOfMemory
 
-kept_or_is : (is_kept : Bool) (error : AllowError) → error ≢ OutOfMemory → IsOfRule (kept_or is_kept error)
+kept_or_is : (is_kept : Bool) (error : AllowError) → error ≢ OutOfMemory
+    → IsOfRule (kept_or is_kept error)
 kept_or_is true error other = λ h. cc
 kept_or_is false error other = λ h. other (cc)
 
-or_else_is : (first next : Option AllowError) → IsOfRule first → IsOfRule next → IsOfRule (or_else first next)
+or_else_is : (first next : Option AllowError) → IsOfRule first → IsOfRule next
+    → IsOfRule (or_else first next)
 or_else_is (Some error) next first_is next_is = first_is
 or_else_is None next first_is next_is = next_is
 
@@ -42,8 +46,10 @@ keys_is limited (member key value rest) =
 
 module_is : (key : Text) (value : Data) → IsOfRule (module_fault key value)
 module_is key (array values) =
-    or_else_is (kept_or (not (length key == 0)) (Shape part.Module)) (kept_or (are_names values) (Shape part.Name))
-    (kept_or_is (not (length key == 0)) (Shape part.Module) (λ h. cc)) (kept_or_is (are_names values) (Shape part.Name) (λ h. cc))
+    or_else_is (kept_or (not (length key == 0)) (Shape part.Module))
+        (kept_or (are_names values) (Shape part.Name))
+    (kept_or_is (not (length key == 0)) (Shape part.Module) (λ h. cc))
+        (kept_or_is (are_names values) (Shape part.Name) (λ h. cc))
 module_is key (string _) = λ h. cc
 module_is key (integer _) = λ h. cc
 module_is key (float _) = λ h. cc
@@ -75,12 +81,14 @@ none_or true fault h = λ e. cc
 none_or false fault h = h
 
 key_is : (most : Bounds) (key : Text) (value : Data) → IsOfRule (key_fault most key value)
-key_is most key value = none_or (bytes_eq key (codes "large")) (limit_fault (greatest_at most key) value) (limit_is (greatest_at most key) value)
+key_is most key value = none_or (bytes_eq key (codes "large"))
+    (limit_fault (greatest_at most key) value) (limit_is (greatest_at most key) value)
 
 each_limit_is : (most : Bounds) (limits : Members) → IsOfRule (each_limit_fault most limits)
 each_limit_is most no_members = λ h. cc
 each_limit_is most (member key value rest) =
-    or_else_is (key_fault most key value) (each_limit_fault most rest) (key_is most key value) (each_limit_is most rest)
+    or_else_is (key_fault most key value) (each_limit_fault most rest) (key_is most key value)
+        (each_limit_is most rest)
 
 large_is : (value : Option Data) → IsOfRule (large_fault value)
 large_is (Some value) = kept_or_is (is_true_value value) (Shape part.Limit) (λ h. cc)
@@ -89,7 +97,8 @@ large_is None = λ h. cc
 table_is : (limits : Members) → IsOfRule (table_fault limits)
 table_is limits =
     let is = get_member (codes "large") limits in
-    or_else_is (large_fault is) (each_limit_fault (greatest_where (is_large is)) limits) (large_is is) (each_limit_is (greatest_where (is_large is)) limits)
+    or_else_is (large_fault is) (each_limit_fault (greatest_where (is_large is)) limits)
+        (large_is is) (each_limit_is (greatest_where (is_large is)) limits)
 
 limits_is : (value : Option Data) → IsOfRule (limits_fault value)
 limits_is None = λ h. cc
@@ -107,6 +116,10 @@ fault_is document =
     let imports = get_member (codes "imports") document in
     let limits = get_member (codes "limits") document in
     let limited = is_two version in
-    let behind = or_else_is (imports_fault imports) (limits_fault limits) (imports_is imports) (limits_is limits) in
-    or_else_is (version_fault version) (or_else (keys_fault limited document) (or_else (imports_fault imports) (limits_fault limits))) (version_is version)
-    (or_else_is (keys_fault limited document) (or_else (imports_fault imports) (limits_fault limits)) (keys_is limited document) behind)
+    let behind = or_else_is (imports_fault imports) (limits_fault limits) (imports_is imports)
+        (limits_is limits) in
+    or_else_is (version_fault version)
+        (or_else (keys_fault limited document)
+        (or_else (imports_fault imports) (limits_fault limits))) (version_is version)
+    (or_else_is (keys_fault limited document)
+        (or_else (imports_fault imports) (limits_fault limits)) (keys_is limited document) behind)

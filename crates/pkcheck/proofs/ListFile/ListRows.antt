@@ -71,20 +71,25 @@ no_limits : list_of (codes "version = 2\nimports = {}\nlimits = 1") ≡ Err (Sha
 unfolding toml_on_literals
 no_limits = refl
 
-large_limit : list_of (codes "version = 2\nimports = {}\nlimits = { stack = 1000001 }") ≡ Err (Shape part.Limit)
+large_limit : list_of (codes "version = 2\nimports = {}\nlimits = { stack = 1000001 }")
+    ≡ Err (Shape part.Limit)
 unfolding toml_on_literals
 large_limit = refl
 
-other_limit : list_of (codes "version = 2\nimports = {}\nlimits = { heap = 1 }") ≡ Err (Shape part.LimitKey)
+other_limit : list_of (codes "version = 2\nimports = {}\nlimits = { heap = 1 }")
+    ≡ Err (Shape part.LimitKey)
 unfolding toml_on_literals
 other_limit = refl
 
 -- `large` is judged before the other keys, and must be `true`
-large_first : list_of (codes "version = 2\nimports = {}\nlimits = { heap = 1, large = false }") ≡ Err (Shape part.Limit)
+large_first : list_of (codes "version = 2\nimports = {}\nlimits = { heap = 1, large = false }")
+    ≡ Err (Shape part.Limit)
 unfolding toml_on_literals
 large_first = refl
 
-above_large : list_of (codes "version = 2\nimports = {}\nlimits = { large = true, stack = 4294967296 }") ≡ Err (Shape part.Limit)
+above_large : list_of
+    (codes "version = 2\nimports = {}\nlimits = { large = true, stack = 4294967296 }")
+    ≡ Err (Shape part.Limit)
 unfolding toml_on_literals
 above_large = refl
 
@@ -93,19 +98,27 @@ abbrev limits_read : Result Members AllowError → Bounds
 limits_read (Ok list) = limits_in (get_member (codes "limits") list)
 limits_read (Err error) = standard
 
-one_limit : limits_read (list_of (codes "version = 2\nimports = {}\nlimits = { passed = 16777217 }")) ≡ record standard { passed = 16_777_217 }
+one_limit : limits_read
+    (list_of (codes "version = 2\nimports = {}\nlimits = { passed = 16777217 }"))
+    ≡ record standard { passed = 16_777_217 }
 unfolding toml_on_literals
 one_limit = refl
 
-large_limits : limits_read (list_of (codes "version = 2\nimports = {}\nlimits = { large = true, passed = 16777217 }")) ≡ record large { passed = 16_777_217 }
+large_limits : limits_read
+    (list_of (codes "version = 2\nimports = {}\nlimits = { large = true, passed = 16777217 }"))
+    ≡ record large { passed = 16_777_217 }
 unfolding toml_on_literals
 large_limits = refl
 
 -- `large` and another limit together
-large_stack : limits_read (list_of (codes "version = 2\nimports = {}\nlimits = { stack = 1000001, large = true }")) ≡ record large { stack = 1_000_001 }
+large_stack : limits_read
+    (list_of (codes "version = 2\nimports = {}\nlimits = { stack = 1000001, large = true }"))
+    ≡ record large { stack = 1_000_001 }
 unfolding toml_on_literals
 large_stack = refl
 
-limited_numbers : limits_read (list_of (codes "version = 2\nimports = {}\nlimits = { numbers = 1000000 }")) ≡ record standard { numbers = 1_000_000 }
+limited_numbers : limits_read
+    (list_of (codes "version = 2\nimports = {}\nlimits = { numbers = 1000000 }"))
+    ≡ record standard { numbers = 1_000_000 }
 unfolding toml_on_literals
 limited_numbers = refl

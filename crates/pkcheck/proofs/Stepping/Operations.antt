@@ -11,8 +11,10 @@ names_in (Operates takes names gives) = names
 names_in e = NoName
 
 -- the row of an operation that imports nothing names no import
-pub unnamed_is : (e : Effect) (o : Operation) → IsUnnamed e → (IsOperation e → e ≡ effect_in o) → e ≡ Operates o.takes NoName o.gives
-unnamed_is (Operates takes NoName g) o u h = subst (λ n. Operates takes NoName g ≡ Operates o.takes n o.gives) (sym (ap names_in (h u))) (h u)
+pub unnamed_is : (e : Effect) (o : Operation) → IsUnnamed e → (IsOperation e → e ≡ effect_in o)
+    → e ≡ Operates o.takes NoName o.gives
+unnamed_is (Operates takes NoName g) o u h = subst
+    (λ n. Operates takes NoName g ≡ Operates o.takes n o.gives) (sym (ap names_in (h u))) (h u)
 unnamed_is (Operates takes OfArgument g) o u h = absurd u
 unnamed_is (Operates takes OfOperands g) o u h = absurd u
 unnamed_is (Moves m) o u h = absurd u

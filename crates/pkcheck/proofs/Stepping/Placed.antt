@@ -1,5 +1,6 @@
 -- The operands of an operation, given the entries above the mark.
-use Rattle.std.proofs.Common.{◌≡◌, ℕ, List, [], Some, None, Ok, Err, refl, ◌-◌, ◌≤◌, length, take, drop, arith, length-drop}
+use Rattle.std.proofs.Common.{◌≡◌, ℕ, List, [], Some, None, Ok, Err, refl, ◌-◌, ◌≤◌, length, take}
+use Rattle.std.proofs.Common.{drop, arith, length-drop}
 use Rattle.std.proofs.lemmas.List.{take_all}
 use Rattle.pkcheck.specs.declared.effect.SliceRule.{SliceRule}
 use Rattle.pkcheck.specs.declared.effect.Takes.TheVariants.{SliceAndReceiver}
@@ -8,14 +9,19 @@ use Rattle.pkcheck.specs.declared.machine.value.Value.{Value}
 
 -- a slice up to the end of the list
 pub to_end : {A : Type 0} (xs : List A) (n : ℕ) → take (length xs - n) (drop n xs) ≡ drop n xs
-to_end xs n = let le : length (drop n xs) ≤ length xs - n = omega (arith, length-drop n xs) in take_all _ _ le
+to_end xs n = let le : length (drop n xs) ≤ length xs - n = omega (arith, length-drop n xs) in
+    take_all _ _ le
 
-module _ (rule : SliceRule) (es : List (Entry Value)) (t : Taken Value) (e : slice es [] ≡ Ok t) where
-  pub receiver_missing : (b : Breach) → items 1 t.below t.operands ≡ Err b → operands (SliceAndReceiver rule) es ≡ Err b
+module _ (rule : SliceRule) (es : List (Entry Value)) (t : Taken Value)
+    (e : slice es [] ≡ Ok t) where
+  pub receiver_missing : (b : Breach) → items 1 t.below t.operands ≡ Err b
+      → operands (SliceAndReceiver rule) es ≡ Err b
   receiver_missing b f = rw (e, f) refl
 
-  pub receiver_fits : (u : Taken Value) → items 1 t.below t.operands ≡ Ok u → breaks rule t.operands ≡ None → operands (SliceAndReceiver rule) es ≡ Ok u
+  pub receiver_fits : (u : Taken Value) → items 1 t.below t.operands ≡ Ok u
+      → breaks rule t.operands ≡ None → operands (SliceAndReceiver rule) es ≡ Ok u
   receiver_fits u g f = rw (e, g, f) refl
 
-  pub receiver_breaks : (u : Taken Value) (b : Breach) → items 1 t.below t.operands ≡ Ok u → breaks rule t.operands ≡ Some b → operands (SliceAndReceiver rule) es ≡ Err b
+  pub receiver_breaks : (u : Taken Value) (b : Breach) → items 1 t.below t.operands ≡ Ok u
+      → breaks rule t.operands ≡ Some b → operands (SliceAndReceiver rule) es ≡ Err b
   receiver_breaks u b g f = rw (e, g, f) refl

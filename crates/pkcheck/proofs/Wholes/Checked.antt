@@ -1,7 +1,8 @@
 -- What is known after instructions were read and judged, and the answers that follow from it.
 use Rattle.pkcheck.specs.declared.checking.No.{No}
 use Rattle.pkcheck.specs.declared.old_strings.OldStrings.{OldStrings}
-use Rattle.std.proofs.Common.{◌≡◌, ℕ, ◌+◌, ◌<◌, List, [], ◌∷◌, ◌++◌, map, Option, Some, None, Ok, Err, false, inl, inr, refl, sym, ap, subst, ◌∙◌, append-nil, arith}
+use Rattle.std.proofs.Common.{◌≡◌, ℕ, ◌+◌, List, [], ◌∷◌, ◌++◌, map, Option, Some, None, Ok, Err}
+use Rattle.std.proofs.Common.{false, inl, inr, refl, sym, ap, subst, ◌∙◌, append-nil, arith}
 use Rattle.pkops.specs.Limits.{Bounds}
 use Rattle.pkops.specs.Payloads.{payload_limit, payload_limit_at}
 use Rattle.pkops.specs.Spelling.{Instruction, spelling}
@@ -19,14 +20,14 @@ use Rattle.pkread.specs.declared.Refusal.{Refusal as ReadRefusal}
 use Rattle.pkcheck.specs.Accepted.{AcceptedFrom}
 use Rattle.std.specs.Prelude.{option_map}
 use Rattle.pkcheck.specs.Import.{asked_shown, asks_more}
-use Rattle.pkcheck.specs.Private.Judging.{IsNoAt, BothGoOn, BreaksFrame, IsRefusedByMachine, IsRefused}
-use Rattle.pkcheck.specs.Knowledge.{Policy, Asked, Refusal, reason_of, advance, nothing_known, Lacks, WrongClass, NotText, UnknownImport, OffList, LeftOver, NotAscii, TooLarge}
-use Rattle.pkcheck.specs.Shape.{NoMark, NoItem, NoMemo, Odd, Extension}
+use Rattle.pkcheck.specs.Private.Judging.{IsNoAt, BothGoOn, BreaksFrame, IsRefusedByMachine}
+use Rattle.pkcheck.specs.Private.Judging.{IsRefused}
+use Rattle.pkcheck.specs.Knowledge.{Policy, Asked, Refusal, reason_of, advance, nothing_known}
 use Rattle.pkcheck.specs.Listing.{imports_among, ImportsAreListed, permitted_by}
 use Rattle.pkcheck.specs.Refused.{RefusedFrom, Why, reading, judging, growing, HasFirstFault}
 use Rattle.pkcheck.specs.RowRuns.{Afresh, Beginning, listed_before}
 use Rattle.pkcheck.specs.RunFaults.{HasRunFault, IsFaultless, RunsFrom}
-use Rattle.pkcheck.specs.Faults.{Arrivals, HasFaultHere, everyone, rank}
+use Rattle.pkcheck.specs.Faults.{HasFaultHere, everyone}
 use Rattle.pkcheck.specs.Heard.{refused_instruction}
 use Rattle.pkcheck.proofs.Covering.Answering.{Word}
 use Rattle.pkcheck.proofs.Covering.Verdicts.{Yes, verdict}
@@ -34,20 +35,26 @@ use Rattle.pkcheck.specs.Stepping.{StepWantsMemory}
 use Rattle.pkcheck.specs.View.{View, fresh, stopped_by, off_pair}
 use Rattle.pkcheck.specs.WholeRuns.{EndsWell, run_as}
 use Rattle.pkcheck.proofs.Wholes.FramesSoFar.{FrameLaws}
-use Rattle.pkcheck.proofs.Wholes.Faultless.{machine_fault, length-asked, each_asks, faultless, unknown_is_open}
+use Rattle.pkcheck.proofs.Wholes.Faultless.{machine_fault, length-asked, each_asks, faultless}
+use Rattle.pkcheck.proofs.Wholes.Faultless.{unknown_is_open}
 use Rattle.pkcheck.proofs.Wholes.Given.{Took, Turned}
-use Rattle.pkcheck.proofs.Wholes.Listed.{listed_from, sound_from}
-use Rattle.pkcheck.proofs.Wholes.Origins.{Begins, Origin, alone, begins_afresh, in_each, stands_from}
+use Rattle.pkcheck.proofs.Wholes.Listed.{among_more, listed_from, sound_from}
+use Rattle.pkcheck.proofs.Wholes.Origins.{Begins, Origin, alone, begins_afresh, in_each}
+use Rattle.pkcheck.proofs.Wholes.Origins.{stands_from}
 use Rattle.pkcheck.proofs.Stepping.Stops.{stops_nowhere, nowhere_last, sequence_last}
 use Rattle.pkcheck.proofs.Stepping.Settings.{same_end, wants_no_registry}
 use Rattle.pkcheck.proofs.Covering.Showing.{IsLonger}
-use Rattle.pkcheck.proofs.Covering.Standing.{Stands, has_fault, first, pair_of}
+use Rattle.pkcheck.proofs.Covering.Standing.{Stands, has_fault}
+use Rattle.pkcheck.proofs.Covering.FirstFault.{first, pair_of}
 use Rattle.pkcheck.proofs.Stepping.Extensions.{no_extension}
 use Rattle.pkcheck.proofs.Wholes.Walk.{along, verdict_more}
+use Rattle.pkcheck.proofs.Wholes.Refusals.{none_earlier, counts_at}
 
 -- these instructions of a pickle were read and judged, beginning at this view of the source, and
 -- these are their imports
-pub record Checked (setting : OldStrings) (policy : Policy) (limits : Bounds) (old : Sight) (o : Origin) (p : List Instruction) (asked : List (Option Asked)) (s : ReaderState) (still_open : ℕ) (m : View) : Type 0 where
+pub record Checked (setting : OldStrings) (policy : Policy) (limits : Bounds) (old : Sight)
+    (o : Origin) (p : List Instruction) (asked : List (Option Asked)) (s : ReaderState)
+    (still_open : ℕ) (m : View) : Type 0 where
   pub laws : FrameLaws
   pub begins : Begins setting policy o.beginning o.known
   pub reads : Reads old o.at (payload_limit limits) p s
@@ -65,53 +72,9 @@ pub record Checked (setting : OldStrings) (policy : Policy) (limits : Bounds) (o
 pub from_start : (taken count : ℕ) → count ≡ taken → taken ≡ 0 + count
 from_start taken count e = omega (arith, e)
 
-among_more : (done : List Asked) (asked : List (Option Asked)) (a : Option Asked) → done ++ imports_among (asked ++ a ∷ []) ≡ asks_more a (done ++ imports_among asked)
-among_more (x ∷ done) asked None = ap (λ l. x ∷ l) (among_more done asked None)
-among_more (x ∷ done) asked (Some a) = ap (λ l. x ∷ l) (among_more done asked (Some a))
-among_more [] [] None = refl
-among_more [] [] (Some a) = refl
-among_more [] (None ∷ asked) a = among_more [] asked a
-among_more [] (Some x ∷ asked) None = ap (λ l. x ∷ l) (among_more [] asked None)
-among_more [] (Some x ∷ asked) (Some a) = ap (λ l. x ∷ l) (among_more [] asked (Some a))
-
--- no fault is tried before the frame rules
-none_earlier : (policy : Policy) (limits : Bounds) (p : List Instruction) (i : Instruction) (here : Arrivals) (r : Reason) → rank r < 1 → HasRunFault policy limits p here i r → ⊥
-none_earlier policy limits p i here reason.BrokenFrame lt h = absurd (omega (arith, lt))
-none_earlier policy limits p i here reason.MissingMark lt h = absurd (omega (arith, lt))
-none_earlier policy limits p i here reason.MissingItem lt h = absurd (omega (arith, lt))
-none_earlier policy limits p i here (reason.MissingMemo n) lt h = absurd (omega (arith, lt))
-none_earlier policy limits p i here reason.OddItems lt h = absurd (omega (arith, lt))
-none_earlier policy limits p i here reason.WrongClass lt h = absurd (omega (arith, lt))
-none_earlier policy limits p i here reason.NotText lt h = absurd (omega (arith, lt))
-none_earlier policy limits p i here reason.UnknownImport lt h = absurd (omega (arith, lt))
-none_earlier policy limits p i here reason.ImportOffList lt h = absurd (omega (arith, lt))
-none_earlier policy limits p i here reason.LeftOver lt h = absurd (omega (arith, lt))
-none_earlier policy limits p i here reason.NotAscii lt h = absurd (omega (arith, lt))
-none_earlier policy limits p i here reason.TooLarge lt h = absurd (omega (arith, lt))
-none_earlier policy limits p i here _ lt h = h
-
--- a refusal by the machine is no failed read
-counts_same : (f : Refusal) (a b : ℕ) → b ≡ a → CountsAt (reason_of f) a b
-counts_same (Lacks NoMark) a b e = e
-counts_same (Lacks NoItem) a b e = e
-counts_same (Lacks (NoMemo n)) a b e = e
-counts_same (Lacks Odd) a b e = e
-counts_same (Lacks Extension) a b e = e
-counts_same WrongClass a b e = e
-counts_same NotText a b e = e
-counts_same UnknownImport a b e = e
-counts_same (OffList m n) a b e = e
-counts_same LeftOver a b e = e
-counts_same NotAscii a b e = e
-counts_same TooLarge a b e = e
-
-counts_at : (policy : Policy) (i : Instruction) (still_open : ℕ) (m n : View) (why : Reason) → IsRefused policy i still_open m n why → (a b : ℕ) → b ≡ a → CountsAt why a b
-counts_at policy i still_open m n why (inl (e, becomes, is)) a b same = subst (λ x. CountsAt x a b) (sym is) same
-counts_at policy i still_open m n why (inr (o, inl (f, e, is, becomes))) a b same = subst (λ x. CountsAt x a b) (sym is) (counts_same f a b same)
-counts_at policy i still_open m n why (inr (o, inr (wants, is, becomes))) a b same = subst (λ x. CountsAt x a b) (sym is) same
-
 -- the machine is at the first instruction of a pickle whose runs begin like this
-pub record IsReady (setting : OldStrings) (policy : Policy) (limits : Bounds) (b : Beginning) (m : View) : Type 0 where
+pub record IsReady (setting : OldStrings) (policy : Policy) (limits : Bounds) (b : Beginning)
+    (m : View) : Type 0 where
   pub begins : Begins setting policy b m.knowledge
   pub imports : m.imports ≡ listed_before b
   pub same_limits : m.limits ≡ limits
@@ -122,7 +85,10 @@ pub record IsReady (setting : OldStrings) (policy : Policy) (limits : Bounds) (b
 
 module _ (setting : OldStrings) (policy : Policy) (limits : Bounds) (old : Sight) where
   -- for the first pickle of a source
-  pub checked_first : FrameLaws → ReadingBegins → (b : Beginning) → listed_before b ≡ [] → Begins setting policy b nothing_known → Checked setting policy limits old (record { at = 0; beginning = b; known = nothing_known }) [] [] (begun old limits) 0 (fresh setting limits)
+  pub checked_first : FrameLaws → ReadingBegins → (b : Beginning) → listed_before b ≡ []
+      → Begins setting policy b nothing_known → Checked setting policy limits old
+      (record { at = 0; beginning = b; known = nothing_known }) [] [] (begun old limits) 0
+      (fresh setting limits)
   checked_first laws begins b none at_first = record {
     laws = laws;
     begins = at_first;
@@ -138,11 +104,15 @@ module _ (setting : OldStrings) (policy : Policy) (limits : Bounds) (old : Sight
     stopped = refl;
   }
 
-  pub checked_none : FrameLaws → ReadingBegins → Checked setting policy limits old alone [] [] (begun old limits) 0 (fresh setting limits)
+  pub checked_none : FrameLaws → ReadingBegins
+      → Checked setting policy limits old alone [] [] (begun old limits) 0 (fresh setting limits)
   checked_none laws begins = checked_first laws begins Afresh refl (begins_afresh setting policy)
 
   -- for a pickle after others, when the reader is open again
-  pub checked_again : FrameLaws → ReadingGoesOn → (s : ReaderState) → s.phase ≡ Open → s.limits ≡ limits → (b : Beginning) (m : View) → IsReady setting policy limits b m → Checked setting policy limits s.source (record { at = s.taken; beginning = b; known = m.knowledge }) [] [] s 0 m
+  pub checked_again : FrameLaws → ReadingGoesOn → (s : ReaderState) → s.phase ≡ Open
+      → s.limits ≡ limits → (b : Beginning) (m : View) → IsReady setting policy limits b m
+      → Checked setting policy limits s.source
+      (record { at = s.taken; beginning = b; known = m.knowledge }) [] [] s 0 m
   checked_again laws law s open' same b m ready = record {
     laws = laws;
     begins = ready.begins;
@@ -158,28 +128,43 @@ module _ (setting : OldStrings) (policy : Policy) (limits : Bounds) (old : Sight
     stopped = ready.stopped ∙ rw open' refl;
   }
 
-  module _ (origin : Origin) (p : List Instruction) (asked : List (Option Asked)) (s : ReaderState) (still_open : ℕ) (m : View) (h : Checked setting policy limits old origin p asked s still_open m) where
+  module _ (origin : Origin) (p : List Instruction) (asked : List (Option Asked)) (s : ReaderState)
+      (still_open : ℕ) (m : View)
+      (h : Checked setting policy limits old origin p asked s still_open m) where
     -- one more instruction is accepted
-    pub checked_took : (t : ReaderState) (is_open : ℕ) (n : View) (at : ℕ) (i : Instruction) → Took old origin.at limits p s at i t → (g : BothGoOn policy i still_open m is_open n) → Checked setting policy limits old origin (p ++ i ∷ []) (asked ++ g.1.1.0.import ∷ []) t is_open n
+    pub checked_took : (t : ReaderState) (is_open : ℕ) (n : View) (at : ℕ) (i : Instruction)
+        → Took old origin.at limits p s at i t → (g : BothGoOn policy i still_open m is_open n)
+        → Checked setting policy limits old origin (p ++ i ∷ [])
+        (asked ++ g.1.1.0.import ∷ []) t is_open n
     checked_took t is_open n at i took (frames, (v, (q, passes, becomes, moved))) =
-        let passes' : advance setting policy limits i m.knowledge ≡ Ok q = subst (λ o. advance o policy limits i m.knowledge ≡ Ok q) h.same_setting (subst (λ l. advance m.old_strings policy l i m.knowledge ≡ Ok q) h.same_limits passes) in
+        let passes' : advance setting policy limits i m.knowledge
+            ≡ Ok q = subst (λ o. advance o policy limits i m.knowledge ≡ Ok q) h.same_setting
+            (subst (λ l. advance m.old_strings policy l i m.knowledge ≡ Ok q) h.same_limits
+            passes) in
         record {
           laws = h.laws;
           begins = h.begins;
           reads = took.more.reads;
           read_limits = took.same_limits ∙ h.read_limits;
           frames = (h.laws.more p i still_open is_open h.frames frames).0;
-          accepts = verdict_more setting policy limits p i origin.known m.knowledge q asked h.accepts passes' ∙ ap (λ x. Yes x.knowledge (asked ++ q.import ∷ [])) (sym becomes);
-          imports = ap (λ x. x.imports) becomes ∙ ap (asks_more q.import) h.imports ∙ sym (among_more (listed_before origin.beginning) asked q.import);
+          accepts = verdict_more setting policy limits p i origin.known m.knowledge q asked
+              h.accepts passes' ∙ ap (λ x. Yes x.knowledge (asked ++ q.import ∷ [])) (sym becomes);
+          imports = ap (λ x. x.imports) becomes ∙ ap (asks_more q.import) h.imports
+              ∙ sym (among_more (listed_before origin.beginning) asked q.import);
           same_limits = ap (λ x. x.limits) becomes ∙ h.same_limits;
           same_setting = ap (λ x. x.old_strings) becomes ∙ h.same_setting;
           refused = ap (λ x. x.refused) becomes ∙ h.refused;
           off = ap (λ x. x.off) becomes ∙ h.off;
-          stopped = ap (λ x. x.stopped) becomes ∙ ap stopped_by moved ∙ same_end m.old_strings i q.import ∙ ap is_ended (sym took.phase);
+          stopped = ap (λ x. x.stopped) becomes ∙ ap stopped_by moved
+              ∙ same_end m.old_strings i q.import ∙ ap is_ended (sym took.phase);
         }
 
     -- after STOP was read and judged, the instructions are accepted
-    pub accepted : (new : Sight) (taken : ℕ) (imports : List Asked) → IsSequence (payload_limit limits) p → new ≡ s.source → s.taken ≡ origin.at + taken → imports ≡ imports_among asked → (a : AcceptedFrom setting origin.beginning policy limits old new taken imports) × (a.instructions ≡ p)
+    pub accepted : (new : Sight) (taken : ℕ) (imports : List Asked)
+        → IsSequence (payload_limit limits) p → new ≡ s.source → s.taken ≡ origin.at + taken
+        → imports ≡ imports_among asked
+        → (a : AcceptedFrom setting origin.beginning policy limits old new taken imports)
+        × (a.instructions ≡ p)
     accepted new taken imports sequence same count lists =
         let last = sequence_last (payload_limit limits) p sequence in
         let b = origin.beginning in (
@@ -189,7 +174,9 @@ module _ (setting : OldStrings) (policy : Policy) (limits : Bounds) (old : Sight
             bytes = rw same h.reads.bytes;
             count = (let reads = h.reads.count in omega (arith, count, reads));
             framed = h.laws.all p still_open h.frames;
-            sound = in_each setting b p (EndsWell (permitted_by policy)) (λ st os c. sound_from setting policy limits p origin.known m.knowledge asked st os h.accepts (h.begins.each st c) (h.begins.permitted st c));
+            sound = in_each setting b p (EndsWell (permitted_by policy))
+                (λ st os c. sound_from setting policy limits p origin.known m.knowledge asked st os
+                h.accepts (h.begins.each st c) (h.begins.permitted st c));
             asked = asked;
             each = length-asked setting policy limits p origin.known m.knowledge asked h.accepts;
             listed = lists;
@@ -198,26 +185,35 @@ module _ (setting : OldStrings) (policy : Policy) (limits : Bounds) (old : Sight
                 (run_as setting p os st)) (sym lists) (listed_from setting policy limits p
                 origin.known m.knowledge asked (listed_before b) st os last h.accepts
                 (h.begins.each st c) (h.begins.listed st c)));
-            at_each = each_asks setting policy limits b origin.known h.begins p m.knowledge asked last h.accepts;
-            faultless = faultless setting policy limits b origin.known h.begins p m.knowledge asked last h.accepts h.laws.more still_open h.frames;
-            unknown = unknown_is_open setting policy limits b origin.known h.begins p m.knowledge asked last h.accepts;
+            at_each = each_asks setting policy limits b origin.known h.begins p m.knowledge asked
+                last h.accepts;
+            faultless = faultless setting policy limits b origin.known h.begins p m.knowledge asked
+                last h.accepts h.laws.more still_open h.frames;
+            unknown = unknown_is_open setting policy limits b origin.known h.begins p m.knowledge
+                asked last h.accepts;
           },
           refl,
         )
 
     -- without STOP, the machine knows what is true in the runs that get past these instructions
     pub known_behind : NoStop p → Stands m.knowledge (RunsFrom setting origin.beginning p)
-    known_behind none = stands_from setting policy limits origin.beginning p origin.known m.knowledge h.begins (along setting policy limits p origin.known m.knowledge asked (stops_nowhere p none) h.accepts)
+    known_behind none = stands_from setting policy limits origin.beginning p origin.known
+        m.knowledge h.begins
+        (along setting policy limits p origin.known m.knowledge asked
+        (stops_nowhere p none) h.accepts)
 
     -- none of these instructions has a fault
     pub faultless_here : NoStop p → IsFaultless setting origin.beginning policy limits p
-    faultless_here none = faultless setting policy limits origin.beginning origin.known h.begins p m.knowledge asked (nowhere_last p (stops_nowhere p none)) h.accepts h.laws.more still_open h.frames
+    faultless_here none = faultless setting policy limits origin.beginning origin.known h.begins p
+        m.knowledge asked (nowhere_last p (stops_nowhere p none)) h.accepts h.laws.more still_open
+        h.frames
 
     -- a refusal after these instructions: they come before the offset, and q has the refused one
     -- too if it was read
     abbrev pub RefusedAfter : ℕ → Reason → Option Asked → Sight → List Instruction → Type 0
     RefusedAfter at reason pair new q =
-        (r : RefusedFrom origin.at setting origin.beginning policy limits old new at reason pair) × (r.instructions ++ refused_instruction r.why ≡ q)
+        (r : RefusedFrom origin.at setting origin.beginning policy limits old new at reason pair)
+            × (r.instructions ++ refused_instruction r.why ≡ q)
 
     -- a No that states this refusal
     pub refusal_of : (at : ℕ) (reason : Reason) (off pair : Option Asked) (answer : No)
@@ -231,7 +227,9 @@ module _ (setting : OldStrings) (policy : Policy) (limits : Bounds) (old : Sight
         (subst (λ x. RefusedAfter at reason x new q) (sym (is.pair ∙ e)) r))
 
     -- a refusal after instructions without STOP
-    refused_here : (at : ℕ) (why : Reason) (pair : Option Asked) (new : Sight) → NoStop p → at ≡ s.taken → (w : Why setting origin.beginning policy limits p s.source new at why pair) → RefusedAfter at why pair new (p ++ refused_instruction w)
+    refused_here : (at : ℕ) (why : Reason) (pair : Option Asked) (new : Sight) → NoStop p
+        → at ≡ s.taken → (w : Why setting origin.beginning policy limits p s.source new at why pair)
+        → RefusedAfter at why pair new (p ++ refused_instruction w)
     refused_here at reason pair new none place why = (
       record {
         instructions = p;
@@ -248,19 +246,24 @@ module _ (setting : OldStrings) (policy : Policy) (limits : Bounds) (old : Sight
     )
 
     abbrev RefusesHere : List ℕ → ReaderState → ReadRefusal → ℕ → Sight → Type 0
-    RefusesHere b t x at new = ReaderRefuses (payload_limit_at limits b) s.source new b at t.taken x.reason
+    RefusesHere b t x at new = ReaderRefuses (payload_limit_at limits b) s.source new b at t.taken
+        x.reason
 
     -- the reader refuses
-    pub refused_turned : (t : ReaderState) (x : ReadRefusal) (new : Sight) → Turned old origin.at limits p s x t → new ≡ t.source → RefusedAfter x.at x.reason None new (p ++ [])
+    pub refused_turned : (t : ReaderState) (x : ReadRefusal) (new : Sight)
+        → Turned old origin.at limits p s x t → new ≡ t.source
+        → RefusedAfter x.at x.reason None new (p ++ [])
     refused_turned t x new o same =
         refused_here x.at x.reason None new o.no_stop o.place (reading (record {
           bytes = o.bytes;
           taken = t.taken;
-          shown = subst (λ y. RefusesHere o.bytes t x y new) (sym o.place) (subst (λ y. RefusesHere o.bytes t x s.taken y) (sym same) o.why);
+          shown = subst (λ y. RefusesHere o.bytes t x y new) (sym o.place)
+              (subst (λ y. RefusesHere o.bytes t x s.taken y) (sym same) o.why);
           none = refl;
         }))
 
-    module _ (t : ReaderState) (at : ℕ) (i : Instruction) (new : Sight) (took : Took old origin.at limits p s at i t) (same : new ≡ t.source) where
+    module _ (t : ReaderState) (at : ℕ) (i : Instruction) (new : Sight)
+        (took : Took old origin.at limits p s at i t) (same : new ≡ t.source) where
       allowed : IsAllowedBy (payload_limit limits) i
       allowed = took.allowed
 
@@ -269,7 +272,9 @@ module _ (setting : OldStrings) (policy : Policy) (limits : Bounds) (old : Sight
 
       -- the instruction is refused for this reason
       abbrev IsWhy : Reason → Option Asked → Type 0
-      IsWhy reason pair = (w : Why setting origin.beginning policy limits p s.source new at reason pair) × (refused_instruction w ≡ i ∷ [])
+      IsWhy reason pair =
+          (w : Why setting origin.beginning policy limits p s.source new at reason pair)
+          × (refused_instruction w ≡ i ∷ [])
 
       -- the frame rules refuse it
       breaks_frame : (n : View) (why : Reason) → BreaksFrame i still_open m n why → IsWhy why n.off
@@ -279,7 +284,8 @@ module _ (setting : OldStrings) (policy : Policy) (limits : Bounds) (old : Sight
           allowed = allowed;
           bytes = takes;
           fault = h.laws.refused p i still_open h.frames e;
-          first = λ earlier lt g. none_earlier policy limits p i (everyone (RunsFrom setting origin.beginning p)) earlier lt g;
+          first = λ earlier lt g. none_earlier policy limits p i
+              (everyone (RunsFrom setting origin.beginning p)) earlier lt g;
           asks = ap (λ x. x.off) becomes ∙ h.off;
         }),
         refl,
@@ -304,7 +310,8 @@ module _ (setting : OldStrings) (policy : Policy) (limits : Bounds) (old : Sight
         known = known_behind took.more.no_stop
 
         -- a fault of the machine is a fault of the instruction
-        behind : (r : Reason) → HasFaultHere policy limits (RunsFrom setting origin.beginning p) i r → HasRunFault policy limits p (RunsFrom setting origin.beginning p) i r
+        behind : (r : Reason) → HasFaultHere policy limits (RunsFrom setting origin.beginning p) i r
+            → HasRunFault policy limits p (RunsFrom setting origin.beginning p) i r
         behind reason.BrokenFrame g = absurd g
         behind reason.MissingMark g = g
         behind reason.MissingItem g = g
@@ -326,32 +333,54 @@ module _ (setting : OldStrings) (policy : Policy) (limits : Bounds) (old : Sight
         behind reason.OutOfMemory g = g
 
         -- the machine refuses it
-        judged : (is_open : ℕ) (f : Refusal) → counted still_open (piece_of i) ≡ Some is_open → advance setting policy limits i m.knowledge ≡ Err f → HasFirstFault setting origin.beginning policy limits p s.source new (reason_of f) (off_pair f)
+        judged : (is_open : ℕ) (f : Refusal) → counted still_open (piece_of i) ≡ Some is_open
+            → advance setting policy limits i m.knowledge ≡ Err f
+            → HasFirstFault setting origin.beginning policy limits p s.source new (reason_of f)
+            (off_pair f)
         judged is_open f o e = record {
           instruction = i;
           allowed = allowed;
           bytes = takes;
-          fault = behind (reason_of f) (has_fault policy limits i m.knowledge (RunsFrom setting origin.beginning p) known long.0 long.1 f e (no_extension setting policy limits i m.knowledge f (wants_no_registry setting i allowed.admitted) e));
-          first = λ earlier lt g. first policy limits i m.knowledge (RunsFrom setting origin.beginning p) known f e earlier lt (machine_fault policy limits p i (h.laws.more p i still_open is_open h.frames o).1 (everyone (RunsFrom setting origin.beginning p)) earlier g);
-          asks = pair_of policy limits i m.knowledge (RunsFrom setting origin.beginning p) known f e;
+          fault = behind (reason_of f)
+              (has_fault policy limits i m.knowledge (RunsFrom setting origin.beginning p) known
+              long.0 long.1 f e
+              (no_extension setting policy limits i m.knowledge f
+              (wants_no_registry setting i allowed.admitted) e));
+          first = λ earlier lt g. first policy limits i m.knowledge
+              (RunsFrom setting origin.beginning p) known f e earlier lt
+              (machine_fault policy limits p i (h.laws.more p i still_open is_open h.frames o).1
+              (everyone (RunsFrom setting origin.beginning p)) earlier g);
+          asks = pair_of policy limits i m.knowledge (RunsFrom setting origin.beginning p) known f
+              e;
         }
 
-        refused_by_machine : (n : View) (why : Reason) → IsRefusedByMachine policy i still_open m n why → IsWhy why n.off
+        refused_by_machine : (n : View) (why : Reason)
+            → IsRefusedByMachine policy i still_open m n why → IsWhy why n.off
         unfolding judged
         refused_by_machine n why ((is_open, o), inr g) = lacks_memory n why g
         refused_by_machine n why ((is_open, o), inl (f, e, is, becomes)) =
-            let e' : advance setting policy limits i m.knowledge ≡ Err f = subst (λ o. advance o policy limits i m.knowledge ≡ Err f) h.same_setting (subst (λ l. advance m.old_strings policy l i m.knowledge ≡ Err f) h.same_limits e) in
-            subst (λ x. IsWhy x n.off) (sym is) (subst (λ x. IsWhy (reason_of f) x) (sym (ap (λ x. x.off) becomes)) (judging (judged is_open f o e'), refl))
+            let e' : advance setting policy limits i m.knowledge
+                ≡ Err f = subst (λ o. advance o policy limits i m.knowledge ≡ Err f) h.same_setting
+                (subst (λ l. advance m.old_strings policy l i m.knowledge ≡ Err f) h.same_limits
+                e) in
+            subst (λ x. IsWhy x n.off) (sym is)
+                (subst (λ x. IsWhy (reason_of f) x) (sym (ap (λ x. x.off) becomes))
+                (judging (judged is_open f o e'), refl))
 
-        is_refused : (n : View) (why : Reason) → IsRefused policy i still_open m n why → IsWhy why n.off
+        is_refused : (n : View) (why : Reason) → IsRefused policy i still_open m n why
+            → IsWhy why n.off
         is_refused n why (inl g) = breaks_frame n why g
         is_refused n why (inr g) = refused_by_machine n why g
 
         -- the frame rules or the machine refuse the instruction that was read
-        pub refused_took : (n : View) (why : Reason) (pair : Option Asked) → IsRefused policy i still_open m n why → pair ≡ n.off → RefusedAfter at why pair new (p ++ i ∷ [])
+        pub refused_took : (n : View) (why : Reason) (pair : Option Asked)
+            → IsRefused policy i still_open m n why → pair ≡ n.off
+            → RefusedAfter at why pair new (p ++ i ∷ [])
         refused_took n why pair g is =
             let w = is_refused n why g in
-            subst (λ x. RefusedAfter at why x new (p ++ i ∷ [])) (sym is) (subst (RefusedAfter at why n.off new) (ap (λ q. p ++ q) w.1) (refused_here at why n.off new took.more.no_stop took.place w.0))
+            subst (λ x. RefusedAfter at why x new (p ++ i ∷ [])) (sym is)
+                (subst (RefusedAfter at why n.off new) (ap (λ q. p ++ q) w.1)
+                (refused_here at why n.off new took.more.no_stop took.place w.0))
 
     -- no read failed if the frame rules or the machine refuse
     pub count_took : (t : ReaderState) (at : ℕ) (i : Instruction) (new : Sight) (place : ℕ)

@@ -1,5 +1,7 @@
 -- No pickle is both accepted and refused.
-use Rattle.std.proofs.Common.{◌≡◌, ◌≢◌, ℕ, ◌+◌, ◌<◌, ◌≤◌, ◌⊎◌, inl, inr, cond, List, [], ◌∷◌, ◌++◌, length, take, drop, Option, Some, None, refl, sym, ap, subst, ◌∙◌, arith, length-append, length-drop}
+use Rattle.std.proofs.Common.{◌≡◌, ◌≢◌, ℕ, ◌+◌, ◌<◌, ◌≤◌, ◌⊎◌, inl, inr, cond, List, [], ◌∷◌, ◌++◌}
+use Rattle.std.proofs.Common.{length, take, drop, Option, Some, None, refl, sym, ap, subst, ◌∙◌}
+use Rattle.std.proofs.Common.{arith, length-append, length-drop}
 use Rattle.std.specs.Prelude.{All, IsTrue}
 use Rattle.std.specs.Io.KnownBytes.{Consumes, IsAtEnd}
 use Rattle.std.proofs.lemmas.Bool.{cases_lt}
@@ -43,14 +45,16 @@ module _ (here : Arrivals) (real : (s : State) → here.some s → here.any s) w
   once_of : (i : Instruction) (m n : List ℕ) → AsksOnce here i m n → AsksOnce (everyone here) i m n
   once_of i m n (s, o, c, d, a) = (s, o, real s c, tt, a)
 
-  fault_of_any : (policy : Policy) (limits : Bounds) (i : Instruction) (r : Reason) → HasFaultHere policy limits here i r → HasFaultHere policy limits (everyone here) i r
+  fault_of_any : (policy : Policy) (limits : Bounds) (i : Instruction) (r : Reason)
+      → HasFaultHere policy limits here i r → HasFaultHere policy limits (everyone here) i r
   fault_of_any policy limits i reason.MissingMark f = each_of _ f
   fault_of_any policy limits i reason.MissingItem f = each_of _ f
   fault_of_any policy limits i (reason.MissingMemo n) f = each_of _ f
   fault_of_any policy limits i reason.OddItems f = each_of _ f
   fault_of_any policy limits i reason.WrongClass f = each_of _ f
   fault_of_any policy limits i reason.NotText f = each_of _ f
-  fault_of_any policy limits i reason.UnknownImport (m, n, (first, (m', n', second, differ)), off) = (m, n, (once_of i m n first, (m', n', once_of i m' n' second, differ)), off)
+  fault_of_any policy limits i reason.UnknownImport (m, n, (first, (m', n', second, differ)), off) =
+      (m, n, (once_of i m n first, (m', n', once_of i m' n' second, differ)), off)
   fault_of_any policy limits i reason.ImportOffList (m, n, g) = (m, n, (each_of _ g.0, g.1))
   fault_of_any policy limits i reason.LeftOver f = each_of _ f
   fault_of_any policy limits i reason.NotAscii f = each_of _ f
@@ -64,20 +68,33 @@ module _ (here : Arrivals) (real : (s : State) → here.some s → here.any s) w
   fault_of_any policy limits i reason.BrokenFrame f = absurd f
   fault_of_any policy limits i reason.OutOfMemory f = absurd f
 
-module _ (setting : OldStrings) (policy : Policy) (limits : Bounds) (before : List Instruction) (i : Instruction) where
-  by_any : (r : Reason) → HasRunFault policy limits before (RunsBehind setting before) i r → HasRunFault policy limits before (everyone (RunsBehind setting before)) i r
+module _ (setting : OldStrings) (policy : Policy) (limits : Bounds) (before : List Instruction)
+    (i : Instruction) where
+  by_any : (r : Reason) → HasRunFault policy limits before (RunsBehind setting before) i r
+      → HasRunFault policy limits before (everyone (RunsBehind setting before)) i r
   by_any reason.BrokenFrame f = f
-  by_any reason.MissingMark f = fault_of_any (RunsBehind setting before) (λ s g. (g.0, g.2)) policy limits i reason.MissingMark f
-  by_any reason.MissingItem f = fault_of_any (RunsBehind setting before) (λ s g. (g.0, g.2)) policy limits i reason.MissingItem f
-  by_any (reason.MissingMemo n) f = fault_of_any (RunsBehind setting before) (λ s g. (g.0, g.2)) policy limits i (reason.MissingMemo n) f
-  by_any reason.OddItems f = fault_of_any (RunsBehind setting before) (λ s g. (g.0, g.2)) policy limits i reason.OddItems f
-  by_any reason.WrongClass f = fault_of_any (RunsBehind setting before) (λ s g. (g.0, g.2)) policy limits i reason.WrongClass f
-  by_any reason.NotText f = fault_of_any (RunsBehind setting before) (λ s g. (g.0, g.2)) policy limits i reason.NotText f
-  by_any reason.UnknownImport f = fault_of_any (RunsBehind setting before) (λ s g. (g.0, g.2)) policy limits i reason.UnknownImport f
-  by_any reason.ImportOffList f = fault_of_any (RunsBehind setting before) (λ s g. (g.0, g.2)) policy limits i reason.ImportOffList f
-  by_any reason.LeftOver f = fault_of_any (RunsBehind setting before) (λ s g. (g.0, g.2)) policy limits i reason.LeftOver f
-  by_any reason.NotAscii f = fault_of_any (RunsBehind setting before) (λ s g. (g.0, g.2)) policy limits i reason.NotAscii f
-  by_any reason.TooLarge f = fault_of_any (RunsBehind setting before) (λ s g. (g.0, g.2)) policy limits i reason.TooLarge f
+  by_any reason.MissingMark f = fault_of_any (RunsBehind setting before)
+      (λ s g. (g.0, g.2)) policy limits i reason.MissingMark f
+  by_any reason.MissingItem f = fault_of_any (RunsBehind setting before)
+      (λ s g. (g.0, g.2)) policy limits i reason.MissingItem f
+  by_any (reason.MissingMemo n) f = fault_of_any (RunsBehind setting before)
+      (λ s g. (g.0, g.2)) policy limits i (reason.MissingMemo n) f
+  by_any reason.OddItems f = fault_of_any (RunsBehind setting before)
+      (λ s g. (g.0, g.2)) policy limits i reason.OddItems f
+  by_any reason.WrongClass f = fault_of_any (RunsBehind setting before)
+      (λ s g. (g.0, g.2)) policy limits i reason.WrongClass f
+  by_any reason.NotText f = fault_of_any (RunsBehind setting before)
+      (λ s g. (g.0, g.2)) policy limits i reason.NotText f
+  by_any reason.UnknownImport f = fault_of_any (RunsBehind setting before)
+      (λ s g. (g.0, g.2)) policy limits i reason.UnknownImport f
+  by_any reason.ImportOffList f = fault_of_any (RunsBehind setting before)
+      (λ s g. (g.0, g.2)) policy limits i reason.ImportOffList f
+  by_any reason.LeftOver f = fault_of_any (RunsBehind setting before)
+      (λ s g. (g.0, g.2)) policy limits i reason.LeftOver f
+  by_any reason.NotAscii f = fault_of_any (RunsBehind setting before)
+      (λ s g. (g.0, g.2)) policy limits i reason.NotAscii f
+  by_any reason.TooLarge f = fault_of_any (RunsBehind setting before)
+      (λ s g. (g.0, g.2)) policy limits i reason.TooLarge f
   by_any reason.Source f = absurd f
   by_any reason.Truncated f = absurd f
   by_any (reason.UnknownOpcode b) f = absurd f
@@ -89,7 +106,8 @@ module _ (setting : OldStrings) (policy : Policy) (limits : Bounds) (before : Li
 -- ---- the bytes of a refusal, if they begin with an instruction
 
 abbrev pub OneAnswer : Type 0
-OneAnswer = (limit : ℕ) (bytes : List ℕ) (r s : Answer) → Answers limit bytes r → Answers limit bytes s → r ≡ s
+OneAnswer = (limit : ℕ) (bytes : List ℕ) (r s : Answer) → Answers limit bytes r
+    → Answers limit bytes s → r ≡ s
 
 code_passed : (o : Op) → is_passed_code (code_of o) ≡ is_passed o
 code_passed op.BinBytes = refl
@@ -100,20 +118,32 @@ code_passed _ = refl
 
 -- the bytes are a proper prefix of the instruction, or begin with all of it
 abbrev Side : ℕ → List ℕ → Instruction → Type 0
-Side limit bytes j = (Begun limit bytes × (length bytes < length (spelling j))) ⊎ IsWhole limit bytes j (length (spelling j))
+Side limit bytes j = (Begun limit bytes × (length bytes < length (spelling j)))
+    ⊎ IsWhole limit bytes j (length (spelling j))
 
-side : (limit : ℕ) (bytes rest after : List ℕ) (j : Instruction) → IsGood j → IsWithin limit j.arg → bytes ++ rest ≡ spelling j ++ after → Side limit bytes j
+side : (limit : ℕ) (bytes rest after : List ℕ) (j : Instruction) → IsGood j → IsWithin limit j.arg
+    → bytes ++ rest ≡ spelling j ++ after → Side limit bytes j
 side limit bytes rest after j good fits e =
     elim (cases_lt (length bytes) (length (spelling j))) [
       | inl lt ↦
           let k = length bytes in
-          let front : take k (spelling j) ≡ bytes = sym (take-append-le k (spelling j) after (omega (arith, lt))) ∙ ap (take k) (sym e) ∙ take-append_seam bytes rest in
-          let lacks : drop k (spelling j) ≢ [] = λ none. (let n = ap length none in omega (arith, n, length-drop k (spelling j), lt)) in
-          inl ((j, drop k (spelling j), record { may = record { suits = good.suits; within = λ _. fits }; parts = sym (take-append-drop k (spelling j)) ∙ ap (λ z. z ++ drop k (spelling j)) front; lacks = lacks }), lt)
+          let front : take k (spelling j) ≡ bytes =
+              sym (take-append-le k (spelling j) after (omega (arith, lt))) ∙ ap (take k) (sym e)
+              ∙ take-append_seam bytes rest in
+          let lacks : drop k (spelling j) ≢ [] = λ none.
+              (let n = ap length none in omega (arith, n, length-drop k (spelling j), lt)) in
+          inl
+              ((j, drop k (spelling j),
+              record { may = record { suits = good.suits; within = λ _. fits };
+              parts = sym (take-append-drop k (spelling j))
+              ∙ ap (λ z. z ++ drop k (spelling j)) front; lacks = lacks }), lt)
       | inr le ↦
           let n = length (spelling j) in
-          let spelled : take n bytes ≡ spelling j = sym (take-append-le n bytes rest le) ∙ ap (take n) e ∙ take-append_seam (spelling j) after in
-          inr (record { fits = le; spells = record { spelled = spelled; good = good }; within = fits })
+          let spelled : take n bytes ≡ spelling j = sym (take-append-le n bytes rest le)
+              ∙ ap (take n) e ∙ take-append_seam (spelling j) after in
+          inr
+              (record { fits = le; spells = record { spelled = spelled; good = good };
+              within = fits })
     ]
 
 not_more : (j : Instruction) (n : ℕ) → Whole j n ≢ More
@@ -131,7 +161,8 @@ same_whole i j m n e = cc
 no_objection : (j : Instruction) → IsTrue (is_admitted j) → objection j ≡ None
 no_objection j h = ap (λ b. cond b None (Some (unadmitted_by j.op j.arg))) h
 
-module _ (one : OneAnswer) (limit : ℕ) (bytes : List ℕ) (j : Instruction) (good : IsTrue (is_admitted j)) where
+module _ (one : OneAnswer) (limit : ℕ) (bytes : List ℕ) (j : Instruction)
+    (good : IsTrue (is_admitted j)) where
   no_fault : Side limit bytes j → (f : Fault) → ShowsFault limit f bytes → ⊥
   no_fault (inl b) f h = more_not_bad f (one limit bytes More (Bad f) b.0 h)
   no_fault (inr w) f h = not_bad j _ f (one limit bytes (Whole j (length (spelling j))) (Bad f) w h)
@@ -142,7 +173,8 @@ module _ (one : OneAnswer) (limit : ℕ) (bytes : List ℕ) (j : Instruction) (g
   not_barred : Side limit bytes j → (r : Reason) → IsBarred limit bytes r → ⊥
   not_barred (inl b) r (i, n, w, o) = not_more i n (one limit bytes (Whole i n) More w b.0)
   not_barred (inr w) r (i, n, v, o) =
-      let same : i ≡ j = same_whole i j n _ (one limit bytes (Whole i n) (Whole j (length (spelling j))) v w) in
+      let same : i ≡ j =
+          same_whole i j n _ (one limit bytes (Whole i n) (Whole j (length (spelling j))) v w) in
       let none : Some r ≡ None = sym o ∙ ap objection same ∙ no_objection j good in
       cc
 
@@ -169,42 +201,56 @@ module _ (one : OneAnswer) (limit : ℕ) (bytes : List ℕ) (j : Instruction) (g
 
 -- ---- a source with known bytes
 
-consumed : (old : Sight) (bytes run : List ℕ) (new : Sight) → old.left ≡ Some bytes → Takes old new run → (rest : List ℕ) × (new.left ≡ Some rest) × (bytes ≡ run ++ rest)
-consumed old bytes run new is t = left_by new.left (subst (λ o. Consumes o new.left run) is t.bytes) where
-  left_by : (o : Option (List ℕ)) → Consumes (Some bytes) o run → (rest : List ℕ) × (o ≡ Some rest) × (bytes ≡ run ++ rest)
+consumed : (old : Sight) (bytes run : List ℕ) (new : Sight) → old.left ≡ Some bytes
+    → Takes old new run → (rest : List ℕ) × (new.left ≡ Some rest) × (bytes ≡ run ++ rest)
+consumed old bytes run new is t = left_by new.left
+    (subst (λ o. Consumes o new.left run) is t.bytes) where
+  left_by : (o : Option (List ℕ)) → Consumes (Some bytes) o run
+      → (rest : List ℕ) × (o ≡ Some rest) × (bytes ≡ run ++ rest)
   left_by None h = absurd h
   left_by (Some rest) h = (rest, refl, h)
 
 at_end : (o : Option (List ℕ)) (rest : List ℕ) → o ≡ Some rest → IsAtEnd o → rest ≡ []
 at_end o rest is h = subst IsAtEnd is h
 
-module _ (one : OneAnswer) (nothing : (limit : ℕ) → Begun limit []) (limits : Bounds) (here after : Sight) (tail behind : List ℕ) (j : Instruction) (may : IsAllowedBy (payload_limit limits) j) (is : here.left ≡ Some tail) (spelled : tail ≡ spelling j ++ behind) where
+module _ (one : OneAnswer) (nothing : (limit : ℕ) → Begun limit []) (limits : Bounds)
+    (here after : Sight) (tail behind : List ℕ) (j : Instruction)
+    (may : IsAllowedBy (payload_limit limits) j) (is : here.left ≡ Some tail)
+    (spelled : tail ≡ spelling j ++ behind) where
   -- the payload limit of the bytes is that of the instruction, if there are any bytes
-  limit_there : (b : ℕ) (bs rest : List ℕ) → (b ∷ bs) ++ rest ≡ spelling j ++ behind → payload_limit_at limits (b ∷ bs) ≡ payload_limit limits j.op
+  limit_there : (b : ℕ) (bs rest : List ℕ) → (b ∷ bs) ++ rest ≡ spelling j ++ behind
+      → payload_limit_at limits (b ∷ bs) ≡ payload_limit limits j.op
   limit_there b bs rest e =
       let code : b ≡ code_of j.op = cc in
-      ap (λ c. cond (is_passed_code c) limits.passed limits.counted) code ∙ ap (λ p. cond p limits.passed limits.counted) (code_passed j.op)
+      ap (λ c. cond (is_passed_code c) limits.passed limits.counted) code
+          ∙ ap (λ p. cond p limits.passed limits.counted) (code_passed j.op)
 
-  side_there : (bytes rest : List ℕ) → tail ≡ bytes ++ rest → Side (payload_limit_at limits bytes) bytes j
+  side_there : (bytes rest : List ℕ) → tail ≡ bytes ++ rest
+      → Side (payload_limit_at limits bytes) bytes j
   side_there [] rest e = inl (nothing limits.counted, omega arith)
   side_there (b ∷ bs) rest e =
       let same = sym e ∙ spelled in
-      side (payload_limit_at limits (b ∷ bs)) (b ∷ bs) rest behind j may.good (subst (λ l. IsWithin l j.arg) (sym (limit_there b bs rest same)) may.within) same
+      side (payload_limit_at limits (b ∷ bs)) (b ∷ bs) rest behind j may.good
+          (subst (λ l. IsWithin l j.arg) (sym (limit_there b bs rest same)) may.within) same
 
-  module _ (bytes : List ℕ) (at taken : ℕ) (few : at + length (spelling j) ≤ all_bytes) (long : taken ≡ at + length bytes) where
+  module _ (bytes : List ℕ) (at taken : ℕ) (few : at + length (spelling j) ≤ all_bytes)
+      (long : taken ≡ at + length bytes) where
     there : Takes here after bytes → Side (payload_limit_at limits bytes) bytes j
     there t = let r = consumed here tail bytes after is t in side_there bytes r.0 r.2
 
     -- the source has more bytes than these
-    at_its_end : (t : Takes here after bytes) → IsAtEnd after.left → length bytes < length (spelling j) → ⊥
+    at_its_end : (t : Takes here after bytes) → IsAtEnd after.left
+        → length bytes < length (spelling j) → ⊥
     at_its_end t end lt =
         let r = consumed here tail bytes after is t in
         let none : r.0 ≡ [] = at_end after.left r.0 r.1 end in
-        let e : bytes ++ [] ≡ spelling j ++ behind = ap (λ z. bytes ++ z) (sym none) ∙ sym r.2 ∙ spelled in
+        let e : bytes ++ [] ≡ spelling j ++ behind = ap (λ z. bytes ++ z) (sym none) ∙ sym r.2
+            ∙ spelled in
         let n = ap length e in
         omega (arith, n, length-append bytes [], length-append (spelling j) behind, lt)
 
-    no_row : (r : Reason) → r ≢ reason.Source → r ≢ reason.OutOfMemory → ShowsReason (payload_limit_at limits bytes) here after bytes taken r → ⊥
+    no_row : (r : Reason) → r ≢ reason.Source → r ≢ reason.OutOfMemory
+        → ShowsReason (payload_limit_at limits bytes) here after bytes taken r → ⊥
     no_row reason.Source n m h = n refl
     no_row reason.OutOfMemory n m h = m refl
     no_row reason.Truncated n m (t, end, lt, begun) =
@@ -212,16 +258,23 @@ module _ (one : OneAnswer) (nothing : (limit : ℕ) → Begun limit []) (limits 
           | inl s ↦ at_its_end t end s.1
           | inr w ↦ not_begun one (payload_limit_at limits bytes) bytes j may.admitted w begun
         ]
-    no_row reason.TooLarge n m (t, inl h) = not_amiss one (payload_limit_at limits bytes) bytes j may.admitted (there t) reason.TooLarge h
+    no_row reason.TooLarge n m (t, inl h) = not_amiss one
+        (payload_limit_at limits bytes) bytes j may.admitted (there t) reason.TooLarge h
     no_row reason.TooLarge n m (t, inr (begun, all)) =
         elim (there t) [
           | inl s ↦ (let lt = s.1 in omega (arith, all, long, few, lt))
           | inr w ↦ not_begun one (payload_limit_at limits bytes) bytes j may.admitted w begun
         ]
-    no_row (reason.UnknownOpcode c) n m h = not_amiss one (payload_limit_at limits bytes) bytes j may.admitted (there h.0) (reason.UnknownOpcode c) h.1
-    no_row reason.BadArgument n m h = not_amiss one (payload_limit_at limits bytes) bytes j may.admitted (there h.0) reason.BadArgument h.1
-    no_row reason.ExtensionCode n m h = not_amiss one (payload_limit_at limits bytes) bytes j may.admitted (there h.0) reason.ExtensionCode h.1
-    no_row (reason.UnsupportedProtocol p) n m h = not_amiss one (payload_limit_at limits bytes) bytes j may.admitted (there h.0) (reason.UnsupportedProtocol p) h.1
+    no_row (reason.UnknownOpcode c) n m h = not_amiss one
+        (payload_limit_at limits bytes) bytes j may.admitted (there h.0)
+        (reason.UnknownOpcode c) h.1
+    no_row reason.BadArgument n m h = not_amiss one (payload_limit_at limits bytes) bytes j
+        may.admitted (there h.0) reason.BadArgument h.1
+    no_row reason.ExtensionCode n m h = not_amiss one
+        (payload_limit_at limits bytes) bytes j may.admitted (there h.0) reason.ExtensionCode h.1
+    no_row (reason.UnsupportedProtocol p) n m h = not_amiss one
+        (payload_limit_at limits bytes) bytes j may.admitted (there h.0)
+        (reason.UnsupportedProtocol p) h.1
     no_row reason.BrokenFrame n m h = h.1
     no_row reason.MissingMark n m h = h.1
     no_row reason.MissingItem n m h = h.1
@@ -236,61 +289,86 @@ module _ (one : OneAnswer) (nothing : (limit : ℕ) → Begun limit []) (limits 
 
 -- ---- a yes and a no
 
-behind_each : (P : Instruction → Type 0) (q : List Instruction) (j : Instruction) (is : List Instruction) → All P (q ++ j ∷ is) → P j
+behind_each : (P : Instruction → Type 0) (q : List Instruction) (j : Instruction)
+    (is : List Instruction) → All P (q ++ j ∷ is) → P j
 behind_each P [] j is h = All-head P j is h
 behind_each P (k ∷ q) j is h = behind_each P q j is (All-tail P k (q ++ j ∷ is) h)
 
-spellings_behind : (q : List Instruction) (j : Instruction) (is : List Instruction) → length (spellings (q ++ j ∷ is)) ≡ length (spellings q) + length (spellings (j ∷ is))
+spellings_behind : (q : List Instruction) (j : Instruction) (is : List Instruction)
+    → length (spellings (q ++ j ∷ is)) ≡ length (spellings q) + length (spellings (j ∷ is))
 spellings_behind [] j is = omega arith
 spellings_behind (k ∷ q) j is =
     let e = spellings_behind q j is in
-    omega (arith, e, length-append (spelling k) (spellings (q ++ j ∷ is)), length-append (spelling k) (spellings q))
+    omega (arith, e, length-append (spelling k) (spellings (q ++ j ∷ is)),
+        length-append (spelling k) (spellings q))
 
 -- a reason that is not another one is this one
 if_not_other : (r : Reason) → (r ≢ reason.TooLarge → ⊥) → r ≡ reason.TooLarge
 if_not_other reason.TooLarge h = refl
 if_not_other r h = absurd (h (λ e. cc))
 
-module _ (one : OneAnswer) (nothing : (limit : ℕ) → Begun limit []) (front : OneFront) (goes : SequenceGoesOn) where
-  module _ (setting : OldStrings) (policy : Policy) (limits : Bounds) (p q : List Instruction) (rest tail : List ℕ)
-      (g : GoesOnBehind p q rest tail) (each : All (IsAllowedBy (payload_limit limits)) p) (few : length (spellings p) ≤ all_bytes)
-      (r : Reason) (faultless : (before : List Instruction) (i : Instruction) (is : List Instruction) → p ≡ before ++ i ∷ is → HasRunFault policy limits before (everyone (RunsBehind setting before)) i r → ⊥)
-      (here after : Sight) (at : ℕ) (pair : Option Asked) (is : here.left ≡ Some tail) (place : at ≡ length (spellings q)) where
+module _ (one : OneAnswer) (nothing : (limit : ℕ) → Begun limit []) (front : OneFront)
+    (goes : SequenceGoesOn) where
+  module _ (setting : OldStrings) (policy : Policy) (limits : Bounds) (p q : List Instruction)
+      (rest tail : List ℕ)
+      (g : GoesOnBehind p q rest tail) (each : All (IsAllowedBy (payload_limit limits)) p)
+          (few : length (spellings p) ≤ all_bytes)
+      (r : Reason)
+          (faultless : (before : List Instruction) (i : Instruction) (is : List Instruction)
+          → p ≡ before ++ i ∷ is → HasRunFault policy limits before
+          (everyone (RunsBehind setting before)) i r → ⊥)
+      (here after : Sight) (at : ℕ) (pair : Option Asked) (is : here.left ≡ Some tail)
+          (place : at ≡ length (spellings q)) where
     may : IsAllowedBy (payload_limit limits) g.next
-    may = behind_each (IsAllowedBy (payload_limit limits)) q g.next g.after (subst (All (IsAllowedBy (payload_limit limits))) g.split each)
+    may = behind_each (IsAllowedBy (payload_limit limits)) q g.next g.after
+        (subst (All (IsAllowedBy (payload_limit limits))) g.split each)
 
     fits : at + length (spelling g.next) ≤ all_bytes
     fits =
         let n = ap (λ z. length (spellings z)) g.split in
-        omega (arith, n, place, few, spellings_behind q g.next g.after, length-append (spelling g.next) (spellings g.after))
+        omega (arith, n, place, few, spellings_behind q g.next g.after,
+            length-append (spelling g.next) (spellings g.after))
 
-    not_why : r ≢ reason.Source → r ≢ reason.OutOfMemory → Why setting Afresh policy limits q here after at r pair → ⊥
-    not_why n m (reading h) = no_row one nothing limits here after tail (spellings g.after ++ rest) g.next may is g.bytes h.bytes at h.taken fits h.shown.taken r n m h.shown.row
+    not_why : r ≢ reason.Source → r ≢ reason.OutOfMemory
+        → Why setting Afresh policy limits q here after at r pair → ⊥
+    not_why n m (reading h) = no_row one nothing limits here after tail
+        (spellings g.after ++ rest) g.next may is g.bytes h.bytes at h.taken fits h.shown.taken r n
+        m h.shown.row
     not_why n m (judging h) =
         let c = consumed here tail (spelling h.instruction) after is h.bytes in
-        let same = front h.instruction g.next c.0 (spellings g.after ++ rest) h.allowed.good may.good (sym c.2 ∙ g.bytes) in
+        let same = front h.instruction g.next c.0 (spellings g.after ++ rest) h.allowed.good
+            may.good (sym c.2 ∙ g.bytes) in
         let fault = by_any setting policy limits q h.instruction r h.fault in
-        faultless q g.next g.after g.split (subst (λ i. HasRunFault policy limits q (everyone (RunsBehind setting q)) i r) same.0 fault)
+        faultless q g.next g.after g.split
+            (subst (λ i. HasRunFault policy limits q (everyone (RunsBehind setting q)) i r) same.0
+            fault)
     not_why n m (growing h) = m h.memory
 
   pub yes_excludes_no : YesExcludesNo
-  yes_excludes_no setting policy limits bytes old new taken imports other after at r pair known same few accepted refused n m =
+  yes_excludes_no setting policy limits bytes old new taken imports other after at r pair known same
+      few accepted refused n m =
       let p = accepted.instructions in
       let q = refused.instructions in
       let a = consumed old bytes (spellings p) new known accepted.bytes in
       let b = consumed other bytes (spellings q) refused.here same refused.bytes in
-      let g = goes (payload_limit limits) (payload_limit limits) p q a.0 b.0 accepted.sequence refused.admitted refused.goes_on (sym a.2 ∙ b.2) in
-      let short : length (spellings p) ≤ all_bytes = (let k = accepted.count in omega (arith, k, few)) in
+      let g = goes (payload_limit limits) (payload_limit limits) p q a.0 b.0 accepted.sequence
+          refused.admitted refused.goes_on (sym a.2 ∙ b.2) in
+      let short : length (spellings p) ≤ all_bytes =
+          (let k = accepted.count in omega (arith, k, few)) in
       let there : at ≡ length (spellings q) = (let k = refused.place in omega (arith, k)) in
       not_why setting policy limits p q a.0 b.0 g accepted.sequence.each short
-      r (λ before i is e f. accepted.faultless before i is e r f) refused.here after at pair b.1 there n m refused.why
+      r (λ before i is e f. accepted.faultless before i is e r f) refused.here after at pair b.1
+          there n m refused.why
 
   pub refused_for_limits : RefusedForLimits
-  refused_for_limits setting policy limits p rest old after at r pair sequence faultless is few refused n m =
+  refused_for_limits setting policy limits p rest old after at r pair sequence faultless is few
+      refused n m =
       if_not_other r (λ other.
       let q = refused.instructions in
       let b = consumed old (spellings p ++ rest) (spellings q) refused.here is refused.bytes in
-      let g = goes (payload_limit limits) (payload_limit limits) p q rest b.0 sequence refused.admitted refused.goes_on b.2 in
+      let g = goes (payload_limit limits) (payload_limit limits) p q rest b.0 sequence
+          refused.admitted refused.goes_on b.2 in
       let there : at ≡ length (spellings q) = (let k = refused.place in omega (arith, k)) in
       not_why setting policy limits p q rest b.0 g sequence.each few
-      r (λ before i is e f. faultless before i is e r other f) refused.here after at pair b.1 there n m refused.why)
+      r (λ before i is e f. faultless before i is e r other f) refused.here after at pair b.1 there
+          n m refused.why)

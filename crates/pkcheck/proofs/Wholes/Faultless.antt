@@ -1,6 +1,7 @@
 -- An instruction that the checker and the frame rules accept has no fault.
 use Rattle.pkcheck.specs.declared.old_strings.OldStrings.{OldStrings}
-use Rattle.std.proofs.Common.{◌≡◌, ℕ, suc, List, [], ◌∷◌, ◌++◌, length, map, Option, Some, sym, ap, subst, ◌∙◌}
+use Rattle.std.proofs.Common.{◌≡◌, ℕ, suc, List, [], ◌∷◌, ◌++◌, length, map, Option, Some, sym, ap}
+use Rattle.std.proofs.Common.{subst, ◌∙◌}
 use Rattle.pkops.specs.Limits.{Bounds}
 use Rattle.pkops.specs.Spelling.{Instruction}
 use Rattle.pkread.specs.Pieces.{FramesGoOn, piece_of}
@@ -18,14 +19,17 @@ use Rattle.pkcheck.specs.RunFaults.{HasRunFault, IsFaultless, RunsFrom}
 use Rattle.pkcheck.specs.Runs.{State, Stepped, WentOn, Raised, Stopped, Stuck, step_as}
 use Rattle.pkcheck.proofs.Covering.Verdicts.{Yes, verdict}
 use Rattle.pkcheck.proofs.Covering.Following.{step_follows}
-use Rattle.pkcheck.proofs.Covering.Standing.{no_fault, unknown_exactly}
+use Rattle.pkcheck.proofs.Covering.FirstFault.{no_fault, unknown_exactly}
 use Rattle.pkcheck.proofs.Wholes.FramesSoFar.{framed_in}
 use Rattle.pkcheck.proofs.Wholes.Origins.{Begins, arrived, stands_from}
 use Rattle.pkcheck.proofs.Stepping.Stops.{nowhere_before}
 use Rattle.pkcheck.proofs.Wholes.Walk.{along, verdict_first, verdict_split}
 
 -- a fault of an instruction that obeys the frame rules is one of the machine
-pub machine_fault : (policy : Policy) (limits : Bounds) (before : List Instruction) (i : Instruction) → IsFramed (map piece_of before) (piece_of i) [] → (here : Arrivals) (r : Reason) → HasRunFault policy limits before here i r → HasFaultHere policy limits here i r
+pub machine_fault : (policy : Policy) (limits : Bounds) (before : List Instruction)
+    (i : Instruction) → IsFramed (map piece_of before) (piece_of i) []
+    → (here : Arrivals) (r : Reason) → HasRunFault policy limits before here i r
+    → HasFaultHere policy limits here i r
 machine_fault policy limits before i w here reason.BrokenFrame h = absurd (h w)
 machine_fault policy limits before i w here reason.MissingMark h = h
 machine_fault policy limits before i w here reason.MissingItem h = h
@@ -46,7 +50,8 @@ machine_fault policy limits before i w here reason.ExtensionCode h = h
 machine_fault policy limits before i w here (reason.UnsupportedProtocol n) h = h
 machine_fault policy limits before i w here reason.OutOfMemory h = h
 
-same_place : {A : Type 0} (xs ys : List A) (a b : A) (us vs : List A) → length xs ≡ length ys → xs ++ a ∷ us ≡ ys ++ b ∷ vs → a ≡ b
+same_place : {A : Type 0} (xs ys : List A) (a b : A) (us vs : List A) → length xs ≡ length ys
+    → xs ++ a ∷ us ≡ ys ++ b ∷ vs → a ≡ b
 same_place [] [] a b us vs n e = cc
 same_place (x ∷ xs) (y ∷ ys) a b us vs n e = same_place xs ys a b us vs (cc) (cc)
 same_place [] (y ∷ ys) a b us vs n e = cc
@@ -61,34 +66,59 @@ asks_so q s (Stuck b) h = h
 
 module _ (setting : OldStrings) (policy : Policy) (limits : Bounds) where
   -- one entry for each instruction
-  pub length-asked : (p : List Instruction) (k known : Knowledge) (asked : List (Option Asked)) → verdict setting policy limits p k ≡ Yes known asked → length asked ≡ length p
-  length-asked [] k known asked e = let same : ◌≡◌ {A = List (Option Asked)} [] asked = cc in ap length (sym same)
+  pub length-asked : (p : List Instruction) (k known : Knowledge) (asked : List (Option Asked))
+      → verdict setting policy limits p k ≡ Yes known asked → length asked ≡ length p
+  length-asked [] k known asked e = let same : ◌≡◌ {A = List (Option Asked)} [] asked = cc in
+      ap length (sym same)
   length-asked (i ∷ p) k known asked e =
-      let f = verdict_first (advance setting policy limits i k) (verdict setting policy limits p) known asked e in
-      ap length f.rest.first ∙ ap suc (length-asked p f.passed.after known f.rest.listed f.rest.accepts)
+      let f = verdict_first (advance setting policy limits i k)
+          (verdict setting policy limits p) known asked e in
+      ap length f.rest.first
+          ∙ ap suc (length-asked p f.passed.after known f.rest.listed f.rest.accepts)
 
-  module _ (b : Beginning) (first : Knowledge) (begins : Begins setting policy b first) (p : List Instruction) (known : Knowledge) (asked : List (Option Asked)) (last : StopsLast p) (accepts : verdict setting policy limits p first ≡ Yes known asked) where
-    pub faultless : FramesGoOn → (still_open : ℕ) → counted_all 0 (map piece_of p) ≡ Some still_open → IsFaultless setting b policy limits p
+  module _ (b : Beginning) (first : Knowledge) (begins : Begins setting policy b first)
+      (p : List Instruction) (known : Knowledge) (asked : List (Option Asked)) (last : StopsLast p)
+      (accepts : verdict setting policy limits p first ≡ Yes known asked) where
+    pub faultless : FramesGoOn → (still_open : ℕ) → counted_all 0 (map piece_of p) ≡ Some still_open
+        → IsFaultless setting b policy limits p
     faultless goes_on still_open frames before i after e reason h =
-        let s = verdict_split setting policy limits before i after first known asked (ap (λ x. verdict setting policy limits x first) (sym e) ∙ accepts) in
-        let a = along setting policy limits before first s.known s.earlier (nowhere_before before i after (subst StopsLast e last)) s.accepts in
-        let w = framed_in goes_on before i after still_open (ap (λ x. counted_all 0 (map piece_of x)) (sym e) ∙ frames) in
-        no_fault policy limits i s.known (RunsFrom setting b before) (stands_from setting policy limits b before first s.known begins a) s.passed s.passes reason (machine_fault policy limits before i w (everyone (RunsFrom setting b before)) reason h)
+        let s = verdict_split setting policy limits before i after first known asked
+            (ap (λ x. verdict setting policy limits x first) (sym e) ∙ accepts) in
+        let a = along setting policy limits before first s.known s.earlier
+            (nowhere_before before i after (subst StopsLast e last)) s.accepts in
+        let w = framed_in goes_on before i after still_open
+            (ap (λ x. counted_all 0 (map piece_of x)) (sym e) ∙ frames) in
+        no_fault policy limits i s.known (RunsFrom setting b before)
+            (stands_from setting policy limits b before first s.known begins a) s.passed s.passes
+            reason
+            (machine_fault policy limits before i w (everyone (RunsFrom setting b before)) reason h)
 
     pub unknown_is_open : UnknownIsOpen setting b p asked
     unknown_is_open before i after earlier later e g n =
-        let s = verdict_split setting policy limits before i after first known asked (ap (λ x. verdict setting policy limits x first) (sym e) ∙ accepts) in
-        let a = along setting policy limits before first s.known s.earlier (nowhere_before before i after (subst StopsLast e last)) s.accepts in
+        let s = verdict_split setting policy limits before i after first known asked
+            (ap (λ x. verdict setting policy limits x first) (sym e) ∙ accepts) in
+        let a = along setting policy limits before first s.known s.earlier
+            (nowhere_before before i after (subst StopsLast e last)) s.accepts in
         let m = length-asked before first s.known s.earlier s.accepts in
-        unknown_exactly policy limits i s.known (RunsFrom setting b before) (stands_from setting policy limits b before first s.known begins a) s.passed s.passes (same_place s.earlier earlier s.passed.import (Some AskedUnknown) s.later later (m ∙ sym n) (sym s.listed ∙ g))
+        unknown_exactly policy limits i s.known (RunsFrom setting b before)
+            (stands_from setting policy limits b before first s.known begins a) s.passed s.passes
+            (same_place s.earlier earlier s.passed.import (Some AskedUnknown) s.later later
+            (m ∙ sym n) (sym s.listed ∙ g))
 
     pub each_asks : EachAsks setting b p asked
     each_asks before i after earlier import later e g n state outcome gets =
-        let s = verdict_split setting policy limits before i after first known asked (ap (λ x. verdict setting policy limits x first) (sym e) ∙ accepts) in
-        let a = along setting policy limits before first s.known s.earlier (nowhere_before before i after (subst StopsLast e last)) s.accepts in
+        let s = verdict_split setting policy limits before i after first known asked
+            (ap (λ x. verdict setting policy limits x first) (sym e) ∙ accepts) in
+        let a = along setting policy limits before first s.known s.earlier
+            (nowhere_before before i after (subst StopsLast e last)) s.accepts in
         let m = length-asked before first s.known s.earlier s.accepts in
-        let same = same_place s.earlier earlier s.passed.import import s.later later (m ∙ sym n) (sym s.listed ∙ g) in
+        let same = same_place s.earlier earlier s.passed.import import s.later later (m ∙ sym n)
+            (sym s.listed ∙ g) in
         let w = arrived setting b before state gets in
         let covered = a.each w.0 state w.2.0 (begins.each w.0 w.1) w.2.1 in
-        let follows = subst (λ x. FollowsIfOk IsObject x state (step_as setting i state outcome)) s.passes (step_follows IsObject objects_grow setting policy limits i s.known state outcome covered (any_answer state.objects outcome)) in
-        subst (λ x. Asks x state (step_as setting i state outcome)) same (asks_so s.passed state (step_as setting i state outcome) follows)
+        let follows = subst (λ x. FollowsIfOk IsObject x state (step_as setting i state outcome))
+            s.passes
+            (step_follows IsObject objects_grow setting policy limits i s.known state outcome
+            covered (any_answer state.objects outcome)) in
+        subst (λ x. Asks x state (step_as setting i state outcome)) same
+            (asks_so s.passed state (step_as setting i state outcome) follows)

@@ -1,5 +1,6 @@
 -- What a reader returned after the earlier instructions, by any of its calls.
-use Rattle.std.proofs.Common.{◌≡◌, ℕ, suc, ◌+◌, true, false, List, [], ◌∷◌, ◌++◌, length, refl, sym, ap, subst, ◌∙◌, arith, Result, Ok, Err}
+use Rattle.std.proofs.Common.{◌≡◌, ℕ, suc, ◌+◌, true, false, List, [], ◌∷◌, ◌++◌, length, refl, sym}
+use Rattle.std.proofs.Common.{ap, subst, ◌∙◌, arith, Result, Ok, Err}
 use Rattle.std.specs.Prelude.{All, Bool, IsTrue, if◌then◌else◌}
 use Rattle.pkops.specs.Inst.{instruction_of}
 use Rattle.pkops.specs.Limits.{Bounds}
@@ -14,7 +15,8 @@ use Rattle.pkread.specs.Heads.{IsSkipped, StepsHead}
 use Rattle.pkread.specs.Peek.{IsNext, PassesOver}
 use Rattle.pkread.specs.Reading.{Gives, ReaderState, Steps}
 use Rattle.pkread.specs.Rows.{Refuses, Sight, Takes, unread}
-use Rattle.pkread.specs.Run.{HeadIsRead, HoldsTo, NextIsRead, PassedIsRead, PassesTo, PeekedIsRead, Reads, ReadsMore, RefusalIsRead, RefusalOfHeads}
+use Rattle.pkread.specs.Run.{HeadIsRead, HoldsTo, NextIsRead, PassedIsRead, PassesTo, PeekedIsRead}
+use Rattle.pkread.specs.Run.{Reads, ReadsMore, RefusalIsRead, RefusalOfHeads}
 use Rattle.pkread.specs.Sequence.{NoStop}
 use Rattle.pkread.specs.declared.Head.{Head}
 use Rattle.pkread.specs.declared.Head.TheVariants as head
@@ -27,11 +29,13 @@ last_of P [] x h = h 0 x (omega arith)
 last_of P (y ∷ xs) x h = last_of P xs x (λ k d lt. h (suc k) d (omega (arith, lt)))
 
 -- if skipped payloads have the limit of all others, every payload has it
-one_limit : (limits : Bounds) → limits.passed ≡ limits.counted → (passed : Bool) → (if passed then limits.passed else limits.counted) ≡ limits.counted
+one_limit : (limits : Bounds) → limits.passed ≡ limits.counted → (passed : Bool)
+    → (if passed then limits.passed else limits.counted) ≡ limits.counted
 one_limit limits e true = e
 one_limit limits e false = refl
 
-one_limit_at : (limits : Bounds) → limits.passed ≡ limits.counted → (b : List ℕ) → payload_limit_at limits b ≡ limits.counted
+one_limit_at : (limits : Bounds) → limits.passed ≡ limits.counted → (b : List ℕ)
+    → payload_limit_at limits b ≡ limits.counted
 one_limit_at limits e [] = refl
 one_limit_at limits e (code ∷ b) = one_limit limits e (is_passed_code code)
 
@@ -57,9 +61,11 @@ module _ (start : Sight) (from : ℕ) (limits : Bounds) (p : List Instruction) (
     pub no_stop : NoStop p
     pub place : r.at ≡ s.taken
     pub bytes : List ℕ
-    pub why : Refuses (payload_limit_at limits bytes) s.source t.source bytes s.taken t.taken r.reason
+    pub why : Refuses (payload_limit_at limits bytes) s.source t.source bytes s.taken t.taken
+        r.reason
 
-  gave : (at : ℕ) (i : Instruction) (t : ReaderState) → t.limits ≡ s.limits → ReadsMore start from (payload_limit limits) p i t × Gives s at i t → Took at i t
+  gave : (at : ℕ) (i : Instruction) (t : ReaderState) → t.limits ≡ s.limits
+      → ReadsMore start from (payload_limit limits) p i t × Gives s at i t → Took at i t
   gave at i t same w = record {
     more = w.0;
     same_limits = same;
@@ -70,37 +76,49 @@ module _ (start : Sight) (from : ℕ) (limits : Bounds) (p : List Instruction) (
     phase = w.1.phase;
   }
 
-  module _ (reads : Reads start from (payload_limit limits) p s) (same : s.limits ≡ limits) (t : ReaderState) where
+  module _ (reads : Reads start from (payload_limit limits) p s) (same : s.limits ≡ limits)
+      (t : ReaderState) where
     -- for `next`, which holds each payload, with one limit for all
     module _ (one : limits.passed ≡ limits.counted) where
       holds : HoldsTo s (payload_limit limits)
       holds o = ap (λ l. l.counted) same ∙ sym (one_limit limits one (is_passed o))
 
-      pub took_next : NextIsRead → (r : Result Next Refusal) (at : ℕ) (i : Inst) → Steps s r t → r ≡ Ok (next.Inst at i) → Took at (instruction_of i) t
-      took_next law r at i k e = gave at (instruction_of i) t k.0 (law start from (payload_limit limits) p s t r at i holds reads k e)
+      pub took_next : NextIsRead → (r : Result Next Refusal) (at : ℕ) (i : Inst) → Steps s r t
+          → r ≡ Ok (next.Inst at i) → Took at (instruction_of i) t
+      took_next law r at i k e = gave at (instruction_of i) t k.0
+          (law start from (payload_limit limits) p s t r at i holds reads k e)
 
-      pub refused_next : RefusalIsRead → (r : Result Next Refusal) (x : Refusal) → Steps s r t → r ≡ Err x → Turned x t
+      pub refused_next : RefusalIsRead → (r : Result Next Refusal) (x : Refusal) → Steps s r t
+          → r ≡ Err x → Turned x t
       refused_next law r x k e =
           let w = law start from (payload_limit limits) p s t r x reads k e in
           let b = w.1.why.0 in
-          record { no_stop = w.0; place = w.1.place; bytes = b; why = subst (λ l. Refuses l s.source t.source b s.taken t.taken x.reason) (ap (λ l. l.counted) same ∙ sym (one_limit_at limits one b)) w.1.why.1 }
+          record { no_stop = w.0; place = w.1.place; bytes = b;
+              why = subst (λ l. Refuses l s.source t.source b s.taken t.taken x.reason)
+              (ap (λ l. l.counted) same ∙ sym (one_limit_at limits one b)) w.1.why.1 }
 
     -- for `next_head`
     passes : PassesTo s (payload_limit limits)
     passes o = ap (λ l. payload_limit l o) same
 
-    pub took_head : HeadIsRead → (r : Result Head Refusal) (at : ℕ) (i : Inst) → StepsHead s r t → r ≡ Ok (head.Inst at i) → Took at (instruction_of i) t
-    took_head law r at i k e = gave at (instruction_of i) t k.0 (law start from (payload_limit limits) p s t r at i passes reads k e)
+    pub took_head : HeadIsRead → (r : Result Head Refusal) (at : ℕ) (i : Inst) → StepsHead s r t
+        → r ≡ Ok (head.Inst at i) → Took at (instruction_of i) t
+    took_head law r at i k e = gave at (instruction_of i) t k.0
+        (law start from (payload_limit limits) p s t r at i passes reads k e)
 
     -- for `peek` and `advance`
-    pub took_peeked : PeekedIsRead → (at count : ℕ) (i : Inst) → at ≡ s.taken → IsNext s count (instruction_of i) → PassesOver s (instruction_of i) t → Took at (instruction_of i) t
+    pub took_peeked : PeekedIsRead → (at count : ℕ) (i : Inst) → at ≡ s.taken
+        → IsNext s count (instruction_of i) → PassesOver s (instruction_of i) t
+        → Took at (instruction_of i) t
     took_peeked law at count i place shown over =
-        let more = law start from (payload_limit limits) p s t count (instruction_of i) passes reads shown over in
+        let more = law start from (payload_limit limits) p s t count
+            (instruction_of i) passes reads shown over in
         record {
           more = more;
           same_limits = over.limits;
           place = place;
-          allowed = last_of (IsAllowedBy (payload_limit limits)) p (instruction_of i) more.reads.each;
+          allowed = last_of (IsAllowedBy (payload_limit limits)) p
+              (instruction_of i) more.reads.each;
           bytes = over.bytes;
           taken = over.taken;
           phase = over.phase ∙ sym shown.goes_on;
@@ -110,9 +128,11 @@ module _ (start : Sight) (from : ℕ) (limits : Bounds) (p : List Instruction) (
     open_after op.Stop h = cc
     open_after _ h = refl
 
-    pub took_passed : PassedIsRead → (r : Result Head Refusal) (at : ℕ) (o : Op) (count : ℕ) → StepsHead s r t → r ≡ Ok (head.Passed at o count) → Passed at o count t
+    pub took_passed : PassedIsRead → (r : Result Head Refusal) (at : ℕ) (o : Op) (count : ℕ)
+        → StepsHead s r t → r ≡ Ok (head.Passed at o count) → Passed at o count t
     took_passed law r at o count k e =
-        let (payload, one, more, bytes, taken, g) = law start from (payload_limit limits) p s t r at o count passes reads k e in
+        let (payload, one, more, bytes, taken, g) =
+            law start from (payload_limit limits) p s t r at o count passes reads k e in
         record {
           payload = payload;
           one = one;
@@ -127,15 +147,21 @@ module _ (start : Sight) (from : ℕ) (limits : Bounds) (p : List Instruction) (
           };
         }
 
-    pub refused_head : RefusalOfHeads → (r : Result Head Refusal) (x : Refusal) → StepsHead s r t → r ≡ Err x → Turned x t
+    pub refused_head : RefusalOfHeads → (r : Result Head Refusal) (x : Refusal) → StepsHead s r t
+        → r ≡ Err x → Turned x t
     refused_head law r x k e =
         let w = law start from (payload_limit limits) p s t r x reads k e in
         let b = w.1.why.0 in
-        record { no_stop = w.0; place = w.1.place; bytes = b; why = subst (λ l. Refuses (payload_limit_at l b) s.source t.source b s.taken t.taken x.reason) same w.1.why.1 }
+        record { no_stop = w.0; place = w.1.place; bytes = b;
+            why = subst
+            (λ l. Refuses (payload_limit_at l b) s.source t.source b s.taken t.taken x.reason) same
+            w.1.why.1 }
 
 -- if no byte was read ahead, the view of the source is unchanged
-pub seen_so : (ahead : List ℕ) (now here : Sight) → ahead ≡ [] → now ≡ here → now ≡ unread ahead here
+pub seen_so : (ahead : List ℕ) (now here : Sight) → ahead ≡ [] → now ≡ here
+    → now ≡ unread ahead here
 seen_so ahead now here e h = h ∙ rw e refl
 
-pub failures_so : (ahead : List ℕ) (now here : Sight) → ahead ≡ [] → now ≡ here → now.failures ≡ (unread ahead here).failures
+pub failures_so : (ahead : List ℕ) (now here : Sight) → ahead ≡ [] → now ≡ here
+    → now.failures ≡ (unread ahead here).failures
 failures_so ahead now here e h = ap (λ s. s.failures) (seen_so ahead now here e h)

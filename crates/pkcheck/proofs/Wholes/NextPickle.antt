@@ -1,7 +1,8 @@
 -- Where the runs of the next pickle begin after an accepted one, if the memo is kept.
 use Rattle.pkcheck.specs.declared.old_strings.OldStrings.{OldStrings}
 use Rattle.pkcheck.specs.declared.old_strings.OldStrings.TheVariants.{Unknown, Ascii, Bytes}
-use Rattle.std.proofs.Common.{◌≡◌, ℕ, List, [], ◌∷◌, ◌++◌, length, Option, Some, Result, Ok, Err, refl, sym, ap, subst, ◌∙◌, append-nil}
+use Rattle.std.proofs.Common.{◌≡◌, ℕ, List, [], ◌∷◌, ◌++◌, length, Option, Some, Result, Ok, Err}
+use Rattle.std.proofs.Common.{refl, sym, ap, subst, ◌∙◌, append-nil}
 use Rattle.std.specs.Prelude.{All}
 use Rattle.std.proofs.lemmas.Grind.{flat_map-append}
 use Rattle.std.proofs.lemmas.List.{map-append}
@@ -17,16 +18,21 @@ use Rattle.pkcheck.specs.Effects.{Effect, Operates, Moves, Stops, Raises, effect
 use Rattle.pkcheck.specs.Knowledge.{Knowledge, Policy, Asked, Progress, advance, learn}
 use Rattle.pkcheck.specs.Listing.{StandsFor, ImportsAreListed, imports_among, permitted_by}
 use Rattle.pkcheck.specs.RowRuns.{Behind, Pickle, imports_of_all, next_from, run_row, sequences_of}
-use Rattle.pkcheck.specs.Runs.{CanCome, Object, Outcome, State, Text, Stepped, WentOn, Raised, Stopped, Stuck, effect_asks, perform, start, step_as, stop_step}
+use Rattle.pkcheck.specs.Runs.{CanCome, Object, Outcome, State, Text, Stepped, WentOn, Raised}
+use Rattle.pkcheck.specs.Runs.{Stopped, Stuck, effect_asks, perform, start, step_as, stop_step}
 use Rattle.pkcheck.specs.Shape.{Breach, Entry, top}
-use Rattle.pkcheck.specs.WholeRuns.{AllListed, Ended, EndedBy, EndsWell, Reached, first_outcome, go_on, outcomes_after, run_as}
-use Rattle.pkcheck.proofs.Covering.Answering.{Answered, IsGoing, Word, grows, learn_exactly, new_text, new_text_holds}
-use Rattle.pkcheck.proofs.Covering.CoversBy.{CoversBy, FollowsBy, FollowsIfOk, any_answer, objects_grow}
+use Rattle.pkcheck.specs.WholeRuns.{AllListed, Ended, EndedBy, EndsWell, Reached, first_outcome}
+use Rattle.pkcheck.specs.WholeRuns.{go_on, outcomes_after, run_as}
+use Rattle.pkcheck.proofs.Covering.Answering.{Answered, IsGoing, Word, grows, learn_exactly}
+use Rattle.pkcheck.proofs.Covering.Answering.{new_text, new_text_holds}
+use Rattle.pkcheck.proofs.Covering.CoversBy.{CoversBy, FollowsBy, FollowsIfOk, any_answer}
+use Rattle.pkcheck.proofs.Covering.CoversBy.{objects_grow}
 use Rattle.pkcheck.proofs.Covering.Following.{step_follows}
 use Rattle.pkcheck.proofs.Covering.Verdicts.{StopsLast, Yes, verdict}
 use Rattle.pkcheck.proofs.Stepping.Settings.{only_stop}
 use Rattle.pkcheck.proofs.Stepping.Stops.{stops_nowhere, sequence_last}
-use Rattle.pkcheck.proofs.Wholes.Listed.{after_first, listed_from, only_stop as stopped_by_stop, sound_from, stop_is_last}
+use Rattle.pkcheck.proofs.Wholes.Listed.{after_first, listed_from, only_stop as stopped_by_stop}
+use Rattle.pkcheck.proofs.Wholes.Listed.{sound_from, stop_is_last}
 use Rattle.pkcheck.proofs.Wholes.Origins.{Begins, StartsIn}
 use Rattle.pkcheck.proofs.Wholes.RunSteps.{going, gone, run_on}
 use Rattle.pkcheck.proofs.Wholes.Walk.{StopsNowhere, verdict_first, yes_parts}
@@ -39,7 +45,8 @@ cleared t = record t { shape = record { entries = []; memo = t.shape.memo } }
 abbrev pub memo_of : Knowledge → Knowledge
 memo_of k = record { entries = []; memo = k.memo }
 
-covers_cleared : (U : List Object → ℕ → Type 0) (k : Knowledge) (t : State) → CoversBy U k t → CoversBy U (memo_of k) (cleared t)
+covers_cleared : (U : List Object → ℕ → Type 0) (k : Knowledge) (t : State) → CoversBy U k t
+    → CoversBy U (memo_of k) (cleared t)
 covers_cleared U k t c = record { entries = tt; memo = c.memo }
 
 -- ---- the runs of a row, pickle by pickle
@@ -51,19 +58,22 @@ record StoppedAt (x : Ended) (next : State → Option State) (s : State) : Type 
   stops : x ≡ EndedBy (Stopped result state)
   comes : next (cleared state) ≡ Some s
 
-next_stops : (x : Ended) (next : State → Option State) (s : State) → next_from x next ≡ Some s → StoppedAt x next s
+next_stops : (x : Ended) (next : State → Option State) (s : State) → next_from x next ≡ Some s
+    → StoppedAt x next s
 next_stops (Reached u) next s e = cc
 next_stops (EndedBy (WentOn u)) next s e = cc
 next_stops (EndedBy (Raised u)) next s e = cc
 next_stops (EndedBy (Stuck b)) next s e = cc
-next_stops (EndedBy (Stopped r t)) next s e = record { result = r; state = t; stops = refl; comes = e }
+next_stops (EndedBy (Stopped r t)) next s e =
+    record { result = r; state = t; stops = refl; comes = e }
 
 same_state : (s t : State) → Some s ≡ Some t → s ≡ t
 same_state s t e = cc
 
 module _ (setting : OldStrings) where
   -- a run of some pickles and one more, split where the last one begins
-  record LastOf (ps : List (List Instruction)) (p : List Instruction) (first s : State) : Type 0 where
+  record LastOf (ps : List (List Instruction)) (p : List Instruction)
+      (first s : State) : Type 0 where
     middle : State
     before : List (List Outcome)
     comes : run_row setting ps before first ≡ Some middle
@@ -73,16 +83,20 @@ module _ (setting : OldStrings) where
     stops : run_as setting p outcomes middle ≡ EndedBy (Stopped result state)
     is : s ≡ cleared state
 
-  last_of : (ps : List (List Instruction)) (p : List Instruction) (oss : List (List Outcome)) (first s : State) → run_row setting (ps ++ p ∷ []) oss first ≡ Some s → LastOf ps p first s
+  last_of : (ps : List (List Instruction)) (p : List Instruction) (oss : List (List Outcome))
+      (first s : State) → run_row setting (ps ++ p ∷ []) oss first ≡ Some s → LastOf ps p first s
   last_of [] p [] first s e = cc
   last_of (q ∷ ps) p [] first s e = cc
   last_of [] p (os ∷ oss) first s e =
       let n = next_stops (run_as setting p os first) (run_row setting [] oss) s e in
-      record { middle = first; before = []; comes = refl; outcomes = os; result = n.result; state = n.state; stops = n.stops; is = same_state s (cleared n.state) (sym n.comes) }
+      record { middle = first; before = []; comes = refl; outcomes = os; result = n.result;
+          state = n.state; stops = n.stops; is = same_state s (cleared n.state) (sym n.comes) }
   last_of (q ∷ ps) p (os ∷ oss) first s e =
       let n = next_stops (run_as setting q os first) (run_row setting (ps ++ p ∷ []) oss) s e in
       let m = last_of ps p oss (cleared n.state) s n.comes in
-      record { middle = m.middle; before = os ∷ m.before; comes = ap (λ x. next_from x (run_row setting ps m.before)) n.stops ∙ m.comes; outcomes = m.outcomes; result = m.result; state = m.state; stops = m.stops; is = m.is }
+      record { middle = m.middle; before = os ∷ m.before;
+          comes = ap (λ x. next_from x (run_row setting ps m.before)) n.stops ∙ m.comes; outcomes =
+          m.outcomes; result = m.result; state = m.state; stops = m.stops; is = m.is }
 
   -- joins the run of some pickles with the run of one more
   with_last : (ps : List (List Instruction)) (p : List Instruction) (oss : List (List Outcome))
@@ -92,13 +106,17 @@ module _ (setting : OldStrings) where
       → (qss : List (List Outcome)) × All (All CanCome) qss ×
       (run_row setting (ps ++ p ∷ []) qss first ≡ Some (cleared t))
   with_last [] p oss first middle can e os r t all g =
-      let at : run_as setting p os first ≡ EndedBy (Stopped r t) = ap (run_as setting p os) (same_state first middle e) ∙ g in
-      (os ∷ [], All-cons (All CanCome) os [] all (All-nil (All CanCome)), ap (λ x. next_from x (run_row setting [] [])) at)
+      let at : run_as setting p os first ≡ EndedBy (Stopped r t) =
+          ap (run_as setting p os) (same_state first middle e) ∙ g in
+      (os ∷ [], All-cons (All CanCome) os [] all (All-nil (All CanCome)),
+          ap (λ x. next_from x (run_row setting [] [])) at)
   with_last (q ∷ ps) p [] first middle can e os r t all g = cc
   with_last (q ∷ ps) p (ws ∷ oss) first middle can e os r t all g =
       let n = next_stops (run_as setting q ws first) (run_row setting ps oss) middle e in
-      let m = with_last ps p oss (cleared n.state) middle (All-tail (All CanCome) ws oss can) n.comes os r t all g in
-      (ws ∷ m.0, All-cons (All CanCome) ws m.0 (All-head (All CanCome) ws oss can) m.1, ap (λ x. next_from x (run_row setting (ps ++ p ∷ []) m.0)) n.stops ∙ m.2)
+      let m = with_last ps p oss (cleared n.state) middle
+          (All-tail (All CanCome) ws oss can) n.comes os r t all g in
+      (ws ∷ m.0, All-cons (All CanCome) ws m.0 (All-head (All CanCome) ws oss can) m.1,
+          ap (λ x. next_from x (run_row setting (ps ++ p ∷ []) m.0)) n.stops ∙ m.2)
 
 -- ---- the end of an accepted pickle
 
@@ -112,7 +130,8 @@ never_on : (s u : State) (x : Result (ℕ × List (Entry ℕ)) Breach) → stop_
 never_on s u (Ok t) e = cc
 never_on s u (Err b) e = cc
 
-stop_ends : (e : Effect) (i : Instruction) (s u : State) (o : Outcome) → e ≡ Stops → perform e i s o ≡ WentOn u → ⊥
+stop_ends : (e : Effect) (i : Instruction) (s u : State) (o : Outcome) → e ≡ Stops
+    → perform e i s o ≡ WentOn u → ⊥
 stop_ends Stops i s u o same h = never_on s u (top s.shape.entries) h
 stop_ends (Operates takes names gives) i s u o same h = cc
 stop_ends (Moves m) i s u o same h = cc
@@ -122,8 +141,10 @@ same_end : (r q : ℕ) (s t : State) → EndedBy (Stopped r s) ≡ EndedBy (Stop
 same_end r q s t e = cc
 
 -- the imports of one more pickle
-pub imports_more : (before : List Pickle) (x : Pickle) → imports_of_all (before ++ x ∷ []) ≡ imports_of_all before ++ x.imports
-imports_more before x = flat_map-append (λ (y : Pickle). y.imports) before (x ∷ []) ∙ ap (λ l. imports_of_all before ++ l) (append-nil x.imports)
+pub imports_more : (before : List Pickle) (x : Pickle)
+    → imports_of_all (before ++ x ∷ []) ≡ imports_of_all before ++ x.imports
+imports_more before x = flat_map-append (λ (y : Pickle). y.imports) before (x ∷ [])
+    ∙ ap (λ l. imports_of_all before ++ l) (append-nil x.imports)
 
 module _ (setting : OldStrings) (policy : Policy) (limits : Bounds) where
   -- what is known at the end covers each state in which a run stops
@@ -139,8 +160,10 @@ module _ (setting : OldStrings) (policy : Policy) (limits : Bounds) where
   stops_on i is q s (Stuck b) known listed os r t last e g by on h = cc
   stops_on i is q s (Stopped n u) known listed os r t last e g by on h =
       let none = stop_is_last setting i is last (by n u refl) in
-      let same = yes_parts q.after known [] listed (subst (λ x. verdict setting policy limits x q.after ≡ Yes known listed) none e) in
-      subst (λ x. CoversBy IsObject known x) (same_end n r u t h) (subst (λ x. CoversBy IsObject x u) same.0 g.2)
+      let same = yes_parts q.after known [] listed
+          (subst (λ x. verdict setting policy limits x q.after ≡ Yes known listed) none e) in
+      subst (λ x. CoversBy IsObject known x) (same_end n r u t h)
+          (subst (λ x. CoversBy IsObject x u) same.0 g.2)
 
   pub stopped_covered : (is : List Instruction) (k known : Knowledge) (asked : List (Option Asked))
       (s : State) (os : List Outcome) (r : ℕ) (t : State) → StopsLast is
@@ -150,8 +173,11 @@ module _ (setting : OldStrings) (policy : Policy) (limits : Bounds) where
   stopped_covered (i ∷ is) k known asked s os r t last e c h =
       let o = first_outcome os in
       let st = step_as setting i s o in
-      let f = verdict_first (advance setting policy limits i k) (verdict setting policy limits is) known asked e in
-      let w : FollowsBy IsObject f.passed s st = subst (λ x. FollowsIfOk IsObject x s st) f.passes (step_follows IsObject objects_grow setting policy limits i k s o c (any_answer s.objects o)) in
+      let f = verdict_first (advance setting policy limits i k)
+          (verdict setting policy limits is) known asked e in
+      let w : FollowsBy IsObject f.passed s st = subst (λ x. FollowsIfOk IsObject x s st) f.passes
+          (step_follows IsObject objects_grow setting policy limits i k s o c
+          (any_answer s.objects o)) in
       stops_on i is f.passed s st known f.rest.listed (outcomes_after
       (effect_asks (effect_as setting i)) os) r t last f.rest.accepts w
       (λ n u g. stopped_by_stop (effect_as setting i) i n s u o g)
@@ -159,7 +185,8 @@ module _ (setting : OldStrings) (policy : Policy) (limits : Bounds) where
       (after_first i is last) f.rest.accepts d g) h
 
   -- some run stops in which each answer is one text
-  record StopsSomewhere (p : List Instruction) (known : Knowledge) (v : Word) (s : State) : Type 0 where
+  record StopsSomewhere (p : List Instruction) (known : Knowledge) (v : Word)
+      (s : State) : Type 0 where
     outcomes : List Outcome
     can : All CanCome outcomes
     result : ℕ
@@ -172,21 +199,33 @@ module _ (setting : OldStrings) (policy : Policy) (limits : Bounds) where
     goes : IsGoing (effect_as setting i) (step_as setting i s (new_text v.text s))
     follows : FollowsBy (Answered v.text) q s (step_as setting i s (new_text v.text s))
 
-  steps : (i : Instruction) (k : Knowledge) (q : Progress) (v : Word) (s : State) → advance setting policy limits i k ≡ Ok q → CoversBy (Answered v.text) k s → Steps i q v s
+  steps : (i : Instruction) (k : Knowledge) (q : Progress) (v : Word) (s : State)
+      → advance setting policy limits i k ≡ Ok q → CoversBy (Answered v.text) k s → Steps i q v s
   steps i k q v s e c =
       let o = new_text v.text s in
       let st = step_as setting i s o in
       record {
-        goes = going limits (number_stored (effect_as setting i) i) v.text (effect_as setting i) k s st q (learn policy (effect_as setting i) i k) (learn_exactly v.text policy (effect_as setting i) i k s (length s.objects) (Text v.text) c) e;
-        follows = subst (λ x. FollowsIfOk (Answered v.text) x s st) e (step_follows (Answered v.text) (grows v.text) setting policy limits i k s o c (new_text_holds v.text s));
+        goes = going limits (number_stored (effect_as setting i) i) v.text
+            (effect_as setting i) k s st q (learn policy (effect_as setting i) i k)
+            (learn_exactly v.text policy (effect_as setting i) i k s (length s.objects)
+            (Text v.text) c) e;
+        follows = subst (λ x. FollowsIfOk (Answered v.text) x s st) e
+            (step_follows (Answered v.text) (grows v.text) setting policy limits i k s o c
+            (new_text_holds v.text s));
       }
 
-  stops_at : (i : Instruction) (q : Progress) (v : Word) (s : State) (st : Stepped) → step_as setting i s (new_text v.text s) ≡ st → effect_as setting i ≡ Stops → IsGoing (effect_as setting i) st → FollowsBy (Answered v.text) q s st → StopsSomewhere (i ∷ []) q.after v s
-  stops_at i q v s (WentOn u) is e g w = absurd (stop_ends (effect_as setting i) i s u (new_text v.text s) e is)
+  stops_at : (i : Instruction) (q : Progress) (v : Word) (s : State) (st : Stepped)
+      → step_as setting i s (new_text v.text s) ≡ st → effect_as setting i ≡ Stops
+      → IsGoing (effect_as setting i) st → FollowsBy (Answered v.text) q s st
+      → StopsSomewhere (i ∷ []) q.after v s
+  stops_at i q v s (WentOn u) is e g w = absurd
+      (stop_ends (effect_as setting i) i s u (new_text v.text s) e is)
   stops_at i q v s (Raised u) is e g w = absurd g
   stops_at i q v s (Stuck b) is e g w = absurd g
   stops_at i q v s (Stopped r t) is e g w =
-      let m = run_on setting (effect_asks (effect_as setting i)) i [] s (new_text v.text s) [] (EndedBy (Stopped r t)) v.utf8 (All-nil CanCome) refl (ap (λ x. go_on x (run_as setting [] [])) is) in
+      let m = run_on setting (effect_asks (effect_as setting i)) i [] s (new_text v.text s) []
+          (EndedBy (Stopped r t)) v.utf8 (All-nil CanCome) refl
+          (ap (λ x. go_on x (run_as setting [] [])) is) in
       record { outcomes = m.0; can = m.1; result = r; state = t; stops = m.2; covered = w.2 }
 
   some_stops : (front : List Instruction) (last : Instruction) (k known : Knowledge)
@@ -195,22 +234,34 @@ module _ (setting : OldStrings) (policy : Policy) (limits : Bounds) where
       → (v : Word) (s : State) → CoversBy (Answered v.text) k s
       → StopsSomewhere (front ++ last ∷ []) known v s
   some_stops [] last k known asked on is e v s c =
-      let f = verdict_first (advance setting policy limits last k) (verdict setting policy limits []) known asked e in
+      let f = verdict_first (advance setting policy limits last k)
+          (verdict setting policy limits []) known asked e in
       let w = steps last k f.passed v s f.passes c in
-      let m = stops_at last f.passed v s (step_as setting last s (new_text v.text s)) refl (stop_stops setting last is) w.goes w.follows in
-      subst (λ x. StopsSomewhere (last ∷ []) x v s) (yes_parts f.passed.after known [] f.rest.listed f.rest.accepts).0 m
+      let m = stops_at last f.passed v s (step_as setting last s (new_text v.text s)) refl
+          (stop_stops setting last is) w.goes w.follows in
+      subst (λ x. StopsSomewhere (last ∷ []) x v s)
+          (yes_parts f.passed.after known [] f.rest.listed f.rest.accepts).0 m
   some_stops (i ∷ front) last k known asked on is e v s c =
       let rest = front ++ last ∷ [] in
-      let f = verdict_first (advance setting policy limits i k) (verdict setting policy limits rest) known asked e in
+      let f = verdict_first (advance setting policy limits i k)
+          (verdict setting policy limits rest) known asked e in
       let w = steps i k f.passed v s f.passes c in
-      let u = gone (effect_as setting i) (Answered v.text) f.passed s (step_as setting i s (new_text v.text s)) (only_stop setting i on.0) w.goes w.follows in
-      let m = some_stops front last f.passed.after known f.rest.listed on.1 is f.rest.accepts v u.0 u.2 in
-      let n = run_on setting (effect_asks (effect_as setting i)) i rest s (new_text v.text s) m.outcomes (EndedBy (Stopped m.result m.state)) v.utf8 m.can refl (ap (λ x. go_on x (run_as setting rest m.outcomes)) u.1 ∙ m.stops) in
-      record { outcomes = n.0; can = n.1; result = m.result; state = m.state; stops = n.2; covered = m.covered }
+      let u = gone (effect_as setting i) (Answered v.text) f.passed s
+          (step_as setting i s (new_text v.text s)) (only_stop setting i on.0) w.goes w.follows in
+      let m = some_stops front last f.passed.after known f.rest.listed on.1 is f.rest.accepts v u.0
+          u.2 in
+      let n = run_on setting (effect_asks (effect_as setting i)) i rest s
+          (new_text v.text s) m.outcomes (EndedBy (Stopped m.result m.state)) v.utf8 m.can refl
+          (ap (λ x. go_on x (run_as setting rest m.outcomes)) u.1 ∙ m.stops) in
+      record { outcomes = n.0; can = n.1; result = m.result; state = m.state; stops = n.2;
+          covered = m.covered }
 
   -- ---- the next pickle
 
-  module _ (before : List Pickle) (k : Knowledge) (begins : Begins setting policy (Behind before) k) (limit : Op → ℕ) (p : List Instruction) (sequence : IsSequence limit p) (known : Knowledge) (asked : List (Option Asked)) (accepts : verdict setting policy limits p k ≡ Yes known asked) where
+  module _ (before : List Pickle) (k : Knowledge) (begins : Begins setting policy (Behind before) k)
+      (limit : Op → ℕ) (p : List Instruction) (sequence : IsSequence limit p) (known : Knowledge)
+      (asked : List (Option Asked))
+      (accepts : verdict setting policy limits p k ≡ Yes known asked) where
     abbrev this : Pickle
     this = record { instructions = p; imports = imports_among asked }
 
@@ -226,28 +277,45 @@ module _ (setting : OldStrings) (policy : Policy) (limits : Bounds) where
 
     came : (s : State) → StartsIn setting (Behind (before ++ this ∷ [])) s → Came s
     came s (oss, e) =
-        let l = last_of setting (sequences_of before) p oss start s (subst (λ ps. run_row setting ps oss start ≡ Some s) (map-append (λ (y : Pickle). y.instructions) before (this ∷ [])) e) in
-        record { first = l.middle; starts = (l.before, l.comes); outcomes = l.outcomes; result = l.result; state = l.state; stops = l.stops; is = l.is }
+        let l = last_of setting (sequences_of before) p oss start s
+            (subst (λ ps. run_row setting ps oss start ≡ Some s)
+            (map-append (λ (y : Pickle). y.instructions) before (this ∷ [])) e) in
+        record { first = l.middle; starts = (l.before, l.comes); outcomes = l.outcomes;
+            result = l.result; state = l.state; stops = l.stops; is = l.is }
 
     last : StopsLast p
     last = sequence_last limit p sequence
 
-    next_each : (s : State) → StartsIn setting (Behind (before ++ this ∷ [])) s → CoversBy IsObject (memo_of known) s
+    next_each : (s : State) → StartsIn setting (Behind (before ++ this ∷ [])) s
+        → CoversBy IsObject (memo_of known) s
     next_each s h =
         let w = came s h in
-        subst (CoversBy IsObject (memo_of known)) (sym w.is) (covers_cleared IsObject known w.state (stopped_covered p k known asked w.first w.outcomes w.result w.state last accepts (begins.each w.first w.starts) w.stops))
+        subst (CoversBy IsObject (memo_of known)) (sym w.is)
+            (covers_cleared IsObject known w.state
+            (stopped_covered p k known asked w.first w.outcomes w.result w.state last accepts
+            (begins.each w.first w.starts) w.stops))
 
-    next_permitted : (s : State) → StartsIn setting (Behind (before ++ this ∷ [])) s → AllListed (permitted_by policy) (imported s.events)
+    next_permitted : (s : State) → StartsIn setting (Behind (before ++ this ∷ [])) s
+        → AllListed (permitted_by policy) (imported s.events)
     next_permitted s h =
         let w = came s h in
-        let ends = subst (EndsWell (permitted_by policy)) w.stops (sound_from setting policy limits p k known asked w.first w.outcomes accepts (begins.each w.first w.starts) (begins.permitted w.first w.starts)) in
+        let ends = subst (EndsWell (permitted_by policy)) w.stops
+            (sound_from setting policy limits p k known asked w.first w.outcomes accepts
+            (begins.each w.first w.starts) (begins.permitted w.first w.starts)) in
         subst (λ x. AllListed (permitted_by policy) (imported x.events)) (sym w.is) ends.1
 
-    next_listed : (s : State) → StartsIn setting (Behind (before ++ this ∷ [])) s → Pointwise StandsFor (imports_of_all (before ++ this ∷ [])) (imported s.events)
+    next_listed : (s : State) → StartsIn setting (Behind (before ++ this ∷ [])) s
+        → Pointwise StandsFor (imports_of_all (before ++ this ∷ [])) (imported s.events)
     next_listed s h =
         let w = came s h in
-        let all = subst (ImportsAreListed (imports_of_all before ++ imports_among asked)) w.stops (listed_from setting policy limits p k known asked (imports_of_all before) w.first w.outcomes last accepts (begins.each w.first w.starts) (begins.listed w.first w.starts)) in
-        subst (λ x. Pointwise StandsFor x (imported s.events)) (sym (imports_more before this)) (subst (λ x. Pointwise StandsFor (imports_of_all before ++ imports_among asked) (imported x.events)) (sym w.is) all)
+        let all = subst (ImportsAreListed (imports_of_all before ++ imports_among asked)) w.stops
+            (listed_from setting policy limits p k known asked
+            (imports_of_all before) w.first w.outcomes last accepts (begins.each w.first w.starts)
+            (begins.listed w.first w.starts)) in
+        subst (λ x. Pointwise StandsFor x (imported s.events)) (sym (imports_more before this))
+            (subst
+            (λ x. Pointwise StandsFor (imports_of_all before ++ imports_among asked)
+            (imported x.events)) (sym w.is) all)
 
     pub begins_next : Begins setting policy (Behind (before ++ this ∷ [])) (memo_of known)
     begins_next = record {
@@ -255,9 +323,16 @@ module _ (setting : OldStrings) (policy : Policy) (limits : Bounds) where
       some = λ v.
           let (front, end, same, stop, none) = sequence.stops in
           let m = begins.some v in
-          let w = subst (λ x. StopsSomewhere x known v m.0) (sym same) (some_stops front end k known asked (stops_nowhere front none) stop (subst (λ x. verdict setting policy limits x k ≡ Yes known asked) same accepts) v m.0 m.2) in
-          let n = with_last setting (sequences_of before) p m.1.0 start m.0 m.1.1 m.1.2 w.outcomes w.result w.state w.can w.stops in
-          (cleared w.state, (n.0, n.1, subst (λ ps. run_row setting ps n.0 start ≡ Some (cleared w.state)) (sym (map-append (λ (y : Pickle). y.instructions) before (this ∷ []))) n.2), covers_cleared (Answered v.text) known w.state w.covered);
+          let w = subst (λ x. StopsSomewhere x known v m.0) (sym same)
+              (some_stops front end k known asked (stops_nowhere front none) stop
+              (subst (λ x. verdict setting policy limits x k ≡ Yes known asked) same accepts) v m.0
+              m.2) in
+          let n = with_last setting (sequences_of before) p m.1.0 start m.0 m.1.1 m.1.2 w.outcomes
+              w.result w.state w.can w.stops in
+          (cleared w.state,
+              (n.0, n.1, subst (λ ps. run_row setting ps n.0 start ≡ Some (cleared w.state))
+              (sym (map-append (λ (y : Pickle). y.instructions) before (this ∷ []))) n.2),
+              covers_cleared (Answered v.text) known w.state w.covered);
       permitted = next_permitted;
       listed = next_listed;
     }

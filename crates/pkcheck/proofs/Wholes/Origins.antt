@@ -8,7 +8,8 @@ use Rattle.pkops.specs.Spelling.{Instruction}
 use Rattle.pkcheck.specs.Covers.{IsObject, Pointwise, imports_of}
 use Rattle.pkcheck.specs.Knowledge.{Knowledge, Policy, nothing_known}
 use Rattle.pkcheck.specs.Listing.{StandsFor, permitted_by}
-use Rattle.pkcheck.specs.RowRuns.{Afresh, Arrives, Beginning, Behind, CanArrive, CanComeTo, ComesTo, InEachRunFrom, listed_before}
+use Rattle.pkcheck.specs.RowRuns.{Afresh, Arrives, Beginning, Behind, CanArrive, CanComeTo, ComesTo}
+use Rattle.pkcheck.specs.RowRuns.{InEachRunFrom, listed_before}
 use Rattle.pkcheck.specs.RunFaults.{RunsFrom}
 use Rattle.pkcheck.specs.Runs.{CanCome, Outcome, State, start}
 use Rattle.pkcheck.specs.WholeRuns.{AllListed, CanGetTo, Ended, GetsTo, run_as}
@@ -42,24 +43,31 @@ module _ (setting : OldStrings) where
   pub record Begins (policy : Policy) (b : Beginning) (known : Knowledge) : Type 0 where
     pub each : (s : State) → StartsIn b s → CoversBy IsObject known s
     pub some : (v : Word) → (s : State) × CanStartIn b s × CoversBy (Answered v.text) known s
-    pub permitted : (s : State) → StartsIn b s → AllListed (permitted_by policy) (imports_of s.events)
-    pub listed : (s : State) → StartsIn b s → Pointwise StandsFor (listed_before b) (imports_of s.events)
+    pub permitted : (s : State) → StartsIn b s → AllListed (permitted_by policy)
+        (imports_of s.events)
+    pub listed : (s : State) → StartsIn b s → Pointwise StandsFor (listed_before b)
+        (imports_of s.events)
 
   -- a run that reaches an instruction began in one of these states
-  pub arrived : (b : Beginning) (before : List Instruction) (t : State) → Arrives setting b before t → (s : State) × StartsIn b s × GetsTo setting before s t
+  pub arrived : (b : Beginning) (before : List Instruction) (t : State) → Arrives setting b before t
+      → (s : State) × StartsIn b s × GetsTo setting before s t
   arrived Afresh before t h = (start, refl, h)
   arrived (Behind pickles) before t h = h
 
-  arrives : (b : Beginning) (before : List Instruction) (s t : State) → CanStartIn b s → CanGetTo setting before s t → CanArrive setting b before t
+  arrives : (b : Beginning) (before : List Instruction) (s t : State) → CanStartIn b s
+      → CanGetTo setting before s t → CanArrive setting b before t
   arrives Afresh before s t e h = subst (λ x. CanGetTo setting before x t) e h
   arrives (Behind pickles) before s t c h = (s, c, h)
 
-  any_arrives : (b : Beginning) (before : List Instruction) (t : State) → CanArrive setting b before t → Arrives setting b before t
+  any_arrives : (b : Beginning) (before : List Instruction) (t : State)
+      → CanArrive setting b before t → Arrives setting b before t
   any_arrives Afresh before t h = (h.0, h.2)
   any_arrives (Behind pickles) before t h = (h.0, (h.1.0, h.1.2), (h.2.0, h.2.2))
 
   -- a property of each run from these states
-  pub in_each : (b : Beginning) (p : List Instruction) (Holds : Ended → Type 0) → ((s : State) (os : List Outcome) → StartsIn b s → Holds (run_as setting p os s)) → InEachRunFrom setting b p Holds
+  pub in_each : (b : Beginning) (p : List Instruction) (Holds : Ended → Type 0)
+      → ((s : State) (os : List Outcome) → StartsIn b s → Holds (run_as setting p os s))
+      → InEachRunFrom setting b p Holds
   in_each Afresh p Holds h = λ os. h start os refl
   in_each (Behind pickles) p Holds h = h
 
@@ -67,9 +75,11 @@ module _ (setting : OldStrings) where
     -- at the start, nothing is known
     pub begins_afresh : Begins policy Afresh nothing_known
     begins_afresh = record {
-      each = λ s e. subst (CoversBy IsObject nothing_known) (sym e) (record { entries = tt; memo = tt });
+      each = λ s e. subst (CoversBy IsObject nothing_known) (sym e)
+          (record { entries = tt; memo = tt });
       some = λ v. (start, refl, record { entries = tt; memo = tt });
-      permitted = λ s e. subst (λ x. AllListed (permitted_by policy) (imports_of x.events)) (sym e) tt;
+      permitted = λ s e. subst (λ x. AllListed (permitted_by policy) (imports_of x.events))
+          (sym e) tt;
       listed = λ s e. subst (λ x. Pointwise StandsFor [] (imports_of x.events)) (sym e) tt;
     }
 
@@ -86,10 +96,13 @@ module _ (setting : OldStrings) where
     }
 
     -- what is known along instructions stands for the runs that get past them
-    pub stands_from : (limits : Bounds) (b : Beginning) (before : List Instruction) (first known : Knowledge) → Begins policy b first → Along setting policy limits before first known → Stands known (RunsFrom setting b before)
+    pub stands_from : (limits : Bounds) (b : Beginning) (before : List Instruction)
+        (first known : Knowledge) → Begins policy b first
+        → Along setting policy limits before first known → Stands known (RunsFrom setting b before)
     stands_from limits b before first known h a = record {
       each = λ t g. let w = arrived b before t g in a.each w.0 t w.2.0 (h.each w.0 w.1) w.2.1;
       real = λ t g. any_arrives b before t g;
       answers = λ v n. v.utf8;
-      some = λ v. let w = h.some v in let m = a.some v w.0 w.2 in (m.0, arrives b before w.0 m.0 w.1 m.1, m.2);
+      some = λ v. let w = h.some v in let m = a.some v w.0 w.2 in
+          (m.0, arrives b before w.0 m.0 w.1 m.1, m.2);
     }

@@ -8,7 +8,8 @@ use Rattle.pkcheck.specs.declared.effect.Class.TheVariants as class
 use Rattle.pkcheck.specs.Covers.{imports_of}
 use Rattle.pkcheck.specs.RowOfPickles.{begins}
 use Rattle.pkcheck.specs.RowRuns.{Afresh, Behind, Pickle, run_row}
-use Rattle.pkcheck.specs.Runs.{Did, Event, Foreign, Go, Outcome, Plain, Raise, State, WentOn, Raised, Stopped, Stuck, start}
+use Rattle.pkcheck.specs.Runs.{Did, Event, Foreign, Go, Outcome, Plain, Raise, State, WentOn}
+use Rattle.pkcheck.specs.Runs.{Raised, Stopped, Stuck, start}
 use Rattle.pkcheck.specs.Shape.{NoItem, NoMark, NoMemo}
 use Rattle.pkcheck.specs.WholeRuns.{Ended, EndedBy, Reached, run}
 use Rattle.pkcheck.proofs.Covering.Examples.{at, bare, text}
@@ -50,20 +51,25 @@ the_list_begins : row (a_dict ∷ []) ([] ∷ []) ≡ Some behind_the_dict
 the_list_begins = refl
 
 -- the list contains the dict
-it_holds_the_dict : events_of (run a_list goes behind_the_dict) ≡ Did (bare op.EmptyDict) [] (Some 0) ∷ Did (bare op.EmptyList) [] (Some 1) ∷ Did (bare op.Append) (1 ∷ 0 ∷ []) None ∷ []
+it_holds_the_dict : events_of (run a_list goes behind_the_dict)
+    ≡ Did (bare op.EmptyDict) [] (Some 0) ∷ Did (bare op.EmptyList) [] (Some 1)
+    ∷ Did (bare op.Append) (1 ∷ 0 ∷ []) None ∷ []
 it_holds_the_dict = refl
 
 -- read alone, the list contains itself
-it_holds_itself : events_of (run a_list goes start) ≡ Did (bare op.EmptyList) [] (Some 0) ∷ Did (bare op.Append) (0 ∷ 0 ∷ []) None ∷ []
+it_holds_itself : events_of (run a_list goes start) ≡ Did (bare op.EmptyList) [] (Some 0)
+    ∷ Did (bare op.Append) (0 ∷ 0 ∷ []) None ∷ []
 it_holds_itself = refl
 
 -- ---- texts of one pickle that name the import of another
 
 abbrev two_texts : List Instruction
-two_texts = text (1 ∷ []) ∷ bare op.Memoize ∷ text (2 ∷ []) ∷ bare op.Memoize ∷ bare op.Tuple2 ∷ bare op.Stop ∷ []
+two_texts = text (1 ∷ []) ∷ bare op.Memoize ∷ text (2 ∷ []) ∷ bare op.Memoize ∷ bare op.Tuple2
+    ∷ bare op.Stop ∷ []
 
 abbrev an_import : List Instruction
-an_import = text (3 ∷ []) ∷ bare op.Memoize ∷ bare op.Pop ∷ text (4 ∷ []) ∷ bare op.Memoize ∷ bare op.Pop ∷ get 0 ∷ get 1 ∷ bare op.StackGlobal ∷ bare op.Stop ∷ []
+an_import = text (3 ∷ []) ∷ bare op.Memoize ∷ bare op.Pop ∷ text (4 ∷ []) ∷ bare op.Memoize
+    ∷ bare op.Pop ∷ get 0 ∷ get 1 ∷ bare op.StackGlobal ∷ bare op.Stop ∷ []
 
 abbrev pairs_of : Option State → List (List ℕ × List ℕ)
 pairs_of (Some s) = imports_of s.events
@@ -72,7 +78,8 @@ pairs_of None = []
 of_its_own_texts : pairs_of (row (an_import ∷ []) (goes ∷ [])) ≡ (3 ∷ [], 4 ∷ []) ∷ []
 of_its_own_texts = refl
 
-of_the_texts_before : pairs_of (row (two_texts ∷ an_import ∷ []) ([] ∷ goes ∷ [])) ≡ (1 ∷ [], 2 ∷ []) ∷ []
+of_the_texts_before : pairs_of (row (two_texts ∷ an_import ∷ []) ([] ∷ goes ∷ []))
+    ≡ (1 ∷ [], 2 ∷ []) ∷ []
 of_the_texts_before = refl
 
 -- ---- the end of a row
@@ -88,10 +95,12 @@ abbrev entry_taken : Option State → List Instruction → Ended
 entry_taken (Some s) p = run p [] s
 entry_taken None p = Reached start
 
-no_item_is_left : entry_taken (row (two_left ∷ []) ([] ∷ [])) (bare op.Pop ∷ []) ≡ EndedBy (Stuck NoItem)
+no_item_is_left : entry_taken (row (two_left ∷ []) ([] ∷ [])) (bare op.Pop ∷ [])
+    ≡ EndedBy (Stuck NoItem)
 no_item_is_left = refl
 
-no_mark_is_left : entry_taken (row (two_left ∷ []) ([] ∷ [])) (bare op.PopMark ∷ []) ≡ EndedBy (Stuck NoMark)
+no_mark_is_left : entry_taken (row (two_left ∷ []) ([] ∷ [])) (bare op.PopMark ∷ [])
+    ≡ EndedBy (Stuck NoMark)
 no_mark_is_left = refl
 
 -- a pickle that is stuck or raises ends the row

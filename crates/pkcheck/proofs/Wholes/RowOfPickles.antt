@@ -1,18 +1,20 @@
 -- What is known along a row of pickles.
-use Rattle.std.proofs.Common.{Bool, true, false, Result, Ok, Err, IfErr, IfOk, ◌≡◌, ◌≢◌, ℕ, ◌+◌, ◌-◌, ◌*◌, ◌<◌, ◌≤◌, List, [], ◌∷◌, ◌++◌, length, Option, None, Some, refl, sym, ap, subst, ◌∙◌, arith, length-append, append-nil, append_assoc}
+use Rattle.std.proofs.Common.{◌≡◌, ◌≢◌, ℕ, ◌+◌, ◌-◌, ◌*◌, ◌<◌, ◌≤◌, List, [], ◌∷◌, ◌++◌, length}
+use Rattle.std.proofs.Common.{Option, None, refl, sym, ap, subst, ◌∙◌, arith, length-append}
+use Rattle.std.proofs.Common.{append-nil, append_assoc}
 use Rattle.std.specs.Prelude.{flat_map, All}
-use Rattle.std.specs.Io.KnownBytes.{IsAtEnd, prepend_known}
+use Rattle.std.specs.Io.KnownBytes.{IsAtEnd}
 use Rattle.std.proofs.lemmas.Grind.{flat_map-append}
 use Rattle.std.proofs.lemmas.List.{length-map, map-append}
 use Rattle.std.proofs.lemmas.List.Elements.{All-nil, All-cons}
 use Rattle.pkops.specs.Limits.{Bounds}
 use Rattle.pkops.specs.Payloads.{payload_limit, payload_limit_at}
 use Rattle.pkops.specs.Spelling.{Instruction, spelling}
-use Rattle.pkread.specs.Again.{RefusesAgain, NoByteIsRefused, StepsAgain, WhyNoByte}
+use Rattle.pkread.specs.Again.{NoByteIsRefused}
 use Rattle.pkread.specs.Run.{ReadingGoesOn}
 use Rattle.pkread.specs.Reading.{ReaderState}
 use Rattle.pkread.specs.Core.{Phase, Open, Ended, Refused}
-use Rattle.pkread.specs.Rows.{Refuses, Sight, Takes, TakingLaws, all_bytes, unread}
+use Rattle.pkread.specs.Rows.{Refuses, Sight, Takes, TakingLaws, all_bytes}
 use Rattle.pkread.specs.Sequence.{CountsAt, IsSequence, StopIsLast, spellings}
 use Rattle.pkread.specs.declared.Refusal.{Refusal as ReadRefusal}
 use Rattle.pkread.specs.declared.Reason.{Reason}
@@ -35,10 +37,13 @@ use Rattle.pkcheck.specs.View.{View}
 use Rattle.pkcheck.specs.Accepted.{AcceptedFrom}
 use Rattle.pkcheck.specs.Knowledge.{Knowledge, Policy, Asked, nothing_known}
 use Rattle.pkcheck.specs.Listing.{imports_among}
-use Rattle.pkcheck.specs.Private.NextPickle.{IsRefusedBehind, listed_apart, listed_in, moved_apart, restarted}
+use Rattle.pkcheck.specs.Private.NextPickle.{IsRefusedBehind, listed_apart, listed_in, moved_apart}
+use Rattle.pkcheck.specs.Private.NextPickle.{restarted}
 use Rattle.pkcheck.specs.Refused.{RefusedFrom}
-use Rattle.pkcheck.specs.RowOfPickles.{AcceptedRow, AreAccepted, HasMore, IsAcceptedBehind, RefusedInRow, begins, bytes_of_all}
+use Rattle.pkcheck.specs.RowOfPickles.{AcceptedRow, AreAccepted, HasMore, IsAcceptedBehind}
+use Rattle.pkcheck.specs.RowOfPickles.{RefusedInRow, begins, bytes_of_all}
 use Rattle.pkcheck.specs.RowRuns.{Beginning, Pickle, imports_of_all, listed_before, sequences_of}
+use Rattle.pkcheck.proofs.Wholes.AnotherPickle.{refuses_again}
 
 -- a measure of what is left to do: the bytes that may still be taken, and whether a pickle has just
 -- ended
@@ -56,14 +61,11 @@ pub some_byte : (p : List Instruction) → StopIsLast p → 0 < length (spelling
 some_byte [] h = absurd (no_end h.0 h.1 h.2)
 some_byte (i ∷ p) h = omega (arith, length-append (spelling i) (spellings p))
 
--- the reader has refused, after the source was asked
-refuses_again : (s t : ReaderState) (x : ReadRefusal) → IsRefusedBehind s t x → RefusesAgain s x (record s { source = t.source; phase = Refused x })
-refuses_again s t x h = record { place = h.place; why = h.why; after = refl }
-
 module _ (loading : Loading) (policy : Policy) (limits : Bounds) where
   -- these pickles were accepted, the next one begins here, and `apart` are the imports listed
   -- outside the machine
-  pub record RowSoFar (old here : Sight) (origin : Origin) (pickles : ℕ) (apart : List Asked) (before : List Pickle) : Type 0 where
+  pub record RowSoFar (old here : Sight) (origin : Origin) (pickles : ℕ) (apart : List Asked)
+      (before : List Pickle) : Type 0 where
     pub each : AreAccepted loading policy limits old here [] before
     pub from_is : origin.at ≡ length (bytes_of_all before)
     pub begins : origin.beginning ≡ begins loading.memo before
@@ -72,8 +74,10 @@ module _ (loading : Loading) (policy : Policy) (limits : Bounds) where
     pub listed : apart ≡ listed_apart loading.memo before
 
 -- taking no more bytes changes nothing
-takes_no_more : TakingLaws → (old between new : Sight) (run : List ℕ) → Takes old between run → Takes between new [] → Takes old new run
-takes_no_more taking old between new run h k = subst (Takes old new) (append-nil run) (taking.more old between new run [] h k)
+takes_no_more : TakingLaws → (old between new : Sight) (run : List ℕ) → Takes old between run
+    → Takes between new [] → Takes old new run
+takes_no_more taking old between new run h k =
+    subst (Takes old new) (append-nil run) (taking.more old between new run [] h k)
 
 -- what was read and judged, as a pickle of the row
 abbrev pub this : List Instruction → List (Option Asked) → Pickle
@@ -87,18 +91,24 @@ pub none_before : (memo : Memo) → listed_before (begins memo []) ≡ []
 none_before Fresh = refl
 none_before Kept = refl
 
-pub begins_first : (memo : Memo) (setting : OldStrings) (policy : Policy) → Begins setting policy (begins memo []) nothing_known
+pub begins_first : (memo : Memo) (setting : OldStrings) (policy : Policy)
+    → Begins setting policy (begins memo []) nothing_known
 begins_first Fresh setting policy = begins_afresh setting policy
 begins_first Kept setting policy = begins_row setting policy
 
 -- the imports of a row, which are outside the machine or inside it
-pub all_listed : (memo : Memo) (apart own : List Asked) (before : List Pickle) → apart ≡ listed_apart memo before → own ≡ listed_before (begins memo before) → listed_in memo apart own ≡ imports_of_all before
+pub all_listed : (memo : Memo) (apart own : List Asked) (before : List Pickle)
+    → apart ≡ listed_apart memo before → own ≡ listed_before (begins memo before)
+    → listed_in memo apart own ≡ imports_of_all before
 all_listed Fresh apart own before e h = e
 all_listed Kept apart own before e h = h
 
 module _ (taking : TakingLaws) (loading : Loading) (policy : Policy) (limits : Bounds) where
   -- only the bytes depend on the source
-  abbrev moved : (beginning : Beginning) (a b c d : Sight) (n : ℕ) (imports : List Asked) (h : AcceptedFrom loading.old_strings beginning policy limits a b n imports) → Takes c d (spellings h.instructions) → AcceptedFrom loading.old_strings beginning policy limits c d n imports
+  abbrev moved : (beginning : Beginning) (a b c d : Sight) (n : ℕ) (imports : List Asked)
+      (h : AcceptedFrom loading.old_strings beginning policy limits a b n imports)
+      → Takes c d (spellings h.instructions) → AcceptedFrom loading.old_strings beginning policy
+      limits c d n imports
   moved beginning a b c d n imports h takes = record {
     instructions = h.instructions;
     sequence = h.sequence;
@@ -116,31 +126,53 @@ module _ (taking : TakingLaws) (loading : Loading) (policy : Policy) (limits : B
   }
 
   -- the source may have been asked once more without giving a byte
-  accepted_on : (old mid new : Sight) (before : List Pickle) (x : Pickle) → IsAcceptedBehind loading policy limits old mid before x → Takes mid new [] → IsAcceptedBehind loading policy limits old new before x
-  accepted_on old mid new before x (a, same) takes = (moved (begins loading.memo before) old mid old new _ x.imports a (takes_no_more taking old mid new _ a.bytes takes), same)
+  accepted_on : (old mid new : Sight) (before : List Pickle) (x : Pickle)
+      → IsAcceptedBehind loading policy limits old mid before x → Takes mid new []
+      → IsAcceptedBehind loading policy limits old new before x
+  accepted_on old mid new before x (a, same) takes =
+      (moved (begins loading.memo before) old mid old new _ x.imports a
+      (takes_no_more taking old mid new _ a.bytes takes), same)
 
   -- one more pickle
-  accepted_more : (old mid new : Sight) (before xs : List Pickle) (x : Pickle) → AreAccepted loading policy limits old mid before xs → IsAcceptedBehind loading policy limits mid new (before ++ xs) x → AreAccepted loading policy limits old new before (xs ++ x ∷ [])
+  accepted_more : (old mid new : Sight) (before xs : List Pickle) (x : Pickle)
+      → AreAccepted loading policy limits old mid before xs
+      → IsAcceptedBehind loading policy limits mid new (before ++ xs) x
+      → AreAccepted loading policy limits old new before (xs ++ x ∷ [])
   accepted_more old mid new before [] x takes h =
-      let (a, same) = subst (λ l. IsAcceptedBehind loading policy limits mid new l x) (append-nil before) h in
-      (new, (moved (begins loading.memo before) mid new old new _ x.imports a (taking.more old mid new [] _ takes a.bytes), same), taking.none new)
+      let (a, same) = subst (λ l. IsAcceptedBehind loading policy limits mid new l x)
+          (append-nil before) h in
+      (new,
+          (moved (begins loading.memo before) mid new old new _ x.imports a
+          (taking.more old mid new [] _ takes a.bytes), same), taking.none new)
   accepted_more old mid new before (y ∷ xs) x (between, first, rest) h =
-      (between, first, accepted_more between mid new (before ++ y ∷ []) xs x rest (subst (λ l. IsAcceptedBehind loading policy limits mid new l x) (sym (append_assoc before (y ∷ []) xs)) h))
+      (between, first, accepted_more between mid new (before ++ y ∷ []) xs x rest
+          (subst (λ l. IsAcceptedBehind loading policy limits mid new l x)
+          (sym (append_assoc before (y ∷ []) xs)) h))
 
   -- the bytes of all pickles were taken
-  pub accepted_bytes : (old new : Sight) (before xs : List Pickle) → AreAccepted loading policy limits old new before xs → Takes old new (bytes_of_all xs)
+  pub accepted_bytes : (old new : Sight) (before xs : List Pickle)
+      → AreAccepted loading policy limits old new before xs → Takes old new (bytes_of_all xs)
   accepted_bytes old new before [] takes = takes
-  accepted_bytes old new before (x ∷ xs) (between, (a, same), rest) = taking.more old between new (spellings x.instructions) (bytes_of_all xs) (subst (λ p. Takes old between (spellings p)) same a.bytes) (accepted_bytes between new (before ++ x ∷ []) xs rest)
+  accepted_bytes old new before (x ∷ xs) (between, (a, same), rest) = taking.more old between new
+      (spellings x.instructions) (bytes_of_all xs)
+      (subst (λ p. Takes old between (spellings p)) same a.bytes)
+      (accepted_bytes between new (before ++ x ∷ []) xs rest)
 
   -- each pickle is a sequence
-  pub accepted_sequences : (old new : Sight) (before xs : List Pickle) → AreAccepted loading policy limits old new before xs → All (IsSequence (payload_limit limits)) (sequences_of xs)
+  pub accepted_sequences : (old new : Sight) (before xs : List Pickle)
+      → AreAccepted loading policy limits old new before xs
+      → All (IsSequence (payload_limit limits)) (sequences_of xs)
   accepted_sequences old new before [] takes = All-nil (IsSequence (payload_limit limits))
-  accepted_sequences old new before (x ∷ xs) (between, (a, same), rest) = All-cons (IsSequence (payload_limit limits)) x.instructions (sequences_of xs) (subst (IsSequence (payload_limit limits)) same a.sequence) (accepted_sequences between new (before ++ x ∷ []) xs rest)
+  accepted_sequences old new before (x ∷ xs) (between, (a, same), rest) = All-cons
+      (IsSequence (payload_limit limits)) x.instructions (sequences_of xs)
+      (subst (IsSequence (payload_limit limits)) same a.sequence)
+      (accepted_sequences between new (before ++ x ∷ []) xs rest)
 
   -- the row begins with no pickle
   pub row_begins : (old : Sight) (pickles : ℕ) (apart : List Asked) → pickles ≡ 0 → apart ≡ []
       → RowSoFar loading policy limits old old
-      (record { at = 0; beginning = begins loading.memo []; known = nothing_known }) pickles apart []
+      (record { at = 0; beginning = begins loading.memo []; known = nothing_known }) pickles apart
+          []
   row_begins old pickles apart e none = record {
     each = taking.none old;
     from_is = refl;
@@ -156,23 +188,37 @@ module _ (taking : TakingLaws) (loading : Loading) (policy : Policy) (limits : B
       → own ≡ listed_before (begins memo before) ++ imports_among asked
       → moved_apart memo apart own ≡ listed_apart memo (before ++ record
       { instructions = p; imports = imports_among asked } ∷ [])
-  apart_more Fresh apart own before p asked e h = rw (e, h) (sym (imports_more before (record { instructions = p; imports = imports_among asked })))
+  apart_more Fresh apart own before p asked e h = rw (e, h)
+      (sym (imports_more before (record { instructions = p; imports = imports_among asked })))
   apart_more Kept apart own before p asked e h = e
 
-  module _ (old here : Sight) (origin : Origin) (pickles : ℕ) (apart : List Asked) (before : List Pickle) (h : RowSoFar loading policy limits old here origin pickles apart before) where
-    bytes_more : (x : Pickle) → length (bytes_of_all (before ++ x ∷ [])) ≡ length (bytes_of_all before) + length (spellings x.instructions)
+  module _ (old here : Sight) (origin : Origin) (pickles : ℕ) (apart : List Asked)
+      (before : List Pickle)
+      (h : RowSoFar loading policy limits old here origin pickles apart before) where
+    bytes_more : (x : Pickle) → length (bytes_of_all (before ++ x ∷ []))
+        ≡ length (bytes_of_all before) + length (spellings x.instructions)
     bytes_more x =
         let e : bytes_of_all (before ++ x ∷ []) ≡ bytes_of_all before ++
         (spellings x.instructions ++ []) = ap (λ (l : List (List Instruction)). flat_map
         spellings l) (map-append (λ (y : Pickle). y.instructions) before (x ∷ [])) ∙
         flat_map-append spellings (sequences_of before) (x.instructions ∷ []) in
-        omega (arith, ap length e, length-append (bytes_of_all before) (spellings x.instructions ++ []), length-append (spellings x.instructions) [])
+        omega
+            (arith, ap length e, length-append (bytes_of_all before)
+            (spellings x.instructions ++ []), length-append (spellings x.instructions) [])
 
-    module _ (p : List Instruction) (asked : List (Option Asked)) (s : ReaderState) (still_open : ℕ) (m : View) (checked : Checked loading.old_strings policy limits here origin p asked s still_open m) (sequence : IsSequence (payload_limit limits) p) where
+    module _ (p : List Instruction) (asked : List (Option Asked)) (s : ReaderState) (still_open : ℕ)
+        (m : View)
+        (checked : Checked loading.old_strings policy limits here origin p asked s still_open m)
+        (sequence : IsSequence (payload_limit limits) p) where
       is_accepted : IsAcceptedBehind loading policy limits here s.source before (this p asked)
       is_accepted =
-          let a = accepted loading.old_strings policy limits here origin p asked s still_open m checked s.source (length (spellings p)) (imports_among asked) sequence refl checked.reads.count refl in
-          subst (λ b. (a : AcceptedFrom loading.old_strings b policy limits here s.source (length (spellings p)) (imports_among asked)) × (a.instructions ≡ p)) h.begins a
+          let a = accepted loading.old_strings policy limits here origin p asked s still_open m
+              checked s.source (length (spellings p)) (imports_among asked) sequence refl
+              checked.reads.count refl in
+          subst
+              (λ b.
+              (a : AcceptedFrom loading.old_strings b policy limits here s.source
+              (length (spellings p)) (imports_among asked)) × (a.instructions ≡ p)) h.begins a
 
       -- the pickle that was read and judged here is accepted, and the next one begins
       pub pickle_more : (new : Sight) → Takes s.source new []
@@ -194,14 +240,23 @@ module _ (taking : TakingLaws) (loading : Loading) (policy : Policy) (limits : B
             begins = refl;
             number = omega (arith, h.number, length-append before (x ∷ []));
             few = (let few = h.few in omega (arith, few, some, reads));
-            listed = listed ∙ apart_more loading.memo apart m.imports before p asked h.listed (checked.imports ∙ ap (λ b. listed_before b ++ imports_among asked) h.begins);
+            listed = listed ∙ apart_more loading.memo apart m.imports before p asked h.listed
+                (checked.imports ∙ ap (λ b. listed_before b ++ imports_among asked) h.begins);
           }
 
-      ready : (memo : Memo) → origin.beginning ≡ begins memo before → IsReady loading.old_strings policy limits (begins memo (before ++ this p asked ∷ [])) (restarted memo m)
-      ready Fresh e = record { begins = begins_afresh loading.old_strings policy; imports = refl; same_limits = checked.same_limits; same_setting = checked.same_setting; refused = refl; off = refl; stopped = refl }
+      ready : (memo : Memo) → origin.beginning ≡ begins memo before
+          → IsReady loading.old_strings policy limits (begins memo (before ++ this p asked ∷ []))
+          (restarted memo m)
+      ready Fresh e = record { begins = begins_afresh loading.old_strings policy; imports = refl;
+          same_limits = checked.same_limits; same_setting = checked.same_setting; refused = refl;
+          off = refl; stopped = refl }
       ready Kept e = record {
-        begins = begins_next loading.old_strings policy limits before origin.known (subst (λ b. Begins loading.old_strings policy b origin.known) e checked.begins) (payload_limit limits) p sequence m.knowledge asked checked.accepts;
-        imports = checked.imports ∙ (ap (λ b. listed_before b ++ imports_among asked) e ∙ sym (imports_more before (this p asked)));
+        begins = begins_next loading.old_strings policy limits before origin.known
+            (subst (λ b. Begins loading.old_strings policy b origin.known) e checked.begins)
+            (payload_limit limits) p sequence m.knowledge asked checked.accepts;
+        imports = checked.imports
+            ∙ (ap (λ b. listed_before b ++ imports_among asked) e
+            ∙ sym (imports_more before (this p asked)));
         same_limits = checked.same_limits;
         same_setting = checked.same_setting;
         refused = checked.refused;
@@ -210,18 +265,23 @@ module _ (taking : TakingLaws) (loading : Loading) (policy : Policy) (limits : B
       }
 
       -- the restarted machine is ready for the next pickle
-      pub next_ready : IsReady loading.old_strings policy limits (begins loading.memo (before ++ this p asked ∷ [])) (restarted loading.memo m)
+      pub next_ready : IsReady loading.old_strings policy limits
+          (begins loading.memo (before ++ this p asked ∷ [])) (restarted loading.memo m)
       next_ready = ready loading.memo h.begins
 
     not_none : 0 < pickles → sequences_of before ≢ []
-    not_none some e = omega (arith, some, h.number, ap length e, length-map before (λ (y : Pickle). y.instructions))
+    not_none some e = omega
+        (arith, some, h.number, ap length e, length-map before (λ (y : Pickle). y.instructions))
 
     -- the source is at its end
-    pub row_accepted : (taken : ℕ) (imports : List Asked) → 0 < pickles → IsAtEnd here.left → taken ≡ origin.at → taken < all_bytes → imports ≡ imports_of_all before → AcceptedRow loading policy limits old here taken pickles imports
+    pub row_accepted : (taken : ℕ) (imports : List Asked) → 0 < pickles → IsAtEnd here.left
+        → taken ≡ origin.at → taken < all_bytes → imports ≡ imports_of_all before
+        → AcceptedRow loading policy limits old here taken pickles imports
     row_accepted taken imports some ends is within listed = record {
       row = before;
       ends = ends;
-      is_row = record { some = not_none some; each = accepted_sequences old here [] before h.each; spelled = refl };
+      is_row = record { some = not_none some; each = accepted_sequences old here [] before h.each;
+          spelled = refl };
       bytes = accepted_bytes old here [] before h.each;
       count = is ∙ h.from_is;
       within = within;
@@ -231,13 +291,21 @@ module _ (taking : TakingLaws) (loading : Loading) (policy : Policy) (limits : B
     }
 
     -- the pickle that begins here is refused
-    pub row_refused : (new : Sight) (at : ℕ) (why : Reason) (pair : Option Asked) → RefusedFrom origin.at loading.old_strings origin.beginning policy limits here new at why pair → (why ≡ Truncated → before ≢ [] → HasMore here) → RefusedInRow loading policy limits old new pickles at why pair
+    pub row_refused : (new : Sight) (at : ℕ) (why : Reason) (pair : Option Asked)
+        → RefusedFrom origin.at loading.old_strings origin.beginning policy limits here new at why
+        pair → (why ≡ Truncated → before ≢ [] → HasMore here)
+        → RefusedInRow loading policy limits old new pickles at why pair
     row_refused new at why pair r more = record {
       before = before;
       number = h.number;
       here = here;
       each = h.each;
-      refused = subst (λ b. RefusedFrom (length (bytes_of_all before)) loading.old_strings b policy limits here new at why pair) h.begins (subst (λ n. RefusedFrom n loading.old_strings origin.beginning policy limits here new at why pair) h.from_is r);
+      refused = subst
+          (λ b. RefusedFrom (length (bytes_of_all before)) loading.old_strings b policy limits here
+          new at why pair) h.begins
+          (subst
+          (λ n. RefusedFrom n loading.old_strings origin.beginning policy limits here new at why
+          pair) h.from_is r);
       more = more;
     }
 
@@ -264,24 +332,40 @@ module _ (taking : TakingLaws) (loading : Loading) (policy : Policy) (limits : B
                 checked t at i new at why why n.off refused refl took same n g),
           )
 
-  module _ (laws : FrameLaws) (begins : ReadingGoesOn) (s : ReaderState) (same : s.limits ≡ limits) (b : Beginning) (m : View) (ready : IsReady loading.old_strings policy limits b m) where
+  module _ (laws : FrameLaws) (begins : ReadingGoesOn) (s : ReaderState) (same : s.limits ≡ limits)
+      (b : Beginning) (m : View) (ready : IsReady loading.old_strings policy limits b m) where
     -- no byte was taken of the pickle that would begin
-    turned : (x : ReadRefusal) (new : Sight) → x.at ≡ s.taken → Refuses (payload_limit_at limits []) s.source new [] s.taken s.taken x.reason → RefusedFrom s.taken loading.old_strings b policy limits s.source new x.at x.reason None
+    turned : (x : ReadRefusal) (new : Sight) → x.at ≡ s.taken
+        → Refuses (payload_limit_at limits []) s.source new [] s.taken s.taken x.reason
+        → RefusedFrom s.taken loading.old_strings b policy limits s.source new x.at x.reason None
     turned x new place why =
         let open' : ReaderState = record s { phase = Open } in
         let origin : Origin = record { at = s.taken; beginning = b; known = m.knowledge } in
-        let here = checked_again loading.old_strings policy limits s.source laws begins open' refl same b m ready in
-        (refused_turned loading.old_strings policy limits s.source origin [] [] open' 0 m here (record s { source = new }) x new (record { no_stop = All-nil (λ i. i.op ≢ Stop); place = place; bytes = []; why = why }) refl).0
+        let here = checked_again loading.old_strings policy limits s.source laws begins open' refl
+            same b m ready in
+        (refused_turned loading.old_strings policy limits s.source origin [] [] open' 0 m here
+            (record s { source = new }) x new
+            (record { no_stop = All-nil (λ i. i.op ≢ Stop); place = place; bytes = []; why = why })
+            refl).0
 
     -- the reader refused after STOP, or an allocation for the imports was refused
-    pub refused_behind : NoByteIsRefused → (t : ReaderState) (x : ReadRefusal) → IsRefusedBehind s t x → RefusedFrom s.taken loading.old_strings b policy limits s.source t.source x.at x.reason None
-    refused_behind law t x h = turned x t.source h.place (law (payload_limit_at limits []) s _ x (refuses_again s t x h)).0
+    pub refused_behind : NoByteIsRefused → (t : ReaderState) (x : ReadRefusal)
+        → IsRefusedBehind s t x → RefusedFrom s.taken loading.old_strings b policy limits s.source
+        t.source x.at x.reason None
+    refused_behind law t x h = turned x t.source h.place
+        (law (payload_limit_at limits []) s _ x (refuses_again s t x h)).0
 
 -- the answer about a row, with equal parts replaced
-pub told : (loading : Loading) (policy : Policy) (limits : Bounds) (old new mid : Sight) (n m a b : ℕ) (x y : Reason) (u v : Option Asked) → new ≡ mid → n ≡ m → a ≡ b → x ≡ y → u ≡ v → RefusedInRow loading policy limits old mid m b y v → RefusedInRow loading policy limits old new n a x u
+pub told : (loading : Loading) (policy : Policy) (limits : Bounds) (old new mid : Sight)
+    (n m a b : ℕ) (x y : Reason) (u v : Option Asked) → new ≡ mid → n ≡ m → a ≡ b → x ≡ y → u ≡ v
+    → RefusedInRow loading policy limits old mid m b y v
+    → RefusedInRow loading policy limits old new n a x u
 told loading policy limits old new mid n m a b x y u v d e f g h r = rw (d, e, f, g, h) r
 
-pub told_yes : (loading : Loading) (policy : Policy) (limits : Bounds) (old new mid : Sight) (n m a b : ℕ) (u v : List Asked) → new ≡ mid → n ≡ m → a ≡ b → u ≡ v → AcceptedRow loading policy limits old mid m b v → AcceptedRow loading policy limits old new n a u
+pub told_yes : (loading : Loading) (policy : Policy) (limits : Bounds) (old new mid : Sight)
+    (n m a b : ℕ) (u v : List Asked) → new ≡ mid → n ≡ m → a ≡ b → u ≡ v
+    → AcceptedRow loading policy limits old mid m b v
+    → AcceptedRow loading policy limits old new n a u
 told_yes loading policy limits old new mid n m a b u v d e f h r = rw (d, e, f, h) r
 
 -- the measure falls when an instruction is taken
@@ -295,7 +379,8 @@ left_least taken Open = omega arith
 left_least taken Ended = omega arith
 left_least taken (Refused r) = omega arith
 
-pub less_to_do : (s t : ℕ) (p q : Phase) (i : Instruction) → t ≡ s + length (spelling i) → t ≤ all_bytes → left_to_do t q < left_to_do s p
+pub less_to_do : (s t : ℕ) (p q : Phase) (i : Instruction) → t ≡ s + length (spelling i)
+    → t ≤ all_bytes → left_to_do t q < left_to_do s p
 less_to_do s t p q i taken within = omega (arith, left_most t q, left_least s p, taken, within)
 
 pub count_on : (loading : Loading) (policy : Policy) (limits : Bounds) (old new : Sight) (n a : ℕ)
@@ -303,37 +388,3 @@ pub count_on : (loading : Loading) (policy : Policy) (limits : Bounds) (old new 
     → (y : Reason) (b : ℕ) (here : Sight) → x ≡ y → b ≡ old.failures → new ≡ here
     → CountsAt y b here.failures → CountsAt x old.failures new.failures
 count_on loading policy limits old new n a x u r y b here e f g h = rw (e, ← f, g) h
-
--- what `again` returned
-on_from : {o s : ReaderState} (t : ReaderState) → o ≡ s → record o { source = t.source; phase = Open } ≡ record s { source = t.source; phase = Open }
-on_from t same =
-    let opened : ReaderState → ReaderState = λ s. record s { source = t.source; phase = Open } in
-    ap opened same
-
-pub again_true : (o s t : ReaderState) (r : Result Bool ReadRefusal) → o ≡ s → IfOk r (λ more. StepsAgain o (Ok more) t) → r ≡ Ok true → Takes s.source t.source [] × (t.phase ≡ Open) × (t.taken ≡ s.taken) × (t.limits ≡ s.limits)
-again_true o s t (Ok true) same (room, takes, is) e = (subst (λ z. Takes z.source t.source []) same takes, ap (λ x. x.phase) is, ap (λ x. x.taken) (is ∙ on_from t same), ap (λ x. x.limits) (is ∙ on_from t same))
-again_true o s t (Ok false) same h e = absurd cc
-again_true o s t (Err x) same h e = absurd cc
-
-pub again_false : (o s t : ReaderState) (r : Result Bool ReadRefusal) → o ≡ s → IfOk r (λ more. StepsAgain o (Ok more) t) → r ≡ Ok false → Takes s.source t.source [] × IsAtEnd t.source.left × (s.taken < all_bytes)
-again_false o s t (Ok false) same (room, takes, is) e = (subst (λ z. Takes z.source t.source []) same takes, is.0, subst (λ z. z.taken < all_bytes) same room)
-again_false o s t (Ok true) same h e = absurd cc
-again_false o s t (Err x) same h e = absurd cc
-
-pub refused_from : (o s t : ReaderState) (r : Result Bool ReadRefusal) (x : ReadRefusal) → o ≡ s → IfErr r (IsRefusedBehind o t) → r ≡ Err x → IsRefusedBehind s t x
-refused_from o s t r x same h e = subst (λ z. IsRefusedBehind z t x) same (let b = rw e at h in b)
-
-known_ahead : (b : ℕ) (left : Option (List ℕ)) → prepend_known (b ∷ []) left ≢ Some []
-known_ahead b None = λ e. cc
-known_ahead b (Some l) = λ e. cc
-
--- another byte follows the pickle
-pub some_ahead : (b : ℕ) (ahead : List ℕ) (now : Sight) → ahead ≡ b ∷ [] → HasMore (unread ahead now)
-some_ahead b ahead now is = rw is (known_ahead b now.left)
-
--- such a refusal does not mean that the source ended
-pub behind_is_not_cut : (s t : ReaderState) (x : ReadRefusal) → IsRefusedBehind s t x → x.reason ≡ Truncated → ⊥
-behind_is_not_cut s t x h e = subst (WhyNoByte s.source t.source s.taken) e h.why
-
-pub behind_counts : (s t : ReaderState) (x : ReadRefusal) → IsRefusedBehind s t x → NoByteIsRefused → CountsAt x.reason s.source.failures t.source.failures
-behind_counts s t x h law = (law 0 s _ x (refuses_again s t x h)).1

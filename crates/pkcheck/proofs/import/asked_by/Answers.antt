@@ -2,7 +2,8 @@ use Rattle.std.proofs.Common.{subst}
 use Rattle.pkcheck.specs.Private.Noted.{AreNumbered}
 use Rattle.pkcheck.proofs.import.asked_by.Goals as goal
 
-pub returns-in_ok-operands_named-in-OfOperands-clause-within : goal.returns-in_ok-operands_named-in-OfOperands-clause-within
+pub returns-in_ok-operands_named-in-OfOperands-clause-within
+    : goal.returns-in_ok-operands_named-in-OfOperands-clause-within
 returns-in_ok-operands_named-in-OfOperands-clause-within c count h =
     let n = subst (AreNumbered count) c.in-Some-pair.ensures h in
     c.in_ok-operands_named-in-OfOperands.ensures.within count n.0 n.1.0

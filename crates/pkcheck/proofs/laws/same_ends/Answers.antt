@@ -1,4 +1,6 @@
-use Rattle.pkcheck.proofs.Wholes.Ends.{listed_carries_over, same_across, same_as_itself, same_either_way, same_events, well_carries_over, well_is_free}
+use Rattle.pkcheck.proofs.Wholes.Ends.{listed_carries_over, same_across, same_as_itself}
+use Rattle.pkcheck.proofs.Wholes.Ends.{same_either_way, same_events, well_carries_over}
+use Rattle.pkcheck.proofs.Wholes.Ends.{well_is_free}
 use Rattle.pkcheck.proofs.laws.same_ends.Goals as goal
 
 pub returns-clause-itself : goal.returns-clause-itself

@@ -2,4 +2,5 @@ use Rattle.pkcheck.proofs.Wholes.Exclusive.{yes_excludes_no}
 use Rattle.pkcheck.proofs.laws.yes_excludes_no.Goals as goal
 
 pub returns : goal.returns
-returns c = yes_excludes_no c.one_answer.ensures c.growth.ensures.begun.nothing c.one_sequence.ensures.front c.one_sequence.ensures.goes_on
+returns c = yes_excludes_no c.one_answer.ensures c.growth.ensures.begun.nothing
+    c.one_sequence.ensures.front c.one_sequence.ensures.goes_on

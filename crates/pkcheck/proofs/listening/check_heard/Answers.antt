@@ -3,7 +3,8 @@ use Rattle.std.proofs.lemmas.Result.{err_from_is_err_and}
 use Rattle.pkops.specs.Inst.{instruction_of}
 use Rattle.pkcheck.specs.Heard.{AreHeardBehind, heard}
 use Rattle.pkread.specs.Rows.{sight}
-use Rattle.pkcheck.proofs.Wholes.Checked.{from_start, checked_none, checked_took, accepted, count_took}
+use Rattle.pkcheck.proofs.Wholes.Checked.{from_start, checked_none, checked_took, accepted}
+use Rattle.pkcheck.proofs.Wholes.Checked.{count_took}
 use Rattle.pkcheck.proofs.Wholes.Checked.{refusal_of, refused_turned, refused_took}
 use Rattle.pkcheck.proofs.Wholes.FramesSoFar.{FrameLaws}
 use Rattle.pkcheck.proofs.Wholes.Given.{failures_so, seen_so, refused_next, took_next, took_peeked}
@@ -140,7 +141,8 @@ returns-in-Err-next-clause-answer g c =
     c.next.result c.in-Err-next.refusal k.1 (cc (c.in-Err-next.is)) in
     let refused = refused_turned _ _ _ _ _ r.0 r.1 _ _ _ r.2 _ c.in-Err-next.refusal _ turned
     (seen_so _ _ _ k.3 (search rules)) in
-    let w = refusal_of _ _ _ _ _ r.0 r.1 _ _ _ r.2 _ _ _ _ _ _ _ c.refuse-in-Err-next.ensures r.2.off refused in (
+    let w = refusal_of _ _ _ _ _ r.0 r.1 _ _ _ r.2 _ _ _ _ _ _ _ c.refuse-in-Err-next.ensures
+        r.2.off refused in (
       r.3,
       record {
         right = w.0;
@@ -197,7 +199,8 @@ returns-in_err-hear-in-Ok-Inst-clause-cut_short g c =
       r.3,
       c.instructions.listener,
       cut_short _ _ _ r.0 r.1 _ _ _ r.2 _
-          c.in-Ok-Inst.at (instruction_of c.in-Ok-Inst.inst) _ took (seen_so _ _ _ k.3 (search rules))
+          c.in-Ok-Inst.at (instruction_of c.in-Ok-Inst.inst) _ took
+              (seen_so _ _ _ k.3 (search rules))
           r.3 r.4,
       r.5,
     )

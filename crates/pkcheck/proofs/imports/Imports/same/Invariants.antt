@@ -4,4 +4,5 @@ use Rattle.pkcheck.proofs.imports.Imports.same.Given as goal
 -- both lists are equal exactly if their remaining parts are
 abbrev pub invariant-loop-import : goal.invariant-loop-import
 invariant-loop-import l =
-    (l.import-iterator ≡ l.others → l.self ≡ l.other) × (l.self ≡ l.other → l.import-iterator ≡ l.others)
+    (l.import-iterator ≡ l.others → l.self ≡ l.other)
+        × (l.self ≡ l.other → l.import-iterator ≡ l.others)

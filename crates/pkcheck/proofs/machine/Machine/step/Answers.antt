@@ -3,7 +3,8 @@ use Rattle.pkops.specs.Inst.{instruction_of}
 use Rattle.pkcheck.specs.Knowledge.{Knowledge}
 use Rattle.pkcheck.specs.Import.{asked_shown, policy_of}
 use Rattle.pkcheck.proofs.Stepping.Longest.{longest}
-use Rattle.pkcheck.proofs.Stepping.CoveredStep.{alarm_by, covered_by, denied, memory_by, no_fault_by, permitted_by, unknown_by}
+use Rattle.pkcheck.proofs.Stepping.CoveredStep.{alarm_by, covered_by, denied, memory_by}
+use Rattle.pkcheck.proofs.Stepping.CoveredStep.{no_fault_by, permitted_by, unknown_by}
 use Rattle.pkcheck.proofs.Stepping.Settings.{not_raised, texts_by_setting}
 use Rattle.pkcheck.proofs.machine.Machine.step.Goals as goal
 
@@ -31,29 +32,39 @@ returns-in-Ok-clause-goes_on c =
     )
 
 pub returns-in-Ok-clause-covered : goal.returns-in-Ok-clause-covered
-returns-in-Ok-clause-covered c = covered_by (policy_of c.args.policy.now) (instruction_of c.args.inst.now) c.args.self.now _ c.in-Ok.moved (returns-in-Ok-clause-goes_on c)
+returns-in-Ok-clause-covered c = covered_by (policy_of c.args.policy.now)
+    (instruction_of c.args.inst.now) c.args.self.now _ c.in-Ok.moved
+    (returns-in-Ok-clause-goes_on c)
 
 pub returns-in-Ok-clause-permitted : goal.returns-in-Ok-clause-permitted
-returns-in-Ok-clause-permitted c = permitted_by (policy_of c.args.policy.now) (instruction_of c.args.inst.now) c.args.self.now _ c.in-Ok.moved (returns-in-Ok-clause-goes_on c)
+returns-in-Ok-clause-permitted c = permitted_by (policy_of c.args.policy.now)
+    (instruction_of c.args.inst.now) c.args.self.now _ c.in-Ok.moved
+    (returns-in-Ok-clause-goes_on c)
 
 pub returns-in-Ok-clause-no_fault : goal.returns-in-Ok-clause-no_fault
-returns-in-Ok-clause-no_fault c = no_fault_by (policy_of c.args.policy.now) (instruction_of c.args.inst.now) c.args.self.now _ c.in-Ok.moved (returns-in-Ok-clause-goes_on c)
+returns-in-Ok-clause-no_fault c = no_fault_by (policy_of c.args.policy.now)
+    (instruction_of c.args.inst.now) c.args.self.now _ c.in-Ok.moved
+    (returns-in-Ok-clause-goes_on c)
 
 pub returns-in-Ok-clause-unknown : goal.returns-in-Ok-clause-unknown
-returns-in-Ok-clause-unknown c = unknown_by (policy_of c.args.policy.now) (instruction_of c.args.inst.now) c.args.self.now _ c.in-Ok.moved (returns-in-Ok-clause-goes_on c)
+returns-in-Ok-clause-unknown c = unknown_by (policy_of c.args.policy.now)
+    (instruction_of c.args.inst.now) c.args.self.now _ c.in-Ok.moved
+    (returns-in-Ok-clause-goes_on c)
 
 pub returns-in-Ok-clause-texts : goal.returns-in-Ok-clause-texts
 returns-in-Ok-clause-texts c =
     let g = c.in-Ok.ensures.ok in
     rw (← c.self.view_is) (c.in-Ok.ensures.texts ∙ texts_by_setting c.self.inside.terms.old_strings
     (instruction_of c.args.inst.now) c.self.inside.held.texts
-    (not_raised c.self.inside.terms.old_strings (policy_of c.args.policy.now) c.self.inside.terms.limits
+    (not_raised c.self.inside.terms.old_strings (policy_of c.args.policy.now)
+        c.self.inside.terms.limits
     (instruction_of c.args.inst.now) c.self.inside.held.knowledge _ g.1))
 
 pub returns-in-Err-clause-fails : goal.returns-in-Err-clause-fails
 returns-in-Err-clause-fails c fresh =
     let kept = c.in-Err.ensures.kept in
-    denied (policy_of c.args.policy.now) (instruction_of c.args.inst.now) c.args.self.now _ _ (option_map asked_shown c.advance.new.off)
+    denied (policy_of c.args.policy.now) (instruction_of c.args.inst.now) c.args.self.now _ _
+        (option_map asked_shown c.advance.new.off)
     (rw (← c.self.view_is) (λ j. record {
       knowledge = (kept j).knowledge;
       limits =
@@ -71,7 +82,9 @@ returns-in-Err-clause-fails c fresh =
 pub returns-in-Err-clause-alarm : goal.returns-in-Err-clause-alarm
 returns-in-Err-clause-alarm c fresh =
     let (v, long) = longest c.args.policy.now in
-    alarm_by (policy_of c.args.policy.now) (instruction_of c.args.inst.now) c.args.self.now _ _ v long c.requires.admitted (returns-in-Err-clause-fails c fresh)
+    alarm_by (policy_of c.args.policy.now) (instruction_of c.args.inst.now) c.args.self.now _ _ v
+        long c.requires.admitted (returns-in-Err-clause-fails c fresh)
 
 pub returns-in-Err-clause-memory : goal.returns-in-Err-clause-memory
-returns-in-Err-clause-memory c fresh = memory_by (policy_of c.args.policy.now) (instruction_of c.args.inst.now) c.args.self.now _ _ (returns-in-Err-clause-fails c fresh)
+returns-in-Err-clause-memory c fresh = memory_by (policy_of c.args.policy.now)
+    (instruction_of c.args.inst.now) c.args.self.now _ _ (returns-in-Err-clause-fails c fresh)

@@ -2,4 +2,5 @@ use Rattle.pkcheck.proofs.Copying.{CopiedSoFar}
 use Rattle.pkcheck.proofs.machine.ledger.copy_entries.Given as goal
 
 abbrev pub invariant-entries : goal.invariant-entries
-invariant-entries l = CopiedSoFar l.texts l.names l.entries l.fn.written l.written l.copies.items l.copied.items l.entry-index
+invariant-entries l = CopiedSoFar l.texts l.names l.entries l.fn.written l.written l.copies.items
+    l.copied.items l.entry-index

@@ -1,4 +1,5 @@
-use Rattle.std.proofs.Common.{◌≡◌, ◌<◌, Bool, false, ap, codes, if◌then◌else◌, List, ℕ, ◌++◌, ◌∷◌, [], ◌∙◌, rules}
+use Rattle.std.proofs.Common.{◌≡◌, ◌<◌, Bool, false, ap, codes, if◌then◌else◌, List, ℕ, ◌++◌, ◌∷◌}
+use Rattle.std.proofs.Common.{[], ◌∙◌, rules}
 use Rattle.std.proofs.lemmas.Fmt.{hex_byte}
 use Rattle.std.proofs.Output.{has_written_of_eq}
 use Rattle.pkcheck.specs.Quoted.{stands_as_is, quoted_byte, two_digits}
@@ -12,5 +13,8 @@ pub returns-else-stands_as_is-clause-writes : goal.returns-else-stands_as_is-cla
 returns-else-stands_as_is-clause-writes g c =
     let byte = c.args.self.now.0 in
     let small : byte < 256 = search rules in
-    let written = rw (c.laid_out.ensures, c.in_radix.ensures) at c.write.ensures.writes in λ plain ok.
-    has_written_of_eq _ _ _ _ _ (ap (λ (t : List ℕ). codes "\\x" ++ t) (hex_byte false byte small) ∙ escaped byte c.if-stands_as_is.ensures) (written plain ok)
+    let written = rw (c.laid_out.ensures, c.in_radix.ensures) at c.write.ensures.writes in
+        λ plain ok.
+    has_written_of_eq _ _ _ _ _
+        (ap (λ (t : List ℕ). codes "\\x" ++ t) (hex_byte false byte small)
+        ∙ escaped byte c.if-stands_as_is.ensures) (written plain ok)

@@ -3,4 +3,5 @@ use Rattle.pkcheck.proofs.Resolving.{marks_seen}
 use Rattle.pkcheck.proofs.machine.held.Held.marks.Goals as goal
 
 pub returns : goal.returns
-returns c = rw (← c.self.view_is) (c.marks.ensures ∙ marks_seen c.self.inside.ledger.texts c.self.inside.stack)
+returns c = rw (← c.self.view_is)
+    (c.marks.ensures ∙ marks_seen c.self.inside.ledger.texts c.self.inside.stack)

@@ -7,7 +7,9 @@ use Rattle.pkcheck.proofs.machine.ledger.Ledger.add_text.Goals as goal
 pub invariant_of-self : goal.invariant_of-self
 invariant_of-self c =
     on_each c.push.result
-    (λ h. are_grown c.self.inside.texts c.push.new.self c.self.inside.written c.self.inside.written (record { more = c.args.text.now ∷ []; is = h }) (same_table c.self.inside.written) c.self.inside.entries.items c.self.invariant)
+    (λ h. are_grown c.self.inside.texts c.push.new.self c.self.inside.written c.self.inside.written
+        (record { more = c.args.text.now ∷ []; is = h })
+        (same_table c.self.inside.written) c.self.inside.entries.items c.self.invariant)
     (λ h. rw h c.self.invariant) c.push.ensures.ok c.push.ensures.err
 
 pub returns-clause-ok : goal.returns-clause-ok
@@ -15,6 +17,8 @@ returns-clause-ok c =
     rw (← c.self.view_is)
     (ok_on _ _ c.push.result
     (λ h.
-    let same = asked_grown c.self.inside.texts c.push.new.self c.self.inside.written c.self.inside.written (record { more = c.args.text.now ∷ []; is = h }) (same_table c.self.inside.written) c.self.inside.entries.items c.self.invariant in
+    let same = asked_grown c.self.inside.texts c.push.new.self c.self.inside.written
+        c.self.inside.written (record { more = c.args.text.now ∷ []; is = h })
+        (same_table c.self.inside.written) c.self.inside.entries.items c.self.invariant in
     λ i. record { texts = h i; asked = same i })
     c.push.ensures.ok)

@@ -5,7 +5,13 @@ use Rattle.pkcheck.proofs.Noting.{are_kept}
 use Rattle.pkcheck.proofs.machine.ledger.Ledger.keep.Goals as goal
 
 pub invariant_of-self : goal.invariant_of-self
-invariant_of-self c = rw c.truncate.ensures.items (are_kept (length c.self.inside.texts) (length c.self.inside.written) c.args.count c.self.inside.entries.items c.self.invariant)
+invariant_of-self c = rw c.truncate.ensures.items
+    (are_kept (length c.self.inside.texts) (length c.self.inside.written) c.args.count
+    c.self.inside.entries.items c.self.invariant)
 
 pub returns : goal.returns
-returns c = rw (← c.self.view_is, c.truncate.ensures.items) (λ i. record { texts = c.self.inside.texts; asked = sym (take-map (entry_asked c.self.inside.texts c.self.inside.written) c.args.count c.self.inside.entries.items) i })
+returns c = rw (← c.self.view_is, c.truncate.ensures.items)
+    (λ i. record { texts = c.self.inside.texts;
+    asked =
+    sym (take-map (entry_asked c.self.inside.texts c.self.inside.written) c.args.count
+    c.self.inside.entries.items) i })

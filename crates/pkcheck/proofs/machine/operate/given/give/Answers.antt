@@ -6,4 +6,7 @@ use Rattle.pkcheck.proofs.Places.{front_marks}
 use Rattle.pkcheck.proofs.machine.operate.given.give.Goals as goal
 
 pub end_with-requires-clause-marks : goal.end_with-requires-clause-marks
-end_with-requires-clause-marks c = c.requires.marks ∙ sym (ap marks_of (c.requires.first c.in-None.is) ∙ front_marks {A = Value} (above c.args.place c.args.stack.now) (below c.args.place c.args.stack.now))
+end_with-requires-clause-marks c = c.requires.marks
+    ∙ sym (ap marks_of (c.requires.first c.in-None.is)
+    ∙ front_marks {A = Value} (above c.args.place c.args.stack.now)
+    (below c.args.place c.args.stack.now))

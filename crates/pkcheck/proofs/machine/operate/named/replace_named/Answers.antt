@@ -7,8 +7,10 @@ use Rattle.pkcheck.specs.Import.{policy_of}
 use Rattle.pkcheck.specs.Private.Noted.{named_asked}
 use Rattle.pkcheck.proofs.Noting.{are_numbered, listed_before}
 use Rattle.pkcheck.proofs.Places.{length_below}
-use Rattle.pkcheck.proofs.Resolving.{found_seen, found_is, found_lacks, put_seen, put_sees, length_seen, same_table}
-use Rattle.pkcheck.proofs.Stepping.Judged.{lack_denied, judged_denied, within_denied, does_pass, judged_name, unroomed, left_there, given_none}
+use Rattle.pkcheck.proofs.Resolving.{found_seen, found_is, found_lacks, put_seen, put_sees}
+use Rattle.pkcheck.proofs.Resolving.{length_seen, same_table}
+use Rattle.pkcheck.proofs.Stepping.Judged.{lack_denied, judged_denied, within_denied, does_pass}
+use Rattle.pkcheck.proofs.Stepping.Judged.{judged_name, unroomed, left_there, given_none}
 use Rattle.pkcheck.proofs.machine.operate.named.replace_named.Goals as goal
 
 pub returns-in_err-found : goal.returns-in_err-found
@@ -58,18 +60,28 @@ returns-in_err-named c =
 
 pub permitted_name-requires : goal.permitted_name-requires
 permitted_name-requires c =
-    let is = found_is c.args.ledger.now.texts c.args.request.now.operation.takes c.args.stack.now c.requires.sees _ c.in_ok-found.ensures.ok in
-    record { numbered = rw c.operands-operands.ensures (are_numbered c.args.ledger.now.texts _ _ is.operands) }
+    let is = found_is c.args.ledger.now.texts c.args.request.now.operation.takes c.args.stack.now
+        c.requires.sees _ c.in_ok-found.ensures.ok in
+    record { numbered = rw c.operands-operands.ensures
+        (are_numbered c.args.ledger.now.texts _ _ is.operands) }
 
 pub give-requires-clause-first : goal.give-requires-clause-first
 give-requires-clause-first c e =
     let i = instruction op.None Nothing in
-    c.in_ok-found.ensures.first (left_there c.args.request.now.operation.takes c.args.request.now.operation.gives i c.requires.given (given_none c.args.ledger.now.texts c.value_of-value.result _ e (c.value_of-value.ensures c.args.ledger.now.texts i)))
+    c.in_ok-found.ensures.first
+        (left_there c.args.request.now.operation.takes c.args.request.now.operation.gives i
+        c.requires.given
+        (given_none c.args.ledger.now.texts c.value_of-value.result _ e
+        (c.value_of-value.ensures c.args.ledger.now.texts i)))
 
 pub give-requires-clause-there : goal.give-requires-clause-there
 give-requires-clause-there c e =
     let i = instruction op.None Nothing in
-    c.in_ok-found.ensures.there (left_there c.args.request.now.operation.takes c.args.request.now.operation.gives i c.requires.given (given_none c.args.ledger.now.texts c.value_of-value.result _ e (c.value_of-value.ensures c.args.ledger.now.texts i)))
+    c.in_ok-found.ensures.there
+        (left_there c.args.request.now.operation.takes c.args.request.now.operation.gives i
+        c.requires.given
+        (given_none c.args.ledger.now.texts c.value_of-value.result _ e
+        (c.value_of-value.ensures c.args.ledger.now.texts i)))
 
 pub returns-in_err-is_import : goal.returns-in_err-is_import
 returns-in_err-is_import c =
@@ -85,7 +97,10 @@ returns-in_err-is_import c =
       kept = (refl, refl);
       err = λ i named memo.
           let fits = rw c.operands-operands.ensures at (c.in_ok-named.ensures.ok i named) in
-          inr (inl (judged_name (policy_of c.args.request.now.policy.now) o.names o.gives i _ _ _ failed.1 fits), (failed.2, refl));
+          inr
+              (inl
+              (judged_name (policy_of c.args.request.now.policy.now) o.names o.gives i _ _ _
+              failed.1 fits), (failed.2, refl));
     })
 
 pub returns-in-Ok : goal.returns-in-Ok
@@ -100,7 +115,8 @@ returns-in-Ok c =
     record {
       ok = λ i named memo.
           let fits = rw c.operands-operands.ensures at (c.in_ok-named.ensures.ok i named) in
-          let put = put_seen texts texts (same_table texts) c.value_of-value.result _ (value i) _ is in
+          let put = put_seen texts texts (same_table texts) c.value_of-value.result _
+              (value i) _ is in
           rw listed.0
           (does_pass (policy_of c.args.request.now.policy.now) o.takes o.names o.gives i
           (record { entries = seen texts entries; memo = memo }) _ texts c.in_ok-named.named found

@@ -3,7 +3,10 @@ use Rattle.pkcheck.proofs.Stepping.Judged.{wrong_head, wrong_none}
 use Rattle.pkcheck.proofs.machine.operate.receiver.receiver_fault.Goals as goal
 
 pub returns-in-Some : goal.returns-in-Some
-returns-in-Some c ts = rw c.in-Leaves.is (c.is_wrong.ensures ts ∙ wrong_head ts c.in-Leaves.wanted c.args.operands.now c.in-Some.value c.in-Some.ensures)
+returns-in-Some c ts = rw c.in-Leaves.is
+    (c.is_wrong.ensures ts ∙ wrong_head ts c.in-Leaves.wanted c.args.operands.now c.in-Some.value
+    c.in-Some.ensures)
 
 pub returns-in-None : goal.returns-in-None
-returns-in-None c ts = rw c.in-Leaves.is (wrong_none ts c.in-Leaves.wanted c.args.operands.now c.in-None.ensures)
+returns-in-None c ts =
+    rw c.in-Leaves.is (wrong_none ts c.in-Leaves.wanted c.args.operands.now c.in-None.ensures)

@@ -12,9 +12,14 @@ end_with-requires c =
     omega (arith, long, c.requires.there)
 
 pub returns : goal.returns
-returns c = rw c.end_with.ensures (sym (below_shown (c.args.place + 1) c.self.inside.slots) ∙ ap (below (c.args.place + 1)) c.self.view_is)
+returns c = rw c.end_with.ensures
+    (sym (below_shown (c.args.place + 1) c.self.inside.slots)
+    ∙ ap (below (c.args.place + 1)) c.self.view_is)
 
 pub invariant_of-self : goal.invariant_of-self
 invariant_of-self c =
-    let marks : c.args.marks ≡ length (bars 0 (take (c.args.place + 1) c.self.inside.slots)) = c.requires.marks ∙ ap (λ es. marks_of (below (c.args.place + 1) es)) (sym c.self.view_is) ∙ sym (below_marks (c.args.place + 1) c.self.inside.slots) in
-    rw (c.truncate.ensures, c.end_with.ensures) (marks_cut c.self.inside.slots _ (c.args.place + 1) c.args.marks c.self.invariant marks)
+    let marks : c.args.marks ≡ length (bars 0 (take (c.args.place + 1) c.self.inside.slots)) =
+        c.requires.marks ∙ ap (λ es. marks_of (below (c.args.place + 1) es)) (sym c.self.view_is)
+        ∙ sym (below_marks (c.args.place + 1) c.self.inside.slots) in
+    rw (c.truncate.ensures, c.end_with.ensures)
+        (marks_cut c.self.inside.slots _ (c.args.place + 1) c.args.marks c.self.invariant marks)

@@ -3,4 +3,5 @@ use Rattle.pkcheck.proofs.Bars.{marks_shown}
 use Rattle.pkcheck.proofs.machine.stack.Stack.marks.Goals as goal
 
 pub returns : goal.returns
-returns c = rw (← c.self.view_is) (c.len.ensures.value ∙ ap length c.self.invariant ∙ marks_shown c.self.inside.slots)
+returns c = rw (← c.self.view_is)
+    (c.len.ensures.value ∙ ap length c.self.invariant ∙ marks_shown c.self.inside.slots)

@@ -4,7 +4,9 @@ use Rattle.pkcheck.proofs.Places.{above_shown, place_within}
 use Rattle.pkcheck.proofs.machine.stack.Stack.operands.Goals as goal
 
 pub from-requires : goal.from-requires
-from-requires c = rw c.entries.ensures (place_within c.args.place c.self.inside.slots c.args.self.now c.self.view_is c.requires)
+from-requires c = rw c.entries.ensures
+    (place_within c.args.place c.self.inside.slots c.args.self.now c.self.view_is c.requires)
 
 pub returns : goal.returns
-returns c = subst (λ es. c.from.result ≡ above c.args.place es) c.self.view_is (rw (c.from.ensures, c.entries.ensures) (sym (above_shown c.args.place c.self.inside.slots)))
+returns c = subst (λ es. c.from.result ≡ above c.args.place es) c.self.view_is
+    (rw (c.from.ensures, c.entries.ensures) (sym (above_shown c.args.place c.self.inside.slots)))

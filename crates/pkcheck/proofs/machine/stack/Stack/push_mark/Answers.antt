@@ -3,4 +3,7 @@ use Rattle.pkcheck.proofs.Bars.{bars_marked}
 use Rattle.pkcheck.proofs.machine.stack.Stack.push_mark.Goals as goal
 
 pub invariant_of-self-in-Ok-push : goal.invariant_of-self-in-Ok-push
-invariant_of-self-in-Ok-push c = rw (c.in-Ok-push.ensures.ok, c.in-Ok.ensures.ok, c.len-place.ensures.value) (ap (λ l. l ++ length c.self.inside.slots ∷ []) c.self.invariant ∙ sym (bars_marked c.self.inside.slots))
+invariant_of-self-in-Ok-push c =
+    rw (c.in-Ok-push.ensures.ok, c.in-Ok.ensures.ok, c.len-place.ensures.value)
+    (ap (λ l. l ++ length c.self.inside.slots ∷ []) c.self.invariant
+    ∙ sym (bars_marked c.self.inside.slots))

@@ -14,9 +14,16 @@ replace-requires c =
     omega (arith, long, c.requires.at)
 
 pub returns : goal.returns
-returns c = rw c.replace.ensures (shown_append (take c.args.place c.self.inside.slots) (Object c.args.value ∷ []) [] ∙ ap (λ es. Item c.args.value ∷ es) (sym (below_shown c.args.place c.self.inside.slots) ∙ ap (below c.args.place) c.self.view_is))
+returns c = rw c.replace.ensures
+    (shown_append (take c.args.place c.self.inside.slots) (Object c.args.value ∷ []) []
+    ∙ ap (λ es. Item c.args.value ∷ es)
+    (sym (below_shown c.args.place c.self.inside.slots) ∙ ap (below c.args.place) c.self.view_is))
 
 pub invariant_of-self : goal.invariant_of-self
 invariant_of-self c =
-    let marks : c.args.marks ≡ length (bars 0 (take c.args.place c.self.inside.slots)) = c.requires.marks ∙ ap (λ es. marks_of (below c.args.place es)) (sym c.self.view_is) ∙ sym (below_marks c.args.place c.self.inside.slots) in
-    rw (c.truncate.ensures, c.replace.ensures) (marks_cut c.self.inside.slots _ c.args.place c.args.marks c.self.invariant marks ∙ sym (bars_pushed (take c.args.place c.self.inside.slots) c.args.value))
+    let marks : c.args.marks ≡ length (bars 0 (take c.args.place c.self.inside.slots)) =
+        c.requires.marks ∙ ap (λ es. marks_of (below c.args.place es)) (sym c.self.view_is)
+        ∙ sym (below_marks c.args.place c.self.inside.slots) in
+    rw (c.truncate.ensures, c.replace.ensures)
+        (marks_cut c.self.inside.slots _ c.args.place c.args.marks c.self.invariant marks
+        ∙ sym (bars_pushed (take c.args.place c.self.inside.slots) c.args.value))

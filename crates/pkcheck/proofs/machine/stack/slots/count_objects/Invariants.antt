@@ -3,4 +3,5 @@ use Rattle.pkcheck.specs.Private.Slots.{values_of}
 use Rattle.pkcheck.proofs.machine.stack.slots.count_objects.Given as goal
 
 abbrev pub invariant-loop-slot : goal.invariant-loop-slot
-invariant-loop-slot l = (l.count ≤ l.slot-index) × (l.count ≡ length (values_of (take l.slot-index l.slots)))
+invariant-loop-slot l = (l.count ≤ l.slot-index)
+    × (l.count ≡ length (values_of (take l.slot-index l.slots)))

@@ -2,7 +2,8 @@ use Rattle.std.proofs.Common.{◌≤◌, ◌<◌, ℕ, length, get_or}
 use Rattle.pkcheck.proofs.machine.stack.slots.marks_below.Given as goal
 
 abbrev pub invariant-loop-left : goal.invariant-loop-left
-invariant-loop-left l = (l.left ≤ length l.places) × ((i : ℕ) → l.left ≤ i → i < length l.places → l.count ≤ get_or l.places i 0)
+invariant-loop-left l = (l.left ≤ length l.places)
+    × ((i : ℕ) → l.left ≤ i → i < length l.places → l.count ≤ get_or l.places i 0)
 
 abbrev pub decreases-loop-left : goal.decreases-loop-left
 decreases-loop-left l = l.left

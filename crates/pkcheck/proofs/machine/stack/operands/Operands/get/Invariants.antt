@@ -3,4 +3,5 @@ use Rattle.pkcheck.specs.Private.Slots.{values_of}
 use Rattle.pkcheck.proofs.machine.stack.operands.Operands.get.Given as goal
 
 abbrev pub invariant-loop-slot : goal.invariant-loop-slot
-invariant-loop-slot l = (l.before ≤ l.slot-index) × (l.before ≤ l.index) × (l.before ≡ length (values_of (take l.slot-index l.slot-items)))
+invariant-loop-slot l = (l.before ≤ l.slot-index) × (l.before ≤ l.index)
+    × (l.before ≡ length (values_of (take l.slot-index l.slot-items)))
