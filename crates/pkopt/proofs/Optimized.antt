@@ -1,5 +1,7 @@
 -- What the answers of `optimize` rest on.
-use Rattle.std.proofs.Common.{◌≡◌, ℕ, zero, suc, ◌<◌, ◌≤◌, ◌^◌, Bool, true, false, List, [], ◌∷◌, ◌++◌, length, Option, None, Some, Result, cond, length-append, Ok, inl, inr, refl, sym, ap, subst, ◌∙◌, arith}
+use Rattle.std.proofs.Common.{◌≡◌, ℕ, zero, suc, ◌<◌, ◌≤◌, ◌^◌, Bool, true, false, List, [], ◌∷◌}
+use Rattle.std.proofs.Common.{◌++◌, length, Option, None, Some, Result, cond, length-append, Ok}
+use Rattle.std.proofs.Common.{inl, inr, refl, sym, ap, subst, ◌∙◌, arith}
 use Rattle.std.proofs.lemmas.Bool.{cond_both}
 use Rattle.std.specs.Prelude.{◌≢◌, All, slice_index_or}
 use Rattle.pkops.specs.Limits.{Bounds, holding_all}
@@ -42,7 +44,8 @@ use Rattle.pkopt.specs.Writers.{Writes, after, is_read, sources, new_number, aft
 use Rattle.pkopt.proofs.BothRuns.Faultless.{stays_faultless}
 use Rattle.pkopt.proofs.MemoWrites.NewNumbers.{after_all_le, new_least, new_up_to}
 use Rattle.pkopt.proofs.BothRuns.Heard.{heard_tracks}
-use Rattle.pkopt.proofs.OneFrame.FramedForm.{optimized_alike, optimized_framed, optimized_bytes, unframed_bytes}
+use Rattle.pkopt.proofs.OneFrame.FramedForm.{optimized_alike, optimized_framed}
+use Rattle.pkopt.proofs.OneFrame.FramedBytes.{optimized_bytes, unframed_bytes}
 use Rattle.pkopt.proofs.BothRuns.Origins.{counterpart}
 use Rattle.pkopt.proofs.MemoWrites.Parts.{framed_parts}
 use Rattle.pkopt.proofs.SlimForm.Unchanged.{framed_places}
@@ -54,44 +57,68 @@ use Rattle.pkopt.proofs.SlimForm.WritesRead.{all_read, after_all-append}
 use Rattle.pkopt.proofs.OneFrame.OneSequence.{optimized_sequence}
 use Rattle.pkopt.proofs.BothRuns.SlimRuns.{AreSmall, slim_alike}
 
-ends_in_stop : (limit : ℕ) (front : List Instruction) (last : Instruction) → All (IsAllowed limit) (front ++ last ∷ []) → last.op ≡ Stop → All (λ i. i.op ≢ Stop) front → EndsInStop limit (front ++ last ∷ [])
+ends_in_stop : (limit : ℕ) (front : List Instruction) (last : Instruction)
+    → All (IsAllowed limit) (front ++ last ∷ []) → last.op ≡ Stop → All (λ i. i.op ≢ Stop) front
+    → EndsInStop limit (front ++ last ∷ [])
 ends_in_stop limit [] last each stop none = (each 0 last (omega arith), inl (stop, refl))
-ends_in_stop limit (i ∷ front) last each stop none =
-    (each 0 i (omega arith), inr (none 0 i (omega arith), ends_in_stop limit front last (λ k d lt. each (suc k) d (omega (arith, lt))) stop (λ k d lt. none (suc k) d (omega (arith, lt)))))
+ends_in_stop limit (i ∷ front) last each stop none = (
+  each 0 i (omega arith),
+  inr (
+    none 0 i (omega arith),
+    ends_in_stop limit front last
+        (λ k d lt. each (suc k) d (omega (arith, lt))) stop
+        (λ k d lt. none (suc k) d (omega (arith, lt))),
+  ),
+)
 
 sequence_ends : (limit : ℕ) (p : List Instruction) → IsSequence (λ _. limit) p → EndsInStop limit p
 sequence_ends limit p h =
     let s = h.stops in
-    subst (EndsInStop limit) (sym s.2) (ends_in_stop limit s.0 s.1 (subst (All (IsAllowed limit)) s.2 h.each) s.3 s.4)
+    subst (EndsInStop limit) (sym s.2)
+    (ends_in_stop limit s.0 s.1 (subst (All (IsAllowed limit)) s.2 h.each) s.3 s.4)
 
-held_sequence : (limits : Bounds) (p : List Instruction) → IsSequence (payload_limit (holding_all limits)) p → IsSequence (λ _. limits.counted) p
+held_sequence : (limits : Bounds) (p : List Instruction)
+    → IsSequence (payload_limit (holding_all limits)) p → IsSequence (λ _. limits.counted) p
 held_sequence limits p h = record {
-  each = λ k d lt. let i = slice_index_or p k d in cond_both (is_passed i.op) limits.counted limits.counted (λ l. IsAllowed l i → IsAllowed limits.counted i) (λ _ a. a) (λ _ a. a) (h.each k d lt);
+  each = λ k d lt. let i = slice_index_or p k d in
+      cond_both (is_passed i.op) limits.counted limits.counted
+      (λ l. IsAllowed l i → IsAllowed limits.counted i) (λ _ a. a) (λ _ a. a) (h.each k d lt);
   stops = h.stops;
 }
 
 -- the pickle ends in its only STOP
-ends_of : (limits : Bounds) (bytes : List ℕ) (c : Checks limits bytes) → EndsInStop limits.counted (pickle c)
-ends_of limits bytes c = sequence_ends limits.counted (pickle c) (held_sequence limits (pickle c) c.accepted.sequence)
+ends_of : (limits : Bounds) (bytes : List ℕ) (c : Checks limits bytes)
+    → EndsInStop limits.counted (pickle c)
+ends_of limits bytes c = sequence_ends limits.counted (pickle c)
+    (held_sequence limits (pickle c) c.accepted.sequence)
 
 -- the new numbers are small
-small_numbers : (p : List Instruction) (limit : ℕ) → limit < 2 ^ 32 → new_number (sources [] p) (length (after_all p [])) ≤ limit → (w : ℕ) → w < length (after_all p []) → new_number (sources [] p) w < 2 ^ 32
-small_numbers p limit small le w lt = let up = new_up_to (sources [] p) w (length (after_all p [])) (omega (arith, lt)) in omega (arith, up, le, small)
+small_numbers : (p : List Instruction) (limit : ℕ) → limit < 2 ^ 32
+    → new_number (sources [] p) (length (after_all p [])) ≤ limit → (w : ℕ)
+    → w < length (after_all p []) → new_number (sources [] p) w < 2 ^ 32
+small_numbers p limit small le w lt = let up = new_up_to (sources [] p) w (length (after_all p []))
+    (omega (arith, lt)) in omega (arith, up, le, small)
 
 -- no write is past the limit
-none_past : (p : List Instruction) (limit : ℕ) → new_number (sources [] p) (length (after_all p [])) ≤ limit → (before : List Instruction) → IsPastLimit limit p before → ⊥
+none_past : (p : List Instruction) (limit : ℕ)
+    → new_number (sources [] p) (length (after_all p [])) ≤ limit → (before : List Instruction)
+    → IsPastLimit limit p before → ⊥
 none_past p limit le before (i, rest, parts, more, read, number) =
     let ws = after_all before [] in
-    let all : after_all p [] ≡ after_all rest (after i ws) = ap (λ q. after_all q []) parts ∙ after_all-append before (i ∷ rest) [] in
-    let size : length (after_all p []) ≡ length (after_all rest (after i ws)) = ap (λ (x : Writes). length x) all in
+    let all : after_all p [] ≡ after_all rest (after i ws) =
+    ap (λ q. after_all q []) parts ∙ after_all-append before (i ∷ rest) [] in
+    let size : length (after_all p []) ≡ length (after_all rest (after i ws)) =
+    ap (λ (x : Writes). length x) all in
     let up = after_all_le rest (after i ws) in
-    let less = new_least (sources [] p) (length ws) (length (after_all p [])) (omega (arith, size, up, more)) read in
+    let less = new_least (sources [] p) (length ws) (length (after_all p []))
+    (omega (arith, size, up, more)) read in
     omega (arith, less, le, number)
 
 spelled_by : (b : Bool) (limits : Bounds) (bytes : List ℕ) (c : Checks limits bytes)
     → has_frame (pickle c) ≡ b → (result slim_out : List ℕ) → slim_out ≡ spellings (slim (pickle c))
     → result ≡ cond b (framed_bytes slim_out) slim_out → result ≡ spellings (optimized (pickle c))
-spelled_by true limits bytes c f result slim_out e how = how ∙ ap framed_bytes e ∙ optimized_bytes limits.counted (pickle c) (ends_of limits bytes c) f
+spelled_by true limits bytes c f result slim_out e how = how ∙ ap framed_bytes e
+    ∙ optimized_bytes limits.counted (pickle c) (ends_of limits bytes c) f
 spelled_by false limits bytes c f result slim_out e how = how ∙ e ∙ unframed_bytes (pickle c) f
 
 -- the answer where the slim form is produced
@@ -100,33 +127,59 @@ optimizes : CountingIsExact → WellIsFree → WellCarriesOver
     (has : Bool) (result : List ℕ) → limit < 2 ^ 32 → length out < 2 ^ 64 → limit ≡ limits.memo
     → IsSlim (pickle c) limit out → has ≡ has_frame (pickle c)
     → result ≡ cond has (framed_bytes out) out → Optimizes limits bytes result
-optimizes exact well_free carries limits bytes c limit out has result lt short same h framed_so how =
+optimizes exact well_free carries limits bytes c limit out has result lt short same h framed_so
+    how =
     let p = pickle c in
     let small = small_numbers p limit lt h.fits in
-    let smaller : AreSmall (sources [] p) (length (after_all p [])) = λ w inside. let s = small w inside in omega (arith, s) in
+    let smaller : AreSmall (sources [] p) (length (after_all p [])) = λ w inside. let s =
+    small w inside in omega (arith, s) in
     let list = permitted_by None in
-    let free : (os : List Outcome) → IsFree (run p os start) = λ os. well_free list (run p os start) (c.accepted.sound os) in
+    let free : (os : List Outcome) → IsFree (run p os start) =
+    λ os. well_free list (run p os start) (c.accepted.sound os) in
     let alike : RunsAlike p (optimized p) = optimized_alike p (slim_alike p smaller free) in
-    let sound : Sound Unknown (optimized p) list = λ os. carries list (run p os start) (run (optimized p) os start) (alike os) (c.accepted.sound os) in
+    let sound : Sound Unknown (optimized p) list = λ os. carries list (run p os start)
+    (run (optimized p) os start) (alike os) (c.accepted.sound os) in
     let framed = optimized_framed exact limits.counted p (ends_of limits bytes c) in
     record {
       checks = c;
       spelled = spelled_by has limits bytes c (sym framed_so) result out h.spelled how;
       alike = alike;
       read = all_read p smaller;
-      sequence = optimized_sequence limits.counted p small (let l = ap length h.spelled in omega (arith, l, short)) (ends_of limits bytes c);
+      sequence = optimized_sequence limits.counted p small
+          (let l = ap length h.spelled in omega (arith, l, short)) (ends_of limits bytes c);
       framed = framed;
       sound = sound;
       faultless = stays_faultless p (optimized p) framed list sound (counterpart p smaller free);
-      fits = none_past p limits.memo (subst (λ m. new_number (sources [] p) (length (after_all p [])) ≤ m) same h.fits);
+      fits = none_past p limits.memo
+          (subst (λ m. new_number (sources [] p) (length (after_all p [])) ≤ m) same h.fits);
     }
 
 -- a check of bytes in memory
-pub checks_memory : (limits : Bounds) (bytes left rest : List ℕ) (taken : ℕ) (imports : List Asked) → left ≡ bytes → Accepted Unknown None (holding_all limits) (in_memory left) (in_memory rest) taken imports → Checks limits bytes
-checks_memory limits bytes left rest taken imports e h = record { rest = rest; taken = taken; imports = imports; accepted = subst (λ b. Accepted Unknown None (holding_all limits) (in_memory b) (in_memory rest) taken imports) e h }
+pub checks_memory : (limits : Bounds) (bytes left rest : List ℕ) (taken : ℕ) (imports : List Asked)
+    → left ≡ bytes → Accepted Unknown None (holding_all limits) (in_memory left)
+    (in_memory rest) taken imports → Checks limits bytes
+checks_memory limits bytes left rest taken imports e h =
+    record {
+      rest = rest;
+      taken = taken;
+      imports = imports;
+      accepted = subst
+          (λ b. Accepted Unknown None (holding_all limits) (in_memory b) (in_memory rest) taken imports) e
+          h;
+    }
 
-pub fails_memory : (limits : Bounds) (bytes left rest : List ℕ) (refusal : Refusal) (pair : Option Asked) → left ≡ bytes → Refused Unknown None (holding_all limits) (in_memory left) (in_memory rest) refusal.at refusal.reason pair → FailsCheck limits bytes refusal
-fails_memory limits bytes left rest refusal pair e h = record { rest = rest; pair = pair; refused = subst (λ b. Refused Unknown None (holding_all limits) (in_memory b) (in_memory rest) refusal.at refusal.reason pair) e h }
+pub fails_memory : (limits : Bounds) (bytes left rest : List ℕ) (refusal : Refusal)
+    (pair : Option Asked) → left ≡ bytes → Refused Unknown None (holding_all limits)
+    (in_memory left) (in_memory rest) refusal.at refusal.reason pair
+    → FailsCheck limits bytes refusal
+fails_memory limits bytes left rest refusal pair e h =
+    record {
+      rest = rest;
+      pair = pair;
+      refused = subst
+          (λ b. Refused Unknown None (holding_all limits) (in_memory b)
+          (in_memory rest) refusal.at refusal.reason pair) e h;
+    }
 
 -- the check was heard
 traced_memory : (limits : Bounds) (bytes rest : List ℕ) (accepted : Yes) (hs : List Heard)
@@ -134,7 +187,12 @@ traced_memory : (limits : Bounds) (bytes rest : List ℕ) (accepted : Yes) (hs :
     (Ok accepted) hs → IsNewTrace x → Hears x y hs → IsTraced limits bytes
     (record { taken = accepted.taken; trace = y })
 traced_memory limits bytes rest accepted hs x y h first heard = record {
-  checks = record { rest = rest; taken = accepted.taken; imports = accepted.imports; accepted = h.right };
+  checks = record {
+    rest = rest;
+    taken = accepted.taken;
+    imports = accepted.imports;
+    accepted = h.right;
+  };
   tracks = heard_tracks x y h.right.instructions hs first h.each heard;
   count = h.right.count;
 }
@@ -146,60 +204,101 @@ pub is_traced : (limits : Bounds) (bytes left rest : List ℕ) (answer : Result 
     { taken = accepted.taken; trace = y })
 is_traced limits bytes left rest answer accepted hs x y e is h first heard =
     subst (λ b. IsTraced limits b (record { taken = accepted.taken; trace = y })) e
-    (traced_memory limits left rest accepted hs x y (subst (λ a. IsRightAndHeard None (holding_all limits) (in_memory left) (in_memory rest) a hs) is h) first heard)
+    (traced_memory limits left rest accepted hs x y
+    (subst
+    (λ a. IsRightAndHeard None (holding_all limits) (in_memory left) (in_memory rest) a hs) is
+    h) first heard)
 
 -- what the second pass is given
-pub aims_at : (limits : Bounds) (bytes : List ℕ) (x : Traced) (plan : Plan) → (t : IsTraced limits bytes x) → IsPlanFor (pickle t.checks) plan → Aims bytes (places_behind 0 x.trace.parts.items) x.taken plan (pickle t.checks)
-aims_at limits bytes x plan t planned = record { rest = t.checks.rest; spelled = t.checks.accepted.bytes.bytes; places_so = t.tracks.places; taken_so = t.count; planned = planned }
+pub aims_at : (limits : Bounds) (bytes : List ℕ) (x : Traced) (plan : Plan)
+    → (t : IsTraced limits bytes x) → IsPlanFor (pickle t.checks) plan
+    → Aims bytes (places_behind 0 x.trace.parts.items) x.taken plan (pickle t.checks)
+aims_at limits bytes x plan t planned =
+    record {
+      rest = t.checks.rest;
+      spelled = t.checks.accepted.bytes.bytes;
+      places_so = t.tracks.places;
+      taken_so = t.count;
+      planned = planned;
+    }
 
-pub plan_for : (p : List Instruction) (plan : Plan) (found : List (Option ℕ)) (writes : ℕ) → plan.sources.items ≡ found → AreNumbers found writes plan.limit plan.numbers.items → found ≡ sources [] p → writes ≡ length (after_all p []) → IsPlanFor p plan
+pub plan_for : (p : List Instruction) (plan : Plan) (found : List (Option ℕ)) (writes : ℕ)
+    → plan.sources.items ≡ found → AreNumbers found writes plan.limit plan.numbers.items
+    → found ≡ sources [] p → writes ≡ length (after_all p []) → IsPlanFor p plan
 plan_for p plan found writes same h e w = record {
   reads = same ∙ e;
-  writes = subst (λ (l : List (Option ℕ)). AreNumbers l (length (after_all p [])) plan.limit plan.numbers.items) e (subst (λ w. AreNumbers found w plan.limit plan.numbers.items) w h);
+  writes = subst
+      (λ (l : List (Option ℕ)). AreNumbers l (length (after_all p [])) plan.limit
+      plan.numbers.items) e (subst (λ w. AreNumbers found w plan.limit plan.numbers.items) w h);
 }
 
 -- the pickle is there
-pub taken_within : (limits : Bounds) (bytes : List ℕ) (x : Traced) → IsTraced limits bytes x → x.taken ≤ length bytes
+pub taken_within : (limits : Bounds) (bytes : List ℕ) (x : Traced) → IsTraced limits bytes x
+    → x.taken ≤ length bytes
 taken_within limits bytes x t =
     let count = t.count in
     let e = ap length t.checks.accepted.bytes.bytes in
     let l = length-append (spellings (pickle t.checks)) t.checks.rest in
     omega (arith, count, e, l)
 
-module _ (limits : Bounds) (bytes : List ℕ) (x : Traced) (plan : Plan) (t : IsTraced limits bytes x) (planned : IsPlanFor (pickle t.checks) plan) (same : plan.limit ≡ limits.memo) where
+module _ (limits : Bounds) (bytes : List ℕ) (x : Traced) (plan : Plan) (t : IsTraced limits bytes x)
+    (planned : IsPlanFor (pickle t.checks) plan) (same : plan.limit ≡ limits.memo) where
   -- the form, if no write is past the limit
-  pub form_optimizes : CountingIsExact → WellIsFree → WellCarriesOver → plan.limit < 2 ^ 32 → first_past plan (places_behind 0 x.trace.parts.items) 0 0 ≡ None
-      → length (slim_bytes plan bytes x.taken x.trace.parts.items) < 2 ^ 64 → Optimizes limits bytes (output plan bytes x.taken x.trace.parts.items)
+  pub form_optimizes : CountingIsExact → WellIsFree → WellCarriesOver → plan.limit < 2 ^ 32
+      → first_past plan (places_behind 0 x.trace.parts.items) 0 0 ≡ None
+      → length (slim_bytes plan bytes x.taken x.trace.parts.items) < 2 ^ 64
+      → Optimizes limits bytes (output plan bytes x.taken x.trace.parts.items)
   form_optimizes exact well_free carries lt none short =
       let parts = x.trace.parts.items in
-      let framed_so = framed_parts parts 0 ∙ ap (list_any (λ (y : Place). is_frame y.op)) t.tracks.places ∙ framed_places (pickle t.checks) 0 in
-      optimizes exact well_free carries limits bytes t.checks plan.limit (slim_bytes plan bytes x.taken parts) (has_frames parts) (output plan bytes x.taken parts) lt short same
-      (produced_slim bytes (places_behind 0 parts) x.taken plan (pickle t.checks) (aims_at limits bytes x plan t planned) none) framed_so refl
+      let framed_so = framed_parts parts 0 ∙ ap (list_any (λ (y : Place). is_frame y.op))
+      t.tracks.places ∙ framed_places (pickle t.checks) 0 in
+      optimizes exact well_free carries limits bytes t.checks plan.limit
+      (slim_bytes plan bytes x.taken parts) (has_frames parts)
+      (output plan bytes x.taken parts) lt short same
+      (produced_slim bytes (places_behind 0 parts) x.taken plan (pickle t.checks)
+      (aims_at limits bytes x plan t planned) none) framed_so refl
 
   -- the refusal of a write past the limit
-  pub past_refused : (refusal : Refusal) → first_past plan (places_behind 0 x.trace.parts.items) 0 0 ≡ Some refusal.at → refusal.reason ≡ TooLarge → IsNotOptimized limits bytes refusal
+  pub past_refused : (refusal : Refusal) → first_past plan (places_behind 0 x.trace.parts.items) 0 0
+      ≡ Some refusal.at → refusal.reason ≡ TooLarge → IsNotOptimized limits bytes refusal
   past_refused refusal found why =
-      let past = past_found bytes (places_behind 0 x.trace.parts.items) x.taken plan (pickle t.checks) (aims_at limits bytes x plan t planned) refusal.at found in
-      inr (inl (record { checks = t.checks; before = past.before; past = subst (λ m. IsPastLimit m (pickle t.checks) past.before) same past.past; place = past.place; reason = why }))
+      let past = past_found bytes (places_behind 0 x.trace.parts.items) x.taken plan
+      (pickle t.checks) (aims_at limits bytes x plan t planned) refusal.at found in
+      inr
+      (inl
+      (record {
+        checks = t.checks;
+        before = past.before;
+        past = subst (λ m. IsPastLimit m (pickle t.checks) past.before) same past.past;
+        place =
+            past.place;
+        reason = why;
+      }))
 
 -- no write has a number that is greater than its name
 least_number : (vs : List (Option ℕ)) (w : ℕ) → new_number vs w ≤ w
 least_number vs zero = omega arith
 least_number vs (suc w) =
     let le = least_number vs w in
-    elim (is_read w vs) as (λ b. cond b (suc (new_number vs w)) (new_number vs w) ≤ suc w) [ true ↦ omega (arith, le) | false ↦ omega (arith, le) ]
+    elim (is_read w vs) as (λ b. cond b (suc (new_number vs w)) (new_number vs w)
+    ≤ suc w) [ true ↦ omega (arith, le) | false ↦ omega (arith, le) ]
 
 -- no write is past the limit if there are no more writes
-pub few_writes : (limits : Bounds) (bytes : List ℕ) (x : Traced) (plan : Plan) (t : IsTraced limits bytes x) → IsPlanFor (pickle t.checks) plan → x.trace.writes ≤ plan.limit → first_past plan (places_behind 0 x.trace.parts.items) 0 0 ≡ None
+pub few_writes : (limits : Bounds) (bytes : List ℕ) (x : Traced) (plan : Plan)
+    (t : IsTraced limits bytes x) → IsPlanFor (pickle t.checks) plan → x.trace.writes ≤ plan.limit
+    → first_past plan (places_behind 0 x.trace.parts.items) 0 0 ≡ None
 few_writes limits bytes x plan t planned few =
     let p = pickle t.checks in
     let places = places_behind 0 x.trace.parts.items in
     let count = t.tracks.writes in
     let least = least_number (sources [] p) (length (after_all p [])) in
-    let fits : new_number (sources [] p) (length (after_all p [])) ≤ plan.limit = omega (arith, few, count, least) in
-    elim (first_past plan places 0 0) as (λ v. first_past plan places 0 0 ≡ v → first_past plan places 0 0 ≡ None) [
+    let fits : new_number (sources [] p) (length (after_all p [])) ≤ plan.limit =
+    omega (arith, few, count, least) in
+    elim (first_past plan places 0 0) as (λ v. first_past plan places 0 0 ≡ v
+    → first_past plan places 0 0 ≡ None) [
       | None ↦ λ e. e
       | Some at ↦ λ e.
-          let past = past_found bytes places x.taken plan p (aims_at limits bytes x plan t planned) at e in
+          let past = past_found bytes places x.taken plan p
+          (aims_at limits bytes x plan t planned) at e in
           absurd (none_past p plan.limit fits past.before past.past)
     ] refl

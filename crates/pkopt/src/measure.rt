@@ -1,8 +1,8 @@
 //! The length of a form, and its first two bytes.
 
 ghost use Rattle.std.specs.Prelude.{◌≡◌, ℕ, List};
-ghost use Rattle.pkopt.specs.Private.Sinks.{Measures, byte_in, counts_more, counts_none, unmeasured};
-ghost use Rattle.pkopt.specs.Private.Sinks.{Counts};
+ghost use Rattle.pkopt.specs.Private.Sinks.{Measures, byte_in, counts_more, counts_none};
+ghost use Rattle.pkopt.specs.Private.Sinks.{Counts, unmeasured};
 
 use crate::sink::Sink;
 use std::alloc::AllocError;

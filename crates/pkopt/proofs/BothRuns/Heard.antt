@@ -1,5 +1,6 @@
 -- What is known along a pickle, heard instruction by instruction.
-use Rattle.std.proofs.Common.{◌≡◌, ℕ, ◌+◌, true, false, cond, List, [], ◌∷◌, ◌++◌, length, Option, Result, Ok, Err, refl, sym, ap, subst, ◌∙◌, append-nil, length-append}
+use Rattle.std.proofs.Common.{◌≡◌, ℕ, ◌+◌, true, false, cond, List, [], ◌∷◌, ◌++◌, length, Option}
+use Rattle.std.proofs.Common.{Result, Ok, Err, refl, sym, ap, subst, ◌∙◌, append-nil, length-append}
 use Rattle.std.specs.Prelude.{OnOk}
 use Rattle.pkops.specs.declared.Op.{Op}
 use Rattle.pkops.specs.Operands.{memo_number}
@@ -10,22 +11,28 @@ use Rattle.pkcheck.specs.Heard.{Heard, heard, AreHeardBehind}
 use Rattle.pkopt.specs.declared.place.Part.{Part}
 use Rattle.pkopt.specs.declared.place.Place.{Place}
 use Rattle.pkopt.specs.declared.trace.Trace.{Trace}
-use Rattle.pkopt.specs.Private.Passes.{IsNewTrace, EndsSo, FollowsWrites, Hears, Marks, NotesStep, Tracks}
-use Rattle.pkopt.specs.Private.Places.{end_behind, place, stays_as_is, place_of, places_behind, places_from, places_told, told}
+use Rattle.pkopt.specs.Private.Passes.{IsNewTrace, EndsSo, FollowsWrites, Hears, Marks, NotesStep}
+use Rattle.pkopt.specs.Private.Passes.{Tracks}
+use Rattle.pkopt.specs.Private.Places.{end_behind, place, stays_as_is, place_of, places_behind}
+use Rattle.pkopt.specs.Private.Places.{places_from, places_told, told}
 use Rattle.pkopt.specs.Writers.{Writes, read_by, sources, after_all}
 use Rattle.pkopt.proofs.MemoWrites.Noted.{none_remembered}
 use Rattle.pkopt.proofs.SlimForm.PlainInstructions.{plain_is}
 use Rattle.pkopt.proofs.SlimForm.Unchanged.{spellings-append}
 
 -- one plain instruction is heard
-pub plain_heard : (x : Trace) (at marks : ℕ) (i : Instruction) → stays_as_is i.op ≡ true → Hears x x (heard at i marks ∷ [])
+pub plain_heard : (x : Trace) (at marks : ℕ) (i : Instruction) → stays_as_is i.op ≡ true
+    → Hears x x (heard at i marks ∷ [])
 plain_heard x at marks i e = λ ws h ends.
     let plain = plain_is i e in
     record {
       follows = subst (λ (w : Writes). FollowsWrites w x) (sym (plain.no_write ws)) h;
       ends = ends;
-      sources_now = sym (append-nil x.sources.items) ∙ ap (λ (l : List (Option ℕ)). x.sources.items ++ l) (sym (append-nil (read_by (effect_of i.op) (memo_number i) ws) ∙ plain.no_read ws));
-      places_now = sym (append-nil (places_behind 0 x.parts.items)) ∙ ap (λ b. places_behind 0 x.parts.items ++ cond b [] (place_of at i ∷ [])) (sym e);
+      sources_now = sym (append-nil x.sources.items)
+          ∙ ap (λ (l : List (Option ℕ)). x.sources.items ++ l)
+          (sym (append-nil (read_by (effect_of i.op) (memo_number i) ws) ∙ plain.no_read ws));
+      places_now = sym (append-nil (places_behind 0 x.parts.items))
+          ∙ ap (λ b. places_behind 0 x.parts.items ++ cond b [] (place_of at i ∷ [])) (sym e);
     }
 
 -- another one is heard
@@ -34,41 +41,64 @@ pub other_heard : {A E : Type 0} (r : Result A E) (x y : Trace) (at marks : ℕ)
     → stays_as_is i.op ≡ false → OnOk r (Marks (place at size o) x y)
     → OnOk r (NotesStep o n x y) → OnOk r (Hears x y (heard at i marks ∷ []))
 other_heard (Ok a) x y at marks i o size n code long number e placed step = λ ws h ends.
-    let s = (subst (λ n. NotesStep i.op n x y) number (subst (λ o. NotesStep o n x y) code step)) ws h in
-    let p = (subst (λ n. Marks (place at n i.op) x y) long (subst (λ o. Marks (place at size o) x y) code placed)) ends in
+    let s = (subst (λ n. NotesStep i.op n x y) number (subst (λ o. NotesStep o n x y) code step)) ws
+    h in
+    let p =
+    (subst (λ n. Marks (place at n i.op) x y) long
+    (subst (λ o. Marks (place at size o) x y) code placed)) ends in
     record {
       follows = s.0;
       ends = p.0;
-      sources_now = s.1 ∙ ap (λ (l : List (Option ℕ)). x.sources.items ++ l) (sym (append-nil (read_by (effect_of i.op) (memo_number i) ws)));
-      places_now = p.1 ∙ ap (λ b. places_behind 0 x.parts.items ++ cond b [] (place_of at i ∷ [])) (sym e);
+      sources_now = s.1 ∙ ap (λ (l : List (Option ℕ)). x.sources.items ++ l)
+          (sym (append-nil (read_by (effect_of i.op) (memo_number i) ws)));
+      places_now = p.1 ∙ ap (λ b. places_behind 0 x.parts.items ++ cond b [] (place_of at i ∷ []))
+          (sym e);
     }
 other_heard (Err a) x y at marks i o size n code long number e placed step = tt
 
 -- all of a pickle was heard
-heard_told : (before is : List Instruction) (hs : List Heard) → AreHeardBehind before is hs → told hs ≡ is
+heard_told : (before is : List Instruction) (hs : List Heard) → AreHeardBehind before is hs
+    → told hs ≡ is
 heard_told before [] [] h = refl
-heard_told before (i ∷ is) (x ∷ hs) h = ap (λ (j : Instruction). j ∷ told hs) h.0.same ∙ ap (λ (l : List Instruction). i ∷ l) (heard_told (before ++ i ∷ []) is hs h.1)
+heard_told before (i ∷ is) (x ∷ hs) h = ap (λ (j : Instruction). j ∷ told hs) h.0.same
+    ∙ ap (λ (l : List Instruction). i ∷ l) (heard_told (before ++ i ∷ []) is hs h.1)
 heard_told before [] (x ∷ hs) h = absurd h
 heard_told before (i ∷ is) [] h = absurd h
 
-heard_places : (before is : List Instruction) (hs : List Heard) → AreHeardBehind before is hs → places_told hs ≡ places_from (length (spellings before)) is
+heard_places : (before is : List Instruction) (hs : List Heard) → AreHeardBehind before is hs
+    → places_told hs ≡ places_from (length (spellings before)) is
 heard_places before [] [] h = refl
 heard_places before (i ∷ is) (x ∷ hs) h =
-    let more : length (spellings (before ++ i ∷ [])) ≡ length (spellings before) + length (spelling i) = ap length (spellings-append before (i ∷ [])) ∙ length-append (spellings before) (spelling i ++ []) ∙ ap (λ (l : List ℕ). length (spellings before) + length l) (append-nil (spelling i)) in
-    ap (λ (j : Instruction). cond (stays_as_is j.op) (places_told hs) (place_of x.at j ∷ places_told hs)) h.0.same
+    let more : length (spellings (before ++ i ∷ [])) ≡ length (spellings before)
+    + length (spelling i) = ap length (spellings-append before (i ∷ []))
+    ∙ length-append (spellings before) (spelling i ++ [])
+    ∙ ap (λ (l : List ℕ). length (spellings before) + length l) (append-nil (spelling i)) in
+    ap
+    (λ (j : Instruction). cond (stays_as_is j.op) (places_told hs)
+    (place_of x.at j ∷ places_told hs)) h.0.same
     ∙ ap (λ at. cond (stays_as_is i.op) (places_told hs) (place_of at i ∷ places_told hs)) h.0.place
-    ∙ ap (λ (l : List Place). cond (stays_as_is i.op) l (place_of (length (spellings before)) i ∷ l)) (heard_places (before ++ i ∷ []) is hs h.1 ∙ ap (λ at. places_from at is) more)
+    ∙ ap
+    (λ (l : List Place). cond (stays_as_is i.op) l (place_of (length (spellings before)) i ∷ l))
+    (heard_places (before ++ i ∷ []) is hs h.1 ∙ ap (λ at. places_from at is) more)
 heard_places before [] (x ∷ hs) h = absurd h
 heard_places before (i ∷ is) [] h = absurd h
 
-pub heard_tracks : (x y : Trace) (p : List Instruction) (hs : List Heard) → IsNewTrace x → AreHeardBehind [] p hs → Hears x y hs → Tracks p y
+pub heard_tracks : (x y : Trace) (p : List Instruction) (hs : List Heard) → IsNewTrace x
+    → AreHeardBehind [] p hs → Hears x y hs → Tracks p y
 heard_tracks x y p hs first each h =
     let nothing : EndsSo x = first.end ∙ ap (end_behind 0) (sym first.parts) in
-    let s = h [] (record { holds = none_remembered x.memo.first x.memo.ordered.items x.memo.rest.entries first.ordered first.rest; count = first.writes }) nothing in
+    let s = h []
+    (record {
+      holds = none_remembered x.memo.first x.memo.ordered.items x.memo.rest.entries
+          first.ordered first.rest;
+      count = first.writes;
+    }) nothing in
     let all = heard_told [] p hs each in
     record {
-      reads = s.sources_now ∙ ap (λ (l : List (Option ℕ)). l ++ sources [] (told hs)) first.sources ∙ ap (sources []) all;
+      reads = s.sources_now ∙ ap (λ (l : List (Option ℕ)). l ++ sources [] (told hs)) first.sources
+          ∙ ap (sources []) all;
       writes = s.follows.count ∙ ap (λ q. length (after_all q [])) all;
-      places = s.places_now ∙ ap (λ (l : List Part). places_behind 0 l ++ places_told hs) first.parts ∙ heard_places [] p hs each;
+      places = s.places_now ∙ ap (λ (l : List Part). places_behind 0 l ++ places_told hs)
+          first.parts ∙ heard_places [] p hs each;
       ends = sym s.ends;
     }

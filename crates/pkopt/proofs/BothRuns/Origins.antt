@@ -1,13 +1,15 @@
 -- Which instruction of a pickle each one of its optimized form comes from, and the runs that get
 -- to the two.
-use Rattle.std.proofs.Common.{◌≡◌, ℕ, Bool, true, false, cond, List, [], ◌∷◌, ◌++◌, length, Option, Some, None, ◌⊎◌, inl, inr, refl, sym, ap, subst, ◌∙◌, arith}
+use Rattle.std.proofs.Common.{◌≡◌, ℕ, Bool, true, false, cond, List, [], ◌∷◌, ◌++◌, length, Option}
+use Rattle.std.proofs.Common.{Some, None, ◌⊎◌, inl, inr, refl, sym, ap, subst, ◌∙◌, arith}
 use Rattle.pkops.specs.Operands.{memo_number}
 use Rattle.pkops.specs.Spelling.{Instruction}
 use Rattle.pkcheck.specs.declared.effect.Move.{Move}
 use Rattle.pkcheck.specs.declared.effect.Move.TheVariants.{Stores, StoresNext, Fetches, Passes}
 use Rattle.pkcheck.specs.Effects.{Effect, Moves, effect_of}
 use Rattle.pkcheck.specs.Ends.{IsFree, SameEnd}
-use Rattle.pkcheck.specs.Runs.{State, Outcome, Stepped, WentOn, Raised, Stopped, Stuck, start, step, effect_asks}
+use Rattle.pkcheck.specs.Runs.{State, Outcome, Stepped, WentOn, Raised, Stopped, Stuck, start, step}
+use Rattle.pkcheck.specs.Runs.{effect_asks}
 use Rattle.pkcheck.specs.WholeRuns.{Ended, go_on, run, first_outcome, outcomes_after}
 use Rattle.pkopt.specs.OneFrame.{is_proto, has_frame, frame_around, in_frame, optimized}
 use Rattle.pkopt.specs.RunsAlike.{RunsAlike}
@@ -31,25 +33,34 @@ same_one : (i j : Instruction) → i ∷ [] ≡ j ∷ [] → i ≡ j
 same_one i j e = cc
 
 module _ (vs : List (Option ℕ)) where
-  stored_left : (b : Bool) (m : Move) (i j : Instruction) → effect_of i.op ≡ Moves m → cond b (i ∷ []) [] ≡ j ∷ [] → IsMove j
+  stored_left : (b : Bool) (m : Move) (i j : Instruction) → effect_of i.op ≡ Moves m
+      → cond b (i ∷ []) [] ≡ j ∷ [] → IsMove j
   stored_left true m i j e q = (m, ap (λ k. effect_of k.op) (sym (same_one i j q)) ∙ e)
   stored_left false m i j e q = absurd cc
 
-  fetched_left : (a : Option ℕ) (i j : Instruction) → effect_of i.op ≡ Moves Fetches → read_left vs a i ≡ j ∷ [] → IsMove j
+  fetched_left : (a : Option ℕ) (i j : Instruction) → effect_of i.op ≡ Moves Fetches
+      → read_left vs a i ≡ j ∷ [] → IsMove j
   fetched_left (Some w) i j e q =
-      let n = new_number vs w in
-      (Fetches, ap (λ k. effect_of k.op) (sym (same_one (renumbered n i) j q)) ∙ form_effect i.op n ∙ e)
+      let n = new_number vs w in (
+        Fetches,
+        ap (λ k. effect_of k.op) (sym (same_one (renumbered n i) j q)) ∙ form_effect i.op n
+            ∙ e,
+      )
   fetched_left None i j e q = (Fetches, ap (λ k. effect_of k.op) (sym (same_one i j q)) ∙ e)
 
   passed_left : (b : Bool) (i j : Instruction) → cond b [] (i ∷ []) ≡ j ∷ [] → j ≡ i
   passed_left true i j q = absurd cc
   passed_left false i j q = sym (same_one i j q)
 
-  left_is : (ws : Writes) (e : Effect) (i j : Instruction) → effect_of i.op ≡ e → left_of vs ws e i ≡ j ∷ [] → IsLeftOf i j
+  left_is : (ws : Writes) (e : Effect) (i j : Instruction) → effect_of i.op ≡ e
+      → left_of vs ws e i ≡ j ∷ [] → IsLeftOf i j
   left_is ws (Moves Stores) i j e q =
       let n = new_number vs (length ws) in
-      inl (stored_left (is_read (length ws) vs) Stores (renumbered n i) j (form_effect i.op n ∙ e) q)
-  left_is ws (Moves StoresNext) i j e q = inl (stored_left (is_read (length ws) vs) StoresNext i j e q)
+      inl
+      (stored_left (is_read (length ws) vs) Stores (renumbered n i) j
+      (form_effect i.op n ∙ e) q)
+  left_is ws (Moves StoresNext) i j e q =
+      inl (stored_left (is_read (length ws) vs) StoresNext i j e q)
   left_is ws (Moves Fetches) i j e q = inl (fetched_left (last_write (memo_number i) ws) i j e q)
   left_is ws other i j e q = inr (passed_left (is_frame i.op) i j q, subst IsBlind (sym e) tt)
 
@@ -70,7 +81,8 @@ module _ (vs : List (Option ℕ)) where
   read_short None i = inr (i, refl)
 
   left_short : (ws : Writes) (e : Effect) (i : Instruction) → IsShort (left_of vs ws e i)
-  left_short ws (Moves Stores) i = one_short (is_read (length ws) vs) (renumbered (new_number vs (length ws)) i)
+  left_short ws (Moves Stores) i = one_short (is_read (length ws) vs)
+      (renumbered (new_number vs (length ws)) i)
   left_short ws (Moves StoresNext) i = one_short (is_read (length ws) vs) i
   left_short ws (Moves Fetches) i = read_short (last_write (memo_number i) ws) i
   left_short ws e i = passed_short (is_frame i.op) i
@@ -84,40 +96,59 @@ module _ (vs : List (Option ℕ)) where
     front_is : front ≡ slim_from vs ws earlier
     left : IsLeftOf origin j
 
-  origin_behind : (ws : Writes) (i : Instruction) (is front : List Instruction) (j : Instruction) (l : List Instruction) → left_of vs ws (effect_of i.op) i ≡ l → Origin (after i ws) is front j → Origin ws (i ∷ is) (l ++ front) j
+  origin_behind : (ws : Writes) (i : Instruction) (is front : List Instruction) (j : Instruction)
+      (l : List Instruction) → left_of vs ws (effect_of i.op) i ≡ l → Origin (after i ws) is front j
+      → Origin ws (i ∷ is) (l ++ front) j
   origin_behind ws i is front j l e h = record {
     earlier = i ∷ h.earlier;
     origin = h.origin;
     later = h.later;
     parts = ap (λ (xs : List Instruction). i ∷ xs) h.parts;
-    front_is = ap (λ (xs : List Instruction). l ++ xs) h.front_is ∙ ap (λ (xs : List Instruction). xs ++ slim_from vs (after i ws) h.earlier) (sym e);
+    front_is = ap (λ (xs : List Instruction). l ++ xs) h.front_is
+        ∙ ap (λ (xs : List Instruction). xs ++ slim_from vs (after i ws) h.earlier) (sym e);
     left = h.left;
   }
 
-  module _ (ws : Writes) (i : Instruction) (is : List Instruction) (j : Instruction) (back : List Instruction) where
+  module _ (ws : Writes) (i : Instruction) (is : List Instruction) (j : Instruction)
+      (back : List Instruction) where
     rest_of : List Instruction
     rest_of = slim_from vs (after i ws) is
 
-    origin_by : (front l : List Instruction) → left_of vs ws (effect_of i.op) i ≡ l → IsShort l → l ++ slim_from vs (after i ws) is ≡ front ++ j ∷ back
-        → ((f : List Instruction) → slim_from vs (after i ws) is ≡ f ++ j ∷ back → Origin (after i ws) is f j) → Origin ws (i ∷ is) front j
+    origin_by : (front l : List Instruction) → left_of vs ws (effect_of i.op) i ≡ l → IsShort l
+        → l ++ slim_from vs (after i ws) is ≡ front ++ j ∷ back
+        → ((f : List Instruction) → slim_from vs (after i ws) is ≡ f ++ j ∷ back
+        → Origin (after i ws) is f j) → Origin ws (i ∷ is) front j
     origin_by front l e (inl none) q on =
-        let rest = ap (λ (xs : List Instruction). xs ++ slim_from vs (after i ws) is) (sym none) ∙ q in
+        let rest = ap (λ (xs : List Instruction). xs ++ slim_from vs (after i ws) is) (sym none)
+        ∙ q in
         origin_behind ws i is front j [] (e ∙ none) (on front rest)
     origin_by [] l e (inr (k, one)) q on =
-        let all : k ∷ slim_from vs (after i ws) is ≡ j ∷ back = ap (λ (xs : List Instruction). xs ++ slim_from vs (after i ws) is) (sym one) ∙ q in
+        let all : k ∷ slim_from vs (after i ws) is ≡ j ∷ back =
+        ap (λ (xs : List Instruction). xs ++ slim_from vs (after i ws) is) (sym one) ∙ q in
         let same : k ≡ j = cc in
-        record { earlier = []; origin = i; later = is; parts = refl; front_is = refl; left = left_is ws (effect_of i.op) i j refl (e ∙ one ∙ ap (λ x. x ∷ []) same) }
+        record {
+          earlier = [];
+          origin = i;
+          later = is;
+          parts = refl;
+          front_is = refl;
+          left = left_is ws (effect_of i.op) i j refl (e ∙ one ∙ ap (λ x. x ∷ []) same);
+        }
     origin_by (f ∷ front) l e (inr (k, one)) q on =
-        let all : k ∷ slim_from vs (after i ws) is ≡ f ∷ (front ++ j ∷ back) = ap (λ (xs : List Instruction). xs ++ slim_from vs (after i ws) is) (sym one) ∙ q in
+        let all : k ∷ slim_from vs (after i ws) is ≡ f ∷ (front ++ j ∷ back) =
+        ap (λ (xs : List Instruction). xs ++ slim_from vs (after i ws) is) (sym one) ∙ q in
         let same : k ≡ f = cc in
         let rest : slim_from vs (after i ws) is ≡ front ++ j ∷ back = cc in
-        subst (λ x. Origin ws (i ∷ is) (x ∷ front) j) same (origin_behind ws i is front j (k ∷ []) (e ∙ one) (on front rest))
+        subst (λ x. Origin ws (i ∷ is) (x ∷ front) j) same
+        (origin_behind ws i is front j (k ∷ []) (e ∙ one) (on front rest))
 
-  origin_of : (ws : Writes) (is front : List Instruction) (j : Instruction) (back : List Instruction) → slim_from vs ws is ≡ front ++ j ∷ back → Origin ws is front j
+  origin_of : (ws : Writes) (is front : List Instruction) (j : Instruction)
+      (back : List Instruction) → slim_from vs ws is ≡ front ++ j ∷ back → Origin ws is front j
   origin_of ws [] [] j back q = absurd cc
   origin_of ws [] (f ∷ front) j back q = absurd cc
   origin_of ws (i ∷ is) front j back q =
-      origin_by ws i is j back front (left_of vs ws (effect_of i.op) i) refl (left_short ws (effect_of i.op) i) q
+      origin_by ws i is j back front (left_of vs ws (effect_of i.op) i) refl
+      (left_short ws (effect_of i.op) i) q
       (λ f rest. origin_of (after i ws) is f j back rest)
 
 -- the same place in the form without its frame
@@ -130,11 +161,19 @@ record Unframed (q front : List Instruction) (j : Instruction) : Type 0 where
 frame_moves : (is : List Instruction) (j : Instruction) → frame_around is ≡ j → IsMove j
 frame_moves is j same = (Passes, ap (λ k. effect_of k.op) (sym same))
 
-unframed_by : (b : Bool) (i : Instruction) (is front : List Instruction) (j : Instruction) (back : List Instruction) → cond b (i ∷ frame_around is ∷ is) (frame_around (i ∷ is) ∷ i ∷ is) ≡ front ++ j ∷ back → IsMove j ⊎ Unframed (i ∷ is) front j
+unframed_by : (b : Bool) (i : Instruction) (is front : List Instruction) (j : Instruction)
+    (back : List Instruction) → cond b (i ∷ frame_around is ∷ is) (frame_around (i ∷ is) ∷ i ∷ is)
+    ≡ front ++ j ∷ back → IsMove j ⊎ Unframed (i ∷ is) front j
 unframed_by false i is [] j back e = inl (frame_moves (i ∷ is) j cc)
 unframed_by false i is (f ∷ front) j back e =
     let first : frame_around (i ∷ is) ≡ f = cc in
-    inr (record { bare = front; behind = back; parts = cc; same = λ os. ap (λ k. run (k ∷ front) os start) (sym first) })
+    inr
+    (record {
+      bare = front;
+      behind = back;
+      parts = cc;
+      same = λ os. ap (λ k. run (k ∷ front) os start) (sym first);
+    })
 unframed_by true i is [] j back e =
     let first : i ≡ j = cc in
     inr (record { bare = []; behind = is; parts = ap (λ k. k ∷ is) first; same = λ os. refl })
@@ -147,33 +186,42 @@ unframed_by true i is (f ∷ g ∷ front) j back e =
       bare = i ∷ front;
       behind = back;
       parts = ap (λ (xs : List Instruction). i ∷ xs) rest;
-      same = λ os. ap (λ k. run (k ∷ g ∷ front) os start) (sym first) ∙ ap (λ k. run (i ∷ k ∷ front) os start) (sym second);
+      same = λ os. ap (λ k. run (k ∷ g ∷ front) os start) (sym first)
+          ∙ ap (λ k. run (i ∷ k ∷ front) os start) (sym second);
     })
 
-unframed_in : (q front : List Instruction) (j : Instruction) (back : List Instruction) → in_frame q ≡ front ++ j ∷ back → IsMove j ⊎ Unframed q front j
+unframed_in : (q front : List Instruction) (j : Instruction) (back : List Instruction)
+    → in_frame q ≡ front ++ j ∷ back → IsMove j ⊎ Unframed q front j
 unframed_in [] [] j back e = absurd cc
 unframed_in [] (f ∷ front) j back e = absurd cc
 unframed_in (i ∷ is) front j back e = unframed_by (is_proto i.op) i is front j back e
 
-unframed : (b : Bool) (q front : List Instruction) (j : Instruction) (back : List Instruction) → cond b (in_frame q) q ≡ front ++ j ∷ back → IsMove j ⊎ Unframed q front j
+unframed : (b : Bool) (q front : List Instruction) (j : Instruction) (back : List Instruction)
+    → cond b (in_frame q) q ≡ front ++ j ∷ back → IsMove j ⊎ Unframed q front j
 unframed true q front j back e = unframed_in q front j back e
-unframed false q front j back e = inr (record { bare = front; behind = back; parts = e; same = λ os. refl })
+unframed false q front j back e =
+    inr (record { bare = front; behind = back; parts = e; same = λ os. refl })
 
 -- a run that isn't stuck isn't stuck on its way
-free_step : (st : Stepped) (f g : State → Ended) → ((t : State) → IsFree (f t) → IsFree (g t)) → IsFree (go_on st f) → IsFree (go_on st g)
+free_step : (st : Stepped) (f g : State → Ended) → ((t : State) → IsFree (f t) → IsFree (g t))
+    → IsFree (go_on st f) → IsFree (go_on st g)
 free_step (WentOn t) f g on free = on t free
 free_step (Raised t) f g on free = free
 free_step (Stopped x t) f g on free = free
 free_step (Stuck b) f g on free = free
 
-free_front : (front rest : List Instruction) (os : List Outcome) (s : State) → IsFree (run (front ++ rest) os s) → IsFree (run front os s)
+free_front : (front rest : List Instruction) (os : List Outcome) (s : State)
+    → IsFree (run (front ++ rest) os s) → IsFree (run front os s)
 free_front [] rest os s free = tt
 free_front (i ∷ is) rest os s free =
     let os' = outcomes_after (effect_asks (effect_of i.op)) os in
-    free_step (step i s (first_outcome os)) (run (is ++ rest) os') (run is os') (λ t. free_front is rest os' t) free
+    free_step (step i s (first_outcome os)) (run (is ++ rest) os') (run is os')
+    (λ t. free_front is rest os' t) free
 
 -- an instruction of the optimized form is a move, or it stands in the pickle too
-pub stands : (p front : List Instruction) (j : Instruction) (back : List Instruction) → optimized p ≡ front ++ j ∷ back → IsMove j ⊎ ((before : List Instruction) × (behind : List Instruction) × (p ≡ before ++ j ∷ behind))
+pub stands : (p front : List Instruction) (j : Instruction) (back : List Instruction)
+    → optimized p ≡ front ++ j ∷ back → IsMove j
+    ⊎ ((before : List Instruction) × (behind : List Instruction) × (p ≡ before ++ j ∷ behind))
 stands p front j back e = elim (unframed (has_frame p) (slim p) front j back e) [
   | inl m ↦ inl m
   | inr u ↦
@@ -193,21 +241,26 @@ pub record Counterpart (p front : List Instruction) (j : Instruction) : Type 0 w
   pub blind : IsBlind (effect_of j.op)
   pub alike : RunsAlike before front
 
-module _ (p : List Instruction) (small : AreSmall (sources [] p) (length (after_all p []))) (free : (os : List Outcome) → IsFree (run p os start)) where
-  front_alike : (before rest : List Instruction) → p ≡ before ++ rest → RunsAlike before (slim_from (sources [] p) [] before)
+module _ (p : List Instruction) (small : AreSmall (sources [] p) (length (after_all p [])))
+    (free : (os : List Outcome) → IsFree (run p os start)) where
+  front_alike : (before rest : List Instruction) → p ≡ before ++ rest
+      → RunsAlike before (slim_from (sources [] p) [] before)
   front_alike before rest e os =
       let vs = sources [] p in
       let ws = after_all before [] in
       let read = ap (sources []) e ∙ sources-append [] before rest in
-      let all : after_all p [] ≡ after_all rest ws = ap (λ q. after_all q []) e ∙ after_all-append before rest [] in
+      let all : after_all p [] ≡ after_all rest ws = ap (λ q. after_all q []) e
+      ∙ after_all-append before rest [] in
       let size = ap (λ (x : Writes). length x) all in
       let more = after_all_le rest ws in
       alike_from vs (length (after_all p [])) small [] before start [] os
-      (λ w h. subst (λ us. is_read w us ≡ true) (sym read) (read_first w (sources [] before) (sources ws rest) h))
+      (λ w h. subst (λ us. is_read w us ≡ true) (sym read)
+      (read_first w (sources [] before) (sources ws rest) h))
       (omega (arith, size, more)) (related_none vs)
       (free_front before rest os start (subst (λ q. IsFree (run q os start)) e (free os)))
 
-  by_origin : (front : List Instruction) (j : Instruction) (u : Unframed (slim p) front j) → Origin (sources [] p) [] p u.bare j → IsMove j ⊎ Counterpart p front j
+  by_origin : (front : List Instruction) (j : Instruction) (u : Unframed (slim p) front j)
+      → Origin (sources [] p) [] p u.bare j → IsMove j ⊎ Counterpart p front j
   by_origin front j u o = elim o.left [
     | inl m ↦ inl m
     | inr h ↦ inr (record {
@@ -217,12 +270,14 @@ module _ (p : List Instruction) (small : AreSmall (sources [] p) (length (after_
       blind = subst (λ k. IsBlind (effect_of k.op)) (sym h.0) h.1;
       alike = λ os.
           let same = u.same os ∙ ap (λ q. run q os start) o.front_is in
-          subst (SameEnd (run o.earlier os start)) (sym same) (front_alike o.earlier (o.origin ∷ o.later) o.parts os);
+          subst (SameEnd (run o.earlier os start)) (sym same)
+          (front_alike o.earlier (o.origin ∷ o.later) o.parts os);
     })
   ]
 
   -- each instruction of the optimized form is a move, or stands in the pickle too
-  pub counterpart : (front : List Instruction) (j : Instruction) (back : List Instruction) → optimized p ≡ front ++ j ∷ back → IsMove j ⊎ Counterpart p front j
+  pub counterpart : (front : List Instruction) (j : Instruction) (back : List Instruction)
+      → optimized p ≡ front ++ j ∷ back → IsMove j ⊎ Counterpart p front j
   counterpart front j back e = elim (unframed (has_frame p) (slim p) front j back e) [
     | inl m ↦ inl m
     | inr u ↦ by_origin front j u (origin_of (sources [] p) [] p u.bare j u.behind u.parts)

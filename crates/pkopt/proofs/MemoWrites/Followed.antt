@@ -1,5 +1,6 @@
 -- Following the memo writes along instructions.
-use Rattle.std.proofs.Common.{◌≡◌, ℕ, ◌+◌, List, [], ◌∷◌, ◌++◌, length, Option, Result, Ok, Err, refl, sym, ap, subst, ◌∙◌, arith, append-nil}
+use Rattle.std.proofs.Common.{◌≡◌, ℕ, ◌+◌, List, [], ◌∷◌, ◌++◌, length, Option, Result, Ok, Err}
+use Rattle.std.proofs.Common.{refl, sym, ap, subst, ◌∙◌, arith, append-nil}
 use Rattle.std.specs.Prelude.{OnOk}
 use Rattle.pkops.specs.declared.Op.{Op}
 use Rattle.pkops.specs.declared.Op.TheVariants as op
@@ -30,20 +31,36 @@ effect_fetches o e = cc
 
 -- what a step does to the memo, where it went well
 module _ {A E : Type 0} (o : Op) (old new : Trace) (n : ℕ) where
-  pub store_step : (r : Result A E) → effect_of o ≡ Moves move.Stores → OnOk r (new.writes ≡ old.writes + 1) → OnOk r (Notes n old.writes old.memo new.memo) → new.sources.items ≡ old.sources.items → OnOk r (NotesStep o n old new)
+  pub store_step : (r : Result A E) → effect_of o ≡ Moves move.Stores
+      → OnOk r (new.writes ≡ old.writes + 1) → OnOk r (Notes n old.writes old.memo new.memo)
+      → new.sources.items ≡ old.sources.items → OnOk r (NotesStep o n old new)
   store_step (Ok a) e count noted same = λ ws h.
       let behind : n ∷ ws ≡ wrote (effect_of o) n ws = sym (ap (λ e. wrote e n ws) e) in
       let none : [] ≡ read_by (effect_of o) n ws = sym (ap (λ e. read_by e n ws) e) in
-      let before = h.count in
-      (subst (λ (x : Writes). FollowsWrites x new) behind (record { holds = noted ws h.count h.holds; count = omega (arith, count, before) }), same ∙ sym (append-nil old.sources.items) ∙ ap (λ (l : List (Option ℕ)). old.sources.items ++ l) none)
+      let before = h.count in (
+        subst (λ (x : Writes). FollowsWrites x new) behind
+            (record { holds = noted ws h.count h.holds; count = omega (arith, count, before) }),
+        same
+            ∙ sym (append-nil old.sources.items) ∙ ap
+            (λ (l : List (Option ℕ)). old.sources.items ++ l) none,
+      )
   store_step (Err a) e count noted same = tt
 
-  pub next_step : (m : ℕ) (r : Result A E) → effect_of o ≡ Moves move.StoresNext → m ≡ length old.memo.ordered.items + length old.memo.rest.entries → OnOk r (new.writes ≡ old.writes + 1) → OnOk r (Notes m old.writes old.memo new.memo) → new.sources.items ≡ old.sources.items → OnOk r (NotesStep o n old new)
+  pub next_step : (m : ℕ) (r : Result A E) → effect_of o ≡ Moves move.StoresNext
+      → m ≡ length old.memo.ordered.items + length old.memo.rest.entries
+      → OnOk r (new.writes ≡ old.writes + 1) → OnOk r (Notes m old.writes old.memo new.memo)
+      → new.sources.items ≡ old.sources.items → OnOk r (NotesStep o n old new)
   next_step m (Ok a) e is count noted same = λ ws h.
-      let behind : m ∷ ws ≡ wrote (effect_of o) n ws = ap (λ n. n ∷ ws) (is ∙ sym h.holds.count) ∙ sym (ap (λ e. wrote e n ws) e) in
+      let behind : m ∷ ws ≡ wrote (effect_of o) n ws = ap (λ n. n ∷ ws) (is ∙ sym h.holds.count)
+      ∙ sym (ap (λ e. wrote e n ws) e) in
       let none : [] ≡ read_by (effect_of o) n ws = sym (ap (λ e. read_by e n ws) e) in
-      let before = h.count in
-      (subst (λ (x : Writes). FollowsWrites x new) behind (record { holds = noted ws h.count h.holds; count = omega (arith, count, before) }), same ∙ sym (append-nil old.sources.items) ∙ ap (λ (l : List (Option ℕ)). old.sources.items ++ l) none)
+      let before = h.count in (
+        subst (λ (x : Writes). FollowsWrites x new) behind
+            (record { holds = noted ws h.count h.holds; count = omega (arith, count, before) }),
+        same
+            ∙ sym (append-nil old.sources.items) ∙ ap
+            (λ (l : List (Option ℕ)). old.sources.items ++ l) none,
+      )
   next_step m (Err a) e is count noted same = tt
 
   pub fetch_step : (r : Result A E) → effect_of o ≡ Moves move.Fetches
@@ -52,8 +69,14 @@ module _ {A E : Type 0} (o : Op) (old new : Trace) (n : ℕ) where
       old.memo.ordered.items old.memo.rest.entries n ∷ []) → OnOk r (NotesStep o n old new)
   fetch_step (Ok a) e count kept grown = λ ws h.
       let behind : ws ≡ wrote (effect_of o) n ws = sym (ap (λ e. wrote e n ws) e) in
-      let one : last_write n ws ∷ [] ≡ read_by (effect_of o) n ws = sym (ap (λ e. read_by e n ws) e) in (
-        subst (λ (x : Writes). FollowsWrites x new) behind (record { holds = subst (λ (m : Memo). HoldsWrites ws m) (sym kept) h.holds; count = count ∙ h.count }),
-        grown ∙ ap (λ (o : Option ℕ). old.sources.items ++ o ∷ []) (sym (h.holds.found n)) ∙ ap (λ (l : List (Option ℕ)). old.sources.items ++ l) one,
+      let one : last_write n ws ∷ [] ≡ read_by (effect_of o) n ws =
+      sym (ap (λ e. read_by e n ws) e) in (
+        subst (λ (x : Writes). FollowsWrites x new) behind
+            (record {
+              holds = subst (λ (m : Memo). HoldsWrites ws m) (sym kept) h.holds;
+              count = count ∙ h.count;
+            }),
+        grown ∙ ap (λ (o : Option ℕ). old.sources.items ++ o ∷ []) (sym (h.holds.found n))
+            ∙ ap (λ (l : List (Option ℕ)). old.sources.items ++ l) one,
       )
   fetch_step (Err a) e count kept grown = tt

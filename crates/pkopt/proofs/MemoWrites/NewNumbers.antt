@@ -1,5 +1,6 @@
 -- The new numbers of the memo writes that stay.
-use Rattle.std.proofs.Common.{◌≡◌, ℕ, zero, suc, ◌<◌, ◌≤◌, Bool, true, false, cond, List, [], ◌∷◌, length, Option, ◌⊎◌, inl, inr, refl, ap, subst, arith}
+use Rattle.std.proofs.Common.{◌≡◌, ℕ, zero, suc, ◌<◌, ◌≤◌, Bool, true, false, cond, List, [], ◌∷◌}
+use Rattle.std.proofs.Common.{length, Option, ◌⊎◌, inl, inr, refl, ap, subst, arith}
 use Rattle.std.specs.Prelude.{◌≢◌}
 use Rattle.std.proofs.lemmas.Bool.Decides.{eqb_tells}
 use Rattle.pkops.specs.Spelling.{Instruction}
@@ -28,20 +29,25 @@ after_le i ws = wrote_le (effect_of i.op) (memo_number i) ws
 
 pub after_all_le : (is : List Instruction) (ws : Writes) → length ws ≤ length (after_all is ws)
 after_all_le [] ws = omega arith
-after_all_le (i ∷ is) ws = let a = after_le i ws in let b = after_all_le is (after i ws) in omega (arith, a, b)
+after_all_le (i ∷ is) ws = let a = after_le i ws in let b = after_all_le is (after i ws) in
+    omega (arith, a, b)
 
 module _ (vs : List (Option ℕ)) where
-  pub new_step : (w : ℕ) (b : Bool) → is_read w vs ≡ b → new_number vs (suc w) ≡ cond b (suc (new_number vs w)) (new_number vs w)
+  pub new_step : (w : ℕ) (b : Bool) → is_read w vs ≡ b
+      → new_number vs (suc w) ≡ cond b (suc (new_number vs w)) (new_number vs w)
   new_step w b e = ap (λ b. cond b (suc (new_number vs w)) (new_number vs w)) e
 
   pub new_more : (w : ℕ) (b : Bool) → is_read w vs ≡ b → new_number vs w ≤ new_number vs (suc w)
   new_more w true e = let h = new_step w true e in omega (arith, h)
   new_more w false e = let h = new_step w false e in omega (arith, h)
 
-  new_least_at : (v w : ℕ) (b : Bool) → is_read w vs ≡ b → v < suc w → is_read v vs ≡ true → (v < w → new_number vs v < new_number vs w) → new_number vs v < new_number vs (suc w)
+  new_least_at : (v w : ℕ) (b : Bool) → is_read w vs ≡ b → v < suc w → is_read v vs ≡ true
+      → (v < w → new_number vs v < new_number vs w) → new_number vs v < new_number vs (suc w)
   new_least_at v w b r lt e on = elim (tells_eq v w) [
-    | inl q ↦ let h = new_step w true (subst (λ n. is_read n vs ≡ true) q e) in let g : new_number vs v ≡ new_number vs w = ap (new_number vs) q in omega (arith, h, g)
-    | inr q ↦ let h = new_more w b r in let g : new_number vs v < new_number vs w = on (omega (arith, lt, q)) in omega (arith, h, g)
+    | inl q ↦ let h = new_step w true (subst (λ n. is_read n vs ≡ true) q e) in
+        let g : new_number vs v ≡ new_number vs w = ap (new_number vs) q in omega (arith, h, g)
+    | inr q ↦ let h = new_more w b r in let g : new_number vs v < new_number vs w =
+        on (omega (arith, lt, q)) in omega (arith, h, g)
   ]
 
   -- the number of a write that is read is below those of later ones
@@ -49,10 +55,13 @@ module _ (vs : List (Option ℕ)) where
   new_least v zero lt e = absurd (omega (arith, lt))
   new_least v (suc w) lt e = new_least_at v w (is_read w vs) refl lt e (λ g. new_least v w g e)
 
-  new_up_to_at : (v w : ℕ) → v ≤ suc w → (v ≤ w → new_number vs v ≤ new_number vs w) → new_number vs v ≤ new_number vs (suc w)
+  new_up_to_at : (v w : ℕ) → v ≤ suc w → (v ≤ w → new_number vs v ≤ new_number vs w)
+      → new_number vs v ≤ new_number vs (suc w)
   new_up_to_at v w le on = elim (tells_eq v (suc w)) [
-    | inl q ↦ let g : new_number vs v ≡ new_number vs (suc w) = ap (new_number vs) q in omega (arith, g)
-    | inr q ↦ let h = new_more w (is_read w vs) refl in let g : new_number vs v ≤ new_number vs w = on (omega (arith, le, q)) in omega (arith, h, g)
+    | inl q ↦ let g : new_number vs v ≡ new_number vs (suc w) = ap (new_number vs) q in
+        omega (arith, g)
+    | inr q ↦ let h = new_more w (is_read w vs) refl in let g : new_number vs v ≤ new_number vs w =
+        on (omega (arith, le, q)) in omega (arith, h, g)
   ]
 
   pub new_up_to : (v w : ℕ) → v ≤ w → new_number vs v ≤ new_number vs w

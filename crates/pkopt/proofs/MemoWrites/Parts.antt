@@ -1,5 +1,7 @@
 -- The parts of a pickle, recorded one after another.
-use Rattle.std.proofs.Common.{◌≡◌, ℕ, ◌+◌, ◌<◌, ◌≤◌, Bool, true, false, cond, ◌||◌, List, [], ◌∷◌, ◌++◌, length, drop, get_or, refl, sym, ap, subst, ◌∙◌, arith, append-nil}
+use Rattle.std.proofs.Common.{◌≡◌, ℕ, ◌+◌, ◌<◌, ◌≤◌, Bool, true, false, cond, ◌||◌, List, [], ◌∷◌}
+use Rattle.std.proofs.Common.{◌++◌, length, drop, get_or, refl, sym, ap, subst, ◌∙◌, arith}
+use Rattle.std.proofs.Common.{append-nil}
 use Rattle.std.proofs.Math.ListN.{drop_of_length-le}
 use Rattle.std.proofs.lemmas.List.{drop_more}
 use Rattle.std.specs.List.{list_any}
@@ -9,22 +11,29 @@ use Rattle.pkopt.specs.declared.place.Part.{Part}
 use Rattle.pkopt.specs.declared.place.Place.{Place}
 use Rattle.pkopt.specs.declared.trace.Trace.{Trace}
 use Rattle.pkopt.specs.Private.Passes.{Skips}
-use Rattle.pkopt.specs.Private.Places.{end_behind, end_of, place, place_behind, places_behind, stays_as_is}
+use Rattle.pkopt.specs.Private.Places.{end_behind, end_of, place, place_behind, places_behind}
+use Rattle.pkopt.specs.Private.Places.{stays_as_is}
 use Rattle.pkopt.specs.Slim.{is_frame}
 
-pub end_behind-more : (from : ℕ) (parts : List Part) (part : Part) → end_behind from (parts ++ part ∷ []) ≡ end_of (end_behind from parts) part
+pub end_behind-more : (from : ℕ) (parts : List Part) (part : Part)
+    → end_behind from (parts ++ part ∷ []) ≡ end_of (end_behind from parts) part
 end_behind-more from [] part = refl
 end_behind-more from (x ∷ xs) part = end_behind-more (end_of from x) xs part
 
-cond_more : (b : Bool) (x : Place) (xs ys : List Place) → cond b (xs ++ ys) (x ∷ (xs ++ ys)) ≡ cond b xs (x ∷ xs) ++ ys
+cond_more : (b : Bool) (x : Place) (xs ys : List Place)
+    → cond b (xs ++ ys) (x ∷ (xs ++ ys)) ≡ cond b xs (x ∷ xs) ++ ys
 cond_more true x xs ys = refl
 cond_more false x xs ys = refl
 
-pub places_behind-more : (from : ℕ) (parts : List Part) (part : Part) → places_behind from (parts ++ part ∷ []) ≡ places_behind from parts ++ places_behind (end_behind from parts) (part ∷ [])
+pub places_behind-more : (from : ℕ) (parts : List Part) (part : Part)
+    → places_behind from (parts ++ part ∷ []) ≡ places_behind from parts
+    ++ places_behind (end_behind from parts) (part ∷ [])
 places_behind-more from [] part = refl
 places_behind-more from (x ∷ xs) part =
-    ap (λ (l : List Place). cond (stays_as_is x.op) l (place_behind from x ∷ l)) (places_behind-more (end_of from x) xs part)
-    ∙ cond_more (stays_as_is x.op) (place_behind from x) (places_behind (end_of from x) xs) (places_behind (end_behind (end_of from x) xs) (part ∷ []))
+    ap (λ (l : List Place). cond (stays_as_is x.op) l (place_behind from x ∷ l))
+    (places_behind-more (end_of from x) xs part)
+    ∙ cond_more (stays_as_is x.op) (place_behind from x) (places_behind (end_of from x) xs)
+    (places_behind (end_behind (end_of from x) xs) (part ∷ []))
 
 -- parts end behind where they begin
 pub behind_least : (parts : List Part) (from : ℕ) → from ≤ end_behind from parts
@@ -35,80 +44,115 @@ plain_no_frame : (o : Op) → stays_as_is o ≡ true → is_frame o ≡ false
 plain_no_frame op.Frame e = cc
 plain_no_frame o e = refl
 
-framed_part : (b : Bool) (part : Part) (from : ℕ) (later : List Place) (others : Bool) → stays_as_is part.op ≡ b → others ≡ list_any (λ (x : Place). is_frame x.op) later
-    → is_frame part.op || others ≡ list_any (λ (x : Place). is_frame x.op) (cond b later (place_behind from part ∷ later))
+framed_part : (b : Bool) (part : Part) (from : ℕ) (later : List Place) (others : Bool)
+    → stays_as_is part.op ≡ b → others ≡ list_any (λ (x : Place). is_frame x.op) later
+    → is_frame part.op || others ≡ list_any (λ (x : Place). is_frame x.op)
+    (cond b later (place_behind from part ∷ later))
 framed_part true part from later others p e = ap (λ b. b || others) (plain_no_frame part.op p) ∙ e
 framed_part false part from later others p e = ap (λ b. is_frame part.op || b) e
 
 -- one of the parts has a FRAME where one of the places is of one
-pub framed_parts : (parts : List Part) (from : ℕ) → list_any (λ (x : Part). is_frame x.op) parts ≡ list_any (λ (x : Place). is_frame x.op) (places_behind from parts)
+pub framed_parts : (parts : List Part) (from : ℕ)
+    → list_any (λ (x : Part). is_frame x.op) parts ≡ list_any (λ (x : Place). is_frame x.op)
+    (places_behind from parts)
 framed_parts [] from = refl
-framed_parts (x ∷ xs) from = framed_part (stays_as_is x.op) x from (places_behind (end_of from x) xs) (list_any (λ (x : Part). is_frame x.op) xs) refl (framed_parts xs (end_of from x))
+framed_parts (x ∷ xs) from = framed_part (stays_as_is x.op) x from
+    (places_behind (end_of from x) xs) (list_any (λ (x : Part). is_frame x.op) xs) refl
+    (framed_parts xs (end_of from x))
 
 -- where parts end that have one part more
-end_more : (parts parts' : List Part) (part : Part) → parts' ≡ parts ++ part ∷ [] → end_behind 0 parts' ≡ end_behind 0 parts + part.gap + part.size
+end_more : (parts parts' : List Part) (part : Part) → parts' ≡ parts ++ part ∷ []
+    → end_behind 0 parts' ≡ end_behind 0 parts + part.gap + part.size
 end_more parts parts' part grown = ap (end_behind 0) grown ∙ end_behind-more 0 parts part
 
 -- bytes that stay are recorded
-pub stayed : (part : Part) (end end' : ℕ) (parts parts' : List Part) → part.gap ≡ 0 → stays_as_is part.op ≡ true → parts' ≡ parts ++ part ∷ [] → end' ≡ end + part.size
-    → end ≡ end_behind 0 parts → (end' ≡ end_behind 0 parts') × (places_behind 0 parts' ≡ places_behind 0 parts)
+pub stayed : (part : Part) (end end' : ℕ) (parts parts' : List Part) → part.gap ≡ 0
+    → stays_as_is part.op ≡ true → parts' ≡ parts ++ part ∷ [] → end' ≡ end + part.size
+    → end ≡ end_behind 0 parts → (end' ≡ end_behind 0 parts')
+    × (places_behind 0 parts' ≡ places_behind 0 parts)
 stayed part end end' parts parts' none plain grown moved h =
     let e = end_more parts parts' part grown in (
       omega (arith, e, none, moved, h),
       ap (places_behind 0) grown ∙ places_behind-more 0 parts part
-          ∙ ap (λ b. places_behind 0 parts ++ cond b [] (place_behind (end_behind 0 parts) part ∷ [])) plain ∙ append-nil (places_behind 0 parts),
+          ∙ ap
+          (λ b. places_behind 0 parts ++ cond b []
+          (place_behind (end_behind 0 parts) part ∷ [])) plain
+          ∙ append-nil (places_behind 0 parts),
     )
 
 pub skips_more : (x y z : Trace) → Skips x y → Skips y z → Skips x z
 skips_more x y z f g = λ h. let a = f h in let b = g a.0 in (b.0, b.1 ∙ a.1)
 
 -- an instruction that may change is recorded
-pub marked_at : (part : Part) (at end end' : ℕ) (parts parts' : List Part) → stays_as_is part.op ≡ false → parts' ≡ parts ++ part ∷ [] → end + part.gap ≡ at → end' ≡ at + part.size
-    → end ≡ end_behind 0 parts → (end' ≡ end_behind 0 parts') × (places_behind 0 parts' ≡ places_behind 0 parts ++ place at part.size part.op ∷ [])
+pub marked_at : (part : Part) (at end end' : ℕ) (parts parts' : List Part)
+    → stays_as_is part.op ≡ false → parts' ≡ parts ++ part ∷ []
+    → end + part.gap ≡ at → end' ≡ at + part.size
+    → end ≡ end_behind 0 parts → (end' ≡ end_behind 0 parts')
+    × (places_behind 0 parts' ≡ places_behind 0 parts ++ place at part.size part.op ∷ [])
 marked_at part at end end' parts parts' changes grown here moved h =
     let e = end_more parts parts' part grown in
     let behind : end_behind 0 parts + part.gap ≡ at = omega (arith, here, h) in (
       omega (arith, e, here, moved, h),
       ap (places_behind 0) grown ∙ places_behind-more 0 parts part
-          ∙ ap (λ b. places_behind 0 parts ++ cond b [] (place_behind (end_behind 0 parts) part ∷ [])) changes
+          ∙ ap
+          (λ b. places_behind 0 parts ++ cond b []
+          (place_behind (end_behind 0 parts) part ∷ [])) changes
           ∙ ap (λ n. places_behind 0 parts ++ place n part.size part.op ∷ []) behind,
     )
 
 -- the next part ends below this number, and so do the parts behind it, where all of them do
-pub short_behind : (top : ℕ) (parts : List Part) (from k : ℕ) (d : Part) (x : Place) (size : ℕ) → k < length parts → x ≡ place_behind from (get_or parts k d) → size ≡ x.size
-    → end_behind from (drop k parts) < top → (x.at + size < top) × (end_behind (x.at + size) (drop (k + 1) parts) < top)
+pub short_behind : (top : ℕ) (parts : List Part) (from k : ℕ) (d : Part) (x : Place) (size : ℕ)
+    → k < length parts → x ≡ place_behind from (get_or parts k d) → size ≡ x.size
+    → end_behind from (drop k parts) < top → (x.at + size < top)
+    × (end_behind (x.at + size) (drop (k + 1) parts) < top)
 short_behind top parts from k d x size lt e same h =
-    let s : end_behind (end_of from (get_or parts k d)) (drop (k + 1) parts) < top = subst (λ (l : List Part). end_behind from l < top) (drop_more parts k d lt) h in
-    let here : end_of from (get_or parts k d) ≡ x.at + size = sym (ap (λ n. x.at + n) same ∙ ap (λ (y : Place). y.at + y.size) e) in
+    let s : end_behind (end_of from (get_or parts k d)) (drop (k + 1) parts) < top =
+    subst (λ (l : List Part). end_behind from l < top) (drop_more parts k d lt) h in
+    let here : end_of from (get_or parts k d) ≡ x.at + size =
+    sym (ap (λ n. x.at + n) same ∙ ap (λ (y : Place). y.at + y.size) e) in
     let rest = subst (λ n. end_behind n (drop (k + 1) parts) < top) here s in
     let least = behind_least (drop (k + 1) parts) (x.at + size) in
     (omega (arith, rest, least), rest)
 
-pub ends_short : (top : ℕ) (parts : List Part) (from k : ℕ) (d : Part) → k < length parts → end_behind from (drop k parts) < top → end_of from (get_or parts k d) < top
-ends_short top parts from k d lt h = (short_behind top parts from k d (place_behind from (get_or parts k d)) (get_or parts k d).size lt refl refl h).0
+pub ends_short : (top : ℕ) (parts : List Part) (from k : ℕ) (d : Part) → k < length parts
+    → end_behind from (drop k parts) < top → end_of from (get_or parts k d) < top
+ends_short top parts from k d lt h =
+    (short_behind top parts from k d (place_behind from (get_or parts k d))
+    (get_or parts k d).size lt refl refl h).0
 
 -- the next part has an instruction that may change
-pub places_next : (parts : List Part) (from k : ℕ) (d : Part) (x : Place) (size : ℕ) → k < length parts → x ≡ place_behind from (get_or parts k d) → size ≡ x.size → stays_as_is x.op ≡ false
+pub places_next : (parts : List Part) (from k : ℕ) (d : Part) (x : Place) (size : ℕ)
+    → k < length parts → x ≡ place_behind from (get_or parts k d) → size ≡ x.size
+    → stays_as_is x.op ≡ false
     → places_behind from (drop k parts) ≡ x ∷ places_behind (x.at + size) (drop (k + 1) parts)
 places_next parts from k d x size lt e same changes =
     let part = get_or parts k d in
     let later = drop (k + 1) parts in
     ap (places_behind from) (drop_more parts k d lt)
-    ∙ ap (λ b. cond b (places_behind (end_of from part) later) (place_behind from part ∷ places_behind (end_of from part) later)) (ap (λ (y : Place). stays_as_is y.op) (sym e) ∙ changes)
+    ∙ ap
+    (λ b. cond b (places_behind (end_of from part) later)
+    (place_behind from part ∷ places_behind (end_of from part) later))
+    (ap (λ (y : Place). stays_as_is y.op) (sym e) ∙ changes)
     ∙ ap (λ (y : Place). y ∷ places_behind (y.at + y.size) later) (sym e)
     ∙ ap (λ n. x ∷ places_behind (x.at + n) later) (sym same)
 
 -- or it has none
-pub places_past : (parts : List Part) (from k : ℕ) (d : Part) (x : Place) (size : ℕ) → k < length parts → x ≡ place_behind from (get_or parts k d) → size ≡ x.size → stays_as_is x.op ≡ true
+pub places_past : (parts : List Part) (from k : ℕ) (d : Part) (x : Place) (size : ℕ)
+    → k < length parts → x ≡ place_behind from (get_or parts k d) → size ≡ x.size
+    → stays_as_is x.op ≡ true
     → places_behind from (drop k parts) ≡ places_behind (x.at + size) (drop (k + 1) parts)
 places_past parts from k d x size lt e same plain =
     let part = get_or parts k d in
     let later = drop (k + 1) parts in
     ap (places_behind from) (drop_more parts k d lt)
-    ∙ ap (λ b. cond b (places_behind (end_of from part) later) (place_behind from part ∷ places_behind (end_of from part) later)) (ap (λ (y : Place). stays_as_is y.op) (sym e) ∙ plain)
+    ∙ ap
+    (λ b. cond b (places_behind (end_of from part) later)
+    (place_behind from part ∷ places_behind (end_of from part) later))
+    (ap (λ (y : Place). stays_as_is y.op) (sym e) ∙ plain)
     ∙ ap (λ (y : Place). places_behind (y.at + y.size) later) (sym e)
     ∙ ap (λ n. places_behind (x.at + n) later) (sym same)
 
 -- no part is left
-pub places_none : (parts : List Part) (from k : ℕ) → length parts ≤ k → places_behind from (drop k parts) ≡ []
+pub places_none : (parts : List Part) (from k : ℕ) → length parts ≤ k
+    → places_behind from (drop k parts) ≡ []
 places_none parts from k le = ap (places_behind from) (drop_of_length-le parts le)

@@ -1,5 +1,7 @@
 -- Which writes are read, and their new numbers, found read by read and write by write.
-use Rattle.std.proofs.Common.{◌≡◌, ℕ, suc, ◌<◌, ◌≤◌, Bool, true, false, cond, ◌||◌, List, [], ◌∷◌, ◌++◌, length, take, get_or, set, Option, Some, None, Result, Ok, Err, inl, inr, refl, sym, ap, ◌∙◌, arith}
+use Rattle.std.proofs.Common.{◌≡◌, ℕ, suc, ◌<◌, ◌≤◌, Bool, true, false, cond, ◌||◌, List, [], ◌∷◌}
+use Rattle.std.proofs.Common.{◌++◌, length, take, get_or, set, Option, Some, None, Result, Ok, Err}
+use Rattle.std.proofs.Common.{inl, inr, refl, sym, ap, ◌∙◌, arith}
 use Rattle.std.specs.Prelude.{min, IfOk}
 use Rattle.std.proofs.lemmas.List.{get_or-set_other, get_or-set_same, get_or_append_left}
 use Rattle.std.proofs.Math.Seq.{take-suc, get_or-append_seam}
@@ -16,38 +18,56 @@ or_false : (a : Bool) → a || false ≡ a
 or_false true = refl
 or_false false = refl
 
-is_read-append : (w : ℕ) (vs us : List (Option ℕ)) → is_read w (vs ++ us) ≡ is_read w vs || is_read w us
+is_read-append : (w : ℕ) (vs us : List (Option ℕ))
+    → is_read w (vs ++ us) ≡ is_read w vs || is_read w us
 is_read-append w [] us = refl
-is_read-append w (v ∷ vs) us = ap (λ b. is_this w v || b) (is_read-append w vs us) ∙ sym (or_assoc (is_this w v) (is_read w vs) (is_read w us))
+is_read-append w (v ∷ vs) us = ap (λ b. is_this w v || b) (is_read-append w vs us)
+    ∙ sym (or_assoc (is_this w v) (is_read w vs) (is_read w us))
 
-is_read-next : (w m i : ℕ) (vs : List (Option ℕ)) (d v : Option ℕ) → m ≡ suc i → i < length vs → get_or vs i d ≡ v → is_read w (take m vs) ≡ is_read w (take i vs) || is_this w v
-is_read-next w m i vs d v is lt e = rw (is, take-suc vs i d, e) (is_read-append w (take i vs) (v ∷ []) ∙ ap (λ b. is_read w (take i vs) || b) (or_false (is_this w v)))
+is_read-next : (w m i : ℕ) (vs : List (Option ℕ)) (d v : Option ℕ) → m ≡ suc i → i < length vs
+    → get_or vs i d ≡ v → is_read w (take m vs) ≡ is_read w (take i vs) || is_this w v
+is_read-next w m i vs d v is lt e = rw (is, take-suc vs i d, e)
+    (is_read-append w (take i vs) (v ∷ []) ∙ ap (λ b. is_read w (take i vs) || b)
+    (or_false (is_this w v)))
 
-module _ (w m i : ℕ) (vs : List (Option ℕ)) (kept : List Bool) (d v : Option ℕ) (is : m ≡ suc i) (lt : i < length vs) (e : get_or vs i d ≡ v) (h : get_or kept w false ≡ is_read w (take i vs)) where
+module _ (w m i : ℕ) (vs : List (Option ℕ)) (kept : List Bool) (d v : Option ℕ) (is : m ≡ suc i)
+    (lt : i < length vs) (e : get_or vs i d ≡ v)
+    (h : get_or kept w false ≡ is_read w (take i vs)) where
   -- another write is read
   pub unmarked : is_this w v ≡ false → get_or kept w false ≡ is_read w (take m vs)
-  unmarked none = h ∙ sym (is_read-next w m i vs d v is lt e ∙ ap (λ b. is_read w (take i vs) || b) none ∙ or_false (is_read w (take i vs)))
+  unmarked none = h
+      ∙ sym (is_read-next w m i vs d v is lt e ∙ ap (λ b. is_read w (take i vs) || b) none
+      ∙ or_false (is_read w (take i vs)))
 
   -- the write that is read is marked
-  pub marked : (j : ℕ) → v ≡ Some j → j < length kept → get_or (set kept j true) w false ≡ is_read w (take m vs)
+  pub marked : (j : ℕ) → v ≡ Some j → j < length kept
+      → get_or (set kept j true) w false ≡ is_read w (take m vs)
   marked j g inside = elim (eqb_tells w j) [
-    | inl q ↦ ap (λ n. get_or (set kept j true) n false) q.1 ∙ get_or-set_same kept j true false inside ∙ sym (is_read-next w m i vs d v is lt e ∙ or_right (is_read w (take i vs)) _ (ap (is_this w) g ∙ q.0))
+    | inl q ↦ ap (λ n. get_or (set kept j true) n false) q.1
+        ∙ get_or-set_same kept j true false inside
+        ∙ sym (is_read-next w m i vs d v is lt e
+        ∙ or_right (is_read w (take i vs)) _ (ap (is_this w) g ∙ q.0))
     | inr q ↦ get_or-set_other kept j w true false q.1 ∙ unmarked (ap (is_this w) g ∙ q.0)
   ]
 
   -- it is none of these
-  pub unmarked_past : (j : ℕ) → v ≡ Some j → length kept ≤ j → w < length kept → get_or kept w false ≡ is_read w (take m vs)
+  pub unmarked_past : (j : ℕ) → v ≡ Some j → length kept ≤ j → w < length kept
+      → get_or kept w false ≡ is_read w (take m vs)
   unmarked_past j g far near = elim (eqb_tells w j) [
     | inl q ↦ let s = q.1 in absurd (omega (arith, far, near, s))
     | inr q ↦ unmarked (ap (is_this w) g ∙ q.0)
   ]
 
 -- the new numbers of the first k writes
-pub record NumbersTo (vs : List (Option ℕ)) (k limit next : ℕ) (numbers : List (Option ℕ)) : Type 0 where
+pub record NumbersTo (vs : List (Option ℕ)) (k limit next : ℕ)
+    (numbers : List (Option ℕ)) : Type 0 where
   pub next_is : next ≡ min (new_number vs k) limit
-  pub each : (w : ℕ) → w < k → get_or numbers w None ≡ cond (is_read w vs) (Some (min (new_number vs w) limit)) None
+  pub each : (w : ℕ) → w < k → get_or numbers w None
+      ≡ cond (is_read w vs) (Some (min (new_number vs w) limit)) None
 
-next_number : (vs : List (Option ℕ)) (k limit next : ℕ) (b : Bool) → is_read k vs ≡ b → next ≡ min (new_number vs k) limit → cond b (min (suc next) limit) next ≡ min (new_number vs (suc k)) limit
+next_number : (vs : List (Option ℕ)) (k limit next : ℕ) (b : Bool) → is_read k vs ≡ b
+    → next ≡ min (new_number vs k) limit → cond b (min (suc next) limit) next
+    ≡ min (new_number vs (suc k)) limit
 next_number vs k limit next true e h = let s = new_step vs k true e in omega (arith, s, h)
 next_number vs k limit next false e h = let s = new_step vs k false e in omega (arith, s, h)
 
@@ -57,8 +77,12 @@ number_at : (vs : List (Option ℕ)) (w k limit next : ℕ) (numbers : List (Opt
     → get_or (numbers ++ x ∷ []) w None ≡ cond (is_read w vs) (Some (min (new_number vs w) limit))
     None
 number_at vs w k limit next numbers x len is h lt = elim (tells_eq w k) [
-  | inl q ↦ ap (λ n. get_or (numbers ++ x ∷ []) n None) (q ∙ sym len) ∙ get_or-append_seam numbers x [] None ∙ is ∙ ap (λ n. cond (is_read k vs) (Some n) None) h.next_is ∙ ap (λ w. cond (is_read w vs) (Some (min (new_number vs w) limit)) None) (sym q)
-  | inr q ↦ get_or_append_left numbers (x ∷ []) None w (omega (arith, lt, q, len)) ∙ h.each w (omega (arith, lt, q))
+  | inl q ↦ ap (λ n. get_or (numbers ++ x ∷ []) n None) (q ∙ sym len)
+      ∙ get_or-append_seam numbers x [] None ∙ is
+      ∙ ap (λ n. cond (is_read k vs) (Some n) None) h.next_is
+      ∙ ap (λ w. cond (is_read w vs) (Some (min (new_number vs w) limit)) None) (sym q)
+  | inr q ↦ get_or_append_left numbers (x ∷ []) None w (omega (arith, lt, q, len))
+      ∙ h.each w (omega (arith, lt, q))
 ]
 
 -- one write more
@@ -67,15 +91,19 @@ pub numbers_on : (vs : List (Option ℕ)) (k m limit next next' : ℕ)
     → is_read k vs ≡ b → x ≡ cond b (Some next) None → next' ≡ cond b (min (suc next) limit) next
     → numbers' ≡ numbers ++ x ∷ [] → NumbersTo vs k limit next numbers
     → NumbersTo vs m limit next' numbers'
-numbers_on vs k m limit next next' numbers numbers' x b is len read number after grown h = rw (is, grown) (record {
-  next_is = after ∙ next_number vs k limit next b read h.next_is;
-  each = λ w lt. number_at vs w k limit next numbers x len (number ∙ ap (λ b. cond b (Some next) None) (sym read)) h lt;
-})
+numbers_on vs k m limit next next' numbers numbers' x b is len read number after grown h =
+    rw (is, grown) (record {
+      next_is = after ∙ next_number vs k limit next b read h.next_is;
+      each = λ w lt. number_at vs w k limit next numbers x len
+          (number ∙ ap (λ b. cond b (Some next) None) (sym read)) h lt;
+    })
 
-pub after_within : (b : Bool) (next limit next' : ℕ) → next' ≡ cond b (min (suc next) limit) next → next ≤ limit → next' ≤ limit
+pub after_within : (b : Bool) (next limit next' : ℕ) → next' ≡ cond b (min (suc next) limit) next
+    → next ≤ limit → next' ≤ limit
 after_within true next limit next' e le = omega (arith, e, le)
 after_within false next limit next' e le = omega (arith, e, le)
 
-pub if_ok_map : {A E : Type 0} (P Q : A → Type 0) (r : Result A E) → ((a : A) → P a → Q a) → IfOk r P → IfOk r Q
+pub if_ok_map : {A E : Type 0} (P Q : A → Type 0) (r : Result A E) → ((a : A) → P a → Q a)
+    → IfOk r P → IfOk r Q
 if_ok_map P Q (Ok a) f h = f a h
 if_ok_map P Q (Err e) f h = tt

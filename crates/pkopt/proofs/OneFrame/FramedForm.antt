@@ -1,16 +1,16 @@
--- The optimized form is framed, has the same runs, and its bytes are those of the slim form with a FRAME put in.
-use Rattle.std.proofs.Common.{◌≡◌, ℕ, suc, ◌+◌, ◌-◌, ◌<◌, Bool, true, false, cond, ltb, ◌||◌, List, [], ◌∷◌, ◌++◌, length, take, drop, get_or, map, Option, None, Some, option_map, All, ◌⊎◌, inl, inr, refl, sym, ap, subst, ◌∙◌, arith, MatchOption, length-append}
-use Rattle.std.specs.Prelude.{nat_eq, ◌≢◌}
+-- The optimized form is framed, and has the same runs.
+use Rattle.std.proofs.Common.{◌≡◌, ℕ, ◌+◌, ◌-◌, ◌<◌, Bool, true, false, cond, ltb, ◌||◌, List, []}
+use Rattle.std.proofs.Common.{◌∷◌, ◌++◌, length, map, Option, None, Some, option_map, All, ◌⊎◌, inl}
+use Rattle.std.proofs.Common.{inr, refl, sym, ap, subst, ◌∙◌, arith, MatchOption, length-append}
+use Rattle.std.specs.Prelude.{◌≢◌}
 use Rattle.std.proofs.lemmas.Bool.Decides.{nat_tests}
 use Rattle.std.proofs.lemmas.List.Elements.{All-nil, All-cons}
 use Rattle.pkops.specs.declared.Op.{Op}
 use Rattle.pkops.specs.declared.Op.TheVariants as op
-use Rattle.pkops.specs.declared.Layout.TheVariants as layout
 use Rattle.pkops.specs.Operands.{memo_number}
-use Rattle.pkops.specs.Spelling.{Argument, Nothing, Number, Signed, Float, Line, Pair, Counted, Instruction, instruction, Suits, layout_at, laid, spelling}
-use Rattle.pkops.specs.Table.{code_of}
-use Rattle.pkread.specs.Admission.{IsAllowed}
-use Rattle.pkread.specs.Framing.{Role, stop, other, total, counted, one_later, refused_at, Framed, FirstUnframed, CountingIsExact}
+use Rattle.pkops.specs.Spelling.{Instruction, spelling}
+use Rattle.pkread.specs.Framing.{Role, stop, other, total, counted, one_later, refused_at, Framed}
+use Rattle.pkread.specs.Framing.{FirstUnframed, CountingIsExact}
 use Rattle.pkread.specs.Genops.{is_stop}
 use Rattle.pkread.specs.Pieces.{role_of, number_of, piece_of}
 use Rattle.pkread.specs.Sequence.{spellings}
@@ -20,7 +20,6 @@ use Rattle.pkcheck.specs.Ends.{SameEnd}
 use Rattle.pkcheck.specs.Runs.{State, Outcome, start}
 use Rattle.pkcheck.specs.WholeRuns.{run}
 use Rattle.pkopt.specs.Private.Fronts.{EndsInStop}
-use Rattle.pkopt.specs.Private.FrameBytes.{head_length, framed_bytes}
 use Rattle.pkopt.specs.OneFrame.{is_proto, has_frame, frame_around, in_frame, optimized}
 use Rattle.pkopt.specs.RunsAlike.{RunsAlike}
 use Rattle.pkopt.specs.Slim.{is_frame, form_of, renumbered, read_left, left_of, slim_from, slim}
@@ -28,15 +27,19 @@ use Rattle.pkopt.specs.Writers.{Writes, last_write, after, sources, is_read, new
 use Rattle.pkopt.proofs.BothRuns.SlimRuns.{frame_effect}
 
 -- a frame around changes no run
-in_frame_by : (b : Bool) (i : Instruction) (is : List Instruction) (os : List Outcome) (s : State) → run (cond b (i ∷ frame_around is ∷ is) (frame_around (i ∷ is) ∷ i ∷ is)) os s ≡ run (i ∷ is) os s
+in_frame_by : (b : Bool) (i : Instruction) (is : List Instruction) (os : List Outcome) (s : State)
+    → run (cond b (i ∷ frame_around is ∷ is) (frame_around (i ∷ is) ∷ i ∷ is)) os s
+    ≡ run (i ∷ is) os s
 in_frame_by true i is os s = refl
 in_frame_by false i is os s = refl
 
-in_frame_runs : (q : List Instruction) (os : List Outcome) (s : State) → run (in_frame q) os s ≡ run q os s
+in_frame_runs : (q : List Instruction) (os : List Outcome) (s : State)
+    → run (in_frame q) os s ≡ run q os s
 in_frame_runs [] os s = refl
 in_frame_runs (i ∷ is) os s = in_frame_by (is_proto i.op) i is os s
 
-framed_by : (b : Bool) (p q : List Instruction) → RunsAlike p q → RunsAlike p (cond b (in_frame q) q)
+framed_by : (b : Bool) (p q : List Instruction) → RunsAlike p q
+    → RunsAlike p (cond b (in_frame q) q)
 framed_by true p q h os = subst (SameEnd (run p os start)) (sym (in_frame_runs q os start)) (h os)
 framed_by false p q h os = h os
 
@@ -52,11 +55,14 @@ role_other op.Stop n e f = cc
 role_other op.Frame n e f = cc
 role_other o n e f = refl
 
-counted_stop : (n len : ℕ) → 0 < len → n ≡ len + 0 → counted n (record { length = len; role = stop }) ≡ Some 0
+counted_stop : (n len : ℕ) → 0 < len → n ≡ len + 0
+    → counted n (record { length = len; role = stop }) ≡ Some 0
 counted_stop n len lt e = grind (arith, nat_tests)
 
-counted_other : (n len rest : ℕ) → 0 < len → n ≡ len + rest → counted n (record { length = len; role = other }) ≡ Some rest
-counted_other n len rest lt e = let s : n - len ≡ rest = omega (arith, e) in grind (arith, nat_tests, s)
+counted_other : (n len rest : ℕ) → 0 < len → n ≡ len + rest
+    → counted n (record { length = len; role = other }) ≡ Some rest
+counted_other n len rest lt e = let s : n - len ≡ rest = omega (arith, e) in
+    grind (arith, nat_tests, s)
 
 or_none : (a b : Bool) → a || b ≡ false → (a ≡ false) × (b ≡ false)
 or_none false b e = (refl, e)
@@ -72,23 +78,34 @@ some_bytes i = omega arith
 
 total_bytes : (q : List Instruction) → total (map piece_of q) ≡ length (spellings q)
 total_bytes [] = refl
-total_bytes (i ∷ is) = ap (λ n. length (spelling i) + n) (total_bytes is) ∙ sym (length-append (spelling i) (spellings is))
+total_bytes (i ∷ is) = ap (λ n. length (spelling i) + n) (total_bytes is)
+    ∙ sym (length-append (spelling i) (spellings is))
 
-piece_is : (r : Role) (i : Instruction) → role_of i.op (number_of i.arg) ≡ r → piece_of i ≡ record { length = length (spelling i); role = r }
+piece_is : (r : Role) (i : Instruction) → role_of i.op (number_of i.arg) ≡ r
+    → piece_of i ≡ record { length = length (spelling i); role = r }
 piece_is r i e = ap (λ r. record { length = length (spelling i); role = r }) e
 
 -- as many bytes as are left are counted down to the end
-counts_down : (q : List Instruction) (n : ℕ) → EndsByStop q → has_frame q ≡ false → n ≡ total (map piece_of q) → refused_at n (map piece_of q) ≡ None
+counts_down : (q : List Instruction) (n : ℕ) → EndsByStop q → has_frame q ≡ false
+    → n ≡ total (map piece_of q) → refused_at n (map piece_of q) ≡ None
 counts_down [] n h f e = refl
 counts_down (i ∷ is) n (inl h) f e =
-    let c : counted n (piece_of i) ≡ Some 0 = ap (counted n) (piece_is stop i (role_stop i.op (number_of i.arg) h.0)) ∙ counted_stop n (length (spelling i)) (some_bytes i) (e ∙ ap (λ is. length (spelling i) + total (map piece_of is)) h.1) in
-    ap (λ c. one_later c (λ m. refused_at m (map piece_of is))) c ∙ ap (λ is. option_map (λ k. k + 1) (refused_at 0 (map piece_of is))) h.1
+    let c : counted n (piece_of i) ≡ Some 0 = ap (counted n)
+    (piece_is stop i (role_stop i.op (number_of i.arg) h.0))
+    ∙ counted_stop n (length (spelling i)) (some_bytes i)
+    (e ∙ ap (λ is. length (spelling i) + total (map piece_of is)) h.1) in
+    ap (λ c. one_later c (λ m. refused_at m (map piece_of is))) c
+    ∙ ap (λ is. option_map (λ k. k + 1) (refused_at 0 (map piece_of is))) h.1
 counts_down (i ∷ is) n (inr h) f e =
     let g = or_none (is_frame i.op) (has_frame is) f in
-    let c : counted n (piece_of i) ≡ Some (total (map piece_of is)) = ap (counted n) (piece_is other i (role_other i.op (number_of i.arg) h.0 g.0)) ∙ counted_other n (length (spelling i)) (total (map piece_of is)) (some_bytes i) e in
-    ap (λ c. one_later c (λ m. refused_at m (map piece_of is))) c ∙ ap (option_map (λ k. k + 1)) (counts_down is _ h.1 g.1 refl)
+    let c : counted n (piece_of i) ≡ Some (total (map piece_of is)) = ap (counted n)
+    (piece_is other i (role_other i.op (number_of i.arg) h.0 g.0))
+    ∙ counted_other n (length (spelling i)) (total (map piece_of is)) (some_bytes i) e in
+    ap (λ c. one_later c (λ m. refused_at m (map piece_of is))) c
+    ∙ ap (option_map (λ k. k + 1)) (counts_down is _ h.1 g.1 refl)
 
-opens_nothing : (o : Op) (len n : ℕ) → is_frame o ≡ false → counted 0 (record { length = len; role = role_of o n }) ≡ Some 0
+opens_nothing : (o : Op) (len n : ℕ) → is_frame o ≡ false
+    → counted 0 (record { length = len; role = role_of o n }) ≡ Some 0
 opens_nothing op.Frame len n e = cc
 opens_nothing op.Stop len n e = refl
 opens_nothing o len n e = refl
@@ -98,9 +115,12 @@ goes_on : (q : List Instruction) → has_frame q ≡ false → refused_at 0 (map
 goes_on [] f = refl
 goes_on (i ∷ is) f =
     let g = or_none (is_frame i.op) (has_frame is) f in
-    ap (λ c. one_later c (λ m. refused_at m (map piece_of is))) (opens_nothing i.op (length (spelling i)) (number_of i.arg) g.0) ∙ ap (option_map (λ k. k + 1)) (goes_on is g.1)
+    ap (λ c. one_later c (λ m. refused_at m (map piece_of is)))
+    (opens_nothing i.op (length (spelling i)) (number_of i.arg) g.0)
+    ∙ ap (option_map (λ k. k + 1)) (goes_on is g.1)
 
-proto_opens_nothing : (o : Op) (len n : ℕ) → is_proto o ≡ true → counted 0 (record { length = len; role = role_of o n }) ≡ Some 0
+proto_opens_nothing : (o : Op) (len n : ℕ) → is_proto o ≡ true
+    → counted 0 (record { length = len; role = role_of o n }) ≡ Some 0
 proto_opens_nothing op.Proto len n e = refl
 proto_opens_nothing o len n e = cc
 
@@ -108,30 +128,41 @@ pub proto_no_stop : (o : Op) → is_proto o ≡ true → is_stop o ≡ true → 
 proto_no_stop op.Proto e f = cc
 proto_no_stop o e f = cc
 
-after_proto : (i : Instruction) (is : List Instruction) → is_proto i.op ≡ true → EndsByStop (i ∷ is) → EndsByStop is
+after_proto : (i : Instruction) (is : List Instruction) → is_proto i.op ≡ true → EndsByStop (i ∷ is)
+    → EndsByStop is
 after_proto i is p (inl h) = absurd (proto_no_stop i.op p h.0)
 after_proto i is p (inr h) = h.1
 
-around : (q : List Instruction) → EndsByStop q → has_frame q ≡ false → refused_at 0 (map piece_of (frame_around q ∷ q)) ≡ None
+around : (q : List Instruction) → EndsByStop q → has_frame q ≡ false
+    → refused_at 0 (map piece_of (frame_around q ∷ q)) ≡ None
 around q h f = ap (option_map (λ k. k + 1)) (counts_down q _ h f (sym (total_bytes q)))
 
-through_by : (b : Bool) (i : Instruction) (is : List Instruction) → is_proto i.op ≡ b → EndsByStop (i ∷ is) → has_frame (i ∷ is) ≡ false → refused_at 0 (map piece_of (cond b (i ∷ frame_around is ∷ is) (frame_around (i ∷ is) ∷ i ∷ is))) ≡ None
+through_by : (b : Bool) (i : Instruction) (is : List Instruction) → is_proto i.op ≡ b
+    → EndsByStop (i ∷ is) → has_frame (i ∷ is) ≡ false
+    → refused_at 0
+    (map piece_of (cond b (i ∷ frame_around is ∷ is) (frame_around (i ∷ is) ∷ i ∷ is))) ≡ None
 through_by true i is p h f =
-    ap (λ c. one_later c (λ m. refused_at m (map piece_of (frame_around is ∷ is)))) (proto_opens_nothing i.op (length (spelling i)) (number_of i.arg) p) ∙ ap (option_map (λ k. k + 1)) (around is (after_proto i is p h) (or_none (is_frame i.op) (has_frame is) f).1)
+    ap (λ c. one_later c (λ m. refused_at m (map piece_of (frame_around is ∷ is))))
+    (proto_opens_nothing i.op (length (spelling i)) (number_of i.arg) p)
+    ∙ ap (option_map (λ k. k + 1))
+    (around is (after_proto i is p h) (or_none (is_frame i.op) (has_frame is) f).1)
 through_by false i is p h f = around (i ∷ is) h f
 
 -- the rule goes through, with a PROTO before the frame or none
-goes_through : (q : List Instruction) → EndsByStop q → has_frame q ≡ false → refused_at 0 (map piece_of (in_frame q)) ≡ None
+goes_through : (q : List Instruction) → EndsByStop q → has_frame q ≡ false
+    → refused_at 0 (map piece_of (in_frame q)) ≡ None
 goes_through [] h f = refl
 goes_through (i ∷ is) h f = through_by (is_proto i.op) i is refl h f
 
-goes_by : (b : Bool) (q : List Instruction) → EndsByStop q → has_frame q ≡ false → refused_at 0 (map piece_of (cond b (in_frame q) q)) ≡ None
+goes_by : (b : Bool) (q : List Instruction) → EndsByStop q → has_frame q ≡ false
+    → refused_at 0 (map piece_of (cond b (in_frame q) q)) ≡ None
 goes_by true q h f = goes_through q h f
 goes_by false q h f = goes_on q f
 
 all_some : (q : List Instruction) → All (λ p. 0 < p.length) (map piece_of q)
 all_some [] = All-nil (λ p. 0 < p.length)
-all_some (i ∷ is) = All-cons (λ p. 0 < p.length) (piece_of i) (map piece_of is) (some_bytes i) (all_some is)
+all_some (i ∷ is) = All-cons (λ p. 0 < p.length) (piece_of i) (map piece_of is) (some_bytes i)
+    (all_some is)
 
 -- what is left of an instruction is no frame and no stop, where it was none
 abbrev IsPlain : Instruction → Type 0
@@ -142,20 +173,53 @@ ArePlain [] = Unit {0}
 ArePlain (i ∷ is) = IsPlain i × ArePlain is
 
 form_frame : (o : Op) (n : ℕ) → is_frame (form_of o n) ≡ is_frame o
-form_frame op.BinPut n = elim (ltb n 256) as (λ b. is_frame (cond b op.BinPut op.LongBinPut) ≡ false) [ true ↦ refl | false ↦ refl ]
-form_frame op.LongBinPut n = elim (ltb n 256) as (λ b. is_frame (cond b op.BinPut op.LongBinPut) ≡ false) [ true ↦ refl | false ↦ refl ]
-form_frame op.BinGet n = elim (ltb n 256) as (λ b. is_frame (cond b op.BinGet op.LongBinGet) ≡ false) [ true ↦ refl | false ↦ refl ]
-form_frame op.LongBinGet n = elim (ltb n 256) as (λ b. is_frame (cond b op.BinGet op.LongBinGet) ≡ false) [ true ↦ refl | false ↦ refl ]
+form_frame op.BinPut n =
+    elim (ltb n 256) as (λ b. is_frame (cond b op.BinPut op.LongBinPut) ≡ false) [
+      | true ↦ refl
+      | false ↦ refl
+    ]
+form_frame op.LongBinPut n =
+    elim (ltb n 256) as (λ b. is_frame (cond b op.BinPut op.LongBinPut) ≡ false) [
+      | true ↦ refl
+      | false ↦ refl
+    ]
+form_frame op.BinGet n =
+    elim (ltb n 256) as (λ b. is_frame (cond b op.BinGet op.LongBinGet) ≡ false) [
+      | true ↦ refl
+      | false ↦ refl
+    ]
+form_frame op.LongBinGet n =
+    elim (ltb n 256) as (λ b. is_frame (cond b op.BinGet op.LongBinGet) ≡ false) [
+      | true ↦ refl
+      | false ↦ refl
+    ]
 form_frame o n = refl
 
 form_stop : (o : Op) (n : ℕ) → is_stop (form_of o n) ≡ is_stop o
-form_stop op.BinPut n = elim (ltb n 256) as (λ b. is_stop (cond b op.BinPut op.LongBinPut) ≡ false) [ true ↦ refl | false ↦ refl ]
-form_stop op.LongBinPut n = elim (ltb n 256) as (λ b. is_stop (cond b op.BinPut op.LongBinPut) ≡ false) [ true ↦ refl | false ↦ refl ]
-form_stop op.BinGet n = elim (ltb n 256) as (λ b. is_stop (cond b op.BinGet op.LongBinGet) ≡ false) [ true ↦ refl | false ↦ refl ]
-form_stop op.LongBinGet n = elim (ltb n 256) as (λ b. is_stop (cond b op.BinGet op.LongBinGet) ≡ false) [ true ↦ refl | false ↦ refl ]
+form_stop op.BinPut n =
+    elim (ltb n 256) as (λ b. is_stop (cond b op.BinPut op.LongBinPut) ≡ false) [
+      | true ↦ refl
+      | false ↦ refl
+    ]
+form_stop op.LongBinPut n =
+    elim (ltb n 256) as (λ b. is_stop (cond b op.BinPut op.LongBinPut) ≡ false) [
+      | true ↦ refl
+      | false ↦ refl
+    ]
+form_stop op.BinGet n =
+    elim (ltb n 256) as (λ b. is_stop (cond b op.BinGet op.LongBinGet) ≡ false) [
+      | true ↦ refl
+      | false ↦ refl
+    ]
+form_stop op.LongBinGet n =
+    elim (ltb n 256) as (λ b. is_stop (cond b op.BinGet op.LongBinGet) ≡ false) [
+      | true ↦ refl
+      | false ↦ refl
+    ]
 form_stop o n = refl
 
-stop_stays : (vs : List (Option ℕ)) (ws : Writes) (o : Op) (i : Instruction) → is_stop o ≡ true → is_frame i.op ≡ false → left_of vs ws (effect_of o) i ≡ i ∷ []
+stop_stays : (vs : List (Option ℕ)) (ws : Writes) (o : Op) (i : Instruction) → is_stop o ≡ true
+    → is_frame i.op ≡ false → left_of vs ws (effect_of o) i ≡ i ∷ []
 stop_stays vs ws op.Stop i e f = ap (λ b. cond b [] (i ∷ [])) f
 stop_stays vs ws o i e f = cc
 
@@ -167,7 +231,7 @@ is_no_stop : (o : Op) → o ≢ op.Stop → is_stop o ≡ false
 is_no_stop op.Stop h = absurd (h refl)
 is_no_stop o h = refl
 
-ends_by : (limit : ℕ) (p : List Instruction) → EndsInStop limit p → EndsByStop p
+pub ends_by : (limit : ℕ) (p : List Instruction) → EndsInStop limit p → EndsByStop p
 ends_by limit [] h = absurd h
 ends_by limit (i ∷ is) (a, inl h) = inl (ap is_stop h.0, h.1)
 ends_by limit (i ∷ is) (a, inr h) = inr (is_no_stop i.op h.0, ends_by limit is h.1)
@@ -188,14 +252,18 @@ module _ (vs : List (Option ℕ)) where
   read_plain (Some w) i h = (form_plain (new_number vs w) i h, tt)
   read_plain None i h = (h, tt)
 
-  left_plain : (ws : Writes) (e : Effect) (i : Instruction) → IsPlain i → ArePlain (left_of vs ws e i)
-  left_plain ws (Moves Stores) i h = one_plain (is_read (length ws) vs) _ (form_plain (new_number vs (length ws)) i h)
+  left_plain : (ws : Writes) (e : Effect) (i : Instruction) → IsPlain i
+      → ArePlain (left_of vs ws e i)
+  left_plain ws (Moves Stores) i h = one_plain (is_read (length ws) vs) _
+      (form_plain (new_number vs (length ws)) i h)
   left_plain ws (Moves StoresNext) i h = one_plain (is_read (length ws) vs) i h
   left_plain ws (Moves Fetches) i h = read_plain (last_write (memo_number i) ws) i h
   left_plain ws e i h = passed_plain (is_frame i.op) i h
 
-  kept_plain : (b : Bool) (ws : Writes) (i : Instruction) → is_frame i.op ≡ b → is_stop i.op ≡ false → ArePlain (left_of vs ws (effect_of i.op) i)
-  kept_plain true ws i f s = subst ArePlain (sym (ap (λ e. left_of vs ws e i) (frame_effect i.op f) ∙ ap (λ b. cond b [] (i ∷ [])) f)) tt
+  kept_plain : (b : Bool) (ws : Writes) (i : Instruction) → is_frame i.op ≡ b → is_stop i.op ≡ false
+      → ArePlain (left_of vs ws (effect_of i.op) i)
+  kept_plain true ws i f s = subst ArePlain
+      (sym (ap (λ e. left_of vs ws e i) (frame_effect i.op f) ∙ ap (λ b. cond b [] (i ∷ [])) f)) tt
   kept_plain false ws i f s = left_plain ws (effect_of i.op) i (f, s)
 
   -- ended by its only STOP, without frames
@@ -204,131 +272,29 @@ module _ (vs : List (Option ℕ)) where
 
   ends_after : (as' q : List Instruction) → ArePlain as' → Ends q → Ends (as' ++ q)
   ends_after [] q h e = e
-  ends_after (a ∷ as') q h e = let r = ends_after as' q h.1 e in (inr (h.0.1, r.0), ap (λ b. b || has_frame (as' ++ q)) h.0.0 ∙ r.1)
+  ends_after (a ∷ as') q h e = let r = ends_after as' q h.1 e in
+      (inr (h.0.1, r.0), ap (λ b. b || has_frame (as' ++ q)) h.0.0 ∙ r.1)
 
-  slim_ends : (ws : Writes) (is : List Instruction) → EndsByStop is → Ends (slim_from vs ws is)
+  pub slim_ends : (ws : Writes) (is : List Instruction) → EndsByStop is → Ends (slim_from vs ws is)
   slim_ends ws [] h = absurd h
   slim_ends ws (i ∷ is) (inl h) =
       let f = stop_frame i.op h.0 in
-      let q : slim_from vs ws (i ∷ is) ≡ i ∷ [] = ap (λ is. left_of vs ws (effect_of i.op) i ++ slim_from vs (after i ws) is) h.1 ∙ ap (λ (l : List Instruction). l ++ []) (stop_stays vs ws i.op i h.0 f) in
+      let q : slim_from vs ws (i ∷ is) ≡ i ∷ [] = ap
+      (λ is. left_of vs ws (effect_of i.op) i ++ slim_from vs (after i ws) is) h.1
+      ∙ ap (λ (l : List Instruction). l ++ []) (stop_stays vs ws i.op i h.0 f) in
       let g : has_frame (i ∷ []) ≡ false = ap (λ b. b || false) f in
       subst Ends (sym q) (inl (h.0, refl), g)
-  slim_ends ws (i ∷ is) (inr h) = ends_after (left_of vs ws (effect_of i.op) i) _ (kept_plain (is_frame i.op) ws i refl h.0) (slim_ends (after i ws) is h.1)
+  slim_ends ws (i ∷ is) (inr h) = ends_after (left_of vs ws (effect_of i.op) i) _
+      (kept_plain (is_frame i.op) ws i refl h.0) (slim_ends (after i ws) is h.1)
 
 pub slim_stops : (limit : ℕ) (p : List Instruction) → EndsInStop limit p → EndsByStop (slim p)
 slim_stops limit p h = (slim_ends (sources [] p) [] p (ends_by limit p h)).0
 
 -- each instruction of the optimized form lies whole within its frame
-pub optimized_framed : CountingIsExact → (limit : ℕ) (p : List Instruction) → EndsInStop limit p → Framed (map piece_of (optimized p))
+pub optimized_framed : CountingIsExact → (limit : ℕ) (p : List Instruction) → EndsInStop limit p
+    → Framed (map piece_of (optimized p))
 optimized_framed exact limit p h =
     let e = slim_ends (sources [] p) [] p (ends_by limit p h) in
     let q = optimized p in
-    subst (λ r. MatchOption r (Framed (map piece_of q)) (FirstUnframed (map piece_of q))) (goes_by (has_frame p) (slim p) e.0 e.1) (exact (map piece_of q) (all_some q))
-
--- a PROTO of the slim form is one of the pickle, so it is good
-abbrev GoodProto : Instruction → Type 0
-GoodProto i = is_proto i.op ≡ true → Suits (layout_at i.op) i.arg
-
-abbrev GoodProtos : List Instruction → Type 0
-GoodProtos [] = Unit {0}
-GoodProtos (i ∷ is) = GoodProto i × GoodProtos is
-
-protos_append : (is js : List Instruction) → GoodProtos is → GoodProtos js → GoodProtos (is ++ js)
-protos_append [] js h g = g
-protos_append (i ∷ is) js h g = (h.0, protos_append is js h.1 g)
-
-form_proto : (o : Op) (n : ℕ) → is_proto o ≡ false → is_proto (form_of o n) ≡ false
-form_proto op.BinPut n e = elim (ltb n 256) as (λ b. is_proto (cond b op.BinPut op.LongBinPut) ≡ false) [ true ↦ refl | false ↦ refl ]
-form_proto op.LongBinPut n e = elim (ltb n 256) as (λ b. is_proto (cond b op.BinPut op.LongBinPut) ≡ false) [ true ↦ refl | false ↦ refl ]
-form_proto op.BinGet n e = elim (ltb n 256) as (λ b. is_proto (cond b op.BinGet op.LongBinGet) ≡ false) [ true ↦ refl | false ↦ refl ]
-form_proto op.LongBinGet n e = elim (ltb n 256) as (λ b. is_proto (cond b op.BinGet op.LongBinGet) ≡ false) [ true ↦ refl | false ↦ refl ]
-form_proto o n e = e
-
-memo_no_proto : (o : Op) → is_proto o ≡ true → effect_of o ≡ effect_of op.Proto
-memo_no_proto op.Proto e = refl
-memo_no_proto o e = cc
-
-module _ (vs : List (Option ℕ)) (limit : ℕ) where
-  no_proto : (n : ℕ) (i : Instruction) → is_proto i.op ≡ false → GoodProto (renumbered n i)
-  no_proto n i f e = let c : false ≡ true = sym (form_proto i.op n f) ∙ e in cc
-
-  good : (i : Instruction) → IsAllowed limit i → GoodProto i
-  good i h e = h.good.suits
-
-  one_good : (b : Bool) (i : Instruction) → GoodProto i → GoodProtos (cond b (i ∷ []) [])
-  one_good true i h = (h, tt)
-  one_good false i h = tt
-
-  passed_good : (b : Bool) (i : Instruction) → GoodProto i → GoodProtos (cond b [] (i ∷ []))
-  passed_good true i h = tt
-  passed_good false i h = (h, tt)
-
-  read_good : (a : Option ℕ) (i : Instruction) → is_proto i.op ≡ false → IsAllowed limit i → GoodProtos (read_left vs a i)
-  read_good (Some w) i f h = (no_proto (new_number vs w) i f, tt)
-  read_good None i f h = (good i h, tt)
-
-  left_good : (ws : Writes) (e : Effect) (i : Instruction) → is_proto i.op ≡ false → IsAllowed limit i → GoodProtos (left_of vs ws e i)
-  left_good ws (Moves Stores) i f h = one_good (is_read (length ws) vs) _ (no_proto (new_number vs (length ws)) i f)
-  left_good ws (Moves StoresNext) i f h = one_good (is_read (length ws) vs) i (good i h)
-  left_good ws (Moves Fetches) i f h = read_good (last_write (memo_number i) ws) i f h
-  left_good ws e i f h = passed_good (is_frame i.op) i (good i h)
-
-  kept_good : (b : Bool) (ws : Writes) (i : Instruction) → is_proto i.op ≡ b → IsAllowed limit i → GoodProtos (left_of vs ws (effect_of i.op) i)
-  kept_good true ws i f h = subst (λ e. GoodProtos (left_of vs ws e i)) (sym (memo_no_proto i.op f)) (passed_good (is_frame i.op) i (good i h))
-  kept_good false ws i f h = left_good ws (effect_of i.op) i f h
-
-  protos_slim : (ws : Writes) (is : List Instruction) → EndsInStop limit is → GoodProtos (slim_from vs ws is)
-  protos_slim ws [] h = absurd h
-  protos_slim ws (i ∷ is) (a, inl h) = protos_append (left_of vs ws (effect_of i.op) i) _ (kept_good (is_proto i.op) ws i refl a) (subst (λ is. GoodProtos (slim_from vs (after i ws) is)) (sym h.1) tt)
-  protos_slim ws (i ∷ is) (a, inr h) = protos_append (left_of vs ws (effect_of i.op) i) _ (kept_good (is_proto i.op) ws i refl a) (protos_slim (after i ws) is h.1)
-
--- a PROTO is two bytes
-proto_is : (o : Op) → is_proto o ≡ true → o ≡ op.Proto
-proto_is op.Proto e = refl
-proto_is o e = cc
-
-two_bytes : (a : Argument) → Suits layout.U1 a → (b : ℕ) × (code_of op.Proto ∷ laid layout.U1 a ≡ 128 ∷ b ∷ [])
-two_bytes Nothing h = absurd h
-two_bytes (Number w n) h = (get_or (laid layout.U1 (Number 1 n)) 0 0, ap (λ w. code_of op.Proto ∷ laid layout.U1 (Number w n)) h.0)
-two_bytes (Signed z) h = absurd h
-two_bytes (Float b) h = absurd h
-two_bytes (Line t) h = absurd h
-two_bytes (Pair a b) h = absurd h
-two_bytes (Counted c) h = absurd h
-
-proto_bytes : (o : Op) (a : Argument) → is_proto o ≡ true → Suits (layout_at o) a → (b : ℕ) × (spelling (instruction o a) ≡ 128 ∷ b ∷ [])
-proto_bytes op.Proto a e h = two_bytes a h
-proto_bytes o a e h = cc
-
-other_code : (o : Op) → is_proto o ≡ false → nat_eq (code_of o) 128 ≡ false
-other_code op.Proto e = cc
-other_code o e = refl
-
-no_head : (b : ℕ) (bytes : List ℕ) → nat_eq b 128 ≡ false → head_length (b ∷ bytes) ≡ 0
-no_head b [] e = refl
-no_head b (c ∷ bytes) e = ap (λ t. cond t 2 0) e
-
-framed_at : (k : ℕ) (bytes : List ℕ) → head_length bytes ≡ k → framed_bytes bytes ≡ take k bytes ++ (spelling (instruction op.Frame (Number 8 (length bytes - k))) ++ drop k bytes)
-framed_at k bytes e = ap (λ k. take k bytes ++ (spelling (instruction op.Frame (Number 8 (length bytes - k))) ++ drop k bytes)) e
-
-two_less : (n : ℕ) → suc (suc n) - 2 ≡ n
-two_less n = omega arith
-
-bytes_by : (b : Bool) (i : Instruction) (is : List Instruction) → is_proto i.op ≡ b → GoodProto i → framed_bytes (spelling i ++ spellings is) ≡ spellings (cond b (i ∷ frame_around is ∷ is) (frame_around (i ∷ is) ∷ i ∷ is))
-bytes_by true i is p h =
-    let s = proto_bytes i.op i.arg p (h p) in
-    ap (λ (l : List ℕ). framed_bytes (l ++ spellings is)) s.1
-    ∙ ap (λ n. 128 ∷ s.0 ∷ (spelling (instruction op.Frame (Number 8 n)) ++ spellings is)) (two_less (length (spellings is)))
-    ∙ sym (ap (λ (l : List ℕ). l ++ spellings (frame_around is ∷ is)) s.1)
-bytes_by false i is p h = framed_at 0 (spellings (i ∷ is)) (no_head (code_of i.op) (laid (layout_at i.op) i.arg ++ spellings is) (other_code i.op p)) ∙ ap (λ n. spelling (instruction op.Frame (Number 8 n)) ++ spellings (i ∷ is)) (omega arith)
-
-in_frame_bytes : (q : List Instruction) → GoodProtos q → EndsByStop q → framed_bytes (spellings q) ≡ spellings (in_frame q)
-in_frame_bytes [] h e = absurd e
-in_frame_bytes (i ∷ is) h e = bytes_by (is_proto i.op) i is refl h.0
-
--- the bytes of the optimized form
-pub optimized_bytes : (limit : ℕ) (p : List Instruction) → EndsInStop limit p → has_frame p ≡ true → framed_bytes (spellings (slim p)) ≡ spellings (optimized p)
-optimized_bytes limit p h f = in_frame_bytes (slim p) (protos_slim (sources [] p) limit [] p h) (slim_ends (sources [] p) [] p (ends_by limit p h)).0 ∙ sym (ap (λ b. spellings (cond b (in_frame (slim p)) (slim p))) f)
-
-pub unframed_bytes : (p : List Instruction) → has_frame p ≡ false → spellings (slim p) ≡ spellings (optimized p)
-unframed_bytes p f = sym (ap (λ b. spellings (cond b (in_frame (slim p)) (slim p))) f)
+    subst (λ r. MatchOption r (Framed (map piece_of q)) (FirstUnframed (map piece_of q)))
+    (goes_by (has_frame p) (slim p) e.0 e.1) (exact (map piece_of q) (all_some q))

@@ -32,7 +32,9 @@ plain_by op.Get i e = cc
 plain_by op.BinGet i e = cc
 plain_by op.LongBinGet i e = cc
 plain_by op.Frame i e = cc
-plain_by o i e = (λ ws. refl, λ ws. refl, λ vs ws q. ap (λ o. cond (is_frame o) [] (i ∷ [])) q, refl)
+plain_by o i e =
+    (λ ws. refl, λ ws. refl, λ vs ws q. ap (λ o. cond (is_frame o) [] (i ∷ [])) q, refl)
 
 pub plain_is : (i : Instruction) → stays_as_is i.op ≡ true → IsPlain i
-plain_is i e = let h = plain_by i.op i e in record { no_write = h.0; no_read = h.1; stays = λ vs ws. h.2 vs ws refl; no_frame = h.3 }
+plain_is i e = let h = plain_by i.op i e in
+    record { no_write = h.0; no_read = h.1; stays = λ vs ws. h.2 vs ws refl; no_frame = h.3 }

@@ -4,4 +4,7 @@ use Rattle.pkopt.proofs.MemoWrites.WritesKept.{if_ok_map}
 use Rattle.pkopt.proofs.numbers.new_numbers.Goals as goal
 
 pub returns : goal.returns
-returns c = if_ok_map _ _ c.numbered.result (λ numbers h. h c.args.sources.now c.args.writes (subst (AreKept c.args.sources.now c.args.writes) (sym c.deref.ensures.value) c.in_ok-kept.ensures)) c.numbered.ensures
+returns c = if_ok_map _ _ c.numbered.result
+    (λ numbers h. h c.args.sources.now c.args.writes
+    (subst (AreKept c.args.sources.now c.args.writes)
+    (sym c.deref.ensures.value) c.in_ok-kept.ensures)) c.numbered.ensures

@@ -7,5 +7,6 @@ abbrev pub invariant-loop-stays : goal.invariant-loop-stays
 invariant-loop-stays l = record {
   count : length l.numbers.items ≡ l.stays-index;
   within : l.next ≤ l.limit;
-  each : (vs : List (Option ℕ)) (writes : ℕ) → AreKept vs writes l.kept → NumbersTo vs l.stays-index l.limit l.next l.numbers.items;
+  each : (vs : List (Option ℕ)) (writes : ℕ) → AreKept vs writes l.kept
+      → NumbersTo vs l.stays-index l.limit l.next l.numbers.items;
 }

@@ -12,8 +12,11 @@ returns-in-Some-clause-err c =
     let t = c.in_ok-taken.ensures.ok in
     let plan = c.in-Ok.plan in
     let planned = c.in-Ok.ensures.plan (pickle t.checks) t.tracks.reads t.tracks.writes in
-    let past = ap (λ (l : List Part). first_past plan (places_behind 0 l) 0 0) (sym c.deref.ensures.value) ∙ c.in-Some.ensures.some ∙ ap (λ n. Some n) (sym c.too_large.ensures.at) in
-    past_refused c.args.limits.now c.args.bytes.now x plan t planned c.in-Ok.ensures.limit c.too_large.result past c.too_large.ensures.reason
+    let past = ap (λ (l : List Part). first_past plan (places_behind 0 l) 0 0)
+    (sym c.deref.ensures.value) ∙ c.in-Some.ensures.some
+    ∙ ap (λ n. Some n) (sym c.too_large.ensures.at) in
+    past_refused c.args.limits.now c.args.bytes.now x plan t planned c.in-Ok.ensures.limit
+    c.too_large.result past c.too_large.ensures.reason
 
 pub returns-clause-ok : goal.returns-clause-ok
 returns-clause-ok c =
@@ -21,9 +24,13 @@ returns-clause-ok c =
     let t = c.in_ok-taken.ensures.ok in
     let plan = c.in-Ok.plan in
     let planned = c.in-Ok.ensures.plan (pickle t.checks) t.tracks.reads t.tracks.writes in
-    let none : first_past plan (places_behind 0 x.trace.parts.items) 0 0 ≡ None = elim c.in_default-past_limit.ensures.none [
+    let none : first_past plan (places_behind 0 x.trace.parts.items) 0 0 ≡ None =
+    elim c.in_default-past_limit.ensures.none [
       | inl few ↦ few_writes c.args.limits.now c.args.bytes.now x plan t planned few
-      | inr e ↦ ap (λ (l : List Part). first_past plan (places_behind 0 l) 0 0) (sym c.deref.ensures.value) ∙ e
+      | inr e ↦ ap (λ (l : List Part). first_past plan (places_behind 0 l) 0 0)
+          (sym c.deref.ensures.value) ∙ e
     ] in
     subst (Optimizes c.args.limits.now c.args.bytes.now) (sym c.in-Ok-new.ensures.bytes)
-    (form_optimizes c.args.limits.now c.args.bytes.now x plan t planned c.in-Ok.ensures.limit c.framed.ensures c.same_ends.ensures.free c.same_ends.ensures.well c.in-Ok.ensures.small none c.in-Ok-new.ensures.short)
+    (form_optimizes c.args.limits.now c.args.bytes.now x plan t planned c.in-Ok.ensures.limit
+    c.framed.ensures c.same_ends.ensures.free c.same_ends.ensures.well c.in-Ok.ensures.small
+    none c.in-Ok-new.ensures.short)

@@ -8,6 +8,7 @@ invariant-loop-part l = record {
   few_writes : l.pass.writes ≤ l.part-index;
   few_reads : l.pass.reads ≤ l.part-index;
   short : end_behind l.end (drop l.part-index l.parts) < 2 ^ 64;
-  same : first_past l.plan (places_behind l.end (drop l.part-index l.parts)) l.pass.writes l.pass.reads
+  same : first_past l.plan (places_behind l.end (drop l.part-index l.parts)) l.pass.writes
+      l.pass.reads
       ≡ first_past l.plan (places_behind 0 l.parts) 0 0;
 }

@@ -13,19 +13,26 @@ none = record { size = 0; gap = 0; op = op.Int }
 
 pub place_behind-place-requires : goal.place_behind-place-requires
 place_behind-place-requires g c =
-    let short = ends_short (c.args.taken + 1) c.args.parts.now c.loop-part.end c.loop-part.part-index none c.loop-part-test.true c.loop-part.invariant.short in
+    let short = ends_short (c.args.taken + 1) c.args.parts.now c.loop-part.end
+    c.loop-part.part-index none c.loop-part-test.true c.loop-part.invariant.short in
     let fits = c.ranges.taken.fits in
     omega (arith, short, fits)
 
 pub overflow_add-end : goal.overflow_add-end
 overflow_add-end g c =
-    let short = (short_behind (c.args.taken + 1) c.args.parts.now c.loop-part.end c.loop-part.part-index none c.place_behind-place.result c.from.result c.loop-part-test.true c.place_behind-place.ensures c.from.ensures c.loop-part.invariant.short).0 in
+    let short =
+    (short_behind (c.args.taken + 1) c.args.parts.now c.loop-part.end c.loop-part.part-index
+    none c.place_behind-place.result c.from.result c.loop-part-test.true
+    c.place_behind-place.ensures c.from.ensures c.loop-part.invariant.short).0 in
     let fits = c.ranges.taken.fits in
     omega (arith, short, fits)
 
 pub emit-requires-clause-high : goal.emit-requires-clause-high
 emit-requires-clause-high g c =
-    let short = (short_behind (c.args.taken + 1) c.args.parts.now c.loop-part.end c.loop-part.part-index none c.place_behind-place.result c.from.result c.loop-part-test.true c.place_behind-place.ensures c.from.ensures c.loop-part.invariant.short).0 in
+    let short =
+    (short_behind (c.args.taken + 1) c.args.parts.now c.loop-part.end c.loop-part.part-index
+    none c.place_behind-place.result c.from.result c.loop-part-test.true
+    c.place_behind-place.ensures c.from.ensures c.loop-part.invariant.short).0 in
     let there = c.requires.there in
     let size = c.from.ensures in
     omega (arith, short, there, size)
@@ -41,25 +48,36 @@ loop-part-preserved g c =
     let x = c.place_behind-place.result in
     let pass = c.loop-part.pass in
     let so_far = c.loop-part.invariant.so_far in
-    let next = places_next c.args.parts.now c.loop-part.end c.loop-part.part-index none x c.from.result c.loop-part-test.true c.place_behind-place.ensures c.from.ensures (sym c.if-is_plain.ensures) in
-    let later = places_behind (x.at + c.from.result) (drop (c.loop-part.part-index + 1) c.args.parts.now) in
+    let next = places_next c.args.parts.now c.loop-part.end c.loop-part.part-index none x
+    c.from.result c.loop-part-test.true c.place_behind-place.ensures c.from.ensures
+    (sym c.if-is_plain.ensures) in
+    let later = places_behind (x.at + c.from.result)
+    (drop (c.loop-part.part-index + 1) c.args.parts.now) in
     let size = c.from.ensures in
     let same = c.fate-fate.ensures.from in
     let before = c.loop-part.invariant.behind in
     let at = ap (λ (y : Place). y.at) c.place_behind-place.ensures in
-    let least = from_least c.fate-fate.result x c.fate-fate.new.self.from (omega (arith, same, before, at)) in
+    let least = from_least c.fate-fate.result x c.fate-fate.new.self.from
+    (omega (arith, same, before, at)) in
     let now = c.in_ok-emit.ensures.from in
     let piece = emitted c.fate-fate.result x c.args.bytes.now c.fate-fate.new.self.from in
     record {
       few_writes = omega (arith, writes, more_writes, new_writes);
       few_reads = omega (arith, reads, more_reads, new_reads);
-      short = (short_behind (c.args.taken + 1) c.args.parts.now c.loop-part.end c.loop-part.part-index none x c.from.result c.loop-part-test.true c.place_behind-place.ensures c.from.ensures c.loop-part.invariant.short).1;
+      short =
+          (short_behind (c.args.taken + 1) c.args.parts.now c.loop-part.end c.loop-part.part-index
+          none x c.from.result c.loop-part-test.true c.place_behind-place.ensures c.from.ensures
+          c.loop-part.invariant.short).1;
       behind = omega (arith, least, now, size);
       so_far = (
         so_far.0 ++ piece,
         g.met.S.Sink.takes_more _ _ _ so_far.0 piece so_far.1 c.in_ok-emit.ensures.form,
-        stepped c.args.plan.now c.args.bytes.now c.args.taken x later pass c.fate-fate.new.self c.emit.new.self c.fate-fate.result so_far.0 _
-            c.fate-fate.ensures.fate c.fate-fate.ensures.writes c.fate-fate.ensures.reads c.fate-fate.ensures.from new_writes new_reads c.in_ok-emit.ensures.from
-            (ap (λ (l : List Place). so_far.0 ++ produced c.args.plan.now c.args.bytes.now c.args.taken l pass) (sym next) ∙ so_far.2),
+        stepped c.args.plan.now c.args.bytes.now c.args.taken x later pass c.fate-fate.new.self
+            c.emit.new.self c.fate-fate.result so_far.0 _
+            c.fate-fate.ensures.fate c.fate-fate.ensures.writes c.fate-fate.ensures.reads
+            c.fate-fate.ensures.from new_writes new_reads c.in_ok-emit.ensures.from
+            (ap
+            (λ (l : List Place). so_far.0 ++ produced c.args.plan.now c.args.bytes.now
+            c.args.taken l pass) (sym next) ∙ so_far.2),
       );
     }

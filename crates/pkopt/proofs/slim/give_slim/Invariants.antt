@@ -10,6 +10,7 @@ invariant-loop-part g l = record {
   short : end_behind l.end (drop l.part-index l.parts) < l.taken + 1;
   behind : l.pass.from ≤ l.end;
   so_far : (o : List ℕ) × g.S.Sink.takes l.initial.sink l.sink o
-      × (o ++ produced l.plan l.bytes l.taken (places_behind l.end (drop l.part-index l.parts)) l.pass
+      × (o ++ produced l.plan l.bytes l.taken (places_behind l.end (drop l.part-index l.parts))
+      l.pass
       ≡ produced l.plan l.bytes l.taken (places_behind 0 l.parts) at_start);
 }

@@ -3,7 +3,8 @@ use Rattle.pkopt.proofs.MemoWrites.Noted.{noted_in_rest}
 use Rattle.pkopt.proofs.memo.Memo.note.Goals as goal
 
 pub returns-then-number-self : goal.returns-then-number-self
-returns-then-number-self c = noted_in_rest c.put.result _ _ _ _ _ _ (inl c.if-number-self.true) c.put.ensures
+returns-then-number-self c = noted_in_rest c.put.result _ _ _ _ _ _
+    (inl c.if-number-self.true) c.put.ensures
 
 pub returns : goal.returns
 returns c =

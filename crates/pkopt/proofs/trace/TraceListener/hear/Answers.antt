@@ -11,4 +11,5 @@ returns c = other_heard c.take.result c.args.self.now c.take.new.self c.args.at 
     c.take.ensures.places c.take.ensures.step
 
 pub size_of-requires : goal.size_of-requires
-size_of-requires c = ap stays_as_is (sym c.op.ensures.op) ∙ sym c.is_plain.ensures ∙ c.if-is_plain.false
+size_of-requires c = ap stays_as_is (sym c.op.ensures.op) ∙ sym c.is_plain.ensures
+    ∙ c.if-is_plain.false
