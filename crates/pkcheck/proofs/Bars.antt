@@ -62,17 +62,26 @@ last_of (Object v ∷ xs) k =
     elim (last_of xs (suc k)) [
       | inl a ↦ inl a
       | inr b ↦ let e : suc k + b.0 ≡ k + suc b.0 = omega arith in let h = b.1.within in
-            inr (suc b.0, record { within = omega (arith, h); here = b.1.here; above = b.1.above },
-            b.2 ∙ ap Some e)
+          inr (
+            suc b.0,
+            record { within = omega (arith, h); here = b.1.here; above = b.1.above },
+            b.2 ∙ ap Some e,
+          )
     ]
 last_of (Mark ∷ xs) k =
     elim (last_of xs (suc k)) [
       | inl a ↦ let e : k ≡ k + 0 = omega arith in
-            inr (zero, record { within = omega arith; here = refl; above = a },
-            rw (bars_objects xs (suc k) a) (ap Some e))
+          inr (
+            zero,
+            record { within = omega arith; here = refl; above = a },
+            rw (bars_objects xs (suc k) a) (ap Some e),
+          )
       | inr b ↦ let e : suc k + b.0 ≡ k + suc b.0 = omega arith in let h = b.1.within in
-            inr (suc b.0, record { within = omega (arith, h); here = b.1.here; above = b.1.above },
-            later k (k + suc b.0) (bars (suc k) xs) (b.2 ∙ ap Some e))
+          inr (
+            suc b.0,
+            record { within = omega (arith, h); here = b.1.here; above = b.1.above },
+            later k (k + suc b.0) (bars (suc k) xs) (b.2 ∙ ap Some e),
+          )
     ]
 
 pub last_some : (xs : List Slot) (n : ℕ) → Some n ≡ slice_get (bars 0 xs) (length (bars 0 xs) - 1)
@@ -81,7 +90,7 @@ last_some xs n h =
     elim (last_of xs 0) [
       | inl a ↦ (let g = rw (bars_objects xs 0 a) at h in cc)
       | inr b ↦ (let g : Some n ≡ Some (0 + b.0) = h ∙ b.2 in let e' : n ≡ 0 + b.0 = cc in
-            let e : n ≡ b.0 = omega arith in rw e b.1)
+          let e : n ≡ b.0 = omega arith in rw e b.1)
     ]
 
 pub last_none : (xs : List Slot) → None ≡ slice_get (bars 0 xs) (length (bars 0 xs) - 1)
@@ -112,14 +121,14 @@ pub slice_at : (xs : List Slot) (n : ℕ) → IsTopmost xs n
     ≡ Ok (record { operands = values_of (drop n xs); below = shown (take n xs) [] })
 slice_at xs n t =
     rw (divided n xs, t.here)
-        (slice_over (drop (suc n) xs) (entry_of Mark ∷ shown (take n xs) []) [] t.above
-        ∙ rw (append-nil (values_of (drop (suc n) xs))) refl)
+    (slice_over (drop (suc n) xs) (entry_of Mark ∷ shown (take n xs) []) [] t.above
+    ∙ rw (append-nil (values_of (drop (suc n) xs))) refl)
 
 pub slice_count : (xs : List Slot) (n : ℕ) → IsTopmost xs n
     → length (values_of (drop n xs)) + (n + 1) ≡ length xs
 slice_count xs n t =
     let e : length (values_of (drop n xs)) ≡ length (drop (suc n) xs) =
-        rw t.here (count_all (drop (suc n) xs) t.above) in
+    rw t.here (count_all (drop (suc n) xs) t.above) in
     let h = t.within in
     omega (arith, e, h, length-drop (suc n) xs)
 
@@ -147,8 +156,8 @@ items_marked xs n count t h =
     let k = count - length (drop (suc n) xs) - 1 in
     let w = t.within in
     rw (divided n xs, t.here)
-        (items_over (drop (suc n) xs) count (suc k) (entry_of Mark ∷ shown (take n xs) []) []
-        t.above (omega (arith, w, length-drop (suc n) xs)))
+    (items_over (drop (suc n) xs) count (suc k) (entry_of Mark ∷ shown (take n xs) []) []
+    t.above (omega (arith, w, length-drop (suc n) xs)))
 
 -- there are too few entries
 pub items_few : (xs : List Slot) (count : ℕ) → AllObjects xs → length xs < count
@@ -178,8 +187,11 @@ bars_split xs n = ap (bars 0) (sym (take-append-drop n xs)) ∙ bars_append (tak
 
 pub marks_kept : (xs : List Slot) (n : ℕ) → AllObjects (drop n xs)
     → length (bars 0 (take n xs)) ≡ length (bars 0 xs)
-marks_kept xs n h = rw (bars_split xs n, bars_objects (drop n xs) (0 + length (take n xs)) h,
-    append-nil (bars 0 (take n xs))) refl
+marks_kept xs n h = rw (
+  bars_split xs n,
+  bars_objects (drop n xs) (0 + length (take n xs)) h,
+  append-nil (bars 0 (take n xs)),
+) refl
 
 pub marks_slice : (xs : List Slot) (n : ℕ) → IsTopmost xs n
     → length (bars 0 (take n xs)) + 1 ≡ length (bars 0 xs)

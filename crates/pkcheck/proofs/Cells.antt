@@ -76,9 +76,9 @@ module _ {A : Type 0} where
   length_insert [] n v e = refl
   length_insert (e ∷ es) n v h =
       elim (nat_cmp n e.0) as (λ o. cond (is_eq o) (Some e.1) (lookup (is_at (nat_cmp n)) es) ≡ None
-          → length
-          (match_ordering o ((n, v) ∷ e ∷ es) ((e.0, v) ∷ es) (e ∷ insert_entry nat_cmp es n v))
-          ≡ length (e ∷ es) + 1) [
+      → length
+      (match_ordering o ((n, v) ∷ e ∷ es) ((e.0, v) ∷ es) (e ∷ insert_entry nat_cmp es n v))
+      ≡ length (e ∷ es) + 1) [
         | Less ↦ λ g. omega arith
         | Equal ↦ λ g. cc
         | Greater ↦ λ g. (let r = length_insert es n v g in omega arith)
@@ -127,9 +127,9 @@ module _ {A : Type 0} where
   insert_under [] cs first n v p h = insert_front cs first n v p h
   insert_under (e ∷ low) cs first n v p h =
       elim (nat_cmp n e.0) as (λ o. match_ordering o ((n, v) ∷ e ∷ (low ++ cs))
-          ((e.0, v) ∷ (low ++ cs)) (e ∷ insert_entry nat_cmp (low ++ cs) n v)
-          ≡ match_ordering o ((n, v) ∷ e ∷ low) ((e.0, v) ∷ low) (e ∷ insert_entry nat_cmp low n v)
-          ++ cs) [
+      ((e.0, v) ∷ (low ++ cs)) (e ∷ insert_entry nat_cmp (low ++ cs) n v)
+      ≡ match_ordering o ((n, v) ∷ e ∷ low) ((e.0, v) ∷ low) (e ∷ insert_entry nat_cmp low n v)
+      ++ cs) [
         | Less ↦ refl
         | Equal ↦ refl
         | Greater ↦ ap (λ l. e ∷ l) (insert_under low cs first n v p h)
@@ -147,9 +147,11 @@ module _ {A : Type 0} where
     pub no_cells : cells low first xs es ≡ [] → (low ≡ []) × (xs ≡ []) × (es ≡ [])
     no_cells e =
         let none = ap length e in
-        let all = length_cells in
-        (empty_of low (omega (arith, none, all)), empty_of xs (omega (arith, none, all)),
-            empty_of es (omega (arith, none, all)))
+        let all = length_cells in (
+          empty_of low (omega (arith, none, all)),
+          empty_of xs (omega (arith, none, all)),
+          empty_of es (omega (arith, none, all)),
+        )
 
     pub at_low : (n : ℕ) → AreFrom first es → n < first
         → recalled n low ≡ recalled n (cells low first xs es)
@@ -224,7 +226,7 @@ module _ {A : Type 0} where
   below_stored [] first n v h p = (h, tt)
   below_stored (e ∷ es) first n v h p =
       elim (nat_cmp n e.0) as (λ o. AreBelow first
-          (match_ordering o ((n, v) ∷ e ∷ es) ((e.0, v) ∷ es) (e ∷ insert_entry nat_cmp es n v))) [
+      (match_ordering o ((n, v) ∷ e ∷ es) ((e.0, v) ∷ es) (e ∷ insert_entry nat_cmp es n v))) [
         | Less ↦ (h, p)
         | Equal ↦ (p.0, p.1)
         | Greater ↦ (p.0, below_stored es first n v h p.1)
@@ -235,7 +237,7 @@ module _ {A : Type 0} where
   from_stored [] first n v h p = (h, tt)
   from_stored (e ∷ es) first n v h p =
       elim (nat_cmp n e.0) as (λ o. AreFrom first
-          (match_ordering o ((n, v) ∷ e ∷ es) ((e.0, v) ∷ es) (e ∷ insert_entry nat_cmp es n v))) [
+      (match_ordering o ((n, v) ∷ e ∷ es) ((e.0, v) ∷ es) (e ∷ insert_entry nat_cmp es n v))) [
         | Less ↦ (h, p)
         | Equal ↦ (p.0, p.1)
         | Greater ↦ (p.0, from_stored es first n v h p.1)

@@ -69,8 +69,10 @@ entry_at made written zero (e ∷ es) d h lt = h.0
 entry_at made written (suc k) (e ∷ es) d h lt = entry_at made written k es d h.1 (omega (arith, lt))
 
 pub grows_more : (a b c : List (List ℕ)) → HasMoreTexts a b → HasMoreTexts b c → HasMoreTexts a c
-grows_more a b c g h = record { more = g.more ++ h.more;
-    is = h.is ∙ (ap (λ l. l ++ h.more) g.is ∙ append_assoc a g.more h.more) }
+grows_more a b c g h = record {
+  more = g.more ++ h.more;
+  is = h.is ∙ (ap (λ l. l ++ h.more) g.is ∙ append_assoc a g.more h.more);
+}
 
 -- the first `count` entries of another ledger were copied
 pub record CopiedSoFar (ts ws : List (List ℕ)) (es : List Entry) (before now : List (List ℕ))

@@ -4,6 +4,7 @@ pub mod CoversBy
 pub mod Verdicts
 pub mod Following
 pub mod Refusing
+pub mod Words
 pub mod Answering
 pub mod Soundness
 pub mod StepImports

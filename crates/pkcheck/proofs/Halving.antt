@@ -20,8 +20,10 @@ use Rattle.pkcheck.specs.Pairs.{order_to}
 
 -- the pair with this module and this name
 abbrev pair_of : List ℕ → List ℕ → Pair
-pair_of m n = record { module_name = record { ref_ptr = (0, 0); now = m };
-    name = record { ref_ptr = (0, 0); now = n } }
+pair_of m n = record {
+  module_name = record { ref_ptr = (0, 0); now = m };
+  name = record { ref_ptr = (0, 0); now = n };
+}
 
 -- two comparisons give Equal if both are Equal
 both : (a b : Ordering) → is_eq (ordering_then a b) ≡ (is_eq a && is_eq b)
@@ -67,7 +69,7 @@ any_place test (x ∷ xs) h =
     elim (test x) as (λ b. test x ≡ b → (b || list_any test xs) ≡ true → Passes test (x ∷ xs)) [
       | true ↦ λ e g. record { place = zero; one = x; at = refl; passes = e }
       | false ↦ λ e g. let p = any_place test xs g in
-            record { place = suc p.place; one = p.one; at = p.at; passes = p.passes }
+          record { place = suc p.place; one = p.one; at = p.at; passes = p.passes }
     ] refl h
 
 module _ (order : Pair → Ordering) (pairs : List Pair) where
@@ -78,18 +80,18 @@ module _ (order : Pair → Ordering) (pairs : List Pair) where
   by_some :
       (steps place : ℕ) (got : Option Pair) (above below : ℕ × ℕ) → slice_get pairs place ≡ got
       → ((l h : ℕ) → comes_to order pairs steps l h ≡ true
-          → list_any (λ p. is_eq (order p)) pairs ≡ true)
+      → list_any (λ p. is_eq (order p)) pairs ≡ true)
       → by_middle (option_map order got) (comes_to order pairs steps above.0 above.1)
-          (comes_to order pairs steps below.0 below.1) ≡ true
+      (comes_to order pairs steps below.0 below.1) ≡ true
       → list_any (λ p. is_eq (order p)) pairs ≡ true
   by_some steps place None above below got further h = cc
   by_some steps place (Some p) above below got further h =
       elim (order p) as (λ o. order p ≡ o → by_middle (Some o)
-          (comes_to order pairs steps above.0 above.1) (comes_to order pairs steps below.0 below.1)
-          ≡ true → list_any (λ p. is_eq (order p)) pairs ≡ true) [
+      (comes_to order pairs steps above.0 above.1) (comes_to order pairs steps below.0 below.1)
+      ≡ true → list_any (λ p. is_eq (order p)) pairs ≡ true) [
         | Less ↦ λ e g. further above.0 above.1 g
         | Equal ↦ λ e g. let there = got_inside pairs place p p got in
-              list_any_at (λ p. is_eq (order p)) pairs place p there.0 (rw there.1 (ap is_eq e))
+            list_any_at (λ p. is_eq (order p)) pairs place p there.0 (rw there.1 (ap is_eq e))
         | Greater ↦ λ e g. further below.0 below.1 g
       ] refl h
 
@@ -99,12 +101,12 @@ module _ (order : Pair → Ordering) (pairs : List Pair) where
   comes_to_some zero low high h = cc
   comes_to_some (suc steps) low high h =
       elim (nat_lt low high) as (λ b.
-          (if b then by_middle (option_map order (slice_get pairs (middle low high)))
-          (comes_to order pairs steps (middle low high + 1) high)
-          (comes_to order pairs steps low (middle low high)) else false) ≡ true
-          → list_any (λ p. is_eq (order p)) pairs ≡ true) [
+      (if b then by_middle (option_map order (slice_get pairs (middle low high)))
+      (comes_to order pairs steps (middle low high + 1) high)
+      (comes_to order pairs steps low (middle low high)) else false) ≡ true
+      → list_any (λ p. is_eq (order p)) pairs ≡ true) [
         | true ↦ λ g. by_some steps (middle low high) (slice_get pairs (middle low high))
-              (middle low high + 1, high) (low, middle low high) refl (comes_to_some steps) g
+            (middle low high + 1, high) (low, middle low high) refl (comes_to_some steps) g
         | false ↦ λ g. cc
       ] h
 
@@ -120,7 +122,7 @@ module _ (order : Pair → Ordering) (pairs : List Pair) where
           | false ↦ λ t.
               let back : i ≤ j = ltb-false j i t in
               let low : ordering_index (order (get_or pairs i p))
-                  ≤ ordering_index (order (get_or pairs j p)) = rises i j p back b.0 in
+              ≤ ordering_index (order (get_or pairs j p)) = rises i j p back b.0 in
               absurd (omega (arith, rw (a.1, equal, b.1, less) at low))
         ] refl
 
@@ -134,7 +136,7 @@ module _ (order : Pair → Ordering) (pairs : List Pair) where
           | false ↦ λ t.
               let back : j ≤ i = ltb-false i j t in
               let low : ordering_index (order (get_or pairs j p))
-                  ≤ ordering_index (order (get_or pairs i p)) = rises j i p back a.0 in
+              ≤ ordering_index (order (get_or pairs i p)) = rises j i p back a.0 in
               absurd (omega (arith, rw (a.1, equal, b.1, greater) at low))
         ] refl
 
@@ -142,7 +144,7 @@ module _ (order : Pair → Ordering) (pairs : List Pair) where
     pub comes_to_equal :
         (steps low high i : ℕ) (p : Pair) → slice_get pairs i ≡ Some p → order p ≡ Equal
         → low ≤ i → i < high → high ≤ length pairs → high - low ≤ steps
-            → comes_to order pairs steps low high ≡ true
+        → comes_to order pairs steps low high ≡ true
     comes_to_equal zero low high i p e equal from to inside few =
         absurd (omega (arith, from, to, few))
     comes_to_equal (suc steps) low high i p e equal from to inside few =
@@ -150,18 +152,18 @@ module _ (order : Pair → Ordering) (pairs : List Pair) where
         let bounds : (low ≤ m) × (m < high) = (omega arith, omega (arith, from, to)) in
         let q : Pair = get_or pairs m p in
         let there : slice_get pairs m ≡ Some q = got_at pairs m p
-            (omega (arith, bounds.1, inside)) in
+        (omega (arith, bounds.1, inside)) in
         let goes : nat_lt low high ≡ true = lt-ltb low high (omega (arith, from, to)) in
         rw (goes, there)
         (elim (order q) as (λ o. order q ≡ o → by_middle (Some o)
-            (comes_to order pairs steps (m + 1) high) (comes_to order pairs steps low m) ≡ true) [
+        (comes_to order pairs steps (m + 1) high) (comes_to order pairs steps low m) ≡ true) [
           | Less ↦ λ o. comes_to_equal steps (m + 1) high i p e equal
-                (omega (arith, less_before i m p q e there equal o)) to inside
-                (omega (arith, bounds.0, bounds.1, few))
+              (omega (arith, less_before i m p q e there equal o)) to inside
+              (omega (arith, bounds.0, bounds.1, few))
           | Equal ↦ λ o. refl
           | Greater ↦ λ o. comes_to_equal steps low m i p e equal from
-                (greater_behind i m p q e there equal o) (omega (arith, bounds.1, inside))
-                (omega (arith, bounds.0, bounds.1, few))
+              (greater_behind i m p q e there equal o) (omega (arith, bounds.1, inside))
+              (omega (arith, bounds.0, bounds.1, few))
         ] refl)
 
 -- one of the pairs compares as Equal if the array has this module and this name
@@ -190,8 +192,8 @@ had_is_found pairs m n sorted h =
     let one = any_place (λ p. is_eq (order_to m n p)) pairs (any_same m n pairs ∙ h) in
     let inside = got_inside pairs one.place one.one one.one one.at in
     comes_to_equal (order_to m n) pairs rises (length pairs) 0
-        (length pairs) one.place one.one one.at (is_Equal _ one.passes) (omega arith) inside.0
-        (omega arith) (omega arith)
+    (length pairs) one.place one.one one.at (is_Equal _ one.passes) (omega arith) inside.0
+    (omega arith) (omega arith)
 
 found_or_not : (pairs : List Pair) (m n : List ℕ) → AreInOrder pairs → (b : Bool)
     → have pairs m n ≡ b → found pairs m n ≡ b

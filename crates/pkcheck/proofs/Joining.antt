@@ -13,7 +13,7 @@ cut_ends k [] = refl
 cut_ends k (t ∷ ts) =
     let n : (k + length t) - k ≡ length t = omega arith in
     rw (n, take-append_seam t (concat ts), drop-append_seam t (concat ts))
-        (ap (λ us. t ∷ us) (cut_ends (k + length t) ts))
+    (ap (λ us. t ∷ us) (cut_ends (k + length t) ts))
 
 -- the texts of a buffer are the ones cut from it
 pub cut_joined : (ts : List (List ℕ)) (ends bytes : List ℕ) → AreJoined ts ends bytes
@@ -90,7 +90,7 @@ piece_at : (ts : List (List ℕ)) (n : ℕ) (d : List ℕ) → n < length ts
 piece_at (t ∷ ts) zero d h = take-append_seam t (concat ts)
 piece_at (t ∷ ts) (suc n) d h =
     rw (length-append t (concat (take n ts)), drop-append-add t (concat ts) (start_of n ts))
-        (piece_at ts n d (omega (arith, h)))
+    (piece_at ts n d (omega (arith, h)))
 piece_at [] n d h = absurd (omega (arith, h))
 
 start_within : (ts : List (List ℕ)) (n : ℕ) → start_of n ts ≤ length (concat ts)
@@ -141,8 +141,8 @@ module _ (ts : List (List ℕ)) (ends bytes : List ℕ) (j : AreJoined ts ends b
   lies_next start end m d e is s f =
       let before : m < length ts = omega (arith, is, h) in
       lies_from start end
-          (s ∙ rw (j.ends_are, is) (let b = end_at 0 ts m d before in omega (arith, b)))
-          (f ∙ end_is e)
+      (s ∙ rw (j.ends_are, is) (let b = end_at 0 ts m d before in omega (arith, b)))
+      (f ∙ end_is e)
 
 pub lies_by : (ts : List (List ℕ)) (ends bytes : List ℕ) → AreJoined ts ends bytes
     → (n start end : ℕ) → n < length ts → (n ≡ 0 → start ≡ 0)

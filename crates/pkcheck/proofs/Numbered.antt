@@ -17,4 +17,4 @@ pub numbered_more : (text bytes : List ℕ) (i : ℕ) → i < length bytes
 numbered_more text bytes i lt e =
     ap (λ t. t ++ encode_utf8 (get_or bytes i 0)) e
     ∙ (sym (one_behind (take i bytes) (get_or bytes i 0))
-        ∙ ap encode_utf8_all (sym (rw (add-one, take-suc bytes i 0) refl)))
+    ∙ ap encode_utf8_all (sym (rw (add-one, take-suc bytes i 0) refl)))

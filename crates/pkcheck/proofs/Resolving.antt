@@ -61,8 +61,10 @@ module _ (ts : List (List ℕ)) where
 
   resolves_is : (h : Shape Value) (k : Knowledge) → Alike (StandsAs ts) h k → k ≡ resolved ts h
   resolves_is h k a = λ i.
-      record { entries = sees_is h.entries k.entries a.entries i;
-      memo = recalls_is h.memo k.memo a.memo i }
+      record {
+        entries = sees_is h.entries k.entries a.entries i;
+        memo = recalls_is h.memo k.memo a.memo i;
+      }
 
   pub length_seen : (es : List (Entry Value)) → length (seen ts es) ≡ length es
   length_seen [] = refl
@@ -121,11 +123,18 @@ module _ (ts : List (List ℕ)) where
       let p = length_seen k.entries in
       let q = length_recalled k.memo in
       inr
-          (inl
-          (e,
-          (resolved ts k, moved_seen m n h a k is,
-          elim past [ inl g ↦ inl (rw p g) | inr g ↦ inr
-          (elim g [ inl f ↦ inl (rw q f) | inr f ↦ inr f ]) ])))
+      (inl (
+        e,
+        (
+          resolved ts k,
+          moved_seen m n h a k is,
+          elim past [
+            | inl g ↦ inl (rw p g)
+            | inr g ↦ inr
+                (elim g [ inl f ↦ inl (rw q f) | inr f ↦ inr f ])
+          ],
+        ),
+      ))
   moved_fault m n l h r a (inr (inr e)) = inr (inr e)
 
   -- ---- what an operation takes
@@ -146,8 +155,10 @@ module _ (ts : List (List ℕ)) where
       let is = values_are t.operands b.operands s'.operands in
       let at = sees_is t.below b.below s'.below in (
         λ i. Ok (record { operands = is i; below = at i }),
-        record { operands = subst (λ z. Pointwise (StandsAs ts) t.operands z) is s'.operands;
-            below = subst (λ z. Sees ts t.below z) at s'.below },
+        record {
+          operands = subst (λ z. Pointwise (StandsAs ts) t.operands z) is s'.operands;
+          below = subst (λ z. Sees ts t.below z) at s'.below;
+        },
       )
   taken_same (Err a) y t s e = cc
   taken_same (Ok a) (Err b) t s e = absurd s
@@ -172,9 +183,12 @@ module _ (ts : List (List ℕ)) where
 
     pub found_lacks : (r : Reason) → IsLack (operands takes es) r
         → IsLack (operands takes (seen ts es)) r
-    found_lacks r (b, e, g) =
-        (b, taken_lack (operands takes es) (operands takes (seen ts es)) b
-        (operands_alike (StandsAs ts) takes es (seen ts es) h) e, g)
+    found_lacks r (b, e, g) = (
+      b,
+      taken_lack (operands takes es) (operands takes (seen ts es)) b
+          (operands_alike (StandsAs ts) takes es (seen ts es) h) e,
+      g,
+    )
 
   -- ---- the top
 
@@ -275,8 +289,11 @@ module _ (ts : List (List ℕ)) (t : List ℕ) (es : List (Entry Value))
     (h : Sees ts es (seen ts es)) where
   text_on : Sees (ts ++ t ∷ []) (Item (value.Text (length ts)) ∷ es)
       (Item (Some (Text t)) ∷ seen ts es)
-  text_on = (stands_new ts t, sees_grown ts (ts ++ t ∷ []) (record { more = t ∷ []; is = refl }) es
-      (seen ts es) h)
+  text_on = (
+    stands_new ts t,
+    sees_grown ts (ts ++ t ∷ []) (record { more = t ∷ []; is = refl }) es
+        (seen ts es) h,
+  )
 
   pub text_seen : seen (ts ++ t ∷ []) (Item (value.Text (length ts)) ∷ es) ≡ Item (Some (Text t))
       ∷ seen ts es

@@ -32,8 +32,13 @@ pub count_object : (xs : List Slot) (n : ℕ) (d : Slot) (v : Value) → n < len
     → get_or xs n d ≡ slot.Object v → length (values_of (take (n + 1) xs))
     ≡ length (values_of (take n xs)) + 1
 count_object xs n d v h e =
-    rw (add-one, take-suc xs n d, e, values_append (take n xs) (slot.Object v ∷ []),
-    length-append (values_of (take n xs)) (v ∷ [])) refl
+    rw (
+      add-one,
+      take-suc xs n d,
+      e,
+      values_append (take n xs) (slot.Object v ∷ []),
+      length-append (values_of (take n xs)) (v ∷ []),
+    ) refl
 
 -- the index of an object is the number of objects before it
 pub object_at : (xs : List Slot) (n : ℕ) (d : Slot) (v : Value) → n < length xs

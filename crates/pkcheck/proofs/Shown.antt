@@ -32,8 +32,10 @@ module _ (xs : List Slot) (m n : ℕ) (d : Slot) (is : m ≡ suc n) (h : n < len
   pub slice_at_object : (v : Value) → get_or xs n d ≡ slot.Object v
       → slice (shown (take m xs) []) (values_of (drop m xs))
       ≡ slice (shown (take n xs) []) (values_of (drop n xs))
-  slice_at_object v e = rw (shown_take xs m n d (slot.Object v) is h e,
-      values_drop xs m n d (slot.Object v) is h e) refl
+  slice_at_object v e = rw (
+    shown_take xs m n d (slot.Object v) is h e,
+    values_drop xs m n d (slot.Object v) is h e,
+  ) refl
 
   pub items_at_bar : (k : ℕ) (j : ℕ) → k ≡ suc j → get_or xs n d ≡ slot.Mark
       → items k (shown (take m xs) []) (values_of (drop m xs)) ≡ Err NoItem
@@ -43,8 +45,11 @@ module _ (xs : List Slot) (m n : ℕ) (d : Slot) (is : m ≡ suc n) (h : n < len
       → items k (shown (take m xs) []) (values_of (drop m xs))
       ≡ items j (shown (take n xs) []) (values_of (drop n xs))
   items_at_object k j v e g =
-      rw (e, shown_take xs m n d (slot.Object v) is h g,
-      values_drop xs m n d (slot.Object v) is h g) refl
+      rw (
+        e,
+        shown_take xs m n d (slot.Object v) is h g,
+        values_drop xs m n d (slot.Object v) is h g,
+      ) refl
 
 pub starts_well : (xs : List Slot) (n k : ℕ) → n + k ≡ length xs → length (drop n xs) ≡ k
 starts_well xs n k e = omega (arith, length-drop n xs)

@@ -51,13 +51,13 @@ pub fn argument_lent<'a>(op: Op, split: usize, bytes: &'a [u8]) -> Arg<'a>
 {
     match op {
         Op::ShortBinUnicode => Arg::Counted(behind(2, bytes)),
-        _ => argument_apart(op, split, bytes),
+        _ => argument_of_slowly(op, split, bytes),
     }
 }
 
 /// `argument_of` out of line.
 #[inline(never)]
-fn argument_apart<'a>(op: Op, split: usize, bytes: &'a [u8]) -> Arg<'a>
+fn argument_of_slowly<'a>(op: Op, split: usize, bytes: &'a [u8]) -> Arg<'a>
     requires { (limit : ℕ) × (arg : Argument) × Lies limit op arg split bytes.now }
     ensures { (limit : ℕ) (arg : Argument) →
         Lies limit op arg split bytes.now → shown_arg result ≡ arg }

@@ -23,8 +23,8 @@ use Rattle.pkcheck.specs.Knowledge.{argument_asked, Known, Knowledge, Policy, As
 use Rattle.pkcheck.specs.Knowledge.{AskedUnknown, Progress, Refusal, Lacks, WrongClass, NotText}
 use Rattle.pkcheck.specs.Knowledge.{UnknownImport, OffList, LeftOver, NotAscii, TooLarge}
 use Rattle.pkcheck.specs.Knowledge.{wrong_receiver, permitted, unknown_pair, text_fault}
-use Rattle.pkcheck.specs.Knowledge.{operands_asked, asked_of, left_over, move_learned}
-use Rattle.pkcheck.specs.Knowledge.{stop_learned, operate_learned, learn}
+use Rattle.pkcheck.specs.Knowledge.{operands_asked, asked_of, left_over, move_learned, stop_learned}
+use Rattle.pkcheck.specs.Knowledge.{operate_learned, learn}
 use Rattle.pkcheck.specs.Covers.{Pointwise, Alike}
 use Rattle.pkcheck.proofs.Covering.CoversBy.{TrueBy, CoversBy, Choose, OutcomeHolds, IsAnswer}
 use Rattle.pkcheck.specs.Faults.{AsksFor}
@@ -37,11 +37,6 @@ use Rattle.pkcheck.proofs.Covering.Refusing.{operate_asks}
 abbrev pub Answered : List ℕ → List Object → ℕ → Type 0
 Answered v = IsAnswer (Text v)
 
--- a text that an operation may answer
-pub record Word : Type 0 where
-  pub text : List ℕ
-  pub utf8 : IsUtf8 text
-
 abbrev pub guess : List ℕ → Known → List ℕ
 guess v (Some (Text m)) = m
 guess v k = v
@@ -49,8 +44,10 @@ guess v k = v
 -- what is known about the two operands of an import that takes its names from the stack
 abbrev pub known_pair : Effect → Knowledge → Option (Known × Known)
 known_pair (Operates takes names gives) k =
-    elim (operands takes k.entries) as (λ _. Option (Known × Known)) [ Ok t ↦ of_two t.operands None
-    (λ a b. Some (a, b)) | Err b ↦ None ]
+    elim (operands takes k.entries) as (λ _. Option (Known × Known)) [
+      | Ok t ↦ of_two t.operands None (λ a b. Some (a, b))
+      | Err b ↦ None
+    ]
 known_pair e k = None
 
 abbrev pub IsGoing : Effect → Stepped → Type 0
@@ -85,8 +82,7 @@ module _ (v : List ℕ) where
   new_text s = Go (length s.objects) (Text v)
 
   pub new_text_holds : (s : State) → OutcomeHolds (Answered v) s.objects (new_text s)
-  new_text_holds s = subst
-      (λ b. Choose b (Answered v s.objects (length s.objects))
+  new_text_holds s = subst (λ b. Choose b (Answered v s.objects (length s.objects))
       (Answered v (s.objects ++ record { class_of = Text v; made = false } ∷ [])
       (length s.objects))) (sym (le-ltb (length s.objects) (length s.objects) (omega arith)))
       (new_at s.objects _)
@@ -123,8 +119,11 @@ module _ (v : List ℕ) where
   permitted_exactly None j k a b nm e = (named_is nm a b e, λ h. cc)
   permitted_exactly (Some list) j k a b nm e =
       elim (list a b) as (λ t. TwoExactly j k nm
-          (cond t (Ok (Some (AskedPair a b))) (Err (OffList a b)))) [ true ↦
-          (named_is nm a b e, λ h. cc) | false ↦ tt ]
+      (cond t (Ok (Some (AskedPair a b))) (Err (OffList a b)))) [
+        | true ↦
+            (named_is nm a b e, λ h. cc)
+        | false ↦ tt
+      ]
 
   unknown_exactly : (p : Policy) (j k : Known) (nm : Named) → nm ≡ Pair (guess v j) (guess v k)
       → (j ≡ None) ⊎ (k ≡ None) → TwoExactly j k nm (unknown_pair p)
@@ -178,8 +177,10 @@ module _ (v : List ℕ) where
   from_pair None ks a b = (tt, λ h. cc)
   from_pair (Some list) ks a b =
       elim (list a b) as (λ t. NamesExactly ks (Pair a b)
-      (cond t (Ok (Some (AskedPair a b))) (Err (OffList a b)))) [ true ↦ (tt, λ h. cc)
-      | false ↦ tt ]
+      (cond t (Ok (Some (AskedPair a b))) (Err (OffList a b)))) [
+        | true ↦ (tt, λ h. cc)
+        | false ↦ tt
+      ]
 
   from_argument : (p : Policy) (ks : List Known) (q : Option (List ℕ × List ℕ))
       → NamesExactly ks (argument_named q) (argument_asked p q)
@@ -227,21 +228,28 @@ module _ (v : List ℕ) where
     asks_guess t u nm o e g =
         let known : known_pair (Operates takes names gives) k ≡ Some (g.0, g.1) =
         ap
-            (λ r.
-            elim r as (λ _. Option (Known × Known)) [ Ok t ↦ of_two t.operands None
-            (λ a b. Some (a, b)) | Err b ↦ None ]) e
-            ∙ ap (λ l. of_two l None (λ a b. Some (a, b))) g.2 in
-        (g.0, g.1, known, g.4,
-            subst (λ m. AsksFor (guess v g.0) (guess v g.1) s (operated m gives i u o s)) (sym g.3)
-            (operate_asks gives i u s (guess v g.0) (guess v g.1) o))
+        (λ r.
+        elim r as (λ _. Option (Known × Known)) [
+          | Ok t ↦ of_two t.operands None (λ a b. Some (a, b))
+          | Err b ↦ None
+        ]) e
+        ∙ ap (λ l. of_two l None (λ a b. Some (a, b))) g.2 in (
+          g.0,
+          g.1,
+          known,
+          g.4,
+          subst (λ m. AsksFor (guess v g.0) (guess v g.1) s (operated m gives i u o s)) (sym g.3)
+              (operate_asks gives i u s (guess v g.0) (guess v g.1) o),
+        )
 
     names_go : (t : Taken Known) (u : Taken ℕ) (nm : Named) (n : ℕ) (c : ObjectClass)
         (a : Result (Option Asked) Refusal) (after : Knowledge) → operands takes k.entries ≡ Ok t
         → NamesExactly t.operands nm a → here (operated nm gives i u (Go n c) s)
         (and_then a (λ x. Ok (record { after = after; import = x })))
-    names_go t u nm n c (Ok a) after e h =
-        (operate_goes (Operates takes names gives) nm gives i u n c s h.0,
-        λ g. asks_guess t u nm (Go n c) e (h.1 g))
+    names_go t u nm n c (Ok a) after e h = (
+      operate_goes (Operates takes names gives) nm gives i u n c s h.0,
+      λ g. asks_guess t u nm (Go n c) e (h.1 g),
+    )
     names_go t u nm n c (Err UnknownImport) after e h = asks_guess t u nm (Go n c) e h
     names_go t u nm n c (Err (Lacks b)) after e h = tt
     names_go t u nm n c (Err WrongClass) after e h = tt
@@ -262,8 +270,8 @@ module _ (v : List ℕ) where
         → here (operate_step names gives i (Go n c) s y) (operate_learned p names gives i k x)
     operate_goes_on p n c (Ok t) (Ok u) e h =
         unless_goes (wrong_receiver gives t.operands) _ _
-            (names_go t u _ n c (asked_of p names i t.operands) _ e
-            (names_exactly p names i s.objects t.operands u.operands h.operands))
+        (names_go t u _ n c (asked_of p names i t.operands) _ e
+        (names_exactly p names i s.objects t.operands u.operands h.operands))
     operate_goes_on p n c (Err b) y e h = tt
     operate_goes_on p n c (Ok t) (Err b) e h = absurd h
 
@@ -332,31 +340,52 @@ module _ (v : List ℕ) where
       (All-nil (λ o. o.made ≡ false → CanBe o.class_of)))
 
   make : (es : List (Entry Known)) (ms : List (ℕ × Known)) → Made es ms
-  make [] [] = record { objects = []; entries = []; memo = [];
-      alike = record { entries = tt; memo = tt }; real =
-      λ u. All-nil (λ o. o.made ≡ false → CanBe o.class_of) }
+  make [] [] = record {
+    objects = [];
+    entries = [];
+    memo = [];
+    alike = record { entries = tt; memo = tt };
+    real =
+        λ u. All-nil (λ o. o.made ≡ false → CanBe o.class_of);
+  }
   make [] ((n, k) ∷ ms) =
       let m = make [] ms in
       let a = push_alike (Answered v) grows m.objects (row_of k) k [] m.entries ms m.memo
-          (row_tells m.objects k) m.alike.entries m.alike.memo in
-      record { objects = m.objects ++ row_of k ∷ []; entries = m.entries;
-          memo = (n, length m.objects) ∷ m.memo;
-          alike = record { entries = a.entries.1; memo = ((refl, row_tells m.objects k), a.memo) };
-          real = λ u. one_more m.objects k u (m.real u) }
+      (row_tells m.objects k) m.alike.entries m.alike.memo in
+      record {
+        objects = m.objects ++ row_of k ∷ [];
+        entries = m.entries;
+        memo = (n, length m.objects) ∷ m.memo;
+        alike = record { entries = a.entries.1; memo = ((refl, row_tells m.objects k), a.memo) };
+        real = λ u. one_more m.objects k u (m.real u);
+      }
   make (Mark ∷ es) ms = let m = make es ms in
-      record { objects = m.objects; entries = Mark ∷ m.entries; memo = m.memo;
-      alike = record { entries = (tt, m.alike.entries); memo = m.alike.memo }; real = m.real }
+      record {
+        objects = m.objects;
+        entries = Mark ∷ m.entries;
+        memo = m.memo;
+        alike = record { entries = (tt, m.alike.entries); memo = m.alike.memo };
+        real = m.real;
+      }
   make (Item k ∷ es) ms =
       let m = make es ms in
-      record { objects = m.objects ++ row_of k ∷ []; entries = Item (length m.objects) ∷ m.entries;
-          memo = m.memo; alike = push_alike (Answered v) grows m.objects
-          (row_of k) k es m.entries ms m.memo (row_tells m.objects k) m.alike.entries m.alike.memo;
-          real = λ u. one_more m.objects k u (m.real u) }
+      record {
+        objects = m.objects ++ row_of k ∷ [];
+        entries = Item (length m.objects) ∷ m.entries;
+        memo = m.memo;
+        alike = push_alike (Answered v) grows m.objects
+            (row_of k) k es m.entries ms m.memo (row_tells m.objects k)
+            m.alike.entries m.alike.memo;
+        real = λ u. one_more m.objects k u (m.real u);
+      }
 
   pub covered : Knowledge → State
   covered k = let m = make k.entries k.memo in
-      record { shape = record { entries = m.entries; memo = m.memo }; objects = m.objects;
-      events = [] }
+      record {
+        shape = record { entries = m.entries; memo = m.memo };
+        objects = m.objects;
+        events = [];
+      }
 
   pub covers_covered : (k : Knowledge) → CoversBy (Answered v) k (covered k)
   unfolding covered

@@ -63,9 +63,9 @@ pub any_answer : (objects : List Object) (o : Outcome) → OutcomeHolds IsObject
 any_answer objects Raise = tt
 any_answer objects (Go n c) =
     elim (ltb n (length objects)) as (λ b. ltb n (length objects) ≡ b
-        → Choose b (IsObject objects n)
-        (IsObject (objects ++ record { class_of = c; made = false } ∷ []) (length objects))) [
+    → Choose b (IsObject objects n)
+    (IsObject (objects ++ record { class_of = c; made = false } ∷ []) (length objects))) [
       | true ↦ λ e. ltb-true n (length objects) e
       | false ↦ λ e. (let l = length-append objects (record { class_of = c; made = false } ∷ []) in
-            omega (arith, l))
+          omega (arith, l))
     ] (λ i. ltb n (length objects))

@@ -15,15 +15,16 @@ use Rattle.pkcheck.specs.Knowledge.{TooLarge, reason_of, learn, within, advance}
 use Rattle.pkcheck.specs.Faults.{Arrivals, everyone, IsOff, AsksOtherThan, AsksForTwo, AsksOffList}
 use Rattle.pkcheck.specs.Faults.{HasFaultHere, rank, IsPairOf, IsFirstFault, HasNoFault}
 use Rattle.pkcheck.specs.View.{off_pair}
-use Rattle.pkcheck.proofs.Covering.Answering.{Word, guess, AsksGuess, Exactly}
+use Rattle.pkcheck.proofs.Covering.Answering.{guess, AsksGuess, Exactly}
+use Rattle.pkcheck.proofs.Covering.Words.{Word, empty, longer}
 use Rattle.pkcheck.proofs.Covering.Soundness.{PassesListed, learn_listed}
 use Rattle.pkcheck.proofs.Covering.Showing.{IsLonger, turn, same_refusal, longer_differs, within_ok}
 use Rattle.pkcheck.proofs.Covering.StepImports.{asked_listed, off_is_out, same_of}
-use Rattle.pkcheck.proofs.Covering.Standing.{Stands, stands_for_all, empty, longer, at, answer}
-use Rattle.pkcheck.proofs.Covering.Standing.{exactly, two_guesses, off_list, has_fault, RefusedBy}
-use Rattle.pkcheck.proofs.Covering.Standing.{by_, follows_ok, lacks_refused, wrong_refused}
-use Rattle.pkcheck.proofs.Covering.Standing.{text_refused, off_refused_by, unknown_refused_by}
-use Rattle.pkcheck.proofs.Covering.Standing.{left_refused, raise_refused, large_refused}
+use Rattle.pkcheck.proofs.Covering.Standing.{Stands, stands_for_all, at, answer, exactly}
+use Rattle.pkcheck.proofs.Covering.Standing.{two_guesses, off_list, has_fault, RefusedBy, by_}
+use Rattle.pkcheck.proofs.Covering.Standing.{follows_ok, lacks_refused, wrong_refused, text_refused}
+use Rattle.pkcheck.proofs.Covering.Standing.{off_refused_by, unknown_refused_by, left_refused}
+use Rattle.pkcheck.proofs.Covering.Standing.{raise_refused, large_refused}
 
 -- a pair off the list is refused
 module _ (p : Policy) (l : Bounds) (i : Instruction) (k : Knowledge) (Here : Arrivals)
@@ -42,11 +43,11 @@ module _ (p : Policy) (l : Bounds) (i : Instruction) (k : Knowledge) (Here : Arr
       let a = f.0.each s.0 there Raise in
       by_ (Some list) l i k Here h (OffList m n)
       (λ q e. absurd
-          (off_is_out list q.import m n (listed_ok list q e)
-          (asked_listed q s.0 (step_as Here.setting i s.0 Raise) m n
-          (follows_ok (Some list) l i k Here h q e s.0 Raise there) a) f.1))
+      (off_is_out list q.import m n (listed_ok list q e)
+      (asked_listed q s.0 (step_as Here.setting i s.0 Raise) m n
+      (follows_ok (Some list) l i k Here h q e s.0 Raise there) a) f.1))
       (λ q e. off_refused_by (Some list) l i k Here h m n s.0 Raise there a q e)
-          (learn (Some list) (effect_as Here.setting i) i k) refl
+      (learn (Some list) (effect_as Here.setting i) i k) refl
 
   unknown_refused : (p' : Policy) (m n : List ℕ) → AsksOtherThan Here i m n → IsOff p' m n
       → RefusedBy p' l i k Here h 8
@@ -57,13 +58,13 @@ module _ (p : Policy) (l : Bounds) (i : Instruction) (k : Knowledge) (Here : Arr
       by_ (Some list) l i k Here h UnknownImport
       (λ q e.
       let first = asked_listed q a.0 (step_as Here.setting i a.0 a.1) m n
-          (follows_ok (Some list) l i k Here h q e a.0 a.1 (h.real a.0 a.2)) a.4 in
+      (follows_ok (Some list) l i k Here h q e a.0 a.1 (h.real a.0 a.2)) a.4 in
       let second = asked_listed q b.0 (step_as Here.setting i b.0 b.1) x y
-          (follows_ok (Some list) l i k Here h q e b.0 b.1 (h.real b.0 b.2)) b.4 in
+      (follows_ok (Some list) l i k Here h q e b.0 b.1 (h.real b.0 b.2)) b.4 in
       let same = same_of q.import list m n x y (listed_ok list q e) first second in
       absurd (differ same.0 same.1))
       (λ q e. unknown_refused_by (Some list) l i k Here h m n two q e)
-          (learn (Some list) (effect_as Here.setting i) i k) refl
+      (learn (Some list) (effect_as Here.setting i) i k) refl
 
   -- a fault is refused, for its own reason or for an earlier one
   pub refused_by : (r : Reason) → HasFaultHere p l Here i r → RefusedBy p l i k Here h (rank r)
@@ -129,8 +130,11 @@ module _ (p : Policy) (l : Bounds) (i : Instruction) (k : Knowledge) (Here : Arr
   pub first_fault : (v : Word) → IsLonger p v.text → (r : Refusal)
       → advance Here.setting p l i k ≡ Err r → (r ≡ Lacks Extension → ⊥)
       → IsFirstFault p l Here i (reason_of r) (off_pair r)
-  first_fault v long r e x = record { fault = has_fault p l i k Here h v long r e x;
-      first = first r e; asks = pair_of r e }
+  first_fault v long r e x = record {
+    fault = has_fault p l i k Here h v long r e x;
+    first = first r e;
+    asks = pair_of r e;
+  }
 
   asks_guess : (v : Word) (q : Progress) → advance Here.setting p l i k ≡ Ok q
       → q.import ≡ Some AskedUnknown → (x : Result Progress Refusal)
@@ -149,6 +153,9 @@ module _ (p : Policy) (l : Bounds) (i : Instruction) (k : Knowledge) (Here : Arr
       → q.import ≡ Some AskedUnknown → AsksForTwo Here i
   unknown_exactly q e u =
       let a = asks_guess empty q e u (learn p (effect_as Here.setting i) i k) refl e in
-      let b = asks_guess (longer empty) q e u (learn p (effect_as Here.setting i) i k) refl e in
-      (guess [] a.0, guess [] a.1, two_guesses p l i k Here h empty (longer empty)
-          (longer_differs []) a b)
+      let b = asks_guess (longer empty) q e u (learn p (effect_as Here.setting i) i k) refl e in (
+        guess [] a.0,
+        guess [] a.1,
+        two_guesses p l i k Here h empty (longer empty)
+            (longer_differs []) a b,
+      )

@@ -23,11 +23,10 @@ use Rattle.pkcheck.specs.Runs.{NoImport, Pair, NotTexts, class_at, texts_named, 
 use Rattle.pkcheck.specs.Runs.{given, come_of, operated, move_step, stop_step, operate_step}
 use Rattle.pkcheck.specs.Runs.{perform, step_as}
 use Rattle.pkcheck.specs.Knowledge.{argument_asked, Known, Knowledge, Policy, Asked, AskedPair}
-use Rattle.pkcheck.specs.Knowledge.{AskedUnknown, Progress, Refusal, WrongClass, OffList}
-use Rattle.pkcheck.specs.Knowledge.{TooLarge, wrong_receiver, permitted, unknown_pair}
-use Rattle.pkcheck.specs.Knowledge.{operands_asked, asked_of, known_given, is_past, within}
-use Rattle.pkcheck.specs.Knowledge.{left_over, move_learned, stop_learned, operate_learned, learn}
-use Rattle.pkcheck.specs.Knowledge.{advance}
+use Rattle.pkcheck.specs.Knowledge.{AskedUnknown, Progress, Refusal, WrongClass, OffList, TooLarge}
+use Rattle.pkcheck.specs.Knowledge.{wrong_receiver, permitted, unknown_pair, operands_asked}
+use Rattle.pkcheck.specs.Knowledge.{asked_of, known_given, is_past, within, left_over, move_learned}
+use Rattle.pkcheck.specs.Knowledge.{stop_learned, operate_learned, learn, advance}
 use Rattle.pkops.specs.Limits.{Bounds}
 use Rattle.pkcheck.specs.Covers.{Pointwise, AlikeEntry, AlikeCell, Alike, imports_of, IsAsked, Adds}
 use Rattle.pkcheck.proofs.Covering.CoversBy.{TrueBy, CoversBy, Choose, AnswerHolds, OutcomeHolds}
@@ -45,15 +44,15 @@ kept_at objects r x n h =
     let lt = slice_get_within objects n x h in
     let lt' : n < length (objects ++ r ∷ []) = omega (arith, length-append objects (r ∷ [])) in
     slice_get-get_or (objects ++ r ∷ []) n x lt'
-        ∙ ap Some (get_or-append objects (r ∷ []) x n lt ∙ get_or_from_slice_get objects n x x h)
+    ∙ ap Some (get_or-append objects (r ∷ []) x n lt ∙ get_or_from_slice_get objects n x x h)
 
 pub new_at : (objects : List Object) (r : Object)
     → slice_get (objects ++ r ∷ []) (length objects) ≡ Some r
 new_at objects r =
     let lt' : length objects < length (objects ++ r ∷ []) =
-        omega (arith, length-append objects (r ∷ [])) in
+    omega (arith, length-append objects (r ∷ [])) in
     slice_get-get_or (objects ++ r ∷ []) (length objects) r lt'
-        ∙ ap Some (get_or-append_seam objects r [] r)
+    ∙ ap Some (get_or-append_seam objects r [] r)
 
 -- the names of an import agree with what is known about them
 abbrev pub NamesAlike : Policy → Result (Option Asked) Refusal → Named → Type 0
@@ -169,8 +168,8 @@ module _ (U : List Object → ℕ → Type 0) where
         (record { entries = Item (length objects) ∷ fs; memo = ns })
     push_alike objects r k es fs ms ns new h g =
         let old = Alike-map (TrueBy U objects) (TrueBy U (objects ++ r ∷ []))
-            (TrueOf-grow objects r) (record { entries = es; memo = ms })
-            (record { entries = fs; memo = ns }) (record { entries = h; memo = g }) in
+        (TrueOf-grow objects r) (record { entries = es; memo = ms })
+        (record { entries = fs; memo = ns }) (record { entries = h; memo = g }) in
         record { entries = (new, old.entries); memo = old.memo }
 
     given_alike : (gives : Gives) (i : Instruction) (t : Taken Known) (u : Taken ℕ) (n : ℕ)
@@ -189,9 +188,12 @@ module _ (U : List Object → ℕ → Type 0) where
     given_alike (MayMake s) i t u n c objects ms ns o h g =
         push_alike objects _ _ t.below u.below ms ns (new_at objects _) h.below g
     given_alike (Leaves w) i t u n c objects ms ns o h g =
-        record { entries = Pointwise-append (AlikeEntry (TrueBy U objects)) (front t.operands)
-            (front u.operands) t.below u.below
-            (front_alike (TrueBy U objects) t.operands u.operands h.operands) h.below; memo = g }
+        record {
+          entries = Pointwise-append (AlikeEntry (TrueBy U objects)) (front t.operands)
+              (front u.operands) t.below u.below
+              (front_alike (TrueBy U objects) t.operands u.operands h.operands) h.below;
+          memo = g;
+        }
     given_alike Answers i t u n c objects ms ns o h g =
         elim (ltb n (length objects)) as (λ b. Choose b (U objects n)
         (U (objects ++ record { class_of = c; made = false } ∷ []) (length objects))
@@ -230,12 +232,16 @@ module _ (U : List Object → ℕ → Type 0) where
           → FollowsBy U (record { after = after_of gives i t k; import = a }) s
           (come_of b gives i u o (record s { events = ev }))
       asked_follows true Raise a ev fresh e f w = inl (adds a ev fresh f None)
-      asked_follows true (Go n c) a ev fresh e f w =
-          (given_alike gives i t u n c s.objects k.memo s.shape.memo
-          (answer_if_any gives U s.objects n c w) h m, adds a ev fresh f _)
-      asked_follows false o a ev fresh e f w =
-          (given_alike gives i t u 0 Foreign s.objects k.memo s.shape.memo
-          (no_answer gives U s.objects 0 Foreign e) h m, adds a ev fresh f _)
+      asked_follows true (Go n c) a ev fresh e f w = (
+        given_alike gives i t u n c s.objects k.memo s.shape.memo
+            (answer_if_any gives U s.objects n c w) h m,
+        adds a ev fresh f _,
+      )
+      asked_follows false o a ev fresh e f w = (
+        given_alike gives i t u 0 Foreign s.objects k.memo s.shape.memo
+            (no_answer gives U s.objects 0 Foreign e) h m,
+        adds a ev fresh f _,
+      )
 
       no_import : (o : Outcome) → OutcomeHolds U s.objects o
           → FollowsBy U (record { after = after_of gives i t k; import = None }) s
@@ -289,8 +295,8 @@ module _ (U : List Object → ℕ → Type 0) where
         (operate_step names gives i o s y)
     operate_follows p names gives i k s o (Ok t) (Ok u) h m w =
         refused_follows (wrong_receiver gives t.operands) WrongClass _ s _
-            (imports_follow gives i t u k s h m p (asked_of p names i t.operands) _ o
-            (names_alike p names i s.objects t.operands u.operands h.operands) w)
+        (imports_follow gives i t u k s h m p (asked_of p names i t.operands) _ o
+        (names_alike p names i s.objects t.operands u.operands h.operands) w)
     operate_follows p names gives i k s o (Err r) y h m w = tt
     operate_follows p names gives i k s o (Ok t) (Err r) h m w = absurd h
 
@@ -308,7 +314,7 @@ module _ (U : List Object → ℕ → Type 0) where
     only_item (Mark ∷ es) n fs e = cc
     only_item (Item m ∷ es) n fs e =
         let pair = λ (r : Result (ℕ × List (Entry ℕ)) Breach).
-            elim r as (λ _. ℕ × List (Entry ℕ)) [ Ok t ↦ t | Err b ↦ (m, es) ] in
+        elim r as (λ _. ℕ × List (Entry ℕ)) [ Ok t ↦ t | Err b ↦ (m, es) ] in
         ap (λ r. Item (pair r).0 ∷ (pair r).1) e
 
     emptied : (es : List (Entry Known)) (ms : List (ℕ × Known)) (s : State) (n : ℕ)

@@ -75,8 +75,11 @@ FaultIfErr p l n e s st (Err r) = Fault p l n e s st r
 module _ (gives : Gives) (i : Instruction) (u : Taken ℕ) (s : State) (m n : List ℕ) where
   adds_pair : (d : Option ℕ) → Adds (Some (AskedPair m n)) s.events
       ((s.events ++ Import m n ∷ []) ++ Did i u.operands d ∷ [])
-  adds_pair d = record { added = Import m n ∷ Did i u.operands d ∷ [];
-      grown = append_assoc s.events (Import m n ∷ []) (Did i u.operands d ∷ []); asked = refl }
+  adds_pair d = record {
+    added = Import m n ∷ Did i u.operands d ∷ [];
+    grown = append_assoc s.events (Import m n ∷ []) (Did i u.operands d ∷ []);
+    asked = refl;
+  }
 
   asked_asks : (b : Bool) (o : Outcome) → AsksFor m n s
       (come_of b gives i u o (record s { events = s.events ++ Import m n ∷ [] }))
@@ -104,8 +107,10 @@ permitted_fault : (p : Policy) (names : Names) (objects : List Object) (ns : Lis
 permitted_fault None names objects ns nm a b e = tt
 permitted_fault (Some list) names objects ns nm a b e =
     elim (list a b) as (λ t. list a b ≡ t → NamesFault (Some list) names objects ns nm
-        (cond t (Ok (Some (AskedPair a b))) (Err (OffList a b)))) [ true ↦ λ h. tt
-        | false ↦ λ h. (h, e) ] refl
+    (cond t (Ok (Some (AskedPair a b))) (Err (OffList a b)))) [
+      | true ↦ λ h. tt
+      | false ↦ λ h. (h, e)
+    ] refl
 
 unknown_fault : (p : Policy) (names : Names) (objects : List Object) (ns : List ℕ) (nm : Named)
     → NamesFault p names objects ns nm (unknown_pair p)
@@ -123,9 +128,9 @@ module _ (U : List Object → ℕ → Type 0) (p : Policy) where
       (texts_named (class_at objects m) (class_at objects n)) (operands_asked p j k)
   two_fault objects (Some (Text a)) (Some (Text b)) m n h g =
       permitted_fault p OfOperands objects (m ∷ n ∷ [])
-          (texts_named (class_at objects m) (class_at objects n)) a b
-          (ap (λ v. texts_named v (class_at objects n)) (TrueBy-Says U objects (Some (Text a)) m h)
-          ∙ ap (texts_named (Some (Text a))) (TrueBy-Says U objects (Some (Text b)) n g))
+      (texts_named (class_at objects m) (class_at objects n)) a b
+      (ap (λ v. texts_named v (class_at objects n)) (TrueBy-Says U objects (Some (Text a)) m h)
+      ∙ ap (texts_named (Some (Text a))) (TrueBy-Says U objects (Some (Text b)) n g))
   two_fault objects None None m n h g = unknown_fault p OfOperands objects (m ∷ n ∷ [])
       (texts_named (class_at objects m) (class_at objects n))
   two_fault objects None (Some (Text b)) m n h g = unknown_fault p OfOperands objects (m ∷ n ∷ [])
@@ -187,9 +192,11 @@ module _ (U : List Object → ℕ → Type 0) (p : Policy) where
         → FaultIfErr p l number (Operates takes names gives) s (operated nm gives i u o s)
         (and_then a (λ v. Ok (f v)))
     names_refused takes names gives i s o u nm (Ok a) f e h = tt
-    names_refused takes names gives i s o u nm (Err (OffList a b)) f e h =
-        (h.0, subst (λ v. AsksFor a b s (operated v gives i u o s)) (sym h.1)
-        (operate_asks gives i u s a b o))
+    names_refused takes names gives i s o u nm (Err (OffList a b)) f e h = (
+      h.0,
+      subst (λ v. AsksFor a b s (operated v gives i u o s)) (sym h.1)
+          (operate_asks gives i u s a b o),
+    )
     names_refused takes names gives i s o u nm (Err NotText) f e h = (u, e, h)
     names_refused takes names gives i s o u nm (Err UnknownImport) f e h = h
     names_refused takes names gives i s o u nm (Err (Lacks b)) f e h = absurd h
@@ -206,9 +213,9 @@ module _ (U : List Object → ℕ → Type 0) (p : Policy) where
         (operate_learned p names gives i k x)
     operate_refused takes names gives i k s o (Ok t) (Ok u) e h =
         receiver_refused takes names gives s _ u (wrong_receiver gives t.operands) _ e
-            (gives_fault gives s.objects t.operands u.operands h.operands)
+        (gives_fault gives s.objects t.operands u.operands h.operands)
         (names_refused takes names gives i s o u _ (asked_of p names i t.operands) _ e
-            (names_fault names i s.objects t.operands u.operands h.operands))
+        (names_fault names i s.objects t.operands u.operands h.operands))
     operate_refused takes names gives i k s o (Err b) (Err c) e h = ap Stuck (sym h)
     operate_refused takes names gives i k s o (Ok t) (Err c) e h = absurd h
     operate_refused takes names gives i k s o (Err b) (Ok u) e h = absurd h
@@ -299,9 +306,11 @@ module _ (U : List Object → ℕ → Type 0) (p : Policy) where
     within_refused e (Err r) s st h g = g
     within_refused e (Ok q) s st h g =
         elim (is_past l number q.after) as (λ b. is_past l number q.after ≡ b
-            → FaultIfErr {A = Progress} p l number e s st
-            (cond b (Err TooLarge) (Ok q))) [ true ↦ λ i. more q s st h (past_by l number q.after i)
-            | false ↦ λ _. tt ] refl
+        → FaultIfErr {A = Progress} p l number e s st
+        (cond b (Err TooLarge) (Ok q))) [
+          | true ↦ λ i. more q s st h (past_by l number q.after i)
+          | false ↦ λ _. tt
+        ] refl
 
   -- if the checker refuses a step, each state that it covers has the fault, whatever the outcome
   pub step_refused : Grows U → (l : Bounds) (setting : OldStrings) (i : Instruction) (k : Knowledge)
@@ -311,5 +320,5 @@ module _ (U : List Object → ℕ → Type 0) (p : Policy) where
   step_refused grows l setting i k s o h w =
       let number = number_stored (effect_as setting i) i in
       within_refused l number (effect_as setting i) (learn p (effect_as setting i) i k) s
-          (step_as setting i s o) (learn_follows U grows p (effect_as setting i) i k s o h w)
-          (learn_refused l number (effect_as setting i) i k s o h)
+      (step_as setting i s o) (learn_follows U grows p (effect_as setting i) i k s o h w)
+      (learn_refused l number (effect_as setting i) i k s o h)

@@ -49,7 +49,7 @@ pub not_both : {A : Type 0} (v : List ℕ) (objects : List Object) (n : ℕ) (c 
     → Answered v objects n → IsMade objects n c → A
 not_both v objects n c h g =
     let made_there = λ (o : Option Object).
-        elim o as (λ _. Bool) [ None ↦ true | Some r ↦ r.made ] in
+    elim o as (λ _. Bool) [ None ↦ true | Some r ↦ r.made ] in
     apart (ap made_there (sym h ∙ g))
 
 pub same_class : (objects : List Object) (n : ℕ) (c d : ObjectClass) → IsMade objects n c
@@ -132,9 +132,9 @@ module _ (v : List ℕ) (p : Policy) (i : Instruction) (k : Knowledge) (s : Stat
       → operate_learned p names gives i k x ≡ Err WrongClass
   wrong_at takes names gives (Ok u) (Ok w) a t e g =
       refuses_class _ _
-          (receiver_seen v s.objects gives u.operands w.operands a.operands
-          (subst (λ (z : Taken ℕ). WrongReceiver gives s.objects z.operands)
-          (sym (same_taken w t e)) g))
+      (receiver_seen v s.objects gives u.operands w.operands a.operands
+      (subst (λ (z : Taken ℕ). WrongReceiver gives s.objects z.operands)
+      (sym (same_taken w t e)) g))
   wrong_at takes names gives (Err b) (Ok w) a t e g = absurd a
   wrong_at takes names gives x (Err b) a t e g = cc
 
@@ -145,9 +145,9 @@ module _ (v : List ℕ) (p : Policy) (i : Instruction) (k : Knowledge) (s : Stat
       (operate_learned p names gives i k x ≡ Err WrongClass)
   non_text_at takes names gives (Ok u) (Ok w) a t e g =
       let is : asked_of p names i u.operands ≡ Err NotText = names_seen v s.objects p names i
-          u.operands w.operands a.operands
-          (subst (λ (z : Taken ℕ). NonText names s.objects z.operands)
-          (sym (same_taken w t e)) g) in
+      u.operands w.operands a.operands
+      (subst (λ (z : Taken ℕ). NonText names s.objects z.operands)
+      (sym (same_taken w t e)) g) in
       rw is (refuses_text (wrong_receiver gives u.operands))
   non_text_at takes names gives (Err b) (Ok w) a t e g = absurd a
   non_text_at takes names gives x (Err b) a t e g = cc
@@ -224,7 +224,7 @@ pub raise_asks : {A : Type 0} (m n : List ℕ) (s : State) (st : Stepped) → Ra
 raise_asks m n s (Raised t) h g =
     let same = append_cancel_left s.events h.added g.added (sym h.grown ∙ g.grown) in
     let none : ◌≡◌ {A = List (List ℕ × List ℕ)} [] ((m, n) ∷ []) =
-        sym h.asked ∙ (ap imports_of same ∙ g.asked) in
+    sym h.asked ∙ (ap imports_of same ∙ g.asked) in
     cc
 raise_asks m n s (WentOn t) h g = absurd h
 raise_asks m n s (Stopped r t) h g = absurd h

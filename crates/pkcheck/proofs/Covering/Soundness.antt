@@ -48,8 +48,10 @@ imports_of-append (Did i ns d ∷ as') bs = imports_of-append as' bs
 module _ (list : List ℕ → List ℕ → Bool) where
   permitted_listed : (m n : List ℕ) → ListedIfOk list (permitted (Some list) m n)
   permitted_listed m n = elim (list m n) as (λ b. list m n ≡ b
-      → ListedIfOk list (cond b (Ok (Some (AskedPair m n))) (Err (OffList m n)))) [ true ↦ λ e. e
-      | false ↦ λ e. tt ] refl
+      → ListedIfOk list (cond b (Ok (Some (AskedPair m n))) (Err (OffList m n)))) [
+        | true ↦ λ e. e
+        | false ↦ λ e. tt
+      ] refl
 
   argument_listed : (q : Option (List ℕ × List ℕ)) → ListedIfOk list (argument_asked (Some list) q)
   argument_listed (Some q) = permitted_listed q.0 q.1
@@ -143,8 +145,8 @@ module _ (list : List ℕ → List ℕ → Bool) where
       → Adds a before after → AllListed list (imports_of before) → AllListed list (imports_of after)
   adds_listed a before after h g old =
       subst (λ es. AllListed list (imports_of es)) (sym g.grown)
-          (subst (AllListed list) (sym (imports_of-append before g.added))
-          (AllListed-append _ _ old (asked_all a _ h g.asked)))
+      (subst (AllListed list) (sym (imports_of-append before g.added))
+      (AllListed-append _ _ old (asked_all a _ h g.asked)))
 
   yes_before : (a : Option Asked) (d : Verdict) → IsYes (with_import a d) → IsYes d
   yes_before a (Yes k as') h = tt
@@ -158,9 +160,11 @@ module _ (list : List ℕ → List ℕ → Bool) where
       (adds_listed q.import s.events t.events h g.1 old)
   step_fine q s (Raised t) f h (inl g) old on = adds_listed q.import s.events t.events h g old
   step_fine q s (Raised t) f h (inr g) old on = adds_listed None s.events t.events tt g.1 old
-  step_fine q s (Stopped x t) f h g old on =
-      (emptied q.after.entries t.shape.entries (λ x y. AlikeEntry (TrueBy IsObject t.objects) x y)
-      g.1 g.2.entries, subst (λ es. AllListed list (imports_of es)) (sym g.4) old)
+  step_fine q s (Stopped x t) f h g old on = (
+    emptied q.after.entries t.shape.entries (λ x y. AlikeEntry (TrueBy IsObject t.objects) x y)
+        g.1 g.2.entries,
+    subst (λ es. AllListed list (imports_of es)) (sym g.4) old,
+  )
   step_fine q s (Stuck b) f h g old on = absurd g
 
   module _ (setting : OldStrings) (l : Bounds) where
@@ -182,7 +186,7 @@ module _ (list : List ℕ → List ℕ → Bool) where
     sound_along [] k s os h c old = old
     sound_along (i ∷ is) k s os h c old =
         fine_after is s (step_as setting i s (first_outcome os)) _
-            (advance setting (Some list) l i k) (advance_listed setting l i k)
-            (step_follows IsObject objects_grow setting (Some list) l i k s (first_outcome os) c
-            (any_answer s.objects (first_outcome os))) h old
+        (advance setting (Some list) l i k) (advance_listed setting l i k)
+        (step_follows IsObject objects_grow setting (Some list) l i k s (first_outcome os) c
+        (any_answer s.objects (first_outcome os))) h old
         (λ k' t y c' listed. sound_along is k' t _ y c' listed)

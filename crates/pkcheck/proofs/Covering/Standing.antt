@@ -1,12 +1,8 @@
 -- If a knowledge stands for the states in which runs reach an instruction, a refused instruction
 -- has the named fault there, and a fault is refused, for its own reason or for an earlier one.
 use Rattle.pkcheck.specs.declared.old_strings.OldStrings.{OldStrings}
-use Rattle.std.proofs.Common.{◌≡◌, ℕ, ◌<◌, ◌≤◌, List, [], ◌∷◌, length, Result, Ok, Err, inl, inr}
-use Rattle.std.proofs.Common.{refl, sym, ap, subst, ◌∙◌, arith}
-use Rattle.std.specs.Str.{IsUtf8}
-use Rattle.std.proofs.lemmas.List.Elements.{All-cons, All-nil}
-use Rattle.std.proofs.lemmas.Str.{IsUtf8-append, IsUtf8-from_ascii, IsUtf8-nil}
-use Rattle.std.proofs.lemmas.Str.Ascii.{IsAscii-from_all}
+use Rattle.std.proofs.Common.{◌≡◌, ℕ, ◌≤◌, List, [], length, Result, Ok, Err, inl, inr, refl, sym}
+use Rattle.std.proofs.Common.{ap, subst, ◌∙◌, arith}
 use Rattle.pkops.specs.Spelling.{Instruction}
 use Rattle.pkops.specs.Limits.{Bounds}
 use Rattle.pkcheck.specs.Effects.{effect_as, number_stored}
@@ -25,8 +21,8 @@ use Rattle.pkcheck.specs.Faults.{GoesPast, HasFaultHere, LeavesMore, RaisesThere
 use Rattle.pkcheck.proofs.Covering.Following.{learn_follows}
 use Rattle.pkcheck.proofs.Covering.Refusing.{Fault, FaultIfErr, learn_refused, step_refused}
 use Rattle.pkcheck.specs.Stepping.{CoveredBy}
-use Rattle.pkcheck.proofs.Covering.Answering.{Answered, Word, covered_real, guess, IsGoing}
-use Rattle.pkcheck.proofs.Covering.Answering.{AsksGuess, Exactly, new_text, learn_exactly, covered}
+use Rattle.pkcheck.proofs.Covering.Answering.{Answered, covered_real, guess, IsGoing, AsksGuess}
+use Rattle.pkcheck.proofs.Covering.Answering.{Exactly, new_text, learn_exactly, covered}
 use Rattle.pkcheck.proofs.Covering.Answering.{covers_covered}
 use Rattle.pkcheck.proofs.Covering.Showing.{IsLonger, turn, wrong_learned, non_text_learned}
 use Rattle.pkcheck.proofs.Covering.Showing.{wrong_goes, non_text_goes, asks_goes, leaves_goes}
@@ -36,6 +32,7 @@ use Rattle.pkcheck.proofs.Covering.Showing.{past_refused, goes_past, left_nothin
 use Rattle.pkcheck.proofs.Covering.Showing.{raise_asks, raise_goes, raise_leaves, raise_is}
 use Rattle.pkcheck.proofs.Covering.Showing.{going_on}
 use Rattle.pkcheck.proofs.Covering.StepImports.{asks_once}
+use Rattle.pkcheck.proofs.Covering.Words.{Word, empty, longer}
 
 -- the knowledge covers each state in which a run gets here; and for each text, some run gets here
 -- in a covered state in which every unknown object is an answer with this text
@@ -51,10 +48,11 @@ stands_for_covered setting k = record {
   each = λ s h. h;
   real = λ s h. h.0;
   answers = λ v n. v.utf8;
-  some = λ v.
-      (covered v.text k,
-      (loosely v.text k (covered v.text k) (covers_covered v.text k), covered_real v.text k v.utf8),
-      covers_covered v.text k);
+  some = λ v. (
+    covered v.text k,
+    (loosely v.text k (covered v.text k) (covers_covered v.text k), covered_real v.text k v.utf8),
+    covers_covered v.text k,
+  );
 }
 
 -- any of the runs may be the witness
@@ -65,17 +63,6 @@ stands_for_all k Here h = record {
   answers = λ v n. tt;
   some = λ v. let m = h.some v in (m.0, h.real m.0 m.1, m.2);
 }
-
-abbrev pub empty : Word
-empty = record { text = []; utf8 = IsUtf8-nil }
-
-pub letter : IsUtf8 (97 ∷ [])
-letter = IsUtf8-from_ascii (97 ∷ [])
-    (IsAscii-from_all (97 ∷ [])
-    (All-cons (λ b. b < 128) 97 [] (omega arith) (All-nil (λ b. b < 128))))
-
-abbrev pub longer : Word → Word
-longer v = record { text = 97 ∷ v.text; utf8 = IsUtf8-append (97 ∷ []) v.text letter v.utf8 }
 
 module _ (p : Policy) (l : Bounds) (i : Instruction) (k : Knowledge) (Here : Arrivals)
     (h : Stands k Here) where
@@ -160,23 +147,33 @@ module _ (p : Policy) (l : Bounds) (i : Instruction) (k : Knowledge) (Here : Arr
   two_guesses u v ne a b =
       let same = same_pair a.0 a.1 b.0 b.1 (sym a.2 ∙ b.2) in (
         (at u, answer u, here u, h.answers u _, a.4),
-        (guess v.text b.0, guess v.text b.1, (at v, answer v, here v, h.answers v _, b.4),
-            differing u.text v.text a.0 a.1 b.0 b.1 ne a.3 same.0 same.1),
+        (
+          guess v.text b.0,
+          guess v.text b.1,
+          (at v, answer v, here v, h.answers v _, b.4),
+          differing u.text v.text a.0 a.1 b.0 b.1 ne a.3 same.0 same.1,
+        ),
       )
 
   unknown_fault : (v : Word) → IsLonger p v.text → advance Here.setting p l i k ≡ Err UnknownImport
       → HasFaultHere p l Here i reason.UnknownImport
   unknown_fault v long e =
       let a = guessed v (learn p (effect_as Here.setting i) i k) (exactly v) e in
-      let b = guessed (longer v) (learn p (effect_as Here.setting i) i k) (exactly (longer v)) e in
-      (guess v.text a.0, guess v.text a.1, two_guesses v (longer v) (longer_differs v.text) a b,
-          off p v.text a.0 a.1 (fault_at UnknownImport e (at v) Raise (there v)) long a.3)
+      let b =
+      guessed (longer v) (learn p (effect_as Here.setting i) i k) (exactly (longer v)) e in (
+        guess v.text a.0,
+        guess v.text a.1,
+        two_guesses v (longer v) (longer_differs v.text) a b,
+        off p v.text a.0 a.1 (fault_at UnknownImport e (at v) Raise (there v)) long a.3,
+      )
 
   -- every run imports the named pair
   pub off_list : (m n : List ℕ) → advance Here.setting p l i k ≡ Err (OffList m n)
       → AsksOffList p Here i m n
-  off_list m n e = (record { each = λ s g o. (fault_at (OffList m n) e s o g).1; some = some_run },
-      (fault_at (OffList m n) e some_run.0 Raise (h.real some_run.0 some_run.1)).0)
+  off_list m n e = (
+    record { each = λ s g o. (fault_at (OffList m n) e s o g).1; some = some_run },
+    (fault_at (OffList m n) e some_run.0 Raise (h.real some_run.0 some_run.1)).0,
+  )
 
   stuck : (b : Breach) → advance Here.setting p l i k ≡ Err (Lacks b)
       → InEachRun Here (IsStuck Here.setting i b)
@@ -206,8 +203,7 @@ module _ (p : Policy) (l : Bounds) (i : Instruction) (k : Knowledge) (Here : Arr
     answer empty,
     here empty,
     h.answers empty _,
-    goes_past
-        l (number_stored (effect_as Here.setting i) i) (effect_as Here.setting i) _
+    goes_past l (number_stored (effect_as Here.setting i) i) (effect_as Here.setting i) _
         (goes_on empty (learn p (effect_as Here.setting i) i k) (exactly empty) e)
         (fault_at TooLarge e (at empty) (answer empty) (there empty)),
   )
@@ -252,8 +248,7 @@ module _ (p : Policy) (l : Bounds) (i : Instruction) (k : Knowledge) (Here : Arr
   exactly_err : (q : Refusal) → learn p (effect_as Here.setting i) i k ≡ Err q → (v : Word)
       → Exactly v.text (effect_as Here.setting i) k (at v)
       (step_as Here.setting i (at v) (answer v)) (Err q)
-  exactly_err q e v = subst
-      (λ x. Exactly v.text (effect_as Here.setting i) k (at v)
+  exactly_err q e v = subst (λ x. Exactly v.text (effect_as Here.setting i) k (at v)
       (step_as Here.setting i (at v) (answer v)) x) e (exactly v)
 
   stuck_lacks : (b : Breach) → step_as Here.setting i (at empty) (answer empty) ≡ Stuck b
@@ -277,24 +272,27 @@ module _ (p : Policy) (l : Bounds) (i : Instruction) (k : Knowledge) (Here : Arr
   pub lacks_refused : (b : Breach) → InEachRun Here (IsStuck Here.setting i b) → By (Lacks b)
   lacks_refused b f =
       let st : step_as Here.setting i (at empty) (answer empty) ≡ Stuck b =
-          f.each (at empty) (there empty) (answer empty) in
+      f.each (at empty) (there empty) (answer empty) in
       by_ (Lacks b)
-          (λ q e. absurd
-          (subst (λ x. FollowsBy IsObject q (at empty) x) st
-          (follows_ok q e (at empty) (answer empty) (there empty))))
+      (λ q e. absurd
+      (subst (λ x. FollowsBy IsObject q (at empty) x) st
+      (follows_ok q e (at empty) (answer empty) (there empty))))
       (λ q e. (Lacks b, refuses (Lacks b) (e ∙ ap Err (stuck_lacks b st q e)), omega arith))
-          (learn p (effect_as Here.setting i) i k) refl
+      (learn p (effect_as Here.setting i) i k) refl
 
   pub wrong_refused : InEachRun Here (HasWrongReceiver (effect_as Here.setting i)) → By WrongClass
-  wrong_refused f =
-      (WrongClass, refuses WrongClass
-      (wrong_learned [] p i k (at empty) (h.some empty).2 (effect_as Here.setting i)
-      (f.each (at empty) (there empty))), omega arith)
+  wrong_refused f = (
+    WrongClass,
+    refuses WrongClass
+        (wrong_learned [] p i k (at empty) (h.some empty).2 (effect_as Here.setting i)
+        (f.each (at empty) (there empty))),
+    omega arith,
+  )
 
   pub text_refused : InEachRun Here (HasNonText (effect_as Here.setting i)) → By NotText
   text_refused f =
       elim (non_text_learned [] p i k (at empty) (h.some empty).2 (effect_as Here.setting i)
-          (f.each (at empty) (there empty))) as (λ _. By NotText) [
+      (f.each (at empty) (there empty))) as (λ _. By NotText) [
         | inl e ↦ (NotText, refuses NotText e, omega arith)
         | inr e ↦ (WrongClass, refuses WrongClass e, omega arith)
       ]
@@ -324,9 +322,9 @@ module _ (p : Policy) (l : Bounds) (i : Instruction) (k : Knowledge) (Here : Arr
       let f = a.0 in
       let (x, y, g, differ) = a.1 in
       let first = asks_once c d m n f.0 (step_as Here.setting i f.0 f.1)
-          (fault_of (OffList c d) e f.0 f.1 (h.real f.0 f.2)).1 f.4 in
+      (fault_of (OffList c d) e f.0 f.1 (h.real f.0 f.2)).1 f.4 in
       let second = asks_once c d x y g.0 (step_as Here.setting i g.0 g.1)
-          (fault_of (OffList c d) e g.0 g.1 (h.real g.0 g.2)).1 g.4 in
+      (fault_of (OffList c d) e g.0 g.1 (h.real g.0 g.2)).1 g.4 in
       absurd (differ (sym first.0 ∙ second.0) (sym first.1 ∙ second.1))
   unknown_refused_by m n a LeftOver e = let f = a.0 in
       leaves_asks m n f.0 (step_as Here.setting i f.0 f.1)
@@ -350,11 +348,11 @@ module _ (p : Policy) (l : Bounds) (i : Instruction) (k : Knowledge) (Here : Arr
   pub left_refused : InEachRun Here (LeavesMoreThere Here.setting i) → By LeftOver
   left_refused f =
       by_ LeftOver
-          (λ q e. absurd
-          (left_nothing q (at empty) _ (follows_ok q e (at empty) (answer empty) (there empty))
-          (f.each (at empty) (there empty) (answer empty))))
-          (λ q e. left_by (f.each (at empty) (there empty) (answer empty)) q e)
-          (learn p (effect_as Here.setting i) i k) refl
+      (λ q e. absurd
+      (left_nothing q (at empty) _ (follows_ok q e (at empty) (answer empty) (there empty))
+      (f.each (at empty) (there empty) (answer empty))))
+      (λ q e. left_by (f.each (at empty) (there empty) (answer empty)) q e)
+      (learn p (effect_as Here.setting i) i k) refl
 
   raise_by : (q : Refusal) → learn p (effect_as Here.setting i) i k ≡ Err q → By NotAscii
   raise_by (Lacks b) e = (Lacks b, refuses (Lacks b) e, (let t = lacks_turn b in omega (arith, t)))
@@ -376,16 +374,18 @@ module _ (p : Policy) (l : Bounds) (i : Instruction) (k : Knowledge) (Here : Arr
   pub raise_refused : InEachRun Here (RaisesThere Here.setting i) → By NotAscii
   raise_refused f =
       by_ NotAscii
-          (λ q e. absurd
-          (going_on _ _ (going_at q e) (f.each (at empty) (there empty) (answer empty))))
-          (λ q e. raise_by q e) (learn p (effect_as Here.setting i) i k) refl
+      (λ q e. absurd
+      (going_on _ _ (going_at q e) (f.each (at empty) (there empty) (answer empty))))
+      (λ q e. raise_by q e) (learn p (effect_as Here.setting i) i k) refl
 
   pub large_refused : GoesPast l Here i → By TooLarge
   large_refused f =
       by_ TooLarge
-          (λ q e.
-          (TooLarge, passes q e ∙ past_refused l (number_stored (effect_as Here.setting i) i) q f.0
-          (step_as Here.setting i f.0 f.1) (follows_ok q e f.0 f.1 (h.real f.0 f.2)) f.4,
-          omega arith))
+      (λ q e. (
+        TooLarge,
+        passes q e ∙ past_refused l (number_stored (effect_as Here.setting i) i) q f.0
+            (step_as Here.setting i f.0 f.1) (follows_ok q e f.0 f.1 (h.real f.0 f.2)) f.4,
+        omega arith,
+      ))
       (λ q e. (q, refuses q e, (let t = last_turn q in omega (arith, t))))
-          (learn p (effect_as Here.setting i) i k) refl
+      (learn p (effect_as Here.setting i) i k) refl

@@ -21,7 +21,7 @@ pub one_pair : (m n x y : List ℕ) → ◌≡◌ {A = List (List ℕ × List �
     → (m ≡ x) × (n ≡ y)
 one_pair m n x y e =
     let pick = λ (l : List (List ℕ × List ℕ)).
-        elim l as (λ _. List ℕ × List ℕ) [ [] ↦ (m, n) | q ∷ qs ↦ q ] in
+    elim l as (λ _. List ℕ × List ℕ) [ [] ↦ (m, n) | q ∷ qs ↦ q ] in
     (ap (λ l. (pick l).0) e, ap (λ l. (pick l).1) e)
 
 -- two descriptions of a step give the same imports
@@ -29,9 +29,12 @@ pub same_added : (a b : Option Asked) (x y : List Event) → Adds a x y → Adds
     → (ps : List (List ℕ × List ℕ)) × IsAsked a ps × IsAsked b ps
 same_added a b x y h g =
     let q = added a x y h in
-    let r = added b x y g in
-    (q.0, q.2, subst (IsAsked b) (sym (append_cancel_left (imports_of x) q.0 r.0 (sym q.1 ∙ r.1)))
-        r.2)
+    let r = added b x y g in (
+      q.0,
+      q.2,
+      subst (IsAsked b) (sym (append_cancel_left (imports_of x) q.0 r.0 (sym q.1 ∙ r.1)))
+          r.2,
+    )
 
 pub pairs_same : (m n x y : List ℕ) (before after : List Event)
     → Adds (Some (AskedPair m n)) before after → Adds (Some (AskedPair x y)) before after
@@ -77,7 +80,7 @@ pub off_is_out : (list : List ℕ → List ℕ → Bool) (a : Option Asked) (m n
 off_is_out list None m n h g e = g
 off_is_out list (Some (AskedPair x y)) m n h g e =
     let yes : list m n ≡ true = subst (λ z. list m z ≡ true) g.1
-        (subst (λ z. list z y ≡ true) g.0 h) in
+    (subst (λ z. list z y ≡ true) g.0 h) in
     cc
 off_is_out list (Some AskedUnknown) m n h g e = h
 

@@ -58,7 +58,7 @@ member_other : (k m : Text) (v : Data) (rest : Members) → bytes_eq k m ≡ fal
     → get_member m (member k v rest) ≡ get_member m rest
 member_other k m v rest e =
     elim (slice_cmp nat_cmp m k) as (λ o. is_eq o ≡ false
-        → match_ordering o (get_member m rest) (Some v) (get_member m rest) ≡ get_member m rest) [
+    → match_ordering o (get_member m rest) (Some v) (get_member m rest) ≡ get_member m rest) [
       | Less ↦ λ h. refl
       | Equal ↦ λ h. cc
       | Greater ↦ λ h. refl
@@ -68,7 +68,7 @@ member_same : (k m : Text) (v : Data) (rest : Members) → bytes_eq k m ≡ true
     → get_member m (member k v rest) ≡ Some v
 member_same k m v rest e =
     elim (slice_cmp nat_cmp m k) as (λ o. is_eq o ≡ true
-        → match_ordering o (get_member m rest) (Some v) (get_member m rest) ≡ Some v) [
+    → match_ordering o (get_member m rest) (Some v) (get_member m rest) ≡ Some v) [
       | Less ↦ λ h. cc
       | Equal ↦ λ h. refl
       | Greater ↦ λ h. cc
@@ -120,11 +120,11 @@ pub item_step : (n : Text) (values : List Value) (i : ℕ) (d x : Value) (s t : 
 item_step n values i d x s t all lt is h now =
     let e = items_have_step n values i d lt in
     rw h
-        (one_more_name (is_this_text n (view x)) (contains_text s n)
-        (items_have n (items_view (drop (i + 1) values)))
-        ∙ ap (λ b. contains_text s n || b)
-        (ap (λ y. is_this_text n (view y) || items_have n (items_view (drop (i + 1) values)))
-        (sym is) ∙ sym e) ∙ now)
+    (one_more_name (is_this_text n (view x)) (contains_text s n)
+    (items_have n (items_view (drop (i + 1) values)))
+    ∙ ap (λ b. contains_text s n || b)
+    (ap (λ y. is_this_text n (view y) || items_have n (items_view (drop (i + 1) values)))
+    (sym is) ∙ sym e) ∙ now)
 
 pub item_end : (n : Text) (values : List Value) (i : ℕ) (s : TextSet) (all : Bool)
     → length values ≤ i → (contains_text s n || items_have n (items_view (drop i values))) ≡ all

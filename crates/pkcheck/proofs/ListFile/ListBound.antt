@@ -39,9 +39,11 @@ PairBoundOf has = (bound : ℕ)
 items_bound : (values : Items) → BoundOf (λ name. items_have name values)
 items_bound no_items = (0, λ name h. cc)
 items_bound (item (string s) rest) =
-    let (bound, below) = items_bound rest in
-    (length s + bound, λ name h. either_bound (bytes_eq s name) (items_have name rest) (length name)
-        (length s) bound (same_length s name) (below name) h)
+    let (bound, below) = items_bound rest in (
+      length s + bound,
+      λ name h. either_bound (bytes_eq s name) (items_have name rest) (length name)
+          (length s) bound (same_length s name) (below name) h,
+    )
 items_bound (item (integer _) rest) = items_bound rest
 items_bound (item (float _) rest) = items_bound rest
 items_bound (item (boolean _) rest) = items_bound rest
@@ -64,14 +66,14 @@ member_bound : (order : Ordering) (key first name : Text) (value : Data) (rest :
     → (has_name name (Some value) ≡ true → length name ≤ n)
     → (has_name name (get_member key rest) ≡ true → (length key ≤ s) × (length name ≤ s))
     → has_name name (match_ordering order (get_member key rest) (Some value) (get_member key rest))
-        ≡ true
+    ≡ true
     → (length key ≤ length first + n + s) × (length name ≤ length first + n + s)
 member_bound Less key first name value rest n s e here below h = let r = below h in
     (omega arith, omega arith)
 member_bound Equal key first name value rest n s e here below h =
     let r = here h in
     let t = same_length first key
-        (bytes_eq_sym key first (sym (is_eq-slice_cmp key first) ∙ ap is_eq (sym e))) in
+    (bytes_eq_sym key first (sym (is_eq-slice_cmp key first) ∙ ap is_eq (sym e))) in
     (omega arith, omega arith)
 member_bound Greater key first name value rest n s e here below h = let r = below h in
     (omega arith, omega arith)
@@ -100,8 +102,8 @@ imports_bound (Some (datetime _)) = (0, λ key name h. cc)
 -- an upper bound on the length of the modules and names of a list
 pub lists_bound : (list : Allow)
     → (bound : ℕ)
-        × ((key name : Text) → lists list key name ≡ true → (length key ≤ bound)
-        × (length name ≤ bound))
+    × ((key name : Text) → lists list key name ≡ true → (length key ≤ bound)
+    × (length name ≤ bound))
 lists_bound list = imports_bound (get_member (codes "imports") (document_of list))
 
 -- one more pair: the requested module and name are its own, or those of a later pair

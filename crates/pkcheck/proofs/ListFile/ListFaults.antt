@@ -47,9 +47,9 @@ keys_is limited (member key value rest) =
 module_is : (key : Text) (value : Data) → IsOfRule (module_fault key value)
 module_is key (array values) =
     or_else_is (kept_or (not (length key == 0)) (Shape part.Module))
-        (kept_or (are_names values) (Shape part.Name))
+    (kept_or (are_names values) (Shape part.Name))
     (kept_or_is (not (length key == 0)) (Shape part.Module) (λ h. cc))
-        (kept_or_is (are_names values) (Shape part.Name) (λ h. cc))
+    (kept_or_is (are_names values) (Shape part.Name) (λ h. cc))
 module_is key (string _) = λ h. cc
 module_is key (integer _) = λ h. cc
 module_is key (float _) = λ h. cc
@@ -88,7 +88,7 @@ each_limit_is : (most : Bounds) (limits : Members) → IsOfRule (each_limit_faul
 each_limit_is most no_members = λ h. cc
 each_limit_is most (member key value rest) =
     or_else_is (key_fault most key value) (each_limit_fault most rest) (key_is most key value)
-        (each_limit_is most rest)
+    (each_limit_is most rest)
 
 large_is : (value : Option Data) → IsOfRule (large_fault value)
 large_is (Some value) = kept_or_is (is_true_value value) (Shape part.Limit) (λ h. cc)
@@ -98,7 +98,7 @@ table_is : (limits : Members) → IsOfRule (table_fault limits)
 table_is limits =
     let is = get_member (codes "large") limits in
     or_else_is (large_fault is) (each_limit_fault (greatest_where (is_large is)) limits)
-        (large_is is) (each_limit_is (greatest_where (is_large is)) limits)
+    (large_is is) (each_limit_is (greatest_where (is_large is)) limits)
 
 limits_is : (value : Option Data) → IsOfRule (limits_fault value)
 limits_is None = λ h. cc
@@ -117,9 +117,9 @@ fault_is document =
     let limits = get_member (codes "limits") document in
     let limited = is_two version in
     let behind = or_else_is (imports_fault imports) (limits_fault limits) (imports_is imports)
-        (limits_is limits) in
+    (limits_is limits) in
     or_else_is (version_fault version)
-        (or_else (keys_fault limited document)
-        (or_else (imports_fault imports) (limits_fault limits))) (version_is version)
+    (or_else (keys_fault limited document)
+    (or_else (imports_fault imports) (limits_fault limits))) (version_is version)
     (or_else_is (keys_fault limited document)
-        (or_else (imports_fault imports) (limits_fault limits)) (keys_is limited document) behind)
+    (or_else (imports_fault imports) (limits_fault limits)) (keys_is limited document) behind)

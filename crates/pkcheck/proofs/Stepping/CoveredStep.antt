@@ -26,7 +26,7 @@ use Rattle.pkcheck.specs.Stepping.{IsPermitted, IsStep, MayLackMemory, MeansInEa
 use Rattle.pkcheck.specs.Stepping.{PassesNoFault, RefusesForGood, UnknownIsNeeded}
 use Rattle.pkcheck.proofs.Covering.Following.{step_follows}
 use Rattle.pkcheck.proofs.Covering.Soundness.{PassesListed, advance_listed}
-use Rattle.pkcheck.proofs.Covering.Answering.{Word}
+use Rattle.pkcheck.proofs.Covering.Words.{Word}
 use Rattle.pkcheck.proofs.Covering.Showing.{IsLonger}
 use Rattle.pkcheck.proofs.Stepping.Extensions.{no_extension}
 use Rattle.pkcheck.proofs.Stepping.Settings.{wants_no_memory, wants_no_registry}
@@ -77,8 +77,11 @@ module _ (p : Policy) (i : Instruction) (before after : View) where
         )
 
     pub permitted_by : AppendsPermitted p before.imports after.imports
-    permitted_by = (g.0.import, ap (λ (m : View). m.imports) g.2,
-        permitted_ok before.old_strings p before.limits i before.knowledge g.0 g.1)
+    permitted_by = (
+      g.0.import,
+      ap (λ (m : View). m.imports) g.2,
+      permitted_ok before.old_strings p before.limits i before.knowledge g.0 g.1,
+    )
 
     pub no_fault_by : PassesNoFault p i before after
     no_fault_by = no_fault p before.limits i before.knowledge
@@ -89,10 +92,10 @@ module _ (p : Policy) (i : Instruction) (before after : View) where
     unknown_by e =
         let (q, is, becomes, f) = g in
         unknown_exactly p before.limits i before.knowledge
-            (CoveredBy before.old_strings before.knowledge)
-            (stands_for_covered before.old_strings before.knowledge) q is
+        (CoveredBy before.old_strings before.knowledge)
+        (stands_for_covered before.old_strings before.knowledge) q is
         (one_more q.import before.imports AskedUnknown
-            (sym (ap (λ (m : View). m.imports) becomes) ∙ e))
+        (sym (ap (λ (m : View). m.imports) becomes) ∙ e))
 
     -- a step that is accepted
     pub goes_on : before.refused ≡ None → IsStep p i before after (Ok v)
@@ -117,9 +120,12 @@ module _ (p : Policy) (i : Instruction) (before after : View) where
         → FailsStep p i before after r
     denied pair becomes (inl (f, is, e, g)) = inl
         (f, is, e, becomes ∙ (λ j. record before { refused = Some r; off = g j }))
-    denied pair becomes (inr (wants, (e, g))) = inr
-        ((λ none. wants_no_memory before.old_strings i none wants), e, becomes
-        ∙ (λ j. record before { refused = Some r; off = g j }))
+    denied pair becomes (inr (wants, (e, g))) = inr (
+      (λ none. wants_no_memory before.old_strings i none wants),
+      e,
+      becomes
+          ∙ (λ j. record before { refused = Some r; off = g j }),
+    )
 
     pub memory_by : FailsStep p i before after r → MayLackMemory p i before after r
     memory_by (inl (f, is, e, becomes)) none lacks = no_memory f (sym e ∙ lacks)
@@ -127,25 +133,31 @@ module _ (p : Policy) (i : Instruction) (before after : View) where
 
     pub kept_by : FailsStep p i before after r → RefusesForGood before after r
     kept_by (inl (f, is, e, becomes)) =
-        record { imports = ap (λ (m : View). m.imports) becomes;
-        knowledge = ap (λ (m : View). m.knowledge) becomes; refused =
-        ap (λ (m : View). m.refused) becomes }
+        record {
+          imports = ap (λ (m : View). m.imports) becomes;
+          knowledge = ap (λ (m : View). m.knowledge) becomes;
+          refused =
+              ap (λ (m : View). m.refused) becomes;
+        }
     kept_by (inr (wants, e, becomes)) =
-        record { imports = ap (λ (m : View). m.imports) becomes;
-        knowledge = ap (λ (m : View). m.knowledge) becomes; refused =
-        ap (λ (m : View). m.refused) becomes }
+        record {
+          imports = ap (λ (m : View). m.imports) becomes;
+          knowledge = ap (λ (m : View). m.knowledge) becomes;
+          refused =
+              ap (λ (m : View). m.refused) becomes;
+        }
 
     module _ (v : Word) (long : IsLonger p v.text) (admitted : is_admitted i ≡ true) where
       pub alarm_by : FailsStep p i before after r → IsNoFalseAlarm p i before after r
       alarm_by (inr (wants, e, becomes)) = inr e
       alarm_by (inl (f, is, e, becomes)) =
           inl
-              (subst
-              (λ x. IsFirstFault p before.limits (CoveredBy before.old_strings before.knowledge) i x
-              after.off) (sym e)
           (subst
-              (IsFirstFault p before.limits (CoveredBy before.old_strings before.knowledge) i
-              (reason_of f)) (sym (ap (λ (m : View). m.off) becomes))
+          (λ x. IsFirstFault p before.limits (CoveredBy before.old_strings before.knowledge) i x
+          after.off) (sym e)
+          (subst
+          (IsFirstFault p before.limits (CoveredBy before.old_strings before.knowledge) i
+          (reason_of f)) (sym (ap (λ (m : View). m.off) becomes))
           (first_fault p before.limits i before.knowledge (CoveredBy before.old_strings
           before.knowledge) (stands_for_covered before.old_strings before.knowledge) v long f is
           (no_extension before.old_strings p before.limits i before.knowledge f

@@ -103,8 +103,13 @@ module _ (p : Policy) (takes : Takes) (names : Names) (gives : Gives) (i : Instr
     pub learn_passes : (a : Option Asked) → judged p names gives i t.operands ≡ Ok a
         → learn p (Operates takes names gives) i k
         ≡ Ok
-        (record { after = record { entries = put (known_given gives i) t.operands ++ t.below;
-        memo = k.memo }; import = a })
+        (record {
+          after = record {
+            entries = put (known_given gives i) t.operands ++ t.below;
+            memo = k.memo;
+          };
+          import = a;
+        })
     learn_passes a g = rw e
         (chosen (wrong_receiver gives t.operands) WrongClass (asked_of p names i t.operands) _ a g)
 
@@ -123,11 +128,15 @@ module _ (p : Policy) (takes : Takes) (names : Names) (gives : Gives) (i : Instr
       → known_given gives i ≡ Some v → l.stack ≤ length t.below
       → IsDenied (and_then (learn p (Operates takes names gives) i k) (within l 0))
       (record { reason = reason.TooLarge; pair = None })
-  room_denied l t a v e g j h =
-      (TooLarge, rw (learn_passes t e a g, j)
-      (within_past l 0
-      (record { after = record { entries = Item v ∷ t.below; memo = k.memo }; import = a })
-      (inl (omega arith))), refl, refl)
+  room_denied l t a v e g j h = (
+    TooLarge,
+    rw (learn_passes t e a g, j)
+        (within_past l 0
+        (record { after = record { entries = Item v ∷ t.below; memo = k.memo }; import = a })
+        (inl (omega arith))),
+    refl,
+    refl,
+  )
 
 pub may_give : (gives : Gives) (i : Instruction) (v : Known) → known_given gives i ≡ Some v
     → MayGive gives
@@ -204,10 +213,13 @@ module _ (p : Policy) (takes : Takes) (names : Names) (gives : Gives) (i : Instr
       → new ≡ put (known_given gives i) t.operands ++ t.below
       → after ≡ asks_more (option_map (named_asked us) a) before → b ≡ is_some a →
       Proceeds (learn p (Operates takes names gives) i k)
-          (record { entries = new; memo = k.memo }) before after b
-  does_pass new before after b e f g =
-      (option_map (named_asked us) a, rw e (learn_passes p takes names gives i k t found _ fits), f,
-      g ∙ some_named us a)
+      (record { entries = new; memo = k.memo }) before after b
+  does_pass new before after b e f g = (
+    option_map (named_asked us) a,
+    rw e (learn_passes p takes names gives i k t found _ fits),
+    f,
+    g ∙ some_named us a,
+  )
 
   pub unroomed : (ts : List (List ℕ)) (v : Option Value) → StandsIf ts v (known_given gives i)
       → (l : Bounds) (r : Reason) → IsSome v → WantsRoom l.stack (length t.below) r
@@ -256,7 +268,7 @@ module _ (p : Policy) (takes : Takes) (names : Names) (gives : Gives) (i : Instr
   create_denied l r v j s =
       elim s [
         | inl u ↦ inl
-              (rw u.0
-              (room_denied p takes names gives i k l _ None v nothing_taken nothing_asked j u.1))
+            (rw u.0
+            (room_denied p takes names gives i k l _ None v nothing_taken nothing_asked j u.1))
         | inr m ↦ inr (inr (may_give gives i v j), (m, refl))
       ]

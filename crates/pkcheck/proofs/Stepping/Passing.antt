@@ -44,21 +44,27 @@ module _ (p : Policy) (i : Instruction) (before after : View) (c : Class)
             (within before.limits (number_stored (effect_as before.old_strings i) i))) learned
             ∙ within_fits before.limits _ _ stack memo (rw e (omega arith)),
         becomes
-            ∙ (λ j. record before { knowledge = with_made c before.knowledge; stopped = running j;
-            texts = texts j }),
+            ∙ (λ j. record before {
+              knowledge = with_made c before.knowledge;
+              stopped = running j;
+              texts = texts j;
+            }),
         sym (ap (λ x. moved_as x None) e),
       )
 
   pub lacks_room : (r : Reason) → WantsRoom before.limits.stack (length before.knowledge.entries) r
       → after ≡ record before { refused = Some r; off = None } → FailsStep p i before after r
   lacks_room r (inl h) becomes =
-      inl
-          (TooLarge,
-          ap
-          (λ x. and_then x
-          (within before.limits (number_stored (effect_as before.old_strings i) i))) learned
-          ∙ within_past before.limits _
-          (record { after = with_made c before.knowledge; import = None })
-          (inl (let le = h.1 in omega (arith, le))), h.0, becomes)
+      inl (
+        TooLarge,
+        ap
+            (λ x. and_then x
+            (within before.limits (number_stored (effect_as before.old_strings i) i))) learned
+            ∙ within_past before.limits _
+            (record { after = with_made c before.knowledge; import = None })
+            (inl (let le = h.1 in omega (arith, le))),
+        h.0,
+        becomes,
+      )
   lacks_room r (inr h) becomes =
       inr ((λ none. wants_no_memory before.old_strings i none (rw e (inr tt))), h, becomes)

@@ -34,8 +34,10 @@ past_by l n k e =
     elim (or_split (ltb l.stack (length k.entries)) _ e) [
       | inl a ↦ inl (ltb-true _ _ a)
       | inr b ↦
-            elim (or_split (ltb l.memo (length k.memo)) _ b) [ inl c ↦ inr (inl (ltb-true _ _ c))
-            | inr d ↦ inr (inr (ltb-true _ _ d)) ]
+          elim (or_split (ltb l.memo (length k.memo)) _ b) [
+            | inl c ↦ inr (inl (ltb-true _ _ c))
+            | inr d ↦ inr (inr (ltb-true _ _ d))
+          ]
     ]
 
 pub within_past : (l : Bounds) (n : ℕ) (q : Progress) → PastBy l n q.after
@@ -46,5 +48,8 @@ within_past l n q h = ap (λ b. cond {A = Result Progress Refusal} b (Err TooLar
 pub within_fits : (l : Bounds) (n : ℕ) (q : Progress) → length q.after.entries ≤ l.stack
     → length q.after.memo ≤ l.memo → n ≤ l.numbers → within l n q ≡ Ok q
 within_fits l n q g h i =
-    rw (le-ltb l.stack (length q.after.entries) g, le-ltb l.memo (length q.after.memo) h,
-    le-ltb l.numbers n i) refl
+    rw (
+      le-ltb l.stack (length q.after.entries) g,
+      le-ltb l.memo (length q.after.memo) h,
+      le-ltb l.numbers n i,
+    ) refl

@@ -32,13 +32,13 @@ pub of_action : (setting : OldStrings) (i : Instruction) (o : Op) (a b : Action)
     → effect_as setting i ≡ effect_by o b
 of_action setting i o a b same e old is none =
     not_old setting ∙ (sym (ap effect_of same) ∙ (e ∙ ap (effect_by o) is)) where
-  no : is_old_string i.op ≡ false
-  no = sym (ap is_old_string same) ∙ (old ∙ (ap is_reading is ∙ none))
+      no : is_old_string i.op ≡ false
+      no = sym (ap is_old_string same) ∙ (old ∙ (ap is_reading is ∙ none))
 
-  not_old : (s : OldStrings) → effect_as s i ≡ effect_of i.op
-  not_old Unknown = refl
-  not_old Ascii = rw no refl
-  not_old Bytes = rw no refl
+      not_old : (s : OldStrings) → effect_as s i ≡ effect_of i.op
+      not_old Unknown = refl
+      not_old Ascii = rw no refl
+      not_old Bytes = rw no refl
 
 old_of : (o : Op) → is_old_string o ≡ true → effect_of o ≡ answers (Objects 0)
 old_of op.String e = refl

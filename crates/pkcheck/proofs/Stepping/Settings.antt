@@ -38,16 +38,16 @@ by_setting : (P : Effect → Type 0) (setting : OldStrings) (i : Instruction) �
 by_setting P Unknown i h t r b = h
 by_setting P Ascii i h t r b =
     elim (is_old_string i.op) as (λ c. is_old_string i.op ≡ c
-        → P (cond c (ascii_string (unwrap_or (old_bytes i) [])) (effect_of i.op))) [
+    → P (cond c (ascii_string (unwrap_or (old_bytes i) [])) (effect_of i.op))) [
       | true ↦ λ e.
-            elim (list_all is_ascii (unwrap_or (old_bytes i) [])) as (λ c.
-            P (cond c makes_text_effect Raises)) [ true ↦ t e | false ↦ r e ]
+          elim (list_all is_ascii (unwrap_or (old_bytes i) [])) as (λ c.
+          P (cond c makes_text_effect Raises)) [ true ↦ t e | false ↦ r e ]
       | false ↦ λ e. h
     ] refl
 by_setting P Bytes i h t r b =
     elim (is_old_string i.op) as (λ c. is_old_string i.op ≡ c
-        → P (cond c (pushes class.Bytes) (effect_of i.op))) [ true ↦ λ e. b e | false ↦ λ e. h ]
-        refl
+    → P (cond c (pushes class.Bytes) (effect_of i.op))) [ true ↦ λ e. b e | false ↦ λ e. h ]
+    refl
 
 -- ---- STOP
 
@@ -93,9 +93,9 @@ pub same_end : (setting : OldStrings) (i : Instruction) (a : Option Asked)
     → stopped_by (moved_as (effect_as setting i) a) ≡ is_ended (phase_after i.op)
 same_end setting i a =
     by_setting (λ x. stopped_by (moved_as x a) ≡ is_ended (phase_after i.op)) setting i
-        (same_end_of i.op a)
+    (same_end_of i.op a)
     (said_on i.op makes_text_effect a text_on) (said_on i.op Raises a raise_on)
-        (said_on i.op (pushes class.Bytes) a bytes_on)
+    (said_on i.op (pushes class.Bytes) a bytes_on)
 
 -- ---- extension codes
 
@@ -146,7 +146,7 @@ pub wants_no_memory : (setting : OldStrings) (i : Instruction) → WantsNoMemory
     → MayWantMemory (effect_as setting i) → ⊥
 wants_no_memory setting i h =
     by_setting (λ x. MayWantMemory x → ⊥) setting i (wants_none i.op h) (λ o w. old_wants i.op o h)
-        (λ o w. old_wants i.op o h) (λ o w. old_wants i.op o h)
+    (λ o w. old_wants i.op o h) (λ o w. old_wants i.op o h)
 
 -- ---- payloads that may be skipped
 
@@ -190,24 +190,24 @@ pub texts_by_setting : (setting : OldStrings) (i : Instruction) (count : ℕ)
 texts_by_setting Unknown i count = λ n. texts_by_opcode i.op count
 texts_by_setting Ascii i count =
     elim (is_old_string i.op) as (λ c. is_old_string i.op ≡ c
-        → (cond c (ascii_string (unwrap_or (old_bytes i) [])) (effect_of i.op) ≡ Raises → ⊥)
-        → texts_after (cond c (ascii_string (unwrap_or (old_bytes i) [])) (effect_of i.op)) count
-        ≡ texts_then Ascii i.op count) [
+    → (cond c (ascii_string (unwrap_or (old_bytes i) [])) (effect_of i.op) ≡ Raises → ⊥)
+    → texts_after (cond c (ascii_string (unwrap_or (old_bytes i) [])) (effect_of i.op)) count
+    ≡ texts_then Ascii i.op count) [
       | true ↦ λ e.
-            elim (list_all is_ascii (unwrap_or (old_bytes i) [])) as (λ c.
-            (cond c makes_text_effect Raises ≡ Raises → ⊥)
-            → texts_after (cond c makes_text_effect Raises) count ≡ texts_then Ascii i.op count) [
-        | true ↦ λ n. rw (or_true (makes_text i.op) (is_old_string i.op) e) refl
-        | false ↦ λ n. absurd (n refl)
-      ]
+          elim (list_all is_ascii (unwrap_or (old_bytes i) [])) as (λ c.
+          (cond c makes_text_effect Raises ≡ Raises → ⊥)
+          → texts_after (cond c makes_text_effect Raises) count ≡ texts_then Ascii i.op count) [
+            | true ↦ λ n. rw (or_true (makes_text i.op) (is_old_string i.op) e) refl
+            | false ↦ λ n. absurd (n refl)
+          ]
       | false ↦ λ e n. texts_by_opcode i.op count
-            ∙ rw (or_false (makes_text i.op) (is_old_string i.op) e) refl
+          ∙ rw (or_false (makes_text i.op) (is_old_string i.op) e) refl
     ] refl
 texts_by_setting Bytes i count =
     elim (is_old_string i.op) as (λ c. is_old_string i.op ≡ c
-        → (cond c (pushes class.Bytes) (effect_of i.op) ≡ Raises → ⊥)
-        → texts_after (cond c (pushes class.Bytes) (effect_of i.op)) count
-        ≡ texts_then Bytes i.op count) [
+    → (cond c (pushes class.Bytes) (effect_of i.op) ≡ Raises → ⊥)
+    → texts_after (cond c (pushes class.Bytes) (effect_of i.op)) count
+    ≡ texts_then Bytes i.op count) [
       | true ↦ λ e n. rw (no_text i.op e) refl
       | false ↦ λ e n. texts_by_opcode i.op count
     ] refl

@@ -27,18 +27,23 @@ on_from t same =
 pub again_true : (o s t : ReaderState) (r : Result Bool ReadRefusal) → o ≡ s
     → IfOk r (λ more. StepsAgain o (Ok more) t) → r ≡ Ok true
     → Takes s.source t.source [] × (t.phase ≡ Open) × (t.taken ≡ s.taken) × (t.limits ≡ s.limits)
-again_true o s t (Ok true) same (room, takes, is) e =
-    (subst (λ z. Takes z.source t.source []) same takes, ap (λ x. x.phase) is,
-    ap (λ x. x.taken) (is ∙ on_from t same), ap (λ x. x.limits) (is ∙ on_from t same))
+again_true o s t (Ok true) same (room, takes, is) e = (
+  subst (λ z. Takes z.source t.source []) same takes,
+  ap (λ x. x.phase) is,
+  ap (λ x. x.taken) (is ∙ on_from t same),
+  ap (λ x. x.limits) (is ∙ on_from t same),
+)
 again_true o s t (Ok false) same h e = absurd cc
 again_true o s t (Err x) same h e = absurd cc
 
 pub again_false : (o s t : ReaderState) (r : Result Bool ReadRefusal) → o ≡ s
     → IfOk r (λ more. StepsAgain o (Ok more) t) → r ≡ Ok false
     → Takes s.source t.source [] × IsAtEnd t.source.left × (s.taken < all_bytes)
-again_false o s t (Ok false) same (room, takes, is) e =
-    (subst (λ z. Takes z.source t.source []) same takes, is.0,
-    subst (λ z. z.taken < all_bytes) same room)
+again_false o s t (Ok false) same (room, takes, is) e = (
+  subst (λ z. Takes z.source t.source []) same takes,
+  is.0,
+  subst (λ z. z.taken < all_bytes) same room,
+)
 again_false o s t (Ok true) same h e = absurd cc
 again_false o s t (Err x) same h e = absurd cc
 

@@ -29,7 +29,7 @@ use Rattle.pkcheck.specs.RowRuns.{Afresh, Beginning, listed_before}
 use Rattle.pkcheck.specs.RunFaults.{HasRunFault, IsFaultless, RunsFrom}
 use Rattle.pkcheck.specs.Faults.{HasFaultHere, everyone}
 use Rattle.pkcheck.specs.Heard.{refused_instruction}
-use Rattle.pkcheck.proofs.Covering.Answering.{Word}
+use Rattle.pkcheck.proofs.Covering.Words.{Word}
 use Rattle.pkcheck.proofs.Covering.Verdicts.{Yes, verdict}
 use Rattle.pkcheck.specs.Stepping.{StepWantsMemory}
 use Rattle.pkcheck.specs.View.{View, fresh, stopped_by, off_pair}
@@ -138,9 +138,9 @@ module _ (setting : OldStrings) (policy : Policy) (limits : Bounds) (old : Sight
         (asked ++ g.1.1.0.import ∷ []) t is_open n
     checked_took t is_open n at i took (frames, (v, (q, passes, becomes, moved))) =
         let passes' : advance setting policy limits i m.knowledge
-            ≡ Ok q = subst (λ o. advance o policy limits i m.knowledge ≡ Ok q) h.same_setting
-            (subst (λ l. advance m.old_strings policy l i m.knowledge ≡ Ok q) h.same_limits
-            passes) in
+        ≡ Ok q = subst (λ o. advance o policy limits i m.knowledge ≡ Ok q) h.same_setting
+        (subst (λ l. advance m.old_strings policy l i m.knowledge ≡ Ok q) h.same_limits
+        passes) in
         record {
           laws = h.laws;
           begins = h.begins;
@@ -213,7 +213,7 @@ module _ (setting : OldStrings) (policy : Policy) (limits : Bounds) (old : Sight
     abbrev pub RefusedAfter : ℕ → Reason → Option Asked → Sight → List Instruction → Type 0
     RefusedAfter at reason pair new q =
         (r : RefusedFrom origin.at setting origin.beginning policy limits old new at reason pair)
-            × (r.instructions ++ refused_instruction r.why ≡ q)
+        × (r.instructions ++ refused_instruction r.why ≡ q)
 
     -- a No that states this refusal
     pub refusal_of : (at : ℕ) (reason : Reason) (off pair : Option Asked) (answer : No)
@@ -360,12 +360,12 @@ module _ (setting : OldStrings) (policy : Policy) (limits : Bounds) (old : Sight
         refused_by_machine n why ((is_open, o), inr g) = lacks_memory n why g
         refused_by_machine n why ((is_open, o), inl (f, e, is, becomes)) =
             let e' : advance setting policy limits i m.knowledge
-                ≡ Err f = subst (λ o. advance o policy limits i m.knowledge ≡ Err f) h.same_setting
-                (subst (λ l. advance m.old_strings policy l i m.knowledge ≡ Err f) h.same_limits
-                e) in
+            ≡ Err f = subst (λ o. advance o policy limits i m.knowledge ≡ Err f) h.same_setting
+            (subst (λ l. advance m.old_strings policy l i m.knowledge ≡ Err f) h.same_limits
+            e) in
             subst (λ x. IsWhy x n.off) (sym is)
-                (subst (λ x. IsWhy (reason_of f) x) (sym (ap (λ x. x.off) becomes))
-                (judging (judged is_open f o e'), refl))
+            (subst (λ x. IsWhy (reason_of f) x) (sym (ap (λ x. x.off) becomes))
+            (judging (judged is_open f o e'), refl))
 
         is_refused : (n : View) (why : Reason) → IsRefused policy i still_open m n why
             → IsWhy why n.off
@@ -379,8 +379,8 @@ module _ (setting : OldStrings) (policy : Policy) (limits : Bounds) (old : Sight
         refused_took n why pair g is =
             let w = is_refused n why g in
             subst (λ x. RefusedAfter at why x new (p ++ i ∷ [])) (sym is)
-                (subst (RefusedAfter at why n.off new) (ap (λ q. p ++ q) w.1)
-                (refused_here at why n.off new took.more.no_stop took.place w.0))
+            (subst (RefusedAfter at why n.off new) (ap (λ q. p ++ q) w.1)
+            (refused_here at why n.off new took.more.no_stop took.place w.0))
 
     -- no read failed if the frame rules or the machine refuse
     pub count_took : (t : ReaderState) (at : ℕ) (i : Instruction) (new : Sight) (place : ℕ)

@@ -80,8 +80,8 @@ more_same : (xs ys : List Object) (a b : Object) → a.class_of ≡ b.class_of �
     → classes (xs ++ a ∷ []) ≡ classes (ys ++ b ∷ [])
 more_same xs ys a b k e =
     map-append (λ (o : Object). o.class_of) xs (a ∷ []) ∙ ap (λ cs. cs ++ a.class_of ∷ []) e
-        ∙ ap (λ c. classes ys ++ c ∷ []) k
-        ∙ sym (map-append (λ (o : Object). o.class_of) ys (b ∷ []))
+    ∙ ap (λ c. classes ys ++ c ∷ []) k
+    ∙ sym (map-append (λ (o : Object). o.class_of) ys (b ∷ []))
 
 -- ---- one step
 
@@ -126,10 +126,19 @@ module _ (xs ys : List Object) (e : classes xs ≡ classes ys) where
     put_same : (x y : Option ℕ × List Object) (i : Instruction) (taken : Taken ℕ) (es : List Event)
         → SameGiven x y →
         Same
-            (record { shape = record { entries = put x.0 taken.operands ++ taken.below;
-            memo = h.memo }; objects = x.1; events = es ++ Did i taken.operands x.0 ∷ [] })
-        (record { shape = record { entries = put y.0 taken.operands ++ taken.below; memo = h.memo };
-            objects = y.1; events = es ++ Did i taken.operands y.0 ∷ [] })
+        (record {
+          shape = record {
+            entries = put x.0 taken.operands ++ taken.below;
+            memo = h.memo;
+          };
+          objects = x.1;
+          events = es ++ Did i taken.operands x.0 ∷ [];
+        })
+        (record {
+          shape = record { entries = put y.0 taken.operands ++ taken.below; memo = h.memo };
+          objects = y.1;
+          events = es ++ Did i taken.operands y.0 ∷ [];
+        })
     put_same x y i taken es g = record {
       shape = ap (λ o. record { entries = put o taken.operands ++ taken.below; memo = h.memo }) g.0;
       events = ap (λ o. es ++ Did i taken.operands o ∷ []) g.0;
@@ -157,10 +166,10 @@ module _ (xs ys : List Object) (e : classes xs ≡ classes ys) where
         (operate_step names gives i o (state h ys es) x)
     operate_same names gives i o es (Ok taken) =
         subst
-            (λ cs. SameStep
-            (operated (named names i (map (class_at xs) taken.operands)) gives i taken o
-            (state h xs es)) (operated (named names i cs) gives i taken o (state h ys es)))
-            (classes_same xs ys taken.operands e)
+        (λ cs. SameStep
+        (operated (named names i (map (class_at xs) taken.operands)) gives i taken o
+        (state h xs es)) (operated (named names i cs) gives i taken o (state h ys es)))
+        (classes_same xs ys taken.operands e)
         (operated_same (named names i (map (class_at xs) taken.operands)) gives i taken o es)
     operate_same names gives i o es (Err b) = tt
 
@@ -190,12 +199,13 @@ module _ (xs ys : List Object) (e : classes xs ≡ classes ys) where
     makes_matches : (gives : Gives) (kind : ObjectClass) (i : Instruction) (o : Outcome)
         (es : List Event) → asks gives ≡ false → given gives i 0 Foreign xs ≡ made_new kind xs
         → Matches (Operates (Objects 0) NoName gives) i o es
-    makes_matches gives kind i o es silent makes =
-        (Go (length ys) kind,
-            rw silent
-            (put_same _ _ i (record { operands = []; below = h.entries }) es
-            (subst (λ g. SameGiven g (answered (length ys) kind ys)) (sym makes)
-            (pushed_same kind))))
+    makes_matches gives kind i o es silent makes = (
+      Go (length ys) kind,
+      rw silent
+          (put_same _ _ i (record { operands = []; below = h.entries }) es
+          (subst (λ g. SameGiven g (answered (length ys) kind ys)) (sym makes)
+          (pushed_same kind))),
+    )
 
     ascii_matches : (b : Bool) (i : Instruction) (o : Outcome) (es : List Event)
         → Matches (cond b (Operates (Objects 0) NoName MakesText) Raises) i o es
@@ -220,18 +230,19 @@ module _ (setting : OldStrings) where
       → (q : Outcome) × SameStep (step_as setting i s o) (step_as Unknown i t q)
   steps s t i o w =
       subst (λ z. (q : Outcome) × SameStep (step_as setting i s o) (step_as Unknown i z q))
-          (λ j. record { shape = w.shape j; objects = t.objects; events = w.events j })
+      (λ j. record { shape = w.shape j; objects = t.objects; events = w.events j })
       (step_matches s.objects t.objects w.objects s.shape setting
-          (is_old_string i.op) i o s.events refl)
+      (is_old_string i.op) i o s.events refl)
 
   -- a run whose first outcome is this one if the step asks
   begins : (b : Bool) (i : Instruction) (is : List Instruction) (t : State) (q : Outcome)
       (os : List Outcome) → effect_asks (effect_of i.op) ≡ b
       → (qs : List Outcome)
       × (run_as Unknown (i ∷ is) qs t ≡ go_on (step_as Unknown i t q) (run_as Unknown is os))
-  begins true i is t q os e =
-      (q ∷ os,
-      ap (λ c. go_on (step_as Unknown i t q) (run_as Unknown is (outcomes_after c (q ∷ os)))) e)
+  begins true i is t q os e = (
+    q ∷ os,
+    ap (λ c. go_on (step_as Unknown i t q) (run_as Unknown is (outcomes_after c (q ∷ os)))) e,
+  )
   begins false i is t q os e = (
     os,
     ap (λ c. go_on (step_as Unknown i t (first_outcome os))
@@ -271,7 +282,7 @@ module _ (setting : OldStrings) where
   runs (i ∷ is) os s t w =
       let (q, step) = steps s t i (first_outcome os) w in
       let (qs, on) = follows is (runs is) (outcomes_after (effect_asks (effect_as setting i)) os) _
-          _ step in
+      _ step in
       let (all, same) = begins (effect_asks (effect_of i.op)) i is t q qs refl in
       (all, subst (λ z. SameEnd (run_as setting (i ∷ is) os s) z) (sym same) on)
 
@@ -299,5 +310,5 @@ module _ (setting : OldStrings) where
 pub sound_in_each : SoundInEach
 sound_in_each setting is list sound os =
     let (qs, same) = runs setting is os start start
-        (record { shape = refl; events = refl; objects = refl }) in
+    (record { shape = refl; events = refl; objects = refl }) in
     ends_well setting list _ _ same (sound qs)

@@ -128,22 +128,33 @@ side limit bytes rest after j good fits e =
       | inl lt ↦
           let k = length bytes in
           let front : take k (spelling j) ≡ bytes =
-              sym (take-append-le k (spelling j) after (omega (arith, lt))) ∙ ap (take k) (sym e)
-              ∙ take-append_seam bytes rest in
+          sym (take-append-le k (spelling j) after (omega (arith, lt))) ∙ ap (take k) (sym e)
+          ∙ take-append_seam bytes rest in
           let lacks : drop k (spelling j) ≢ [] = λ none.
-              (let n = ap length none in omega (arith, n, length-drop k (spelling j), lt)) in
-          inl
-              ((j, drop k (spelling j),
-              record { may = record { suits = good.suits; within = λ _. fits };
-              parts = sym (take-append-drop k (spelling j))
-              ∙ ap (λ z. z ++ drop k (spelling j)) front; lacks = lacks }), lt)
+          (let n = ap length none in omega (arith, n, length-drop k (spelling j), lt)) in
+          inl (
+            (
+              j,
+              drop k (spelling j),
+              record {
+                may = record { suits = good.suits; within = λ _. fits };
+                parts = sym (take-append-drop k (spelling j))
+                    ∙ ap (λ z. z ++ drop k (spelling j)) front;
+                lacks = lacks;
+              },
+            ),
+            lt,
+          )
       | inr le ↦
           let n = length (spelling j) in
           let spelled : take n bytes ≡ spelling j = sym (take-append-le n bytes rest le)
-              ∙ ap (take n) e ∙ take-append_seam (spelling j) after in
+          ∙ ap (take n) e ∙ take-append_seam (spelling j) after in
           inr
-              (record { fits = le; spells = record { spelled = spelled; good = good };
-              within = fits })
+          (record {
+            fits = le;
+            spells = record { spelled = spelled; good = good };
+            within = fits;
+          })
     ]
 
 not_more : (j : Instruction) (n : ℕ) → Whole j n ≢ More
@@ -174,7 +185,7 @@ module _ (one : OneAnswer) (limit : ℕ) (bytes : List ℕ) (j : Instruction)
   not_barred (inl b) r (i, n, w, o) = not_more i n (one limit bytes (Whole i n) More w b.0)
   not_barred (inr w) r (i, n, v, o) =
       let same : i ≡ j =
-          same_whole i j n _ (one limit bytes (Whole i n) (Whole j (length (spelling j))) v w) in
+      same_whole i j n _ (one limit bytes (Whole i n) (Whole j (length (spelling j))) v w) in
       let none : Some r ≡ None = sym o ∙ ap objection same ∙ no_objection j good in
       cc
 
@@ -205,10 +216,10 @@ consumed : (old : Sight) (bytes run : List ℕ) (new : Sight) → old.left ≡ S
     → Takes old new run → (rest : List ℕ) × (new.left ≡ Some rest) × (bytes ≡ run ++ rest)
 consumed old bytes run new is t = left_by new.left
     (subst (λ o. Consumes o new.left run) is t.bytes) where
-  left_by : (o : Option (List ℕ)) → Consumes (Some bytes) o run
-      → (rest : List ℕ) × (o ≡ Some rest) × (bytes ≡ run ++ rest)
-  left_by None h = absurd h
-  left_by (Some rest) h = (rest, refl, h)
+      left_by : (o : Option (List ℕ)) → Consumes (Some bytes) o run
+          → (rest : List ℕ) × (o ≡ Some rest) × (bytes ≡ run ++ rest)
+      left_by None h = absurd h
+      left_by (Some rest) h = (rest, refl, h)
 
 at_end : (o : Option (List ℕ)) (rest : List ℕ) → o ≡ Some rest → IsAtEnd o → rest ≡ []
 at_end o rest is h = subst IsAtEnd is h
@@ -223,7 +234,7 @@ module _ (one : OneAnswer) (nothing : (limit : ℕ) → Begun limit []) (limits 
   limit_there b bs rest e =
       let code : b ≡ code_of j.op = cc in
       ap (λ c. cond (is_passed_code c) limits.passed limits.counted) code
-          ∙ ap (λ p. cond p limits.passed limits.counted) (code_passed j.op)
+      ∙ ap (λ p. cond p limits.passed limits.counted) (code_passed j.op)
 
   side_there : (bytes rest : List ℕ) → tail ≡ bytes ++ rest
       → Side (payload_limit_at limits bytes) bytes j
@@ -231,7 +242,7 @@ module _ (one : OneAnswer) (nothing : (limit : ℕ) → Begun limit []) (limits 
   side_there (b ∷ bs) rest e =
       let same = sym e ∙ spelled in
       side (payload_limit_at limits (b ∷ bs)) (b ∷ bs) rest behind j may.good
-          (subst (λ l. IsWithin l j.arg) (sym (limit_there b bs rest same)) may.within) same
+      (subst (λ l. IsWithin l j.arg) (sym (limit_there b bs rest same)) may.within) same
 
   module _ (bytes : List ℕ) (at taken : ℕ) (few : at + length (spelling j) ≤ all_bytes)
       (long : taken ≡ at + length bytes) where
@@ -245,7 +256,7 @@ module _ (one : OneAnswer) (nothing : (limit : ℕ) → Begun limit []) (limits 
         let r = consumed here tail bytes after is t in
         let none : r.0 ≡ [] = at_end after.left r.0 r.1 end in
         let e : bytes ++ [] ≡ spelling j ++ behind = ap (λ z. bytes ++ z) (sym none) ∙ sym r.2
-            ∙ spelled in
+        ∙ spelled in
         let n = ap length e in
         omega (arith, n, length-append bytes [], length-append (spelling j) behind, lt)
 
@@ -299,8 +310,12 @@ spellings_behind : (q : List Instruction) (j : Instruction) (is : List Instructi
 spellings_behind [] j is = omega arith
 spellings_behind (k ∷ q) j is =
     let e = spellings_behind q j is in
-    omega (arith, e, length-append (spelling k) (spellings (q ++ j ∷ is)),
-        length-append (spelling k) (spellings q))
+    omega (
+      arith,
+      e,
+      length-append (spelling k) (spellings (q ++ j ∷ is)),
+      length-append (spelling k) (spellings q),
+    )
 
 -- a reason that is not another one is this one
 if_not_other : (r : Reason) → (r ≢ reason.TooLarge → ⊥) → r ≡ reason.TooLarge
@@ -312,13 +327,13 @@ module _ (one : OneAnswer) (nothing : (limit : ℕ) → Begun limit []) (front :
   module _ (setting : OldStrings) (policy : Policy) (limits : Bounds) (p q : List Instruction)
       (rest tail : List ℕ)
       (g : GoesOnBehind p q rest tail) (each : All (IsAllowedBy (payload_limit limits)) p)
-          (few : length (spellings p) ≤ all_bytes)
+      (few : length (spellings p) ≤ all_bytes)
       (r : Reason)
-          (faultless : (before : List Instruction) (i : Instruction) (is : List Instruction)
-          → p ≡ before ++ i ∷ is → HasRunFault policy limits before
-          (everyone (RunsBehind setting before)) i r → ⊥)
+      (faultless : (before : List Instruction) (i : Instruction) (is : List Instruction)
+      → p ≡ before ++ i ∷ is → HasRunFault policy limits before
+      (everyone (RunsBehind setting before)) i r → ⊥)
       (here after : Sight) (at : ℕ) (pair : Option Asked) (is : here.left ≡ Some tail)
-          (place : at ≡ length (spellings q)) where
+      (place : at ≡ length (spellings q)) where
     may : IsAllowedBy (payload_limit limits) g.next
     may = behind_each (IsAllowedBy (payload_limit limits)) q g.next g.after
         (subst (All (IsAllowedBy (payload_limit limits))) g.split each)
@@ -326,8 +341,14 @@ module _ (one : OneAnswer) (nothing : (limit : ℕ) → Begun limit []) (front :
     fits : at + length (spelling g.next) ≤ all_bytes
     fits =
         let n = ap (λ z. length (spellings z)) g.split in
-        omega (arith, n, place, few, spellings_behind q g.next g.after,
-            length-append (spelling g.next) (spellings g.after))
+        omega (
+          arith,
+          n,
+          place,
+          few,
+          spellings_behind q g.next g.after,
+          length-append (spelling g.next) (spellings g.after),
+        )
 
     not_why : r ≢ reason.Source → r ≢ reason.OutOfMemory
         → Why setting Afresh policy limits q here after at r pair → ⊥
@@ -337,11 +358,11 @@ module _ (one : OneAnswer) (nothing : (limit : ℕ) → Begun limit []) (front :
     not_why n m (judging h) =
         let c = consumed here tail (spelling h.instruction) after is h.bytes in
         let same = front h.instruction g.next c.0 (spellings g.after ++ rest) h.allowed.good
-            may.good (sym c.2 ∙ g.bytes) in
+        may.good (sym c.2 ∙ g.bytes) in
         let fault = by_any setting policy limits q h.instruction r h.fault in
         faultless q g.next g.after g.split
-            (subst (λ i. HasRunFault policy limits q (everyone (RunsBehind setting q)) i r) same.0
-            fault)
+        (subst (λ i. HasRunFault policy limits q (everyone (RunsBehind setting q)) i r) same.0
+        fault)
     not_why n m (growing h) = m h.memory
 
   pub yes_excludes_no : YesExcludesNo
@@ -352,13 +373,13 @@ module _ (one : OneAnswer) (nothing : (limit : ℕ) → Begun limit []) (front :
       let a = consumed old bytes (spellings p) new known accepted.bytes in
       let b = consumed other bytes (spellings q) refused.here same refused.bytes in
       let g = goes (payload_limit limits) (payload_limit limits) p q a.0 b.0 accepted.sequence
-          refused.admitted refused.goes_on (sym a.2 ∙ b.2) in
+      refused.admitted refused.goes_on (sym a.2 ∙ b.2) in
       let short : length (spellings p) ≤ all_bytes =
-          (let k = accepted.count in omega (arith, k, few)) in
+      (let k = accepted.count in omega (arith, k, few)) in
       let there : at ≡ length (spellings q) = (let k = refused.place in omega (arith, k)) in
       not_why setting policy limits p q a.0 b.0 g accepted.sequence.each short
       r (λ before i is e f. accepted.faultless before i is e r f) refused.here after at pair b.1
-          there n m refused.why
+      there n m refused.why
 
   pub refused_for_limits : RefusedForLimits
   refused_for_limits setting policy limits p rest old after at r pair sequence faultless is few
@@ -367,8 +388,8 @@ module _ (one : OneAnswer) (nothing : (limit : ℕ) → Begun limit []) (front :
       let q = refused.instructions in
       let b = consumed old (spellings p ++ rest) (spellings q) refused.here is refused.bytes in
       let g = goes (payload_limit limits) (payload_limit limits) p q rest b.0 sequence
-          refused.admitted refused.goes_on b.2 in
+      refused.admitted refused.goes_on b.2 in
       let there : at ≡ length (spellings q) = (let k = refused.place in omega (arith, k)) in
       not_why setting policy limits p q rest b.0 g sequence.each few
       r (λ before i is e f. faultless before i is e r other f) refused.here after at pair b.1 there
-          n m refused.why)
+      n m refused.why)

@@ -72,9 +72,9 @@ module _ (setting : OldStrings) (policy : Policy) (limits : Bounds) where
       ap length (sym same)
   length-asked (i ∷ p) k known asked e =
       let f = verdict_first (advance setting policy limits i k)
-          (verdict setting policy limits p) known asked e in
+      (verdict setting policy limits p) known asked e in
       ap length f.rest.first
-          ∙ ap suc (length-asked p f.passed.after known f.rest.listed f.rest.accepts)
+      ∙ ap suc (length-asked p f.passed.after known f.rest.listed f.rest.accepts)
 
   module _ (b : Beginning) (first : Knowledge) (begins : Begins setting policy b first)
       (p : List Instruction) (known : Knowledge) (asked : List (Option Asked)) (last : StopsLast p)
@@ -83,42 +83,42 @@ module _ (setting : OldStrings) (policy : Policy) (limits : Bounds) where
         → IsFaultless setting b policy limits p
     faultless goes_on still_open frames before i after e reason h =
         let s = verdict_split setting policy limits before i after first known asked
-            (ap (λ x. verdict setting policy limits x first) (sym e) ∙ accepts) in
+        (ap (λ x. verdict setting policy limits x first) (sym e) ∙ accepts) in
         let a = along setting policy limits before first s.known s.earlier
-            (nowhere_before before i after (subst StopsLast e last)) s.accepts in
+        (nowhere_before before i after (subst StopsLast e last)) s.accepts in
         let w = framed_in goes_on before i after still_open
-            (ap (λ x. counted_all 0 (map piece_of x)) (sym e) ∙ frames) in
+        (ap (λ x. counted_all 0 (map piece_of x)) (sym e) ∙ frames) in
         no_fault policy limits i s.known (RunsFrom setting b before)
-            (stands_from setting policy limits b before first s.known begins a) s.passed s.passes
-            reason
-            (machine_fault policy limits before i w (everyone (RunsFrom setting b before)) reason h)
+        (stands_from setting policy limits b before first s.known begins a) s.passed s.passes
+        reason
+        (machine_fault policy limits before i w (everyone (RunsFrom setting b before)) reason h)
 
     pub unknown_is_open : UnknownIsOpen setting b p asked
     unknown_is_open before i after earlier later e g n =
         let s = verdict_split setting policy limits before i after first known asked
-            (ap (λ x. verdict setting policy limits x first) (sym e) ∙ accepts) in
+        (ap (λ x. verdict setting policy limits x first) (sym e) ∙ accepts) in
         let a = along setting policy limits before first s.known s.earlier
-            (nowhere_before before i after (subst StopsLast e last)) s.accepts in
+        (nowhere_before before i after (subst StopsLast e last)) s.accepts in
         let m = length-asked before first s.known s.earlier s.accepts in
         unknown_exactly policy limits i s.known (RunsFrom setting b before)
-            (stands_from setting policy limits b before first s.known begins a) s.passed s.passes
-            (same_place s.earlier earlier s.passed.import (Some AskedUnknown) s.later later
-            (m ∙ sym n) (sym s.listed ∙ g))
+        (stands_from setting policy limits b before first s.known begins a) s.passed s.passes
+        (same_place s.earlier earlier s.passed.import (Some AskedUnknown) s.later later
+        (m ∙ sym n) (sym s.listed ∙ g))
 
     pub each_asks : EachAsks setting b p asked
     each_asks before i after earlier import later e g n state outcome gets =
         let s = verdict_split setting policy limits before i after first known asked
-            (ap (λ x. verdict setting policy limits x first) (sym e) ∙ accepts) in
+        (ap (λ x. verdict setting policy limits x first) (sym e) ∙ accepts) in
         let a = along setting policy limits before first s.known s.earlier
-            (nowhere_before before i after (subst StopsLast e last)) s.accepts in
+        (nowhere_before before i after (subst StopsLast e last)) s.accepts in
         let m = length-asked before first s.known s.earlier s.accepts in
         let same = same_place s.earlier earlier s.passed.import import s.later later (m ∙ sym n)
-            (sym s.listed ∙ g) in
+        (sym s.listed ∙ g) in
         let w = arrived setting b before state gets in
         let covered = a.each w.0 state w.2.0 (begins.each w.0 w.1) w.2.1 in
         let follows = subst (λ x. FollowsIfOk IsObject x state (step_as setting i state outcome))
-            s.passes
-            (step_follows IsObject objects_grow setting policy limits i s.known state outcome
-            covered (any_answer state.objects outcome)) in
+        s.passes
+        (step_follows IsObject objects_grow setting policy limits i s.known state outcome
+        covered (any_answer state.objects outcome)) in
         subst (λ x. Asks x state (step_as setting i state outcome)) same
-            (asks_so s.passed state (step_as setting i state outcome) follows)
+        (asks_so s.passed state (step_as setting i state outcome) follows)

@@ -93,9 +93,13 @@ module _ (start : Sight) (from : ℕ) (limits : Bounds) (p : List Instruction) (
       refused_next law r x k e =
           let w = law start from (payload_limit limits) p s t r x reads k e in
           let b = w.1.why.0 in
-          record { no_stop = w.0; place = w.1.place; bytes = b;
-              why = subst (λ l. Refuses l s.source t.source b s.taken t.taken x.reason)
-              (ap (λ l. l.counted) same ∙ sym (one_limit_at limits one b)) w.1.why.1 }
+          record {
+            no_stop = w.0;
+            place = w.1.place;
+            bytes = b;
+            why = subst (λ l. Refuses l s.source t.source b s.taken t.taken x.reason)
+                (ap (λ l. l.counted) same ∙ sym (one_limit_at limits one b)) w.1.why.1;
+          }
 
     -- for `next_head`
     passes : PassesTo s (payload_limit limits)
@@ -112,7 +116,7 @@ module _ (start : Sight) (from : ℕ) (limits : Bounds) (p : List Instruction) (
         → Took at (instruction_of i) t
     took_peeked law at count i place shown over =
         let more = law start from (payload_limit limits) p s t count
-            (instruction_of i) passes reads shown over in
+        (instruction_of i) passes reads shown over in
         record {
           more = more;
           same_limits = over.limits;
@@ -132,7 +136,7 @@ module _ (start : Sight) (from : ℕ) (limits : Bounds) (p : List Instruction) (
         → StepsHead s r t → r ≡ Ok (head.Passed at o count) → Passed at o count t
     took_passed law r at o count k e =
         let (payload, one, more, bytes, taken, g) =
-            law start from (payload_limit limits) p s t r at o count passes reads k e in
+        law start from (payload_limit limits) p s t r at o count passes reads k e in
         record {
           payload = payload;
           one = one;
@@ -152,10 +156,14 @@ module _ (start : Sight) (from : ℕ) (limits : Bounds) (p : List Instruction) (
     refused_head law r x k e =
         let w = law start from (payload_limit limits) p s t r x reads k e in
         let b = w.1.why.0 in
-        record { no_stop = w.0; place = w.1.place; bytes = b;
-            why = subst
-            (λ l. Refuses (payload_limit_at l b) s.source t.source b s.taken t.taken x.reason) same
-            w.1.why.1 }
+        record {
+          no_stop = w.0;
+          place = w.1.place;
+          bytes = b;
+          why = subst
+              (λ l. Refuses (payload_limit_at l b) s.source t.source b s.taken t.taken x.reason)
+              same w.1.why.1;
+        }
 
 -- if no byte was read ahead, the view of the source is unchanged
 pub seen_so : (ahead : List ℕ) (now here : Sight) → ahead ≡ [] → now ≡ here

@@ -24,9 +24,11 @@ pub heard_more : (before p : List Instruction) (hs : List Heard) (i : Instructio
     → AreHeardBehind before p hs → IsHeardOf (before ++ p) i x
     → AreHeardBehind before (p ++ i ∷ []) (hs ++ x ∷ [])
 heard_more before [] [] i x u h = (subst (λ b. IsHeardOf b i x) (append-nil before) h, tt)
-heard_more before (j ∷ p) (y ∷ hs) i x (f, r) h =
-    (f, heard_more (before ++ j ∷ []) p hs i x r
-    (subst (λ b. IsHeardOf b i x) (sym (append_assoc before (j ∷ []) p)) h))
+heard_more before (j ∷ p) (y ∷ hs) i x (f, r) h = (
+  f,
+  heard_more (before ++ j ∷ []) p hs i x r
+      (subst (λ b. IsHeardOf b i x) (sym (append_assoc before (j ∷ []) p)) h),
+)
 heard_more before [] (y ∷ hs) i x u h = absurd u
 heard_more before (j ∷ p) [] i x u h = absurd u
 
@@ -39,7 +41,7 @@ pub heard_here : (policy : Policy) (limits : Bounds) (old : Sight) (p : List Ins
     → IsHeardOf p i (heard at i n)
 heard_here policy limits old p asked s still_open m h t at i took n marks =
     let known = known_behind Unknown policy limits old alone p asked s still_open m h
-        took.more.no_stop in
+    took.more.no_stop in
     let some = known.some (record { text = []; utf8 = IsUtf8-nil }) in
     record {
       same = refl;

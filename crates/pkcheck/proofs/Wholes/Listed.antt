@@ -22,8 +22,7 @@ use Rattle.pkcheck.proofs.Covering.CoversBy.{objects_grow}
 use Rattle.pkcheck.specs.Import.{asks_more}
 use Rattle.pkcheck.specs.WholeRuns.{Ended, first_outcome, outcomes_after, go_on, run_as, EndsWell}
 use Rattle.pkcheck.specs.WholeRuns.{AllListed}
-use Rattle.pkcheck.proofs.Covering.Verdicts.{Yes, verdict, IsYes}
-use Rattle.pkcheck.proofs.Covering.Verdicts.{StopsLast}
+use Rattle.pkcheck.proofs.Covering.Verdicts.{Yes, verdict, IsYes, StopsLast}
 use Rattle.pkcheck.specs.Listing.{StandsFor, IsBeginning, ImportsAreListed, imports_among}
 use Rattle.pkcheck.specs.Listing.{permitted_by}
 use Rattle.pkcheck.proofs.Covering.Alike.{Pointwise-append}
@@ -94,8 +93,8 @@ adds_stands : (a : Option Asked) (as' : List Asked) (before after : List Event)
     → Pointwise StandsFor (asks_more a as') (imports_of after)
 adds_stands a as' before after h g =
     subst (λ es. Pointwise StandsFor (asks_more a as') (imports_of es)) (sym g.grown)
-        (subst (Pointwise StandsFor (asks_more a as')) (sym (imports_of-append before g.added))
-        (asked_stands a as' (imports_of before) (imports_of g.added) h g.asked))
+    (subst (Pointwise StandsFor (asks_more a as')) (sym (imports_of-append before g.added))
+    (asked_stands a as' (imports_of before) (imports_of g.added) h g.asked))
 
 more_among : (a : Option Asked) (as' : List Asked) (asked : List (Option Asked))
     → asks_more a as' ++ imports_among asked ≡ as' ++ imports_among (a ∷ asked)
@@ -120,11 +119,11 @@ module _ (setting : OldStrings) (p : Policy) (l : Bounds) where
       all_begins done _ (imports_of t.events) (adds_stands None done s.events t.events h g.1)
   step_listed q s (Stopped r t) done rest f g h last on =
       subst (λ x. Pointwise StandsFor (done ++ imports_among (q.import ∷ x)) (imports_of t.events))
-          (sym (last r t refl))
+      (sym (last r t refl))
       (subst (λ x. Pointwise StandsFor (done ++ imports_among (x ∷ [])) (imports_of t.events))
-          (sym g.3)
+      (sym g.3)
       (subst (λ x. Pointwise StandsFor (done ++ []) (imports_of x)) (sym g.4)
-          (subst (λ x. Pointwise StandsFor x (imports_of s.events)) (sym (append-nil done)) h)))
+      (subst (λ x. Pointwise StandsFor x (imports_of s.events)) (sym (append-nil done)) h)))
   step_listed q s (Stuck b) done rest f g h last on = absurd g
 
   none_left : (is : List Instruction) (k known : Knowledge) (asked : List (Option Asked)) → is ≡ []
@@ -145,19 +144,19 @@ module _ (setting : OldStrings) (p : Policy) (l : Bounds) where
       let f = verdict_first (advance setting p l i k) (verdict setting p l is) known asked e in
       let st = step_as setting i s (first_outcome os) in
       let w : FollowsBy IsObject f.passed s st = subst (λ x. FollowsIfOk IsObject x s st) f.passes
-          (step_follows IsObject objects_grow setting p l i k s (first_outcome os) c
-          (any_answer s.objects (first_outcome os))) in
+      (step_follows IsObject objects_grow setting p l i k s (first_outcome os) c
+      (any_answer s.objects (first_outcome os))) in
       subst
-          (λ x. ImportsAreListed (done ++ imports_among x)
-          (go_on st (run_as setting is (outcomes_after (effect_asks (effect_as setting i)) os))))
-          (sym f.rest.first)
+      (λ x. ImportsAreListed (done ++ imports_among x)
+      (go_on st (run_as setting is (outcomes_after (effect_asks (effect_as setting i)) os))))
+      (sym f.rest.first)
       (step_listed f.passed s st done f.rest.listed
-          (run_as setting is (outcomes_after (effect_asks (effect_as setting i)) os)) w h
+      (run_as setting is (outcomes_after (effect_asks (effect_as setting i)) os)) w h
       (λ r t g. none_left is f.passed.after known f.rest.listed
-          (stop_is_last setting i is last
-          (only_stop (effect_as setting i) i r s t (first_outcome os) g)) f.rest.accepts)
+      (stop_is_last setting i is last
+      (only_stop (effect_as setting i) i r s t (first_outcome os) g)) f.rest.accepts)
       (λ t d g. listed_from is f.passed.after known f.rest.listed
-          (asks_more f.passed.import done) t _ (after_first i is last) f.rest.accepts d g))
+      (asks_more f.passed.import done) t _ (after_first i is last) f.rest.accepts d g))
 
 -- every pair is on this list
 abbrev any_pair : List ℕ → List ℕ → Bool
@@ -186,10 +185,10 @@ fine_from setting l (i ∷ is) k known asked s os e c =
     let f = verdict_first (advance setting None l i k) (verdict setting None l is) known asked e in
     let st = step_as setting i s (first_outcome os) in
     let w : FollowsBy IsObject f.passed s st = subst (λ x. FollowsIfOk IsObject x s st) f.passes
-        (step_follows IsObject objects_grow setting None l i k s (first_outcome os) c
-        (any_answer s.objects (first_outcome os))) in
+    (step_follows IsObject objects_grow setting None l i k s (first_outcome os) c
+    (any_answer s.objects (first_outcome os))) in
     step_fine f.passed s st (run_as setting is _) w
-        (λ t d. fine_from setting l is f.passed.after known f.rest.listed t _ f.rest.accepts d)
+    (λ t d. fine_from setting l is f.passed.after known f.rest.listed t _ f.rest.accepts d)
 
 -- a yes is sound, whatever the policy
 pub sound_from : (setting : OldStrings) (p : Policy) (l : Bounds) (is : List Instruction)

@@ -12,8 +12,7 @@ use Rattle.pkops.specs.Spelling.{Instruction}
 use Rattle.pkops.specs.declared.Op.{Op}
 use Rattle.pkops.specs.declared.Op.TheVariants as op
 use Rattle.pkread.specs.Sequence.{IsSequence}
-use Rattle.pkcheck.specs.Covers.{IsObject, Pointwise}
-use Rattle.pkcheck.specs.Covers.{imports_of as imported}
+use Rattle.pkcheck.specs.Covers.{IsObject, Pointwise, imports_of as imported}
 use Rattle.pkcheck.specs.Effects.{Effect, Operates, Moves, Stops, Raises, effect_as, number_stored}
 use Rattle.pkcheck.specs.Knowledge.{Knowledge, Policy, Asked, Progress, advance, learn}
 use Rattle.pkcheck.specs.Listing.{StandsFor, ImportsAreListed, imports_among, permitted_by}
@@ -23,7 +22,8 @@ use Rattle.pkcheck.specs.Runs.{Stopped, Stuck, effect_asks, perform, start, step
 use Rattle.pkcheck.specs.Shape.{Breach, Entry, top}
 use Rattle.pkcheck.specs.WholeRuns.{AllListed, Ended, EndedBy, EndsWell, Reached, first_outcome}
 use Rattle.pkcheck.specs.WholeRuns.{go_on, outcomes_after, run_as}
-use Rattle.pkcheck.proofs.Covering.Answering.{Answered, IsGoing, Word, grows, learn_exactly}
+use Rattle.pkcheck.proofs.Covering.Answering.{Answered, IsGoing, grows, learn_exactly}
+use Rattle.pkcheck.proofs.Covering.Words.{Word}
 use Rattle.pkcheck.proofs.Covering.Answering.{new_text, new_text_holds}
 use Rattle.pkcheck.proofs.Covering.CoversBy.{CoversBy, FollowsBy, FollowsIfOk, any_answer}
 use Rattle.pkcheck.proofs.Covering.CoversBy.{objects_grow}
@@ -89,14 +89,30 @@ module _ (setting : OldStrings) where
   last_of (q ∷ ps) p [] first s e = cc
   last_of [] p (os ∷ oss) first s e =
       let n = next_stops (run_as setting p os first) (run_row setting [] oss) s e in
-      record { middle = first; before = []; comes = refl; outcomes = os; result = n.result;
-          state = n.state; stops = n.stops; is = same_state s (cleared n.state) (sym n.comes) }
+      record {
+        middle = first;
+        before = [];
+        comes = refl;
+        outcomes = os;
+        result = n.result;
+        state = n.state;
+        stops = n.stops;
+        is = same_state s (cleared n.state) (sym n.comes);
+      }
   last_of (q ∷ ps) p (os ∷ oss) first s e =
       let n = next_stops (run_as setting q os first) (run_row setting (ps ++ p ∷ []) oss) s e in
       let m = last_of ps p oss (cleared n.state) s n.comes in
-      record { middle = m.middle; before = os ∷ m.before;
-          comes = ap (λ x. next_from x (run_row setting ps m.before)) n.stops ∙ m.comes; outcomes =
-          m.outcomes; result = m.result; state = m.state; stops = m.stops; is = m.is }
+      record {
+        middle = m.middle;
+        before = os ∷ m.before;
+        comes = ap (λ x. next_from x (run_row setting ps m.before)) n.stops ∙ m.comes;
+        outcomes =
+            m.outcomes;
+        result = m.result;
+        state = m.state;
+        stops = m.stops;
+        is = m.is;
+      }
 
   -- joins the run of some pickles with the run of one more
   with_last : (ps : List (List Instruction)) (p : List Instruction) (oss : List (List Outcome))
@@ -107,16 +123,20 @@ module _ (setting : OldStrings) where
       (run_row setting (ps ++ p ∷ []) qss first ≡ Some (cleared t))
   with_last [] p oss first middle can e os r t all g =
       let at : run_as setting p os first ≡ EndedBy (Stopped r t) =
-          ap (run_as setting p os) (same_state first middle e) ∙ g in
-      (os ∷ [], All-cons (All CanCome) os [] all (All-nil (All CanCome)),
-          ap (λ x. next_from x (run_row setting [] [])) at)
+      ap (run_as setting p os) (same_state first middle e) ∙ g in (
+        os ∷ [],
+        All-cons (All CanCome) os [] all (All-nil (All CanCome)),
+        ap (λ x. next_from x (run_row setting [] [])) at,
+      )
   with_last (q ∷ ps) p [] first middle can e os r t all g = cc
   with_last (q ∷ ps) p (ws ∷ oss) first middle can e os r t all g =
       let n = next_stops (run_as setting q ws first) (run_row setting ps oss) middle e in
       let m = with_last ps p oss (cleared n.state) middle
-          (All-tail (All CanCome) ws oss can) n.comes os r t all g in
-      (ws ∷ m.0, All-cons (All CanCome) ws m.0 (All-head (All CanCome) ws oss can) m.1,
-          ap (λ x. next_from x (run_row setting (ps ++ p ∷ []) m.0)) n.stops ∙ m.2)
+      (All-tail (All CanCome) ws oss can) n.comes os r t all g in (
+        ws ∷ m.0,
+        All-cons (All CanCome) ws m.0 (All-head (All CanCome) ws oss can) m.1,
+        ap (λ x. next_from x (run_row setting (ps ++ p ∷ []) m.0)) n.stops ∙ m.2,
+      )
 
 -- ---- the end of an accepted pickle
 
@@ -161,9 +181,9 @@ module _ (setting : OldStrings) (policy : Policy) (limits : Bounds) where
   stops_on i is q s (Stopped n u) known listed os r t last e g by on h =
       let none = stop_is_last setting i is last (by n u refl) in
       let same = yes_parts q.after known [] listed
-          (subst (λ x. verdict setting policy limits x q.after ≡ Yes known listed) none e) in
+      (subst (λ x. verdict setting policy limits x q.after ≡ Yes known listed) none e) in
       subst (λ x. CoversBy IsObject known x) (same_end n r u t h)
-          (subst (λ x. CoversBy IsObject x u) same.0 g.2)
+      (subst (λ x. CoversBy IsObject x u) same.0 g.2)
 
   pub stopped_covered : (is : List Instruction) (k known : Knowledge) (asked : List (Option Asked))
       (s : State) (os : List Outcome) (r : ℕ) (t : State) → StopsLast is
@@ -174,10 +194,10 @@ module _ (setting : OldStrings) (policy : Policy) (limits : Bounds) where
       let o = first_outcome os in
       let st = step_as setting i s o in
       let f = verdict_first (advance setting policy limits i k)
-          (verdict setting policy limits is) known asked e in
+      (verdict setting policy limits is) known asked e in
       let w : FollowsBy IsObject f.passed s st = subst (λ x. FollowsIfOk IsObject x s st) f.passes
-          (step_follows IsObject objects_grow setting policy limits i k s o c
-          (any_answer s.objects o)) in
+      (step_follows IsObject objects_grow setting policy limits i k s o c
+      (any_answer s.objects o)) in
       stops_on i is f.passed s st known f.rest.listed (outcomes_after
       (effect_asks (effect_as setting i)) os) r t last f.rest.accepts w
       (λ n u g. stopped_by_stop (effect_as setting i) i n s u o g)
@@ -224,8 +244,8 @@ module _ (setting : OldStrings) (policy : Policy) (limits : Bounds) where
   stops_at i q v s (Stuck b) is e g w = absurd g
   stops_at i q v s (Stopped r t) is e g w =
       let m = run_on setting (effect_asks (effect_as setting i)) i [] s (new_text v.text s) []
-          (EndedBy (Stopped r t)) v.utf8 (All-nil CanCome) refl
-          (ap (λ x. go_on x (run_as setting [] [])) is) in
+      (EndedBy (Stopped r t)) v.utf8 (All-nil CanCome) refl
+      (ap (λ x. go_on x (run_as setting [] [])) is) in
       record { outcomes = m.0; can = m.1; result = r; state = t; stops = m.2; covered = w.2 }
 
   some_stops : (front : List Instruction) (last : Instruction) (k known : Knowledge)
@@ -235,26 +255,32 @@ module _ (setting : OldStrings) (policy : Policy) (limits : Bounds) where
       → StopsSomewhere (front ++ last ∷ []) known v s
   some_stops [] last k known asked on is e v s c =
       let f = verdict_first (advance setting policy limits last k)
-          (verdict setting policy limits []) known asked e in
+      (verdict setting policy limits []) known asked e in
       let w = steps last k f.passed v s f.passes c in
       let m = stops_at last f.passed v s (step_as setting last s (new_text v.text s)) refl
-          (stop_stops setting last is) w.goes w.follows in
+      (stop_stops setting last is) w.goes w.follows in
       subst (λ x. StopsSomewhere (last ∷ []) x v s)
-          (yes_parts f.passed.after known [] f.rest.listed f.rest.accepts).0 m
+      (yes_parts f.passed.after known [] f.rest.listed f.rest.accepts).0 m
   some_stops (i ∷ front) last k known asked on is e v s c =
       let rest = front ++ last ∷ [] in
       let f = verdict_first (advance setting policy limits i k)
-          (verdict setting policy limits rest) known asked e in
+      (verdict setting policy limits rest) known asked e in
       let w = steps i k f.passed v s f.passes c in
       let u = gone (effect_as setting i) (Answered v.text) f.passed s
-          (step_as setting i s (new_text v.text s)) (only_stop setting i on.0) w.goes w.follows in
+      (step_as setting i s (new_text v.text s)) (only_stop setting i on.0) w.goes w.follows in
       let m = some_stops front last f.passed.after known f.rest.listed on.1 is f.rest.accepts v u.0
-          u.2 in
+      u.2 in
       let n = run_on setting (effect_asks (effect_as setting i)) i rest s
-          (new_text v.text s) m.outcomes (EndedBy (Stopped m.result m.state)) v.utf8 m.can refl
-          (ap (λ x. go_on x (run_as setting rest m.outcomes)) u.1 ∙ m.stops) in
-      record { outcomes = n.0; can = n.1; result = m.result; state = m.state; stops = n.2;
-          covered = m.covered }
+      (new_text v.text s) m.outcomes (EndedBy (Stopped m.result m.state)) v.utf8 m.can refl
+      (ap (λ x. go_on x (run_as setting rest m.outcomes)) u.1 ∙ m.stops) in
+      record {
+        outcomes = n.0;
+        can = n.1;
+        result = m.result;
+        state = m.state;
+        stops = n.2;
+        covered = m.covered;
+      }
 
   -- ---- the next pickle
 
@@ -278,10 +304,17 @@ module _ (setting : OldStrings) (policy : Policy) (limits : Bounds) where
     came : (s : State) → StartsIn setting (Behind (before ++ this ∷ [])) s → Came s
     came s (oss, e) =
         let l = last_of setting (sequences_of before) p oss start s
-            (subst (λ ps. run_row setting ps oss start ≡ Some s)
-            (map-append (λ (y : Pickle). y.instructions) before (this ∷ [])) e) in
-        record { first = l.middle; starts = (l.before, l.comes); outcomes = l.outcomes;
-            result = l.result; state = l.state; stops = l.stops; is = l.is }
+        (subst (λ ps. run_row setting ps oss start ≡ Some s)
+        (map-append (λ (y : Pickle). y.instructions) before (this ∷ [])) e) in
+        record {
+          first = l.middle;
+          starts = (l.before, l.comes);
+          outcomes = l.outcomes;
+          result = l.result;
+          state = l.state;
+          stops = l.stops;
+          is = l.is;
+        }
 
     last : StopsLast p
     last = sequence_last limit p sequence
@@ -291,17 +324,17 @@ module _ (setting : OldStrings) (policy : Policy) (limits : Bounds) where
     next_each s h =
         let w = came s h in
         subst (CoversBy IsObject (memo_of known)) (sym w.is)
-            (covers_cleared IsObject known w.state
-            (stopped_covered p k known asked w.first w.outcomes w.result w.state last accepts
-            (begins.each w.first w.starts) w.stops))
+        (covers_cleared IsObject known w.state
+        (stopped_covered p k known asked w.first w.outcomes w.result w.state last accepts
+        (begins.each w.first w.starts) w.stops))
 
     next_permitted : (s : State) → StartsIn setting (Behind (before ++ this ∷ [])) s
         → AllListed (permitted_by policy) (imported s.events)
     next_permitted s h =
         let w = came s h in
         let ends = subst (EndsWell (permitted_by policy)) w.stops
-            (sound_from setting policy limits p k known asked w.first w.outcomes accepts
-            (begins.each w.first w.starts) (begins.permitted w.first w.starts)) in
+        (sound_from setting policy limits p k known asked w.first w.outcomes accepts
+        (begins.each w.first w.starts) (begins.permitted w.first w.starts)) in
         subst (λ x. AllListed (permitted_by policy) (imported x.events)) (sym w.is) ends.1
 
     next_listed : (s : State) → StartsIn setting (Behind (before ++ this ∷ [])) s
@@ -309,13 +342,13 @@ module _ (setting : OldStrings) (policy : Policy) (limits : Bounds) where
     next_listed s h =
         let w = came s h in
         let all = subst (ImportsAreListed (imports_of_all before ++ imports_among asked)) w.stops
-            (listed_from setting policy limits p k known asked
-            (imports_of_all before) w.first w.outcomes last accepts (begins.each w.first w.starts)
-            (begins.listed w.first w.starts)) in
+        (listed_from setting policy limits p k known asked
+        (imports_of_all before) w.first w.outcomes last accepts (begins.each w.first w.starts)
+        (begins.listed w.first w.starts)) in
         subst (λ x. Pointwise StandsFor x (imported s.events)) (sym (imports_more before this))
-            (subst
-            (λ x. Pointwise StandsFor (imports_of_all before ++ imports_among asked)
-            (imported x.events)) (sym w.is) all)
+        (subst
+        (λ x. Pointwise StandsFor (imports_of_all before ++ imports_among asked)
+        (imported x.events)) (sym w.is) all)
 
     pub begins_next : Begins setting policy (Behind (before ++ this ∷ [])) (memo_of known)
     begins_next = record {
@@ -324,15 +357,20 @@ module _ (setting : OldStrings) (policy : Policy) (limits : Bounds) where
           let (front, end, same, stop, none) = sequence.stops in
           let m = begins.some v in
           let w = subst (λ x. StopsSomewhere x known v m.0) (sym same)
-              (some_stops front end k known asked (stops_nowhere front none) stop
-              (subst (λ x. verdict setting policy limits x k ≡ Yes known asked) same accepts) v m.0
-              m.2) in
+          (some_stops front end k known asked (stops_nowhere front none) stop
+          (subst (λ x. verdict setting policy limits x k ≡ Yes known asked) same accepts) v m.0
+          m.2) in
           let n = with_last setting (sequences_of before) p m.1.0 start m.0 m.1.1 m.1.2 w.outcomes
-              w.result w.state w.can w.stops in
-          (cleared w.state,
-              (n.0, n.1, subst (λ ps. run_row setting ps n.0 start ≡ Some (cleared w.state))
-              (sym (map-append (λ (y : Pickle). y.instructions) before (this ∷ []))) n.2),
-              covers_cleared (Answered v.text) known w.state w.covered);
+          w.result w.state w.can w.stops in (
+            cleared w.state,
+            (
+              n.0,
+              n.1,
+              subst (λ ps. run_row setting ps n.0 start ≡ Some (cleared w.state))
+                  (sym (map-append (λ (y : Pickle). y.instructions) before (this ∷ []))) n.2,
+            ),
+            covers_cleared (Answered v.text) known w.state w.covered,
+          );
       permitted = next_permitted;
       listed = next_listed;
     }

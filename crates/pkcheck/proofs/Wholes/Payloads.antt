@@ -21,7 +21,7 @@ pub piece_passed : (i : Instruction) (o : Op) (n : ℕ) → IsTrue (is_passed o)
     → piece_of i ≡ record { length = n; role = role_of o 0 }
 piece_passed i o n h l =
     let role : role_of i.op (number_of i.arg) ≡ role_of o 0 =
-        rw l.op_is (no_frame o (number_of i.arg) 0 h) in
+    rw l.op_is (no_frame o (number_of i.arg) 0 h) in
     λ j. record { length = l.long j; role = role j }
 
 module _ (start : Sight) (from : ℕ) (limits : Bounds) (p : List Instruction) (s : ReaderState)

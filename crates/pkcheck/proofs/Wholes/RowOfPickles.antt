@@ -1,7 +1,7 @@
 -- What is known along a row of pickles.
-use Rattle.std.proofs.Common.{◌≡◌, ◌≢◌, ℕ, ◌+◌, ◌-◌, ◌*◌, ◌<◌, ◌≤◌, List, [], ◌∷◌, ◌++◌, length}
-use Rattle.std.proofs.Common.{Option, None, refl, sym, ap, subst, ◌∙◌, arith, length-append}
-use Rattle.std.proofs.Common.{append-nil, append_assoc}
+use Rattle.std.proofs.Common.{◌≡◌, ◌≢◌, ℕ, ◌+◌, ◌-◌, ◌<◌, ◌≤◌, List, [], ◌∷◌, ◌++◌, length, Option}
+use Rattle.std.proofs.Common.{None, refl, sym, ap, subst, ◌∙◌, arith, length-append, append-nil}
+use Rattle.std.proofs.Common.{append_assoc}
 use Rattle.std.specs.Prelude.{flat_map, All}
 use Rattle.std.specs.Io.KnownBytes.{IsAtEnd}
 use Rattle.std.proofs.lemmas.Grind.{flat_map-append}
@@ -13,17 +13,17 @@ use Rattle.pkops.specs.Spelling.{Instruction, spelling}
 use Rattle.pkread.specs.Again.{NoByteIsRefused}
 use Rattle.pkread.specs.Run.{ReadingGoesOn}
 use Rattle.pkread.specs.Reading.{ReaderState}
-use Rattle.pkread.specs.Core.{Phase, Open, Ended, Refused}
+use Rattle.pkread.specs.Core.{Open}
+use Rattle.pkread.specs.declared.Refusal.{Refusal as ReadRefusal}
 use Rattle.pkread.specs.Rows.{Refuses, Sight, Takes, TakingLaws, all_bytes}
 use Rattle.pkread.specs.Sequence.{CountsAt, IsSequence, StopIsLast, spellings}
-use Rattle.pkread.specs.declared.Refusal.{Refusal as ReadRefusal}
 use Rattle.pkread.specs.declared.Reason.{Reason}
 use Rattle.pkread.specs.declared.Reason.TheVariants.{Truncated}
 use Rattle.pkops.specs.declared.Op.TheVariants.{Stop}
 use Rattle.pkcheck.proofs.Wholes.Checked.{Checked, IsReady, accepted, checked_again, count_took}
 use Rattle.pkcheck.proofs.Wholes.Checked.{refused_took, refused_turned}
 use Rattle.pkcheck.proofs.Wholes.Given.{Took}
-use Rattle.pkcheck.proofs.Covering.Answering.{Word}
+use Rattle.pkcheck.proofs.Covering.Words.{Word}
 use Rattle.pkcheck.proofs.Covering.Showing.{IsLonger}
 use Rattle.pkcheck.specs.Private.Judging.{IsRefused}
 use Rattle.pkcheck.proofs.Wholes.NextPickle.{begins_next, imports_more}
@@ -44,13 +44,6 @@ use Rattle.pkcheck.specs.RowOfPickles.{AcceptedRow, AreAccepted, HasMore, IsAcce
 use Rattle.pkcheck.specs.RowOfPickles.{RefusedInRow, begins, bytes_of_all}
 use Rattle.pkcheck.specs.RowRuns.{Beginning, Pickle, imports_of_all, listed_before, sequences_of}
 use Rattle.pkcheck.proofs.Wholes.AnotherPickle.{refuses_again}
-
--- a measure of what is left to do: the bytes that may still be taken, and whether a pickle has just
--- ended
-abbrev pub left_to_do : ℕ → Phase → ℕ
-left_to_do taken Open = 2 * (all_bytes - taken)
-left_to_do taken Ended = 2 * (all_bytes - taken) + 1
-left_to_do taken (Refused r) = 2 * (all_bytes - taken)
 
 -- a sequence has at least one byte
 no_end : (front : List Instruction) (last : Instruction) → [] ≡ front ++ last ∷ [] → ⊥
@@ -129,9 +122,11 @@ module _ (taking : TakingLaws) (loading : Loading) (policy : Policy) (limits : B
   accepted_on : (old mid new : Sight) (before : List Pickle) (x : Pickle)
       → IsAcceptedBehind loading policy limits old mid before x → Takes mid new []
       → IsAcceptedBehind loading policy limits old new before x
-  accepted_on old mid new before x (a, same) takes =
-      (moved (begins loading.memo before) old mid old new _ x.imports a
-      (takes_no_more taking old mid new _ a.bytes takes), same)
+  accepted_on old mid new before x (a, same) takes = (
+    moved (begins loading.memo before) old mid old new _ x.imports a
+        (takes_no_more taking old mid new _ a.bytes takes),
+    same,
+  )
 
   -- one more pickle
   accepted_more : (old mid new : Sight) (before xs : List Pickle) (x : Pickle)
@@ -140,14 +135,22 @@ module _ (taking : TakingLaws) (loading : Loading) (policy : Policy) (limits : B
       → AreAccepted loading policy limits old new before (xs ++ x ∷ [])
   accepted_more old mid new before [] x takes h =
       let (a, same) = subst (λ l. IsAcceptedBehind loading policy limits mid new l x)
-          (append-nil before) h in
-      (new,
-          (moved (begins loading.memo before) mid new old new _ x.imports a
-          (taking.more old mid new [] _ takes a.bytes), same), taking.none new)
-  accepted_more old mid new before (y ∷ xs) x (between, first, rest) h =
-      (between, first, accepted_more between mid new (before ++ y ∷ []) xs x rest
-          (subst (λ l. IsAcceptedBehind loading policy limits mid new l x)
-          (sym (append_assoc before (y ∷ []) xs)) h))
+      (append-nil before) h in (
+        new,
+        (
+          moved (begins loading.memo before) mid new old new _ x.imports a
+              (taking.more old mid new [] _ takes a.bytes),
+          same,
+        ),
+        taking.none new,
+      )
+  accepted_more old mid new before (y ∷ xs) x (between, first, rest) h = (
+    between,
+    first,
+    accepted_more between mid new (before ++ y ∷ []) xs x rest
+        (subst (λ l. IsAcceptedBehind loading policy limits mid new l x)
+        (sym (append_assoc before (y ∷ []) xs)) h),
+  )
 
   -- the bytes of all pickles were taken
   pub accepted_bytes : (old new : Sight) (before xs : List Pickle)
@@ -172,7 +175,7 @@ module _ (taking : TakingLaws) (loading : Loading) (policy : Policy) (limits : B
   pub row_begins : (old : Sight) (pickles : ℕ) (apart : List Asked) → pickles ≡ 0 → apart ≡ []
       → RowSoFar loading policy limits old old
       (record { at = 0; beginning = begins loading.memo []; known = nothing_known }) pickles apart
-          []
+      []
   row_begins old pickles apart e none = record {
     each = taking.none old;
     from_is = refl;
@@ -202,9 +205,12 @@ module _ (taking : TakingLaws) (loading : Loading) (policy : Policy) (limits : B
         (spellings x.instructions ++ []) = ap (λ (l : List (List Instruction)). flat_map
         spellings l) (map-append (λ (y : Pickle). y.instructions) before (x ∷ [])) ∙
         flat_map-append spellings (sequences_of before) (x.instructions ∷ []) in
-        omega
-            (arith, ap length e, length-append (bytes_of_all before)
-            (spellings x.instructions ++ []), length-append (spellings x.instructions) [])
+        omega (
+          arith,
+          ap length e,
+          length-append (bytes_of_all before) (spellings x.instructions ++ []),
+          length-append (spellings x.instructions) [],
+        )
 
     module _ (p : List Instruction) (asked : List (Option Asked)) (s : ReaderState) (still_open : ℕ)
         (m : View)
@@ -213,12 +219,12 @@ module _ (taking : TakingLaws) (loading : Loading) (policy : Policy) (limits : B
       is_accepted : IsAcceptedBehind loading policy limits here s.source before (this p asked)
       is_accepted =
           let a = accepted loading.old_strings policy limits here origin p asked s still_open m
-              checked s.source (length (spellings p)) (imports_among asked) sequence refl
-              checked.reads.count refl in
+          checked s.source (length (spellings p)) (imports_among asked) sequence refl
+          checked.reads.count refl in
           subst
-              (λ b.
-              (a : AcceptedFrom loading.old_strings b policy limits here s.source
-              (length (spellings p)) (imports_among asked)) × (a.instructions ≡ p)) h.begins a
+          (λ b.
+          (a : AcceptedFrom loading.old_strings b policy limits here s.source
+          (length (spellings p)) (imports_among asked)) × (a.instructions ≡ p)) h.begins a
 
       -- the pickle that was read and judged here is accepted, and the next one begins
       pub pickle_more : (new : Sight) → Takes s.source new []
@@ -247,15 +253,20 @@ module _ (taking : TakingLaws) (loading : Loading) (policy : Policy) (limits : B
       ready : (memo : Memo) → origin.beginning ≡ begins memo before
           → IsReady loading.old_strings policy limits (begins memo (before ++ this p asked ∷ []))
           (restarted memo m)
-      ready Fresh e = record { begins = begins_afresh loading.old_strings policy; imports = refl;
-          same_limits = checked.same_limits; same_setting = checked.same_setting; refused = refl;
-          off = refl; stopped = refl }
+      ready Fresh e = record {
+        begins = begins_afresh loading.old_strings policy;
+        imports = refl;
+        same_limits = checked.same_limits;
+        same_setting = checked.same_setting;
+        refused = refl;
+        off = refl;
+        stopped = refl;
+      }
       ready Kept e = record {
         begins = begins_next loading.old_strings policy limits before origin.known
             (subst (λ b. Begins loading.old_strings policy b origin.known) e checked.begins)
             (payload_limit limits) p sequence m.knowledge asked checked.accepts;
-        imports = checked.imports
-            ∙ (ap (λ b. listed_before b ++ imports_among asked) e
+        imports = checked.imports ∙ (ap (λ b. listed_before b ++ imports_among asked) e
             ∙ sym (imports_more before (this p asked)));
         same_limits = checked.same_limits;
         same_setting = checked.same_setting;
@@ -280,8 +291,11 @@ module _ (taking : TakingLaws) (loading : Loading) (policy : Policy) (limits : B
     row_accepted taken imports some ends is within listed = record {
       row = before;
       ends = ends;
-      is_row = record { some = not_none some; each = accepted_sequences old here [] before h.each;
-          spelled = refl };
+      is_row = record {
+        some = not_none some;
+        each = accepted_sequences old here [] before h.each;
+        spelled = refl;
+      };
       bytes = accepted_bytes old here [] before h.each;
       count = is ∙ h.from_is;
       within = within;
@@ -342,11 +356,11 @@ module _ (taking : TakingLaws) (loading : Loading) (policy : Policy) (limits : B
         let open' : ReaderState = record s { phase = Open } in
         let origin : Origin = record { at = s.taken; beginning = b; known = m.knowledge } in
         let here = checked_again loading.old_strings policy limits s.source laws begins open' refl
-            same b m ready in
+        same b m ready in
         (refused_turned loading.old_strings policy limits s.source origin [] [] open' 0 m here
-            (record s { source = new }) x new
-            (record { no_stop = All-nil (λ i. i.op ≢ Stop); place = place; bytes = []; why = why })
-            refl).0
+        (record s { source = new }) x new
+        (record { no_stop = All-nil (λ i. i.op ≢ Stop); place = place; bytes = []; why = why })
+        refl).0
 
     -- the reader refused after STOP, or an allocation for the imports was refused
     pub refused_behind : NoByteIsRefused → (t : ReaderState) (x : ReadRefusal)
@@ -367,21 +381,6 @@ pub told_yes : (loading : Loading) (policy : Policy) (limits : Bounds) (old new 
     → AcceptedRow loading policy limits old mid m b v
     → AcceptedRow loading policy limits old new n a u
 told_yes loading policy limits old new mid n m a b u v d e f h r = rw (d, e, f, h) r
-
--- the measure falls when an instruction is taken
-left_most : (taken : ℕ) (p : Phase) → left_to_do taken p ≤ 2 * (all_bytes - taken) + 1
-left_most taken Open = omega arith
-left_most taken Ended = omega arith
-left_most taken (Refused r) = omega arith
-
-left_least : (taken : ℕ) (p : Phase) → 2 * (all_bytes - taken) ≤ left_to_do taken p
-left_least taken Open = omega arith
-left_least taken Ended = omega arith
-left_least taken (Refused r) = omega arith
-
-pub less_to_do : (s t : ℕ) (p q : Phase) (i : Instruction) → t ≡ s + length (spelling i)
-    → t ≤ all_bytes → left_to_do t q < left_to_do s p
-less_to_do s t p q i taken within = omega (arith, left_most t q, left_least s p, taken, within)
 
 pub count_on : (loading : Loading) (policy : Policy) (limits : Bounds) (old new : Sight) (n a : ℕ)
     (x : Reason) (u : Option Asked) → RefusedInRow loading policy limits old new n a x u

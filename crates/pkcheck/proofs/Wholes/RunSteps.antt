@@ -54,10 +54,13 @@ pub run_on : (setting : OldStrings) (b : Bool) (i : Instruction) (is : List Inst
     (o : Outcome) (os : List Outcome) (x : Ended) → CanCome o → All CanCome os
     → effect_asks (effect_as setting i) ≡ b → go_on (step_as setting i s o) (run_as setting is os) ≡
     x → (qs : List Outcome) × All CanCome qs × (run_as setting (i ∷ is) qs s ≡ x)
-run_on setting true i is s o os x can all b e =
-    (o ∷ os, All-cons CanCome o os can all, subst
-    (λ c. go_on (step_as setting i s o) (run_as setting is (outcomes_after c (o ∷ os))) ≡ x)
-    (sym b) e)
+run_on setting true i is s o os x can all b e = (
+  o ∷ os,
+  All-cons CanCome o os can all,
+  subst
+      (λ c. go_on (step_as setting i s o) (run_as setting is (outcomes_after c (o ∷ os))) ≡ x)
+      (sym b) e,
+)
 run_on setting false i is s o os x can all b e = (
   os,
   all,

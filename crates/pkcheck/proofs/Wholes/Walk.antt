@@ -16,7 +16,8 @@ use Rattle.pkcheck.proofs.Covering.CoversBy.{objects_grow}
 use Rattle.pkcheck.specs.WholeRuns.{Reached, first_outcome, go_on, run_as, CanGetTo}
 use Rattle.pkcheck.proofs.Covering.Verdicts.{Verdict, Yes, No, with_import, verdict_on, verdict}
 use Rattle.pkcheck.proofs.Covering.Following.{step_follows}
-use Rattle.pkcheck.proofs.Covering.Answering.{Answered, Word, new_text, new_text_holds, grows}
+use Rattle.pkcheck.proofs.Covering.Answering.{Answered, new_text, new_text_holds, grows}
+use Rattle.pkcheck.proofs.Covering.Words.{Word}
 use Rattle.pkcheck.proofs.Covering.Answering.{learn_exactly}
 use Rattle.pkcheck.proofs.Stepping.Settings.{only_stop}
 use Rattle.pkcheck.proofs.Wholes.RunSteps.{run_on, same_reached, each_on, gone, going}
@@ -66,13 +67,13 @@ module _ (setting : OldStrings) (p : Policy) (l : Bounds) where
       let s = yes_parts k j [] asked e in
       let g' : advance setting p l i k ≡ Ok q = ap (advance setting p l i) s.0 ∙ g in
       ap (λ x. verdict_on x (verdict setting p l [])) g'
-          ∙ ap (λ bs. Yes q.after (bs ++ q.import ∷ [])) s.1
+      ∙ ap (λ bs. Yes q.after (bs ++ q.import ∷ [])) s.1
   verdict_more (x ∷ is) i k j q asked e g =
       let f = verdict_first (advance setting p l x k) (verdict setting p l is) j asked e in
       let more = verdict_more is i f.passed.after j q f.rest.listed f.rest.accepts g in
       ap (λ y. verdict_on y (verdict setting p l (is ++ i ∷ []))) f.passes
-          ∙ ap (with_import f.passed.import) more ∙ ap (λ bs. Yes q.after (bs ++ q.import ∷ []))
-          (sym f.rest.first)
+      ∙ ap (with_import f.passed.import) more ∙ ap (λ bs. Yes q.after (bs ++ q.import ∷ []))
+      (sym f.rest.first)
 
   -- an accepted list, split before one of its instructions
   pub record Split (before : List Instruction) (i : Instruction) (after : List Instruction)
@@ -90,11 +91,18 @@ module _ (setting : OldStrings) (p : Policy) (l : Bounds) where
       → verdict setting p l (before ++ i ∷ after) k ≡ Yes j asked → Split before i after k asked
   verdict_split [] i after k j asked e =
       let f = verdict_first (advance setting p l i k) (verdict setting p l after) j asked e in
-      record { known = k; earlier = []; later = f.rest.listed; passed = f.passed; accepts = refl;
-          passes = f.passes; listed = f.rest.first }
+      record {
+        known = k;
+        earlier = [];
+        later = f.rest.listed;
+        passed = f.passed;
+        accepts = refl;
+        passes = f.passes;
+        listed = f.rest.first;
+      }
   verdict_split (x ∷ before) i after k j asked e =
       let f = verdict_first (advance setting p l x k)
-          (verdict setting p l (before ++ i ∷ after)) j asked e in
+      (verdict setting p l (before ++ i ∷ after)) j asked e in
       let s = verdict_split before i after f.passed.after j f.rest.listed f.rest.accepts in
       record {
         known = s.known;
@@ -122,26 +130,31 @@ module _ (setting : OldStrings) (p : Policy) (l : Bounds) where
       let v = word.text in
       let o = new_text v s in
       let f : FollowsBy (Answered v) q s (step_as setting i s o) = subst
-          (λ x. FollowsIfOk (Answered v) x s (step_as setting i s o)) e
-          (step_follows (Answered v) (grows v) setting p l i k s o c (new_text_holds v s)) in
+      (λ x. FollowsIfOk (Answered v) x s (step_as setting i s o)) e
+      (step_follows (Answered v) (grows v) setting p l i k s o c (new_text_holds v s)) in
       let goes = going l (number_stored (effect_as setting i) i) v (effect_as setting i) k s
-          (step_as setting i s o) q (learn p (effect_as setting i) i k)
-          (learn_exactly v p (effect_as setting i) i k s (length s.objects) (Text v) c) e in
+      (step_as setting i s o) q (learn p (effect_as setting i) i k)
+      (learn_exactly v p (effect_as setting i) i k s (length s.objects) (Text v) c) e in
       let w = gone (effect_as setting i) (Answered v) q s (step_as setting i s o)
-          (only_stop setting i on) goes f in
-      let m = h.some word w.0 w.2 in
-      (m.0, run_on setting (effect_asks (effect_as setting i)) i is s o m.1.0
-          (Reached m.0) word.utf8 m.1.1 refl
-          (ap (λ st. go_on st (run_as setting is m.1.0)) w.1 ∙ m.1.2), m.2)
+      (only_stop setting i on) goes f in
+      let m = h.some word w.0 w.2 in (
+        m.0,
+        run_on setting (effect_asks (effect_as setting i)) i is s o m.1.0
+            (Reached m.0) word.utf8 m.1.1 refl
+            (ap (λ st. go_on st (run_as setting is m.1.0)) w.1 ∙ m.1.2),
+        m.2,
+      )
 
   pub along : (is : List Instruction) (k known : Knowledge) (asked : List (Option Asked))
       → StopsNowhere is → verdict setting p l is k ≡ Yes known asked → Along is k known
   along [] k known asked on e =
       let s = yes_parts k known [] asked e in
-      record { each = λ s' t os c h. subst (λ x. CoversBy IsObject known x) (same_reached s' t h)
-          (subst (λ x. CoversBy IsObject x s') s.0 c);
-          some = λ v s' c.
-          (s', ([], All-nil CanCome, refl), subst (λ x. CoversBy (Answered v.text) x s') s.0 c) }
+      record {
+        each = λ s' t os c h. subst (λ x. CoversBy IsObject known x) (same_reached s' t h)
+            (subst (λ x. CoversBy IsObject x s') s.0 c);
+        some = λ v s' c.
+            (s', ([], All-nil CanCome, refl), subst (λ x. CoversBy (Answered v.text) x s') s.0 c);
+      }
   along (i ∷ is) k known asked on e =
       let f = verdict_first (advance setting p l i k) (verdict setting p l is) known asked e in
       let h = along is f.passed.after known f.rest.listed on.1 f.rest.accepts in
@@ -149,9 +162,9 @@ module _ (setting : OldStrings) (p : Policy) (l : Bounds) where
         each = λ s t os c g.
             let st = step_as setting i s (first_outcome os) in
             let w : FollowsBy IsObject f.passed s st = subst
-                (λ x. FollowsIfOk IsObject x s st) f.passes
-                (step_follows IsObject objects_grow setting p l i k s (first_outcome os) c
-                (any_answer s.objects (first_outcome os))) in
+            (λ x. FollowsIfOk IsObject x s st) f.passes
+            (step_follows IsObject objects_grow setting p l i k s (first_outcome os) c
+            (any_answer s.objects (first_outcome os))) in
             each_on setting f.passed s st is _ t known w (λ u c'. h.each u t _ c') g;
         some = some_on i is k known f.passed h f.passes on.0;
       }

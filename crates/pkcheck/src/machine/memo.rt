@@ -113,26 +113,31 @@ impl Memo {
                 Err(_) => Err(Reason::OutOfMemory),
             };
         }
-        self.store_apart(limits, number, value)
+        self.store_other(limits, number, value)
     }
 
     /// Like `store`, for a number that is not the next in order. The separate call gives its result
     /// a stack slot only on this path.
     #[inline(always)]
-    fn store_apart(&mut self, limits: &Limits, number: u64, value: Value) -> Result<(), Reason>
+    fn store_other(&mut self, limits: &Limits, number: u64, value: Value) -> Result<(), Reason>
         requires { length self.old ≤ limits.now.memo }
         ensures ok { OnOk result (self.new ≡ stored number value self.old) }
         ensures room { OnOk result (length self.new ≤ limits.now.memo) }
         ensures err { IfErr result (λ r. (self.new ≡ self.old)
             × WantsMemo limits.now.memo (stored number value self.old) r) }
     {
-        self.store_elsewhere(limits, number, value)?;
+        self.store_other_slowly(limits, number, value)?;
         Ok(())
     }
 
     /// Like `store`, for a number that is not the next in order. Out of line.
     #[inline(never)]
-    fn store_elsewhere(&mut self, limits: &Limits, number: u64, value: Value) -> Result<(), Reason>
+    fn store_other_slowly(
+        &mut self,
+        limits: &Limits,
+        number: u64,
+        value: Value,
+    ) -> Result<(), Reason>
         requires { length self.old ≤ limits.now.memo }
         ensures ok { OnOk result (self.new ≡ stored number value self.old) }
         ensures room { OnOk result (length self.new ≤ limits.now.memo) }

@@ -179,7 +179,7 @@ impl Stack {
     /// limit.
     #[inline(always)]
     #[tactic(auto, using(crate::proofs::Limited::length_shown, crate::proofs::Shown::shown_append))]
-    fn push_apart(&mut self, value: Value) -> Result<(), Reason>
+    fn push_object(&mut self, value: Value) -> Result<(), Reason>
         ensures ok { OnOk result (self.new ≡ Item value ∷ self.old) }
         ensures err { IfErr result (λ r. (self.new ≡ self.old) × (r ≡ Reason.OutOfMemory)) }
     {
@@ -266,7 +266,7 @@ impl Stack {
             return Err(Reason::TooLarge);
         }
         if place >= self.len() {
-            return self.push_apart(value);
+            return self.push_object(value);
         }
         self.replace_all(place, marks, value);
         Ok(())

@@ -31,11 +31,20 @@ record CountedBy (lay : Layout) (arg : Argument) (count : ℕ) : Type 0 where
 -- an argument is within its own count
 own_count : (lay : Layout) (arg : Argument) → Suits lay arg
     → (count : ℕ) × IsWithin count arg × ((count ≡ 0) ⊎ CountedBy lay arg count)
-own_count (layout.Counted size signed) (Counted payload) s =
-    (length payload, omega arith,
-    inr
-    (record { size = size; signed = signed; payload = payload; is_lay = refl; is_arg = refl;
-    fits = s; count_is = refl }))
+own_count (layout.Counted size signed) (Counted payload) s = (
+  length payload,
+  omega arith,
+  inr
+      (record {
+        size = size;
+        signed = signed;
+        payload = payload;
+        is_lay = refl;
+        is_arg = refl;
+        fits = s;
+        count_is = refl;
+      }),
+)
 own_count _ (Counted payload) s = absurd s
 own_count lay _ s = (0, tt, inl refl)
 
@@ -47,10 +56,10 @@ count_behind : (size : Width) (signed : Bool) (payload bytes more : List ℕ)
 count_behind size signed payload bytes more fits parts le =
     let field = little_bytes (size_of size) (length payload) in
     let len : length field ≡ size_of size = length-bytes_low_first 0 (size_of size)
-        (length payload) in
+    (length payload) in
     let c = cut field payload bytes more parts (omega arith) in
     ap (little_number (size_of size)) c.1 ∙ little_number-reads_back (size_of size)
-        (length payload) c.0 (omega (arith, limit_fits size signed))
+    (length payload) c.0 (omega (arith, limit_fits size signed))
 
 -- a count reads the same with more bytes behind it
 count_longer : (n : ℕ) (bytes more : List ℕ) → n ≤ length bytes
@@ -58,7 +67,7 @@ count_longer : (n : ℕ) (bytes more : List ℕ) → n ≤ length bytes
 count_longer n bytes more le =
     sym (little_from-take 0 n n (bytes ++ more) (omega arith))
     ∙ (ap (little_number n) (take-append-le n bytes more le)
-        ∙ little_from-take 0 n n bytes (omega arith))
+    ∙ little_from-take 0 n n bytes (omega arith))
 
 has_count : (op : Op) (bytes rest after : List ℕ) (arg : Argument) (count : ℕ)
     → code_of op ∷ laid (layout_at op) arg ≡ bytes ++ rest
@@ -76,7 +85,7 @@ has_count op (x ∷ behind) rest after arg count parts le c =
     let first : x ≡ code_of op = cc in
     let tail : laid (layout_at op) arg ≡ behind ++ rest = cc in
     let tail' : little_bytes (size_of c.size) (length c.payload) ++ c.payload ≡ behind ++ rest =
-        rw (c.is_lay, c.is_arg) at tail in
+    rw (c.is_lay, c.is_arg) at tail in
     record {
       size = c.size;
       signed = c.signed;
@@ -95,26 +104,39 @@ pub begun_is_counted : (limit : ℕ) (bytes after : List ℕ) → Begun limit by
     ⊎ ((op : Op) × (count : ℕ) × HasCount op (bytes ++ after) count × (length bytes < count + 9))
 begun_is_counted limit bytes after (i, more, h) =
     elim (cases_lt (length (drop 1 bytes)) (count_len (layout_at i.op))) [
-  | inl lt ↦
-      let begun : Begun 0 bytes =
-          (i, more,
-          record { may = record { suits = h.may.suits; within = λ le. absurd (omega arith) };
-          parts = h.parts; lacks = h.lacks }) in
-      inl (omega (arith, begun_is_short 0 bytes begun))
-  | inr le ↦
-      let own = own_count (layout_at i.op) i.arg h.may.suits in
-      let begun : Begun own.0 bytes =
-          (i, more,
-          record { may = record { suits = h.may.suits; within = λ le. own.1 }; parts = h.parts;
-          lacks = h.lacks }) in
-      let short = begun_is_short own.0 bytes begun in
-      elim own.2 [
-        | inl none ↦ inl (omega (arith, none, short))
-        | inr c ↦ elim (cases_lt (length bytes) 131_075) [
-          | inl few ↦ inl few
-          | inr many ↦ inr
-                (i.op, own.0, has_count i.op bytes more after i.arg own.0 h.parts le c,
-                omega (arith, short))
-        ]
-      ]
-]
+      | inl lt ↦
+          let begun : Begun 0 bytes = (
+            i,
+            more,
+            record {
+              may = record { suits = h.may.suits; within = λ le. absurd (omega arith) };
+              parts = h.parts;
+              lacks = h.lacks;
+            },
+          ) in
+          inl (omega (arith, begun_is_short 0 bytes begun))
+      | inr le ↦
+          let own = own_count (layout_at i.op) i.arg h.may.suits in
+          let begun : Begun own.0 bytes = (
+            i,
+            more,
+            record {
+              may = record { suits = h.may.suits; within = λ le. own.1 };
+              parts = h.parts;
+              lacks = h.lacks;
+            },
+          ) in
+          let short = begun_is_short own.0 bytes begun in
+          elim own.2 [
+            | inl none ↦ inl (omega (arith, none, short))
+            | inr c ↦ elim (cases_lt (length bytes) 131_075) [
+              | inl few ↦ inl few
+              | inr many ↦ inr (
+                i.op,
+                own.0,
+                has_count i.op bytes more after i.arg own.0 h.parts le c,
+                omega (arith, short),
+              )
+            ]
+          ]
+    ]

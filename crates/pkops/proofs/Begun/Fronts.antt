@@ -10,9 +10,16 @@ fronts_begin limit front more (i, rest, h) = (
   i,
   more ++ rest,
   record {
-    may = record { suits = h.may.suits; within = λ le. h.may.within
-        (omega (arith, length-drop 1 front, length-drop 1 (front ++ more),
-        length-append front more)) };
+    may = record {
+      suits = h.may.suits;
+      within = λ le. h.may.within
+          (omega (
+            arith,
+            length-drop 1 front,
+            length-drop 1 (front ++ more),
+            length-append front more,
+          ));
+    };
     parts = h.parts ∙ append_assoc front more rest;
     lacks = not_nil (more ++ rest) (omega (arith, length-append more rest, some_left rest h.lacks));
   },

@@ -49,21 +49,31 @@ pub field_whole : (limit : ℕ) (lay : Layout) (from : List ℕ) → IsFixed lay
 unfolding arg_at
 field_whole limit layout.Nothing [] f e = (Nothing, refl, refl)
 field_whole limit layout.Nothing (x ∷ from) f e = absurd (omega arith)
-field_whole limit layout.U1 from f e =
-    (Number 1 (little_number 1 from), rw (enough 1 from (omega arith), none_after 1 from e) refl,
-    refl)
-field_whole limit layout.U2 from f e =
-    (Number 2 (little_number 2 from), rw (enough 2 from (omega arith), none_after 2 from e) refl,
-    refl)
-field_whole limit layout.I4 from f e =
-    (Signed (cast_signed w32 (little_number 4 from)),
-    rw (enough 4 from (omega arith), none_after 4 from e) refl, refl)
-field_whole limit layout.U4 from f e =
-    (Number 4 (little_number 4 from), rw (enough 4 from (omega arith), none_after 4 from e) refl,
-    refl)
-field_whole limit layout.U8 from f e =
-    (Number 8 (little_number 8 from), rw (enough 8 from (omega arith), none_after 8 from e) refl,
-    refl)
+field_whole limit layout.U1 from f e = (
+  Number 1 (little_number 1 from),
+  rw (enough 1 from (omega arith), none_after 1 from e) refl,
+  refl,
+)
+field_whole limit layout.U2 from f e = (
+  Number 2 (little_number 2 from),
+  rw (enough 2 from (omega arith), none_after 2 from e) refl,
+  refl,
+)
+field_whole limit layout.I4 from f e = (
+  Signed (cast_signed w32 (little_number 4 from)),
+  rw (enough 4 from (omega arith), none_after 4 from e) refl,
+  refl,
+)
+field_whole limit layout.U4 from f e = (
+  Number 4 (little_number 4 from),
+  rw (enough 4 from (omega arith), none_after 4 from e) refl,
+  refl,
+)
+field_whole limit layout.U8 from f e = (
+  Number 8 (little_number 8 from),
+  rw (enough 8 from (omega arith), none_after 8 from e) refl,
+  refl,
+)
 field_whole limit layout.F8 from f e =
     (Float (take 8 from), rw (many_bytes 8 from (omega arith), none_after 8 from e) refl, refl)
 field_whole limit _ from f e = absurd f
@@ -118,7 +128,7 @@ module _ (limit : ℕ) (o : Op) (size : Width) (signed : Bool)
     reads under within =
         plain limit size signed (field ++ more) long (rw same under) (rw same within)
         ∙ (ap (λ (n : ℕ). bytes_at n (drop (size_of size) (field ++ more))) same
-            ∙ ap (bytes_at count) behind)
+        ∙ ap (bytes_at count) behind)
 
     arg_reads : count < count_limit size signed → count ≤ limit
         → arg_at limit (layout_at o) (field ++ more) ≡ arg_at limit (layout.Counted size signed)
@@ -130,7 +140,7 @@ module _ (limit : ℕ) (o : Op) (size : Width) (signed : Bool)
   unfolding arg_at
   payload_begun more fits under within l =
       begun limit (code_of o) (field ++ more) o refl fits
-          (rw (is, reads more under within, few_bytes count more l) refl)
+      (rw (is, reads more under within, few_bytes count more l) refl)
 
   pub payload_lies : (more : List ℕ) → IsBytes (field ++ more) → count < count_limit size signed
       → count ≤ limit → length more ≡ count → Lies limit o (Counted more) 0
@@ -139,8 +149,13 @@ module _ (limit : ℕ) (o : Op) (size : Width) (signed : Bool)
   payload_lies more fits under within l =
       let all : take count more ≡ more = take_all count more (omega arith) in
       read_lies limit o (Counted more) (field ++ more) fits
-          (rw (is, reads more under within, many_bytes count more (omega arith),
-          none_after count more l, all) refl) refl
+      (rw (
+        is,
+        reads more under within,
+        many_bytes count more (omega arith),
+        none_after count more l,
+        all,
+      ) refl) refl
 
   pub count_negative : IsBytes field → count_limit size signed ≤ count
       → HasFault limit BadArgument (code_of o ∷ field)

@@ -73,14 +73,22 @@ argument_short limit (layout.Pair most) (Pair first second) l s w =
     let first_short = s.0.short in
     let second_short = s.1.short in
     inr
-        (omega (arith, length-append (first ++ 10 ∷ []) (second ++ 10 ∷ []),
-        length-append first (10 ∷ []), length-append second (10 ∷ [])))
+    (omega (
+      arith,
+      length-append (first ++ 10 ∷ []) (second ++ 10 ∷ []),
+      length-append first (10 ∷ []),
+      length-append second (10 ∷ []),
+    ))
 argument_short limit (layout.Pair most) _ l s w = absurd s
 argument_short limit (layout.Counted size signed) (Counted payload) l s w =
     inl
-        (omega
-        (arith, small_size size, length-append (little_bytes (size_of size) (length payload))
-        payload, length-bytes_low_first 0 (size_of size) (length payload)))
+    (omega (
+      arith,
+      small_size size,
+      length-append (little_bytes (size_of size) (length payload))
+          payload,
+      length-bytes_low_first 0 (size_of size) (length payload),
+    ))
 argument_short limit (layout.Counted size signed) _ l s w = absurd s
 
 below_longest : (limit n : ℕ) → IsShort limit n → n < longest limit
@@ -95,10 +103,10 @@ pub begun_is_short : (limit : ℕ) (bytes : List ℕ) → Begun limit bytes → 
 begun_is_short limit bytes (i, more, h) =
     elim (cases_lt (length (drop 1 bytes)) (count_len (layout_at i.op))) [
       | inl lt ↦ below_longest limit (length bytes)
-            (inr (omega (arith, small_count (layout_at i.op), length-drop 1 bytes)))
+          (inr (omega (arith, small_count (layout_at i.op), length-drop 1 bytes)))
       | inr le ↦
           let short = below_longest limit _
-              (argument_short limit (layout_at i.op) i.arg (has_lines (kind_of i.op)) h.may.suits
-              (h.may.within le)) in
+          (argument_short limit (layout_at i.op) i.arg (has_lines (kind_of i.op)) h.may.suits
+          (h.may.within le)) in
           omega (arith, ap length h.parts, length-append bytes more, some_left more h.lacks)
     ]

@@ -87,16 +87,24 @@ escape_spelled : (letter count : ℕ) (digits bytes points : List ℕ) → IsFor
     → SpellsText (92 ∷ letter ∷ (digits ++ bytes)) (digits_value 16 digits ∷ points)
 escape_spelled letter count digits bytes points (inl form) len all scalar spelled =
     subst (λ (l : ℕ). SpellsText (92 ∷ l ∷ (digits ++ bytes)) (digits_value 16 digits ∷ points))
-        (sym form.0)
+    (sym form.0)
     (one_more (short digits) bytes points
-        (record { count = len ∙ form.1; hexadecimal = AllPass-from_list_all is_ascii_hexdigit digits
-        all; scalar = scalar }) spelled)
+    (record {
+      count = len ∙ form.1;
+      hexadecimal = AllPass-from_list_all is_ascii_hexdigit digits
+          all;
+      scalar = scalar;
+    }) spelled)
 escape_spelled letter count digits bytes points (inr form) len all scalar spelled =
     subst (λ (l : ℕ). SpellsText (92 ∷ l ∷ (digits ++ bytes)) (digits_value 16 digits ∷ points))
-        (sym form.0)
+    (sym form.0)
     (one_more (long digits) bytes points
-        (record { count = len ∙ form.1; hexadecimal = AllPass-from_list_all is_ascii_hexdigit digits
-        all; scalar = scalar }) spelled)
+    (record {
+      count = len ∙ form.1;
+      hexadecimal = AllPass-from_list_all is_ascii_hexdigit digits
+          all;
+      scalar = scalar;
+    }) spelled)
 
 -- the digits so far of an escape of which so many are left
 record IsSoFar (letter size : ℕ) (digits : List ℕ) (left value : ℕ) : Type 0 where
@@ -112,7 +120,7 @@ Completes Outside bytes points = SpellsText bytes points
 Completes Behind bytes points = SpellsText (92 ∷ bytes) points
 Completes (Digits left value) bytes points =
     (letter size : ℕ) (digits : List ℕ) → IsSoFar letter size digits left value
-        → SpellsText (92 ∷ letter ∷ (digits ++ bytes)) points
+    → SpellsText (92 ∷ letter ∷ (digits ++ bytes)) points
 
 some_mapped : (point : Option ℕ) (read : Option (List ℕ)) (points : List ℕ)
     → option_map (with_point point) read ≡ Some points → (rest : List ℕ) × (read ≡ Some rest)
@@ -126,7 +134,7 @@ Read state bytes points = code_points state bytes ≡ Some points
 abbrev Stepped : State → ℕ → (bytes points : List ℕ) → Type 0
 Stepped state byte bytes points =
     option_and_then (λ next. option_map (with_point next.1) (code_points next.0 bytes))
-        (escape_step state byte) ≡ Some points
+    (escape_step state byte) ≡ Some points
 
 -- one more digit
 digit_leads : (left value byte : ℕ) (bytes points : List ℕ)
@@ -135,55 +143,60 @@ digit_leads : (left value byte : ℕ) (bytes points : List ℕ)
     → Completes (Digits left value) (byte ∷ bytes) points
 digit_leads left value byte bytes points ih e letter size digits far =
     elim (cases_Bool (is_ascii_hexdigit byte)) [
-  | inr n ↦ absurd (let f = rw n at e in cc)
-  | inl h ↦
-      let now = value * 16 + digit_value byte in
-      let more = digits ++ byte ∷ [] in
-      let now_is : digits_value 16 more ≡ now = value_snoc 0 digits byte
+      | inr n ↦ absurd (let f = rw n at e in cc)
+      | inl h ↦
+          let now = value * 16 + digit_value byte in
+          let more = digits ++ byte ∷ [] in
+          let now_is : digits_value 16 more ≡ now = value_snoc 0 digits byte
           ∙ ap (λ (v : ℕ). v * 16 + digit_value byte) far.value_is in
-      let grouped : more ++ bytes ≡ digits ++ byte ∷ bytes =
+          let grouped : more ++ bytes ≡ digits ++ byte ∷ bytes =
           append_assoc digits (byte ∷ []) bytes in
-      let len : length more ≡ length digits + 1 = length-append digits (byte ∷ []) in
-      let some = far.some in
-      let count = far.count in
-      elim (cases_Bool (ltb left 2)) [
-        | inl last ↦
-            let lt = ltb-true left 2 last in
-            elim (cases_Bool (is_scalar now)) [
-              | inl s ↦
-                  let m = some_mapped (Some now) (code_points Outside bytes) points
+          let len : length more ≡ length digits + 1 = length-append digits (byte ∷ []) in
+          let some = far.some in
+          let count = far.count in
+          elim (cases_Bool (ltb left 2)) [
+            | inl last ↦
+                let lt = ltb-true left 2 last in
+                elim (cases_Bool (is_scalar now)) [
+                  | inl s ↦
+                      let m = some_mapped (Some now) (code_points Outside bytes) points
                       (rw (h, last, s) at e) in
-                  let scalar : IsScalar (digits_value 16 more) =
+                      let scalar : IsScalar (digits_value 16 more) =
                       subst IsScalar (sym now_is) (scalar_is now s) in
-                  let spelled = escape_spelled letter size more bytes m.0 far.form
+                      let spelled = escape_spelled letter size more bytes m.0 far.form
                       (omega (arith, len)) (all_snoc digits byte far.all h) scalar
                       (ih Outside m.0 m.1) in
-                  let points_is : digits_value 16 more ∷ m.0 ≡ points =
+                      let points_is : digits_value 16 more ∷ m.0 ≡ points =
                       ap (λ (v : ℕ). v ∷ m.0) now_is ∙ m.2 in
-                  subst (λ (p : List ℕ). SpellsText (92 ∷ letter ∷ (digits ++ byte ∷ bytes)) p)
+                      subst (λ (p : List ℕ). SpellsText (92 ∷ letter ∷ (digits ++ byte ∷ bytes)) p)
                       points_is
                       (subst
                       (λ (t : List ℕ). SpellsText (92 ∷ letter ∷ t) (digits_value 16 more ∷ m.0))
                       grouped spelled)
-              | inr n ↦ absurd (let f = rw (h, last, n) at e in cc)
-            ]
-        | inr longer ↦
-            let ge = ltb-false left 2 longer in
-            elim (cases_Bool (ltb now 1114112)) [
-              | inl small ↦
-                  let m = some_mapped None (code_points (Digits (left - 1) now) bytes) points
+                  | inr n ↦ absurd (let f = rw (h, last, n) at e in cc)
+                ]
+            | inr longer ↦
+                let ge = ltb-false left 2 longer in
+                elim (cases_Bool (ltb now 1114112)) [
+                  | inl small ↦
+                      let m = some_mapped None (code_points (Digits (left - 1) now) bytes) points
                       (rw (h, longer, small) at e) in
-                  let next : IsSoFar letter size more (left - 1)
-                      now = record { form = far.form; some = omega arith;
-                      count = omega (arith, len); all = all_snoc digits byte far.all h; value_is =
-                      now_is } in
-                  let spelled = ih (Digits (left - 1) now) m.0 m.1 letter size more next in
-                  subst (λ (p : List ℕ). SpellsText (92 ∷ letter ∷ (digits ++ byte ∷ bytes)) p) m.2
-                      (subst (λ (t : List ℕ). SpellsText (92 ∷ letter ∷ t) m.0) grouped spelled)
-              | inr n ↦ absurd (let f = rw (h, longer, n) at e in cc)
-            ]
-      ]
-]
+                      let next : IsSoFar letter size more (left - 1)
+                      now = record {
+                        form = far.form;
+                        some = omega arith;
+                        count = omega (arith, len);
+                        all = all_snoc digits byte far.all h;
+                        value_is =
+                            now_is;
+                      } in
+                      let spelled = ih (Digits (left - 1) now) m.0 m.1 letter size more next in
+                      subst (λ (p : List ℕ). SpellsText (92 ∷ letter ∷ (digits ++ byte ∷ bytes)) p)
+                      m.2 (subst (λ (t : List ℕ). SpellsText (92 ∷ letter ∷ t) m.0) grouped spelled)
+                  | inr n ↦ absurd (let f = rw (h, longer, n) at e in cc)
+                ]
+          ]
+    ]
 
 leads : (state : State) (byte : ℕ) (bytes points : List ℕ)
     → ((next : State) (rest : List ℕ) → Read next bytes rest → Completes next bytes rest)
@@ -192,26 +205,36 @@ leads Outside byte bytes points ih e = elim (cases_Bool (eqb byte 92)) [
   | inl b ↦
       let m = some_mapped None (code_points Behind bytes) points (rw b at e) in
       subst (λ (x : ℕ). SpellsText (x ∷ bytes) points) (sym (eqb-true byte 92 b))
-          (subst (λ (p : List ℕ). SpellsText (92 ∷ bytes) p) m.2 (ih Behind m.0 m.1))
+      (subst (λ (p : List ℕ). SpellsText (92 ∷ bytes) p) m.2 (ih Behind m.0 m.1))
   | inr n ↦
       let m = some_mapped (Some byte) (code_points Outside bytes) points (rw n at e) in
       subst (λ (p : List ℕ). SpellsText (byte ∷ bytes) p) m.2
-          (one_more (plain byte) bytes m.0 (eqb-false byte 92 n) (ih Outside m.0 m.1))
+      (one_more (plain byte) bytes m.0 (eqb-false byte 92 n) (ih Outside m.0 m.1))
 ]
 leads Behind byte bytes points ih e = elim (cases_Bool (eqb byte 117)) [
   | inl u ↦
       let m = some_mapped None (code_points (Digits 4 0) bytes) points (rw u at e) in
       subst (λ (p : List ℕ). SpellsText (92 ∷ byte ∷ bytes) p) m.2
-          (ih (Digits 4 0) m.0 m.1 byte 4 []
-          (record { form = inl (eqb-true byte 117 u, refl); some = omega arith; count = refl;
-          all = refl; value_is = refl }))
+      (ih (Digits 4 0) m.0 m.1 byte 4 []
+      (record {
+        form = inl (eqb-true byte 117 u, refl);
+        some = omega arith;
+        count = refl;
+        all = refl;
+        value_is = refl;
+      }))
   | inr nu ↦ elim (cases_Bool (eqb byte 85)) [
     | inl u ↦
         let m = some_mapped None (code_points (Digits 8 0) bytes) points (rw (nu, u) at e) in
         subst (λ (p : List ℕ). SpellsText (92 ∷ byte ∷ bytes) p) m.2
-            (ih (Digits 8 0) m.0 m.1 byte 8 []
-            (record { form = inr (eqb-true byte 85 u, refl); some = omega arith; count = refl;
-            all = refl; value_is = refl }))
+        (ih (Digits 8 0) m.0 m.1 byte 8 []
+        (record {
+          form = inr (eqb-true byte 85 u, refl);
+          some = omega arith;
+          count = refl;
+          all = refl;
+          value_is = refl;
+        }))
     | inr n ↦ absurd (let f = rw (nu, n) at e in cc)
   ]
 ]
@@ -272,8 +295,8 @@ digits_read (digit ∷ next ∷ digits) value bytes some all scalar =
     let long : ltb (length (digit ∷ next ∷ digits)) 2 ≡ false = le-ltb _ _ (omega arith) in
     let left : length (digit ∷ next ∷ digits) - 1 ≡ length (next ∷ digits) = omega arith in
     passes (Digits (length (digit ∷ next ∷ digits)) value)
-        (Digits (length (next ∷ digits)) now) digit ((next ∷ digits) ++ bytes)
-        (rw (p.0, long, small, left) refl)
+    (Digits (length (next ∷ digits)) now) digit ((next ∷ digits) ++ bytes)
+    (rw (p.0, long, small, left) refl)
     ∙ digits_read (next ∷ digits) now bytes (omega arith) p.1 scalar
 
 escape_read : (letter size : ℕ) (digits bytes : List ℕ) → 1 ≤ size
@@ -286,7 +309,7 @@ escape_read letter size digits bytes some step h =
     ∙ (passes Behind (Digits size 0) letter (digits ++ bytes) step
     ∙ (ap (λ (n : ℕ). code_points (Digits n 0) (digits ++ bytes)) same
     ∙ digits_read digits 0 bytes (omega arith)
-        (list_all-from_AllPass is_ascii_hexdigit digits h.hexadecimal) h.scalar))
+    (list_all-from_AllPass is_ascii_hexdigit digits h.hexadecimal) h.scalar))
 
 character_read : (character : Character) (bytes : List ℕ) → IsCharacter character
     → code_points Outside (print_character character ++ bytes) ≡ after (code_point character) bytes
@@ -300,14 +323,14 @@ unfolding code_points
 characters_read [] h = refl
 characters_read (character ∷ characters) h =
     character_read character (flat_map print_character characters)
-        (All-head IsCharacter character characters h)
+    (All-head IsCharacter character characters h)
     ∙ ap (option_map (with_point (Some (code_point character))))
-        (characters_read characters (All-tail IsCharacter character characters h))
+    (characters_read characters (All-tail IsCharacter character characters h))
 
 spelled_is_read : (line points : List ℕ) → SpellsText line points → text_named line ≡ Some points
 spelled_is_read line points (characters, all, line_is, points_is) =
     ap text_named line_is
-        ∙ (characters_read characters all ∙ ap (λ (p : List ℕ). Some p) (sym points_is))
+    ∙ (characters_read characters all ∙ ap (λ (p : List ℕ). Some p) (sym points_is))
 
 -- ---- what is read byte by byte is what is read character by character
 

@@ -34,18 +34,18 @@ pub after_end : (text : List ℕ) (end : ℕ) → position no_digit text ≡ Som
     → take (length text - end) (drop end text) ≡ after_digits text
 after_end text end e = take_rest text end
     ∙ elim (cases_Bool (nat_lt (position_or_len no_digit text) (length text))) [
-  | inl lt ↦ let is : position_or_len no_digit text ≡ end = (let f = rw lt at e in cc) in
-        ap (λ (n : ℕ). drop n text) (sym is) ∙ dropped text
-  | inr ge ↦ absurd (let f = rw ge at e in cc)
-]
+      | inl lt ↦ let is : position_or_len no_digit text ≡ end = (let f = rw lt at e in cc) in
+          ap (λ (n : ℕ). drop n text) (sym is) ∙ dropped text
+      | inr ge ↦ absurd (let f = rw ge at e in cc)
+    ]
 
 pub no_end : (text : List ℕ) → position no_digit text ≡ None → [] ≡ after_digits text
 no_end text e = elim (cases_Bool (nat_lt (position_or_len no_digit text) (length text))) [
   | inl lt ↦ absurd (let f = rw lt at e in cc)
   | inr ge ↦
       let none : drop (position_or_len no_digit text) text
-          ≡ [] = nil_from_length _
-          (omega (arith, length-drop (position_or_len no_digit text) text, ltb-false _ _ ge)) in
+      ≡ [] = nil_from_length _
+      (omega (arith, length-drop (position_or_len no_digit text) text, ltb-false _ _ ge)) in
       sym none ∙ dropped text
 ]
 
@@ -67,8 +67,12 @@ cut (x ∷ text) = elim (cases_Bool (is_ascii_digit x)) [
         parts = rw d (ap (λ (t : List ℕ). x ∷ t) c.parts);
         some = λ e. omega arith;
       }
-  | inr n ↦ record { front = []; digits = refl; parts = rw n refl;
-        some = λ e. absurd (both_ways _ n e) }
+  | inr n ↦ record {
+    front = [];
+    digits = refl;
+    parts = rw n refl;
+    some = λ e. absurd (both_ways _ n e);
+  }
 ]
 
 digits_of : (text : List ℕ) (some : starts_with_digit text ≡ true) → IsDigits (cut text).front
@@ -120,8 +124,13 @@ exponent_is (x ∷ []) e = absurd (let p = and_parts (eqb x 101) false e in let 
 exponent_is (x ∷ sign ∷ digits) e =
     let p = and_parts (eqb x 101) (is_signed_digits (sign ∷ digits)) e in
     let q = and_parts (eqb sign 43 || eqb sign 45) (is_digits digits) p.1 in
-    inr (sign ∷ [], digits, sign_is sign q.0, is_digits_is digits q.1,
-        ap (λ (y : ℕ). y ∷ sign ∷ digits) (eqb-true x 101 p.0))
+    inr (
+      sign ∷ [],
+      digits,
+      sign_is sign q.0,
+      is_digits_is digits q.1,
+      ap (λ (y : ℕ). y ∷ sign ∷ digits) (eqb-true x 101 p.0),
+    )
 
 signed_of : (sign digits : List ℕ) → IsSign sign → IsDigits digits
     → is_signed_digits (sign ++ digits) ≡ true
@@ -147,12 +156,17 @@ record IsTail (text : List ℕ) : Type 0 where
   parts : text ≡ fraction ++ exponent
 
 tail_is : (text : List ℕ) → is_after_whole text ≡ true → IsTail text
-tail_is [] e = record { fraction = []; exponent = []; fraction_is = inl refl;
-    exponent_is = inl refl; parts = refl }
+tail_is [] e = record {
+  fraction = [];
+  exponent = [];
+  fraction_is = inl refl;
+  exponent_is = inl refl;
+  parts = refl;
+}
 tail_is (x ∷ rest) e = elim (cases_Bool (eqb x 46)) [
   | inl point ↦
       let p = and_parts (starts_with_digit rest) (is_exponent_or_end (after_digits rest))
-          (rw point at e) in
+      (rw point at e) in
       let c = cut rest in
       record {
         fraction = 46 ∷ c.front;
@@ -162,8 +176,13 @@ tail_is (x ∷ rest) e = elim (cases_Bool (eqb x 46)) [
         parts = ap (λ (y : ℕ). y ∷ rest) (eqb-true x 46 point)
             ∙ ap (λ (t : List ℕ). 46 ∷ t) c.parts;
       }
-  | inr other ↦ record { fraction = []; exponent = x ∷ rest; fraction_is = inl refl;
-        exponent_is = exponent_is (x ∷ rest) (rw other at e); parts = refl }
+  | inr other ↦ record {
+    fraction = [];
+    exponent = x ∷ rest;
+    fraction_is = inl refl;
+    exponent_is = exponent_is (x ∷ rest) (rw other at e);
+    parts = refl;
+  }
 ]
 
 -- an exponent, or nothing, is no fraction
@@ -175,17 +194,21 @@ tail_of : (fraction exponent : List ℕ) → Optional IsFraction fraction → Op
     → (is_after_whole (fraction ++ exponent) ≡ true)
     × (starts_with_digit (fraction ++ exponent) ≡ false)
 tail_of fraction exponent (inl e) x =
-    let same : fraction ++ exponent ≡ exponent = ap (λ (f : List ℕ). f ++ exponent) e in
-    (ap is_after_whole same ∙ only_exponent exponent x, ap starts_with_digit same
-        ∙ (exponent_of exponent x).1)
+    let same : fraction ++ exponent ≡ exponent = ap (λ (f : List ℕ). f ++ exponent) e in (
+      ap is_after_whole same ∙ only_exponent exponent x,
+      ap starts_with_digit same
+          ∙ (exponent_of exponent x).1,
+    )
 tail_of fraction exponent (inr (digits, d, e)) x =
     let same : fraction ++ exponent ≡ 46 ∷ (digits ++ exponent) =
-        ap (λ (f : List ℕ). f ++ exponent) e in
+    ap (λ (f : List ℕ). f ++ exponent) e in
     let y = exponent_of exponent x in
     let all = all_of digits d in
-    let after : after_digits (digits ++ exponent) ≡ exponent = passed digits exponent all y.1 in
-    (ap is_after_whole same ∙ and_from _ _ (starts digits exponent d.some all)
-        (ap is_exponent_or_end after ∙ y.0), ap starts_with_digit same)
+    let after : after_digits (digits ++ exponent) ≡ exponent = passed digits exponent all y.1 in (
+      ap is_after_whole same ∙ and_from _ _ (starts digits exponent d.some all)
+          (ap is_exponent_or_end after ∙ y.0),
+      ap starts_with_digit same,
+    )
 
 -- ---- the whole
 
@@ -211,7 +234,7 @@ is_decimal_of text h =
     let all = all_of h.whole h.whole_is in
     let after : after_digits (h.whole ++ tail) ≡ tail = passed h.whole tail all t.1 in
     ap is_decimal h.parts ∙ and_from _ _ (starts h.whole tail h.whole_is.some all)
-        (ap is_after_whole after ∙ t.0)
+    (ap is_after_whole after ∙ t.0)
 
 word_is : (a b c : ℕ) (text : List ℕ) → is_word a b c text ≡ true → text ≡ a ∷ b ∷ c ∷ []
 word_is a b c [] e = absurd cc
@@ -221,8 +244,8 @@ word_is a b c (x ∷ y ∷ z ∷ []) e =
     let p = and_parts (eqb x a) _ e in
     let q = and_parts (eqb y b) _ p.1 in
     ap (λ (v : ℕ). v ∷ y ∷ z ∷ []) (eqb-true x a p.0)
-        ∙ (ap (λ (v : ℕ). a ∷ v ∷ z ∷ []) (eqb-true y b q.0)
-        ∙ ap (λ (v : ℕ). a ∷ b ∷ v ∷ []) (eqb-true z c q.1))
+    ∙ (ap (λ (v : ℕ). a ∷ v ∷ z ∷ []) (eqb-true y b q.0)
+    ∙ ap (λ (v : ℕ). a ∷ b ∷ v ∷ []) (eqb-true z c q.1))
 word_is a b c (x ∷ y ∷ z ∷ w ∷ rest) e = absurd cc
 
 unsigned_is : (text : List ℕ) → is_unsigned text ≡ true → IsUnsigned text
@@ -243,7 +266,7 @@ pub float_is : (line : List ℕ) → is_float_line line ≡ true → IsFloatLine
 float_is [] e = absurd cc
 float_is (x ∷ rest) e = elim (cases_Bool (eqb x 45)) [
   | inl minus ↦ inr
-        (rest, unsigned_is rest (rw minus at e), ap (λ (y : ℕ). y ∷ rest) (eqb-true x 45 minus))
+      (rest, unsigned_is rest (rw minus at e), ap (λ (y : ℕ). y ∷ rest) (eqb-true x 45 minus))
   | inr other ↦ inl (unsigned_is (x ∷ rest) (rw other at e))
 ]
 
@@ -258,8 +281,8 @@ pub is_float_of : (line : List ℕ) → IsFloatLine line → is_float_line line 
 is_float_of [] (inl u) = absurd (let e = is_unsigned_of [] u in cc)
 is_float_of (x ∷ rest) (inl u) = elim (cases_Bool (eqb x 45)) [
   | inl minus ↦ absurd
-        (both_ways _ (ap (λ (y : ℕ). is_unsigned (y ∷ rest)) (eqb-true x 45 minus) ∙ no_minus rest)
-        (is_unsigned_of (x ∷ rest) u))
+      (both_ways _ (ap (λ (y : ℕ). is_unsigned (y ∷ rest)) (eqb-true x 45 minus) ∙ no_minus rest)
+      (is_unsigned_of (x ∷ rest) u))
   | inr other ↦ rw other (is_unsigned_of (x ∷ rest) u)
 ]
 is_float_of line (inr (rest, u, e)) = ap is_float_line e ∙ is_unsigned_of rest u

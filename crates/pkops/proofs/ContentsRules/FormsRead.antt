@@ -64,7 +64,7 @@ module _ {A : Type 0} (first : ℕ → List ℕ → Option A) (print : A → Lis
       ∙ (rw r.read
       (ap (λ (n : ℕ). with_form form (forms_behind first print n (r.others ++ rest))) left
       ∙ (ap (with_form form) (past r.others rest)
-          ∙ ap (with_form form) (read_of forms (All-tail Is form forms h))))))
+      ∙ ap (with_form form) (read_of forms (All-tail Is form forms h))))))
 
   abbrev Printed : List ℕ → List A → Type 0
   Printed bytes forms = All Is forms × (bytes ≡ flat_map print forms)
@@ -75,7 +75,7 @@ module _ {A : Type 0} (first : ℕ → List ℕ → Option A) (print : A → Lis
   printed_more byte rest form forms all p h e =
       let left : length (print form) - 1 ≡ p.others = omega (arith, p.len) in
       let tail : drop p.others rest ≡ flat_map print forms =
-          ap (λ (n : ℕ). drop n rest) (sym left) ∙ h.1 in
+      ap (λ (n : ℕ). drop n rest) (sym left) ∙ h.1 in
       subst (λ (l : List A). Printed (byte ∷ rest) l) e
       (All-cons Is form forms p.is h.0, p.parts ∙ ap (λ (t : List ℕ). print form ++ t) tail)
 
@@ -95,7 +95,7 @@ module _ {A : Type 0} (first : ℕ → List ℕ → Option A) (print : A → Lis
   printed_at byte rest all None found ih e = absurd cc
   printed_at byte rest all (Some form) found ih e =
       printed_on byte rest form all (forms_behind first print (length (print form) - 1) rest)
-          (inverse.back byte rest form found) (ih (length (print form) - 1)) e
+      (inverse.back byte rest form found) (ih (length (print form) - 1)) e
 
   none_dropped : (inside : ℕ) (forms : List A) → [] ≡ forms → Printed (drop inside []) forms
   none_dropped zero forms e = subst (λ (l : List A). Printed [] l) e (All-nil Is, refl)

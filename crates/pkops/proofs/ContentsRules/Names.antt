@@ -44,5 +44,5 @@ pub are_text : (i : Instruction) (found : Arg) (first second : _) → shown_arg 
     → found ≡ arg.Pair first second → IsGood i → IsUtf8 first.now × IsUtf8 second.now
 are_text i found first second shown e h =
     let n = pair_names i.op first.now second.now
-        (subst (λ (a : Argument). IsGood (instruction i.op a)) (sym shown ∙ ap shown_arg e) h) in
+    (subst (λ (a : Argument). IsGood (instruction i.op a)) (sym shown ∙ ap shown_arg e) h) in
     (IsUtf8-from_ascii first.now n.0.ascii, IsUtf8-from_ascii second.now n.1.ascii)

@@ -72,8 +72,10 @@ is_numeral_of text (inr (digits, p, e)) = or_right (is_natural text) _
     (ap is_negative e ∙ is_positive_of digits p)
 
 pub int_is : (line : List ℕ) → is_int_line line ≡ true → IsIntLine line
-int_is line e = elim (or_cases (is_bool_line line) (is_numeral line) e) [ inl b ↦ inl b
-    | inr n ↦ inr (numeral_is line n) ]
+int_is line e = elim (or_cases (is_bool_line line) (is_numeral line) e) [
+  | inl b ↦ inl b
+  | inr n ↦ inr (numeral_is line n)
+]
 
 pub is_int_of : (line : List ℕ) → IsIntLine line → is_int_line line ≡ true
 is_int_of line (inl b) = or_left (is_bool_line line) _ b
@@ -95,8 +97,11 @@ long_is line e = elim (or_cases (is_numeral line) (is_marked_numeral line) e) [
   | inr m ↦
       let p = and_parts (ends_in_l line) _ m in
       let q = and_parts _ (eqb (get_or line (length line - 1) 0) 76) p.0 in
-      inr (take (length line - 1) line, numeral_is _ p.1,
-          marked line (ltb-true 0 (length line) q.0) (eqb-true _ 76 q.1))
+      inr (
+        take (length line - 1) line,
+        numeral_is _ p.1,
+        marked line (ltb-true 0 (length line) q.0) (eqb-true _ 76 q.1),
+      )
 ]
 
 is_marked_of : (numeral : List ℕ) → IsNumeral numeral
@@ -106,9 +111,14 @@ is_marked_of numeral n =
     let before : length (numeral ++ 76 ∷ []) - 1 ≡ length numeral = omega (arith, len) in
     let some : 0 < length (numeral ++ 76 ∷ []) = omega (arith, len) in
     let last : get_or (numeral ++ 76 ∷ []) (length numeral) 0 ≡ 76 =
-        get_or-append_seam numeral 76 [] 0 in
-    rw (lt-ltb 0 _ some, before, last, take_at numeral (76 ∷ []) (length numeral) refl,
-        is_numeral_of numeral n) refl
+    get_or-append_seam numeral 76 [] 0 in
+    rw (
+      lt-ltb 0 _ some,
+      before,
+      last,
+      take_at numeral (76 ∷ []) (length numeral) refl,
+      is_numeral_of numeral n,
+    ) refl
 
 pub is_long_of : (line : List ℕ) → IsLongLine line → is_long_line line ≡ true
 is_long_of line (inl n) = or_left (is_numeral line) _ (is_numeral_of line n)
@@ -129,7 +139,7 @@ pub one_more : (number said i : ℕ) (ds : List ℕ) → i < length ds
     → said ≡ digits_value 10 (take (i + 1) ds)
 one_more number said i ds within so_far is =
     is ∙ ap (λ n. n * 10 + digit_value (get_or ds i 0)) so_far
-        ∙ sym (digits_value_more 10 ds i within)
+    ∙ sym (digits_value_more 10 ds i within)
 
 -- it stays within what all digits say
 pub one_more_small : (number said i : ℕ) (ds : List ℕ) → IsMemoNumber ds → i < length ds

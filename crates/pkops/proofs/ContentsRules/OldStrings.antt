@@ -32,10 +32,12 @@ Spells quote line bytes = (items : List Item) × All (IsItem quote) items
 
 one_more : (quote : ℕ) (item : Item) (line bytes : List ℕ) → IsItem quote item
     → Spells quote line bytes → Spells quote (print_item item ++ line) (byte_of item ∷ bytes)
-one_more quote item line bytes h (items, all, e, b) =
-    (item ∷ items, All-cons (IsItem quote) item items h all,
-        ap (λ (rest : List ℕ). print_item item ++ rest) e,
-        ap (λ (rest : List ℕ). byte_of item ∷ rest) b)
+one_more quote item line bytes h (items, all, e, b) = (
+  item ∷ items,
+  All-cons (IsItem quote) item items h all,
+  ap (λ (rest : List ℕ). print_item item ++ rest) e,
+  ap (λ (rest : List ℕ). byte_of item ∷ rest) b,
+)
 
 -- what is known of bytes that are read from a place on: with the bytes before the place they are
 -- items
@@ -52,7 +54,7 @@ Read quote place line bytes = spelled quote place line ≡ Some bytes
 abbrev Stepped : ℕ → Place → ℕ → (line bytes : List ℕ) → Type 0
 Stepped quote place byte line bytes =
     option_and_then (λ next. option_map (with_byte next.1) (spelled quote next.0 line))
-        (place_step quote place byte) ≡ Some bytes
+    (place_step quote place byte) ≡ Some bytes
 
 -- the byte of two digits
 two_digits : (high low : ℕ) → byte_of (hex high low) ≡ digit_value high * 16 + digit_value low
@@ -72,19 +74,23 @@ leads quote Outside byte line bytes ih e = elim (cases_Bool (eqb byte 92)) [
   | inl b ↦
       let m = some_mapped None (spelled quote Behind line) bytes (rw b at e) in
       subst (λ (x : ℕ). Spells quote (x ∷ line) bytes) (sym (eqb-true byte 92 b))
-          (subst (λ (p : List ℕ). Spells quote (92 ∷ line) p) m.2 (ih Behind m.0 m.1))
+      (subst (λ (p : List ℕ). Spells quote (92 ∷ line) p) m.2 (ih Behind m.0 m.1))
   | inr nb ↦ elim (cases_Bool (eqb byte quote)) [
     | inl q ↦ absurd (let f = rw (nb, q) at e in cc)
     | inr nq ↦ elim (cases_Bool (leb 32 byte && leb byte 126)) [
       | inl within ↦
           let m = some_mapped (Some byte) (spelled quote Outside line) bytes
-              (rw (nb, nq, within) at e) in
+          (rw (nb, nq, within) at e) in
           let p = and_parts (leb 32 byte) (leb byte 126) within in
           subst (λ (p : List ℕ). Spells quote (byte ∷ line) p) m.2
           (one_more quote (plain byte) line m.0
-              (record { low = leb-true _ _ p.0; high = leb-true _ _ p.1;
-              no_backslash = eqb-false byte 92 nb; no_quote = eqb-false byte quote nq })
-              (ih Outside m.0 m.1))
+          (record {
+            low = leb-true _ _ p.0;
+            high = leb-true _ _ p.1;
+            no_backslash = eqb-false byte 92 nb;
+            no_quote = eqb-false byte quote nq;
+          })
+          (ih Outside m.0 m.1))
       | inr out ↦ absurd (let f = rw (nb, nq, out) at e in cc)
     ]
   ]
@@ -93,13 +99,13 @@ leads quote Behind byte line bytes ih e = elim (cases_Bool (eqb byte 120)) [
   | inl x ↦
       let m = some_mapped None (spelled quote High line) bytes (rw x at e) in
       subst (λ (y : ℕ). Spells quote (92 ∷ y ∷ line) bytes) (sym (eqb-true byte 120 x))
-          (subst (λ (p : List ℕ). Spells quote (92 ∷ 120 ∷ line) p) m.2 (ih High m.0 m.1))
+      (subst (λ (p : List ℕ). Spells quote (92 ∷ 120 ∷ line) p) m.2 (ih High m.0 m.1))
   | inr nx ↦ elim (cases_Bool (is_escape_letter byte)) [
     | inl l ↦
         let m = some_mapped (Some (letter_byte byte)) (spelled quote Outside line) bytes
-            (rw (nx, l) at e) in
+        (rw (nx, l) at e) in
         subst (λ (p : List ℕ). Spells quote (92 ∷ byte ∷ line) p) m.2
-            (one_more quote (escape byte) line m.0 l (ih Outside m.0 m.1))
+        (one_more quote (escape byte) line m.0 l (ih Outside m.0 m.1))
     | inr nl ↦ absurd (let f = rw (nx, nl) at e in cc)
   ]
 ]
@@ -107,21 +113,21 @@ leads quote High byte line bytes ih e = elim (cases_Bool (is_ascii_hexdigit byte
   | inl h ↦
       let m = some_mapped None (spelled quote (Low (digit_value byte)) line) bytes (rw h at e) in
       subst (λ (p : List ℕ). Spells quote (92 ∷ 120 ∷ byte ∷ line) p) m.2
-          (ih (Low (digit_value byte)) m.0 m.1 byte h refl)
+      (ih (Low (digit_value byte)) m.0 m.1 byte h refl)
   | inr n ↦ absurd (let f = rw n at e in cc)
 ]
 leads quote (Low value) byte line bytes ih e =
     λ high is same. elim (cases_Bool (is_ascii_hexdigit byte)) [
-  | inl h ↦
-      let m = some_mapped (Some (value * 16 + digit_value byte)) (spelled quote Outside line) bytes
-          (rw h at e) in
-      let named : byte_of (hex high byte) ≡ value * 16 + digit_value byte =
+      | inl h ↦
+          let m = some_mapped (Some (value * 16 + digit_value byte))
+          (spelled quote Outside line) bytes (rw h at e) in
+          let named : byte_of (hex high byte) ≡ value * 16 + digit_value byte =
           two_digits high byte ∙ ap (λ (v : ℕ). v * 16 + digit_value byte) same in
-      subst (λ (p : List ℕ). Spells quote (92 ∷ 120 ∷ high ∷ byte ∷ line) p)
+          subst (λ (p : List ℕ). Spells quote (92 ∷ 120 ∷ high ∷ byte ∷ line) p)
           (ap (λ (b : ℕ). b ∷ m.0) named ∙ m.2)
-      (one_more quote (hex high byte) line m.0 (is, h) (ih Outside m.0 m.1))
-  | inr n ↦ absurd (let f = rw n at e in cc)
-]
+          (one_more quote (hex high byte) line m.0 (is, h) (ih Outside m.0 m.1))
+      | inr n ↦ absurd (let f = rw n at e in cc)
+    ]
 
 completes : (quote : ℕ) (line : List ℕ) (place : Place) (bytes : List ℕ)
     → Read quote place line bytes → Completes quote place line bytes
@@ -161,8 +167,12 @@ item_read : (quote : ℕ) (item : Item) (line : List ℕ) → IsItem quote item
     → spelled quote Outside (print_item item ++ line) ≡ after quote (byte_of item) line
 item_read quote (plain byte) line h =
     finishes quote Outside byte byte line
-        (rw (ne_eqb byte 92 h.no_backslash, ne_eqb byte quote h.no_quote, le-leb _ _ h.low,
-        le-leb _ _ h.high) refl)
+    (rw (
+      ne_eqb byte 92 h.no_backslash,
+      ne_eqb byte quote h.no_quote,
+      le-leb _ _ h.low,
+      le-leb _ _ h.high,
+    ) refl)
 item_read quote (escape letter) line h =
     passes quote Outside Behind 92 (letter ∷ line) refl
     ∙ finishes quote Behind letter (letter_byte letter) line (rw (not_x letter h, h) refl)
@@ -171,7 +181,7 @@ item_read quote (hex high low) line h =
     ∙ (passes quote Behind High 120 (high ∷ low ∷ line) refl
     ∙ (passes quote High (Low (digit_value high)) high (low ∷ line) (rw h.0 refl)
     ∙ finishes quote (Low (digit_value high)) low (digit_value high * 16 + digit_value low) line
-        (rw h.1 refl)))
+    (rw h.1 refl)))
     ∙ ap (λ (byte : ℕ). after quote byte line) (sym (two_digits high low))
 
 items_read : (quote : ℕ) (items : List Item) → All (IsItem quote) items
@@ -181,7 +191,7 @@ items_read quote [] h = refl
 items_read quote (item ∷ items) h =
     item_read quote item (flat_map print_item items) (All-head (IsItem quote) item items h)
     ∙ ap (option_map (with_byte (Some (byte_of item))))
-        (items_read quote items (All-tail (IsItem quote) item items h))
+    (items_read quote items (All-tail (IsItem quote) item items h))
 
 -- ---- what is read byte by byte is what is read item by item
 
@@ -212,10 +222,10 @@ pub spelled_is : (quote : ℕ) (line : List ℕ) → spelled quote Outside line 
 spelled_is quote line =
     alike (spelled quote Outside line) (bytes_between quote line)
     (λ bytes e. let s = completes quote line Outside bytes e in
-        between_spelled quote line s.0 s.1 s.2 ∙ ap (λ (b : List ℕ). Some b) (sym s.3))
+    between_spelled quote line s.0 s.1 s.2 ∙ ap (λ (b : List ℕ). Some b) (sym s.3))
     (λ bytes e. let s = spelled_between quote line bytes e in
-        ap (spelled quote Outside) s.2
-        ∙ (items_read quote s.0 s.1 ∙ ap (λ (b : List ℕ). Some b) (sym s.3)))
+    ap (spelled quote Outside) s.2
+    ∙ (items_read quote s.0 s.1 ∙ ap (λ (b : List ℕ). Some b) (sym s.3)))
 
 pub some_is : (quote : ℕ) (line : List ℕ) → is_some (spelled quote Outside line)
     ≡ are_items quote line
@@ -247,13 +257,15 @@ framed (a ∷ b ∷ rest) le = ap (λ (t : List ℕ). a ∷ t) (ends_with b rest
       let two : length (a ∷ b ∷ c ∷ rest) - 2 ≡ suc (length (a ∷ c ∷ rest) - 2) = omega arith in
       let one : length (a ∷ b ∷ c ∷ rest) - 1 ≡ suc (length (a ∷ c ∷ rest) - 1) = omega arith in
       let last : get_or (b ∷ c ∷ rest) (length (a ∷ c ∷ rest) - 1) 0
-          ≡ get_or (a ∷ c ∷ rest) (length (a ∷ c ∷ rest) - 1) 0 =
-          (let s : length (a ∷ c ∷ rest) - 1 ≡ suc (length rest) = omega arith in rw s refl) in
+      ≡ get_or (a ∷ c ∷ rest) (length (a ∷ c ∷ rest) - 1) 0 =
+      (let s : length (a ∷ c ∷ rest) - 1 ≡ suc (length rest) = omega arith in rw s refl) in
       rw (two, one, last) (ap (λ (t : List ℕ). b ∷ t) (ends_with c rest))
 
 pub quote_is : (byte : ℕ) → is_quote byte ≡ true → IsQuote byte
-quote_is byte e = elim (or_cases (eqb byte 39) (eqb byte 34) e) [ inl s ↦ inl (eqb-true byte 39 s)
-    | inr d ↦ inr (eqb-true byte 34 d) ]
+quote_is byte e = elim (or_cases (eqb byte 39) (eqb byte 34) e) [
+  | inl s ↦ inl (eqb-true byte 39 s)
+  | inr d ↦ inr (eqb-true byte 34 d)
+]
 
 pub is_quote_of : (byte : ℕ) → IsQuote byte → is_quote byte ≡ true
 is_quote_of byte (inl e) = ap is_quote e
@@ -274,8 +286,8 @@ string_is line e =
       items.1,
       framed line (leb-true _ _ p.0)
           ∙ (ap (λ (t : List ℕ). quote ∷ t ++ last ∷ []) items.2
-              ∙ ap (λ (x : ℕ). quote ∷ flat_map print_item items.0 ++ x ∷ [])
-              (eqb-true last quote r.0)),
+          ∙ ap (λ (x : ℕ). quote ∷ flat_map print_item items.0 ++ x ∷ [])
+          (eqb-true last quote r.0)),
     )
 
 quoted : (quote : ℕ) (inside : List ℕ) → IsQuote quote → are_items quote inside ≡ true
@@ -283,18 +295,25 @@ quoted : (quote : ℕ) (inside : List ℕ) → IsQuote quote → are_items quote
 quoted quote inside q items =
     let line = quote ∷ inside ++ quote ∷ [] in
     let len : length line ≡ suc (suc (length inside)) =
-        omega (arith, length-append inside (quote ∷ [])) in
+    omega (arith, length-append inside (quote ∷ [])) in
     let two : length line - 2 ≡ length inside = omega (arith, len) in
     let one : length line - 1 ≡ suc (length inside) = omega (arith, len) in
     let last : get_or (inside ++ quote ∷ []) (length inside) 0 ≡ quote =
-        get_or-append_seam inside quote [] 0 in
+    get_or-append_seam inside quote [] 0 in
     let long : leb 2 (length line) ≡ true = le-leb _ _ (omega (arith, len)) in
-    rw (long, two, one, last, take_at inside (quote ∷ []) (length inside) refl, is_quote_of quote q,
-        items) (same quote) where
+    rw (
+      long,
+      two,
+      one,
+      last,
+      take_at inside (quote ∷ []) (length inside) refl,
+      is_quote_of quote q,
+      items,
+    ) (same quote) where
       same : (quote : ℕ) → (eqb quote quote && true) ≡ true
       same quote = rw (eq-eqb quote quote refl) refl
 
 pub is_string_of : (line : List ℕ) → IsStringLine line → is_string_line line ≡ true
 is_string_of line (quote, items, q, all, e) =
     ap is_string_line e ∙ quoted quote (flat_map print_item items) q
-        (is_items_of quote (flat_map print_item items) (items, all, refl))
+    (is_items_of quote (flat_map print_item items) (items, all, refl))

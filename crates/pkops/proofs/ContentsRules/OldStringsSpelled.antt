@@ -29,13 +29,21 @@ module _ (quote : ℕ) where
       → IsRead (item_at quote) print_item item rest
   forth (plain byte) rest h =
       let may : is_plain quote byte ≡ true =
-          rw (ne_eqb byte quote h.no_quote, le-leb _ _ h.low, le-leb _ _ h.high) refl in
-      record { byte = byte; others = []; printed = refl;
-          read = rw (ne_eqb byte 92 h.no_backslash, may) refl }
+      rw (ne_eqb byte quote h.no_quote, le-leb _ _ h.low, le-leb _ _ h.high) refl in
+      record {
+        byte = byte;
+        others = [];
+        printed = refl;
+        read = rw (ne_eqb byte 92 h.no_backslash, may) refl;
+      }
   forth (escape letter) rest h =
       record { byte = 92; others = letter ∷ []; printed = refl; read = rw (not_x letter h, h) refl }
-  forth (hex high low) rest h = record { byte = 92; others = 120 ∷ high ∷ low ∷ []; printed = refl;
-      read = rw (h.0, h.1) refl }
+  forth (hex high low) rest h = record {
+    byte = 92;
+    others = 120 ∷ high ∷ low ∷ [];
+    printed = refl;
+    read = rw (h.0, h.1) refl;
+  }
 
   abbrev Prints : Item → ℕ → List ℕ → Type 0
   Prints item byte rest = IsPrinted print_item (IsItem quote) item byte rest
@@ -45,24 +53,24 @@ module _ (quote : ℕ) where
   hex_back (high ∷ []) item e = absurd cc
   hex_back (high ∷ low ∷ text) item e =
       elim (cases_Bool (is_ascii_hexdigit high && is_ascii_hexdigit low)) [
-    | inr n ↦ absurd (let f = rw n at e in cc)
-    | inl h ↦
-        let same : hex high low ≡ item = (let f = rw h at e in cc) in
-        let p = and_parts (is_ascii_hexdigit high) (is_ascii_hexdigit low) h in
-        subst (λ (i : Item). Prints i 92 (120 ∷ high ∷ low ∷ text)) same
+        | inr n ↦ absurd (let f = rw n at e in cc)
+        | inl h ↦
+            let same : hex high low ≡ item = (let f = rw h at e in cc) in
+            let p = and_parts (is_ascii_hexdigit high) (is_ascii_hexdigit low) h in
+            subst (λ (i : Item). Prints i 92 (120 ∷ high ∷ low ∷ text)) same
             (record { is = (p.0, p.1); others = 3; len = refl; parts = refl })
-  ]
+      ]
 
   escape_back : (text : List ℕ) (item : Item) → old_escape_at text ≡ Some item → Prints item 92 text
   escape_back [] item e = absurd cc
   escape_back (letter ∷ text) item e = elim (cases_Bool (eqb letter 120)) [
     | inl x ↦ subst (λ (l : ℕ). Prints item 92 (l ∷ text)) (sym (eqb-true letter 120 x))
-          (hex_back text item (rw x at e))
+        (hex_back text item (rw x at e))
     | inr nx ↦ elim (cases_Bool (is_escape_letter letter)) [
       | inl l ↦
           let same : escape letter ≡ item = (let f = rw (nx, l) at e in cc) in
           subst (λ (i : Item). Prints i 92 (letter ∷ text)) same
-              (record { is = l; others = 1; len = refl; parts = refl })
+          (record { is = l; others = 1; len = refl; parts = refl })
       | inr n ↦ absurd (let f = rw (nx, n) at e in cc)
     ]
   ]
@@ -72,8 +80,12 @@ module _ (quote : ℕ) where
   plain_is byte nb h =
       let p = and_parts (leb 32 byte) _ h in
       let q = and_parts (leb byte 126) (not (eqb byte quote)) p.1 in
-      record { low = leb-true _ _ p.0; high = leb-true _ _ q.0; no_backslash = eqb-false byte 92 nb;
-          no_quote = eqb-false byte quote (was_false (eqb byte quote) q.1) } where
+      record {
+        low = leb-true _ _ p.0;
+        high = leb-true _ _ q.0;
+        no_backslash = eqb-false byte 92 nb;
+        no_quote = eqb-false byte quote (was_false (eqb byte quote) q.1);
+      } where
         was_false : (b : _) → not b ≡ true → b ≡ false
         was_false true e = absurd cc
         was_false false e = refl
@@ -82,12 +94,12 @@ module _ (quote : ℕ) where
       → Prints item byte rest
   back byte rest item e = elim (cases_Bool (eqb byte 92)) [
     | inl b ↦ subst (λ (x : ℕ). Prints item x rest) (sym (eqb-true byte 92 b))
-          (escape_back rest item (rw b at e))
+        (escape_back rest item (rw b at e))
     | inr nb ↦ elim (cases_Bool (is_plain quote byte)) [
       | inl h ↦
           let same : plain byte ≡ item = (let f = rw (nb, h) at e in cc) in
           subst (λ (i : Item). Prints i byte rest) same
-              (record { is = plain_is byte nb h; others = 0; len = refl; parts = refl })
+          (record { is = plain_is byte nb h; others = 0; len = refl; parts = refl })
       | inr n ↦ absurd (let f = rw (nb, n) at e in cc)
     ]
   ]

@@ -46,8 +46,8 @@ shift_at zero x m h = let e : (x + 256 * m) / 256 ≡ m = omega arith in ap (λ 
 shift_at (suc j) x m h =
     let e : (x + 256 * m) / 256 ≡ m = omega arith in
     ap (λ (p : ℕ). (x + 256 * m) / p % 256) (pow-succ' 256 (suc j))
-        ∙ ap (λ (y : ℕ). y % 256) (sym (div-div-eq-div-mul (x + 256 * m) 256 (256 ^ suc j)))
-        ∙ ap (λ (y : ℕ). y / 256 ^ suc j % 256) e
+    ∙ ap (λ (y : ℕ). y % 256) (sym (div-div-eq-div-mul (x + 256 * m) 256 (256 ^ suc j)))
+    ∙ ap (λ (y : ℕ). y / 256 ^ suc j % 256) e
 
 shifted : (k j x m : ℕ) → x < 256 → bytes_low_first (suc j) k (x + 256 * m) ≡ bytes_low_first j k m
 shifted zero j x m h = refl
@@ -63,7 +63,7 @@ bytes_back (suc n) (x ∷ bytes) le h =
     let m = little_from 0 n bytes in
     let low : (x + 256 * m) % 256 ≡ x = omega arith in
     let ih : bytes_low_first 0 n m ≡ take n bytes =
-        bytes_back n bytes (omega arith) (λ i. h (suc i)) in
+    bytes_back n bytes (omega arith) (λ i. h (suc i)) in
     rw (little_from-cons 0 n x bytes, low, shifted n 0 x m small, ih) refl
 
 pub too_few : (n : ℕ) (bytes : List ℕ) → length bytes < n → number_at n bytes ≡ Err Short
@@ -90,13 +90,13 @@ number_takes n bytes x rest fits e =
       | inr le ↦
           let same = ok_is _ _ (sym (enough n bytes le) ∙ e) in
           let made : Takes (λ y. y < 256 ^ n) (little_bytes n) bytes (little_number n bytes)
-              (drop n bytes) = record {
+          (drop n bytes) = record {
             is = little_from-lt 0 n bytes fits;
             parts = rw (bytes_back n bytes le fits) (sym (take-append-drop n bytes));
             rest_fits = IsBytes-drop n bytes fits;
           } in
           subst (λ (p : ℕ × List ℕ). Takes (λ y. y < 256 ^ n) (little_bytes n) bytes p.0 p.1) same
-              made
+          made
     ]
 
 number_again : (n x : ℕ) (rest : List ℕ) → x < 256 ^ n
@@ -104,9 +104,9 @@ number_again : (n x : ℕ) (rest : List ℕ) → x < 256 ^ n
 number_again n x rest lt =
     let len = length-bytes_low_first 0 n x in
     let long : n ≤ length (little_bytes n x ++ rest) =
-        omega (arith, length-append (little_bytes n x) rest) in
+    omega (arith, length-append (little_bytes n x) rest) in
     enough n (little_bytes n x ++ rest) long
-        ∙ rw (little_number-reads_back n x rest lt, drop_at (little_bytes n x) rest n len) refl
+    ∙ rw (little_number-reads_back n x rest lt, drop_at (little_bytes n x) rest n len) refl
 
 number_short : (n : ℕ) (bytes : List ℕ) → IsBytes bytes → number_at n bytes ≡ Err Short
     → Lacks (λ y _. y < 256 ^ n) (little_bytes n) bytes
@@ -117,7 +117,7 @@ number_short n bytes fits e =
           let more = replicate (n - length bytes) 0 in
           let whole = bytes ++ more in
           let len : length whole ≡ n =
-              omega (arith, length-append bytes more, length-zeros (n - length bytes)) in
+          omega (arith, length-append bytes more, length-zeros (n - length bytes)) in
           let all_fit = zeros_fit bytes (n - length bytes) fits in
           record {
             value = little_number n whole;
@@ -133,13 +133,21 @@ number_stays : (n : ℕ) (bytes : List ℕ) → Lacks (λ y _. y < 256 ^ n) (lit
     → number_at n bytes ≡ Err Short
 number_stays n bytes h =
     too_few n bytes
-        (omega (arith, length-bytes_low_first 0 n h.value, ap length h.parts,
-        length-append bytes h.more, some_left h.more h.lacks))
+    (omega (
+      arith,
+      length-bytes_low_first 0 n h.value,
+      ap length h.parts,
+      length-append bytes h.more,
+      some_left h.more h.lacks,
+    ))
 
 number_bad : (n : ℕ) (bytes : List ℕ) (fault : Fault) → number_at n bytes ≡ Err (Bad fault) → ⊥
 number_bad n bytes fault e =
-    elim (cases_lt (length bytes) n) [ inl lt ↦ let f = too_few n bytes lt in
-        cc | inr le ↦ let f = enough n bytes le in cc ]
+    elim (cases_lt (length bytes) n) [
+      | inl lt ↦ let f = too_few n bytes lt in
+          cc
+      | inr le ↦ let f = enough n bytes le in cc
+    ]
 
 pub number_exact : (n : ℕ) → IsExact (number_at n) (λ y. y < 256 ^ n) (λ y _. y < 256 ^ n)
     (little_bytes n) NoFault
@@ -205,12 +213,15 @@ bytes_stays : (n : ℕ) (bytes : List ℕ) → Lacks (λ y _. length y ≡ n) se
 bytes_stays n bytes h =
     let e = h.may in
     few_bytes n bytes
-        (omega (arith, e, ap length h.parts, length-append bytes h.more, some_left h.more h.lacks))
+    (omega (arith, e, ap length h.parts, length-append bytes h.more, some_left h.more h.lacks))
 
 bytes_bad : (n : ℕ) (bytes : List ℕ) (fault : Fault) → bytes_at n bytes ≡ Err (Bad fault) → ⊥
 bytes_bad n bytes fault e =
-    elim (cases_lt (length bytes) n) [ inl lt ↦ let f = few_bytes n bytes lt in
-        cc | inr le ↦ let f = many_bytes n bytes le in cc ]
+    elim (cases_lt (length bytes) n) [
+      | inl lt ↦ let f = few_bytes n bytes lt in
+          cc
+      | inr le ↦ let f = many_bytes n bytes le in cc
+    ]
 
 pub bytes_exact : (n : ℕ) → IsExact (bytes_at n) (λ y. length y ≡ n)
     (λ y _. length y ≡ n) self NoFault

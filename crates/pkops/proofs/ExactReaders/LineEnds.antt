@@ -43,9 +43,11 @@ split_cons x bytes e s = (
 )
 
 split_now : (x : ℕ) (bytes : List ℕ) → eqb x 10 ≡ true → Splits (x ∷ bytes)
-split_now x bytes e =
-    ([], bytes,
-    record { clean = tt; parts = ap (λ (y : ℕ). y ∷ bytes) (eqb-true x 10 e); place = rw e refl })
+split_now x bytes e = (
+  [],
+  bytes,
+  record { clean = tt; parts = ap (λ (y : ℕ). y ∷ bytes) (eqb-true x 10 e); place = rw e refl },
+)
 
 pub either_end : (bytes : List ℕ) → Splits bytes ⊎ Clean bytes
 either_end [] = inr tt
@@ -53,6 +55,8 @@ either_end (x ∷ bytes) =
     elim (eqb x 10) as (λ v. eqb x 10 ≡ v → Splits (x ∷ bytes) ⊎ Clean (x ∷ bytes)) [
       | true ↦ λ e. inl (split_now x bytes e)
       | false ↦ λ e.
-            elim (either_end bytes) [ inl s ↦ inl (split_cons x bytes e s)
-            | inr c ↦ inr (eqb-false x 10 e, c) ]
+          elim (either_end bytes) [
+            | inl s ↦ inl (split_cons x bytes e s)
+            | inr c ↦ inr (eqb-false x 10 e, c)
+          ]
     ] refl

@@ -61,7 +61,7 @@ module _ (most : ℕ) where
         rest_fits = t.rest_fits;
       } in
       subst (λ (p : (List ℕ × List ℕ) × List ℕ). Takes (IsPair most) pair_text bytes p.0 p.1)
-          (ok_is ((a.0.0, b.0.0), b.0.1) (x, rest) b.2) made
+      (ok_is ((a.0.0, b.0.0), b.0.1) (x, rest) b.2) made
 
   first_read : (bytes first rest : List ℕ) → IsLine most first → bytes ≡ line_text first ++ rest
       → pair_at most bytes ≡ (line_at most rest >>= end first)
@@ -72,8 +72,8 @@ module _ (most : ℕ) where
       → pair_at most (pair_text x ++ rest) ≡ Ok (x, rest)
   pair_again x rest h =
       first_read (pair_text x ++ rest) x.0 (line_text x.1 ++ rest) h.0
-          (append_assoc (line_text x.0) (line_text x.1) rest)
-          ∙ rw ((line_exact most).again x.1 rest h.1) refl
+      (append_assoc (line_text x.0) (line_text x.1) rest)
+      ∙ rw ((line_exact most).again x.1 rest h.1) refl
 
   empty_line : IsLine most []
   empty_line = record { short = omega arith; whole = tt }
@@ -83,18 +83,28 @@ module _ (most : ℕ) where
   pair_short bytes fits e = elim (bind_err (line_at most bytes) then Short e) [
     | inl f ↦
         let l = (line_exact most).short bytes fits f in
-        record { value = (l.value, []); more = l.more ++ line_text []; may = (l.may, empty_line);
-            parts = ap (λ (t : List ℕ). t ++ line_text []) l.parts
-            ∙ append_assoc bytes l.more (line_text []); lacks =
-            not_nil (l.more ++ line_text []) (omega (arith, length-append l.more (line_text []))) }
+        record {
+          value = (l.value, []);
+          more = l.more ++ line_text [];
+          may = (l.may, empty_line);
+          parts = ap (λ (t : List ℕ). t ++ line_text []) l.parts
+              ∙ append_assoc bytes l.more (line_text []);
+          lacks =
+              not_nil (l.more ++ line_text []) (omega (arith, length-append l.more (line_text [])));
+        }
     | inr f ↦ elim (bind_err (line_at most f.0.1) (end f.0.0) Short f.2) [
       | inl g ↦
           let s = (line_exact most).takes bytes f.0.0 f.0.1 fits f.1 in
           let l = (line_exact most).short f.0.1 s.rest_fits g in
-          record { value = (f.0.0, l.value); more = l.more; may = (s.is, l.may);
-              parts = ap (λ (t : List ℕ). line_text f.0.0 ++ t) l.parts
-              ∙ (sym (append_assoc (line_text f.0.0) f.0.1 l.more)
-              ∙ ap (λ (t : List ℕ). t ++ l.more) (sym s.parts)); lacks = l.lacks }
+          record {
+            value = (f.0.0, l.value);
+            more = l.more;
+            may = (s.is, l.may);
+            parts = ap (λ (t : List ℕ). line_text f.0.0 ++ t) l.parts
+                ∙ (sym (append_assoc (line_text f.0.0) f.0.1 l.more)
+                ∙ ap (λ (t : List ℕ). t ++ l.more) (sym s.parts));
+            lacks = l.lacks;
+          }
       | inr g ↦ absurd (let h = g.2 in cc)
     ]
   ]
@@ -104,17 +114,27 @@ module _ (most : ℕ) where
   pair_stays bytes h = elim (cases_lt (length bytes) (length (line_text h.value.0))) [
     | inl lt ↦
         let c = cut bytes h.more (line_text h.value.0) (line_text h.value.1) (sym h.parts)
-            (omega arith) in
+        (omega arith) in
         let some : 0 < length c.0 = omega (arith, ap length c.1, length-append bytes c.0) in
         let f = (line_exact most).stays bytes
-            (record { value = h.value.0; more = c.0; may = h.may.0; parts = c.1;
-            lacks = not_nil c.0 some }) in
+        (record {
+          value = h.value.0;
+          more = c.0;
+          may = h.may.0;
+          parts = c.1;
+          lacks = not_nil c.0 some;
+        }) in
         rw f refl
     | inr le ↦
         let c = cut (line_text h.value.0) (line_text h.value.1) bytes h.more h.parts le in
         let f = (line_exact most).stays c.0
-            (record { value = h.value.1; more = h.more; may = h.may.1; parts = c.2;
-            lacks = h.lacks }) in
+        (record {
+          value = h.value.1;
+          more = h.more;
+          may = h.may.1;
+          parts = c.2;
+          lacks = h.lacks;
+        }) in
         first_read bytes h.value.0 c.0 h.may.0 c.1 ∙ rw f refl
   ]
 
@@ -138,7 +158,7 @@ module _ (most : ℕ) where
       | inl g ↦
           let s = (line_exact most).takes bytes f.0.0 f.0.1 fits f.1 in
           second_fault fault bytes f.0.0 f.0.1 s.is s.parts
-              ((line_exact most).bad f.0.1 fault s.rest_fits g)
+          ((line_exact most).bad f.0.1 fault s.rest_fits g)
       | inr g ↦ absurd (let h = g.2 in cc)
     ]
   ]

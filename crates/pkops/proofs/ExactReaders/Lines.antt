@@ -17,8 +17,10 @@ use Rattle.pkops.proofs.ExactReaders.Fields.{after_fits, not_nil, some_left, ok_
 
 pub lt-leb : (a b : ℕ) → b < a → leb a b ≡ false
 lt-leb a b h = elim (leb a b) as (λ v. leb a b ≡ v
-    → leb a b ≡ false) [ true ↦ λ e. absurd (let le = leb-true a b e in omega arith)
-    | false ↦ λ e. e ] refl
+    → leb a b ≡ false) [
+      | true ↦ λ e. absurd (let le = leb-true a b e in omega arith)
+      | false ↦ λ e. e
+    ] refl
 
 Clean-take : (n : ℕ) (a : List ℕ) → Clean a → Clean (take n a)
 Clean-take zero a h = tt
@@ -47,9 +49,13 @@ module _ (most : ℕ) (bytes text rest : List ℕ) (s : IsSplit bytes text rest)
   place_is : position (λ byte. nat_eq byte 10) bytes ≡ Some (length text)
   place_is =
       let e = s.place in
-      let lt : end_of bytes < length bytes = omega
-          (arith, e, ap length s.parts, length-append (line_text text) rest,
-          length-append text (10 ∷ [])) in
+      let lt : end_of bytes < length bytes = omega (
+        arith,
+        e,
+        ap length s.parts,
+        length-append (line_text text) rest,
+        length-append text (10 ∷ []),
+      ) in
       rw (lt-ltb _ _ lt, e) refl
 
   bytes_is : bytes ≡ text ++ 10 ∷ rest
@@ -59,9 +65,9 @@ module _ (most : ℕ) (bytes text rest : List ℕ) (s : IsSplit bytes text rest)
   unfolding line_at
   line_ends le =
       let front : take (length text) bytes ≡ text = ap (take (length text)) bytes_is
-          ∙ take_at text (10 ∷ rest) (length text) refl in
+      ∙ take_at text (10 ∷ rest) (length text) refl in
       let back : drop (length text + 1) bytes ≡ rest = ap (drop (length text + 1)) s.parts
-          ∙ drop_at (line_text text) rest (length text + 1) (length-append text (10 ∷ [])) in
+      ∙ drop_at (line_text text) rest (length text + 1) (length-append text (10 ∷ [])) in
       rw (place_is, le-leb _ _ le, front, back) refl
 
   line_over : most < length text → line_at most bytes ≡ Err (Bad TooLarge)
@@ -117,8 +123,12 @@ line_again : (most : ℕ) (x rest : List ℕ) → IsLine most x
     → line_at most (line_text x ++ rest) ≡ Ok (x, rest)
 line_again most x rest h =
     line_ends most (line_text x ++ rest) x rest
-        (record { clean = h.whole; parts = refl; place = ap end_of (append_assoc x (10 ∷ []) rest)
-        ∙ end_at x rest h.whole }) h.short
+    (record {
+      clean = h.whole;
+      parts = refl;
+      place = ap end_of (append_assoc x (10 ∷ []) rest)
+          ∙ end_at x rest h.whole;
+    }) h.short
 
 line_lacks : (most : ℕ) (bytes : List ℕ) → line_at most bytes ≡ Err Short
     → Lacks (λ y _. IsLine most y) line_text bytes
@@ -130,9 +140,14 @@ line_lacks most bytes e =
       ]
       | inr clean ↦ elim (cases_lt most (length bytes)) [
         | inl lt ↦ absurd (let f = line_long most bytes clean lt in cc)
-        | inr le ↦ record { value = bytes; more = 10 ∷ [];
-              may = record { short = le; whole = clean }; parts = refl; lacks =
-              not_nil (10 ∷ []) (omega arith) }
+        | inr le ↦ record {
+          value = bytes;
+          more = 10 ∷ [];
+          may = record { short = le; whole = clean };
+          parts = refl;
+          lacks =
+              not_nil (10 ∷ []) (omega arith);
+        }
       ]
     ]
 
@@ -154,14 +169,14 @@ line_stays : (most : ℕ) (bytes : List ℕ) → Lacks (λ y _. IsLine most y) l
 line_stays most bytes h =
     let f = front_of_line h.value bytes h.more h.parts h.lacks in
     line_short most bytes (Clean-front bytes f.0 (rw f.1 at h.may.whole))
-        (let s = h.may.short in omega (arith, ap length f.1, length-append bytes f.0))
+    (let s = h.may.short in omega (arith, ap length f.1, length-append bytes f.0))
 
 line_bad : (most : ℕ) (bytes : List ℕ) (fault : Fault) → line_at most bytes ≡ Err (Bad fault)
     → LineFault most fault bytes
 line_bad most bytes fault e =
     let found : IsLong most bytes → line_at most bytes ≡ Err (Bad TooLarge)
-        → LineFault most fault bytes = λ long f. let same : TooLarge ≡ fault = cc in
-        subst (λ (d : Fault). LineFault most d bytes) same long in
+    → LineFault most fault bytes = λ long f. let same : TooLarge ≡ fault = cc in
+    subst (λ (d : Fault). LineFault most d bytes) same long in
     elim (either_end bytes) [
       | inl s ↦ elim (cases_lt most (length s.0)) [
         | inl lt ↦ found (over_is most bytes s.0 s.1 s.2 lt) (line_over most bytes s.0 s.1 s.2 lt)
@@ -169,7 +184,7 @@ line_bad most bytes fault e =
       ]
       | inr clean ↦ elim (cases_lt most (length bytes)) [
         | inl lt ↦ found (record { long = lt; endless = Clean-take (most + 1) bytes clean })
-              (line_long most bytes clean lt)
+            (line_long most bytes clean lt)
         | inr le ↦ absurd (let f = line_short most bytes clean le in cc)
       ]
     ]

@@ -2,8 +2,7 @@
 use Rattle.std.proofs.Common.{◌≡◌, ℕ, zero, suc, ◌+◌, ◌-◌, ◌^◌, ◌<◌, ◌≤◌, Bool, true, false, List}
 use Rattle.std.proofs.Common.{[], ◌∷◌, ◌++◌, length, take, drop, replicate, Result, Ok, Err, refl}
 use Rattle.std.proofs.Common.{sym, ap, subst, ◌∙◌, append_assoc, arith, inl, inr}
-use Rattle.std.proofs.Math.Nat.{pow-le-pow_right}
-use Rattle.std.proofs.Math.Nat.{pow-succ'}
+use Rattle.std.proofs.Math.Nat.{pow-le-pow_right, pow-succ'}
 use Rattle.std.proofs.lemmas.Bool.{cases_lt, lt-ltb, le-ltb, le-leb}
 use Rattle.std.proofs.lemmas.List.{take_at, drop_at, take-append-drop, length-append, append-nil}
 use Rattle.byteorder.specs.Endian.{little_bytes, little_number, little_from}
@@ -146,7 +145,7 @@ module _ (limit : ℕ) (size : Width) (signed : Bool) (bytes : List ℕ) where
     | much le under over f ↦ absurd cc
     | fine le under within f ↦
         let t = bytes_takes count after x rest (IsBytes-drop (size_of size) bytes fits)
-            (sym f ∙ e) in
+        (sym f ∙ e) in
         let len = t.is in
         record {
           is = record { fits = omega arith; within = omega arith };
@@ -167,15 +166,15 @@ module _ (limit : ℕ) (size : Width) (signed : Bool) (bytes : List ℕ) where
         let k = size_of size - length bytes in
         let whole = bytes ++ replicate k 0 in
         let len : length whole ≡ size_of size = omega
-            (arith, length-append bytes (replicate k 0), length-zeros k) in
+        (arith, length-append bytes (replicate k 0), length-zeros k) in
         let n = little_number (size_of size) whole in
         let small = filled bytes (size_of size) k (omega arith) fits in
         let fits_limit = room size signed (length bytes) lt in
         let payload : List ℕ = replicate n 0 in
         let front : little_bytes (size_of size) n ≡ whole = bytes_back (size_of size) whole
-            (omega arith) (zeros_fit bytes k fits)
-            ∙ (ap (λ (t : List ℕ). take (size_of size) t) (sym (append-nil whole))
-            ∙ take_at whole [] (size_of size) len) in
+        (omega arith) (zeros_fit bytes k fits)
+        ∙ (ap (λ (t : List ℕ). take (size_of size) t) (sym (append-nil whole))
+        ∙ take_at whole [] (size_of size) len) in
         record {
           value = payload;
           more = replicate k 0 ++ payload;
@@ -193,7 +192,7 @@ module _ (limit : ℕ) (size : Width) (signed : Bool) (bytes : List ℕ) where
           let k = count - length after in
           let payload = after ++ replicate k 0 in
           let len : length payload ≡ count = omega
-              (arith, length-append after (replicate k 0), length-zeros k) in
+          (arith, length-append after (replicate k 0), length-zeros k) in
           record {
             value = payload;
             more = replicate k 0;
@@ -211,9 +210,9 @@ module _ (limit : ℕ) (size : Width) (signed : Bool) (bytes : List ℕ) where
   payload_bad fault e = elim case [
     | none lt f ↦ absurd cc
     | minus le over f ↦ let same : BadArgument ≡ fault = cc in
-          subst (λ (d : Fault). PayloadFault limit size signed d bytes) same (le, over)
+        subst (λ (d : Fault). PayloadFault limit size signed d bytes) same (le, over)
     | much le under over f ↦ let same : TooLarge ≡ fault = cc in
-          subst (λ (d : Fault). PayloadFault limit size signed d bytes) same (le, under, over)
+        subst (λ (d : Fault). PayloadFault limit size signed d bytes) same (le, under, over)
     | fine le under within f ↦ elim (cases_lt (length after) count) [
       | inl lt ↦ absurd (let g = few_bytes count after lt in cc)
       | inr long ↦ absurd (let g = many_bytes count after long in cc)
@@ -238,16 +237,16 @@ payload_again limit size signed x rest h =
     let fits = h.fits in
     let within = h.within in
     let n_is : little_number (size_of size) whole
-        ≡ length x = ap (little_number (size_of size)) grouped
-        ∙ little_number-reads_back (size_of size) (length x) (x ++ rest)
-        (omega (arith, limit_fits size signed)) in
+    ≡ length x = ap (little_number (size_of size)) grouped
+    ∙ little_number-reads_back (size_of size) (length x) (x ++ rest)
+    (omega (arith, limit_fits size signed)) in
     let rest_is : drop (size_of size) whole ≡ x ++ rest = ap (drop (size_of size)) grouped
-        ∙ drop_at field (x ++ rest) (size_of size) len in
+    ∙ drop_at field (x ++ rest) (size_of size) len in
     plain limit size signed whole
-        (omega (arith, ap length grouped, length-append field (x ++ rest))) (omega arith)
-        (omega arith)
+    (omega (arith, ap length grouped, length-append field (x ++ rest))) (omega arith)
+    (omega arith)
     ∙ (ap (λ (n : ℕ). bytes_at n (drop (size_of size) whole)) n_is
-        ∙ (ap (bytes_at (length x)) rest_is ∙ bytes_again (length x) x rest refl))
+    ∙ (ap (bytes_at (length x)) rest_is ∙ bytes_again (length x) x rest refl))
 
 -- where two ways to cut a list meet
 pub cut : (a c b d : List ℕ) → a ++ c ≡ b ++ d → length a ≤ length b
@@ -267,7 +266,7 @@ payload_stays : (limit : ℕ) (size : Width) (signed : Bool) (bytes : List ℕ)
 payload_stays limit size signed bytes h =
     let field = little_bytes (size_of size) (length h.value) in
     let len : length field ≡ size_of size = length-bytes_low_first 0 (size_of size)
-        (length h.value) in
+    (length h.value) in
     elim (cases_lt (length bytes) (size_of size)) [
       | inl lt ↦ no_count limit size signed bytes lt
       | inr le ↦
@@ -275,16 +274,16 @@ payload_stays limit size signed bytes h =
           let fits = h.may.fits in
           let within = h.may.within le in
           let n_is : little_number (size_of size) bytes
-              ≡ length h.value = ap (little_number (size_of size)) c.1
-              ∙ little_number-reads_back (size_of size) (length h.value) c.0
-              (omega (arith, limit_fits size signed)) in
+          ≡ length h.value = ap (little_number (size_of size)) c.1
+          ∙ little_number-reads_back (size_of size) (length h.value) c.0
+          (omega (arith, limit_fits size signed)) in
           let rest_is : drop (size_of size) bytes ≡ c.0 = ap (drop (size_of size)) c.1
-              ∙ drop_at field c.0 (size_of size) len in
+          ∙ drop_at field c.0 (size_of size) len in
           plain limit size signed bytes le (omega arith) (omega arith)
           ∙ (ap (λ (n : ℕ). bytes_at n (drop (size_of size) bytes)) n_is
-              ∙ (ap (bytes_at (length h.value)) rest_is
-              ∙ few_bytes (length h.value) c.0
-              (omega (arith, ap length c.2, length-append c.0 h.more, some_left h.more h.lacks))))
+          ∙ (ap (bytes_at (length h.value)) rest_is
+          ∙ few_bytes (length h.value) c.0
+          (omega (arith, ap length c.2, length-append c.0 h.more, some_left h.more h.lacks))))
     ]
 
 pub payload_exact : (limit : ℕ) (size : Width) (signed : Bool)

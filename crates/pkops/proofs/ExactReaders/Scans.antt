@@ -22,14 +22,20 @@ use Rattle.pkops.specs.Answer.{IsWhole, Answers}
 use Rattle.pkops.specs.Private.Reading.{IsUnread, arg_at}
 use Rattle.pkops.proofs.ExactReaders.Exact.{IsBytes, Takes}
 use Rattle.pkops.proofs.ExactReaders.Fields.{not_nil}
-use Rattle.pkops.proofs.ExactReaders.Arguments.{IsArgument, ArgFault, arg_exact}
+use Rattle.pkops.proofs.ExactReaders.Arguments.{arg_exact}
+use Rattle.pkops.proofs.ExactReaders.Wrapped.{IsArgument, ArgFault}
 
 -- no bytes begin an instruction
 pub nothing_begun : (limit : ℕ) → Begun limit []
-nothing_begun limit =
-    (instruction op.None Nothing, 0x4e ∷ [],
-    record { may = record { suits = tt; within = λ _. tt }; parts = refl;
-    lacks = not_nil (0x4e ∷ []) (omega arith) })
+nothing_begun limit = (
+  instruction op.None Nothing,
+  0x4e ∷ [],
+  record {
+    may = record { suits = tt; within = λ _. tt };
+    parts = refl;
+    lacks = not_nil (0x4e ∷ []) (omega arith);
+  },
+)
 
 module _ (limit code : ℕ) (from : List ℕ) (o : Op) (is : code_of o ≡ code)
     (fits : IsBytes from) where
@@ -53,28 +59,45 @@ module _ (limit code : ℕ) (from : List ℕ) (o : Op) (is : code_of o ≡ code)
   whole arg rest e good =
       let s = spelling (instruction o arg) in
       let len : length s ≡ length (code ∷ from) - length rest =
-          omega (arith, ap length (parts arg rest e), length-append s rest) in
+      omega (arith, ap length (parts arg rest e), length-append s rest) in
       record {
         fits = omega arith;
-        spells = record { spelled = ap (take (length (code ∷ from) - length rest))
-            (parts arg rest e) ∙ take_at s rest (length (code ∷ from) - length rest) len; good =
-            good };
+        spells = record {
+          spelled = ap (take (length (code ∷ from) - length rest))
+              (parts arg rest e) ∙ take_at s rest (length (code ∷ from) - length rest) len;
+          good =
+              good;
+        };
         within = (takes arg rest e).is.within;
       }
 
   pub broken : (arg : Argument) (rest : List ℕ) → arg_at limit (layout_at o) from ≡ Ok (arg, rest)
       → (IsGood (instruction o arg) → ⊥) → HasFault limit BadArgument (code ∷ from)
-  broken arg rest e bad = inl
-      (instruction o arg, rest,
-      record { laid = record { suits = (takes arg rest e).is.suits;
-      within = (takes arg rest e).is.within }; parts = parts arg rest e; bad = bad })
+  broken arg rest e bad = inl (
+    instruction o arg,
+    rest,
+    record {
+      laid = record {
+        suits = (takes arg rest e).is.suits;
+        within = (takes arg rest e).is.within;
+      };
+      parts = parts arg rest e;
+      bad = bad;
+    },
+  )
 
   pub begun : arg_at limit (layout_at o) from ≡ Err Short → Begun limit (code ∷ from)
   begun e =
-      let l = (arg_exact limit (layout_at o)).short from fits e in
-      (instruction o l.value, l.more,
-          record { may = l.may; parts = ap (λ (c : ℕ). c ∷ laid (layout_at o) l.value) is
-          ∙ ap (λ (t : List ℕ). code ∷ t) l.parts; lacks = l.lacks })
+      let l = (arg_exact limit (layout_at o)).short from fits e in (
+        instruction o l.value,
+        l.more,
+        record {
+          may = l.may;
+          parts = ap (λ (c : ℕ). c ∷ laid (layout_at o) l.value) is
+              ∙ ap (λ (t : List ℕ). code ∷ t) l.parts;
+          lacks = l.lacks;
+        },
+      )
 
   fault_is : (fault : Fault) → ArgFault limit (layout_at o) fault from
       → HasFault limit fault (code ∷ from)
@@ -160,4 +183,4 @@ made_is limit o bytes arg rest made (Some i) h e iff is =
     let old = iff.1 in
     let now : instruction o arg ≡ made = cc in
     subst (λ (j : Instruction). IsWhole limit bytes j (length bytes - length rest)) now
-        (all_whole limit o bytes arg rest h e iff.0)
+    (all_whole limit o bytes arg rest h e iff.0)

@@ -23,14 +23,14 @@ use Rattle.pkops.specs.Table.{code_of}
 number_back : (width n : ℕ) → n < 256 ^ width → little_number width (little_bytes width n) ≡ n
 number_back width n h =
     ap (little_number width) (sym (append-nil (little_bytes width n)))
-        ∙ little_number-reads_back width n [] h
+    ∙ little_number-reads_back width n [] h
 
 -- the numbers, whatever width the argument says
 numbered : (width given n : ℕ) → given ≡ width → n < 256 ^ width
     → Number width (little_number width (little_bytes given n)) ≡ Number given n
 numbered width given n e h =
     ap (λ w. Number width (little_number width (little_bytes w n))) e
-        ∙ ap (Number width) (number_back width n h) ∙ ap (λ w. Number w n) (sym e)
+    ∙ ap (Number width) (number_back width n h) ∙ ap (λ w. Number w n) (sym e)
 
 -- the text of a line, which lies before its end
 in_line : (code : ℕ) (text : List ℕ) → take (length (code ∷ (text ++ line_feed ∷ [])) - 2)
@@ -46,10 +46,10 @@ in_second : (code : ℕ) (first second : List ℕ)
     ≡ second
 in_second code first second =
     let front : drop (length first + 2)
-        (code ∷ ((first ++ line_feed ∷ []) ++ (second ++ line_feed ∷ []))) ≡ second ++ line_feed
-        ∷ [] =
+    (code ∷ ((first ++ line_feed ∷ []) ++ (second ++ line_feed ∷ []))) ≡ second ++ line_feed
+    ∷ [] =
     drop_at (code ∷ (first ++ line_feed ∷ [])) (second ++ line_feed ∷ []) (length first + 2)
-        (let n = length-append first (line_feed ∷ []) in omega arith) in
+    (let n = length-append first (line_feed ∷ []) in omega arith) in
     rw front (take_at second (line_feed ∷ []) _ (
     let n = length-append (first ++ line_feed ∷ []) (second ++ line_feed ∷ []) in
     let m = length-append first (line_feed ∷ []) in
@@ -60,7 +60,7 @@ in_first : (code : ℕ) (first second : List ℕ)
     → take (length first) ((first ++ line_feed ∷ []) ++ (second ++ line_feed ∷ [])) ≡ first
 in_first code first second =
     ap (take (length first)) (append_assoc first (line_feed ∷ []) (second ++ line_feed ∷ []))
-        ∙ take_at first (line_feed ∷ (second ++ line_feed ∷ [])) (length first) refl
+    ∙ take_at first (line_feed ∷ (second ++ line_feed ∷ [])) (length first) refl
 
 -- the argument that is laid out behind a code is the one that is read there
 behind : (lay : Layout) (arg : Argument) (code split : ℕ) → Suits lay arg → split ≡ split_of arg
@@ -72,16 +72,16 @@ behind layout.U4 (Number width n) code split h e = numbered 4 width n h.0 h.1
 behind layout.U8 (Number width n) code split h e = numbered 8 width n h.0 h.1
 behind layout.I4 (Signed z) code split h e =
     ap (λ n. Signed (cast_signed w32 n))
-        (number_back 4 (cast_unsigned w32 z) (let f = (Fits-of_z h).fits in omega arith))
-        ∙ ap Signed (to_z-of_z w32 z h)
+    (number_back 4 (cast_unsigned w32 z) (let f = (Fits-of_z h).fits in omega arith))
+    ∙ ap Signed (to_z-of_z w32 z h)
 behind layout.F8 (Float bytes) code split h e = refl
 behind (layout.Line most) (Line text) code split h e = ap Line (in_line code text)
 behind (layout.Pair most) (Pair first second) code split h e =
     rw e (ap₂ Pair (in_first code first second) (in_second code first second))
 behind (layout.Counted size signed) (Counted payload) code split h e =
     ap Counted
-        (drop_at (code ∷ little_bytes (size_of size) (length payload)) payload (size_of size + 1)
-        (let n = length-bytes_low_first 0 (size_of size) (length payload) in omega arith))
+    (drop_at (code ∷ little_bytes (size_of size) (length payload)) payload (size_of size + 1)
+    (let n = length-bytes_low_first 0 (size_of size) (length payload) in omega arith))
 behind _ _ code split h e = absurd h
 
 -- the same of bytes that are said to hold it
@@ -89,7 +89,7 @@ pub lies_behind : (limit : ℕ) (op : Op) (arg : Argument) (split : ℕ) (bytes 
     → Lies limit op arg split bytes → argument_behind (layout_at op) split bytes ≡ arg
 lies_behind limit op arg split bytes h =
     ap (argument_behind (layout_at op) split) h.spelled
-        ∙ behind (layout_at op) arg (code_of op) split h.laid.suits h.split_is
+    ∙ behind (layout_at op) arg (code_of op) split h.laid.suits h.split_is
 
 -- some limit lets the argument pass
 within_some : (arg : Argument) → (limit : ℕ) × IsWithin limit arg
@@ -121,8 +121,8 @@ pub form_lies : (op : Op) (held : Form) (split : ℕ) (bytes : _) → held ≡ f
     → (limit : ℕ) × (arg : Argument) × Lies limit op arg split bytes.now
 form_lies op held split bytes e good spelled is_split =
     held_lies op split bytes.now (subst (λ x. IsGood (instruction op (argument_in op x))) e good)
-        (subst (λ x. spelled_by op x ≡ spelling (instruction op (argument_in op x))) e spelled)
-        (subst (λ x. split_by x ≡ split_of (argument_in op x)) e is_split)
+    (subst (λ x. spelled_by op x ≡ spelling (instruction op (argument_in op x))) e spelled)
+    (subst (λ x. split_by x ≡ split_of (argument_in op x)) e is_split)
 
 -- the argument that lies there is good, and that of the form
 pub record IsHeld (op : Op) (held : Form) (split : ℕ) (bytes : List ℕ) : Type 0 where

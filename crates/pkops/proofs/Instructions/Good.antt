@@ -28,8 +28,10 @@ had_clean (x ∷ text) h =
     (λ e. had_none (∥∥₁_map h (λ c. c.0 e)), had_clean text (∥∥₁_map h (λ c. c.1)))
 
 had_line : (most : ℕ) (text : List ℕ) → ∥ IsLine most text ∥₁ → IsLine most text
-had_line most text h = record { short = had_le (∥∥₁_map h (λ l. l.short));
-    whole = had_clean text (∥∥₁_map h (λ l. l.whole)) }
+had_line most text h = record {
+  short = had_le (∥∥₁_map h (λ l. l.short));
+  whole = had_clean text (∥∥₁_map h (λ l. l.whole));
+}
 
 had_number : (width n value : ℕ) → ∥ (width ≡ n) × (value < 256 ^ n) ∥₁
     → (width ≡ n) × (value < 256 ^ n)

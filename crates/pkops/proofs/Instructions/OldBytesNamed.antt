@@ -22,21 +22,28 @@ quoted : (quote : ℕ) (inside : List ℕ) → IsQuote quote
 quoted quote inside q =
     let line = quote ∷ inside ++ quote ∷ [] in
     let len : length line ≡ suc (suc (length inside)) =
-        omega (arith, length-append inside (quote ∷ [])) in
+    omega (arith, length-append inside (quote ∷ [])) in
     let two : length line - 2 ≡ length inside = omega (arith, len) in
     let one : length line - 1 ≡ suc (length inside) = omega (arith, len) in
     let last : get_or (inside ++ quote ∷ []) (length inside) 0 ≡ quote =
-        get_or-append_seam inside quote [] 0 in
+    get_or-append_seam inside quote [] 0 in
     let long : leb 2 (length line) ≡ true = le-leb _ _ (omega (arith, len)) in
-    rw (long, two, one, last, take_at inside (quote ∷ []) (length inside) refl, is_quote_of quote q,
-        eq-eqb quote quote refl) refl
+    rw (
+      long,
+      two,
+      one,
+      last,
+      take_at inside (quote ∷ []) (length inside) refl,
+      is_quote_of quote q,
+      eq-eqb quote quote refl,
+    ) refl
 
 line_forth : (line bytes : List ℕ) → SpellsBytes line bytes → bytes_of_line line ≡ Some bytes
 line_forth line bytes (quote, items, q, all, e, b) =
     ap bytes_of_line e
     ∙ (quoted quote (flat_map print_item items) q
     ∙ (between_spelled quote (flat_map print_item items) items all refl
-        ∙ ap (λ (t : List ℕ). Some t) (sym b)))
+    ∙ ap (λ (t : List ℕ). Some t) (sym b)))
 
 line_back : (line bytes : List ℕ) → bytes_of_line line ≡ Some bytes → SpellsBytes line bytes
 line_back line bytes e = elim (cases_Bool (is_in_quotes line)) [
@@ -54,8 +61,8 @@ line_back line bytes e = elim (cases_Bool (is_in_quotes line)) [
         s.1,
         framed line (leb-true _ _ p.0)
             ∙ (ap (λ (t : List ℕ). quote ∷ t ++ last ∷ []) s.2
-                ∙ ap (λ (x : ℕ). quote ∷ flat_map print_item s.0 ++ x ∷ [])
-                (eqb-true last quote q.1)),
+            ∙ ap (λ (x : ℕ). quote ∷ flat_map print_item s.0 ++ x ∷ [])
+            (eqb-true last quote q.1)),
         s.3,
       )
 ]

@@ -16,7 +16,7 @@ line_forth : (line text : List ℕ) → (points : List ℕ) × SpellsText line p
     × (text ≡ encode_utf8_all points) → option_map encode_utf8_all (points_of line) ≡ Some text
 line_forth line text (points, spelled, e) =
     ap (option_map encode_utf8_all) (points_of_spelled line points spelled)
-        ∙ ap (λ (t : List ℕ). Some t) (sym e)
+    ∙ ap (λ (t : List ℕ). Some t) (sym e)
 
 line_back : (line text : List ℕ) (read : Option (List ℕ)) → points_of line ≡ read
     → option_map encode_utf8_all read ≡ Some text → (points : List ℕ) × SpellsText line points

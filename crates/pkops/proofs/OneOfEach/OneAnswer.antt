@@ -14,7 +14,8 @@ use Rattle.pkops.specs.Contents.{IsGood}
 use Rattle.pkops.specs.Answer.{Answers}
 use Rattle.pkops.specs.Private.Reading.{arg_at}
 use Rattle.pkops.proofs.ExactReaders.Fields.{ok_is}
-use Rattle.pkops.proofs.ExactReaders.Arguments.{ArgFault, arg_exact}
+use Rattle.pkops.proofs.ExactReaders.Arguments.{arg_exact}
+use Rattle.pkops.proofs.ExactReaders.Wrapped.{ArgFault}
 use Rattle.pkops.proofs.OneOfEach.OneCode.{one_code}
 
 -- what reading behind the code gives, for each answer
@@ -37,43 +38,43 @@ found limit code from (Whole i n) h =
     let bytes = code ∷ from in
     let rest = drop n bytes in
     let parts : bytes ≡ spelling i ++ rest = sym (take-append-drop n bytes)
-        ∙ ap (λ (t : List ℕ). t ++ rest) h.spells.spelled in
+    ∙ ap (λ (t : List ℕ). t ++ rest) h.spells.spelled in
     let codes : code ≡ code_of i.op = cc in
     let tails : from ≡ laid (layout_at i.op) i.arg ++ rest = cc in
     let fits = h.fits in
     whole i n rest (sym codes) h.spells.good (omega (arith, length-drop n bytes))
-        (ap (arg_at limit (layout_at i.op)) tails
-        ∙ (arg_exact limit (layout_at i.op)).again i.arg rest
-        (record { suits = h.spells.good.suits; within = h.within }))
+    (ap (arg_at limit (layout_at i.op)) tails
+    ∙ (arg_exact limit (layout_at i.op)).again i.arg rest
+    (record { suits = h.spells.good.suits; within = h.within }))
 found limit code from More (i, more, h) =
     let codes : code_of i.op ≡ code = (let p = h.parts in cc) in
     let tails : laid (layout_at i.op) i.arg ≡ from ++ more = (let p = h.parts in cc) in
     lacking i.op codes
-        ((arg_exact limit (layout_at i.op)).stays from
-        (record { value = i.arg; more = more; may = h.may; parts = tails; lacks = h.lacks }))
+    ((arg_exact limit (layout_at i.op)).stays from
+    (record { value = i.arg; more = more; may = h.may; parts = tails; lacks = h.lacks }))
 found limit code from (Bad (UnknownOpcode c)) (rest, e, none) =
     let codes : c ≡ code = cc in
     subst (λ (d : ℕ). Found limit code from (Bad (UnknownOpcode d))) (sym codes)
-        (unknown (λ o is. none o (is ∙ sym codes)))
+    (unknown (λ o is. none o (is ∙ sym codes)))
 found limit code from (Bad BadArgument) (inl (i, rest, h)) =
     let codes : code_of i.op ≡ code = (let p = h.parts in cc) in
     let tails : from ≡ laid (layout_at i.op) i.arg ++ rest = (let p = h.parts in cc) in
     broken i rest codes h.bad
-        (ap (arg_at limit (layout_at i.op)) tails
-        ∙ (arg_exact limit (layout_at i.op)).again i.arg rest
-        (record { suits = h.laid.suits; within = h.laid.within }))
+    (ap (arg_at limit (layout_at i.op)) tails
+    ∙ (arg_exact limit (layout_at i.op)).again i.arg rest
+    (record { suits = h.laid.suits; within = h.laid.within }))
 found limit code from (Bad BadArgument) (inr (o, rest, e, h)) =
     let codes : code_of o ≡ code = cc in
     let tails : rest ≡ from = cc in
     faulty o BadArgument codes
-        ((arg_exact limit (layout_at o)).faulty from BadArgument
-        (subst (ArgFault limit (layout_at o) BadArgument) tails h))
+    ((arg_exact limit (layout_at o)).faulty from BadArgument
+    (subst (ArgFault limit (layout_at o) BadArgument) tails h))
 found limit code from (Bad TooLarge) (o, rest, e, h) =
     let codes : code_of o ≡ code = cc in
     let tails : rest ≡ from = cc in
     faulty o TooLarge codes
-        ((arg_exact limit (layout_at o)).faulty from TooLarge
-        (subst (ArgFault limit (layout_at o) TooLarge) tails h))
+    ((arg_exact limit (layout_at o)).faulty from TooLarge
+    (subst (ArgFault limit (layout_at o) TooLarge) tails h))
 
 abbrev Read : ℕ → List ℕ → Op → Result (Argument × List ℕ) Unread → Type 0
 Read limit from o r = arg_at limit (layout_at o) from ≡ r
@@ -101,12 +102,12 @@ one limit code from r s (whole i n rest a g len e) (whole j m left b h len' f) =
 one limit code from r s (whole i n rest a g len e) (broken j left b h f) =
     let t = meet limit from code i.op j.op _ _ a b e f in
     let same = one_good i j t.0
-        (ap (λ (p : Argument × List ℕ). p.0) (ok_is (i.arg, rest) (j.arg, left) t.1)) in
+    (ap (λ (p : Argument × List ℕ). p.0) (ok_is (i.arg, rest) (j.arg, left) t.1)) in
     absurd (h (subst IsGood same g))
 one limit code from r s (broken j left b h f) (whole i n rest a g len e) =
     let t = meet limit from code i.op j.op _ _ a b e f in
     let same = one_good i j t.0
-        (ap (λ (p : Argument × List ℕ). p.0) (ok_is (i.arg, rest) (j.arg, left) t.1)) in
+    (ap (λ (p : Argument × List ℕ). p.0) (ok_is (i.arg, rest) (j.arg, left) t.1)) in
     absurd (h (subst IsGood same g))
 one limit code from r s (whole i n rest a g len e) (lacking p b f) =
     absurd (let t = meet limit from code i.op p _ _ a b e f in let u = t.1 in cc)

@@ -29,13 +29,13 @@ one_argument : (o : Op) (a b : Argument) (more : List ℕ)
 one_argument o a b more s t e =
     let limit = payload_len a + payload_len b in
     let first = (arg_exact limit (layout_at o)).again a more
-        (record { suits = s.good.suits; within = within limit a (omega arith) }) in
+    (record { suits = s.good.suits; within = within limit a (omega arith) }) in
     let second = (arg_exact limit (layout_at o)).again b []
-        (record { suits = t.good.suits; within = within limit b (omega arith) }) in
+    (record { suits = t.good.suits; within = within limit b (omega arith) }) in
     let same = ok_is (a, more) (b, [])
-        (sym first
-        ∙ (ap (arg_at limit (layout_at o)) (sym e ∙ sym (append-nil (laid (layout_at o) b)))
-        ∙ second)) in
+    (sym first
+    ∙ (ap (arg_at limit (layout_at o)) (sym e ∙ sym (append-nil (laid (layout_at o) b)))
+    ∙ second)) in
     (ap (λ (p : Argument × List ℕ). p.0) same, ap (λ (p : Argument × List ℕ). p.1) same)
 
 same_op : (o p : Op) (a b : Argument) (more : List ℕ) → o ≡ p
@@ -45,16 +45,16 @@ same_op : (o p : Op) (a b : Argument) (more : List ℕ) → o ≡ p
     → (more ≡ []) × (instruction o a ≡ instruction p b)
 same_op o p a b more same s t e =
     let P : Op → Type 0 = λ q. Spells (instruction q b) (spelling (instruction q b))
-        → laid (layout_at q) b ≡ laid (layout_at o) a ++ more
-        → (more ≡ []) × (instruction o a ≡ instruction q b) in
+    → laid (layout_at q) b ≡ laid (layout_at o) a ++ more
+    → (more ≡ []) × (instruction o a ≡ instruction q b) in
     subst P same (λ u f. let r = one_argument o a b more s u f in (r.1, ap (instruction o) r.0)) t e
 
 pub one_spelling : (i j : Instruction) (front more : List ℕ) → Spells i front
     → Spells j (front ++ more) → (more ≡ []) × (i ≡ j)
 one_spelling i j front more s t =
     let whole : spelling j ≡ spelling i ++ more =
-        sym t.spelled ∙ ap (λ (f : List ℕ). f ++ more) s.spelled in
+    sym t.spelled ∙ ap (λ (f : List ℕ). f ++ more) s.spelled in
     let codes : code_of i.op ≡ code_of j.op = cc in
     let rest : laid (layout_at j.op) j.arg ≡ laid (layout_at i.op) i.arg ++ more = cc in
     same_op i.op j.op i.arg j.arg more (one_code i.op j.op codes)
-        (record { spelled = refl; good = s.good }) (record { spelled = refl; good = t.good }) rest
+    (record { spelled = refl; good = s.good }) (record { spelled = refl; good = t.good }) rest

@@ -67,7 +67,8 @@ allowed_as : (limit other : Op → ℕ) (p : List Instruction) → All (IsAllowe
 allowed_as limit other p each all = all_by_place (IsAllowedBy limit) (optimized p)
     (λ front j back e. elim (stands p front j back e) [
       | inl m ↦
-          let a = at_place (IsAllowedBy other) front j back (subst (All (IsAllowedBy other)) e all) in
+          let a = at_place (IsAllowedBy other) front j back
+          (subst (All (IsAllowedBy other)) e all) in
           record {
             good = a.good;
             within = move_within (limit j.op) j.op m.0 j.arg m.1 a.good.suits;

@@ -37,7 +37,7 @@ fronts_more laws limit b x h k l =
           (begun_fronts laws limit b h k lt)
       | inr ge ↦ let same : k ≡ length b =
           omega (arith, length-append b (x ∷ []), l) in
-              rw (same, take_at b (x ∷ []) (length b) refl) h
+          rw (same, take_at b (x ∷ []) (length b) refl) h
     ]
 
 pub row_behind : (limit : ℕ) (m n : Sight) (run b : List ℕ) (u : ℕ) (r : Reason) → Begun limit b →
@@ -177,7 +177,7 @@ module _ (c : Count) (x : ℕ) (o : Op) (old mid new : Intake) (e : old.bytes �
       Stops c.limit old new r
   payload_stops laws counts r s =
       let both : AreAllBytes (k.field ++ s.bytes) =
-          AreBytes-both k.field s.bytes k.took.fit s.fit in
+      AreBytes-both k.field s.bytes k.took.fit s.fit in
       let under = k.under in
       let within = k.within in
       let is = k.count in

@@ -79,9 +79,9 @@ later at [] c h = absurd (contains_none c h)
 later at (p ∷ ps) c h =
     elim (Contains-append_cases (contents_of (at + p.length) p.role)
     (frame_spans (at + p.length) ps) c h) [
-  | inl i ↦ omega (arith, later_one (at + p.length) p.role c i)
-  | inr i ↦ omega (arith, later (at + p.length) ps c i)
-]
+      | inl i ↦ omega (arith, later_one (at + p.length) p.role c i)
+      | inr i ↦ omega (arith, later (at + p.length) ps c i)
+    ]
 
 -- of the spans all end at `at` or before, but for those that hold `at` and end n bytes later
 pub record Open (at n : ℕ) (cs : List Span) : Type 0 where
@@ -103,11 +103,11 @@ stands done p ps c h =
     elim (Contains-append_cases (frame_spans 0 done) (frame_spans (0 + total done) (p ∷ ps)) c h') [
       | inl i ↦ inl i
       | inr i ↦
-            elim (Contains-append_cases (contents_of (0 + total done + p.length) p.role)
-            (frame_spans (0 + total done + p.length) ps) c i) [
-        | inl j ↦ inr (omega (arith, later_one (0 + total done + p.length) p.role c j))
-        | inr j ↦ inr (omega (arith, later (0 + total done + p.length) ps c j))
-      ]
+          elim (Contains-append_cases (contents_of (0 + total done + p.length) p.role)
+          (frame_spans (0 + total done + p.length) ps) c i) [
+            | inl j ↦ inr (omega (arith, later_one (0 + total done + p.length) p.role c j))
+            | inr j ↦ inr (omega (arith, later (0 + total done + p.length) ps c j))
+          ]
     ]
 
 -- where all spans before are shut, the piece meets none
@@ -126,7 +126,7 @@ pub meets_one : (done : List Piece) (p : Piece) (ps : List Piece) (n : ℕ)
 meets_one done p ps n o z l none =
     let w = o.one z in
     let i : Contains (frame_spans 0 (done ++ p ∷ ps)) w.0 =
-        rw (contents-append 0 done (p ∷ ps)) (Contains-append_left _ _ w.0 w.1) in
+    rw (contents-append 0 done (p ∷ ps)) (Contains-append_left _ _ w.0 w.1) in
     none w.0 i (total done, (omega arith, omega arith), (omega (arith, w.2), omega (arith, w.3)))
 
 -- the spans after one more piece
@@ -145,16 +145,18 @@ pub goes_on : (done : List Piece) (p : Piece) (n m : ℕ)
     (frame_spans 0 (done ++ p ∷ []))
 goes_on done p n m e o way =
     let same : frame_spans 0 (done ++ p ∷ []) ≡ frame_spans 0 done =
-        more done p ∙ rw e (append-nil (frame_spans 0 done)) in
+    more done p ∙ rw e (append-nil (frame_spans 0 done)) in
     rw (same, total-more done p) (record {
       each = λ c i. elim way [
-        | inl w ↦ elim (o.each c i) [ inl j ↦ inl (omega (arith, j))
-              | inr j ↦ inr (omega (arith, j.0), omega (arith, j.1, w)) ]
+        | inl w ↦ elim (o.each c i) [
+          | inl j ↦ inl (omega (arith, j))
+          | inr j ↦ inr (omega (arith, j.0), omega (arith, j.1, w))
+        ]
         | inr w ↦ inl (omega (arith, ends_within (total done) n (frame_spans 0 done) o c i, w.0))
       ];
       one = λ z. elim way [
         | inl w ↦ let x = o.one (omega (arith, w)) in
-              (x.0, x.1, omega (arith, x.2), omega (arith, x.3, w))
+            (x.0, x.1, omega (arith, x.2), omega (arith, x.3, w))
         | inr w ↦ absurd (omega (arith, w.1))
       ];
     })
@@ -169,7 +171,7 @@ begins done len m o =
       each = λ c i. elim (Contains-push_cases (frame_spans 0 done) _ c i) [
         | inl j ↦ inl (omega (arith, ends_within (total done) 0 (frame_spans 0 done) o c j))
         | inr e ↦ inr
-              (omega (arith, ap (λ (s : Span). s.from) e), omega (arith, ap (λ (s : Span). s.to) e))
+            (omega (arith, ap (λ (s : Span). s.from) e), omega (arith, ap (λ (s : Span). s.to) e))
       ];
       one = λ z. (_, Contains-push (frame_spans 0 done) _, omega arith, refl);
     })
@@ -260,13 +262,18 @@ pub refuses_role : (done : List Piece) (len : ℕ) (k : Role) (ps : List Piece) 
 refuses_role done len (frame a) ps n o l z h f = meets_one done _ ps n o z l (f.frame tt)
 refuses_role done len stop ps n o l z h f = elim f.whole [
   | inl w ↦ let x = o.one z in stop_none n len h
-        (omega (arith, w.2, ends_within (total done) n (frame_spans 0 done) o w.0 w.1,
-        f.stop tt x.0 x.1, x.3))
+      (omega (
+        arith,
+        w.2,
+        ends_within (total done) n (frame_spans 0 done) o w.0 w.1,
+        f.stop tt x.0 x.1,
+        x.3,
+      ))
   | inr w ↦ meets_one done _ ps n o z l w
 ]
 refuses_role done len other ps n o l z h f = elim f.whole [
   | inl w ↦ omega
-        (arith, other_none n len h, ends_within (total done) n (frame_spans 0 done) o w.0 w.1, w.2)
+      (arith, other_none n len h, ends_within (total done) n (frame_spans 0 done) o w.0 w.1, w.2)
   | inr w ↦ meets_one done _ ps n o z l w
 ]
 
@@ -303,7 +310,7 @@ pub tail_framed : (done : List Piece) (p x q : Piece) (b after : List Piece) →
     → IsFramed ((done ++ p ∷ []) ++ b) q after → IsFramed (done ++ x ∷ b) q after
 tail_framed done p x q b after e f =
     let e' : (done ++ p ∷ []) ++ b ≡ done ++ x ∷ b = append_assoc done (p ∷ []) b
-        ∙ ap (λ (y : Piece). done ++ y ∷ b) e in
+    ∙ ap (λ (y : Piece). done ++ y ∷ b) e in
     rw (← e') f
 
 -- where the first and all others are framed, each is
@@ -330,8 +337,14 @@ says_more done p ps None f s = record { framed = framed_more done p ps f s }
 says_more done p ps (Some k) f s =
     let h = s.here in
     record {
-      here = (p ∷ h.0, h.1, h.2, ap (λ (l : List Piece). p ∷ l) h.3, omega (arith, h.4),
-          λ g. h.5 (rw (append_assoc done (p ∷ []) h.0) g));
+      here = (
+        p ∷ h.0,
+        h.1,
+        h.2,
+        ap (λ (l : List Piece). p ∷ l) h.3,
+        omega (arith, h.4),
+        λ g. h.5 (rw (append_assoc done (p ∷ []) h.0) g),
+      );
       earlier = earlier_more done p ps k f s;
     }
 
@@ -347,8 +360,15 @@ pub says_after : (done : List Piece) (p : Piece) (ps : List Piece) (n : ℕ)
     → counted n p ≡ r → ((done' : List Piece) (m : ℕ) → Open (total done') m (frame_spans 0 done')
     → Says done' ps (refused_at m ps)) → Says done (p ∷ ps) (one_later r (λ m. refused_at m ps))
 says_after done p ps n o l None h go = record {
-  here = ([], p, ps, refl, refl, λ f. refuses done p.length p.role ps n o l h
-      (rw (append-nil done) at f));
+  here = (
+    [],
+    p,
+    ps,
+    refl,
+    refl,
+    λ f. refuses done p.length p.role ps n o l h
+        (rw (append-nil done) at f),
+  );
   earlier = λ before q after e m. absurd (omega (arith, m));
 }
 says_after done p ps n o l (Some m) h go = let a = accepts done p.length p.role ps n m o h in
@@ -372,5 +392,5 @@ from_start ps (Some k) s = record { here = s.here; earlier = s.earlier }
 pub counting_is_exact : CountingIsExact
 counting_is_exact ps l =
     let o : Open 0 0 [] =
-        record { each = λ c i. absurd (contains_none c i); one = λ z. absurd (omega (arith, z)) } in
+    record { each = λ c i. absurd (contains_none c i); one = λ z. absurd (omega (arith, z)) } in
     from_start ps (refused_at 0 ps) (says_all [] ps 0 o l)

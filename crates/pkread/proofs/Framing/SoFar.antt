@@ -100,14 +100,14 @@ pub unframed_last : (p : List Instruction) (i : Instruction) (m : ℕ)
 unframed_last p i m e h w =
     let ps = map piece_of p in
     let all : All (λ q. 0 < q.length) (ps ++ piece_of i ∷ []) =
-        subst (All (λ q. 0 < q.length)) (map-append piece_of p (i ∷ [])) (all_long (p ++ i ∷ [])) in
+    subst (All (λ q. 0 < q.length)) (map-append piece_of p (i ∷ [])) (all_long (p ++ i ∷ [])) in
     let f = unframed_at (ps ++ piece_of i ∷ []) (length ps) (refused_at 0 (ps ++ piece_of i ∷ []))
-        (refused_last ps (piece_of i) 0 m e h) (counting_is_exact (ps ++ piece_of i ∷ []) all) in
+    (refused_last ps (piece_of i) 0 m e h) (counting_is_exact (ps ++ piece_of i ∷ []) all) in
     let (b, q, a, is, at, breaks) = f.here in
     let s = same_split ps b (piece_of i) q a (sym at) is in
     breaks
-        (subst (λ x. IsFramed x q a) s.0
-        (subst (λ x. IsFramed ps x a) s.1 (subst (λ x. IsFramed ps (piece_of i) x) (sym s.2) w)))
+    (subst (λ x. IsFramed x q a) s.0
+    (subst (λ x. IsFramed ps x a) s.1 (subst (λ x. IsFramed ps (piece_of i) x) (sym s.2) w)))
 
 -- the laws of a list that grows at its end
 

@@ -102,9 +102,13 @@ reads_one start from limit p s t i h o allowed bytes taken phase = record {
   each = All-push (IsAllowedBy limit) p i h.each allowed;
   so_far = rw phase (so_far_more p i (so_far_open p s.phase o h.so_far));
   bytes = rw (spellings-more p i) (Takes-more h.bytes bytes);
-  count = omega
-      (arith, taken, h.count, ap length (spellings-more p i),
-      length-append (spellings p) (spelling i));
+  count = omega (
+    arith,
+    taken,
+    h.count,
+    ap length (spellings-more p i),
+    length-append (spellings p) (spelling i),
+  );
 }
 
 -- a new reader has given nothing
@@ -148,10 +152,12 @@ next_is_read start from limit p s t r at i holds h k e =
     let o = given s.phase s t r at i k.1 e in
     let g = o.1 in
     let allowed : IsAllowedBy limit (instruction_of i) =
-        subst (λ (l : ℕ). IsAllowed l (instruction_of i)) (holds (instruction_of i).op) g.allowed in
-    (more_of start from limit p s t (instruction_of i) h o.0
-        (reads_one start from limit p s t (instruction_of i) h o.0 allowed g.bytes g.taken g.phase),
-        g)
+    subst (λ (l : ℕ). IsAllowed l (instruction_of i)) (holds (instruction_of i).op) g.allowed in (
+      more_of start from limit p s t (instruction_of i) h o.0
+          (reads_one start from limit p s t (instruction_of i) h o.0 allowed
+          g.bytes g.taken g.phase),
+      g,
+    )
 
 pub end_is_read : EndIsRead
 end_is_read start from limit p s t r h k e =
@@ -200,9 +206,11 @@ head_is_read start from limit p s t r at i passes h k e =
     let g = o.1 in
     let j = instruction_of i in
     let allowed : IsAllowedBy limit j = subst (λ (l : ℕ). IsAllowed l j)
-        (by_passed s.limits limit j.op false (passes j.op) o.2) g.allowed in
-    (more_of start from limit p s t j h o.0
-        (reads_one start from limit p s t j h o.0 allowed g.bytes g.taken g.phase), g)
+    (by_passed s.limits limit j.op false (passes j.op) o.2) g.allowed in (
+      more_of start from limit p s t j h o.0
+          (reads_one start from limit p s t j h o.0 allowed g.bytes g.taken g.phase),
+      g,
+    )
 
 passed_not_ended : (o : Op) (at count : ℕ) → let a : Result Head Refusal =
     Ok (head.Passed at o count) in a ≡ Ok head.Ended → ⊥
@@ -231,19 +239,25 @@ passed_is_read start from limit p s t r at o count passes h k e =
     let i = instruction o (Counted b.payload) in
     let same = by_passed s.limits limit o true (passes o) b.one.passed in
     let one : IsSkipped (limit o) o count b.payload =
-        subst (λ (l : ℕ). IsSkipped l o count b.payload) same b.one in
-    (b.payload, one, more_of start from limit p s t i h w.0
-        (reads_one start from limit p s t i h w.0 one.allowed b.bytes b.taken
-        (g.phase ∙ sym (passed_goes_on o b.one.passed))), b.bytes, b.taken, g)
+    subst (λ (l : ℕ). IsSkipped l o count b.payload) same b.one in (
+      b.payload,
+      one,
+      more_of start from limit p s t i h w.0
+          (reads_one start from limit p s t i h w.0 one.allowed b.bytes b.taken
+          (g.phase ∙ sym (passed_goes_on o b.one.passed))),
+      b.bytes,
+      b.taken,
+      g,
+    )
 
 -- the law of `peek` and `advance`
 pub peeked_is_read : PeekedIsRead
 peeked_is_read start from limit p s t count i passes h shown over =
     let allowed : IsAllowedBy limit i = subst (λ (l : ℕ). IsAllowed l i)
-        (passes i.op) shown.allowed in
+    (passes i.op) shown.allowed in
     let phase = over.phase ∙ sym shown.goes_on in
     more_of start from limit p s t i h shown.phase
-        (reads_one start from limit p s t i h shown.phase allowed over.bytes over.taken phase)
+    (reads_one start from limit p s t i h shown.phase allowed over.bytes over.taken phase)
 
 head_ended_not_err : (x : Refusal) → let a : Result Head Refusal = Ok head.Ended in a ≡ Err x → ⊥
 head_ended_not_err x e = cc

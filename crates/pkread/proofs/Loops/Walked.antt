@@ -76,9 +76,13 @@ item_is_walked bytes limit p w v item at i h k e =
             ∙ (ap (λ (b : List ℕ). spellings p ++ b) g.bytes
             ∙ (sym (append_assoc (spellings p) (spelling j) v.bytes)
             ∙ ap (λ (b : List ℕ). b ++ v.bytes) (sym (spellings-more p j))));
-        offset = omega
-            (arith, g.offset, h.offset, ap length (spellings-more p j),
-            length-append (spellings p) (spelling j));
+        offset = omega (
+          arith,
+          g.offset,
+          h.offset,
+          ap length (spellings-more p j),
+          length-append (spellings p) (spelling j),
+        );
       },
       g,
     )

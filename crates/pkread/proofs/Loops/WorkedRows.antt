@@ -69,11 +69,17 @@ admits_five = refl
 
 -- the bytes 80 06 and what follows: PROTO 6
 six_is_amiss : (rest : List ℕ) → IsAmiss 16_777_216 (0x80 ∷ 6 ∷ rest) (UnsupportedProtocol 6)
-six_is_amiss rest = (instruction op.Proto (Number 1 6), 2,
-    record { fits = omega arith;
+six_is_amiss rest = (
+  instruction op.Proto (Number 1 6),
+  2,
+  record {
+    fits = omega arith;
     spells =
-    record { spelled = refl; good = record { suits = (refl, omega arith); contents = tt } };
-    within = tt }, refl)
+        record { spelled = refl; good = record { suits = (refl, omega arith); contents = tt } };
+    within = tt;
+  },
+  refl,
+)
 
 -- FRAME with the argument 2, as a piece
 frame_piece : piece_of (instruction op.Frame (Number 8 2)) ≡ one 9 (frame 2)
@@ -105,9 +111,14 @@ none_stop_sequence limit = record {
   each = All-push (IsAllowed limit) (instruction op.None Nothing ∷ []) (instruction op.Stop Nothing)
       (All-push (IsAllowed limit) [] (instruction op.None Nothing) (All-nil (IsAllowed limit))
       (allows_none limit)) (allows_stop limit);
-  stops = (instruction op.None Nothing ∷ [], instruction op.Stop Nothing, refl, refl,
-      All-push (λ i. i.op ≢ op.Stop) [] (instruction op.None Nothing)
-      (All-nil (λ i. i.op ≢ op.Stop)) (λ e. cc));
+  stops = (
+    instruction op.None Nothing ∷ [],
+    instruction op.Stop Nothing,
+    refl,
+    refl,
+    All-push (λ i. i.op ≢ op.Stop) [] (instruction op.None Nothing)
+        (All-nil (λ i. i.op ≢ op.Stop)) (λ e. cc),
+  );
 }
 
 -- a walk over two bytes has three items at most, and none once it is done

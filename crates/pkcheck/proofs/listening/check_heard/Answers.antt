@@ -4,8 +4,7 @@ use Rattle.pkops.specs.Inst.{instruction_of}
 use Rattle.pkcheck.specs.Heard.{AreHeardBehind, heard}
 use Rattle.pkread.specs.Rows.{sight}
 use Rattle.pkcheck.proofs.Wholes.Checked.{from_start, checked_none, checked_took, accepted}
-use Rattle.pkcheck.proofs.Wholes.Checked.{count_took}
-use Rattle.pkcheck.proofs.Wholes.Checked.{refusal_of, refused_turned, refused_took}
+use Rattle.pkcheck.proofs.Wholes.Checked.{count_took, refusal_of, refused_turned, refused_took}
 use Rattle.pkcheck.proofs.Wholes.FramesSoFar.{FrameLaws}
 use Rattle.pkcheck.proofs.Wholes.Given.{failures_so, seen_so, refused_next, took_next, took_peeked}
 use Rattle.pkcheck.proofs.Wholes.Hearing.{cut_short, heard_more, heard_here, if_err}
@@ -142,7 +141,7 @@ returns-in-Err-next-clause-answer g c =
     let refused = refused_turned _ _ _ _ _ r.0 r.1 _ _ _ r.2 _ c.in-Err-next.refusal _ turned
     (seen_so _ _ _ k.3 (search rules)) in
     let w = refusal_of _ _ _ _ _ r.0 r.1 _ _ _ r.2 _ _ _ _ _ _ _ c.refuse-in-Err-next.ensures
-        r.2.off refused in (
+    r.2.off refused in (
       r.3,
       record {
         right = w.0;
@@ -200,7 +199,7 @@ returns-in_err-hear-in-Ok-Inst-clause-cut_short g c =
       c.instructions.listener,
       cut_short _ _ _ r.0 r.1 _ _ _ r.2 _
           c.in-Ok-Inst.at (instruction_of c.in-Ok-Inst.inst) _ took
-              (seen_so _ _ _ k.3 (search rules))
+          (seen_so _ _ _ k.3 (search rules))
           r.3 r.4,
       r.5,
     )

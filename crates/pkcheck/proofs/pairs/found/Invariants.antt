@@ -9,5 +9,5 @@ abbrev pub invariant-halves : goal.invariant-halves
 invariant-halves l =
     (l.high ≤ length l.pairs)
     × ((steps : ℕ) × (l.high - l.low ≤ steps)
-        × (comes_to (order_to l.module_name l.name) l.pairs steps l.low l.high
-        ≡ found l.pairs l.module_name l.name))
+    × (comes_to (order_to l.module_name l.name) l.pairs steps l.low l.high
+    ≡ found l.pairs l.module_name l.name))

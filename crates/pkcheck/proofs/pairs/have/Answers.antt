@@ -6,5 +6,5 @@ pub returns-then-found : goal.returns-then-found
 returns-then-found c =
     let is : c.found.result ≡ true = c.if-found.true in
     is
-        ∙ sym (found_is_had c.args.pairs.now c.args.module_name.now c.args.name.now
-        (sym c.found.ensures ∙ is))
+    ∙ sym (found_is_had c.args.pairs.now c.args.module_name.now c.args.name.now
+    (sym c.found.ensures ∙ is))

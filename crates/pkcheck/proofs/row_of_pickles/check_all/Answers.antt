@@ -14,7 +14,8 @@ use Rattle.pkcheck.specs.Private.NextPickle.{listed_in, restarted}
 use Rattle.pkcheck.specs.RowOfPickles.{begins}
 use Rattle.pkcheck.proofs.Wholes.Origins.{Origin}
 use Rattle.pkcheck.proofs.Wholes.Payloads.{long_passed}
-use Rattle.pkcheck.proofs.Wholes.RowOfPickles.{all_listed, begins_first, count_on, less_to_do}
+use Rattle.pkcheck.proofs.Wholes.RowOfPickles.{all_listed, begins_first, count_on}
+use Rattle.pkcheck.proofs.Wholes.LeftToDo.{less_to_do}
 use Rattle.pkcheck.proofs.Wholes.RowOfPickles.{next_ready, none_before, none_failed, pickle_more}
 use Rattle.pkcheck.proofs.Wholes.RowOfPickles.{refused_behind, row_accepted, row_begins}
 use Rattle.pkcheck.proofs.Wholes.RowOfPickles.{row_refused, row_took, some_byte, this, told}
@@ -125,9 +126,9 @@ returns-in-Err-next_head-clause-count g c =
     let k = c.next_head.follows.holds-at-none in
     let r = c.instructions.invariant.row in
     let w = (c.heads.ensures.refused _ _ _ r.4 _ _ c.next_head.result c.in-Err-next_head.refusal
-        r.6.reads k.1 (cc (c.in-Err-next_head.is))).1 in
+    r.6.reads k.1 (cc (c.in-Err-next_head.is))).1 in
     count_on _ _ _ _ _ _ _ _ _ (returns-in-Err-next_head-clause-answer g c) _ _ _
-        c.refused-in-Err-next_head.ensures.no.why
+    c.refused-in-Err-next_head.ensures.no.why
     (r.6.reads.bytes.count ∙ none_failed c.rows.ensures.taking _ _ _ _ _ _ _ _ _ r.3)
     (seen_so _ _ _ k.3 (search rules)) w.failures
 
@@ -176,7 +177,7 @@ returns-in-Err-next-clause-count g c =
     let h = refused_from _ _ _ c.next.result x e.1 looks.refused c.in-Err-next.is in
     count_on _ _ _ _ _ _ _ _ _ (returns-in-Err-next-clause-answer g c) _ _ _
     c.refused-in-Err-next.ensures.no.why
-        (r.6.reads.bytes.count ∙ none_failed c.rows.ensures.taking _ _ _ _ _
+    (r.6.reads.bytes.count ∙ none_failed c.rows.ensures.taking _ _ _ _ _
     _ _ _ _ r.3) (seen_so _ _ _ ahead (search rules))
     (behind_counts _ _ x h c.rows.ensures.refused)
 
@@ -191,7 +192,7 @@ instructions-preserved-in-Ok-true g c =
     let looks = c.next.ensures.reader in
     let s = state g.R.Source.left g.R.Source.failures c.next.new.reader in
     let h = again_true _ _ _ c.next.result e.1 looks.steps
-        (cc (c.in-Ok-true.is, c.in-Ok-true.field-0-test)) in
+    (cc (c.in-Ok-true.is, c.in-Ok-true.field-0-test)) in
     let ahead = (let b = rw (c.in-Ok-true.is, c.in-Ok-true.field-0-test) at looks.ahead in b) in
     let kept = c.instructions.invariant.memo in
     let apart = (let b = rw (c.in-Ok-true.is, kept) at counted.apart in b) in
@@ -218,7 +219,7 @@ instructions-preserved-in-Ok-true g c =
         [],
         rw machine
             (checked_again _ _ _ s.source r.6.laws c.rows.ensures.begins s h.1
-                (h.3 ∙ r.6.read_limits)
+            (h.3 ∙ r.6.read_limits)
             _ _ ready),
         λ ne. some_ahead ahead.0 _ _ ahead.1,
       );
@@ -235,7 +236,7 @@ returns-in-Ok-false-clause-answer g c =
     let looks = c.next.ensures.reader in
     let s = state g.R.Source.left g.R.Source.failures c.next.new.reader in
     let h = again_false _ _ _ c.next.result e.1 looks.steps
-        (cc (c.in-Ok-false.is, c.in-Ok-false.field-0-test))
+    (cc (c.in-Ok-false.is, c.in-Ok-false.field-0-test))
     in
     let ahead = (let b = rw (c.in-Ok-false.is, c.in-Ok-false.field-0-test) at looks.ahead in b) in
     let kept = c.instructions.invariant.memo in
@@ -287,7 +288,7 @@ returns-in-Err-judge_passed-clause-count g c =
     count_on _ _ _ _ _ _ _ _ _ (returns-in-Err-judge_passed-clause-answer g c) _ _ now
     c.refused-in-Err-judge_passed.ensures.no.why refl (search rules)
     (row_took c.rows.ensures.taking _ _ _ _ _ _ _ _ _ r.3 r.4 r.5 _ _ _ r.6 _ c.in-Ok-Passed.at i
-        now w.took
+    now w.took
     (seen_so lender.core.ahead now now k.3 refl) (longest c.args.policy.now) _ _ (λ is. r.7)
     (c.in-Err-judge_passed.ensures.err i
     (long_passed _ _ _ _ _ _ _ _ _ w _ c.taken.ensures))).1
@@ -317,7 +318,7 @@ returns-in-Err-judge-clause-count g c =
     count_on _ _ _ _ _ _ _ _ _ (returns-in-Err-judge-clause-answer g c) _ _ now
     c.refused-in-Err-judge.ensures.no.why refl (search rules)
     (row_took c.rows.ensures.taking _ _ _ _ _ _ _ _ _ r.3 r.4 r.5 _ _ _ r.6 _ c.in-Ok-Inst.at
-        (instruction_of c.in-Ok-Inst.inst) now took
+    (instruction_of c.in-Ok-Inst.inst) now took
     (seen_so lender.core.ahead now now k.3 refl) (longest c.args.policy.now) _ _ (λ is. r.7)
     c.in-Err-judge.ensures.err).1
 

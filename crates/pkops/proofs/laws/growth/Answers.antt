@@ -7,8 +7,13 @@ use Rattle.pkops.proofs.Begun.Sizes.{begun_is_short}
 use Rattle.pkops.proofs.laws.growth.Goals as goal
 
 pub returns-clause-begun : goal.returns-clause-begun
-returns-clause-begun c = record { nothing = nothing_begun; fronts = fronts_begin;
-    whole = lies_begun; short = begun_is_short; counted = begun_is_counted }
+returns-clause-begun c = record {
+  nothing = nothing_begun;
+  fronts = fronts_begin;
+  whole = lies_begun;
+  short = begun_is_short;
+  counted = begun_is_counted;
+}
 
 pub returns-clause-field : goal.returns-clause-field
 returns-clause-field c = record { begun = field_begun; whole = field_lies }

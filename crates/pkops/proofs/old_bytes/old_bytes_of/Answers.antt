@@ -6,5 +6,5 @@ use Rattle.pkops.proofs.old_bytes.old_bytes_of.Goals as goal
 pub returns-clause-named : goal.returns-clause-named
 returns-clause-named c =
     IfOk-weaker c.decoded.result _ _
-        (λ bytes e. answered (instruction_of c.args.inst.now) (λ vec. vec.items) bytes e)
-        c.decoded.ensures
+    (λ bytes e. answered (instruction_of c.args.inst.now) (λ vec. vec.items) bytes e)
+    c.decoded.ensures

@@ -14,30 +14,30 @@ returns-in_default c = let empty : c.args.bytes.now
 pub overflow_sub-result : goal.overflow_sub-result
 overflow_sub-result c =
     let e = read_is _ _ _ c.kind.result _ _ _ c.in-len1-up.len_at_least c.counted.ensures.is
-        c.kind.ensures c.layout.ensures c.in-Ok.ensures in
+    c.kind.ensures c.layout.ensures c.in-Ok.ensures in
     all_rest_le _ _ _ _ _
-        (c.in-len1-up.len_at_least, c.in-Some.ensures.found, λ i. (c.type_inv.bytes i).fits) e
+    (c.in-len1-up.len_at_least, c.in-Some.ensures.found, λ i. (c.type_inv.bytes i).fits) e
 
 pub returns-in-Some-new : goal.returns-in-Some-new
 returns-in-Some-new c =
     let e = read_is _ _ _ c.kind.result _ _ _ c.in-len1-up.len_at_least c.counted.ensures.is
-        c.kind.ensures c.layout.ensures c.in-Ok.ensures in
+    c.kind.ensures c.layout.ensures c.in-Ok.ensures in
     made_is _ _ _ _ _ _ _
-        (c.in-len1-up.len_at_least, c.in-Some.ensures.found, λ i. (c.type_inv.bytes i).fits) e
-        c.new.ensures (ap (option_map instruction_of) c.in-Some-new.is)
+    (c.in-len1-up.len_at_least, c.in-Some.ensures.found, λ i. (c.type_inv.bytes i).fits) e
+    c.new.ensures (ap (option_map instruction_of) c.in-Some-new.is)
 
 pub returns-in-None : goal.returns-in-None
 returns-in-None c =
     let e = read_is _ _ _ c.kind.result _ _ _ c.in-len1-up.len_at_least c.counted.ensures.is
-        c.kind.ensures c.layout.ensures c.in-Ok.ensures in
+    c.kind.ensures c.layout.ensures c.in-Ok.ensures in
     all_broken _ _ _ _ _
-        (c.in-len1-up.len_at_least, c.in-Some.ensures.found, λ i. (c.type_inv.bytes i).fits) e
-        c.in-None.ensures
+    (c.in-len1-up.len_at_least, c.in-Some.ensures.found, λ i. (c.type_inv.bytes i).fits) e
+    c.in-None.ensures
 
 pub returns-in-Err : goal.returns-in-Err
 returns-in-Err c =
     let e = read_is _ _ _ c.kind.result _ _ _ c.in-len1-up.len_at_least c.counted.ensures.is
-        c.kind.ensures c.layout.ensures c.in-Err.ensures in
+    c.kind.ensures c.layout.ensures c.in-Err.ensures in
     unread_is _ _ _ _ _
-        (c.in-len1-up.len_at_least, c.in-Some.ensures.found, λ i. (c.type_inv.bytes i).fits) e
-        c.unread.ensures
+    (c.in-len1-up.len_at_least, c.in-Some.ensures.found, λ i. (c.type_inv.bytes i).fits) e
+    c.unread.ensures

@@ -7,4 +7,4 @@ use Rattle.pkops.proofs.text.text_of.Goals as goal
 pub returns-clause-named : goal.returns-clause-named
 returns-clause-named c =
     IfOk-weaker c.decoded.result _ _
-        (λ text e. answered (instruction_of c.args.inst.now) string_bytes text e) c.decoded.ensures
+    (λ text e. answered (instruction_of c.args.inst.now) string_bytes text e) c.decoded.ensures

@@ -21,5 +21,5 @@ returns g ne =
     (omega (arith, room, enough))
     (counted_few g.args.limits.now.counted _ _ width (omega (arith, head)) few)
     (λ e. subst
-        (λ (m : ℕ). IsUtf8 (take (g.head_length-head.result + g.count_behind-count.result - m)
+    (λ (m : ℕ). IsUtf8 (take (g.head_length-head.result + g.count_behind-count.result - m)
     (drop m bytes))) head (g.if-not-takes_payload.ensures refl e))

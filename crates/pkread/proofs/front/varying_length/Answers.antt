@@ -7,17 +7,17 @@ pub returns-in-Counted-default-false : goal.returns-in-Counted-default-false
 returns-in-Counted-default-false c o code ne =
     subst (λ (x : Op). IsInFront c.args.limits.now x
     c.counted_length-in-Counted-default-false.result c.args.bytes.now)
-        (c.one_code.ensures c.in-Some.op o (c.in-Some.ensures.found ∙ sym code))
+    (c.one_code.ensures c.in-Some.op o (c.in-Some.ensures.found ∙ sym code))
     (c.counted_length-in-Counted-default-false.ensures ne)
 
 pub returns-in-Line : goal.returns-in-Line
 returns-in-Line c o code ne =
     subst (λ (x : Op). IsInFront c.args.limits.now x c.line_length.result c.args.bytes.now)
-        (c.one_code.ensures c.in-Some.op o (c.in-Some.ensures.found ∙ sym code))
+    (c.one_code.ensures c.in-Some.op o (c.in-Some.ensures.found ∙ sym code))
     (c.line_length.ensures _ ne)
 
 pub returns-in-Pair : goal.returns-in-Pair
 returns-in-Pair c o code ne =
     subst (λ (x : Op). IsInFront c.args.limits.now x c.pair_length.result c.args.bytes.now)
-        (c.one_code.ensures c.in-Some.op o (c.in-Some.ensures.found ∙ sym code))
+    (c.one_code.ensures c.in-Some.op o (c.in-Some.ensures.found ∙ sym code))
     (c.pair_length.ensures _ ne)

@@ -5,4 +5,4 @@ use Rattle.pkcheck.proofs.imports.Imports.same.Given as goal
 abbrev pub invariant-loop-import : goal.invariant-loop-import
 invariant-loop-import l =
     (l.import-iterator ≡ l.others → l.self ≡ l.other)
-        × (l.self ≡ l.other → l.import-iterator ≡ l.others)
+    × (l.self ≡ l.other → l.import-iterator ≡ l.others)

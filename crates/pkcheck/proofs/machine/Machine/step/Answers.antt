@@ -57,14 +57,14 @@ returns-in-Ok-clause-texts c =
     rw (← c.self.view_is) (c.in-Ok.ensures.texts ∙ texts_by_setting c.self.inside.terms.old_strings
     (instruction_of c.args.inst.now) c.self.inside.held.texts
     (not_raised c.self.inside.terms.old_strings (policy_of c.args.policy.now)
-        c.self.inside.terms.limits
+    c.self.inside.terms.limits
     (instruction_of c.args.inst.now) c.self.inside.held.knowledge _ g.1))
 
 pub returns-in-Err-clause-fails : goal.returns-in-Err-clause-fails
 returns-in-Err-clause-fails c fresh =
     let kept = c.in-Err.ensures.kept in
     denied (policy_of c.args.policy.now) (instruction_of c.args.inst.now) c.args.self.now _ _
-        (option_map asked_shown c.advance.new.off)
+    (option_map asked_shown c.advance.new.off)
     (rw (← c.self.view_is) (λ j. record {
       knowledge = (kept j).knowledge;
       limits =
@@ -83,7 +83,7 @@ pub returns-in-Err-clause-alarm : goal.returns-in-Err-clause-alarm
 returns-in-Err-clause-alarm c fresh =
     let (v, long) = longest c.args.policy.now in
     alarm_by (policy_of c.args.policy.now) (instruction_of c.args.inst.now) c.args.self.now _ _ v
-        long c.requires.admitted (returns-in-Err-clause-fails c fresh)
+    long c.requires.admitted (returns-in-Err-clause-fails c fresh)
 
 pub returns-in-Err-clause-memory : goal.returns-in-Err-clause-memory
 returns-in-Err-clause-memory c fresh = memory_by (policy_of c.args.policy.now)

@@ -15,13 +15,13 @@ pub returns-in-Ok-clause-step : goal.returns-in-Ok-clause-step
 returns-in-Ok-clause-step c i same =
     let p = policy_of c.args.policy.now in
     let e = passed_effect c.args.self.now.old_strings i
-        (subst (λ o. IsTrue (is_passed o)) (sym same) c.requires.passed)
-        ∙ (ap effect_of same ∙ c.class_passed.ensures c.requires.passed) in
+    (subst (λ o. IsTrue (is_passed o)) (sym same) c.requires.passed)
+    ∙ (ap effect_of same ∙ c.class_passed.ensures c.requires.passed) in
     let stack = subst (λ (k : Knowledge). length k.entries ≤ c.self.inside.terms.limits.stack)
-        c.in-Ok.ensures.ok c.in-Ok.ensures.room in
+    c.in-Ok.ensures.ok c.in-Ok.ensures.room in
     goes_on p i c.args.self.now _ On
     (passes p i c.args.self.now _ c.class_passed.result e (rw (← c.self.view_is) stack)
-        (rw (← c.self.view_is) (c.self.invariant.0 c.in_default.is).1) c.requires.running
+    (rw (← c.self.view_is) (c.self.invariant.0 c.in_default.is).1) c.requires.running
     (rw (← c.self.view_is) (λ j. record {
       knowledge = c.in-Ok.ensures.ok j;
       limits =
@@ -41,15 +41,15 @@ pub returns-in-Err-clause-step : goal.returns-in-Err-clause-step
 returns-in-Err-clause-step c i same =
     let p = policy_of c.args.policy.now in
     let e = passed_effect c.args.self.now.old_strings i
-        (subst (λ o. IsTrue (is_passed o)) (sym same) c.requires.passed)
-        ∙ (ap effect_of same ∙ c.class_passed.ensures c.requires.passed) in
+    (subst (λ o. IsTrue (is_passed o)) (sym same) c.requires.passed)
+    ∙ (ap effect_of same ∙ c.class_passed.ensures c.requires.passed) in
     let (v, long) = longest c.args.policy.now in
     fails p i c.args.self.now _ c.in-Err.reason v long
-        (passed_admitted i.op i.arg
-        (subst (λ o. IsTrue (is_passed o)) (sym same) c.requires.passed))
-        (rw (← c.self.view_is) c.in_default.is)
+    (passed_admitted i.op i.arg
+    (subst (λ o. IsTrue (is_passed o)) (sym same) c.requires.passed))
+    (rw (← c.self.view_is) c.in_default.is)
     (lacks_room p i c.args.self.now _ c.class_passed.result e c.in-Err.reason
-        (rw (← c.self.view_is) c.in-Err.ensures.err)
+    (rw (← c.self.view_is) c.in-Err.ensures.err)
     (rw (← c.self.view_is) (λ j. record {
       knowledge = (c.in-Err.ensures.kept j).knowledge;
       limits =

@@ -6,8 +6,8 @@ use Rattle.pkcheck.proofs.machine.ledger.copy_entries.Goals as goal
 pub copy_entry-requires-clause-entry : goal.copy_entry-requires-clause-entry
 copy_entry-requires-clause-entry c =
     rw c.entries.invariant.size
-        (entry_at (length c.args.texts.now) (length c.args.names.now) c.entries.entry-index
-        c.args.entries.now entry.Unknown c.requires c.entries-test.true)
+    (entry_at (length c.args.texts.now) (length c.args.names.now) c.entries.entry-index
+    c.args.entries.now entry.Unknown c.requires c.entries-test.true)
 
 pub returns-in_default-clause-grows : goal.returns-in_default-clause-grows
 returns-in_default-clause-grows c = grows_more c.args.written.now c.entries.written

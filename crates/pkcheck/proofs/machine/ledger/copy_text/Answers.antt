@@ -15,5 +15,5 @@ pub returns-clause-copies : goal.returns-clause-copies
 returns-clause-copies c =
     let ok = c.in_ok-copy.ensures.ok in
     rw (ok.0, ok.1, c.get.ensures)
-        (copies_more c.args.copies.now.items c.args.texts.now c.args.written.now c.args.number
-        c.requires.copies)
+    (copies_more c.args.copies.now.items c.args.texts.now c.args.written.now c.args.number
+    c.requires.copies)

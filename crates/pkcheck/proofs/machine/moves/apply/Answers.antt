@@ -8,9 +8,12 @@ use Rattle.pkcheck.proofs.machine.moves.apply.Goals as goal
 pub returns-in-PushesMark-clause-err : goal.returns-in-PushesMark-clause-err
 returns-in-PushesMark-clause-err c = rw c.in-PushesMark.is
     (err_on _ _ c.push_mark.result
-    (λ r h.
-    (h.0, refl, fault_of PushesMark c.args.limits.now 0 _ r tt
-    (grown c.args.limits.now 0 _ Mark c.args.stack.now _ r refl h.1))) c.push_mark.ensures.err)
+    (λ r h. (
+      h.0,
+      refl,
+      fault_of PushesMark c.args.limits.now 0 _ r tt
+          (grown c.args.limits.now 0 _ Mark c.args.stack.now _ r refl h.1),
+    )) c.push_mark.ensures.err)
 
 pub returns-in-Duplicates-clause-err : goal.returns-in-Duplicates-clause-err
 returns-in-Duplicates-clause-err c = rw c.in-Duplicates.is

@@ -6,15 +6,21 @@ use Rattle.pkcheck.proofs.machine.moves.recall.Goals as goal
 
 pub returns-in-Some-clause-err : goal.returns-in-Some-clause-err
 returns-in-Some-clause-err c = err_on _ _ c.push.result
-    (λ r h.
-    (h.0, grown c.args.limits.now 0 _ _ c.args.stack.now c.args.memo.now r
-    (fetches (record { entries = c.args.stack.now; memo = c.args.memo.now }) c.args.number _
-    (sym c.in-Some.ensures)) h.1)) c.push.ensures.err
+    (λ r h. (
+      h.0,
+      grown c.args.limits.now 0 _ _ c.args.stack.now c.args.memo.now r
+          (fetches (record { entries = c.args.stack.now; memo = c.args.memo.now }) c.args.number _
+          (sym c.in-Some.ensures)) h.1,
+    )) c.push.ensures.err
 
 pub returns-in-None-clause-err : goal.returns-in-None-clause-err
-returns-in-None-clause-err c =
-    (refl,
-    inl
-    (NoMemo c.args.number, fetches_none
-    (record { entries = c.args.stack.now; memo = c.args.memo.now }) c.args.number
-    (sym c.in-None.ensures), refl))
+returns-in-None-clause-err c = (
+  refl,
+  inl (
+    NoMemo c.args.number,
+    fetches_none
+        (record { entries = c.args.stack.now; memo = c.args.memo.now }) c.args.number
+        (sym c.in-None.ensures),
+    refl,
+  ),
+)

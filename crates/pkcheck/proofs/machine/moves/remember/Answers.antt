@@ -4,7 +4,9 @@ use Rattle.pkcheck.proofs.machine.moves.remember.Goals as goal
 
 pub returns-clause-err : goal.returns-clause-err
 returns-clause-err c = err_on _ _ c.store.result
-    (λ r h.
-    (h.0, stuffed c.args.limits.now 0 _ c.args.stack.now _ r
-    (stored_is (record { entries = c.args.stack.now; memo = c.args.memo.now }) c.args.number _
-    c.in_ok-value.ensures.ok) h.1)) c.store.ensures.err
+    (λ r h. (
+      h.0,
+      stuffed c.args.limits.now 0 _ c.args.stack.now _ r
+          (stored_is (record { entries = c.args.stack.now; memo = c.args.memo.now }) c.args.number _
+          c.in_ok-value.ensures.ok) h.1,
+    )) c.store.ensures.err

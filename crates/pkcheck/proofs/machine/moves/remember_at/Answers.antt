@@ -5,10 +5,16 @@ use Rattle.pkcheck.proofs.machine.moves.remember_at.Goals as goal
 pub returns-then-number-numbers-clause-err : goal.returns-then-number-numbers-clause-err
 returns-then-number-numbers-clause-err c =
     let past : c.args.limits.now.numbers < c.args.number =
-        omega (arith, c.if-number-numbers.true, c.numbers.ensures.is) in
-    (refl,
-        inr
-        (inl
-        (refl,
-        (_, stored_is (record { entries = c.args.stack.now; memo = c.args.memo.now }) c.args.number
-        _ c.in_ok-_value.ensures.ok, inr (inr past)))))
+    omega (arith, c.if-number-numbers.true, c.numbers.ensures.is) in (
+      refl,
+      inr
+          (inl (
+            refl,
+            (
+              _,
+              stored_is (record { entries = c.args.stack.now; memo = c.args.memo.now })
+                  c.args.number _ c.in_ok-_value.ensures.ok,
+              inr (inr past),
+            ),
+          )),
+    )

@@ -13,11 +13,11 @@ pub returns-in_err-make-in-Makes-clause-err : goal.returns-in_err-make-in-Makes-
 returns-in_err-make-in-Makes-clause-err c =
     let q = err_from_is_err_and c.from_residual.result c.from_residual.ensures.1 in
     rw (q.1, q.2, c.requires.none)
-        (not_pushed c.args.terms.now.old_strings (policy_of c.args.policy.now)
+    (not_pushed c.args.terms.now.old_strings (policy_of c.args.policy.now)
     c.args.terms.now.limits (instruction_of c.args.inst.now) c.args.held.now.knowledge
     (Makes c.in-Makes.class) (Some (Plain c.in-Makes.class))
     (of_action c.args.terms.now.old_strings (instruction_of c.args.inst.now) _ _ _
-        c.op-op.ensures.op
+    c.op-op.ensures.op
     c.action_of.ensures.effect c.action_of.ensures.old c.in-Makes.is refl) refl
     c.in_err-make-in-Makes.field-0.0 c.in_err-make-in-Makes.ensures.err)
 
@@ -25,14 +25,14 @@ pub returns-in_err-make-in-MakesIntOrBool-clause-err
     : goal.returns-in_err-make-in-MakesIntOrBool-clause-err
 returns-in_err-make-in-MakesIntOrBool-clause-err c =
     let q = err_from_is_err_and c.from_residual-in_err-make-in-MakesIntOrBool.result
-        c.from_residual-in_err-make-in-MakesIntOrBool.ensures.1 in
+    c.from_residual-in_err-make-in-MakesIntOrBool.ensures.1 in
     rw (q.1, q.2, c.requires.none)
-        (not_pushed c.args.terms.now.old_strings (policy_of c.args.policy.now)
+    (not_pushed c.args.terms.now.old_strings (policy_of c.args.policy.now)
     c.args.terms.now.limits (instruction_of c.args.inst.now) c.args.held.now.knowledge
-        MakesIntOrBool
+    MakesIntOrBool
     (Some (Plain (int_or_bool (instruction_of c.args.inst.now))))
     (of_action c.args.terms.now.old_strings (instruction_of c.args.inst.now) _ _ _
-        c.op-op.ensures.op
+    c.op-op.ensures.op
     c.action_of.ensures.effect c.action_of.ensures.old c.in-MakesIntOrBool.is refl) refl
     c.in_err-make-in-MakesIntOrBool.field-0.0 c.in_err-make-in-MakesIntOrBool.ensures.err)
 
@@ -40,13 +40,13 @@ pub returns-in_err-make_text-in-MakesText-clause-err
     : goal.returns-in_err-make_text-in-MakesText-clause-err
 returns-in_err-make_text-in-MakesText-clause-err c =
     let q = err_from_is_err_and c.from_residual-in_err-make_text-in-MakesText.result
-        c.from_residual-in_err-make_text-in-MakesText.ensures.1 in
+    c.from_residual-in_err-make_text-in-MakesText.ensures.1 in
     rw (q.1, q.2, c.requires.none)
-        (not_pushed c.args.terms.now.old_strings (policy_of c.args.policy.now)
+    (not_pushed c.args.terms.now.old_strings (policy_of c.args.policy.now)
     c.args.terms.now.limits (instruction_of c.args.inst.now) c.args.held.now.knowledge MakesText
     (Some (Text (text (instruction_of c.args.inst.now))))
     (of_action c.args.terms.now.old_strings (instruction_of c.args.inst.now) _ _ _
-        c.op-op.ensures.op
+    c.op-op.ensures.op
     c.action_of.ensures.effect c.action_of.ensures.old c.in-MakesText.is refl) refl
     c.in_err-make_text-in-MakesText.field-0.0 c.in_err-make_text-in-MakesText.ensures.err)
 
@@ -54,20 +54,20 @@ pub returns-in_err-read_copy-in-ReadsOldString-clause-err
     : goal.returns-in_err-read_copy-in-ReadsOldString-clause-err
 returns-in_err-read_copy-in-ReadsOldString-clause-err c =
     let q = err_from_is_err_and c.from_residual-in_err-read_copy-in-ReadsOldString.result
-        c.from_residual-in_err-read_copy-in-ReadsOldString.ensures.1 in
+    c.from_residual-in_err-read_copy-in-ReadsOldString.ensures.1 in
     rw (q.1, q.2, c.requires.none)
-        (c.in_err-read_copy-in-ReadsOldString.ensures.err (policy_of c.args.policy.now))
+    (c.in_err-read_copy-in-ReadsOldString.ensures.err (policy_of c.args.policy.now))
 
 pub returns-in_err-apply-in-Moves-clause-err : goal.returns-in_err-apply-in-Moves-clause-err
 returns-in_err-apply-in-Moves-clause-err c =
     let q = err_from_is_err_and c.from_residual-in_err-apply-in-Moves.result
-        c.from_residual-in_err-apply-in-Moves.ensures.1 in
+    c.from_residual-in_err-apply-in-Moves.ensures.1 in
     rw (q.1, q.2, c.requires.none)
-        (denied_by c.args.terms.now.old_strings (policy_of c.args.policy.now)
+    (denied_by c.args.terms.now.old_strings (policy_of c.args.policy.now)
     c.args.terms.now.limits (instruction_of c.args.inst.now) c.args.held.now.knowledge
     (Moves c.in-Moves.what) (record { reason = c.in_err-apply-in-Moves.field-0.0; pair = None })
     (of_action c.args.terms.now.old_strings (instruction_of c.args.inst.now) _ _ _
-        c.op-op.ensures.op
+    c.op-op.ensures.op
     c.action_of.ensures.effect c.action_of.ensures.old c.in-Moves.is refl)
     (move_denied (policy_of c.args.policy.now) c.args.terms.now.limits
     (instruction_of c.args.inst.now) c.args.held.now.knowledge c.in-Moves.what
@@ -77,9 +77,9 @@ pub returns-in_err-operate-in-Operates-clause-err
     : goal.returns-in_err-operate-in-Operates-clause-err
 returns-in_err-operate-in-Operates-clause-err c =
     let q = err_from_is_err_and c.from_residual-in_err-operate-in-Operates.result
-        c.from_residual-in_err-operate-in-Operates.ensures.1 in
+    c.from_residual-in_err-operate-in-Operates.ensures.1 in
     rw (q.1, q.2, c.requires.none)
-        (denied_by c.args.terms.now.old_strings (policy_of c.args.policy.now)
+    (denied_by c.args.terms.now.old_strings (policy_of c.args.policy.now)
     c.args.terms.now.limits (instruction_of c.args.inst.now) c.args.held.now.knowledge
     (effect_of c.op-op.result) (record {
       reason = c.in_err-operate-in-Operates.field-0.0;
@@ -93,9 +93,9 @@ returns-in_err-operate-in-Operates-clause-err c =
 pub returns-in_ok-operate-in-Operates-clause-ok : goal.returns-in_ok-operate-in-Operates-clause-ok
 returns-in_ok-operate-in-Operates-clause-ok c =
     let same : effect_as c.args.terms.now.old_strings (instruction_of c.args.inst.now)
-        ≡ effect_of c.op-op.result = of_action c.args.terms.now.old_strings
-        (instruction_of c.args.inst.now) _ _ _ c.op-op.ensures.op c.action_of.ensures.effect
-        c.action_of.ensures.old c.in-Operates.is refl in
+    ≡ effect_of c.op-op.result = of_action c.args.terms.now.old_strings
+    (instruction_of c.args.inst.now) _ _ _ c.op-op.ensures.op c.action_of.ensures.effect
+    c.action_of.ensures.old c.in-Operates.is refl in
     let room = c.in_ok-operate-in-Operates.ensures.room in
     rw same (unnamed_goes (policy_of c.args.policy.now) c.args.terms.now.limits
     (instruction_of c.args.inst.now) c.args.held.now.knowledge c.operate.new.self.knowledge

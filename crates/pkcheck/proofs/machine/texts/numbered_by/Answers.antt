@@ -8,4 +8,4 @@ bytes-preserved c =
     c.in_ok-push.ensures.bytes
     ∙ ap (λ x. string_bytes c.bytes.text ++ encode_utf8 x) c.from.ensures
     ∙ numbered_more (string_bytes c.bytes.text) c.args.bytes.now c.bytes.byte-index
-        (omega arith) c.bytes.invariant
+    (omega arith) c.bytes.invariant

@@ -14,7 +14,7 @@ returns-else-stands_as_is-clause-writes g c =
     let byte = c.args.self.now.0 in
     let small : byte < 256 = search rules in
     let written = rw (c.laid_out.ensures, c.in_radix.ensures) at c.write.ensures.writes in
-        λ plain ok.
+    λ plain ok.
     has_written_of_eq _ _ _ _ _
-        (ap (λ (t : List ℕ). codes "\\x" ++ t) (hex_byte false byte small)
-        ∙ escaped byte c.if-stands_as_is.ensures) (written plain ok)
+    (ap (λ (t : List ℕ). codes "\\x" ++ t) (hex_byte false byte small)
+    ∙ escaped byte c.if-stands_as_is.ensures) (written plain ok)

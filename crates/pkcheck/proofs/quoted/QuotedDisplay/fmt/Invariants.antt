@@ -7,4 +7,4 @@ use Rattle.pkcheck.proofs.quoted.QuotedDisplay.fmt.Given as goal
 abbrev pub invariant-loop-byte : goal.invariant-loop-byte
 invariant-loop-byte g l =
     IsPlainFormatter l.initial.f → HasWritten g.W.Write.write_str_gives l.initial.f
-        (flat_map quoted_byte (take l.byte-index l.byte-items)) l.f
+    (flat_map quoted_byte (take l.byte-index l.byte-items)) l.f

@@ -9,8 +9,11 @@ use Rattle.pkops.proofs.contents.escapes.read_escaped.Goals.{in_default-characte
 
 pub bytes-init : goal.bytes-init
 bytes-init c =
-    record { kept = joined_is (string_bytes c.new-text.result) c.args.line.now
-    c.new-text.ensures.bytes; small = tt }
+    record {
+      kept = joined_is (string_bytes c.new-text.result) c.args.line.now
+          c.new-text.ensures.bytes;
+      small = tt;
+    }
 
 pub returns-in_default : goal.returns-in_default
 returns-in_default c = ap (joined (string_bytes c.bytes.text))
@@ -20,15 +23,20 @@ returns-in_default c = ap (joined (string_bytes c.bytes.text))
 pub bytes-preserved : goal.bytes-preserved
 bytes-preserved c =
     let on = kept_on (string_bytes c.bytes.text) c.bytes.state c.in-Some.next c.in-Some.character
-        c.args.line.now c.bytes.byte-index _ (omega arith) c.in-Some.ensures.step
-        c.bytes.invariant.kept in
+    c.args.line.now c.bytes.byte-index _ (omega arith) c.in-Some.ensures.step
+    c.bytes.invariant.kept in
     elim c.match-character.branch [
       | in-Some-character+in_ok-push w ↦
-            record { kept = rw (w.text-is, w.in_ok-push.ensures.bytes)
-            (rw w.in-Some-character.is at on); small = c.in-Some.ensures.small }
+          record {
+            kept = rw (w.text-is, w.in_ok-push.ensures.bytes)
+                (rw w.in-Some-character.is at on);
+            small = c.in-Some.ensures.small;
+          }
       | in_default-character w ↦
-            record { kept = rw w.text-is (rw append-nil at (rw w.in_default-character.is at on));
-            small = c.in-Some.ensures.small }
+          record {
+            kept = rw w.text-is (rw append-nil at (rw w.in_default-character.is at on));
+            small = c.in-Some.ensures.small;
+          }
     ]
 
 pub returns-in-Outside : goal.returns-in-Outside

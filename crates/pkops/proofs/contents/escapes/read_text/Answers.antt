@@ -6,5 +6,5 @@ use Rattle.pkops.proofs.contents.escapes.read_text.Goals as goal
 pub returns-then-is_plain : goal.returns-then-is_plain
 returns-then-is_plain c =
     IfOk-weaker c.read_plain.result _ _
-        (λ text e. e ∙ sym (plain_text c.args.line.now (sym c.if-is_plain.ensures)))
-        c.read_plain.ensures
+    (λ text e. e ∙ sym (plain_text c.args.line.now (sym c.if-is_plain.ensures)))
+    c.read_plain.ensures

@@ -9,9 +9,9 @@ use Rattle.pkops.proofs.contents.numeral.fits.Goals as goal
 pub returns-in_default : goal.returns-in_default
 returns-in_default c =
     let is = one_more c.digits.number c.with_digit.result c.digits.digit-index c.args.digits.now
-        (omega arith) c.digits.invariant.said c.with_digit.ensures in
+    (omega arith) c.digits.invariant.said c.with_digit.ensures in
     let front = digits_value-take-le 10 c.args.digits.now (c.digits.digit-index + 1)
-        (omega arith) in
+    (omega arith) in
     let above : c.with_digit.result < 4294967296 → ⊥ = c.in_default.ensures in
     sym (le-ltb (digits_value 10 c.args.digits.now) (2 ^ 32) (omega arith))
 
@@ -28,7 +28,7 @@ digits-preserved c =
 pub returns : goal.returns
 returns c =
     let whole = ap (digits_value 10)
-        (take_all c.digits.digit-index c.args.digits.now c.digits-test.false) in
+    (take_all c.digits.digit-index c.args.digits.now c.digits-test.false) in
     let said = c.digits.invariant.said in
     let small = c.digits.invariant.small in
     sym (lt-ltb (digits_value 10 c.args.digits.now) (2 ^ 32) (omega arith))

@@ -6,4 +6,4 @@ use Rattle.pkops.proofs.contents.numeral.is_small.Goals as goal
 pub returns-then-digits-lt10 : goal.returns-then-digits-lt10
 returns-then-digits-lt10 c =
     lt-ltb _ _ c.if-digits-lt10.true
-        ∙ sym (lt-ltb _ _ (few_digits c.args.digits.now c.requires c.if-digits-lt10.true))
+    ∙ sym (lt-ltb _ _ (few_digits c.args.digits.now c.requires c.if-digits-lt10.true))

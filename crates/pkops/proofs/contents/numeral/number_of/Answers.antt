@@ -5,18 +5,18 @@ use Rattle.pkops.proofs.contents.numeral.number_of.Goals as goal
 pub overflow_mul-number : goal.overflow_mul-number
 overflow_mul-number c =
     let small = one_more_small c.digits.number _ c.digits.digit-index c.args.line.now c.requires
-        c.digits-test.true c.digits.invariant refl in
+    c.digits-test.true c.digits.invariant refl in
     omega arith
 
 pub overflow_add-number : goal.overflow_add-number
 overflow_add-number c =
     let small = one_more_small c.digits.number (c.digits.number * 10 + c.value_of.result)
-        c.digits.digit-index c.args.line.now c.requires c.digits-test.true c.digits.invariant
-        (ap (λ d. c.digits.number * 10 + d) c.value_of.ensures) in
+    c.digits.digit-index c.args.line.now c.requires c.digits-test.true c.digits.invariant
+    (ap (λ d. c.digits.number * 10 + d) c.value_of.ensures) in
     omega arith
 
 pub digits-preserved : goal.digits-preserved
 digits-preserved c =
     one_more c.digits.number (c.digits.number * 10 + c.value_of.result) c.digits.digit-index
-        c.args.line.now c.digits-test.true c.digits.invariant
-        (ap (λ d. c.digits.number * 10 + d) c.value_of.ensures)
+    c.args.line.now c.digits-test.true c.digits.invariant
+    (ap (λ d. c.digits.number * 10 + d) c.value_of.ensures)

@@ -10,8 +10,8 @@ bytes-init c = record { kept = some_is c.args.quote c.args.inside.now; small = t
 pub returns-in_default : goal.returns-in_default
 returns-in_default c =
     sym (ap is_some
-        (stops c.args.quote c.bytes.place c.args.inside.now c.bytes.byte-index
-        (omega arith) c.in_default.ensures.step)) ∙ c.bytes.invariant.kept
+    (stops c.args.quote c.bytes.place c.args.inside.now c.bytes.byte-index
+    (omega arith) c.in_default.ensures.step)) ∙ c.bytes.invariant.kept
 
 pub bytes-preserved : goal.bytes-preserved
 bytes-preserved c = record {
@@ -24,10 +24,10 @@ bytes-preserved c = record {
 pub returns-in-Outside : goal.returns-in-Outside
 returns-in-Outside c =
     rw c.in-Outside.is at (some_at_end c.args.quote c.bytes.place c.args.inside.now
-        c.bytes.byte-index _ (omega arith) c.bytes.invariant.kept)
+    c.bytes.byte-index _ (omega arith) c.bytes.invariant.kept)
 
 pub returns-in_default-matches : goal.returns-in_default-matches
 returns-in_default-matches c =
     let e = some_at_end c.args.quote c.bytes.place c.args.inside.now c.bytes.byte-index _
-        (omega arith) c.bytes.invariant.kept in
+    (omega arith) c.bytes.invariant.kept in
     sym (not_ended c.bytes.place c.in_default-matches.not-Outside) ∙ e

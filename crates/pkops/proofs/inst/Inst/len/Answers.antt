@@ -7,4 +7,4 @@ use Rattle.pkops.proofs.inst.Inst.len.Goals as goal
 pub argument_len-requires : goal.argument_len-requires
 argument_len-requires c =
     subst (λ x. Suits (layout_at c.args.self.now.op) (argument_in c.args.self.now.op x))
-        c.in-Made.is (had_good _ c.args.self.now.good).suits
+    c.in-Made.is (had_good _ c.args.self.now.good).suits

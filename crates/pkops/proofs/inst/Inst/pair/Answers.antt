@@ -6,11 +6,11 @@ use Rattle.pkops.proofs.inst.Inst.pair.Goals as goal
 pub unreachable-requires : goal.unreachable-requires
 unreachable-requires c =
     c.in_default-from_utf8.ensures.cases.0
-        (are_text (instruction_of c.args.self.now) c.arg.result c.in-Pair.module c.in-Pair.name
-        c.arg.ensures.arg c.in-Pair.is (had_good _ c.args.self.now.good)).0
+    (are_text (instruction_of c.args.self.now) c.arg.result c.in-Pair.module c.in-Pair.name
+    c.arg.ensures.arg c.in-Pair.is (had_good _ c.args.self.now.good)).0
 
 pub unreachable-requires-in_default-from_utf8-2 : goal.unreachable-requires-in_default-from_utf8-2
 unreachable-requires-in_default-from_utf8-2 c =
     c.in_default-from_utf8-2.ensures.cases.0
-        (are_text (instruction_of c.args.self.now) c.arg.result c.in-Pair.module c.in-Pair.name
-        c.arg.ensures.arg c.in-Pair.is (had_good _ c.args.self.now.good)).1
+    (are_text (instruction_of c.args.self.now) c.arg.result c.in-Pair.module c.in-Pair.name
+    c.arg.ensures.arg c.in-Pair.is (had_good _ c.args.self.now.good)).1

@@ -17,5 +17,5 @@ by_arguments a b x y false o h k m = λ e. m (cc (h, k, arg_of a b e))
 pub returns-then-is_same_opcode : goal.returns-then-is_same_opcode
 returns-then-is_same_opcode c =
     by_arguments (instruction_of c.args.self.now) (instruction_of c.args.other.now) _ _
-        c.is_same_argument.result c.if-is_same_opcode.ensures c.arg.ensures.arg
-        c.arg-then-is_same_opcode.ensures.arg c.is_same_argument.ensures
+    c.is_same_argument.result c.if-is_same_opcode.ensures c.arg.ensures.arg
+    c.arg-then-is_same_opcode.ensures.arg c.is_same_argument.ensures

@@ -9,8 +9,8 @@ use Rattle.pkops.proofs.inst.Inst.spelled.Goals as goal
 pub invariant_of-result : goal.invariant_of-result
 invariant_of-result c =
     let is =
-        sym (lies_behind c.requires.0 c.args.op c.requires.1 c.args.split c.args.bytes.now
-        c.requires.2) in
+    sym (lies_behind c.requires.0 c.args.op c.requires.1 c.args.split c.args.bytes.now
+    c.requires.2) in
     record {
       good = merely (subst (λ x. IsGood (instruction c.args.op x)) is c.requires.3);
       spelled = c.requires.2.spelled ∙ ap (λ x. spelling (instruction c.args.op x)) is;

@@ -10,9 +10,9 @@ pub invariant_of-self : goal.invariant_of-self
 invariant_of-self c =
     on_both _ _ _ c.apply.result
     (λ e. moved_resolves c.self.inside.ledger.texts c.args.what
-        (memo_number (instruction_of c.args.inst.now))
-        (record { entries = c.self.inside.stack; memo = c.self.inside.memo }) c.self.invariant
-        (record { entries = c.apply.new.stack; memo = c.apply.new.memo }) e)
+    (memo_number (instruction_of c.args.inst.now))
+    (record { entries = c.self.inside.stack; memo = c.self.inside.memo }) c.self.invariant
+    (record { entries = c.apply.new.stack; memo = c.apply.new.memo }) e)
     (λ r h. rw (h.0, h.1) c.self.invariant) c.apply.ensures.ok c.apply.ensures.err
 
 pub returns-clause-ok : goal.returns-clause-ok
@@ -29,9 +29,12 @@ returns-clause-err c =
     (err_on _ _ c.apply.result
     (λ r h. (
       λ i.
-          record { knowledge = resolved c.self.inside.ledger.texts
-          (record { entries = h.0 i; memo = h.1 i }); texts = length c.self.inside.ledger.texts;
-          imports = c.self.inside.ledger.asked },
+          record {
+            knowledge = resolved c.self.inside.ledger.texts
+                (record { entries = h.0 i; memo = h.1 i });
+            texts = length c.self.inside.ledger.texts;
+            imports = c.self.inside.ledger.asked;
+          },
       moved_fault c.self.inside.ledger.texts c.args.what
           (memo_number (instruction_of c.args.inst.now)) c.args.limits.now
           (record { entries = c.self.inside.stack; memo = c.self.inside.memo }) r c.self.invariant

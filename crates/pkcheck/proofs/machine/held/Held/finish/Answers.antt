@@ -9,6 +9,6 @@ returns-then-len-gt1-clause-err c =
     let e = top_seen c.self.inside.ledger.texts c.self.inside.stack _ c.in_ok-top.ensures.ok in
     let n = length_seen c.self.inside.ledger.texts c.self.inside.stack in
     rw (← c.self.view_is)
-        (stop_left (seen c.self.inside.ledger.texts c.self.inside.stack)
-        (remembered c.self.inside.ledger.texts c.self.inside.memo) _ e
-        (omega (arith, n, c.len.ensures)))
+    (stop_left (seen c.self.inside.ledger.texts c.self.inside.stack)
+    (remembered c.self.inside.ledger.texts c.self.inside.memo) _ e
+    (omega (arith, n, c.len.ensures)))

@@ -15,6 +15,6 @@ pub returns-clause-ok : goal.returns-clause-ok
 returns-clause-ok c =
     rw (← c.self.view_is)
     (item_learned c.make_text.result c.self.inside.ledger.texts c.make_text.new.ledger.texts
-        c.self.inside.memo c.self.inside.stack c.make_text.new.stack
-        (Some (Text (text (instruction_of c.args.inst.now)))) c.self.invariant.memo
-        c.make_text.ensures.grows c.make_text.ensures.ok)
+    c.self.inside.memo c.self.inside.stack c.make_text.new.stack
+    (Some (Text (text (instruction_of c.args.inst.now)))) c.self.invariant.memo
+    c.make_text.ensures.grows c.make_text.ensures.ok)

@@ -6,14 +6,17 @@ pub returns-in_err-operate_unnamed-clause-err : goal.returns-in_err-operate_unna
 returns-in_err-operate_unnamed-clause-err c p i =
     let q = err_from_is_err_and c.from_residual.result c.from_residual.ensures.1 in
     rw (q.1, q.2)
-        (rw (← c.self.view_is)
-        (c.in_err-operate_unnamed.ensures.err c.self.inside.ledger.texts c.self.invariant.entries p
-        i (remembered c.self.inside.ledger.texts c.self.inside.memo)))
+    (rw (← c.self.view_is)
+    (c.in_err-operate_unnamed.ensures.err c.self.inside.ledger.texts c.self.invariant.entries p
+    i (remembered c.self.inside.ledger.texts c.self.inside.memo)))
 
 pub invariant_of-self-2 : goal.invariant_of-self-2
 invariant_of-self-2 c =
-    record { entries = c.in_ok-operate_unnamed.ensures.sees c.self.inside.ledger.texts
-    c.self.invariant.entries; memo = c.self.invariant.memo }
+    record {
+      entries = c.in_ok-operate_unnamed.ensures.sees c.self.inside.ledger.texts
+          c.self.invariant.entries;
+      memo = c.self.invariant.memo;
+    }
 
 pub returns-clause-ok : goal.returns-clause-ok
 returns-clause-ok c p i = rw (← c.self.view_is)

@@ -8,8 +8,8 @@ pub invariant_of-self : goal.invariant_of-self
 invariant_of-self c =
     on_each c.push.result
     (λ h. are_grown c.self.inside.texts c.push.new.self c.self.inside.written c.self.inside.written
-        (record { more = c.args.text.now ∷ []; is = h })
-        (same_table c.self.inside.written) c.self.inside.entries.items c.self.invariant)
+    (record { more = c.args.text.now ∷ []; is = h })
+    (same_table c.self.inside.written) c.self.inside.entries.items c.self.invariant)
     (λ h. rw h c.self.invariant) c.push.ensures.ok c.push.ensures.err
 
 pub returns-clause-ok : goal.returns-clause-ok
@@ -18,7 +18,7 @@ returns-clause-ok c =
     (ok_on _ _ c.push.result
     (λ h.
     let same = asked_grown c.self.inside.texts c.push.new.self c.self.inside.written
-        c.self.inside.written (record { more = c.args.text.now ∷ []; is = h })
-        (same_table c.self.inside.written) c.self.inside.entries.items c.self.invariant in
+    c.self.inside.written (record { more = c.args.text.now ∷ []; is = h })
+    (same_table c.self.inside.written) c.self.inside.entries.items c.self.invariant in
     λ i. record { texts = h i; asked = same i })
     c.push.ensures.ok)

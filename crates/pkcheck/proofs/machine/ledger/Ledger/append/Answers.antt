@@ -25,14 +25,16 @@ invariant_of-self-2 c = rw c.in_ok-append.ensures.items
 pub returns : goal.returns
 returns c =
     let behind = asked_behind c.self.inside.texts c.self.inside.written c.copy_entries.new.written
-        c.self.inside.entries.items c.in_ok-entries.entries.items c.copy_entries.ensures.grows
-        c.self.invariant c.in_ok-entries.ensures.ok.0 in
+    c.self.inside.entries.items c.in_ok-entries.entries.items c.copy_entries.ensures.grows
+    c.self.invariant c.in_ok-entries.ensures.ok.0 in
     let others = c.in_ok-entries.ensures.ok.1 ∙ ap
-        (map (entry_asked c.other.inside.texts c.other.inside.written)) c.deref.ensures.value in
+    (map (entry_asked c.other.inside.texts c.other.inside.written)) c.deref.ensures.value in
     rw (← c.self.view_is, ← c.other.view_is, c.in_ok-append.ensures.items)
-        (λ i. record { texts = c.self.inside.texts;
-        asked =
-        (behind
-        ∙ ap
-        (λ l. map (entry_asked c.self.inside.texts c.self.inside.written)
-        c.self.inside.entries.items ++ l) others) i })
+    (λ i. record {
+      texts = c.self.inside.texts;
+      asked =
+          (behind
+          ∙ ap
+          (λ l. map (entry_asked c.self.inside.texts c.self.inside.written)
+          c.self.inside.entries.items ++ l) others) i;
+    })

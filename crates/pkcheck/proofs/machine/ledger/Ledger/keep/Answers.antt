@@ -11,7 +11,9 @@ invariant_of-self c = rw c.truncate.ensures.items
 
 pub returns : goal.returns
 returns c = rw (← c.self.view_is, c.truncate.ensures.items)
-    (λ i. record { texts = c.self.inside.texts;
-    asked =
-    sym (take-map (entry_asked c.self.inside.texts c.self.inside.written) c.args.count
-    c.self.inside.entries.items) i })
+    (λ i. record {
+      texts = c.self.inside.texts;
+      asked =
+          sym (take-map (entry_asked c.self.inside.texts c.self.inside.written) c.args.count
+          c.self.inside.entries.items) i;
+    })

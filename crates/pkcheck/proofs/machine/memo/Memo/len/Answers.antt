@@ -8,6 +8,6 @@ returns c =
     let m = c.self.inside in
     let h = length_cells m.low.entries m.first m.ordered m.rest.entries in
     let g : c.len.result + c.len-2.result + c.len-3.result
-        ≡ length (m.low.entries ++ (numbered m.first m.ordered ++ m.rest.entries)) =
-        omega (arith, h, c.len.ensures.len, c.len-2.ensures.len, c.len-3.ensures.value) in
+    ≡ length (m.low.entries ++ (numbered m.first m.ordered ++ m.rest.entries)) =
+    omega (arith, h, c.len.ensures.len, c.len-2.ensures.len, c.len-3.ensures.value) in
     rw (← c.self.view_is) g

@@ -8,24 +8,27 @@ pub returns-then-len-count-clause-err : goal.returns-then-len-count-clause-err
 returns-then-len-count-clause-err c =
     let m = c.self.inside in
     let more = more_end m.low.entries m.first m.ordered m.rest.entries c.args.number c.args.value
-        c.self.invariant.0 (search (rules, c.if-is_empty.ensures))
-        (omega (arith, c.len-count.ensures.value)) in
+    c.self.invariant.0 (search (rules, c.if-is_empty.ensures))
+    (omega (arith, c.len-count.ensures.value)) in
     let v = ap length c.self.view_is in
     let none : length m.rest.entries ≡ 0 = search (rules, c.if-is_empty.ensures) in
-    let old = length_cells m.low.entries m.first m.ordered m.rest.entries in
-    (refl,
-        inl
-        (refl, rw (← c.self.view_is)
-        (omega (arith, more, old, none, v, c.len-count.ensures.value))))
+    let old = length_cells m.low.entries m.first m.ordered m.rest.entries in (
+      refl,
+      inl (
+        refl,
+        rw (← c.self.view_is)
+            (omega (arith, more, old, none, v, c.len-count.ensures.value)),
+      ),
+    )
 
 pub returns-then-is_empty-clause-ok : goal.returns-then-is_empty-clause-ok
 returns-then-is_empty-clause-ok c =
     let m = c.self.inside in
     elim c.match-push.branch [
       | in-Ok w ↦ rw (w.result-is, ← c.self.view_is, w.in-Ok.ensures.ok)
-            (put_end m.low.entries m.first m.ordered m.rest.entries c.args.number c.args.value
-            c.self.invariant.0 (search (rules, c.if-is_empty.ensures))
-            (omega (arith, c.len-count.ensures.value)))
+          (put_end m.low.entries m.first m.ordered m.rest.entries c.args.number c.args.value
+          c.self.invariant.0 (search (rules, c.if-is_empty.ensures))
+          (omega (arith, c.len-count.ensures.value)))
       | in-Err w ↦ rw w.result-is tt
     ]
 
@@ -35,10 +38,10 @@ returns-then-is_empty-clause-room c =
     elim c.match-push.branch [
       | in-Ok w ↦
           let new = length_cells m.low.entries m.first (m.ordered ++ c.args.value ∷ [])
-              m.rest.entries in
+          m.rest.entries in
           let one = length-append m.ordered (c.args.value ∷ []) in
           let none : length m.rest.entries ≡ 0 = search (rules, c.if-is_empty.ensures) in
           rw (w.result-is, w.in-Ok.ensures.ok)
-              (omega (arith, new, one, none, c.len-count.ensures.value))
+          (omega (arith, new, one, none, c.len-count.ensures.value))
       | in-Err w ↦ rw w.result-is tt
     ]

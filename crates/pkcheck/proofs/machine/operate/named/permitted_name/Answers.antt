@@ -10,17 +10,21 @@ use Rattle.pkcheck.proofs.machine.operate.named.permitted_name.Goals.{in-Some+in
 use Rattle.pkcheck.proofs.machine.operate.named.permitted_name.Goals.{in_default}
 
 pub returns-then-receiver_fault-clause-err : goal.returns-then-receiver_fault-clause-err
-returns-then-receiver_fault-clause-err c i spelled = inl
-    (WrongClass, judged_wrong (policy_of c.args.request.now.policy.now)
-    c.args.request.now.operation.names c.args.request.now.operation.gives i
-    (map (known c.args.ledger.now.texts) c.args.operands.now)
-    (sym (c.if-receiver_fault.ensures c.args.ledger.now.texts)), refl, refl)
+returns-then-receiver_fault-clause-err c i spelled = inl (
+  WrongClass,
+  judged_wrong (policy_of c.args.request.now.policy.now)
+      c.args.request.now.operation.names c.args.request.now.operation.gives i
+      (map (known c.args.ledger.now.texts) c.args.operands.now)
+      (sym (c.if-receiver_fault.ensures c.args.ledger.now.texts)),
+  refl,
+  refl,
+)
 
 pub returns-in_err-named-clause-err : goal.returns-in_err-named-clause-err
 returns-in_err-named-clause-err c =
     let p = err_from_is_err_and c.from_residual.result c.from_residual.ensures.1 in
     rw (p.1, p.2) (λ i spelled. let a = c.in_err-named.ensures.err i c.args.ledger.now.texts in
-        inl (
+    inl (
       NotText,
       judged_err (policy_of c.args.request.now.policy.now) c.args.request.now.operation.names
           c.args.request.now.operation.gives i
@@ -33,29 +37,31 @@ returns-in_err-named-clause-err c =
 pub returns-in_err-permit-clause-err : goal.returns-in_err-permit-clause-err
 returns-in_err-permit-clause-err c =
     let p = err_from_is_err_and c.from_residual-in_err-permit.result
-        c.from_residual-in_err-permit.ensures.1 in
+    c.from_residual-in_err-permit.ensures.1 in
     rw (p.1, p.2) (λ i spelled.
     let asks = rw c.in-Some.is at c.in_ok-named.ensures.ok i spelled c.args.ledger.now.texts in
     elim c.in_err-permit.ensures.err [
       | inl d ↦ inl
-            (rw (judged_ok (policy_of c.args.request.now.policy.now)
-            c.args.request.now.operation.names c.args.request.now.operation.gives i
+          (rw (judged_ok (policy_of c.args.request.now.policy.now)
+          c.args.request.now.operation.names c.args.request.now.operation.gives i
+          (map (known c.args.ledger.now.texts) c.args.operands.now)
+          (sym (c.if-receiver_fault.ensures c.args.ledger.now.texts))
+          (Some (named_asked c.args.ledger.now.texts c.in-Some.name)) asks) d)
+      | inr m ↦ inr (
+        may_name c.args.request.now.operation.names i
             (map (known c.args.ledger.now.texts) c.args.operands.now)
-            (sym (c.if-receiver_fault.ensures c.args.ledger.now.texts))
-            (Some (named_asked c.args.ledger.now.texts c.in-Some.name)) asks) d)
-      | inr m ↦ inr
-            (may_name c.args.request.now.operation.names i
-            (map (known c.args.ledger.now.texts) c.args.operands.now)
-            (named_asked c.args.ledger.now.texts c.in-Some.name) asks, m)
+            (named_asked c.args.ledger.now.texts c.in-Some.name) asks,
+        m,
+      )
     ])
 
 pub returns-clause-ok : goal.returns-clause-ok
 returns-clause-ok c i spelled =
     let asks = c.in_ok-named.ensures.ok i spelled c.args.ledger.now.texts in
     let judges = judged_ok (policy_of c.args.request.now.policy.now)
-        c.args.request.now.operation.names c.args.request.now.operation.gives i
-        (map (known c.args.ledger.now.texts) c.args.operands.now)
-        (sym (c.if-receiver_fault.ensures c.args.ledger.now.texts)) _ asks in
+    c.args.request.now.operation.names c.args.request.now.operation.gives i
+    (map (known c.args.ledger.now.texts) c.args.operands.now)
+    (sym (c.if-receiver_fault.ensures c.args.ledger.now.texts)) _ asks in
     elim c.match-named.branch [
       | in-Some+in_ok-permit w ↦ judges ∙ rw w.in-Some.is w.in_ok-permit.ensures.ok
       | in_default w ↦ judges ∙ rw w.in_default.is refl

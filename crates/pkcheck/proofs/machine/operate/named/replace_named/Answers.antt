@@ -61,27 +61,29 @@ returns-in_err-named c =
 pub permitted_name-requires : goal.permitted_name-requires
 permitted_name-requires c =
     let is = found_is c.args.ledger.now.texts c.args.request.now.operation.takes c.args.stack.now
-        c.requires.sees _ c.in_ok-found.ensures.ok in
-    record { numbered = rw c.operands-operands.ensures
-        (are_numbered c.args.ledger.now.texts _ _ is.operands) }
+    c.requires.sees _ c.in_ok-found.ensures.ok in
+    record {
+      numbered = rw c.operands-operands.ensures
+          (are_numbered c.args.ledger.now.texts _ _ is.operands);
+    }
 
 pub give-requires-clause-first : goal.give-requires-clause-first
 give-requires-clause-first c e =
     let i = instruction op.None Nothing in
     c.in_ok-found.ensures.first
-        (left_there c.args.request.now.operation.takes c.args.request.now.operation.gives i
-        c.requires.given
-        (given_none c.args.ledger.now.texts c.value_of-value.result _ e
-        (c.value_of-value.ensures c.args.ledger.now.texts i)))
+    (left_there c.args.request.now.operation.takes c.args.request.now.operation.gives i
+    c.requires.given
+    (given_none c.args.ledger.now.texts c.value_of-value.result _ e
+    (c.value_of-value.ensures c.args.ledger.now.texts i)))
 
 pub give-requires-clause-there : goal.give-requires-clause-there
 give-requires-clause-there c e =
     let i = instruction op.None Nothing in
     c.in_ok-found.ensures.there
-        (left_there c.args.request.now.operation.takes c.args.request.now.operation.gives i
-        c.requires.given
-        (given_none c.args.ledger.now.texts c.value_of-value.result _ e
-        (c.value_of-value.ensures c.args.ledger.now.texts i)))
+    (left_there c.args.request.now.operation.takes c.args.request.now.operation.gives i
+    c.requires.given
+    (given_none c.args.ledger.now.texts c.value_of-value.result _ e
+    (c.value_of-value.ensures c.args.ledger.now.texts i)))
 
 pub returns-in_err-is_import : goal.returns-in_err-is_import
 returns-in_err-is_import c =
@@ -97,10 +99,12 @@ returns-in_err-is_import c =
       kept = (refl, refl);
       err = λ i named memo.
           let fits = rw c.operands-operands.ensures at (c.in_ok-named.ensures.ok i named) in
-          inr
-              (inl
-              (judged_name (policy_of c.args.request.now.policy.now) o.names o.gives i _ _ _
-              failed.1 fits), (failed.2, refl));
+          inr (
+            inl
+                (judged_name (policy_of c.args.request.now.policy.now) o.names o.gives i _ _ _
+                failed.1 fits),
+            (failed.2, refl),
+          );
     })
 
 pub returns-in-Ok : goal.returns-in-Ok
@@ -116,7 +120,7 @@ returns-in-Ok c =
       ok = λ i named memo.
           let fits = rw c.operands-operands.ensures at (c.in_ok-named.ensures.ok i named) in
           let put = put_seen texts texts (same_table texts) c.value_of-value.result _
-              (value i) _ is in
+          (value i) _ is in
           rw listed.0
           (does_pass (policy_of c.args.request.now.policy.now) o.takes o.names o.gives i
           (record { entries = seen texts entries; memo = memo }) _ texts c.in_ok-named.named found

@@ -43,15 +43,15 @@ pub give-requires-clause-first : goal.give-requires-clause-first
 give-requires-clause-first c e =
     let i = instruction op.None Nothing in
     c.in_ok-found.ensures.first
-        (left_there c.args.takes c.args.gives i c.requires.given
-        (given_none [] c.value_of.result _ e (c.value_of.ensures [] i)))
+    (left_there c.args.takes c.args.gives i c.requires.given
+    (given_none [] c.value_of.result _ e (c.value_of.ensures [] i)))
 
 pub give-requires-clause-there : goal.give-requires-clause-there
 give-requires-clause-there c e =
     let i = instruction op.None Nothing in
     c.in_ok-found.ensures.there
-        (left_there c.args.takes c.args.gives i c.requires.given
-        (given_none [] c.value_of.result _ e (c.value_of.ensures [] i)))
+    (left_there c.args.takes c.args.gives i c.requires.given
+    (given_none [] c.value_of.result _ e (c.value_of.ensures [] i)))
 
 pub returns-in-Ok-clause-ok : goal.returns-in-Ok-clause-ok
 returns-in-Ok-clause-ok c ts sees p i m listed =
@@ -60,8 +60,8 @@ returns-in-Ok-clause-ok c ts sees p i m listed =
     let right = rw c.operands-operands.ensures at (sym (c.if-receiver_fault.ensures ts)) in
     let put = put_seen ts ts (same_table ts) c.value_of.result _ (c.value_of.ensures ts i) _ is in
     does_pass p c.args.takes NoName c.args.gives i
-        (record { entries = seen ts c.args.stack.now; memo = m }) _ ts None found
-        (judged_ok p NoName c.args.gives i _ right None refl)
+    (record { entries = seen ts c.args.stack.now; memo = m }) _ ts None found
+    (judged_ok p NoName c.args.gives i _ right None refl)
     (seen ts c.give.new.stack) listed listed _ (ap (seen ts) c.in-Ok.ensures.ok ∙ put) refl refl
 
 pub returns-in-Ok-clause-sees : goal.returns-in-Ok-clause-sees
@@ -69,16 +69,19 @@ returns-in-Ok-clause-sees c ts sees =
     let i = instruction op.None Nothing in
     let is = found_is ts c.args.takes c.args.stack.now sees _ c.in_ok-found.ensures.ok in
     rw c.in-Ok.ensures.ok
-        (put_sees ts ts (same_table ts) c.value_of.result _ (c.value_of.ensures ts i) _ is)
+    (put_sees ts ts (same_table ts) c.value_of.result _ (c.value_of.ensures ts i) _ is)
 
 pub returns-in-Err-clause-err : goal.returns-in-Err-clause-err
 returns-in-Err-clause-err c ts sees p i m =
     let found = found_seen ts c.args.takes c.args.stack.now sees _ c.in_ok-found.ensures.ok in
     let right = rw c.operands-operands.ensures at (sym (c.if-receiver_fault.ensures ts)) in
     unroomed p c.args.takes NoName c.args.gives i
-        (record { entries = seen ts c.args.stack.now; memo = m }) _ ts None found
-        (judged_ok p NoName c.args.gives i _ right None refl)
+    (record { entries = seen ts c.args.stack.now; memo = m }) _ ts None found
+    (judged_ok p NoName c.args.gives i _ right None refl)
     ts c.value_of.result (c.value_of.ensures ts i) c.args.limits.now c.in-Err.reason
-        c.in-Err.ensures.err.1
-        (rw (length_seen, length_below c.in_ok-found.found.place c.args.stack.now
-        c.in_ok-found.ensures.within) c.in-Err.ensures.err.2)
+    c.in-Err.ensures.err.1
+    (rw (
+      length_seen,
+      length_below c.in_ok-found.found.place c.args.stack.now
+          c.in_ok-found.ensures.within,
+    ) c.in-Err.ensures.err.2)

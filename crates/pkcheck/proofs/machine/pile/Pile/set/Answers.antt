@@ -6,8 +6,8 @@ use Rattle.pkcheck.proofs.machine.pile.Pile.set.Goals as goal
 pub returns : goal.returns
 returns g c =
     let is : length (take c.self.inside.count c.self.inside.store.items) ≡ length c.args.self.now =
-        ap length c.self.view_is in
+    ap length c.self.view_is in
     let long = length-take-le c.self.inside.count c.self.inside.store.items c.self.invariant in
     rw (← c.self.view_is)
-        (take-set-lt c.self.inside.count c.self.inside.store.items c.args.index c.args.entry
-        (omega (arith, is, long, c.requires)))
+    (take-set-lt c.self.inside.count c.self.inside.store.items c.args.index c.args.entry
+    (omega (arith, is, long, c.requires)))

@@ -19,7 +19,7 @@ returns c = rw c.end_with.ensures
 pub invariant_of-self : goal.invariant_of-self
 invariant_of-self c =
     let marks : c.args.marks ≡ length (bars 0 (take (c.args.place + 1) c.self.inside.slots)) =
-        c.requires.marks ∙ ap (λ es. marks_of (below (c.args.place + 1) es)) (sym c.self.view_is)
-        ∙ sym (below_marks (c.args.place + 1) c.self.inside.slots) in
+    c.requires.marks ∙ ap (λ es. marks_of (below (c.args.place + 1) es)) (sym c.self.view_is)
+    ∙ sym (below_marks (c.args.place + 1) c.self.inside.slots) in
     rw (c.truncate.ensures, c.end_with.ensures)
-        (marks_cut c.self.inside.slots _ (c.args.place + 1) c.args.marks c.self.invariant marks)
+    (marks_cut c.self.inside.slots _ (c.args.place + 1) c.args.marks c.self.invariant marks)

@@ -11,33 +11,33 @@ returns-clause-within c =
     let found = rw c.entries.ensures at c.place_of.ensures.ok in
     let same = length_shown c.self.inside.slots in
     ok_by _ _ c.place_of.result
-        (λ f h. subst (λ es. f.place ≤ length es) c.self.view_is (omega (arith, same, h.0))) found
+    (λ f h. subst (λ es. f.place ≤ length es) c.self.view_is (omega (arith, same, h.0))) found
 
 pub returns-clause-ok : goal.returns-clause-ok
 returns-clause-ok c =
     let found = rw c.entries.ensures at c.place_of.ensures.ok in
     ok_by _ _ c.place_of.result
-        (λ f h. found_at c.args.takes f.place c.self.inside.slots c.args.self.now c.self.view_is
-        h.1) found
+    (λ f h. found_at c.args.takes f.place c.self.inside.slots c.args.self.now c.self.view_is
+    h.1) found
 
 pub returns-clause-first : goal.returns-clause-first
 returns-clause-first c =
     let well = rw c.entries.ensures at c.place_of.ensures.well in
     ok_by _ _ c.place_of.result
-        (λ f w h. subst
-        (λ es. below (f.place + 1) es ≡ front (above f.place es) ++ below f.place es) c.self.view_is
-        (first_left c.args.takes f.place c.self.inside.slots h w)) well
+    (λ f w h. subst
+    (λ es. below (f.place + 1) es ≡ front (above f.place es) ++ below f.place es) c.self.view_is
+    (first_left c.args.takes f.place c.self.inside.slots h w)) well
 
 pub returns-clause-marks : goal.returns-clause-marks
 returns-clause-marks c =
     let marks = rw c.entries.ensures at c.place_of.ensures.marks in
     ok_by _ _ c.place_of.result
-        (λ f m. subst (λ es. f.marks ≡ marks_of (below f.place es)) c.self.view_is
-        (m ∙ below_marks f.place c.self.inside.slots)) marks
+    (λ f m. subst (λ es. f.marks ≡ marks_of (below f.place es)) c.self.view_is
+    (m ∙ below_marks f.place c.self.inside.slots)) marks
 
 pub returns-clause-there : goal.returns-clause-there
 returns-clause-there c =
     let well = rw c.entries.ensures at c.place_of.ensures.well in
     ok_by _ _ c.place_of.result
-        (λ f w h. subst (λ es. f.place < length es) c.self.view_is
-        (first_there c.args.takes f.place c.self.inside.slots h w)) well
+    (λ f w h. subst (λ es. f.place < length es) c.self.view_is
+    (first_there c.args.takes f.place c.self.inside.slots h w)) well

@@ -7,6 +7,6 @@ pub invariant_of-self : goal.invariant_of-self
 invariant_of-self c =
     elim c.match-push.branch [
       | in-Ok w ↦ rw w.in-Ok.ensures.ok
-            (c.self.invariant ∙ sym (bars_pushed c.self.inside.slots c.args.value))
+          (c.self.invariant ∙ sym (bars_pushed c.self.inside.slots c.args.value))
       | in-Err w ↦ rw w.in-Err.ensures.err c.self.invariant
     ]

@@ -5,8 +5,8 @@ use Rattle.pkcheck.proofs.machine.stack.Stack.replace.Goals as goal
 
 pub returns-then-place-len-clause-ok : goal.returns-then-place-len-clause-ok
 returns-then-place-len-clause-ok c = rw (below_all c.args.place c.args.self.now (omega arith))
-    c.push_apart.ensures.ok
+    c.push_object.ensures.ok
 
 pub returns-then-place-len-clause-room : goal.returns-then-place-len-clause-room
-returns-then-place-len-clause-room c = ok_by _ _ c.push_apart.result
-    (λ u is. let e = ap length is in omega (arith, e)) c.push_apart.ensures.ok
+returns-then-place-len-clause-room c = ok_by _ _ c.push_object.result
+    (λ u is. let e = ap length is in omega (arith, e)) c.push_object.ensures.ok

@@ -22,8 +22,8 @@ returns c = rw c.replace.ensures
 pub invariant_of-self : goal.invariant_of-self
 invariant_of-self c =
     let marks : c.args.marks ≡ length (bars 0 (take c.args.place c.self.inside.slots)) =
-        c.requires.marks ∙ ap (λ es. marks_of (below c.args.place es)) (sym c.self.view_is)
-        ∙ sym (below_marks c.args.place c.self.inside.slots) in
+    c.requires.marks ∙ ap (λ es. marks_of (below c.args.place es)) (sym c.self.view_is)
+    ∙ sym (below_marks c.args.place c.self.inside.slots) in
     rw (c.truncate.ensures, c.replace.ensures)
-        (marks_cut c.self.inside.slots _ c.args.place c.args.marks c.self.invariant marks
-        ∙ sym (bars_pushed (take c.args.place c.self.inside.slots) c.args.value))
+    (marks_cut c.self.inside.slots _ c.args.place c.args.marks c.self.invariant marks
+    ∙ sym (bars_pushed (take c.args.place c.self.inside.slots) c.args.value))

@@ -4,7 +4,7 @@ use Rattle.pkcheck.proofs.machine.stack.slots.mark_place.Goals as goal
 pub returns-in-Some-clause-value : goal.returns-in-Some-clause-value
 returns-in-Some-clause-value c =
     let t = last_some c.args.stack.now c.in-Some.place.now
-        (rw c.requires at c.in-Some.ensures.value) in
+    (rw c.requires at c.in-Some.ensures.value) in
     (t.within, slice_at c.args.stack.now c.in-Some.place.now t)
 
 pub returns-in-Some-clause-count : goal.returns-in-Some-clause-count

@@ -15,10 +15,10 @@ overflow_sub-result-in-Some c = let w =
 pub returns-in-Some-clause-objects : goal.returns-in-Some-clause-objects
 returns-in-Some-clause-objects c =
     let t = last_some c.args.stack.now c.in-Some.place.now
-        (rw c.requires at c.in-Some.ensures.value) in
+    (rw c.requires at c.in-Some.ensures.value) in
     let w = t.within in
     let e : length c.args.stack.now - (length c.args.stack.now - c.in-Some.place.now - 1)
-        ≡ suc c.in-Some.place.now = omega (arith, w) in
+    ≡ suc c.in-Some.place.now = omega (arith, w) in
     rw e t.above
 
 pub returns-in-Some-clause-others : goal.returns-in-Some-clause-others

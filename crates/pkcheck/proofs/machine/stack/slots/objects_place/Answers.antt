@@ -7,20 +7,23 @@ pub returns-clause-value : goal.returns-clause-value
 returns-clause-value c =
     let place = length c.args.stack.now - c.args.count in
     let above = objects_above c.args.stack.now _ place
-        (omega arith) c.objects_on_top.ensures.objects in
-    (omega arith, items_at c.args.stack.now place c.args.count above
-        (omega (arith, c.objects_on_top.ensures.within)))
+    (omega arith) c.objects_on_top.ensures.objects in (
+      omega arith,
+      items_at c.args.stack.now place c.args.count above
+          (omega (arith, c.objects_on_top.ensures.within)),
+    )
 
 pub returns-clause-well : goal.returns-clause-well
 returns-clause-well c =
-    let place = length c.args.stack.now - c.args.count in
-    (starts_well c.args.stack.now place c.args.count
-        (omega (arith, c.objects_on_top.ensures.within)),
-        objects_above c.args.stack.now _ place (omega arith) c.objects_on_top.ensures.objects)
+    let place = length c.args.stack.now - c.args.count in (
+      starts_well c.args.stack.now place c.args.count
+          (omega (arith, c.objects_on_top.ensures.within)),
+      objects_above c.args.stack.now _ place (omega arith) c.objects_on_top.ensures.objects,
+    )
 
 pub returns-clause-marks : goal.returns-clause-marks
 returns-clause-marks c =
     let place = length c.args.stack.now - c.args.count in
     rw c.requires
-        (marks_kept c.args.stack.now place
-        (objects_above c.args.stack.now _ place (omega arith) c.objects_on_top.ensures.objects))
+    (marks_kept c.args.stack.now place
+    (objects_above c.args.stack.now _ place (omega arith) c.objects_on_top.ensures.objects))

@@ -9,27 +9,35 @@ use Rattle.pkcheck.proofs.machine.stack.slots.receiver_place.Goals as goal
 pub returns-in_default-stack-clause-err : goal.returns-in_default-stack-clause-err
 returns-in_default-stack-clause-err c =
     let e = items_at_bar c.args.stack.now c.in-Some.place (c.in-Some.place - 1) _ (omega arith)
-        (omega (arith, c.in-Some.ensures.value.0)) 1 0 refl c.in_default-stack.is in
-    (NoItem, receiver_missing c.args.rule (shown c.args.stack.now []) _ c.in-Some.ensures.value.1
-        NoItem e, refl)
+    (omega (arith, c.in-Some.ensures.value.0)) 1 0 refl c.in_default-stack.is in (
+      NoItem,
+      receiver_missing c.args.rule (shown c.args.stack.now []) _ c.in-Some.ensures.value.1
+          NoItem e,
+      refl,
+    )
 
 pub returns-in-Some-rule_fault-clause-err : goal.returns-in-Some-rule_fault-clause-err
 returns-in-Some-rule_fault-clause-err c =
     let e = items_at_object c.args.stack.now c.in-Some.place (c.in-Some.place - 1) _ (omega arith)
-        (omega (arith, c.in-Some.ensures.value.0)) 1 0 _ refl c.in-Object.is in
+    (omega (arith, c.in-Some.ensures.value.0)) 1 0 _ refl c.in-Object.is in
     let f = c.in-Some-rule_fault.ensures (values_of (drop c.in-Some.place c.args.stack.now))
-        (omega (arith, c.in-Some.ensures.count)) in
-    (f.0, receiver_breaks c.args.rule (shown c.args.stack.now []) _ c.in-Some.ensures.value.1 _ _ e
-        f.1, f.2)
+    (omega (arith, c.in-Some.ensures.count)) in (
+      f.0,
+      receiver_breaks c.args.rule (shown c.args.stack.now []) _ c.in-Some.ensures.value.1 _ _ e
+          f.1,
+      f.2,
+    )
 
 pub returns-in-None-clause-ok : goal.returns-in-None-clause-ok
 returns-in-None-clause-ok c =
     let e = items_at_object c.args.stack.now c.in-Some.place (c.in-Some.place - 1) _ (omega arith)
-        (omega (arith, c.in-Some.ensures.value.0)) 1 0 _ refl c.in-Object.is in
-    (omega (arith, c.in-Some.ensures.value.0), receiver_fits c.args.rule
-        (shown c.args.stack.now []) _ c.in-Some.ensures.value.1 _ e
-        (c.in-None.ensures (values_of (drop c.in-Some.place c.args.stack.now))
-        (omega (arith, c.in-Some.ensures.count))))
+    (omega (arith, c.in-Some.ensures.value.0)) 1 0 _ refl c.in-Object.is in (
+      omega (arith, c.in-Some.ensures.value.0),
+      receiver_fits c.args.rule
+          (shown c.args.stack.now []) _ c.in-Some.ensures.value.1 _ e
+          (c.in-None.ensures (values_of (drop c.in-Some.place c.args.stack.now))
+          (omega (arith, c.in-Some.ensures.count))),
+    )
 
 pub returns-in-None-clause-well : goal.returns-in-None-clause-well
 returns-in-None-clause-well c = first_object c.args.stack.now (c.in-Some.place - 1) _
@@ -38,5 +46,5 @@ returns-in-None-clause-well c = first_object c.args.stack.now (c.in-Some.place -
 pub returns-in-None-clause-marks : goal.returns-in-None-clause-marks
 returns-in-None-clause-marks c =
     let e = marks_over_object c.args.stack.now c.in-Some.place (c.in-Some.place - 1) _ _
-        (omega arith) (omega (arith, c.in-Some.ensures.value.0)) c.in-Object.is in
+    (omega arith) (omega (arith, c.in-Some.ensures.value.0)) c.in-Object.is in
     rw (← e) c.in-Some.ensures.marks

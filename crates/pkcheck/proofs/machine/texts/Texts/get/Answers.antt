@@ -37,7 +37,7 @@ unreachable-requires c =
     (rw c.entries-ends.ensures at c.start_of-start.ensures.next)
     (rw c.entries-ends.ensures at c.end_of-end.ensures) in
     c.in_default.ensures.cases.0
-        (rw (c.piece.ensures, c.deref.ensures.value, found.text) found.utf8)
+    (rw (c.piece.ensures, c.deref.ensures.value, found.text) found.utf8)
 
 pub returns : goal.returns
 returns c =
@@ -48,4 +48,4 @@ returns c =
     (rw c.entries-ends.ensures at c.start_of-start.ensures.next)
     (rw c.entries-ends.ensures at c.end_of-end.ensures) in
     c.in-Ok.ensures.cases.0 ∙ c.piece.ensures ∙ rw c.deref.ensures.value found.text
-        ∙ ap (λ ts. get_or ts c.args.number []) c.self.view_is
+    ∙ ap (λ ts. get_or ts c.args.number []) c.self.view_is

@@ -6,5 +6,5 @@ use Rattle.pkcheck.proofs.machine.stack.operands.Operands.first.Goals as goal
 pub returns-in-Object : goal.returns-in-Object
 returns-in-Object c =
     let found = object_at c.self.inside.slots.now 0 _ c.in-Object.value
-        (search (rules, c.if-is_empty.ensures)) c.in-Object.is in
+    (search (rules, c.if-is_empty.ensures)) c.in-Object.is in
     subst (λ ks. Some c.in-Object.value ≡ slice_get ks 0) c.self.view_is (sym found)

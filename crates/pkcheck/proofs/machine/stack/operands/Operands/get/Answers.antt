@@ -11,29 +11,31 @@ use Rattle.pkcheck.proofs.machine.stack.operands.Operands.get.Goals.{in_default}
 pub returns-then-before-index : goal.returns-then-before-index
 returns-then-before-index c =
     let here : length (values_of (take c.loop-slot.slot-index c.self.inside.slots.now))
-        ≡ c.args.index = sym c.loop-slot.invariant.2 ∙ c.if-before-index.true in
+    ≡ c.args.index = sym c.loop-slot.invariant.2 ∙ c.if-before-index.true in
     let found = object_at c.self.inside.slots.now c.loop-slot.slot-index _ c.in-Object.value
-        (omega arith) c.in-Object.is in
+    (omega arith) c.in-Object.is in
     subst (λ ks. Some c.in-Object.value ≡ slice_get ks c.args.index) c.self.view_is
-        (sym (rw here at found))
+    (sym (rw here at found))
 
 pub loop-slot-preserved : goal.loop-slot-preserved
 loop-slot-preserved c =
     elim c.match-slot.branch [
       | in-Object+else-before-index w ↦ let e = count_object c.self.inside.slots.now
-            c.loop-slot.slot-index _ _ (omega arith) w.in-Object.is in
-            (omega (arith, w.before-is), omega (arith, w.before-is, w.if-before-index.false),
-            omega (arith, w.before-is, e))
+          c.loop-slot.slot-index _ _ (omega arith) w.in-Object.is in (
+            omega (arith, w.before-is),
+            omega (arith, w.before-is, w.if-before-index.false),
+            omega (arith, w.before-is, e),
+          )
       | in_default w ↦ let e = count_bar c.self.inside.slots.now c.loop-slot.slot-index _
-            (omega arith) w.in_default.is in
-            (omega (arith, w.before-is), omega (arith, w.before-is), omega (arith, w.before-is, e))
+          (omega arith) w.in_default.is in
+          (omega (arith, w.before-is), omega (arith, w.before-is), omega (arith, w.before-is, e))
     ]
 
 pub returns : goal.returns
 returns c =
     let all : take c.loop-slot.slot-index c.self.inside.slots.now ≡ c.self.inside.slots.now =
-        take_all _ _ (omega arith) in
+    take_all _ _ (omega arith) in
     let many = rw all at c.loop-slot.invariant.2 in
     let past : length (values_of c.self.inside.slots.now) ≤ c.args.index = omega (arith, many) in
     subst (λ ks. None ≡ slice_get ks c.args.index) c.self.view_is
-        (sym (slice_get_past _ c.args.index past))
+    (sym (slice_get_past _ c.args.index past))

@@ -6,5 +6,5 @@ pub returns : goal.returns
 returns c =
     both c.args.self.now c.in-Some.first c.in-Some-get.second
     (subst (λ ks. length ks ≡ 2) c.self.view_is
-        (sym c.count_objects.ensures ∙ c.if-count_objects-ne2.false)) (sym c.in-Some.ensures)
-        (sym c.in-Some-get.ensures)
+    (sym c.count_objects.ensures ∙ c.if-count_objects-ne2.false)) (sym c.in-Some.ensures)
+    (sym c.in-Some-get.ensures)

@@ -1,12 +1,12 @@
 use Rattle.std.proofs.Common.{◌∙◌, sym}
 use Rattle.pkcheck.proofs.Bars.{bars_pushed}
-use Rattle.pkcheck.proofs.machine.stack.Stack.push_apart.Goals as goal
-use Rattle.pkcheck.proofs.machine.stack.Stack.push_apart.Goals.{in-Ok, in-Err}
+use Rattle.pkcheck.proofs.machine.stack.Stack.push_object.Goals as goal
+use Rattle.pkcheck.proofs.machine.stack.Stack.push_object.Goals.{in-Ok, in-Err}
 
 pub invariant_of-self : goal.invariant_of-self
 invariant_of-self c =
     elim c.match-put_on_top.branch [
       | in-Ok w ↦ rw w.in-Ok.ensures.ok
-            (c.self.invariant ∙ sym (bars_pushed c.self.inside.slots c.args.value))
+          (c.self.invariant ∙ sym (bars_pushed c.self.inside.slots c.args.value))
       | in-Err w ↦ rw w.in-Err.ensures.err c.self.invariant
     ]

@@ -5,7 +5,7 @@ use Rattle.pkcheck.specs.Private.Slots.{AreBelow, AreFrom}
 use Rattle.pkcheck.proofs.Stepping.Errs.{on_both, ok_on, err_on}
 use Rattle.pkcheck.proofs.Cells.{below_stored, cells, from_stored, length_cells, more_low}
 use Rattle.pkcheck.proofs.Cells.{more_rest, put_low, put_rest, put_row}
-use Rattle.pkcheck.proofs.machine.memo.Memo.store_elsewhere.Goals as goal
+use Rattle.pkcheck.proofs.machine.memo.Memo.store_other_slowly.Goals as goal
 
 pub invariant_of-self : goal.invariant_of-self
 invariant_of-self c =
@@ -15,11 +15,11 @@ invariant_of-self c =
     let v = ap length c.self.view_is in
     let below = on_both (AreBelow m.first c.put.new.rest.entries) _ _ c.put.result
     (λ h. rw h
-        (below_stored m.low.entries m.first c.in-Ok.number c.args.value
-        (omega arith) c.self.invariant.0))
+    (below_stored m.low.entries m.first c.in-Ok.number c.args.value
+    (omega arith) c.self.invariant.0))
     (λ r h. rw h.0 c.self.invariant.0) c.put.ensures.ok c.put.ensures.err in
     let few = on_both (length c.put.new.rest.entries + length m.rest.entries < 2 ^ 63) _ _
-        c.put.result
+    c.put.result
     (λ h. omega (arith, h, all, v, c.requires, c.memo.ensures))
     (λ r h. rw h.0 c.self.invariant.2) c.put.ensures.count c.put.ensures.err in
     (below, c.self.invariant.1, few)
@@ -30,9 +30,9 @@ returns-then-number-self-clause-ok c =
     let m = c.self.inside in
     rw (← c.self.view_is, sym same)
     (ok_on _ _ c.put.result
-        (λ h. rw h
-        (put_low m.low.entries m.first m.ordered m.rest.entries c.in-Ok.number c.args.value
-        c.self.invariant.1 (omega arith))) c.put.ensures.ok)
+    (λ h. rw h
+    (put_low m.low.entries m.first m.ordered m.rest.entries c.in-Ok.number c.args.value
+    c.self.invariant.1 (omega arith))) c.put.ensures.ok)
 
 pub returns-then-number-self-clause-err : goal.returns-then-number-self-clause-err
 returns-then-number-self-clause-err c =
@@ -44,12 +44,14 @@ returns-then-number-self-clause-err c =
       elim h.1 [
         | inl a ↦
             let more = more_low m.low.entries m.first m.ordered m.rest.entries c.in-Ok.number
-                c.args.value c.self.invariant.1 (omega arith) a.2 in
+            c.args.value c.self.invariant.1 (omega arith) a.2 in
             let v = ap length c.self.view_is in
             let full = ltb-false c.len-count.result c.memo.result a.1 in
-            inl
-                (a.0, rw (← c.self.view_is, sym same)
-                (omega (arith, more, v, full, c.len-count.ensures)))
+            inl (
+              a.0,
+              rw (← c.self.view_is, sym same)
+                  (omega (arith, more, v, full, c.len-count.ensures)),
+            )
         | inr e ↦ inr e
       ],
     ))
@@ -62,16 +64,16 @@ returns-then-place-len-clause-ok c =
     let under = c.if-place-len.true in
     let from = c.if-number-self.false in
     rw (← c.self.view_is, c.set.ensures, sym same)
-        (put_row m.low.entries m.first m.ordered m.rest.entries c.in-Ok.number
-        (c.in-Ok.number - m.first) c.args.value c.self.invariant.0 (omega (arith, from))
-        (omega (arith, under, c.len.ensures.value)))
+    (put_row m.low.entries m.first m.ordered m.rest.entries c.in-Ok.number
+    (c.in-Ok.number - m.first) c.args.value c.self.invariant.0 (omega (arith, from))
+    (omega (arith, under, c.len.ensures.value)))
 
 pub returns-then-place-len-clause-room : goal.returns-then-place-len-clause-room
 returns-then-place-len-clause-room c =
     let m = c.self.inside in
     let old = length_cells m.low.entries m.first m.ordered m.rest.entries in
     let new = length_cells m.low.entries m.first
-        (set m.ordered (c.in-Ok.number - m.first) c.args.value) m.rest.entries in
+    (set m.ordered (c.in-Ok.number - m.first) c.args.value) m.rest.entries in
     let same = length-set m.ordered (c.in-Ok.number - m.first) c.args.value in
     let v = ap length c.self.view_is in
     rw c.set.ensures (omega (arith, old, new, same, v, c.requires))
@@ -85,11 +87,11 @@ invariant_of-self-2 c =
     let from = c.if-number-self.false in
     let above = on_both (AreFrom m.first c.put-2.new.rest.entries) _ _ c.put-2.result
     (λ h. rw h
-        (from_stored m.rest.entries m.first c.in-Ok.number c.args.value
-        (omega (arith, from)) c.self.invariant.1))
+    (from_stored m.rest.entries m.first c.in-Ok.number c.args.value
+    (omega (arith, from)) c.self.invariant.1))
     (λ r h. rw h.0 c.self.invariant.1) c.put-2.ensures.ok c.put-2.ensures.err in
     let few = on_both (length m.low.entries + length c.put-2.new.rest.entries < 2 ^ 63) _ _
-        c.put-2.result
+    c.put-2.result
     (λ h. omega (arith, h, all, v, c.requires, c.memo.ensures))
     (λ r h. rw h.0 c.self.invariant.2) c.put-2.ensures.count c.put-2.ensures.err in
     (c.self.invariant.0, above, few)
@@ -102,9 +104,9 @@ returns-clause-ok c =
     let from = c.if-number-self.false in
     rw (← c.self.view_is, sym same)
     (ok_on _ _ c.put-2.result
-        (λ h. rw h
-        (put_rest m.low.entries m.first m.ordered m.rest.entries c.in-Ok.number c.args.value
-        c.self.invariant.0 (omega (arith, over, from, c.len.ensures.value)))) c.put-2.ensures.ok)
+    (λ h. rw h
+    (put_rest m.low.entries m.first m.ordered m.rest.entries c.in-Ok.number c.args.value
+    c.self.invariant.0 (omega (arith, over, from, c.len.ensures.value)))) c.put-2.ensures.ok)
 
 pub returns-clause-err : goal.returns-clause-err
 returns-clause-err c =
@@ -118,13 +120,15 @@ returns-clause-err c =
       elim h.1 [
         | inl a ↦
             let more = more_rest m.low.entries m.first m.ordered m.rest.entries c.in-Ok.number
-                c.args.value c.self.invariant.0 (omega (arith, over, from, c.len.ensures.value))
-                a.2 in
+            c.args.value c.self.invariant.0 (omega (arith, over, from, c.len.ensures.value))
+            a.2 in
             let v = ap length c.self.view_is in
             let full = ltb-false c.len-count.result c.memo.result a.1 in
-            inl
-                (a.0, rw (← c.self.view_is, sym same)
-                (omega (arith, more, v, full, c.len-count.ensures)))
+            inl (
+              a.0,
+              rw (← c.self.view_is, sym same)
+                  (omega (arith, more, v, full, c.len-count.ensures)),
+            )
         | inr e ↦ inr e
       ],
     ))
