@@ -6,6 +6,7 @@ The status is 1 if a figure is more than BOUND times its target.
 import argparse
 import collections
 import datetime
+import itertools
 import math
 import os
 import pathlib
@@ -176,8 +177,16 @@ def lists(storklocker: ModuleType, asked: argparse.Namespace) -> float:
     return refusals[0]
 
 
+def processors(count: int) -> List[Tuple[int, ...]]:
+    """Sets of this many processors. Two may be halves of one core, which only a trial shows."""
+    found = sorted(os.sched_getaffinity(0))
+    return list(itertools.combinations(found, count))[:6]
+
+
 def threads(storklocker: ModuleType, asked: argparse.Namespace) -> None:
-    """Times checks of a megabyte by several threads, in checks per second."""
+    """Times checks of a megabyte by several threads, each on a processor of its own, in checks per
+    second on the best processors.
+    """
     listed, data = storklocker.AllowList([]), records(29_000)
     print(
         f"\n| Threads that check {len(data):,} bytes | checks a second | beside one |"
@@ -185,22 +194,26 @@ def threads(storklocker: ModuleType, asked: argparse.Namespace) -> None:
     )
     most = {1: 0.0, 2: 0.0, 4: 0.0}
 
-    def work() -> None:
+    def work(processor: int) -> None:
+        os.sched_setaffinity(0, {processor})
         for _ in range(10):
             storklocker.check(data, listed)
 
     # They take turns, because the speed of a shared machine changes within seconds.
     for _ in range(max(3, asked.rounds // 3)):
         for count, rate in most.items():
-            workers = [threading.Thread(target=work) for _ in range(count)]
-            started = time.perf_counter()
-            for worker in workers:
-                worker.start()
-            for worker in workers:
-                worker.join()
-            most[count] = max(rate, 10 * count / (time.perf_counter() - started))
+            for chosen in processors(count):
+                workers = [threading.Thread(target=work, args=(one,)) for one in chosen]
+                started = time.perf_counter()
+                for worker in workers:
+                    worker.start()
+                for worker in workers:
+                    worker.join()
+                rate = max(rate, 10 * count / (time.perf_counter() - started))
+            most[count] = rate
     for count, rate in most.items():
-        print(f"| {count} | {rate:,.0f} | {rate / most[1]:.2f} |")
+        if rate > 0:
+            print(f"| {count} | {rate:,.0f} | {rate / most[1]:.2f} |")
 
 
 def imported(asked: argparse.Namespace) -> float:
