@@ -1,5 +1,7 @@
 -- The members that stand, as they are found, and what settled objects hold.
-use Rattle.std.proofs.Common.{◌≡◌, ℕ, zero, suc, ◌+◌, ◌<◌, ◌≤◌, List, [], ◌∷◌, ◌++◌, length, take, drop, get_or, refl, sym, ap, ◌∙◌, subst, arith, Option, Some, None, Ordering, Less, Equal, Greater, drop-cons, length-drop, All}
+use Rattle.std.proofs.Common.{◌≡◌, ℕ, zero, suc, ◌+◌, ◌<◌, ◌≤◌, List, [], ◌∷◌, ◌++◌, length, take}
+use Rattle.std.proofs.Common.{drop, get_or, refl, sym, ap, ◌∙◌, subst, arith, Option, Some, None}
+use Rattle.std.proofs.Common.{Ordering, Less, Equal, Greater, drop-cons, length-drop, All}
 use Rattle.std.specs.Prelude.{option_map, slice_get}
 use Rattle.std.specs.Borrow.{Bor}
 use Rattle.std.specs.Ordering.{nat_cmp, match_ordering, ordering_reverse}
@@ -14,7 +16,9 @@ use Rattle.pkjson.specs.declared.node.Node.{Node}
 use Rattle.pkjson.specs.Contents.{Kind, paired, characters, held_by}
 use Rattle.pkjson.specs.Private.Arena.{Kept, kind_at, given_in, holds}
 use Rattle.pkjson.specs.Private.Mirrors.{AreBelow, GivenBelow}
-use Rattle.pkjson.specs.Private.Nodes.{named_members, content, heap_of, nodes_from, nodes_of, size, IsBelow, IsClosed, AllAbove, Ascending, IsOrdered, AreOrdered}
+use Rattle.pkjson.specs.Private.Nodes.{named_members, content, heap_of, nodes_from, nodes_of, size}
+use Rattle.pkjson.specs.Private.Nodes.{IsBelow, IsClosed, AllAbove, Ascending, IsOrdered}
+use Rattle.pkjson.specs.Private.Nodes.{AreOrdered}
 use Rattle.pkjson.specs.Private.Settled.{AreGivenBelow, Settles, AreSettled}
 use Rattle.pkjson.specs.declared.objects.Object.{Object}
 use Rattle.pkjson.specs.declared.settled.Settled.{Settled}
@@ -25,29 +29,46 @@ use Rattle.pkjson.proofs.Parts.NodesHeld.{Dict, Member, take_more}
 abbrev by_text : Bor (List ℕ) → Bor (List ℕ) → Ordering
 by_text x y = slice_cmp nat_cmp x.now y.now
 
-named_match : (o : Ordering) (a b c : List Member) → named_members (match_ordering o a b c) ≡ match_ordering o (named_members a) (named_members b) (named_members c)
+named_match : (o : Ordering) (a b c : List Member)
+    → named_members (match_ordering o a b c) ≡ match_ordering o (named_members a) (named_members b)
+    (named_members c)
 named_match Less a b c = refl
 named_match Equal a b c = refl
 named_match Greater a b c = refl
 
-pub insert_named : (es : List Member) (k : Bor (List ℕ)) (w : ℕ) → named_members (insert_entry by_text es k w) ≡ insert_entry (slice_cmp nat_cmp) (named_members es) k.now w
+pub insert_named : (es : List Member) (k : Bor (List ℕ)) (w : ℕ)
+    → named_members (insert_entry by_text es k w) ≡ insert_entry (slice_cmp nat_cmp)
+    (named_members es) k.now w
 insert_named [] k w = refl
-insert_named (e ∷ es) k w = named_match (by_text k e.0) _ _ _ ∙ ap (λ l. match_ordering (by_text k e.0) ((k.now, w) ∷ named_members (e ∷ es)) ((e.0.now, w) ∷ named_members es) ((e.0.now, e.1) ∷ l)) (insert_named es k w)
+insert_named (e ∷ es) k w = named_match (by_text k e.0) _ _ _
+    ∙ ap
+    (λ l. match_ordering (by_text k e.0) ((k.now, w) ∷ named_members (e ∷ es))
+    ((e.0.now, w) ∷ named_members es) ((e.0.now, e.1) ∷ l)) (insert_named es k w)
 
-put_below : (n : ℕ) (o : Ordering) (es fs : List Member) (e : Member) (k : Bor (List ℕ)) (w : ℕ) → w < n → All (λ p. p.1 < n) (e ∷ es) → All (λ p. p.1 < n) fs → All (λ p. p.1 < n) (match_ordering o ((k, w) ∷ e ∷ es) ((e.0, w) ∷ es) (e ∷ fs))
+put_below : (n : ℕ) (o : Ordering) (es fs : List Member) (e : Member) (k : Bor (List ℕ)) (w : ℕ)
+    → w < n → All (λ p. p.1 < n) (e ∷ es) → All (λ p. p.1 < n) fs
+    → All (λ p. p.1 < n) (match_ordering o ((k, w) ∷ e ∷ es) ((e.0, w) ∷ es) (e ∷ fs))
 put_below n Less es fs e k w l h g = All-cons (λ p. p.1 < n) (k, w) (e ∷ es) l h
-put_below n Equal es fs e k w l h g = All-cons (λ p. p.1 < n) (e.0, w) es l (All-tail (λ p. p.1 < n) e es h)
-put_below n Greater es fs e k w l h g = All-cons (λ p. p.1 < n) e fs (All-head (λ p. p.1 < n) e es h) g
+put_below n Equal es fs e k w l h g = All-cons (λ p. p.1 < n) (e.0, w) es l
+    (All-tail (λ p. p.1 < n) e es h)
+put_below n Greater es fs e k w l h g = All-cons (λ p. p.1 < n) e fs
+    (All-head (λ p. p.1 < n) e es h) g
 
-pub insert_below : (n : ℕ) (es : List Member) (k : Bor (List ℕ)) (w : ℕ) → w < n → All (λ p. p.1 < n) es → All (λ p. p.1 < n) (insert_entry by_text es k w)
+pub insert_below : (n : ℕ) (es : List Member) (k : Bor (List ℕ)) (w : ℕ) → w < n
+    → All (λ p. p.1 < n) es → All (λ p. p.1 < n) (insert_entry by_text es k w)
 insert_below n [] k w l h = All-cons (λ p. p.1 < n) (k, w) [] l h
-insert_below n (e ∷ es) k w l h = put_below n (by_text k e.0) es (insert_entry by_text es k w) e k w l h (insert_below n es k w l (All-tail (λ p. p.1 < n) e es h))
+insert_below n (e ∷ es) k w l h = put_below n (by_text k e.0) es
+    (insert_entry by_text es k w) e k w l h
+    (insert_below n es k w l (All-tail (λ p. p.1 < n) e es h))
 
 module _ (kinds : ℕ → Option Kind) where
-  pub two_more : (xs : List ℕ) (i : ℕ) → i + 1 < length xs → paired kinds (drop i xs) ≡ (characters (kinds (get_or xs i 0)), get_or xs (i + 1) 0) ∷ paired kinds (drop (i + 2) xs)
+  pub two_more : (xs : List ℕ) (i : ℕ) → i + 1 < length xs
+      → paired kinds (drop i xs) ≡ (characters (kinds (get_or xs i 0)), get_or xs (i + 1) 0)
+      ∷ paired kinds (drop (i + 2) xs)
   two_more xs i h =
       let a : drop i xs ≡ get_or xs i 0 ∷ drop (suc i) xs = drop-cons xs i 0 (omega arith) in
-      let b : drop (i + 1) xs ≡ get_or xs (i + 1) 0 ∷ drop (suc (i + 1)) xs = drop-cons xs (i + 1) 0 h in
+      let b : drop (i + 1) xs ≡ get_or xs (i + 1) 0 ∷ drop (suc (i + 1)) xs =
+      drop-cons xs (i + 1) 0 h in
       let e : suc i ≡ i + 1 = omega arith in
       let f : suc (i + 1) ≡ i + 2 = omega arith in
       rw (a, e, b, f) refl
@@ -60,40 +81,51 @@ module _ (kinds : ℕ → Option Kind) where
   pub none_left : (xs : List ℕ) (i : ℕ) → length xs ≤ i + 1 → paired kinds (drop i xs) ≡ []
   none_left xs i h = short (drop i xs) (omega (arith, h, length-drop i xs))
 
-all_above : (k : Bor (List ℕ)) (es : List Member) → AllByRecursion (λ y. by_text k y ≡ Less) (keys_of es) → AllAbove k.now (named_members es)
+all_above : (k : Bor (List ℕ)) (es : List Member)
+    → AllByRecursion (λ y. by_text k y ≡ Less) (keys_of es) → AllAbove k.now (named_members es)
 all_above k [] h = tt
-all_above k (e ∷ es) h = (nat_list_cmp_total.antisymm e.0.now k.now ∙ ap ordering_reverse h.0, all_above k es h.1)
+all_above k (e ∷ es) h =
+    (nat_list_cmp_total.antisymm e.0.now k.now ∙ ap ordering_reverse h.0, all_above k es h.1)
 
-pub ascending_found : (es : List Member) → IsStrictlySortedBy by_text (keys_of es) → Ascending (named_members es)
+pub ascending_found : (es : List Member) → IsStrictlySortedBy by_text (keys_of es)
+    → Ascending (named_members es)
 unfolding IsStrictlySortedBy
 ascending_found [] h = tt
 ascending_found (e ∷ es) h = (all_above e.0 es h.0, ascending_found es h.1)
 
-pub settled_more : (all ks : List Kept) (ns : List Node) (k : Kept) (n : Node) → AreSettled all ks ns → Settles all k n → AreSettled all (ks ++ k ∷ []) (ns ++ n ∷ [])
+pub settled_more : (all ks : List Kept) (ns : List Node) (k : Kept) (n : Node)
+    → AreSettled all ks ns → Settles all k n → AreSettled all (ks ++ k ∷ []) (ns ++ n ∷ [])
 settled_more all [] [] k n h s = (s, tt)
 settled_more all (j ∷ ks) (m ∷ ns) k n h s = (h.0, settled_more all ks ns k n h.1 s)
 settled_more all [] (m ∷ ns) k n h s = absurd h
 settled_more all (j ∷ ks) [] k n h s = absurd h
 
-pub settled_length : (all ks : List Kept) (ns : List Node) → AreSettled all ks ns → length ns ≡ length ks
+pub settled_length : (all ks : List Kept) (ns : List Node) → AreSettled all ks ns
+    → length ns ≡ length ks
 settled_length all [] [] h = refl
 settled_length all (k ∷ ks) (n ∷ ns) h = ap suc (settled_length all ks ns h.1)
 settled_length all [] (n ∷ ns) h = absurd h
 settled_length all (k ∷ ks) [] h = absurd h
 
-settled_content : (all ks : List Kept) (ns : List Node) → AreSettled all ks ns → (x : ℕ) → option_map content (slice_get ns x) ≡ option_map (λ k. held_by (kind_at all) k.given k.kind) (slice_get ks x)
+settled_content : (all ks : List Kept) (ns : List Node) → AreSettled all ks ns → (x : ℕ)
+    → option_map content (slice_get ns x) ≡ option_map (λ k. held_by (kind_at all) k.given k.kind)
+    (slice_get ks x)
 settled_content all [] [] h x = refl
 settled_content all (k ∷ ks) (n ∷ ns) h zero = ap Some h.0.content
 settled_content all (k ∷ ks) (n ∷ ns) h (suc x) = settled_content all ks ns h.1 x
 settled_content all [] (n ∷ ns) h x = absurd h
 settled_content all (k ∷ ks) [] h x = absurd h
 
-held_option : (kinds : ℕ → Option Kind) (o : Option Kept) → option_map (λ k. held_by kinds k.given k.kind) o ≡ option_map (held_by kinds (given_in o)) (option_map (λ k. k.kind) o)
+held_option : (kinds : ℕ → Option Kind) (o : Option Kept)
+    → option_map (λ k. held_by kinds k.given k.kind) o
+    ≡ option_map (held_by kinds (given_in o)) (option_map (λ k. k.kind) o)
 held_option kinds None = refl
 held_option kinds (Some k) = refl
 
-pub settled_heap : (all : List Kept) (ns : List Node) → AreSettled all all ns → (x : ℕ) → heap_of ns x ≡ holds all x
-settled_heap all ns h x = settled_content all all ns h x ∙ held_option (kind_at all) (slice_get all x)
+pub settled_heap : (all : List Kept) (ns : List Node) → AreSettled all all ns → (x : ℕ)
+    → heap_of ns x ≡ holds all x
+settled_heap all ns h x = settled_content all all ns h x
+    ∙ held_option (kind_at all) (slice_get all x)
 
 none_some : {A C : Type 0} (x : A) → None ≡ Some x → C
 none_some x e = cc
@@ -105,9 +137,11 @@ node_or d None = d
 some_same : (a b : Node) → Some a ≡ Some b → a ≡ b
 some_same a b e = ap (node_or a) e
 
-settled_node : (all ks : List Kept) (ns : List Node) → AreSettled all ks ns → (x : ℕ) (m : Node) → slice_get ns x ≡ Some m → IsBelow (length all) m × IsOrdered m
+settled_node : (all ks : List Kept) (ns : List Node) → AreSettled all ks ns → (x : ℕ) (m : Node)
+    → slice_get ns x ≡ Some m → IsBelow (length all) m × IsOrdered m
 settled_node all [] [] h x m e = none_some m e
-settled_node all (k ∷ ks) (n ∷ ns) h zero m e = subst (λ z. IsBelow (length all) z × IsOrdered z) (some_same n m e) (h.0.below, h.0.ordered)
+settled_node all (k ∷ ks) (n ∷ ns) h zero m e =
+    subst (λ z. IsBelow (length all) z × IsOrdered z) (some_same n m e) (h.0.below, h.0.ordered)
 settled_node all (k ∷ ks) (n ∷ ns) h (suc x) m e = settled_node all ks ns h.1 x m e
 settled_node all [] (n ∷ ns) h x m e = absurd h
 settled_node all (k ∷ ks) [] h x m e = absurd h
@@ -116,18 +150,21 @@ pub kept_length : (os : List Object) → length (kept_all os) ≡ length os
 kept_length [] = refl
 kept_length (o ∷ os) = ap suc (kept_length os)
 
-nodes_length : (ds : List Dict) (os : List Object) (ps : List ℕ) → length (nodes_from ds os ps) ≡ length os
+nodes_length : (ds : List Dict) (os : List Object) (ps : List ℕ)
+    → length (nodes_from ds os ps) ≡ length os
 nodes_length ds [] ps = refl
 nodes_length ds (o ∷ os) [] = ap suc (nodes_length ds os [])
 nodes_length ds (o ∷ os) (p ∷ ps) = ap suc (nodes_length ds os ps)
 
 module _ (all : List Kept) (s : Settled) (h : AreSettled all all (nodes_of s)) where
   pub settled_size : size s ≡ length all
-  settled_size = sym (nodes_length s.dicts.items s.objects.now s.places.items) ∙ settled_length all all (nodes_of s) h
+  settled_size = sym (nodes_length s.dicts.items s.objects.now s.places.items)
+      ∙ settled_length all all (nodes_of s) h
 
   pub settled_closed : IsClosed s
   unfolding IsClosed
-  settled_closed x m e = subst (λ z. IsBelow z m) (sym settled_size) (settled_node all all (nodes_of s) h x m e).0
+  settled_closed x m e = subst (λ z. IsBelow z m) (sym settled_size)
+      (settled_node all all (nodes_of s) h x m e).0
 
   pub settled_ordered : AreOrdered s
   unfolding AreOrdered
@@ -139,12 +176,18 @@ all_below n (x ∷ xs) h = All-cons (λ y. y < n) x xs h.0 (all_below n xs h.1)
 
 pub all_given_below : (n : ℕ) (ks : List Kept) → GivenBelow n ks → AreGivenBelow n ks
 all_given_below n [] h = All-nil (λ k. All (λ x. x < n) k.given)
-all_given_below n (k ∷ ks) h = All-cons (λ j. All (λ x. x < n) j.given) k ks (all_below n k.given h.0) (all_given_below n ks h.1)
+all_given_below n (k ∷ ks) h = All-cons (λ j. All (λ x. x < n) j.given) k ks
+    (all_below n k.given h.0) (all_given_below n ks h.1)
 
-pub given_there : (n : ℕ) (os : List Object) (i : ℕ) (o : Object) → AreGivenBelow n (kept_all os) → i < length os → o ≡ get_or os i o → All (λ x. x < n) (kept_of o).given
+pub given_there : (n : ℕ) (os : List Object) (i : ℕ) (o : Object) → AreGivenBelow n (kept_all os)
+    → i < length os → o ≡ get_or os i o → All (λ x. x < n) (kept_of o).given
 given_there n [] i o h l e = absurd (omega arith)
-given_there n (p ∷ os) zero o h l e = subst (λ z. All (λ x. x < n) (kept_of z).given) (sym e) (All-head (λ k. All (λ x. x < n) k.given) (kept_of p) (kept_all os) h)
-given_there n (p ∷ os) (suc i) o h l e = given_there n os i o (All-tail (λ k. All (λ x. x < n) k.given) (kept_of p) (kept_all os) h) (omega (arith, l)) e
+given_there n (p ∷ os) zero o h l e = subst (λ z. All (λ x. x < n) (kept_of z).given) (sym e)
+    (All-head (λ k. All (λ x. x < n) k.given) (kept_of p) (kept_all os) h)
+given_there n (p ∷ os) (suc i) o h l e = given_there n os i o
+    (All-tail (λ k. All (λ x. x < n) k.given) (kept_of p) (kept_all os) h) (omega (arith, l)) e
 
-pub kept_more : (os : List Object) (i : ℕ) (o : Object) → i < length os → o ≡ get_or os i o → kept_all (take (i + 1) os) ≡ kept_all (take i os) ++ kept_of o ∷ []
-kept_more os i o l e = ap kept_all (take_more os i o l ∙ ap (λ z. take i os ++ z ∷ []) (sym e)) ∙ kept_append (take i os) o
+pub kept_more : (os : List Object) (i : ℕ) (o : Object) → i < length os → o ≡ get_or os i o
+    → kept_all (take (i + 1) os) ≡ kept_all (take i os) ++ kept_of o ∷ []
+kept_more os i o l e = ap kept_all (take_more os i o l ∙ ap (λ z. take i os ++ z ∷ []) (sym e))
+    ∙ kept_append (take i os) o

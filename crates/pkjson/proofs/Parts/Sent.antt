@@ -1,5 +1,6 @@
 -- What is sent of the parts makes what is sent of the whole.
-use Rattle.std.proofs.Common.{◌≡◌, ℕ, suc, ◌+◌, ◌<◌, ◌≤◌, ℤ, Bool, false, List, [], ◌∷◌, length, drop, get_or, refl, ap, subst, Option, Some, None, add-one, drop-cons}
+use Rattle.std.proofs.Common.{◌≡◌, ℕ, suc, ◌+◌, ◌<◌, ◌≤◌, ℤ, Bool, false, List, [], ◌∷◌, length}
+use Rattle.std.proofs.Common.{drop, get_or, refl, ap, subst, Option, Some, None, add-one, drop-cons}
 use Rattle.std.specs.Prelude.{option_map, slice_get}
 use Rattle.std.specs.Borrow.{Bor}
 use Rattle.std.proofs.Props.{props}
@@ -8,7 +9,8 @@ use Rattle.std.proofs.lemmas.List.{drop_all}
 use Rattle.serde.specs.Event as event
 use Rattle.serde.specs.Event.{Log, Logs}
 use Rattle.serde.specs.declared.name.Case.TheVariants.{AsIs}
-use Rattle.serde_json.specs.Data.{Num, Data, null, boolean, number, string, array, object, Items, no_items, item, Members, no_members, member}
+use Rattle.serde_json.specs.Data.{Num, Data, null, boolean, number, string, array, object, Items}
+use Rattle.serde_json.specs.Data.{no_items, item, Members, no_members, member}
 use Rattle.serde_json.specs.Events.{SendsItems, SendsMembers, items_len, members_len, number_event}
 use Rattle.serde_json.specs.Find.{of_integer}
 use Rattle.serde_json.specs.Sent.{IsTextOf}
@@ -17,7 +19,8 @@ use Rattle.serde_json.proofs.FreeTexts.{text_of_value}
 use Rattle.pkjson.specs.declared.node.Node.{Node}
 use Rattle.pkjson.specs.declared.node.Node.TheVariants as node
 use Rattle.pkjson.specs.Unfolds.{Scalar, Sequence, Pairs, Heap, UnfoldItems, UnfoldMembers}
-use Rattle.pkjson.specs.Private.Nodes.{IsBelow, IsClosed, content, heap, named_members, nodes_of, size}
+use Rattle.pkjson.specs.Private.Nodes.{IsBelow, IsClosed, content, heap, named_members, nodes_of}
+use Rattle.pkjson.specs.Private.Nodes.{size}
 use Rattle.pkjson.specs.declared.settled.Settled.{Settled}
 use Rattle.pkjson.specs.Private.Sends.{IsCompact, Sends, SendsArray, SendsObject}
 use Rattle.pkjson.proofs.Values.NoFloats.{floatless_in, integer_floatless}
@@ -27,23 +30,28 @@ module _ (h : Heap) (x : ℕ) (old new : Log) where
   unfolding Sends
   sends_null e t = (null, e, t)
 
-  pub sends_bool : (b : Bool) → h x ≡ Some (Scalar (boolean b)) → Logs old new (event.boolean b) → Sends h x old new
+  pub sends_bool : (b : Bool) → h x ≡ Some (Scalar (boolean b)) → Logs old new (event.boolean b)
+      → Sends h x old new
   unfolding Sends
   sends_bool b e t = (boolean b, e, t)
 
-  pub sends_text : (s : List ℕ) → h x ≡ Some (Scalar (string s)) → Logs old new (event.text s) → Sends h x old new
+  pub sends_text : (s : List ℕ) → h x ≡ Some (Scalar (string s)) → Logs old new (event.text s)
+      → Sends h x old new
   unfolding Sends
   sends_text s e t = (string s, e, t)
 
-  pub sends_int : (z : ℤ) (n : Num) → h x ≡ Some (Scalar (number (of_integer z))) → n ≡ of_integer z → Logs old new (number_event n) → Sends h x old new
+  pub sends_int : (z : ℤ) (n : Num) → h x ≡ Some (Scalar (number (of_integer z))) → n ≡ of_integer z
+      → Logs old new (number_event n) → Sends h x old new
   unfolding Sends
   sends_int z n e is t = (number (of_integer z), e, subst (λ m. Logs old new (number_event m)) is t)
 
-  pub sends_array : (xs : List ℕ) → h x ≡ Some (Sequence xs) → SendsArray h xs old new → Sends h x old new
+  pub sends_array : (xs : List ℕ) → h x ≡ Some (Sequence xs) → SendsArray h xs old new
+      → Sends h x old new
   unfolding Sends SendsArray
   sends_array xs e w = (array w.0, (xs, e, w.1), w.2)
 
-  pub sends_object : (ps : List (List ℕ × ℕ)) → h x ≡ Some (Pairs ps) → SendsObject h ps old new → Sends h x old new
+  pub sends_object : (ps : List (List ℕ × ℕ)) → h x ≡ Some (Pairs ps) → SendsObject h ps old new
+      → Sends h x old new
   unfolding Sends SendsObject
   sends_object ps e w = (object w.0, (ps, e, w.1), w.2)
 
@@ -58,7 +66,8 @@ module _ (h : Heap) where
   items_length [] (item v vs) u = absurd u
   items_length (x ∷ xs) no_items u = absurd u
 
-  members_length : (ps : List (List ℕ × ℕ)) (ms : Members) → UnfoldMembers h ps ms → members_len ms ≡ length ps
+  members_length : (ps : List (List ℕ × ℕ)) (ms : Members) → UnfoldMembers h ps ms
+      → members_len ms ≡ length ps
   members_length [] no_members u = refl
   members_length (p ∷ ps) (member k v ms) u = ap suc (members_length ps ms u.2)
   members_length [] (member k v ms) u = absurd u
@@ -66,16 +75,22 @@ module _ (h : Heap) where
 
   -- whatever ends an array well from its n-th item on ends it well from the first one on
   abbrev pub ItemsSoFar : List ℕ → ℕ → Log → Log → Type 0
-  ItemsSoFar xs n first here = (end : Log) (vs : Items) → UnfoldItems h (drop n xs) vs → SendsItems vs here end → (ws : Items) × UnfoldItems h xs ws × SendsItems ws first end
+  ItemsSoFar xs n first here = (end : Log) (vs : Items) → UnfoldItems h (drop n xs) vs
+      → SendsItems vs here end → (ws : Items) × UnfoldItems h xs ws × SendsItems ws first end
 
   pub no_items_sent : (xs : List ℕ) (first : Log) → ItemsSoFar xs 0 first first
   no_items_sent xs first = λ end vs u s. (vs, u, s)
 
-  pub item_sent : (xs : List ℕ) (n : ℕ) (first here mid : Log) → n < length xs → ItemsSoFar xs n first here → Sends h (get_or xs n 0) here mid → ItemsSoFar xs (n + 1) first mid
+  pub item_sent : (xs : List ℕ) (n : ℕ) (first here mid : Log) → n < length xs
+      → ItemsSoFar xs n first here → Sends h (get_or xs n 0) here mid
+      → ItemsSoFar xs (n + 1) first mid
   unfolding Sends
-  item_sent xs n first here mid l far w = λ end vs u s. far end (item w.0 vs) (rw (drop-cons xs n 0 l) (w.1, rw add-one at u)) (mid, w.2, s)
+  item_sent xs n first here mid l far w = λ end vs u s. far end (item w.0 vs)
+      (rw (drop-cons xs n 0 l) (w.1, rw add-one at u)) (mid, w.2, s)
 
-  pub array_sent : (xs : List ℕ) (n : ℕ) (old first here end : Log) → length xs ≤ n → Logs old first (event.seq_begins (Some (length xs))) → ItemsSoFar xs n first here → Logs here end event.seq_ends → SendsArray h xs old end
+  pub array_sent : (xs : List ℕ) (n : ℕ) (old first here end : Log) → length xs ≤ n
+      → Logs old first (event.seq_begins (Some (length xs))) → ItemsSoFar xs n first here
+      → Logs here end event.seq_ends → SendsArray h xs old end
   unfolding SendsArray
   array_sent xs n old first here end all begins far ends =
       let w = far end no_items (rw (drop_all n xs all) tt) ends in
@@ -83,20 +98,33 @@ module _ (h : Heap) where
 
   -- the same of an object and its members
   abbrev pub MembersSoFar : List (Bor (List ℕ) × ℕ) → ℕ → Log → Log → Type 0
-  MembersSoFar ps n first here = (end : Log) (ms : Members) → UnfoldMembers h (named_members (drop n ps)) ms → SendsMembers ms here end → (ws : Members) × UnfoldMembers h (named_members ps) ws × SendsMembers ws first end
+  MembersSoFar ps n first here = (end : Log) (ms : Members)
+      → UnfoldMembers h (named_members (drop n ps)) ms → SendsMembers ms here end
+      → (ws : Members) × UnfoldMembers h (named_members ps) ws × SendsMembers ws first end
 
   pub no_members_sent : (ps : List (Bor (List ℕ) × ℕ)) (first : Log) → MembersSoFar ps 0 first first
   no_members_sent ps first = λ end ms u s. (ms, u, s)
 
-  pub member_sent : (ps : List (Bor (List ℕ) × ℕ)) (n : ℕ) (d : Bor (List ℕ) × ℕ) (first here keyed mid : Log) → n < length ps → MembersSoFar ps n first here → Logs here keyed (event.field_key (get_or ps n d).0.now AsIs) → Sends h (get_or ps n d).1 keyed mid → MembersSoFar ps (n + 1) first mid
+  pub member_sent : (ps : List (Bor (List ℕ) × ℕ)) (n : ℕ) (d : Bor (List ℕ) × ℕ)
+      (first here keyed mid : Log) → n < length ps → MembersSoFar ps n first here
+      → Logs here keyed (event.field_key (get_or ps n d).0.now AsIs)
+      → Sends h (get_or ps n d).1 keyed mid → MembersSoFar ps (n + 1) first mid
   unfolding Sends
-  member_sent ps n d first here keyed mid l far key w = λ end ms u s. far end (member (get_or ps n d).0.now w.0 ms) (rw (drop-cons ps n d l) (refl, w.1, rw add-one at u)) (keyed, mid, key, w.2, s)
+  member_sent ps n d first here keyed mid l far key w = λ end ms u s.
+      far end (member (get_or ps n d).0.now w.0 ms)
+      (rw (drop-cons ps n d l) (refl, w.1, rw add-one at u)) (keyed, mid, key, w.2, s)
 
-  pub object_sent : (ps : List (Bor (List ℕ) × ℕ)) (n : ℕ) (old first here end : Log) → length ps ≤ n → Logs old first (event.map_begins (Some (length ps))) → MembersSoFar ps n first here → Logs here end event.map_ends → SendsObject h (named_members ps) old end
+  pub object_sent : (ps : List (Bor (List ℕ) × ℕ)) (n : ℕ) (old first here end : Log)
+      → length ps ≤ n → Logs old first (event.map_begins (Some (length ps)))
+      → MembersSoFar ps n first here → Logs here end event.map_ends
+      → SendsObject h (named_members ps) old end
   unfolding SendsObject
   object_sent ps n old first here end all begins far ends =
-      let w = far end no_members (rw (drop_all n ps all) tt) ends in
-      (w.0, w.1, (first, rw (members_length (named_members ps) w.0 w.1, named_length ps) begins, w.2))
+      let w = far end no_members (rw (drop_all n ps all) tt) ends in (
+        w.0,
+        w.1,
+        (first, rw (members_length (named_members ps) w.0 w.1, named_length ps) begins, w.2),
+      )
 
 -- whether each object names only objects that there are is a proposition
 below_prop : (n : ℕ) (m : Node) → IsProp (IsBelow n m)
@@ -111,18 +139,29 @@ closed_prop s = Π_prop (λ x. Π_prop (λ m. Π_prop (λ e. below_prop (size s)
 -- no node is a float
 node_floatless : (n : Node) (d : Data) → content n ≡ Scalar d → has_float d ≡ false
 node_floatless node.Null d e = let is : null ≡ d = cc in subst (λ v. has_float v ≡ false) is refl
-node_floatless (node.Bool b) d e = let is : boolean b ≡ d = cc in subst (λ v. has_float v ≡ false) is refl
-node_floatless (node.Int z) d e = let is : number (of_integer z) ≡ d = cc in subst (λ v. has_float v ≡ false) is (integer_floatless z)
-node_floatless (node.Text t) d e = let is : string t.now ≡ d = cc in subst (λ v. has_float v ≡ false) is refl
+node_floatless (node.Bool b) d e = let is : boolean b ≡ d = cc in
+    subst (λ v. has_float v ≡ false) is refl
+node_floatless (node.Int z) d e = let is : number (of_integer z) ≡ d = cc in
+    subst (λ v. has_float v ≡ false) is (integer_floatless z)
+node_floatless (node.Text t) d e = let is : string t.now ≡ d = cc in
+    subst (λ v. has_float v ≡ false) is refl
 node_floatless (node.List v) d e = absurd cc
 node_floatless (node.Dict v) d e = absurd cc
 
-heap_floatless : (o : Option Node) (d : Data) → option_map content o ≡ Some (Scalar d) → has_float d ≡ false
+heap_floatless : (o : Option Node) (d : Data) → option_map content o ≡ Some (Scalar d)
+    → has_float d ≡ false
 heap_floatless None d e = absurd cc
 heap_floatless (Some n) d e = node_floatless n d cc
 
 module _ (s : Settled) where
   -- what is printed of the events of a value is its text
-  pub compact : (x : ℕ) (text : List ℕ) → ((log : Log) × Sends (heap s) x (Some []) log × IsTextOf log text) → IsCompact (heap s) x text
+  pub compact : (x : ℕ) (text : List ℕ)
+      → ((log : Log) × Sends (heap s) x (Some []) log × IsTextOf log text)
+      → IsCompact (heap s) x text
   unfolding Sends IsCompact
-  compact x text w = (w.1.0, w.1.1, text_of_value w.1.0 w.0 text w.1.2 w.2 (floatless_in (heap s) (λ n. heap_floatless (slice_get (nodes_of s) n)) x w.1.0 w.1.1))
+  compact x text w = (
+    w.1.0,
+    w.1.1,
+    text_of_value w.1.0 w.0 text w.1.2 w.2
+        (floatless_in (heap s) (λ n. heap_floatless (slice_get (nodes_of s) n)) x w.1.0 w.1.1),
+  )

@@ -1,5 +1,6 @@
 -- From a weight to the answer.
-use Rattle.std.proofs.Common.{◌≡◌, ℕ, ◌+◌, ◌<◌, ◌≤◌, List, length, get_or, replicate, sym, ap, ◌∙◌, subst, arith}
+use Rattle.std.proofs.Common.{◌≡◌, ℕ, ◌+◌, ◌<◌, ◌≤◌, List, length, get_or, replicate, sym, ap, ◌∙◌}
+use Rattle.std.proofs.Common.{subst, arith}
 use Rattle.std.proofs.lemmas.Option.{slice_get_within, get_or_from_slice_get}
 use Rattle.std.proofs.lemmas.List.{length-replicate, get_or-replicate}
 use Rattle.serde_json.specs.Data.{Data, depth}
@@ -11,11 +12,14 @@ use Rattle.pkjson.specs.Private.Result.{HasValue, IsValue, IsText}
 use Rattle.pkjson.specs.Private.Sends.{IsCompact}
 use Rattle.pkjson.proofs.Values.OneValue.{unique}
 
-pub blank_trusted : (h : Heap) (cap n : ℕ) (done : List Weight) → done ≡ replicate n no_weight → IsTrusted h cap done
+pub blank_trusted : (h : Heap) (cap n : ℕ) (done : List Weight) → done ≡ replicate n no_weight
+    → IsTrusted h cap done
 unfolding IsTrusted
 blank_trusted h cap n done d x w e some =
-    let l : x < n = subst (λ k. x < k) (ap length d ∙ length-replicate n no_weight) (slice_get_within done x w e) in
-    let is : no_weight ≡ w = sym (get_or-replicate n x no_weight no_weight l) ∙ ap (λ t. get_or t x no_weight) (sym d) ∙ get_or_from_slice_get done x w no_weight e in
+    let l : x < n = subst (λ k. x < k) (ap length d ∙ length-replicate n no_weight)
+    (slice_get_within done x w e) in
+    let is : no_weight ≡ w = sym (get_or-replicate n x no_weight no_weight l)
+    ∙ ap (λ t. get_or t x no_weight) (sym d) ∙ get_or_from_slice_get done x w no_weight e in
     absurd (omega (arith, some, ap (λ v. v.count) is))
 
 module _ (h : Heap) (x : ℕ) where
@@ -23,13 +27,17 @@ module _ (h : Heap) (x : ℕ) where
   unfolding IsDeeper
   all_deeper fuel d v u = d v u
 
-  pub too_many : (cap deepest most : ℕ) (w : Weight) → cap ≡ most + 1 → Weighs h cap x w → w.depth ≤ deepest → most < w.count → (v : Data) × Unfolds h x v × (depth v ≤ deepest) × (most < count v)
+  pub too_many : (cap deepest most : ℕ) (w : Weight) → cap ≡ most + 1 → Weighs h cap x w
+      → w.depth ≤ deepest → most < w.count → (v : Data) × Unfolds h x v × (depth v ≤ deepest)
+      × (most < count v)
   unfolding Weighs
   too_many cap deepest most w e i d c = (i.0, i.1, omega (arith, i.2), omega (arith, i.3, e))
 
-  pub has_value : (cap deepest most : ℕ) (w : Weight) → cap ≡ most + 1 → Weighs h cap x w → w.depth ≤ deepest → w.count ≤ most → HasValue h deepest most x
+  pub has_value : (cap deepest most : ℕ) (w : Weight) → cap ≡ most + 1 → Weighs h cap x w
+      → w.depth ≤ deepest → w.count ≤ most → HasValue h deepest most x
   unfolding Weighs
-  has_value cap deepest most w e i d c = (i.0, (i.1, omega (arith, i.2, d), omega (arith, i.3, e, c)))
+  has_value cap deepest most w e i d c =
+      (i.0, (i.1, omega (arith, i.2, d), omega (arith, i.3, e, c)))
 
   module _ (deepest most : ℕ) (i : HasValue h deepest most x) where
     pub value_fits : Fits h deepest x

@@ -1,5 +1,6 @@
 -- From the end of a plain run to the answer.
-use Rattle.std.proofs.Common.{◌≡◌, ◌<◌, ℕ, true, List, length, refl, sym, ap, ◌∙◌, subst, Result, Ok, Err, Vec, Global}
+use Rattle.std.proofs.Common.{◌≡◌, ◌<◌, ℕ, true, List, length, refl, sym, ap, ◌∙◌, subst, Result}
+use Rattle.std.proofs.Common.{Ok, Err, Vec, Global}
 use Rattle.serde_json.specs.Data.{Data}
 use Rattle.std.specs.Prelude.{IfOk, IfErr}
 use Rattle.serde_json.specs.View.{view}
@@ -43,63 +44,117 @@ replays limits bytes p rest at a i w h plain acts x es t =
     let q : r.0.0 ≡ x = ap (λ z. z.0) (ok_same r.0 (x, es) (sym r.1 ∙ t)) in
     record {
       events = h.state.events;
-      results = subst (λ z. Results limits bytes z h.state.events) q (record { instructions = p; accepted = w; plain = r.3; state = _; run = r.2; seen = refl });
+      results = subst (λ z. Results limits bytes z h.state.events) q
+          (record {
+            instructions = p;
+            accepted = w;
+            plain = r.3;
+            state = _;
+            run = r.2;
+            seen = refl;
+          });
       holds = mirrors_contents (parts a).kept h.state.events h.mirrors.objects;
-      within = top_below (length (parts a).kept) (parts a).shape.entries (x, es) h.mirrors.held.entries t;
+      within = top_below (length (parts a).kept) (parts a).shape.entries
+          (x, es) h.mirrors.held.entries t;
       closed = all_given_below (length (parts a).kept) (parts a).kept h.mirrors.closed;
     }
 
-module _ (limits : Bounds) (bytes : List ℕ) (ks : List Kept) (x : ℕ) (r : Replays limits bytes ks x) where
-  pub is_value_of : (v : Data) → IsValue (holds ks) limits.depth limits.values x v → IsValueOf limits bytes v
+module _ (limits : Bounds) (bytes : List ℕ) (ks : List Kept) (x : ℕ)
+    (r : Replays limits bytes ks x) where
+  pub is_value_of : (v : Data) → IsValue (holds ks) limits.depth limits.values x v
+      → IsValueOf limits bytes v
   is_value_of v h =
       let u = unfolds_same (holds ks) (contents r.events) r.holds x v h.0 in
-      record { object = x; events = r.events; results = r.results; unfolds = u; shallow = h.1; few = h.2; floatless = floatless r.events x v u }
+      record {
+        object = x;
+        events = r.events;
+        results = r.results;
+        unfolds = u;
+        shallow = h.1;
+        few = h.2;
+        floatless = floatless r.events x v u;
+      }
 
-  pub is_refused : (e : ExportError) → IsTooLarge (holds ks) limits.depth limits.values x e → IsNotExported limits bytes e
-  is_refused TooDeep h = record { object = x; events = r.events; results = r.results; deep = λ v u. h v (unfolds_same (contents r.events) (holds ks) (λ n. sym (r.holds n)) x v u) }
-  is_refused TooMany h = record { object = x; events = r.events; results = r.results; value = h.0; unfolds = unfolds_same (holds ks) (contents r.events) r.holds x h.0 h.1; shallow = h.2; many = h.3 }
+  pub is_refused : (e : ExportError) → IsTooLarge (holds ks) limits.depth limits.values x e
+      → IsNotExported limits bytes e
+  is_refused TooDeep h = record {
+    object = x;
+    events = r.events;
+    results = r.results;
+    deep = λ v u. h v (unfolds_same (contents r.events) (holds ks) (λ n. sym (r.holds n)) x v u);
+  }
+  is_refused TooMany h = record {
+    object = x;
+    events = r.events;
+    results = r.results;
+    value = h.0;
+    unfolds = unfolds_same (holds ks) (contents r.events) r.holds x h.0 h.1;
+    shallow = h.2;
+    many = h.3;
+  }
   is_refused OutOfMemory h = tt
   is_refused e h = absurd h
 
 -- the nodes say the same
 module _ (ks : List Kept) (ns : List Node) (s : AreSettled ks ks ns) (deepest most x : ℕ) where
-  pub is_value : (v : Data) → IsValue (heap_of ns) deepest most x v → IsValue (holds ks) deepest most x v
+  pub is_value : (v : Data) → IsValue (heap_of ns) deepest most x v
+      → IsValue (holds ks) deepest most x v
   is_value v h = (unfolds_same (heap_of ns) (holds ks) (settled_heap ks ns s) x v h.0, h.1, h.2)
 
-  pub is_too_large : (e : ExportError) → IsTooLarge (heap_of ns) deepest most x e → IsTooLarge (holds ks) deepest most x e
-  is_too_large TooDeep h = λ v u. h v (unfolds_same (holds ks) (heap_of ns) (λ n. sym (settled_heap ks ns s n)) x v u)
-  is_too_large TooMany h = (h.0, unfolds_same (heap_of ns) (holds ks) (settled_heap ks ns s) x h.0 h.1, h.2, h.3)
+  pub is_too_large : (e : ExportError) → IsTooLarge (heap_of ns) deepest most x e
+      → IsTooLarge (holds ks) deepest most x e
+  is_too_large TooDeep h =
+      λ v u. h v (unfolds_same (holds ks) (heap_of ns) (λ n. sym (settled_heap ks ns s n)) x v u)
+  is_too_large TooMany h =
+      (h.0, unfolds_same (heap_of ns) (holds ks) (settled_heap ks ns s) x h.0 h.1, h.2, h.3)
   is_too_large OutOfMemory h = tt
   is_too_large e h = absurd h
 
-  pub is_text : (text : List ℕ) → IsText (heap_of ns) deepest most x text → IsText (holds ks) deepest most x text
+  pub is_text : (text : List ℕ) → IsText (heap_of ns) deepest most x text
+      → IsText (holds ks) deepest most x text
   is_text text h = (h.0, is_value h.0 h.1, h.2)
 
-  refusal_in : {A : Type 0} (r : Result A ExportError) → IfErr r (IsTooLarge (heap_of ns) deepest most x) → IfErr r (IsTooLarge (holds ks) deepest most x)
+  refusal_in : {A : Type 0} (r : Result A ExportError)
+      → IfErr r (IsTooLarge (heap_of ns) deepest most x)
+      → IfErr r (IsTooLarge (holds ks) deepest most x)
   refusal_in (Ok w) h = h
   refusal_in (Err e) h = is_too_large e h
 
-  value_in : (r : Result Value ExportError) → IfOk r (λ w. IsValue (heap_of ns) deepest most x (view w)) → IfOk r (λ w. IsValue (holds ks) deepest most x (view w))
+  value_in : (r : Result Value ExportError) → IfOk r
+      (λ w. IsValue (heap_of ns) deepest most x (view w))
+      → IfOk r (λ w. IsValue (holds ks) deepest most x (view w))
   value_in (Ok w) h = is_value (view w) h
   value_in (Err e) h = h
 
-  text_in : (r : Result (Vec ℕ Global) ExportError) → IfOk r (λ t. IsText (heap_of ns) deepest most x t.items) → IfOk r (λ t. IsText (holds ks) deepest most x t.items)
+  text_in : (r : Result (Vec ℕ Global) ExportError)
+      → IfOk r (λ t. IsText (heap_of ns) deepest most x t.items)
+      → IfOk r (λ t. IsText (holds ks) deepest most x t.items)
   text_in (Ok t) h = is_text t.items h
   text_in (Err e) h = h
 
 -- the limits are those of the caller
-module _ (ks : List Kept) (ns : List Node) (s : AreSettled ks ks ns) (d m deepest most x : ℕ) (e : d ≡ deepest) (f : m ≡ most) where
-  pub value_held : (r : Result Value ExportError) → IfOk r (λ w. IsValue (heap_of ns) d m x (view w)) → IfOk r (λ w. IsValue (holds ks) deepest most x (view w))
-  value_held r h = subst (λ k. IfOk r (λ w. IsValue (holds ks) deepest k x (view w))) f (subst (λ k. IfOk r (λ w. IsValue (holds ks) k m x (view w))) e (value_in ks ns s d m x r h))
+module _ (ks : List Kept) (ns : List Node) (s : AreSettled ks ks ns) (d m deepest most x : ℕ)
+    (e : d ≡ deepest) (f : m ≡ most) where
+  pub value_held : (r : Result Value ExportError)
+      → IfOk r (λ w. IsValue (heap_of ns) d m x (view w))
+      → IfOk r (λ w. IsValue (holds ks) deepest most x (view w))
+  value_held r h = subst (λ k. IfOk r (λ w. IsValue (holds ks) deepest k x (view w))) f
+      (subst (λ k. IfOk r (λ w. IsValue (holds ks) k m x (view w))) e (value_in ks ns s d m x r h))
 
-  pub text_held : (r : Result (Vec ℕ Global) ExportError) → IfOk r (λ t. IsText (heap_of ns) d m x t.items) → IfOk r (λ t. IsText (holds ks) deepest most x t.items)
-  text_held r h = subst (λ k. IfOk r (λ t. IsText (holds ks) deepest k x t.items)) f (subst (λ k. IfOk r (λ t. IsText (holds ks) k m x t.items)) e (text_in ks ns s d m x r h))
+  pub text_held : (r : Result (Vec ℕ Global) ExportError)
+      → IfOk r (λ t. IsText (heap_of ns) d m x t.items)
+      → IfOk r (λ t. IsText (holds ks) deepest most x t.items)
+  text_held r h = subst (λ k. IfOk r (λ t. IsText (holds ks) deepest k x t.items)) f
+      (subst (λ k. IfOk r (λ t. IsText (holds ks) k m x t.items)) e (text_in ks ns s d m x r h))
 
-  pub refusal_held : {A : Type 0} (r : Result A ExportError) → IfErr r (IsTooLarge (heap_of ns) d m x) → IfErr r (IsTooLarge (holds ks) deepest most x)
-  refusal_held r h = subst (λ k. IfErr r (IsTooLarge (holds ks) deepest k x)) f (subst (λ k. IfErr r (IsTooLarge (holds ks) k m x)) e (refusal_in ks ns s d m x r h))
+  pub refusal_held : {A : Type 0} (r : Result A ExportError)
+      → IfErr r (IsTooLarge (heap_of ns) d m x) → IfErr r (IsTooLarge (holds ks) deepest most x)
+  refusal_held r h = subst (λ k. IfErr r (IsTooLarge (holds ks) deepest k x)) f
+      (subst (λ k. IfErr r (IsTooLarge (holds ks) k m x)) e (refusal_in ks ns s d m x r h))
 
 -- it is that of the bytes
-module _ (limits : Bounds) (bytes : List ℕ) (os : List Object) (x : ℕ) (p : Replays limits bytes (kept_all os) x) where
+module _ (limits : Bounds) (bytes : List ℕ) (os : List Object) (x : ℕ)
+    (p : Replays limits bytes (kept_all os) x) where
   pub result_within : x < length os
   result_within = subst (λ n. x < n) (kept_length os) p.within
 
@@ -110,14 +165,20 @@ module _ (limits : Bounds) (bytes : List ℕ) (os : List Object) (x : ℕ) (p : 
     there : Replays limits bytes (kept_all ls) x
     there = subst (λ z. Replays limits bytes (kept_all z) x) (sym e) p
 
-    pub value_answered : (r : Result Value ExportError) → IfOk r (λ w. IsValue (holds (kept_all ls)) limits.depth limits.values x (view w)) → IfOk r (λ w. IsValueOf limits bytes (view w))
+    pub value_answered : (r : Result Value ExportError)
+        → IfOk r (λ w. IsValue (holds (kept_all ls)) limits.depth limits.values x (view w))
+        → IfOk r (λ w. IsValueOf limits bytes (view w))
     value_answered (Ok w) h = is_value_of limits bytes (kept_all ls) x there (view w) h
     value_answered (Err f) h = h
 
-    pub text_answered : (r : Result (Vec ℕ Global) ExportError) → IfOk r (λ t. IsText (holds (kept_all ls)) limits.depth limits.values x t.items) → IfOk r (λ t. IsTextOf limits bytes t.items)
+    pub text_answered : (r : Result (Vec ℕ Global) ExportError)
+        → IfOk r (λ t. IsText (holds (kept_all ls)) limits.depth limits.values x t.items)
+        → IfOk r (λ t. IsTextOf limits bytes t.items)
     text_answered (Ok t) h = (h.0, is_value_of limits bytes (kept_all ls) x there h.0 h.1, h.2)
     text_answered (Err f) h = h
 
-    pub refusal_answered : {A : Type 0} (r : Result A ExportError) → IfErr r (IsTooLarge (holds (kept_all ls)) limits.depth limits.values x) → IfErr r (IsNotExported limits bytes)
+    pub refusal_answered : {A : Type 0} (r : Result A ExportError)
+        → IfErr r (IsTooLarge (holds (kept_all ls)) limits.depth limits.values x)
+        → IfErr r (IsNotExported limits bytes)
     refusal_answered (Ok w) h = h
     refusal_answered (Err f) h = is_refused limits bytes (kept_all ls) x there f h

@@ -1,5 +1,6 @@
 -- What the next instruction of an accepted pickle says, as it is followed.
-use Rattle.std.proofs.Common.{◌≡◌, ◌≢◌, ℕ, true, false, ◌+◌, ◌-◌, ◌<◌, ◌≤◌, List, ◌++◌, length, drop, refl, sym, ap, ◌∙◌, subst, arith, Some, None, Ok, length-append}
+use Rattle.std.proofs.Common.{◌≡◌, ◌≢◌, ℕ, true, false, ◌+◌, ◌-◌, ◌<◌, ◌≤◌, List, ◌++◌, length}
+use Rattle.std.proofs.Common.{drop, refl, sym, ap, ◌∙◌, subst, arith, Some, None, Ok, length-append}
 use Rattle.pkops.specs.declared.Inst.{Inst}
 use Rattle.pkops.specs.declared.Op.{Op}
 use Rattle.pkops.specs.declared.Op.TheVariants as op
@@ -24,75 +25,122 @@ use Rattle.pkjson.specs.Private.Fronts.{HasFront, IsFront}
 use Rattle.pkjson.specs.Private.Standing.{Stands, StandsAt}
 use Rattle.pkjson.proofs.Runs.Answered.{replays}
 use Rattle.pkjson.proofs.Runs.RunToStop.{rest_is}
-use Rattle.pkjson.proofs.Runs.PlainRun.{stands_at, other_opcode, faulty, lacks_nothing, stands_behind, stops_here}
+use Rattle.pkjson.proofs.Runs.PlainRun.{stands_at, other_opcode, faulty, lacks_nothing}
+use Rattle.pkjson.proofs.Runs.PlainRun.{stands_behind, stops_here}
 use Rattle.pkjson.proofs.Kept.OperandsTaken.{err_ok}
 
 only_stop : (action : Action) → ActsAs action effect.Stops → action ≡ Stops
 only_stop Stops w = refl
 only_stop action w = absurd w
 
-module _ (limits : Bounds) (bytes rest : List ℕ) (at : ℕ) (h : Held) (acc : IsAccepted limits bytes) (inv : (p : List Instruction) → AcceptedAs limits bytes p → Stands limits.counted p rest at (parts h)) where
+module _ (limits : Bounds) (bytes rest : List ℕ) (at : ℕ) (h : Held) (acc : IsAccepted limits bytes)
+    (inv : (p : List Instruction) → AcceptedAs limits bytes p
+    → Stands limits.counted p rest at (parts h)) where
   pub entries_there : EntriesBelow (length (parts h).kept) (parts h).shape.entries
   entries_there = (inv acc.0 acc.1).mirrors.held.entries
 
   pub a_front : HasFront limits.counted rest
-  a_front = let s = stands_at limits.counted acc.0 rest at (parts h) (inv acc.0 acc.1) in (s.0, spellings s.1.after ++ s.1.tail, s.1.spelled, s.1.here)
+  a_front = let s = stands_at limits.counted acc.0 rest at (parts h) (inv acc.0 acc.1) in
+      (s.0, spellings s.1.after ++ s.1.tail, s.1.spelled, s.1.here)
 
   pub no_front : IsFront limits.counted rest None → ⊥
-  no_front f = let s = stands_at limits.counted acc.0 rest at (parts h) (inv acc.0 acc.1) in f s.0 (spellings s.1.after ++ s.1.tail) s.1.spelled s.1.here
+  no_front f = let s = stands_at limits.counted acc.0 rest at (parts h) (inv acc.0 acc.1) in
+      f s.0 (spellings s.1.after ++ s.1.tail) s.1.spelled s.1.here
 
   module _ (inst : Inst) (n : ℕ) (f : IsFront limits.counted rest (Some (inst, n))) where
-    here : (p : List Instruction) → AcceptedAs limits bytes p → StandsAt limits.counted p rest at (parts h) (instruction_of inst)
-    here p w = let s = stands_at limits.counted p rest at (parts h) (inv p w) in subst (StandsAt limits.counted p rest at (parts h)) (sym (f s.0 (spellings s.1.after ++ s.1.tail) s.1.spelled s.1.here).0) s.1
+    here : (p : List Instruction) → AcceptedAs limits bytes p
+        → StandsAt limits.counted p rest at (parts h) (instruction_of inst)
+    here p w = let s = stands_at limits.counted p rest at (parts h) (inv p w) in
+        subst (StandsAt limits.counted p rest at (parts h))
+        (sym (f s.0 (spellings s.1.after ++ s.1.tail) s.1.spelled s.1.here).0) s.1
 
     long : n ≡ length (spelling (instruction_of inst))
-    long = let s = here acc.0 acc.1 in (f (instruction_of inst) (spellings s.after ++ s.tail) s.spelled s.here).1
+    long = let s = here acc.0 acc.1 in
+        (f (instruction_of inst) (spellings s.after ++ s.tail) s.spelled s.here).1
 
     pub within : n ≤ length rest
-    within = let s = here acc.0 acc.1 in omega (arith, long, ap length s.spelled, length-append (spelling (instruction_of inst)) (spellings s.after ++ s.tail))
+    within = let s = here acc.0 acc.1 in
+        omega (
+          arith,
+          long,
+          ap length s.spelled,
+          length-append (spelling (instruction_of inst)) (spellings s.after ++ s.tail),
+        )
 
     pub some : 0 < n
     some = omega (arith, long)
 
     module _ (o : Op) (is : o ≡ (instruction_of inst).op) where
       pub other : is_plain_data o ≡ false → FaultsAt limits bytes at (OtherOpcode o)
-      other e = subst (λ z. FaultsAt limits bytes at (OtherOpcode z)) (sym is) (acc.0, acc.1, other_opcode limits.counted acc.0 rest at (parts h) (instruction_of inst) (here acc.0 acc.1) (ap is_plain_data (sym is) ∙ e))
+      other e = subst (λ z. FaultsAt limits bytes at (OtherOpcode z)) (sym is) (
+        acc.0,
+        acc.1,
+        other_opcode limits.counted acc.0 rest at (parts h) (instruction_of inst)
+            (here acc.0 acc.1) (ap is_plain_data (sym is) ∙ e),
+      )
 
-      module _ (action : Action) (plain : is_plain_data o ≡ true) (acts : ActsAs action (effect_of o)) where
+      module _ (action : Action) (plain : is_plain_data o ≡ true)
+          (acts : ActsAs action (effect_of o)) where
         plain_here : is_plain_data (instruction_of inst).op ≡ true
         plain_here = ap is_plain_data (sym is) ∙ plain
 
         acts_here : ActsAs action (effect_of (instruction_of inst).op)
         acts_here = subst (λ z. ActsAs action (effect_of z)) is acts
 
-        pub faults : (g : Fault) → fault_acted action (instruction_of inst) (parts h) ≡ Some g → FaultsAt limits bytes at g
-        faults g e = (acc.0, acc.1, faulty limits.counted acc.0 rest at (parts h) (instruction_of inst) (here acc.0 acc.1) action plain_here acts_here g e)
+        pub faults : (g : Fault) → fault_acted action (instruction_of inst) (parts h) ≡ Some g
+            → FaultsAt limits bytes at g
+        faults g e = (
+          acc.0,
+          acc.1,
+          faulty limits.counted acc.0 rest at (parts h) (instruction_of inst)
+              (here acc.0 acc.1) action plain_here acts_here g e,
+        )
 
-        module _ (kinds : (arg : Argument) → KindsAgree action (instruction o arg) (kind_by_effect (instruction o arg))) (goes : action ≢ Stops) where
-          kinds_here : KindsAgree action (instruction_of inst) (kind_by_effect (instruction_of inst))
-          kinds_here = subst (λ z. KindsAgree action (instruction z (instruction_of inst).arg) (kind_by_effect (instruction z (instruction_of inst).arg))) is (kinds (instruction_of inst).arg)
+        module _
+            (kinds : (arg : Argument) → KindsAgree action (instruction o arg)
+            (kind_by_effect (instruction o arg))) (goes : action ≢ Stops) where
+          kinds_here : KindsAgree action (instruction_of inst)
+              (kind_by_effect (instruction_of inst))
+          kinds_here = subst
+              (λ z. KindsAgree action (instruction z (instruction_of inst).arg)
+              (kind_by_effect (instruction z (instruction_of inst).arg))) is
+              (kinds (instruction_of inst).arg)
 
           not_stop : (instruction_of inst).op ≢ op.Stop
-          not_stop e = goes (only_stop action (subst (λ z. ActsAs action (effect_of z)) e acts_here))
+          not_stop e =
+              goes (only_stop action (subst (λ z. ActsAs action (effect_of z)) e acts_here))
 
           pub never_lacks : IsLacking (acted action (instruction_of inst) (parts h)) → ⊥
-          never_lacks b = lacks_nothing limits.counted acc.0 rest at (parts h) (instruction_of inst) (here acc.0 acc.1) action plain_here acts_here kinds_here goes b.0 b.1
+          never_lacks b = lacks_nothing limits.counted acc.0 rest at (parts h) (instruction_of inst)
+              (here acc.0 acc.1) action plain_here acts_here kinds_here goes b.0 b.1
 
-          pub on : (g : Held) → (fault_acted action (instruction_of inst) (parts h) ≡ None) → (acted action (instruction_of inst) (parts h) ≡ Ok (parts g)) → (p : List Instruction) → AcceptedAs limits bytes p → Stands limits.counted p (drop n rest) (at + n) (parts g)
+          pub on : (g : Held) → (fault_acted action (instruction_of inst) (parts h) ≡ None)
+              → (acted action (instruction_of inst) (parts h) ≡ Ok (parts g))
+              → (p : List Instruction) → AcceptedAs limits bytes p
+              → Stands limits.counted p (drop n rest) (at + n) (parts g)
           on g e k p w =
               let s = here p w in
-              let q = stands_behind limits.counted p rest at (parts h) (instruction_of inst) s action plain_here acts_here kinds_here goes (parts g) not_stop e k in
-              let l = rest_is rest (spellings s.after ++ s.tail) (instruction_of inst) n s.spelled long in
-              subst (λ z. Stands limits.counted p z (at + n) (parts g)) (sym l) (subst (λ z. Stands limits.counted p (spellings s.after ++ s.tail) (at + z) (parts g)) (sym long) q)
+              let q = stands_behind limits.counted p rest at (parts h)
+              (instruction_of inst) s action plain_here acts_here kinds_here goes
+              (parts g) not_stop e k in
+              let l = rest_is rest (spellings s.after ++ s.tail)
+              (instruction_of inst) n s.spelled long in
+              subst (λ z. Stands limits.counted p z (at + n) (parts g)) (sym l)
+              (subst
+              (λ z. Stands limits.counted p (spellings s.after ++ s.tail) (at + z) (parts g))
+              (sym long) q)
 
       module _ (plain : is_plain_data o ≡ true) (acts : ActsAs Stops (effect_of o)) where
         pub never_empty : IsLacking (top (parts h).shape.entries) → ⊥
         never_empty b =
-            let r = stops_here limits.counted acc.0 rest at (parts h) (instruction_of inst) (here acc.0 acc.1) (plain_here Stops plain acts) (acts_here Stops plain acts) in
+            let r = stops_here limits.counted acc.0 rest at (parts h) (instruction_of inst)
+            (here acc.0 acc.1) (plain_here Stops plain acts) (acts_here Stops plain acts) in
             err_ok b.0 r.0 (sym b.1 ∙ r.1)
 
-        pub ends : (x : ℕ) (es : List (Entry ℕ)) → top (parts h).shape.entries ≡ Ok (x, es) → Replays limits bytes (parts h).kept x
-        ends x es t = replays limits bytes acc.0 rest at h (instruction_of inst) acc.1 (here acc.0 acc.1) (plain_here Stops plain acts) (acts_here Stops plain acts) x es t
+        pub ends : (x : ℕ) (es : List (Entry ℕ)) → top (parts h).shape.entries ≡ Ok (x, es)
+            → Replays limits bytes (parts h).kept x
+        ends x es t = replays limits bytes acc.0 rest at h (instruction_of inst) acc.1
+            (here acc.0 acc.1) (plain_here Stops plain acts) (acts_here Stops plain acts) x es t
 
 -- how much was followed
 pub at_more : (b r n : ℕ) → r ≤ b → n ≤ r → b - (r - n) ≡ b - r + n

@@ -1,5 +1,6 @@
 -- From an accepted pickle to the end of its plain run.
-use Rattle.std.proofs.Common.{◌≡◌, inl, inr, ℕ, List, [], ◌∷◌, ◌++◌, length, take, drop, replicate, refl, sym, ap, ◌∙◌, subst, arith, Option, Some, None, length-append}
+use Rattle.std.proofs.Common.{◌≡◌, inl, inr, ℕ, List, [], ◌∷◌, ◌++◌, length, take, drop, replicate}
+use Rattle.std.proofs.Common.{refl, sym, ap, ◌∙◌, subst, arith, Option, Some, None, length-append}
 use Rattle.std.proofs.lemmas.Bool.{cond_both}
 use Rattle.std.specs.Prelude.{slice_index_or}
 use Rattle.std.proofs.Math.Seq.{take-append_seam, drop-append_seam}
@@ -30,11 +31,13 @@ use Rattle.pkjson.specs.Private.Result.{TellsRefusal}
 use Rattle.pkjson.specs.Private.Standing.{HasStop, Stands}
 use Rattle.pkjson.proofs.Runs.PlainRun.{run_is}
 
-has_stop : (front : List Instruction) (last : Instruction) → last.op ≡ op.Stop → HasStop (front ++ last ∷ [])
+has_stop : (front : List Instruction) (last : Instruction) → last.op ≡ op.Stop
+    → HasStop (front ++ last ∷ [])
 has_stop [] last e = inl e
 has_stop (i ∷ is) last e = inr (has_stop is last e)
 
-consumed : (xs bs : List ℕ) (o : Option (List ℕ)) → Consumes (Some xs) o bs → (ys : List ℕ) × (xs ≡ bs ++ ys)
+consumed : (xs bs : List ℕ) (o : Option (List ℕ)) → Consumes (Some xs) o bs
+    → (ys : List ℕ) × (xs ≡ bs ++ ys)
 consumed xs bs None h = absurd h
 consumed xs bs (Some ys) h = (ys, h)
 
@@ -48,33 +51,48 @@ nothing_yet = record {
   objects = record { kinds = λ n. refl; given = λ n. refl };
 }
 
-pub stands_first : (limits : Bounds) (bytes : List ℕ) (p : List Instruction) → AcceptedAs limits bytes p → Stands limits.counted p bytes 0 no_object
-stands_first limits bytes p h = subst (λ q. Stands limits.counted q bytes 0 no_object) h.is (by_accepted h.accepted.instructions h.accepted.sequence (consumed bytes (spellings h.accepted.instructions) h.new.left h.accepted.bytes.bytes) h.accepted.sound)
+pub stands_first : (limits : Bounds) (bytes : List ℕ) (p : List Instruction)
+    → AcceptedAs limits bytes p → Stands limits.counted p bytes 0 no_object
+stands_first limits bytes p h = subst (λ q. Stands limits.counted q bytes 0 no_object) h.is
+    (by_accepted h.accepted.instructions h.accepted.sequence
+    (consumed bytes (spellings h.accepted.instructions) h.new.left h.accepted.bytes.bytes)
+    h.accepted.sound)
   where
-    by_accepted : (q : List Instruction) → IsSequence (payload_limit (holding_all limits)) q → (ys : List ℕ) × (bytes ≡ spellings q ++ ys) → ((os : List Outcome) → EndsWell (permitted_by None) (run q os start)) → Stands limits.counted q bytes 0 no_object
+    by_accepted : (q : List Instruction) → IsSequence (payload_limit (holding_all limits)) q
+        → (ys : List ℕ) × (bytes ≡ spellings q ++ ys)
+        → ((os : List Outcome) → EndsWell (permitted_by None) (run q os start))
+        → Stands limits.counted q bytes 0 no_object
     by_accepted q s c w = record {
       after = q;
       tail = c.0;
       spelled = c.1;
-      allowed = λ k d lt. let i = slice_index_or q k d in cond_both (is_passed i.op) limits.counted limits.counted (λ l. IsAllowed l i → IsAllowed limits.counted i) (λ _ a. a) (λ _ a. a) (s.each k d lt);
+      allowed = λ k d lt. let i = slice_index_or q k d in
+          cond_both (is_passed i.op) limits.counted limits.counted
+          (λ l. IsAllowed l i → IsAllowed limits.counted i) (λ _ a. a) (λ _ a. a) (s.each k d lt);
       stops = subst HasStop (sym s.stops.2) (has_stop s.stops.0 s.stops.1 s.stops.3);
       state = start;
       listed = permitted_by None;
-      well = subst (EndsWell (permitted_by None)) (run_is q (length q) (omega arith) start) (w (replicate (length q) goes_on));
+      well = subst (EndsWell (permitted_by None)) (run_is q (length q) (omega arith) start)
+          (w (replicate (length q) goes_on));
       run = refl;
       fault = refl;
       mirrors = nothing_yet;
     }
 
 -- what a scan must answer where an instruction stands
-pub front_answers : (limit : ℕ) (bytes more : List ℕ) (i : Instruction) → bytes ≡ spelling i ++ more → IsAllowed limit i → Answers limit bytes (Whole i (length (spelling i)))
+pub front_answers : (limit : ℕ) (bytes more : List ℕ) (i : Instruction) → bytes ≡ spelling i ++ more
+    → IsAllowed limit i → Answers limit bytes (Whole i (length (spelling i)))
 front_answers limit bytes more i e h = record {
   fits = rw e (omega (arith, length-append (spelling i) more));
-  spells = record { spelled = ap (take (length (spelling i))) e ∙ take-append_seam (spelling i) more; good = h.good };
+  spells = record {
+    spelled = ap (take (length (spelling i))) e ∙ take-append_seam (spelling i) more;
+    good = h.good;
+  };
   within = h.within;
 }
 
-pub rest_is : (bytes more : List ℕ) (i : Instruction) (n : ℕ) → bytes ≡ spelling i ++ more → n ≡ length (spelling i) → drop n bytes ≡ more
+pub rest_is : (bytes more : List ℕ) (i : Instruction) (n : ℕ) → bytes ≡ spelling i ++ more
+    → n ≡ length (spelling i) → drop n bytes ≡ more
 rest_is bytes more i n e f = rw (f, e) (drop-append_seam (spelling i) more)
 
 abbrev instruction_in : Instruction → Answer → Instruction
@@ -95,10 +113,16 @@ pub whole_bad : (i : Instruction) (n : ℕ) (f : Fault) → Whole i n ≡ Bad f 
 whole_bad i n f e = cc
 
 -- what `check` accepts, under the limits that hold all payloads
-pub accepted_as : (limits held : Bounds) (bytes : List ℕ) (old new : Sight) (taken : ℕ) (imports : List Asked) → held ≡ holding_all limits → old ≡ in_memory bytes → Accepted Unknown None held old new taken imports → IsAccepted limits bytes
+pub accepted_as : (limits held : Bounds) (bytes : List ℕ) (old new : Sight) (taken : ℕ)
+    (imports : List Asked) → held ≡ holding_all limits → old ≡ in_memory bytes
+    → Accepted Unknown None held old new taken imports → IsAccepted limits bytes
 accepted_as limits held bytes old new taken imports l e a =
-    let b : Accepted Unknown None (holding_all limits) (in_memory bytes) new taken imports = subst (λ s. Accepted Unknown None (holding_all limits) s new taken imports) e (subst (λ h. Accepted Unknown None h old new taken imports) l a) in
-    (b.instructions, record { new = new; taken = taken; imports = imports; accepted = b; is = refl })
+    let b : Accepted Unknown None (holding_all limits) (in_memory bytes) new taken imports = subst
+    (λ s. Accepted Unknown None (holding_all limits) s new taken imports) e
+    (subst (λ h. Accepted Unknown None h old new taken imports) l a) in (
+      b.instructions,
+      record { new = new; taken = taken; imports = imports; accepted = b; is = refl },
+    )
 
 -- and what it refuses
 pub refused_as : (limits held : Bounds) (bytes rest : List ℕ) (old : Sight) (at : ℕ) (why : Reason)
@@ -106,4 +130,12 @@ pub refused_as : (limits held : Bounds) (bytes rest : List ℕ) (old : Sight) (a
     → Refused Unknown None held old (in_memory rest) at why pair → TellsRefusal at why e
     → IsNotExported limits bytes e
 refused_as limits held bytes rest old at why pair e l s r (inl q) = rw q tt
-refused_as limits held bytes rest old at why pair e l s r (inr q) = rw q.1 ((rest, pair, subst (λ o. Refused Unknown None (holding_all limits) o (in_memory rest) at why pair) s (subst (λ h. Refused Unknown None h old (in_memory rest) at why pair) l r)), q.0)
+refused_as limits held bytes rest old at why pair e l s r (inr q) = rw q.1 (
+  (
+    rest,
+    pair,
+    subst (λ o. Refused Unknown None (holding_all limits) o (in_memory rest) at why pair) s
+        (subst (λ h. Refused Unknown None h old (in_memory rest) at why pair) l r),
+  ),
+  q.0,
+)

@@ -1,6 +1,7 @@
 -- What an object unfolds to goes by what each object holds.
 use Rattle.std.proofs.Common.{◌≡◌, ℕ, List, [], ◌∷◌, sym, ◌∙◌}
-use Rattle.serde_json.specs.Data.{Data, null, boolean, number, string, array, object, Items, no_items, item, Members, no_members, member}
+use Rattle.serde_json.specs.Data.{Data, null, boolean, number, string, array, object, Items}
+use Rattle.serde_json.specs.Data.{no_items, item, Members, no_members, member}
 use Rattle.pkjson.specs.Unfolds.{Heap, Unfolds, UnfoldItems, UnfoldMembers}
 
 module _ (h g : Heap) (e : (n : ℕ) → h n ≡ g n) where
@@ -19,7 +20,8 @@ module _ (h g : Heap) (e : (n : ℕ) → h n ≡ g n) where
     items_same [] (item v vs) u = absurd u
     items_same (x ∷ xs) no_items u = absurd u
 
-    members_same : (ps : List (List ℕ × ℕ)) (ms : Members) → UnfoldMembers h ps ms → UnfoldMembers g ps ms
+    members_same : (ps : List (List ℕ × ℕ)) (ms : Members) → UnfoldMembers h ps ms
+        → UnfoldMembers g ps ms
     members_same [] no_members u = tt
     members_same (p ∷ ps) (member k v ms) u = (u.0, unfolds_same p.1 v u.1, members_same ps ms u.2)
     members_same [] (member k v ms) u = absurd u

@@ -1,17 +1,21 @@
 -- What an object unfolds to has no float.
-use Rattle.std.proofs.Common.{◌≡◌, ℕ, ℤ, pos, negsuc, Bool, true, false, cond, List, [], ◌∷◌, Option, Some, None, refl, subst}
+use Rattle.std.proofs.Common.{◌≡◌, ℕ, ℤ, pos, negsuc, Bool, true, false, cond, List, [], ◌∷◌}
+use Rattle.std.proofs.Common.{Option, Some, None, refl, subst}
 use Rattle.std.specs.Prelude.{option_map}
-use Rattle.serde_json.specs.Data.{Data, null, boolean, number, string, array, object, Items, no_items, item, Members, no_members, member}
+use Rattle.serde_json.specs.Data.{Data, null, boolean, number, string, array, object, Items}
+use Rattle.serde_json.specs.Data.{no_items, item, Members, no_members, member}
 use Rattle.serde_json.specs.Find.{of_integer}
 use Rattle.serde_json.specs.Written.{has_float, items_have_float, members_have_float}
 use Rattle.pkops.specs.Operands.{names_bool}
 use Rattle.pkops.specs.Spelling.{Instruction}
 use Rattle.pkcheck.specs.declared.effect.Class.TheVariants as class
 use Rattle.pkcheck.specs.declared.effect.Gives.{Gives}
-use Rattle.pkcheck.specs.declared.effect.Gives.TheVariants.{Makes, MakesIntOrBool, MakesText, MayMake}
+use Rattle.pkcheck.specs.declared.effect.Gives.TheVariants.{Makes, MakesIntOrBool, MakesText}
+use Rattle.pkcheck.specs.declared.effect.Gives.TheVariants.{MayMake}
 use Rattle.pkcheck.specs.Effects.{effect_of}
 use Rattle.pkcheck.specs.Runs.{Event}
-use Rattle.pkjson.specs.Contents.{Kind, OfItems, OfPairs, OfValue, all_given, contents, gives_of, held_by, kind_given, kind_by_effect, kinds, maker, says_true}
+use Rattle.pkjson.specs.Contents.{Kind, OfItems, OfPairs, OfValue, all_given, contents, gives_of}
+use Rattle.pkjson.specs.Contents.{held_by, kind_given, kind_by_effect, kinds, maker, says_true}
 use Rattle.pkjson.specs.Integers.{integer_named}
 use Rattle.pkjson.specs.Unfolds.{Scalar, Heap, Unfolds, UnfoldItems, UnfoldMembers}
 
@@ -20,7 +24,8 @@ integer_floatless (pos n) = refl
 integer_floatless (negsuc n) = refl
 
 -- where no scalar of a heap has a float, no value has one
-module _ (h : Heap) (scalars : (x : ℕ) (d : Data) → h x ≡ Some (Scalar d) → has_float d ≡ false) where
+module _ (h : Heap) (scalars : (x : ℕ) (d : Data) → h x ≡ Some (Scalar d)
+    → has_float d ≡ false) where
   mutual
     pub floatless_in : (x : ℕ) (v : Data) → Unfolds h x v → has_float v ≡ false
     floatless_in x null u = refl
@@ -36,9 +41,11 @@ module _ (h : Heap) (scalars : (x : ℕ) (d : Data) → h x ≡ Some (Scalar d) 
     items_floatless [] (item v vs) u = absurd u
     items_floatless (x ∷ xs) no_items u = absurd u
 
-    members_floatless : (ps : List (List ℕ × ℕ)) (ms : Members) → UnfoldMembers h ps ms → members_have_float ms ≡ false
+    members_floatless : (ps : List (List ℕ × ℕ)) (ms : Members) → UnfoldMembers h ps ms
+        → members_have_float ms ≡ false
     members_floatless [] no_members u = refl
-    members_floatless (p ∷ ps) (member k v ms) u = rw (floatless_in p.1 v u.1) (members_floatless ps ms u.2)
+    members_floatless (p ∷ ps) (member k v ms) u =
+        rw (floatless_in p.1 v u.1) (members_floatless ps ms u.2)
     members_floatless [] (member k v ms) u = absurd u
     members_floatless (p ∷ ps) no_members u = absurd u
 
@@ -48,7 +55,8 @@ IsFloatless (OfValue v) = has_float v ≡ false
 IsFloatless OfItems = Unit {0}
 IsFloatless OfPairs = Unit {0}
 
-int_floatless : (b : Bool) (i : Instruction) → has_float (cond b (boolean (says_true i.arg)) (number (of_integer (integer_named i.arg)))) ≡ false
+int_floatless : (b : Bool) (i : Instruction) → has_float
+    (cond b (boolean (says_true i.arg)) (number (of_integer (integer_named i.arg)))) ≡ false
 int_floatless true i = refl
 int_floatless false i = integer_floatless (integer_named i.arg)
 
@@ -63,15 +71,22 @@ given_floatless MakesText i = refl
 given_floatless MakesIntOrBool i = int_floatless (names_bool i) i
 given_floatless g i = integer_floatless (integer_named i.arg)
 
-held_floatless : (of : ℕ → Option Kind) (xs : List ℕ) (k : Kind) (d : Data) → IsFloatless k → held_by of xs k ≡ Scalar d → has_float d ≡ false
+held_floatless : (of : ℕ → Option Kind) (xs : List ℕ) (k : Kind) (d : Data) → IsFloatless k
+    → held_by of xs k ≡ Scalar d → has_float d ≡ false
 held_floatless of xs OfItems d h e = absurd cc
 held_floatless of xs OfPairs d h e = absurd cc
-held_floatless of xs (OfValue v) d h e = let is : v ≡ d = cc in subst (λ w. has_float w ≡ false) is h
+held_floatless of xs (OfValue v) d h e = let is : v ≡ d = cc in
+    subst (λ w. has_float w ≡ false) is h
 
-made_floatless : (o : Option Instruction) (of : ℕ → Option Kind) (xs : List ℕ) (d : Data) → option_map (held_by of xs) (option_map kind_by_effect o) ≡ Some (Scalar d) → has_float d ≡ false
+made_floatless : (o : Option Instruction) (of : ℕ → Option Kind) (xs : List ℕ) (d : Data)
+    → option_map (held_by of xs) (option_map kind_by_effect o) ≡ Some (Scalar d)
+    → has_float d ≡ false
 made_floatless None of xs d e = absurd cc
-made_floatless (Some i) of xs d e = held_floatless of xs (kind_by_effect i) d (given_floatless (gives_of (effect_of i.op)) i) cc
+made_floatless (Some i) of xs d e = held_floatless of xs (kind_by_effect i) d
+    (given_floatless (gives_of (effect_of i.op)) i) cc
 
 -- what an object of a run unfolds to at its end has no float
-pub floatless : (es : List Event) (x : ℕ) (v : Data) → Unfolds (contents es) x v → has_float v ≡ false
-floatless es = floatless_in (contents es) (λ n. made_floatless (maker n es) (kinds es) (all_given n es))
+pub floatless : (es : List Event) (x : ℕ) (v : Data) → Unfolds (contents es) x v
+    → has_float v ≡ false
+floatless es = floatless_in (contents es)
+    (λ n. made_floatless (maker n es) (kinds es) (all_given n es))

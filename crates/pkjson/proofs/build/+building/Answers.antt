@@ -3,24 +3,30 @@ use Rattle.std.proofs.Common.{get_or}
 use Rattle.pkjson.specs.Private.Fits.{Fits}
 use Rattle.pkjson.specs.Private.Nodes.{heap}
 use Rattle.pkjson.proofs.Parts.NodesHeld.{held, below, ordered, no_member}
-use Rattle.pkjson.proofs.Parts.Built.{fits_some, fits_items, fits_any, fits_members, item_fits, member_fits, item_built, member_built, view_null, view_bool, view_string}
+use Rattle.pkjson.proofs.Parts.Built.{fits_some, fits_items, fits_any, fits_members, item_fits}
+use Rattle.pkjson.proofs.Parts.Built.{member_fits, item_built, member_built, view_null, view_bool}
+use Rattle.pkjson.proofs.Parts.Built.{view_string}
 use Rattle.serde_json.proofs.Views.{view-Array, view-Object}
 use Rattle.pkjson.proofs.build.+building.Goals as goal
 
 pub build-overflow_sub-levels : goal.build-overflow_sub-levels
-build-overflow_sub-levels t c = fits_some _ _ _ _ (held _ _ _ c.node.ensures.held c.in-List.is) c.requires.fits
+build-overflow_sub-levels t c = fits_some _ _ _ _ (held _ _ _ c.node.ensures.held c.in-List.is)
+    c.requires.fits
 
 pub build-overflow_sub-levels-in-Dict : goal.build-overflow_sub-levels-in-Dict
-build-overflow_sub-levels-in-Dict t c = fits_any _ _ _ _ (held _ _ _ c.node.ensures.held c.in-Dict.is) c.requires.fits
+build-overflow_sub-levels-in-Dict t c = fits_any _ _ _ _
+    (held _ _ _ c.node.ensures.held c.in-Dict.is) c.requires.fits
 
 pub build-returns-in-Null : goal.build-returns-in-Null
 build-returns-in-Null t c = rw view_null (held _ _ _ c.node.ensures.held c.in-Null.is)
 
 pub build-returns-in-Bool : goal.build-returns-in-Bool
-build-returns-in-Bool t c = rw (view_bool c.in-Bool.truth) (held _ _ _ c.node.ensures.held c.in-Bool.is)
+build-returns-in-Bool t c = rw (view_bool c.in-Bool.truth)
+    (held _ _ _ c.node.ensures.held c.in-Bool.is)
 
 pub build-returns-in_ok-to_string-in-Text : goal.build-returns-in_ok-to_string-in-Text
-build-returns-in_ok-to_string-in-Text t c = let e = held _ _ _ c.node.ensures.held c.in-Text.is in rw (view_string c.in_ok-to_string-in-Text.field-0, c.in_ok-to_string-in-Text.ensures.ok) e
+build-returns-in_ok-to_string-in-Text t c = let e = held _ _ _ c.node.ensures.held c.in-Text.is in
+    rw (view_string c.in_ok-to_string-in-Text.field-0, c.in_ok-to_string-in-Text.ensures.ok) e
 
 pub build-build_items-requires : goal.build-build_items-requires
 build-build_items-requires t c =
@@ -40,19 +46,30 @@ build-build_members-requires t c =
     (search (rules, b, o, f, g))
 
 pub build-returns-in_ok-build_items-in-List : goal.build-returns-in_ok-build_items-in-List
-build-returns-in_ok-build_items-in-List t c = rw (view-Array c.in_ok-build_items-in-List.field-0) (_, held _ _ _ c.node.ensures.held c.in-List.is, c.in_ok-build_items-in-List.ensures)
+build-returns-in_ok-build_items-in-List t c = rw (view-Array c.in_ok-build_items-in-List.field-0)
+    (_, held _ _ _ c.node.ensures.held c.in-List.is, c.in_ok-build_items-in-List.ensures)
 
 pub build-returns-in_ok-build_members-in-Dict : goal.build-returns-in_ok-build_members-in-Dict
-build-returns-in_ok-build_members-in-Dict t c = rw (view-Object c.in_ok-build_members-in-Dict.field-0) (_, held _ _ _ c.node.ensures.held c.in-Dict.is, c.in_ok-build_members-in-Dict.ensures)
+build-returns-in_ok-build_members-in-Dict t c =
+    rw (view-Object c.in_ok-build_members-in-Dict.field-0)
+    (_, held _ _ _ c.node.ensures.held c.in-Dict.is, c.in_ok-build_members-in-Dict.ensures)
 
 pub build_items-build-requires : goal.build_items-build-requires
-build_items-build-requires t c = let f = item_fits _ _ c.args.items.now c.loop-item.item-index c.loop-item-test.true c.requires.fits in search (rules, f)
+build_items-build-requires t c = let f = item_fits _ _ c.args.items.now c.loop-item.item-index
+    c.loop-item-test.true c.requires.fits in search (rules, f)
 
 pub build_items-loop-item-preserved : goal.build_items-loop-item-preserved
-build_items-loop-item-preserved t c = rw c.in_ok-push.ensures.items (item_built _ c.args.items.now c.loop-item.item-index _ _ c.loop-item-test.true c.loop-item.invariant c.in_ok-value.ensures)
+build_items-loop-item-preserved t c = rw c.in_ok-push.ensures.items
+    (item_built _ c.args.items.now c.loop-item.item-index _ _ c.loop-item-test.true
+    c.loop-item.invariant c.in_ok-value.ensures)
 
 pub build_members-build-requires : goal.build_members-build-requires
-build_members-build-requires t c = let f : Fits (heap c.args.nodes.now) c.args.levels (get_or c.args.members.now c.loop-key.key-index no_member).1 = member_fits _ _ c.args.members.now c.loop-key.key-index no_member c.loop-key-test.true c.requires.fits in search (rules, f)
+build_members-build-requires t c = let f : Fits (heap c.args.nodes.now) c.args.levels
+    (get_or c.args.members.now c.loop-key.key-index no_member).1 = member_fits _ _
+    c.args.members.now c.loop-key.key-index no_member c.loop-key-test.true c.requires.fits in
+    search (rules, f)
 
 pub build_members-loop-key-preserved : goal.build_members-loop-key-preserved
-build_members-loop-key-preserved t c = rw c.in_ok-put.ensures.ok (member_built _ c.args.members.now c.loop-key.key-index no_member _ _ c.loop-key-test.true c.requires.ascending c.loop-key.invariant c.in_ok-member.ensures)
+build_members-loop-key-preserved t c = rw c.in_ok-put.ensures.ok
+    (member_built _ c.args.members.now c.loop-key.key-index no_member _ _ c.loop-key-test.true
+    c.requires.ascending c.loop-key.invariant c.in_ok-member.ensures)

@@ -14,7 +14,9 @@ abbrev pub decreases-build_members : goal.decreases-build_members
 decreases-build_members l = 2 * l.levels + 1
 
 abbrev pub invariant-build_items-loop-item : goal.invariant-build_items-loop-item
-invariant-build_items-loop-item l = UnfoldItems (heap l.nodes) (take l.item-index l.items) (items_view l.values.items)
+invariant-build_items-loop-item l = UnfoldItems (heap l.nodes) (take l.item-index l.items)
+    (items_view l.values.items)
 
 abbrev pub invariant-build_members-loop-key : goal.invariant-build_members-loop-key
-invariant-build_members-loop-key l = UnfoldMembers (heap l.nodes) (named_members (take l.key-index l.members)) (members_view l.built.entries)
+invariant-build_members-loop-key l = UnfoldMembers (heap l.nodes)
+    (named_members (take l.key-index l.members)) (members_view l.built.entries)

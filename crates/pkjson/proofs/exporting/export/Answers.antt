@@ -1,19 +1,28 @@
 use Rattle.std.proofs.Common.{subst, sym, ◌<◌, length}
 use Rattle.pkjson.specs.Private.Seen.{kept_all}
 use Rattle.pkjson.specs.Private.Settled.{AreGivenBelow}
-use Rattle.pkjson.proofs.Runs.Answered.{result_within, result_closed, value_answered, refusal_answered}
+use Rattle.pkjson.proofs.Runs.Answered.{result_within, result_closed, value_answered}
+use Rattle.pkjson.proofs.Runs.Answered.{refusal_answered}
 use Rattle.pkjson.proofs.exporting.export.Goals as goal
 
 pub settled_value-requires-clause-within : goal.settled_value-requires-clause-within
-settled_value-requires-clause-within c = subst (λ os. c.in_ok-objects.place < length os) (sym c.deref.ensures.value)
-    (result_within c.args.limits.now c.args.bytes.now c.in_ok-objects.objects.items c.in_ok-objects.place c.in_ok-objects.ensures.ok)
+settled_value-requires-clause-within c = subst (λ os. c.in_ok-objects.place < length os)
+    (sym c.deref.ensures.value)
+    (result_within c.args.limits.now c.args.bytes.now c.in_ok-objects.objects.items
+    c.in_ok-objects.place c.in_ok-objects.ensures.ok)
 
 pub settled_value-requires-clause-closed : goal.settled_value-requires-clause-closed
-settled_value-requires-clause-closed c = subst (λ os. AreGivenBelow (length os) (kept_all os)) (sym c.deref.ensures.value)
-    (result_closed c.args.limits.now c.args.bytes.now c.in_ok-objects.objects.items c.in_ok-objects.place c.in_ok-objects.ensures.ok)
+settled_value-requires-clause-closed c = subst (λ os. AreGivenBelow (length os) (kept_all os))
+    (sym c.deref.ensures.value)
+    (result_closed c.args.limits.now c.args.bytes.now c.in_ok-objects.objects.items
+    c.in_ok-objects.place c.in_ok-objects.ensures.ok)
 
 pub returns-clause-value : goal.returns-clause-value
-returns-clause-value c = value_answered c.args.limits.now c.args.bytes.now c.in_ok-objects.objects.items c.in_ok-objects.place c.in_ok-objects.ensures.ok c.deref.result.now c.deref.ensures.value c.settled_value.result c.settled_value.ensures.ok
+returns-clause-value c = value_answered c.args.limits.now c.args.bytes.now
+    c.in_ok-objects.objects.items c.in_ok-objects.place c.in_ok-objects.ensures.ok
+    c.deref.result.now c.deref.ensures.value c.settled_value.result c.settled_value.ensures.ok
 
 pub returns-clause-error : goal.returns-clause-error
-returns-clause-error c = refusal_answered c.args.limits.now c.args.bytes.now c.in_ok-objects.objects.items c.in_ok-objects.place c.in_ok-objects.ensures.ok c.deref.result.now c.deref.ensures.value c.settled_value.result c.settled_value.ensures.err
+returns-clause-error c = refusal_answered c.args.limits.now c.args.bytes.now
+    c.in_ok-objects.objects.items c.in_ok-objects.place c.in_ok-objects.ensures.ok
+    c.deref.result.now c.deref.ensures.value c.settled_value.result c.settled_value.ensures.err

@@ -3,4 +3,5 @@ use Rattle.pkjson.proofs.Runs.Fronts.{counted_length}
 use Rattle.pkjson.proofs.front.counted_length.Goals as goal
 
 pub returns : goal.returns
-returns c = counted_length c.args.width c.args.bytes.now _ (omega (arith, c.size-2.ensures, c.count_behind-count.ensures))
+returns c = counted_length c.args.width c.args.bytes.now _
+    (omega (arith, c.size-2.ensures, c.count_behind-count.ensures))

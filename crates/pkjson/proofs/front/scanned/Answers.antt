@@ -4,10 +4,13 @@ use Rattle.pkjson.proofs.Runs.RunToStop.{front_answers, whole_same, whole_more, 
 use Rattle.pkjson.proofs.front.scanned.Goals as goal
 
 pub returns-in-Whole : goal.returns-in-Whole
-returns-in-Whole c = λ i more e h. whole_same i _ _ _ (c.scan.ensures.only (Whole i _) (front_answers _ _ more i e h) ∙ ap shown_scan c.in-Whole.is)
+returns-in-Whole c = λ i more e h. whole_same i _ _ _
+    (c.scan.ensures.only (Whole i _) (front_answers _ _ more i e h) ∙ ap shown_scan c.in-Whole.is)
 
 pub returns-in-More : goal.returns-in-More
-returns-in-More c = λ i more e h. whole_more i _ (c.scan.ensures.only (Whole i _) (front_answers _ _ more i e h) ∙ ap shown_scan c.in-More.is)
+returns-in-More c = λ i more e h. whole_more i _
+    (c.scan.ensures.only (Whole i _) (front_answers _ _ more i e h) ∙ ap shown_scan c.in-More.is)
 
 pub returns-in-Bad : goal.returns-in-Bad
-returns-in-Bad c = λ i more e h. whole_bad i _ _ (c.scan.ensures.only (Whole i _) (front_answers _ _ more i e h) ∙ ap shown_scan c.in-Bad.is)
+returns-in-Bad c = λ i more e h. whole_bad i _ _
+    (c.scan.ensures.only (Whole i _) (front_answers _ _ more i e h) ∙ ap shown_scan c.in-Bad.is)

@@ -1,84 +1,154 @@
 use Rattle.std.proofs.Common.{arith, refl, rules, ◌∙◌, subst, ◌-◌}
 use Rattle.pkjson.specs.Private.Nodes.{heap}
 use Rattle.pkjson.specs.Private.Weighs.{AreDeeper, MembersDeeper}
-use Rattle.pkjson.proofs.Parts.Weights.{no_items_weigh, one_more, one_deeper, no_members_weigh, member_more, member_deeper, scalar_weighs, sequence_weighs, pairs_weigh, sequence_deeper, pairs_deeper, sequence_not_flat, pairs_not_flat, weighs_more, weighs_at_most, by_table}
-use Rattle.pkjson.proofs.Parts.NodesHeld.{held, below, trusted_set, take_more, seam, named_more, named_seam, no_member}
+use Rattle.pkjson.proofs.Parts.Weights.{no_items_weigh, one_more, one_deeper, no_members_weigh}
+use Rattle.pkjson.proofs.Parts.Weights.{member_more, member_deeper, scalar_weighs, sequence_weighs}
+use Rattle.pkjson.proofs.Parts.Weights.{pairs_weigh, sequence_deeper, pairs_deeper}
+use Rattle.pkjson.proofs.Parts.Weights.{sequence_not_flat, pairs_not_flat, weighs_more}
+use Rattle.pkjson.proofs.Parts.Weights.{weighs_at_most, by_table}
+use Rattle.pkjson.proofs.Parts.NodesHeld.{held, below, trusted_set, take_more, seam, named_more}
+use Rattle.pkjson.proofs.Parts.NodesHeld.{named_seam, no_member}
 use Rattle.pkjson.proofs.judge.+judging.Goals as goal
 
-pub weigh_node-returns-then-levels-eq0-clause-weight : goal.weigh_node-returns-then-levels-eq0-clause-weight
-weigh_node-returns-then-levels-eq0-clause-weight t c = sequence_not_flat _ c.args.cap _ _ _ (omega arith) (held _ _ _ c.node.ensures.held c.in-List.is)
+pub weigh_node-returns-then-levels-eq0-clause-weight
+    : goal.weigh_node-returns-then-levels-eq0-clause-weight
+weigh_node-returns-then-levels-eq0-clause-weight t c =
+    sequence_not_flat _ c.args.cap _ _ _ (omega arith) (held _ _ _ c.node.ensures.held c.in-List.is)
 
-pub weigh_node-returns-then-levels-eq0-2-clause-weight : goal.weigh_node-returns-then-levels-eq0-2-clause-weight
-weigh_node-returns-then-levels-eq0-2-clause-weight t c = pairs_not_flat _ c.args.cap _ _ _ (omega arith) (held _ _ _ c.node.ensures.held c.in-Dict.is)
+pub weigh_node-returns-then-levels-eq0-2-clause-weight
+    : goal.weigh_node-returns-then-levels-eq0-2-clause-weight
+weigh_node-returns-then-levels-eq0-2-clause-weight t c =
+    pairs_not_flat _ c.args.cap _ _ _ (omega arith) (held _ _ _ c.node.ensures.held c.in-Dict.is)
 
 pub weigh_node-returns-in-Null-clause-weight : goal.weigh_node-returns-in-Null-clause-weight
-weigh_node-returns-in-Null-clause-weight t c = let e = held _ _ _ c.node.ensures.held c.in-Null.is in scalar_weighs _ _ _ _ c.requires.room.some e e refl refl
+weigh_node-returns-in-Null-clause-weight t c = let e = held _ _ _ c.node.ensures.held
+    c.in-Null.is in scalar_weighs _ _ _ _ c.requires.room.some e e refl refl
 
 pub weigh_node-returns-in-Bool-clause-weight : goal.weigh_node-returns-in-Bool-clause-weight
-weigh_node-returns-in-Bool-clause-weight t c = let e = held _ _ _ c.node.ensures.held c.in-Bool.is in scalar_weighs _ _ _ _ c.requires.room.some e e refl refl
+weigh_node-returns-in-Bool-clause-weight t c = let e = held _ _ _ c.node.ensures.held
+    c.in-Bool.is in scalar_weighs _ _ _ _ c.requires.room.some e e refl refl
 
 pub weigh_node-returns-in-Int-clause-weight : goal.weigh_node-returns-in-Int-clause-weight
-weigh_node-returns-in-Int-clause-weight t c = let e = held _ _ _ c.node.ensures.held c.in-Int.is in scalar_weighs _ _ _ _ c.requires.room.some e e refl refl
+weigh_node-returns-in-Int-clause-weight t c = let e = held _ _ _ c.node.ensures.held c.in-Int.is in
+    scalar_weighs _ _ _ _ c.requires.room.some e e refl refl
 
 pub weigh_node-returns-in-Text-clause-weight : goal.weigh_node-returns-in-Text-clause-weight
-weigh_node-returns-in-Text-clause-weight t c = let e = held _ _ _ c.node.ensures.held c.in-Text.is in scalar_weighs _ _ _ _ c.requires.room.some e e refl refl
+weigh_node-returns-in-Text-clause-weight t c = let e = held _ _ _ c.node.ensures.held
+    c.in-Text.is in scalar_weighs _ _ _ _ c.requires.room.some e e refl refl
 
 pub weigh_node-weigh_items-requires : goal.weigh_node-weigh_items-requires
-weigh_node-weigh_items-requires t c = let b = below _ _ _ (c.node.ensures.below c.requires.closed) c.in-List.is in search (rules, b)
+weigh_node-weigh_items-requires t c = let b =
+    below _ _ _ (c.node.ensures.below c.requires.closed) c.in-List.is in search (rules, b)
 
 pub weigh_node-weigh_members-requires : goal.weigh_node-weigh_members-requires
-weigh_node-weigh_members-requires t c = let b = below _ _ _ (c.node.ensures.below c.requires.closed) c.in-Dict.is in search (rules, b)
+weigh_node-weigh_members-requires t c = let b =
+    below _ _ _ (c.node.ensures.below c.requires.closed) c.in-Dict.is in search (rules, b)
 
 pub weigh_node-returns-in-Some-clause-weight : goal.weigh_node-returns-in-Some-clause-weight
-weigh_node-returns-in-Some-clause-weight t c = rw c.raised.ensures (sequence_weighs _ _ _ _ _ (held _ _ _ c.node.ensures.held c.in-List.is) c.in-Some.ensures.weight)
+weigh_node-returns-in-Some-clause-weight t c = rw c.raised.ensures
+    (sequence_weighs _ _ _ _ _ (held _ _ _ c.node.ensures.held c.in-List.is)
+    c.in-Some.ensures.weight)
 
 pub weigh_node-returns-in-None-clause-weight : goal.weigh_node-returns-in-None-clause-weight
-weigh_node-returns-in-None-clause-weight t c = sequence_deeper _ c.args.cap _ _ _ (c.args.levels - 1) (omega arith) (held _ _ _ c.node.ensures.held c.in-List.is) c.in-None.ensures.weight
+weigh_node-returns-in-None-clause-weight t c = sequence_deeper _ c.args.cap _ _ _
+    (c.args.levels - 1) (omega arith) (held _ _ _ c.node.ensures.held c.in-List.is)
+    c.in-None.ensures.weight
 
-pub weigh_node-returns-in-Some-weigh_members-clause-weight : goal.weigh_node-returns-in-Some-weigh_members-clause-weight
-weigh_node-returns-in-Some-weigh_members-clause-weight t c = rw c.raised-in-Some-weigh_members.ensures (pairs_weigh _ _ _ _ _ (held _ _ _ c.node.ensures.held c.in-Dict.is) c.in-Some-weigh_members.ensures.weight)
+pub weigh_node-returns-in-Some-weigh_members-clause-weight
+    : goal.weigh_node-returns-in-Some-weigh_members-clause-weight
+weigh_node-returns-in-Some-weigh_members-clause-weight t c =
+    rw c.raised-in-Some-weigh_members.ensures
+    (pairs_weigh _ _ _ _ _ (held _ _ _ c.node.ensures.held c.in-Dict.is)
+    c.in-Some-weigh_members.ensures.weight)
 
-pub weigh_node-returns-in-None-weigh_members-clause-weight : goal.weigh_node-returns-in-None-weigh_members-clause-weight
-weigh_node-returns-in-None-weigh_members-clause-weight t c = pairs_deeper _ c.args.cap _ _ _ (c.args.levels - 1) (omega arith) (held _ _ _ c.node.ensures.held c.in-Dict.is) c.in-None-weigh_members.ensures.weight
+pub weigh_node-returns-in-None-weigh_members-clause-weight
+    : goal.weigh_node-returns-in-None-weigh_members-clause-weight
+weigh_node-returns-in-None-weigh_members-clause-weight t c = pairs_deeper _ c.args.cap _ _ _
+    (c.args.levels - 1) (omega arith) (held _ _ _ c.node.ensures.held c.in-Dict.is)
+    c.in-None-weigh_members.ensures.weight
 
-pub weigh-returns-then-known-levels-clause-weight : goal.weigh-returns-then-known-levels-clause-weight
-weigh-returns-then-known-levels-clause-weight t c = by_table _ _ c.args.done.now _ c.requires.trusted (omega (arith, c.requires.same, c.requires.place)) (omega (arith, c.if-known-eq0.false))
+pub weigh-returns-then-known-levels-clause-weight
+    : goal.weigh-returns-then-known-levels-clause-weight
+weigh-returns-then-known-levels-clause-weight t c = by_table _ _ c.args.done.now _
+    c.requires.trusted (omega (arith, c.requires.same, c.requires.place))
+    (omega (arith, c.if-known-eq0.false))
 
-pub weigh-returns-then-known-levels-clause-bounds : goal.weigh-returns-then-known-levels-clause-bounds
-weigh-returns-then-known-levels-clause-bounds t c = record { depth = c.if-known-levels.true; count = weighs_at_most _ _ _ _ (by_table _ _ c.args.done.now _ c.requires.trusted (omega (arith, c.requires.same, c.requires.place)) (omega (arith, c.if-known-eq0.false))) }
+pub weigh-returns-then-known-levels-clause-bounds
+    : goal.weigh-returns-then-known-levels-clause-bounds
+weigh-returns-then-known-levels-clause-bounds t c =
+    record {
+      depth = c.if-known-levels.true;
+      count = weighs_at_most _ _ _ _
+          (by_table _ _ c.args.done.now _ c.requires.trusted
+          (omega (arith, c.requires.same, c.requires.place)) (omega (arith, c.if-known-eq0.false)));
+    }
 
-pub weigh-returns-else-known-levels-clause-weight : goal.weigh-returns-else-known-levels-clause-weight
-weigh-returns-else-known-levels-clause-weight t c = weighs_more _ c.args.cap _ _ _ (by_table _ _ c.args.done.now _ c.requires.trusted (omega (arith, c.requires.same, c.requires.place)) (omega (arith, c.if-known-eq0.false))) c.if-known-levels.false
+pub weigh-returns-else-known-levels-clause-weight
+    : goal.weigh-returns-else-known-levels-clause-weight
+weigh-returns-else-known-levels-clause-weight t c = weighs_more _ c.args.cap _ _ _
+    (by_table _ _ c.args.done.now _ c.requires.trusted
+    (omega (arith, c.requires.same, c.requires.place)) (omega (arith, c.if-known-eq0.false)))
+    c.if-known-levels.false
 
 pub weigh-returns-in-Some-clause-trusted : goal.weigh-returns-in-Some-clause-trusted
-weigh-returns-in-Some-clause-trusted t c = trusted_set _ _ _ _ _ (omega (arith, c.weigh_node.auto.done, c.requires.same)) c.in-Some.ensures.trusted c.in-Some.ensures.weight
+weigh-returns-in-Some-clause-trusted t c = trusted_set _ _ _ _ _
+    (omega (arith, c.weigh_node.auto.done, c.requires.same)) c.in-Some.ensures.trusted
+    c.in-Some.ensures.weight
 
 pub weigh_items-loop-item-init : goal.weigh_items-loop-item-init
-weigh_items-loop-item-init t c = record { same = c.requires.same; trusted = c.requires.trusted; depth = omega arith; count = omega arith; sum = no_items_weigh _ _ }
+weigh_items-loop-item-init t c = record {
+  same = c.requires.same;
+  trusted = c.requires.trusted;
+  depth = omega arith;
+  count = omega arith;
+  sum = no_items_weigh _ _;
+}
 
 pub weigh_members-loop-key-init : goal.weigh_members-loop-key-init
-weigh_members-loop-key-init t c = record { same = c.requires.same; trusted = c.requires.trusted; depth = omega arith; count = omega arith; sum = no_members_weigh _ _ }
+weigh_members-loop-key-init t c = record {
+  same = c.requires.same;
+  trusted = c.requires.trusted;
+  depth = omega arith;
+  count = omega arith;
+  sum = no_members_weigh _ _;
+}
 
 pub weigh_items-returns-in-None-clause-weight : goal.weigh_items-returns-in-None-clause-weight
-weigh_items-returns-in-None-clause-weight t c = subst (λ l. AreDeeper (heap c.args.nodes.now) c.args.levels l) (seam c.args.items.now c.loop-item.item-index 0 c.loop-item-test.true) (one_deeper _ c.args.cap _ _ _ _ c.in-None.ensures.weight)
+weigh_items-returns-in-None-clause-weight t c = subst
+    (λ l. AreDeeper (heap c.args.nodes.now) c.args.levels l)
+    (seam c.args.items.now c.loop-item.item-index 0 c.loop-item-test.true)
+    (one_deeper _ c.args.cap _ _ _ _ c.in-None.ensures.weight)
 
 pub weigh_items-loop-item-preserved : goal.weigh_items-loop-item-preserved
 weigh_items-loop-item-preserved t c = record {
   same = c.weigh.auto.done ∙ c.loop-item.invariant.same;
   trusted = c.in-Some.ensures.trusted;
-  depth = rw c.joined-sum.ensures (omega (arith, c.in-Some.ensures.bounds.depth, c.loop-item.invariant.depth));
+  depth = rw c.joined-sum.ensures
+      (omega (arith, c.in-Some.ensures.bounds.depth, c.loop-item.invariant.depth));
   count = rw c.joined-sum.ensures (omega arith);
-  sum = rw (take_more c.args.items.now c.loop-item.item-index 0 c.loop-item-test.true, c.joined-sum.ensures) (one_more _ _ _ _ _ _ c.loop-item.invariant.sum c.in-Some.ensures.weight);
+  sum = rw (
+    take_more c.args.items.now c.loop-item.item-index 0 c.loop-item-test.true,
+    c.joined-sum.ensures,
+  )
+      (one_more _ _ _ _ _ _ c.loop-item.invariant.sum c.in-Some.ensures.weight);
 }
 
 pub weigh_members-returns-in-None-clause-weight : goal.weigh_members-returns-in-None-clause-weight
-weigh_members-returns-in-None-clause-weight t c = subst (λ l. MembersDeeper (heap c.args.nodes.now) c.args.levels l) (named_seam c.args.members.now c.loop-key._key-index no_member c.loop-key-test.true) (member_deeper _ c.args.cap _ _ _ _ _ c.in-None.ensures.weight)
+weigh_members-returns-in-None-clause-weight t c = subst
+    (λ l. MembersDeeper (heap c.args.nodes.now) c.args.levels l)
+    (named_seam c.args.members.now c.loop-key._key-index no_member c.loop-key-test.true)
+    (member_deeper _ c.args.cap _ _ _ _ _ c.in-None.ensures.weight)
 
 pub weigh_members-loop-key-preserved : goal.weigh_members-loop-key-preserved
 weigh_members-loop-key-preserved t c = record {
   same = c.weigh.auto.done ∙ c.loop-key.invariant.same;
   trusted = c.in-Some.ensures.trusted;
-  depth = rw c.joined-sum.ensures (omega (arith, c.in-Some.ensures.bounds.depth, c.loop-key.invariant.depth));
+  depth = rw c.joined-sum.ensures
+      (omega (arith, c.in-Some.ensures.bounds.depth, c.loop-key.invariant.depth));
   count = rw c.joined-sum.ensures (omega arith);
-  sum = rw (named_more c.args.members.now c.loop-key._key-index no_member c.loop-key-test.true, c.joined-sum.ensures) (member_more _ _ _ _ _ _ _ c.loop-key.invariant.sum c.in-Some.ensures.weight);
+  sum = rw (
+    named_more c.args.members.now c.loop-key._key-index no_member c.loop-key-test.true,
+    c.joined-sum.ensures,
+  )
+      (member_more _ _ _ _ _ _ _ c.loop-key.invariant.sum c.in-Some.ensures.weight);
 }

@@ -6,4 +6,6 @@ use Rattle.pkjson.proofs.moves.pop.Goals as goal
 pub returns-clause-ok : goal.returns-clause-ok
 returns-clause-ok c =
     let e : c.len-count.result ≡ length c.args.stack.now.items = omega arith in
-    rw (c.truncate.ensures.items, e) (popped_last c.args.stack.now.items (omega arith) (shape_seen c.args.stack.now.items c.args.memo.now))
+    rw (c.truncate.ensures.items, e)
+    (popped_last c.args.stack.now.items (omega arith)
+    (shape_seen c.args.stack.now.items c.args.memo.now))

@@ -4,4 +4,5 @@ use Rattle.pkjson.specs.Private.Seen.{kept_all}
 use Rattle.pkjson.proofs.ranks.places_of.Given as goal
 
 abbrev pub invariant-loop-number : goal.invariant-loop-number
-invariant-loop-number l = (length l.places.items ≡ l.number) × ArePlaces l.texts (kept_all l.objects) l.places.items
+invariant-loop-number l = (length l.places.items ≡ l.number)
+    × ArePlaces l.texts (kept_all l.objects) l.places.items

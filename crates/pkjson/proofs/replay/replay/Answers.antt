@@ -11,7 +11,8 @@ use Rattle.pkjson.specs.Private.Replayed.{Replays}
 use Rattle.pkjson.specs.Private.Seen.{kept_all}
 use Rattle.pkjson.specs.Private.Standing.{Stands}
 use Rattle.pkjson.proofs.Entries.{all_after}
-use Rattle.pkjson.proofs.Runs.NextInstruction.{a_front, entries_there, no_front, within, some, other, faults, never_lacks, never_empty, ends, on}
+use Rattle.pkjson.proofs.Runs.NextInstruction.{a_front, entries_there, no_front, within, some}
+use Rattle.pkjson.proofs.Runs.NextInstruction.{other, faults, never_lacks, never_empty, ends, on}
 use Rattle.pkjson.proofs.Runs.RunToStop.{stands_first}
 use Rattle.pkjson.proofs.replay.replay.Goals as goal
 
@@ -56,8 +57,10 @@ unreachable-requires-in_default-top c = never_empty c.args.limits.now c.args.byt
     c.in-Some-plain_action.ensures.acts) c.in_default-top.ensures
 
 pub returns-in-Stops-clause-ok : goal.returns-in-Stops-clause-ok
-returns-in-Stops-clause-ok c = subst (λ v. Replays c.args.limits.now c.args.bytes.now (kept_all v.items)
-    c.in-Some-top.place) (sym c.into_objects.ensures) (ends c.args.limits.now c.args.bytes.now c.instructions.rest.now
+returns-in-Stops-clause-ok c =
+    subst (λ v. Replays c.args.limits.now c.args.bytes.now (kept_all v.items)
+    c.in-Some-top.place) (sym c.into_objects.ensures)
+    (ends c.args.limits.now c.args.bytes.now c.instructions.rest.now
     (length c.args.bytes.now - length c.instructions.rest.now) c.instructions.arena c.requires
     c.instructions.invariant.1 c.in-Some.inst c.in-Some.length
     (subst (λ o. IsFront c.args.limits.now.counted c.instructions.rest.now o) c.in-Some.is
@@ -66,7 +69,9 @@ returns-in-Stops-clause-ok c = subst (λ v. Replays c.args.limits.now c.args.byt
     c.in-Some-plain_action.ensures.acts) c.in-Some-top.place _ c.in-Some-top.ensures)
 
 pub act-requires : goal.act-requires
-act-requires c = entries_there c.args.limits.now c.args.bytes.now c.instructions.rest.now (length c.args.bytes.now - length c.instructions.rest.now) c.instructions.arena c.requires c.instructions.invariant.1
+act-requires c = entries_there c.args.limits.now c.args.bytes.now c.instructions.rest.now
+    (length c.args.bytes.now - length c.instructions.rest.now) c.instructions.arena c.requires
+    c.instructions.invariant.1
 
 pub returns-in-Err-OtherKey : goal.returns-in-Err-OtherKey
 returns-in-Err-OtherKey c = record {
@@ -145,7 +150,9 @@ instructions-preserved c =
     let e = all_after c.instructions.rest.now c.in-Some.length in
     let i = c.instructions.invariant.0 in
     let d = length-drop c.in-Some.length c.instructions.rest.now in
-    let s : length c.args.bytes.now - length c.instructions.rest.now + c.in-Some.length ≡ length c.args.bytes.now - length (drop c.in-Some.length c.instructions.rest.now) = omega (arith, l, i, d) in
+    let s : length c.args.bytes.now - length c.instructions.rest.now + c.in-Some.length
+    ≡ length c.args.bytes.now - length (drop c.in-Some.length c.instructions.rest.now) =
+    omega (arith, l, i, d) in
     let f = ap length e in (
       omega (arith, l, i, d, f),
       λ p w. subst (λ r. Stands c.args.limits.now.counted p r

@@ -6,7 +6,9 @@ use Rattle.pkjson.specs.Private.Standing.{Stands}
 use Rattle.pkjson.proofs.replay.replay.Given as goal
 
 abbrev pub invariant-instructions : goal.invariant-instructions
-invariant-instructions l = (length l.rest ≤ length l.bytes) × ((p : List Instruction) → AcceptedAs l.limits l.bytes p → Stands l.limits.counted p l.rest (length l.bytes - length l.rest) (parts l.arena))
+invariant-instructions l = (length l.rest ≤ length l.bytes)
+    × ((p : List Instruction) → AcceptedAs l.limits l.bytes p
+    → Stands l.limits.counted p l.rest (length l.bytes - length l.rest) (parts l.arena))
 
 abbrev pub decreases-instructions : goal.decreases-instructions
 decreases-instructions l = length l.rest

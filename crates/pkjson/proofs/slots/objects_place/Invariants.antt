@@ -4,4 +4,6 @@ use Rattle.pkcheck.specs.Shape.{items}
 use Rattle.pkjson.proofs.slots.objects_place.Given as goal
 
 abbrev pub invariant-loop-k : goal.invariant-loop-k
-invariant-loop-k l = (l.place ≤ length l.slots) × (items l.count (seen_entries l.slots []) [] ≡ items (l.count - l._k) (seen_entries (take l.place l.slots) []) (numbers_of (drop l.place l.slots)))
+invariant-loop-k l = (l.place ≤ length l.slots)
+    × (items l.count (seen_entries l.slots []) [] ≡ items (l.count - l._k)
+    (seen_entries (take l.place l.slots) []) (numbers_of (drop l.place l.slots)))

@@ -7,7 +7,8 @@ use Rattle.pkjson.specs.Private.Arena.{kind_at}
 use Rattle.pkjson.specs.Contents.{paired, standing}
 use Rattle.pkjson.specs.Private.Nodes.{named_members}
 use Rattle.pkjson.specs.Private.Seen.{kept_all}
-use Rattle.pkjson.proofs.DictKeys.SettledMembers.{insert_named, insert_below, two_more, none_left, ascending_found}
+use Rattle.pkjson.proofs.DictKeys.SettledMembers.{insert_named, insert_below, two_more, none_left}
+use Rattle.pkjson.proofs.DictKeys.SettledMembers.{ascending_found}
 use Rattle.pkjson.proofs.standing.standing_pairs.Goals as goal
 
 pub loop-index-preserved : goal.loop-index-preserved
@@ -16,9 +17,11 @@ loop-index-preserved c = (
   c.loop-index.invariant.1 ∙ ap
       (standing (named_members c.loop-index.pairs.entries)) (two_more
       (kind_at (kept_all c.args.objects.now)) c.args.given.now c.loop-index.index
-      c.loop-index-test.true) ∙ ap (λ es. standing es (paired (kind_at (kept_all c.args.objects.now))
+      c.loop-index-test.true)
+      ∙ ap (λ es. standing es (paired (kind_at (kept_all c.args.objects.now))
       (drop (c.loop-index.index + 2) c.args.given.now)))
-      (sym (ap named_members c.in_ok-insert.ensures.entries ∙ insert_named c.loop-index.pairs.entries
+      (sym (ap named_members c.in_ok-insert.ensures.entries
+      ∙ insert_named c.loop-index.pairs.entries
       c.text_at.result (get_or c.args.given.now (c.loop-index.index + 1) 0) ∙ ap
       (λ k. insert_entry (slice_cmp nat_cmp) (named_members c.loop-index.pairs.entries) k
       (get_or c.args.given.now (c.loop-index.index + 1) 0)) c.text_at.ensures)),
@@ -31,4 +34,7 @@ loop-index-preserved c = (
 )
 
 pub returns-clause-pairs : goal.returns-clause-pairs
-returns-clause-pairs c = sym (c.loop-index.invariant.1 ∙ ap (standing (named_members c.loop-index.pairs.entries)) (none_left (kind_at (kept_all c.args.objects.now)) c.args.given.now c.loop-index.index c.loop-index-test.false))
+returns-clause-pairs c =
+    sym (c.loop-index.invariant.1 ∙ ap (standing (named_members c.loop-index.pairs.entries))
+    (none_left (kind_at (kept_all c.args.objects.now)) c.args.given.now c.loop-index.index
+    c.loop-index-test.false))

@@ -13,7 +13,9 @@ abbrev pub decreases-send_members : goal.decreases-send_members
 decreases-send_members g l = 2 * l.levels + 1
 
 abbrev pub invariant-send_items-loop-item : goal.invariant-send_items-loop-item
-invariant-send_items-loop-item g l = ItemsSoFar (heap l.nodes) l.items l.item-index (g.S.Serializer.written l.initial.out) (g.S.Serializer.written l.out)
+invariant-send_items-loop-item g l = ItemsSoFar (heap l.nodes) l.items l.item-index
+    (g.S.Serializer.written l.initial.out) (g.S.Serializer.written l.out)
 
 abbrev pub invariant-send_members-loop-key : goal.invariant-send_members-loop-key
-invariant-send_members-loop-key g l = MembersSoFar (heap l.nodes) l.members l.key-index (g.S.Serializer.written l.initial.out) (g.S.Serializer.written l.out)
+invariant-send_members-loop-key g l = MembersSoFar (heap l.nodes) l.members l.key-index
+    (g.S.Serializer.written l.initial.out) (g.S.Serializer.written l.out)

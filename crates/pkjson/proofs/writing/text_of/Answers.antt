@@ -3,4 +3,5 @@ use Rattle.pkjson.proofs.Parts.Sent.{compact}
 use Rattle.pkjson.proofs.writing.text_of.Goals as goal
 
 pub returns : goal.returns
-returns c = IfOk-weaker c.to_vec.result _ _ (λ text sent. compact c.args.nodes.now c.args.place text.items sent) c.to_vec.ensures.events
+returns c = IfOk-weaker c.to_vec.result _ _
+    (λ text sent. compact c.args.nodes.now c.args.place text.items sent) c.to_vec.ensures.events

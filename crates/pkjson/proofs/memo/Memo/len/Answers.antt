@@ -6,5 +6,7 @@ use Rattle.pkjson.proofs.memo.Memo.len.Goals as goal
 pub returns : goal.returns
 returns c =
     let h = length_cells c.self.inside.ordered.items c.self.inside.rest.entries in
-    let g : c.len.result + c.len-2.result ≡ length (numbered_cells 0 c.self.inside.ordered.items ++ c.self.inside.rest.entries) = omega (arith, h, c.len.ensures, c.len-2.ensures.len) in
+    let g : c.len.result + c.len-2.result ≡ length
+    (numbered_cells 0 c.self.inside.ordered.items ++ c.self.inside.rest.entries) =
+    omega (arith, h, c.len.ensures, c.len-2.ensures.len) in
     rw (← c.self.view_is) g

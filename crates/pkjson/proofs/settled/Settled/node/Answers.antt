@@ -8,7 +8,9 @@ pub returns : goal.returns
 returns c =
     let o = c.index-objects-number.result in
     let n = c.node_of.result in
-    let p = c.place_at-place.ensures ∙ ap (λ ps. slice_index ps c.args.number) c.deref.ensures.value in
+    let p = c.place_at-place.ensures ∙ ap (λ ps. slice_index ps c.args.number)
+    c.deref.ensures.value in
     let w = subst (λ x. Shows (node_of c.deref-2.result.now x o) n) p c.node_of.ensures in
     node_there c.args.self.now c.args.number o n c.requires c.index-objects-number.is
-    (subst (λ ds. Shows (node_of ds (slice_index c.args.self.now.places.items c.args.number) o) n) c.deref-2.ensures.value w)
+    (subst (λ ds. Shows (node_of ds (slice_index c.args.self.now.places.items c.args.number) o) n)
+    c.deref-2.ensures.value w)
