@@ -10,7 +10,8 @@ use Rattle.pkguard.specs.Listed.{pairs_at}
 -- `os.system` and an import that isn't known
 pair_encoded :
     encoded_all (AskedPair (codes "os") (codes "system") ∷ [])
-    ≡ (2 ∷ 0 ∷ 0 ∷ 0 ∷ 0 ∷ 0 ∷ 0 ∷ 0 ∷ []) ++ codes "os" ++ (6 ∷ 0 ∷ 0 ∷ 0 ∷ 0 ∷ 0 ∷ 0 ∷ 0 ∷ []) ++ codes "system"
+    ≡ (2 ∷ 0 ∷ 0 ∷ 0 ∷ 0 ∷ 0 ∷ 0 ∷ 0 ∷ []) ++ codes "os" ++ (6 ∷ 0 ∷ 0 ∷ 0 ∷ 0 ∷ 0 ∷ 0 ∷ 0 ∷ [])
+    ++ codes "system"
 pair_encoded = refl
 
 unknown_encoded : encoded_all (AskedUnknown ∷ []) ≡ replicate 16 255
@@ -21,7 +22,9 @@ both_wanted = refl
 
 -- the names of a module stand in the order of its array, a name twice where it is there twice
 module_listed :
-    pairs_at (member (codes "a") (array (item (string (codes "c")) (item (string (codes "b")) no_items))) (member (codes "d") (array no_items) no_members))
+    pairs_at
+    (member (codes "a") (array (item (string (codes "c")) (item (string (codes "b")) no_items)))
+    (member (codes "d") (array no_items) no_members))
     ≡ AskedPair (codes "a") (codes "c") ∷ AskedPair (codes "a") (codes "b") ∷ []
 module_listed = refl
 

@@ -5,5 +5,6 @@ use Rattle.pkguard.proofs.encoding.put_imports.Goals as goal
 
 pub loop-number-preserved : goal.loop-number-preserved
 loop-number-preserved c =
-    rw (flat_map_next encoded c.args.imports.now c.loop-number.number (import_shown c.in-Some.import) c.in-Some.ensures)
+    rw (flat_map_next encoded c.args.imports.now c.loop-number.number
+    (import_shown c.in-Some.import) c.in-Some.ensures)
     (c.put_import-next.ensures _ c.args.room.now c.loop-number.invariant)

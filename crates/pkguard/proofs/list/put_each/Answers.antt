@@ -11,8 +11,11 @@ loop-name-preserved c =
     let m = c.args.module_name.now in
     let (done, left, written) = c.loop-name.invariant in (
       done ++ encoded_all (pair_in m (view c.name-item.result)),
-      each_step m c.args.names.now.items c.loop-name.name-index c.name-item.result c.name-item.result done _
-          (rw c.deref-name-items.ensures.value at c.loop-name-test.true) (sym (rw c.deref-name-items.ensures.value at c.name-item.is)) left,
-      λ front before h. written_both front done (encoded_all (pair_in m (view c.name-item.result))) before _ _
+      each_step m c.args.names.now.items c.loop-name.name-index c.name-item.result
+          c.name-item.result done _
+          (rw c.deref-name-items.ensures.value at c.loop-name-test.true)
+          (sym (rw c.deref-name-items.ensures.value at c.name-item.is)) left,
+      λ front before h. written_both front done (encoded_all (pair_in m (view c.name-item.result)))
+          before _ _
           (c.put_name-next.ensures (front ++ done) before (written front before h)),
     )

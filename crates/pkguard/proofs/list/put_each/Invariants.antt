@@ -8,5 +8,8 @@ use Rattle.pkguard.proofs.list.put_each.Given as goal
 abbrev pub invariant-loop-name : goal.invariant-loop-name
 invariant-loop-name l =
     (done : List ℕ)
-    × (done ++ encoded_all (pairs_among l.module_name (items_view (drop l.name-index l.names.items))) ≡ encoded_all (pairs_among l.module_name (items_view l.names.items)))
-    × ((front before : List ℕ) → IsWritten front before l.initial.room l.initial.at → IsWritten (front ++ done) before l.room l.next)
+    × (done ++ encoded_all
+    (pairs_among l.module_name (items_view (drop l.name-index l.names.items)))
+    ≡ encoded_all (pairs_among l.module_name (items_view l.names.items)))
+    × ((front before : List ℕ) → IsWritten front before l.initial.room l.initial.at
+    → IsWritten (front ++ done) before l.room l.next)

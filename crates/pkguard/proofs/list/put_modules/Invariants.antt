@@ -8,5 +8,6 @@ use Rattle.pkguard.proofs.list.put_modules.Given as goal
 abbrev pub invariant-loop-module_name : goal.invariant-loop-module_name
 invariant-loop-module_name l =
     (done : List ℕ)
-    × (done ++ encoded_all (pairs_at (members_view l.module_name-iterator)) ≡ encoded_all (pairs_at (table_view l.modules)))
+    × (done ++ encoded_all (pairs_at (members_view l.module_name-iterator))
+    ≡ encoded_all (pairs_at (table_view l.modules)))
     × IsWritten done l.initial.room l.room l.next
