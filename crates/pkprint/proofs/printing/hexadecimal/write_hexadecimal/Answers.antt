@@ -13,6 +13,7 @@ loop-rest-preserved g c =
     let (done, cut, so_far) = c.loop-rest.invariant in
     let chunk = c.split_at.result.0.now in (
       done ++ chunk,
-      cut ∙ ap (λ (xs : List ℕ). done ++ xs) c.split_at.ensures.by_index.0 ∙ sym (append_assoc done chunk _),
+      cut ∙ ap (λ (xs : List ℕ). done ++ xs) c.split_at.ensures.by_index.0
+          ∙ sym (append_assoc done chunk _),
       rw encode_with-append (appends_then _ _ _ _ _ so_far c.in_ok-write_chunk.ensures),
     )

@@ -5,7 +5,8 @@ use Rattle.pkprint.proofs.printing.hexadecimal.write_hexadecimal.Given as goal
 
 abbrev pub invariant-loop-rest : goal.invariant-loop-rest
 invariant-loop-rest g l =
-    (done : List ℕ) × (l.bytes ≡ done ++ l.rest) × Appends (g.W.Write.contents l.initial.out) (g.W.Write.contents l.out) (encode_lower done)
+    (done : List ℕ) × (l.bytes ≡ done ++ l.rest)
+    × Appends (g.W.Write.contents l.initial.out) (g.W.Write.contents l.out) (encode_lower done)
 
 abbrev pub decreases-loop-rest : goal.decreases-loop-rest
 decreases-loop-rest g l = length l.rest

@@ -6,4 +6,5 @@ use Rattle.pkprint.proofs.printing.imports.write_each.Given as goal
 
 abbrev pub invariant-loop-number : goal.invariant-loop-number
 invariant-loop-number g l =
-    Appends (g.W.Write.contents l.initial.out) (g.W.Write.contents l.out) (flat_map import_line (take l.number l.imports))
+    Appends (g.W.Write.contents l.initial.out) (g.W.Write.contents l.out)
+    (flat_map import_line (take l.number l.imports))

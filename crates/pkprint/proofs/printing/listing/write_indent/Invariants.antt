@@ -3,4 +3,5 @@ use Rattle.pkprint.specs.Listing.{indent}
 use Rattle.pkprint.proofs.printing.listing.write_indent.Given as goal
 
 abbrev pub invariant-loop-mark : goal.invariant-loop-mark
-invariant-loop-mark g l = Appends (g.W.Write.contents l.initial.out) (g.W.Write.contents l.out) (indent l._mark)
+invariant-loop-mark g l = Appends (g.W.Write.contents l.initial.out) (g.W.Write.contents l.out)
+    (indent l._mark)

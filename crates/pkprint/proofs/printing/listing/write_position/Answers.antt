@@ -2,4 +2,5 @@ use Rattle.pkprint.proofs.Positions.{position_text-is}
 use Rattle.pkprint.proofs.printing.listing.write_position.Goals as goal
 
 pub returns : goal.returns
-returns g c = let e = c.laid_out.ensures in let h = rw e at c.write.ensures.bytes in rw (← position_text-is c.args.at) h
+returns g c = let e = c.laid_out.ensures in let h = rw e at c.write.ensures.bytes in
+    rw (← position_text-is c.args.at) h
