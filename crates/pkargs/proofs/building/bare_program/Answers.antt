@@ -15,5 +15,7 @@ helpless = on_top (λ (s : Shape). record s { disable_help_subcommand = true })
 pub returns : goal.returns
 returns c =
     let named = ap app_of_fields c.about.ensures ∙ c.new.ensures.app in
-    let told = ap app_of_fields c.after_help.ensures ∙ ap app_of_fields c.version.ensures ∙ ap versioned named in
-    ap app_of_fields c.disable_help_subcommand.ensures ∙ ap helpless (ap app_of_fields c.subcommand_required.ensures ∙ ap needy told)
+    let told = ap app_of_fields c.after_help.ensures ∙ ap app_of_fields c.version.ensures
+    ∙ ap versioned named in
+    ap app_of_fields c.disable_help_subcommand.ensures
+    ∙ ap helpless (ap app_of_fields c.subcommand_required.ensures ∙ ap needy told)
