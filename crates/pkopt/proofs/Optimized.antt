@@ -164,8 +164,8 @@ checks_memory limits bytes left rest taken imports e h =
       taken = taken;
       imports = imports;
       accepted = subst
-          (λ b. Accepted Unknown None (holding_all limits) (in_memory b) (in_memory rest)
-          taken imports) e h;
+          (λ b. Accepted Unknown None (holding_all limits) (in_memory b) (in_memory rest) taken
+          imports) e h;
     }
 
 pub fails_memory : (limits : Bounds) (bytes left rest : List ℕ) (refusal : Refusal)
@@ -270,8 +270,7 @@ module _ (limits : Bounds) (bytes : List ℕ) (x : Traced) (plan : Plan) (t : Is
         checks = t.checks;
         before = past.before;
         past = subst (λ m. IsPastLimit m (pickle t.checks) past.before) same past.past;
-        place =
-            past.place;
+        place = past.place;
         reason = why;
       }))
 

@@ -56,8 +56,7 @@ framed_last before p after h = record {
   whole =
       elim h.whole [
         | inl g ↦ inl g
-        | inr g ↦ inr
-            (λ c has. g c (contents_front 0 before p after c has))
+        | inr g ↦ inr (λ c has. g c (contents_front 0 before p after c has))
       ];
   frame = λ f c has. h.frame f c (contents_front 0 before p after c has);
   stop = h.stop;
@@ -199,8 +198,7 @@ module _ (p front : List Instruction) (j : Instruction) (c : Counterpart p front
         o,
         (gets.0, l.1),
         tt,
-        subst (λ s. AsksFor module_name name s (step j s o))
-            (with_its_memo l.0 t l.2) there,
+        subst (λ s. AsksFor module_name name s (step j s o)) (with_its_memo l.0 t l.2) there,
       )
 
 -- ---- each fault
@@ -230,8 +228,7 @@ module _ (p q : List Instruction) (framed : Framed (map piece_of q)) (list : Lis
       let qs = outcomes_after (effect_asks (effect_of j.op)) t.0 in (
         first_outcome t.0,
         run back qs,
-        subst (EndsWell list) (ap (λ x. run x os start) parts ∙ t.1)
-            (sound os),
+        subst (EndsWell list) (ap (λ x. run x os start) parts ∙ t.1) (sound os),
       )
 
   never : (P : State → Type 0)

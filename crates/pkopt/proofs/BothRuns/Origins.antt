@@ -43,8 +43,7 @@ module _ (vs : List (Option ℕ)) where
   fetched_left (Some w) i j e q =
       let n = new_number vs w in (
         Fetches,
-        ap (λ k. effect_of k.op) (sym (same_one (renumbered n i) j q)) ∙ form_effect i.op n
-            ∙ e,
+        ap (λ k. effect_of k.op) (sym (same_one (renumbered n i) j q)) ∙ form_effect i.op n ∙ e,
       )
   fetched_left None i j e q = (Fetches, ap (λ k. effect_of k.op) (sym (same_one i j q)) ∙ e)
 

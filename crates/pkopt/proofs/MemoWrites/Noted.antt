@@ -30,8 +30,7 @@ in_or_out first row n = elim (is_below n first (ltb n first) refl) [
   | inl h ↦ inr (inl h)
   | inr h ↦
       elim (is_below n (first + length row) (ltb n (first + length row)) refl) [
-        | inl g ↦ inl
-            (h, g)
+        | inl g ↦ inl (h, g)
         | inr g ↦ inr (inr g)
       ]
 ]
@@ -121,8 +120,7 @@ module _ (ws : Writes) (first : ℕ) (row : List ℕ) (rest : List (ℕ × ℕ))
                   ∙ sym (outside first (row ++ w ∷ []) rest k
                   (elim q [
                     | inl g ↦ inl g
-                    | inr g ↦ inr
-                        (omega (arith, g, ne, low, next, size))
+                    | inr g ↦ inr (omega (arith, g, ne, low, next, size))
                   ]))
             ]);
         count = ap (λ o. more_if_none o (different ws)) had ∙ omega (arith, c, size);

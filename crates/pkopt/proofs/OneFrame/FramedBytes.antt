@@ -113,8 +113,7 @@ two_bytes : (a : Argument) → Suits layout.U1 a
 two_bytes Nothing h = absurd h
 two_bytes (Number w n) h = (
   get_or (laid layout.U1 (Number 1 n)) 0 0,
-  ap
-      (λ w. code_of op.Proto ∷ laid layout.U1 (Number w n)) h.0,
+  ap (λ w. code_of op.Proto ∷ laid layout.U1 (Number w n)) h.0,
 )
 two_bytes (Signed z) h = absurd h
 two_bytes (Float b) h = absurd h

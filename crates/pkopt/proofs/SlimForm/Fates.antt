@@ -135,8 +135,7 @@ module _ (vs : List (Option ℕ)) (total limit : ℕ) (numbers : List (Option �
             (omega arith, r, q.1)
         | inr q ↦ subst (λ c. RightFor (Moves move.StoresNext) (cond c IsPast Stays)) (sym q.0) (
           λ old new spelled s g. kept i r old new (g ∙ ap (λ (l : List ℕ). old ++ l) s),
-          let step =
-              new_step vs (length ws) true r in let ne = q.1 in omega (arith, step, le, ne),
+          let step = new_step vs (length ws) true r in let ne = q.1 in omega (arith, step, le, ne),
         )
       ])
 
