@@ -23,10 +23,8 @@ use Rattle.pkops.specs.Spelling.{Argument, Counted, Float, IsLine, Line, Nothing
 use Rattle.pkops.specs.Spelling.{Signed, Suits, count_limit, instruction, layout_at, line_feed}
 use Rattle.pkops.specs.Spelling.{size_of}
 use Rattle.pkops.specs.Table.{code_of}
-use Rattle.pkops.specs.declared.Layout.{Layout}
 use Rattle.pkops.specs.declared.Layout.TheVariants as layout
 use Rattle.pkops.specs.declared.Width.{Width}
-use Rattle.pkops.specs.declared.Width.TheVariants as width
 use Rattle.pkops.specs.declared.Op.{Op}
 use Rattle.pkops.specs.declared.Op.TheVariants as op
 use Rattle.pkread.proofs.Bytes.Lengths.{field_few, is_few}
