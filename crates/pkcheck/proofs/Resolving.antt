@@ -130,8 +130,7 @@ module _ (ts : List (List ℕ)) where
           moved_seen m n h a k is,
           elim past [
             | inl g ↦ inl (rw p g)
-            | inr g ↦ inr
-                (elim g [ inl f ↦ inl (rw q f) | inr f ↦ inr f ])
+            | inr g ↦ inr (elim g [ inl f ↦ inl (rw q f) | inr f ↦ inr f ])
           ],
         ),
       ))
@@ -291,8 +290,7 @@ module _ (ts : List (List ℕ)) (t : List ℕ) (es : List (Entry Value))
       (Item (Some (Text t)) ∷ seen ts es)
   text_on = (
     stands_new ts t,
-    sees_grown ts (ts ++ t ∷ []) (record { more = t ∷ []; is = refl }) es
-        (seen ts es) h,
+    sees_grown ts (ts ++ t ∷ []) (record { more = t ∷ []; is = refl }) es (seen ts es) h,
   )
 
   pub text_seen : seen (ts ++ t ∷ []) (Item (value.Text (length ts)) ∷ es) ≡ Item (Some (Text t))

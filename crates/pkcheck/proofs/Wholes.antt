@@ -13,7 +13,7 @@ pub mod Refusals
 pub mod Checked
 pub mod Hearing
 pub mod AnotherPickle
-pub mod LeftToDo
+pub mod WorkLeft
 pub mod RowOfPickles
 pub mod Exclusive
 pub mod EachSetting

@@ -5,6 +5,6 @@ pub mod LineEnds
 pub mod Lines
 pub mod LinePairs
 pub mod Payloads
-pub mod Wrapped
+pub mod WrappedReaders
 pub mod Arguments
 pub mod Scans

@@ -23,8 +23,8 @@ use Rattle.pkcheck.specs.Knowledge.{argument_asked, Known, Knowledge, Policy, As
 use Rattle.pkcheck.specs.Knowledge.{AskedUnknown, Progress, Refusal, Lacks, WrongClass, NotText}
 use Rattle.pkcheck.specs.Knowledge.{UnknownImport, OffList, LeftOver, NotAscii, TooLarge}
 use Rattle.pkcheck.specs.Knowledge.{wrong_receiver, permitted, unknown_pair, text_fault}
-use Rattle.pkcheck.specs.Knowledge.{operands_asked, asked_of, left_over, move_learned, stop_learned}
-use Rattle.pkcheck.specs.Knowledge.{operate_learned, learn}
+use Rattle.pkcheck.specs.Knowledge.{operands_asked, asked_of, left_over, move_learned}
+use Rattle.pkcheck.specs.Knowledge.{stop_learned, operate_learned, learn}
 use Rattle.pkcheck.specs.Covers.{Pointwise, Alike}
 use Rattle.pkcheck.proofs.Covering.CoversBy.{TrueBy, CoversBy, Choose, OutcomeHolds, IsAnswer}
 use Rattle.pkcheck.specs.Faults.{AsksFor}
@@ -36,6 +36,11 @@ use Rattle.pkcheck.proofs.Covering.Refusing.{operate_asks}
 -- the object with this number was answered and is this text
 abbrev pub Answered : List ℕ → List Object → ℕ → Type 0
 Answered v = IsAnswer (Text v)
+
+-- a text that an operation may answer
+pub record Word : Type 0 where
+  pub text : List ℕ
+  pub utf8 : IsUtf8 text
 
 abbrev pub guess : List ℕ → Known → List ℕ
 guess v (Some (Text m)) = m
@@ -82,7 +87,8 @@ module _ (v : List ℕ) where
   new_text s = Go (length s.objects) (Text v)
 
   pub new_text_holds : (s : State) → OutcomeHolds (Answered v) s.objects (new_text s)
-  new_text_holds s = subst (λ b. Choose b (Answered v s.objects (length s.objects))
+  new_text_holds s = subst
+      (λ b. Choose b (Answered v s.objects (length s.objects))
       (Answered v (s.objects ++ record { class_of = Text v; made = false } ∷ [])
       (length s.objects))) (sym (le-ltb (length s.objects) (length s.objects) (omega arith)))
       (new_at s.objects _)
@@ -120,8 +126,7 @@ module _ (v : List ℕ) where
   permitted_exactly (Some list) j k a b nm e =
       elim (list a b) as (λ t. TwoExactly j k nm
       (cond t (Ok (Some (AskedPair a b))) (Err (OffList a b)))) [
-        | true ↦
-            (named_is nm a b e, λ h. cc)
+        | true ↦ (named_is nm a b e, λ h. cc)
         | false ↦ tt
       ]
 
@@ -227,9 +232,7 @@ module _ (v : List ℕ) where
         → AsksGuess v (Operates takes names gives) k s (operated nm gives i u o s)
     asks_guess t u nm o e g =
         let known : known_pair (Operates takes names gives) k ≡ Some (g.0, g.1) =
-        ap
-        (λ r.
-        elim r as (λ _. Option (Known × Known)) [
+        ap (λ r. elim r as (λ _. Option (Known × Known)) [
           | Ok t ↦ of_two t.operands None (λ a b. Some (a, b))
           | Err b ↦ None
         ]) e
@@ -345,8 +348,7 @@ module _ (v : List ℕ) where
     entries = [];
     memo = [];
     alike = record { entries = tt; memo = tt };
-    real =
-        λ u. All-nil (λ o. o.made ≡ false → CanBe o.class_of);
+    real = λ u. All-nil (λ o. o.made ≡ false → CanBe o.class_of);
   }
   make [] ((n, k) ∷ ms) =
       let m = make [] ms in
@@ -373,9 +375,8 @@ module _ (v : List ℕ) where
         objects = m.objects ++ row_of k ∷ [];
         entries = Item (length m.objects) ∷ m.entries;
         memo = m.memo;
-        alike = push_alike (Answered v) grows m.objects
-            (row_of k) k es m.entries ms m.memo (row_tells m.objects k)
-            m.alike.entries m.alike.memo;
+        alike = push_alike (Answered v) grows m.objects (row_of k) k es m.entries ms m.memo
+            (row_tells m.objects k) m.alike.entries m.alike.memo;
         real = λ u. one_more m.objects k u (m.real u);
       }
 

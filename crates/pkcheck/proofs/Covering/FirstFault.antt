@@ -15,8 +15,7 @@ use Rattle.pkcheck.specs.Knowledge.{TooLarge, reason_of, learn, within, advance}
 use Rattle.pkcheck.specs.Faults.{Arrivals, everyone, IsOff, AsksOtherThan, AsksForTwo, AsksOffList}
 use Rattle.pkcheck.specs.Faults.{HasFaultHere, rank, IsPairOf, IsFirstFault, HasNoFault}
 use Rattle.pkcheck.specs.View.{off_pair}
-use Rattle.pkcheck.proofs.Covering.Answering.{guess, AsksGuess, Exactly}
-use Rattle.pkcheck.proofs.Covering.Words.{Word, empty, longer}
+use Rattle.pkcheck.proofs.Covering.Answering.{Word, guess, AsksGuess, Exactly}
 use Rattle.pkcheck.proofs.Covering.Soundness.{PassesListed, learn_listed}
 use Rattle.pkcheck.proofs.Covering.Showing.{IsLonger, turn, same_refusal, longer_differs, within_ok}
 use Rattle.pkcheck.proofs.Covering.StepImports.{asked_listed, off_is_out, same_of}
@@ -25,6 +24,7 @@ use Rattle.pkcheck.proofs.Covering.Standing.{two_guesses, off_list, has_fault, R
 use Rattle.pkcheck.proofs.Covering.Standing.{follows_ok, lacks_refused, wrong_refused, text_refused}
 use Rattle.pkcheck.proofs.Covering.Standing.{off_refused_by, unknown_refused_by, left_refused}
 use Rattle.pkcheck.proofs.Covering.Standing.{raise_refused, large_refused}
+use Rattle.pkcheck.proofs.Covering.Words.{empty, longer}
 
 -- a pair off the list is refused
 module _ (p : Policy) (l : Bounds) (i : Instruction) (k : Knowledge) (Here : Arrivals)
@@ -156,6 +156,5 @@ module _ (p : Policy) (l : Bounds) (i : Instruction) (k : Knowledge) (Here : Arr
       let b = asks_guess (longer empty) q e u (learn p (effect_as Here.setting i) i k) refl e in (
         guess [] a.0,
         guess [] a.1,
-        two_guesses p l i k Here h empty (longer empty)
-            (longer_differs []) a b,
+        two_guesses p l i k Here h empty (longer empty) (longer_differs []) a b,
       )

@@ -23,10 +23,11 @@ use Rattle.pkcheck.specs.Runs.{NoImport, Pair, NotTexts, class_at, texts_named, 
 use Rattle.pkcheck.specs.Runs.{given, come_of, operated, move_step, stop_step, operate_step}
 use Rattle.pkcheck.specs.Runs.{perform, step_as}
 use Rattle.pkcheck.specs.Knowledge.{argument_asked, Known, Knowledge, Policy, Asked, AskedPair}
-use Rattle.pkcheck.specs.Knowledge.{AskedUnknown, Progress, Refusal, WrongClass, OffList, TooLarge}
-use Rattle.pkcheck.specs.Knowledge.{wrong_receiver, permitted, unknown_pair, operands_asked}
-use Rattle.pkcheck.specs.Knowledge.{asked_of, known_given, is_past, within, left_over, move_learned}
-use Rattle.pkcheck.specs.Knowledge.{stop_learned, operate_learned, learn, advance}
+use Rattle.pkcheck.specs.Knowledge.{AskedUnknown, Progress, Refusal, WrongClass, OffList}
+use Rattle.pkcheck.specs.Knowledge.{TooLarge, wrong_receiver, permitted, unknown_pair}
+use Rattle.pkcheck.specs.Knowledge.{operands_asked, asked_of, known_given, is_past, within}
+use Rattle.pkcheck.specs.Knowledge.{left_over, move_learned, stop_learned, operate_learned, learn}
+use Rattle.pkcheck.specs.Knowledge.{advance}
 use Rattle.pkops.specs.Limits.{Bounds}
 use Rattle.pkcheck.specs.Covers.{Pointwise, AlikeEntry, AlikeCell, Alike, imports_of, IsAsked, Adds}
 use Rattle.pkcheck.proofs.Covering.CoversBy.{TrueBy, CoversBy, Choose, AnswerHolds, OutcomeHolds}

@@ -233,8 +233,7 @@ module _ (U : List Object → ℕ → Type 0) (p : Policy) where
         (record s { shape = record s.shape { entries = fs } }))
         (unless (left_over es) (Ok (record {
           after = record { entries = es; memo = ms };
-          import =
-              None;
+          import = None;
         })))
     left_refused [] fs ms n e s h = tt
     left_refused (x ∷ es) (y ∷ fs) ms n e s h = λ none. cc

@@ -21,8 +21,8 @@ use Rattle.pkcheck.specs.Faults.{GoesPast, HasFaultHere, LeavesMore, RaisesThere
 use Rattle.pkcheck.proofs.Covering.Following.{learn_follows}
 use Rattle.pkcheck.proofs.Covering.Refusing.{Fault, FaultIfErr, learn_refused, step_refused}
 use Rattle.pkcheck.specs.Stepping.{CoveredBy}
-use Rattle.pkcheck.proofs.Covering.Answering.{Answered, covered_real, guess, IsGoing, AsksGuess}
-use Rattle.pkcheck.proofs.Covering.Answering.{Exactly, new_text, learn_exactly, covered}
+use Rattle.pkcheck.proofs.Covering.Answering.{Answered, Word, covered_real, guess, IsGoing}
+use Rattle.pkcheck.proofs.Covering.Answering.{AsksGuess, Exactly, new_text, learn_exactly, covered}
 use Rattle.pkcheck.proofs.Covering.Answering.{covers_covered}
 use Rattle.pkcheck.proofs.Covering.Showing.{IsLonger, turn, wrong_learned, non_text_learned}
 use Rattle.pkcheck.proofs.Covering.Showing.{wrong_goes, non_text_goes, asks_goes, leaves_goes}
@@ -32,7 +32,7 @@ use Rattle.pkcheck.proofs.Covering.Showing.{past_refused, goes_past, left_nothin
 use Rattle.pkcheck.proofs.Covering.Showing.{raise_asks, raise_goes, raise_leaves, raise_is}
 use Rattle.pkcheck.proofs.Covering.Showing.{going_on}
 use Rattle.pkcheck.proofs.Covering.StepImports.{asks_once}
-use Rattle.pkcheck.proofs.Covering.Words.{Word, empty, longer}
+use Rattle.pkcheck.proofs.Covering.Words.{empty, longer}
 
 -- the knowledge covers each state in which a run gets here; and for each text, some run gets here
 -- in a covered state in which every unknown object is an answer with this text
@@ -159,8 +159,8 @@ module _ (p : Policy) (l : Bounds) (i : Instruction) (k : Knowledge) (Here : Arr
       → HasFaultHere p l Here i reason.UnknownImport
   unknown_fault v long e =
       let a = guessed v (learn p (effect_as Here.setting i) i k) (exactly v) e in
-      let b =
-      guessed (longer v) (learn p (effect_as Here.setting i) i k) (exactly (longer v)) e in (
+      let b = guessed (longer v) (learn p (effect_as Here.setting i) i k)
+      (exactly (longer v)) e in (
         guess v.text a.0,
         guess v.text a.1,
         two_guesses v (longer v) (longer_differs v.text) a b,
@@ -203,7 +203,8 @@ module _ (p : Policy) (l : Bounds) (i : Instruction) (k : Knowledge) (Here : Arr
     answer empty,
     here empty,
     h.answers empty _,
-    goes_past l (number_stored (effect_as Here.setting i) i) (effect_as Here.setting i) _
+    goes_past
+        l (number_stored (effect_as Here.setting i) i) (effect_as Here.setting i) _
         (goes_on empty (learn p (effect_as Here.setting i) i k) (exactly empty) e)
         (fault_at TooLarge e (at empty) (answer empty) (there empty)),
   )
@@ -248,7 +249,8 @@ module _ (p : Policy) (l : Bounds) (i : Instruction) (k : Knowledge) (Here : Arr
   exactly_err : (q : Refusal) → learn p (effect_as Here.setting i) i k ≡ Err q → (v : Word)
       → Exactly v.text (effect_as Here.setting i) k (at v)
       (step_as Here.setting i (at v) (answer v)) (Err q)
-  exactly_err q e v = subst (λ x. Exactly v.text (effect_as Here.setting i) k (at v)
+  exactly_err q e v = subst
+      (λ x. Exactly v.text (effect_as Here.setting i) k (at v)
       (step_as Here.setting i (at v) (answer v)) x) e (exactly v)
 
   stuck_lacks : (b : Breach) → step_as Here.setting i (at empty) (answer empty) ≡ Stuck b

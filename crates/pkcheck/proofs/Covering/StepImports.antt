@@ -32,8 +32,7 @@ same_added a b x y h g =
     let r = added b x y g in (
       q.0,
       q.2,
-      subst (IsAsked b) (sym (append_cancel_left (imports_of x) q.0 r.0 (sym q.1 ∙ r.1)))
-          r.2,
+      subst (IsAsked b) (sym (append_cancel_left (imports_of x) q.0 r.0 (sym q.1 ∙ r.1))) r.2,
     )
 
 pub pairs_same : (m n x y : List ℕ) (before after : List Event)

@@ -1,20 +1,17 @@
--- Texts that an operation may answer, and longer ones.
-use Rattle.std.proofs.Common.{ℕ, ◌<◌, List, [], ◌∷◌, arith}
+-- The empty word, and a word one letter longer.
+use Rattle.std.proofs.Common.{◌<◌, [], ◌∷◌, arith}
 use Rattle.std.specs.Str.{IsUtf8}
 use Rattle.std.proofs.lemmas.List.Elements.{All-cons, All-nil}
 use Rattle.std.proofs.lemmas.Str.{IsUtf8-append, IsUtf8-from_ascii, IsUtf8-nil}
 use Rattle.std.proofs.lemmas.Str.Ascii.{IsAscii-from_all}
-
--- a text that an operation may answer
-pub record Word : Type 0 where
-  pub text : List ℕ
-  pub utf8 : IsUtf8 text
+use Rattle.pkcheck.proofs.Covering.Answering.{Word}
 
 abbrev pub empty : Word
 empty = record { text = []; utf8 = IsUtf8-nil }
 
 pub letter : IsUtf8 (97 ∷ [])
-letter = IsUtf8-from_ascii (97 ∷ []) (IsAscii-from_all (97 ∷ [])
+letter = IsUtf8-from_ascii (97 ∷ [])
+    (IsAscii-from_all (97 ∷ [])
     (All-cons (λ b. b < 128) 97 [] (omega arith) (All-nil (λ b. b < 128))))
 
 abbrev pub longer : Word → Word

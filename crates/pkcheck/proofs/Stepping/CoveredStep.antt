@@ -26,7 +26,7 @@ use Rattle.pkcheck.specs.Stepping.{IsPermitted, IsStep, MayLackMemory, MeansInEa
 use Rattle.pkcheck.specs.Stepping.{PassesNoFault, RefusesForGood, UnknownIsNeeded}
 use Rattle.pkcheck.proofs.Covering.Following.{step_follows}
 use Rattle.pkcheck.proofs.Covering.Soundness.{PassesListed, advance_listed}
-use Rattle.pkcheck.proofs.Covering.Words.{Word}
+use Rattle.pkcheck.proofs.Covering.Answering.{Word}
 use Rattle.pkcheck.proofs.Covering.Showing.{IsLonger}
 use Rattle.pkcheck.proofs.Stepping.Extensions.{no_extension}
 use Rattle.pkcheck.proofs.Stepping.Settings.{wants_no_memory, wants_no_registry}
@@ -123,8 +123,7 @@ module _ (p : Policy) (i : Instruction) (before after : View) where
     denied pair becomes (inr (wants, (e, g))) = inr (
       (λ none. wants_no_memory before.old_strings i none wants),
       e,
-      becomes
-          ∙ (λ j. record before { refused = Some r; off = g j }),
+      becomes ∙ (λ j. record before { refused = Some r; off = g j }),
     )
 
     pub memory_by : FailsStep p i before after r → MayLackMemory p i before after r
@@ -136,15 +135,13 @@ module _ (p : Policy) (i : Instruction) (before after : View) where
         record {
           imports = ap (λ (m : View). m.imports) becomes;
           knowledge = ap (λ (m : View). m.knowledge) becomes;
-          refused =
-              ap (λ (m : View). m.refused) becomes;
+          refused = ap (λ (m : View). m.refused) becomes;
         }
     kept_by (inr (wants, e, becomes)) =
         record {
           imports = ap (λ (m : View). m.imports) becomes;
           knowledge = ap (λ (m : View). m.knowledge) becomes;
-          refused =
-              ap (λ (m : View). m.refused) becomes;
+          refused = ap (λ (m : View). m.refused) becomes;
         }
 
     module _ (v : Word) (long : IsLonger p v.text) (admitted : is_admitted i ≡ true) where

@@ -11,7 +11,7 @@ use Rattle.std.proofs.lemmas.List.Elements.{All-replicate}
 use Rattle.std.proofs.lemmas.Str.{IsUtf8-from_ascii}
 use Rattle.std.proofs.lemmas.Str.Ascii.{IsAscii-from_all}
 use Rattle.pkcheck.proofs.Halving.{found_is_had}
-use Rattle.pkcheck.proofs.Covering.Words.{Word}
+use Rattle.pkcheck.proofs.Covering.Answering.{Word}
 use Rattle.pkcheck.proofs.Covering.Showing.{IsLonger}
 use Rattle.pkcheck.proofs.ListFile.ListBound.{lists_bound, pairs_bound}
 

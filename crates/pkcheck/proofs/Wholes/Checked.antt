@@ -29,7 +29,7 @@ use Rattle.pkcheck.specs.RowRuns.{Afresh, Beginning, listed_before}
 use Rattle.pkcheck.specs.RunFaults.{HasRunFault, IsFaultless, RunsFrom}
 use Rattle.pkcheck.specs.Faults.{HasFaultHere, everyone}
 use Rattle.pkcheck.specs.Heard.{refused_instruction}
-use Rattle.pkcheck.proofs.Covering.Words.{Word}
+use Rattle.pkcheck.proofs.Covering.Answering.{Word}
 use Rattle.pkcheck.proofs.Covering.Verdicts.{Yes, verdict}
 use Rattle.pkcheck.specs.Stepping.{StepWantsMemory}
 use Rattle.pkcheck.specs.View.{View, fresh, stopped_by, off_pair}

@@ -22,7 +22,8 @@ use Rattle.pkcheck.proofs.Covering.CoversBy.{objects_grow}
 use Rattle.pkcheck.specs.Import.{asks_more}
 use Rattle.pkcheck.specs.WholeRuns.{Ended, first_outcome, outcomes_after, go_on, run_as, EndsWell}
 use Rattle.pkcheck.specs.WholeRuns.{AllListed}
-use Rattle.pkcheck.proofs.Covering.Verdicts.{Yes, verdict, IsYes, StopsLast}
+use Rattle.pkcheck.proofs.Covering.Verdicts.{Yes, verdict, IsYes}
+use Rattle.pkcheck.proofs.Covering.Verdicts.{StopsLast}
 use Rattle.pkcheck.specs.Listing.{StandsFor, IsBeginning, ImportsAreListed, imports_among}
 use Rattle.pkcheck.specs.Listing.{permitted_by}
 use Rattle.pkcheck.proofs.Covering.Alike.{Pointwise-append}

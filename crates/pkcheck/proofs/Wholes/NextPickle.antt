@@ -12,7 +12,8 @@ use Rattle.pkops.specs.Spelling.{Instruction}
 use Rattle.pkops.specs.declared.Op.{Op}
 use Rattle.pkops.specs.declared.Op.TheVariants as op
 use Rattle.pkread.specs.Sequence.{IsSequence}
-use Rattle.pkcheck.specs.Covers.{IsObject, Pointwise, imports_of as imported}
+use Rattle.pkcheck.specs.Covers.{IsObject, Pointwise}
+use Rattle.pkcheck.specs.Covers.{imports_of as imported}
 use Rattle.pkcheck.specs.Effects.{Effect, Operates, Moves, Stops, Raises, effect_as, number_stored}
 use Rattle.pkcheck.specs.Knowledge.{Knowledge, Policy, Asked, Progress, advance, learn}
 use Rattle.pkcheck.specs.Listing.{StandsFor, ImportsAreListed, imports_among, permitted_by}
@@ -22,8 +23,7 @@ use Rattle.pkcheck.specs.Runs.{Stopped, Stuck, effect_asks, perform, start, step
 use Rattle.pkcheck.specs.Shape.{Breach, Entry, top}
 use Rattle.pkcheck.specs.WholeRuns.{AllListed, Ended, EndedBy, EndsWell, Reached, first_outcome}
 use Rattle.pkcheck.specs.WholeRuns.{go_on, outcomes_after, run_as}
-use Rattle.pkcheck.proofs.Covering.Answering.{Answered, IsGoing, grows, learn_exactly}
-use Rattle.pkcheck.proofs.Covering.Words.{Word}
+use Rattle.pkcheck.proofs.Covering.Answering.{Answered, IsGoing, Word, grows, learn_exactly}
 use Rattle.pkcheck.proofs.Covering.Answering.{new_text, new_text_holds}
 use Rattle.pkcheck.proofs.Covering.CoversBy.{CoversBy, FollowsBy, FollowsIfOk, any_answer}
 use Rattle.pkcheck.proofs.Covering.CoversBy.{objects_grow}
@@ -106,8 +106,7 @@ module _ (setting : OldStrings) where
         middle = m.middle;
         before = os ∷ m.before;
         comes = ap (λ x. next_from x (run_row setting ps m.before)) n.stops ∙ m.comes;
-        outcomes =
-            m.outcomes;
+        outcomes = m.outcomes;
         result = m.result;
         state = m.state;
         stops = m.stops;

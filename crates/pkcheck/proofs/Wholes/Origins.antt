@@ -13,8 +13,7 @@ use Rattle.pkcheck.specs.RowRuns.{InEachRunFrom, listed_before}
 use Rattle.pkcheck.specs.RunFaults.{RunsFrom}
 use Rattle.pkcheck.specs.Runs.{CanCome, Outcome, State, start}
 use Rattle.pkcheck.specs.WholeRuns.{AllListed, CanGetTo, Ended, GetsTo, run_as}
-use Rattle.pkcheck.proofs.Covering.Answering.{Answered}
-use Rattle.pkcheck.proofs.Covering.Words.{Word}
+use Rattle.pkcheck.proofs.Covering.Answering.{Answered, Word}
 use Rattle.pkcheck.proofs.Covering.CoversBy.{CoversBy}
 use Rattle.pkcheck.proofs.Covering.Standing.{Stands}
 use Rattle.pkcheck.proofs.Wholes.Walk.{Along}

@@ -1,6 +1,6 @@
 -- What is known along a row of pickles.
-use Rattle.std.proofs.Common.{◌≡◌, ◌≢◌, ℕ, ◌+◌, ◌<◌, ◌≤◌, List, [], ◌∷◌, ◌++◌, length, Option}
-use Rattle.std.proofs.Common.{None, refl, sym, ap, subst, ◌∙◌, arith, length-append, append-nil}
+use Rattle.std.proofs.Common.{◌≡◌, ◌≢◌, ℕ, ◌+◌, ◌<◌, ◌≤◌, List, [], ◌∷◌, ◌++◌, length, Option, None}
+use Rattle.std.proofs.Common.{refl, sym, ap, subst, ◌∙◌, arith, length-append, append-nil}
 use Rattle.std.proofs.Common.{append_assoc}
 use Rattle.std.specs.Prelude.{flat_map, All}
 use Rattle.std.specs.Io.KnownBytes.{IsAtEnd}
@@ -14,16 +14,16 @@ use Rattle.pkread.specs.Again.{NoByteIsRefused}
 use Rattle.pkread.specs.Run.{ReadingGoesOn}
 use Rattle.pkread.specs.Reading.{ReaderState}
 use Rattle.pkread.specs.Core.{Open}
-use Rattle.pkread.specs.declared.Refusal.{Refusal as ReadRefusal}
 use Rattle.pkread.specs.Rows.{Refuses, Sight, Takes, TakingLaws, all_bytes}
 use Rattle.pkread.specs.Sequence.{CountsAt, IsSequence, StopIsLast, spellings}
+use Rattle.pkread.specs.declared.Refusal.{Refusal as ReadRefusal}
 use Rattle.pkread.specs.declared.Reason.{Reason}
 use Rattle.pkread.specs.declared.Reason.TheVariants.{Truncated}
 use Rattle.pkops.specs.declared.Op.TheVariants.{Stop}
 use Rattle.pkcheck.proofs.Wholes.Checked.{Checked, IsReady, accepted, checked_again, count_took}
 use Rattle.pkcheck.proofs.Wholes.Checked.{refused_took, refused_turned}
 use Rattle.pkcheck.proofs.Wholes.Given.{Took}
-use Rattle.pkcheck.proofs.Covering.Words.{Word}
+use Rattle.pkcheck.proofs.Covering.Answering.{Word}
 use Rattle.pkcheck.proofs.Covering.Showing.{IsLonger}
 use Rattle.pkcheck.specs.Private.Judging.{IsRefused}
 use Rattle.pkcheck.proofs.Wholes.NextPickle.{begins_next, imports_more}
@@ -266,7 +266,8 @@ module _ (taking : TakingLaws) (loading : Loading) (policy : Policy) (limits : B
         begins = begins_next loading.old_strings policy limits before origin.known
             (subst (λ b. Begins loading.old_strings policy b origin.known) e checked.begins)
             (payload_limit limits) p sequence m.knowledge asked checked.accepts;
-        imports = checked.imports ∙ (ap (λ b. listed_before b ++ imports_among asked) e
+        imports = checked.imports
+            ∙ (ap (λ b. listed_before b ++ imports_among asked) e
             ∙ sym (imports_more before (this p asked)));
         same_limits = checked.same_limits;
         same_setting = checked.same_setting;

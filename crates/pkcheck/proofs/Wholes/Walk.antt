@@ -16,8 +16,7 @@ use Rattle.pkcheck.proofs.Covering.CoversBy.{objects_grow}
 use Rattle.pkcheck.specs.WholeRuns.{Reached, first_outcome, go_on, run_as, CanGetTo}
 use Rattle.pkcheck.proofs.Covering.Verdicts.{Verdict, Yes, No, with_import, verdict_on, verdict}
 use Rattle.pkcheck.proofs.Covering.Following.{step_follows}
-use Rattle.pkcheck.proofs.Covering.Answering.{Answered, new_text, new_text_holds, grows}
-use Rattle.pkcheck.proofs.Covering.Words.{Word}
+use Rattle.pkcheck.proofs.Covering.Answering.{Answered, Word, new_text, new_text_holds, grows}
 use Rattle.pkcheck.proofs.Covering.Answering.{learn_exactly}
 use Rattle.pkcheck.proofs.Stepping.Settings.{only_stop}
 use Rattle.pkcheck.proofs.Wholes.RunSteps.{run_on, same_reached, each_on, gone, going}

@@ -85,8 +85,7 @@ argument_short limit (layout.Counted size signed) (Counted payload) l s w =
     (omega (
       arith,
       small_size size,
-      length-append (little_bytes (size_of size) (length payload))
-          payload,
+      length-append (little_bytes (size_of size) (length payload)) payload,
       length-bytes_low_first 0 (size_of size) (length payload),
     ))
 argument_short limit (layout.Counted size signed) _ l s w = absurd s

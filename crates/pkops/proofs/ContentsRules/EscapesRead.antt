@@ -91,8 +91,7 @@ escape_spelled letter count digits bytes points (inl form) len all scalar spelle
     (one_more (short digits) bytes points
     (record {
       count = len ∙ form.1;
-      hexadecimal = AllPass-from_list_all is_ascii_hexdigit digits
-          all;
+      hexadecimal = AllPass-from_list_all is_ascii_hexdigit digits all;
       scalar = scalar;
     }) spelled)
 escape_spelled letter count digits bytes points (inr form) len all scalar spelled =
@@ -101,8 +100,7 @@ escape_spelled letter count digits bytes points (inr form) len all scalar spelle
     (one_more (long digits) bytes points
     (record {
       count = len ∙ form.1;
-      hexadecimal = AllPass-from_list_all is_ascii_hexdigit digits
-          all;
+      hexadecimal = AllPass-from_list_all is_ascii_hexdigit digits all;
       scalar = scalar;
     }) spelled)
 
@@ -187,8 +185,7 @@ digit_leads left value byte bytes points ih e letter size digits far =
                         some = omega arith;
                         count = omega (arith, len);
                         all = all_snoc digits byte far.all h;
-                        value_is =
-                            now_is;
+                        value_is = now_is;
                       } in
                       let spelled = ih (Digits (left - 1) now) m.0 m.1 letter size more next in
                       subst (λ (p : List ℕ). SpellsText (92 ∷ letter ∷ (digits ++ byte ∷ bytes)) p)

@@ -44,8 +44,7 @@ digits_back n text digits e = elim (cases_Bool (is_escape n (take n text))) [
   | inl good ↦
       let same : take n text ≡ digits = (let f = rw good at e in cc) in (
         subst (IsEscape n) same (escape_is n (take n text) good),
-        sym (take-append-drop n text)
-            ∙ ap (λ (front : List ℕ). front ++ drop n text) same,
+        sym (take-append-drop n text) ∙ ap (λ (front : List ℕ). front ++ drop n text) same,
       )
 ]
 

@@ -196,8 +196,7 @@ tail_of : (fraction exponent : List ℕ) → Optional IsFraction fraction → Op
 tail_of fraction exponent (inl e) x =
     let same : fraction ++ exponent ≡ exponent = ap (λ (f : List ℕ). f ++ exponent) e in (
       ap is_after_whole same ∙ only_exponent exponent x,
-      ap starts_with_digit same
-          ∙ (exponent_of exponent x).1,
+      ap starts_with_digit same ∙ (exponent_of exponent x).1,
     )
 tail_of fraction exponent (inr (digits, d, e)) x =
     let same : fraction ++ exponent ≡ 46 ∷ (digits ++ exponent) =

@@ -119,8 +119,8 @@ leads quote High byte line bytes ih e = elim (cases_Bool (is_ascii_hexdigit byte
 leads quote (Low value) byte line bytes ih e =
     λ high is same. elim (cases_Bool (is_ascii_hexdigit byte)) [
       | inl h ↦
-          let m = some_mapped (Some (value * 16 + digit_value byte))
-          (spelled quote Outside line) bytes (rw h at e) in
+          let m = some_mapped (Some (value * 16 + digit_value byte)) (spelled quote Outside line)
+          bytes (rw h at e) in
           let named : byte_of (hex high byte) ≡ value * 16 + digit_value byte =
           two_digits high byte ∙ ap (λ (v : ℕ). v * 16 + digit_value byte) same in
           subst (λ (p : List ℕ). Spells quote (92 ∷ 120 ∷ high ∷ byte ∷ line) p)

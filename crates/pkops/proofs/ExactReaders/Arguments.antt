@@ -1,6 +1,6 @@
 -- The reader of an argument is exact, whatever its layout.
-use Rattle.std.proofs.Common.{◌≡◌, ◌≢◌, ℕ, ◌^◌, ◌<◌, Bool, List, [], ◌++◌, length, Ok}
-use Rattle.std.proofs.Common.{refl, sym, ap, subst, arith}
+use Rattle.std.proofs.Common.{◌≡◌, ◌≢◌, ℕ, ◌^◌, ◌<◌, Bool, List, [], ◌++◌, length, Ok, refl, sym}
+use Rattle.std.proofs.Common.{ap, subst, arith}
 use Rattle.std.specs.Prelude.{FitsSigned}
 use Rattle.std.specs.Int.{w32, cast_signed, cast_unsigned}
 use Rattle.std.proofs.lemmas.List.{length-append}
@@ -23,7 +23,10 @@ use Rattle.pkops.proofs.ExactReaders.Lines.{LineFault, line_text, line_exact}
 use Rattle.pkops.proofs.ExactReaders.LinePairs.{IsPair, PairFault, pair_text, pair_exact}
 use Rattle.pkops.proofs.ExactReaders.Payloads.{IsPayload, MayPayload, PayloadFault, counted}
 use Rattle.pkops.proofs.ExactReaders.Payloads.{payload_exact}
-use Rattle.pkops.proofs.ExactReaders.Wrapped.{IsArgument, ArgFault, ArgExact, Wraps, wrapped_exact}
+use Rattle.pkops.proofs.ExactReaders.WrappedReaders.{IsArgument, ArgFault, ArgExact, Wraps}
+use Rattle.pkops.proofs.ExactReaders.WrappedReaders.{wrapped_exact}
+
+-- ---- each layout
 
 no_fault : (limit : ℕ) (lay : Layout) → ((bytes : List ℕ) → IsNegative lay bytes → ⊥)
     → ((bytes : List ℕ) → IsAbove limit lay bytes → ⊥) → (fault : Fault) (bytes : List ℕ)

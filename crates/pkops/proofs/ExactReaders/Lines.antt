@@ -126,8 +126,7 @@ line_again most x rest h =
     (record {
       clean = h.whole;
       parts = refl;
-      place = ap end_of (append_assoc x (10 ∷ []) rest)
-          ∙ end_at x rest h.whole;
+      place = ap end_of (append_assoc x (10 ∷ []) rest) ∙ end_at x rest h.whole;
     }) h.short
 
 line_lacks : (most : ℕ) (bytes : List ℕ) → line_at most bytes ≡ Err Short
@@ -145,8 +144,7 @@ line_lacks most bytes e =
           more = 10 ∷ [];
           may = record { short = le; whole = clean };
           parts = refl;
-          lacks =
-              not_nil (10 ∷ []) (omega arith);
+          lacks = not_nil (10 ∷ []) (omega arith);
         }
       ]
     ]

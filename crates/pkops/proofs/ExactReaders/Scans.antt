@@ -23,7 +23,7 @@ use Rattle.pkops.specs.Private.Reading.{IsUnread, arg_at}
 use Rattle.pkops.proofs.ExactReaders.Exact.{IsBytes, Takes}
 use Rattle.pkops.proofs.ExactReaders.Fields.{not_nil}
 use Rattle.pkops.proofs.ExactReaders.Arguments.{arg_exact}
-use Rattle.pkops.proofs.ExactReaders.Wrapped.{IsArgument, ArgFault}
+use Rattle.pkops.proofs.ExactReaders.WrappedReaders.{IsArgument, ArgFault}
 
 -- no bytes begin an instruction
 pub nothing_begun : (limit : ℕ) → Begun limit []

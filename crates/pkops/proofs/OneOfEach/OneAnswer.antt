@@ -15,7 +15,7 @@ use Rattle.pkops.specs.Answer.{Answers}
 use Rattle.pkops.specs.Private.Reading.{arg_at}
 use Rattle.pkops.proofs.ExactReaders.Fields.{ok_is}
 use Rattle.pkops.proofs.ExactReaders.Arguments.{arg_exact}
-use Rattle.pkops.proofs.ExactReaders.Wrapped.{ArgFault}
+use Rattle.pkops.proofs.ExactReaders.WrappedReaders.{ArgFault}
 use Rattle.pkops.proofs.OneOfEach.OneCode.{one_code}
 
 -- what reading behind the code gives, for each answer

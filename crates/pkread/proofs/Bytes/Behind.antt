@@ -33,8 +33,7 @@ pub fronts_more : BegunLaws → (limit : ℕ) (b : List ℕ) (x : ℕ) → Begun
     k < length (b ++ x ∷ []) → Begun limit (take k (b ++ x ∷ []))
 fronts_more laws limit b x h k l =
     elim (cases_lt k (length b)) [
-      | inl lt ↦ rw (take-append-le k b (x ∷ []) (omega arith))
-          (begun_fronts laws limit b h k lt)
+      | inl lt ↦ rw (take-append-le k b (x ∷ []) (omega arith)) (begun_fronts laws limit b h k lt)
       | inr ge ↦ let same : k ≡ length b =
           omega (arith, length-append b (x ∷ []), l) in
           rw (same, take_at b (x ∷ []) (length b) refl) h

@@ -49,8 +49,7 @@ broken_of limit o arg split b l bad = inl (
   [],
   record {
     laid = l.laid;
-    parts =
-        l.spelled ∙ sym (append-nil (spelling (instruction o arg)));
+    parts = l.spelled ∙ sym (append-nil (spelling (instruction o arg)));
     bad = bad;
   },
 )
@@ -225,7 +224,6 @@ found_more limit c old mid new (Ok f) k h =
     record {
       bytes = c ++ h.bytes;
       took = took_both c h.bytes old mid new k h.took;
-      found =
-          h.found;
+      found = h.found;
     }
 found_more limit c old mid new (Err x) k h = stops_more limit c old mid new x k h

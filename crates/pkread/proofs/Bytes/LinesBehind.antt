@@ -62,8 +62,7 @@ pair_begun limit most o text lay short clean = (
       suits = rw lay (
         record { short = short; whole = clean },
         record {
-          short =
-              omega arith;
+          short = omega arith;
           whole = tt;
         },
       );
@@ -83,8 +82,7 @@ second_begun limit most o first text lay line short clean = (
   record {
     may = record {
       suits = rw lay (line, record { short = short; whole = clean });
-      within =
-          λ _. tt;
+      within = λ _. tt;
     };
     parts = ap (λ (l : List ℕ). code_of o ∷ l) (sym (append_assoc (first ++ 10 ∷ []) text (10 ∷
         [])));
@@ -95,8 +93,7 @@ second_begun limit most o first text lay line short clean = (
 is_long : (most : ℕ) (c : List ℕ) → length c ≡ most + 1 → Endless c → IsLong most c
 is_long most c e h = record {
   long = omega arith;
-  endless =
-      rw (take_all (most + 1) c (omega arith)) h;
+  endless = rw (take_all (most + 1) c (omega arith)) h;
 }
 
 -- what a row says of the length

@@ -120,8 +120,7 @@ skips_block count n old mid cut b same still all = (
   record {
     bytes = b.bytes;
     took = block_over count n old mid cut b same still;
-    all = b.count
-        ∙ all;
+    all = b.count ∙ all;
   },
 )
 

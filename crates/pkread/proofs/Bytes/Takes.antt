@@ -20,8 +20,7 @@ Consumes-more (Some l) (Some m) (Some n) xs ys p q = p ∙ ap (λ (k : List ℕ)
 -- what was taken twice was taken at once
 pub Takes-more : {o m n : Sight} {b c : List ℕ} → Takes o m b → Takes m n c → Takes o n (b ++ c)
 Takes-more {o} {m} {n} {b} {c} p q = record {
-  bytes =
-      Consumes-more o.left m.left n.left b c p.bytes q.bytes;
+  bytes = Consumes-more o.left m.left n.left b c p.bytes q.bytes;
   count = q.count ∙ p.count;
 }
 

@@ -39,8 +39,7 @@ is_ended_so (Refused r) e = absurd cc
 -- a byte taken ahead leaves the source as it was seen
 put_back : (x : ℕ) (a b : Option (List ℕ)) (f h : ℕ) →
     let o : Sight = record { left = a; failures = f } in let n : Sight = record {
-      left =
-          b;
+      left = b;
       failures = h;
     } in Takes o n (x ∷ []) → Takes o (unread (x ∷ []) n) []
 put_back x None b f h k = record { bytes = tt; count = k.count }

@@ -37,8 +37,7 @@ allowed : (limit : ℕ) (b : List ℕ) (i : Instruction) (n : ℕ) → IsWhole l
 allowed limit b i n w e = record {
   good = w.spells.good;
   within = w.within;
-  admitted =
-      no_objection i e;
+  admitted = no_objection i e;
 }
 
 -- what was gathered is allowed

@@ -22,8 +22,7 @@ pub gives_item : (b : List ℕ) (at limit n : ℕ) (i : Inst) (stops : Bool) →
     IsWhole limit b (instruction_of i) n → objection (instruction_of i) ≡ None →
     stops ≡ is_stop (instruction_of i).op →
     Walks (going b at limit) (Some (Ok (at, i))) (record {
-      bytes =
-          take (length b - n) (drop n b);
+      bytes = take (length b - n) (drop n b);
       at = at + n;
       limit = limit;
       done = stops;
@@ -38,8 +37,7 @@ gives_item b at limit n i stops w e s =
       allowed = record {
         good = w.spells.good;
         within = w.within;
-        admitted =
-            no_objection (instruction_of i) e;
+        admitted = no_objection (instruction_of i) e;
       };
       bytes = rw rest (sym (take-append-drop n b) ∙ ap (λ (l : List ℕ). l ++ drop n b) spelled);
       offset = omega (arith, size, ap length spelled);
@@ -50,8 +48,7 @@ gives_item b at limit n i stops w e s =
 -- what stands there is refused
 pub refuses_item : (b : List ℕ) (at limit : ℕ) (r : Reason) → RefusedAlone limit b r →
     Walks (going b at limit) (Some (Err (record { at = at; reason = r }))) (record {
-      bytes =
-          b;
+      bytes = b;
       at = at;
       limit = limit;
       done = true;

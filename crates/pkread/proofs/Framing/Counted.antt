@@ -366,8 +366,7 @@ says_after done p ps n o l None h go = record {
     ps,
     refl,
     refl,
-    λ f. refuses done p.length p.role ps n o l h
-        (rw (append-nil done) at f),
+    λ f. refuses done p.length p.role ps n o l h (rw (append-nil done) at f),
   );
   earlier = λ before q after e m. absurd (omega (arith, m));
 }

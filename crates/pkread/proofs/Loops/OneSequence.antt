@@ -110,8 +110,7 @@ module _ (one : OneSpelling) where
         record {
           next = t.next;
           after = t.after;
-          split = ap (λ z. z ∷ p ++ i ∷ []) r.0
-              ∙ ap (λ z. l ∷ z) t.split;
+          split = ap (λ z. z ∷ p ++ i ∷ []) r.0 ∙ ap (λ z. l ∷ z) t.split;
           bytes = t.bytes;
         }
 

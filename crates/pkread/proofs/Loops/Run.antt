@@ -154,8 +154,8 @@ next_is_read start from limit p s t r at i holds h k e =
     let allowed : IsAllowedBy limit (instruction_of i) =
     subst (λ (l : ℕ). IsAllowed l (instruction_of i)) (holds (instruction_of i).op) g.allowed in (
       more_of start from limit p s t (instruction_of i) h o.0
-          (reads_one start from limit p s t (instruction_of i) h o.0 allowed
-          g.bytes g.taken g.phase),
+          (reads_one start from limit p s t (instruction_of i) h o.0 allowed g.bytes g.taken
+          g.phase),
       g,
     )
 

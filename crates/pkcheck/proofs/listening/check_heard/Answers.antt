@@ -4,7 +4,8 @@ use Rattle.pkops.specs.Inst.{instruction_of}
 use Rattle.pkcheck.specs.Heard.{AreHeardBehind, heard}
 use Rattle.pkread.specs.Rows.{sight}
 use Rattle.pkcheck.proofs.Wholes.Checked.{from_start, checked_none, checked_took, accepted}
-use Rattle.pkcheck.proofs.Wholes.Checked.{count_took, refusal_of, refused_turned, refused_took}
+use Rattle.pkcheck.proofs.Wholes.Checked.{count_took}
+use Rattle.pkcheck.proofs.Wholes.Checked.{refusal_of, refused_turned, refused_took}
 use Rattle.pkcheck.proofs.Wholes.FramesSoFar.{FrameLaws}
 use Rattle.pkcheck.proofs.Wholes.Given.{failures_so, seen_so, refused_next, took_next, took_peeked}
 use Rattle.pkcheck.proofs.Wholes.Hearing.{cut_short, heard_more, heard_here, if_err}
@@ -53,8 +54,7 @@ returns-in-Err-clause-answer g c =
     (heard_more [] r.0 r.3 i x r.4 here) in (
       r.3 ++ x ∷ [],
       record { right = w.0; each = each },
-      g.met.L.Listener.hears_more _ _ _ r.3 x r.5
-          c.in_ok-heard.ensures,
+      g.met.L.Listener.hears_more _ _ _ r.3 x r.5 c.in_ok-heard.ensures,
     )
 
 pub returns-in-Err-clause-count : goal.returns-in-Err-clause-count
@@ -145,8 +145,7 @@ returns-in-Err-next-clause-answer g c =
       r.3,
       record {
         right = w.0;
-        each = subst (λ p. AreHeardBehind [] p r.3)
-            (sym (w.1 ∙ append-nil r.0)) r.4;
+        each = subst (λ p. AreHeardBehind [] p r.3) (sym (w.1 ∙ append-nil r.0)) r.4;
       },
       r.5,
     )
@@ -182,8 +181,7 @@ returns-in-Err-judge-clause-answer g c =
     (heard_more [] r.0 r.3 (instruction_of c.in-Ok-Inst.inst) x r.4 here) in (
       r.3 ++ x ∷ [],
       record { right = w.0; each = each },
-      g.met.L.Listener.hears_more _ _ _ r.3 x r.5
-          c.in_ok-hear-in-Ok-Inst.ensures,
+      g.met.L.Listener.hears_more _ _ _ r.3 x r.5 c.in_ok-hear-in-Ok-Inst.ensures,
     )
 
 pub returns-in_err-hear-in-Ok-Inst-clause-cut_short :
@@ -225,7 +223,6 @@ instructions-preserved g c =
         checked,
         r.3 ++ x ∷ [],
         each,
-        g.met.L.Listener.hears_more _ _ _ r.3 x r.5
-            c.in_ok-hear-in-Ok-Inst.ensures,
+        g.met.L.Listener.hears_more _ _ _ r.3 x r.5 c.in_ok-hear-in-Ok-Inst.ensures,
       );
     }

@@ -14,12 +14,12 @@ use Rattle.pkcheck.specs.Private.NextPickle.{listed_in, restarted}
 use Rattle.pkcheck.specs.RowOfPickles.{begins}
 use Rattle.pkcheck.proofs.Wholes.Origins.{Origin}
 use Rattle.pkcheck.proofs.Wholes.Payloads.{long_passed}
-use Rattle.pkcheck.proofs.Wholes.RowOfPickles.{all_listed, begins_first, count_on}
-use Rattle.pkcheck.proofs.Wholes.LeftToDo.{less_to_do}
-use Rattle.pkcheck.proofs.Wholes.RowOfPickles.{next_ready, none_before, none_failed, pickle_more}
+use Rattle.pkcheck.proofs.Wholes.RowOfPickles.{all_listed, begins_first, count_on, next_ready}
+use Rattle.pkcheck.proofs.Wholes.RowOfPickles.{none_before, none_failed, pickle_more}
 use Rattle.pkcheck.proofs.Wholes.RowOfPickles.{refused_behind, row_accepted, row_begins}
 use Rattle.pkcheck.proofs.Wholes.RowOfPickles.{row_refused, row_took, some_byte, this, told}
 use Rattle.pkcheck.proofs.Wholes.RowOfPickles.{told_yes}
+use Rattle.pkcheck.proofs.Wholes.WorkLeft.{less_to_do}
 use Rattle.pkcheck.proofs.Wholes.AnotherPickle.{again_false, again_true, behind_counts}
 use Rattle.pkcheck.proofs.Wholes.AnotherPickle.{behind_is_not_cut, refused_from, some_ahead}
 use Rattle.pkcheck.proofs.row_of_pickles.check_all.Goals as goal

@@ -10,7 +10,7 @@ use Rattle.pkcheck.specs.RowRuns.{Pickle}
 use Rattle.pkcheck.proofs.Wholes.Checked.{Checked}
 use Rattle.pkcheck.proofs.Wholes.Origins.{Origin}
 use Rattle.pkcheck.proofs.Wholes.RowOfPickles.{RowSoFar}
-use Rattle.pkcheck.proofs.Wholes.LeftToDo.{left_to_do}
+use Rattle.pkcheck.proofs.Wholes.WorkLeft.{left_to_do}
 use Rattle.pkcheck.proofs.row_of_pickles.check_all.Given as goal
 
 abbrev pub invariant-instructions : goal.invariant-instructions

@@ -17,16 +17,14 @@ returns-in-Ok-clause-goes_on c =
       rw (← c.self.view_is) (λ j. record {
         knowledge = k;
         limits = c.self.inside.terms.limits;
-        old_strings
-            = c.self.inside.terms.old_strings;
+        old_strings = c.self.inside.terms.old_strings;
         imports = g.2 j;
         off = option_map asked_shown
             ((c.in-Ok.ensures.off ∙ sym (c.self.invariant.1 c.in_default.is)) j);
         refused =
             c.self.inside.refused;
         stopped = c.stop_after.ensures j;
-        texts =
-            c.in-Ok.ensures.texts j;
+        texts = c.in-Ok.ensures.texts j;
       }),
       rw (← c.self.view_is) g.3,
     )
@@ -67,14 +65,12 @@ returns-in-Err-clause-fails c fresh =
     (option_map asked_shown c.advance.new.off)
     (rw (← c.self.view_is) (λ j. record {
       knowledge = (kept j).knowledge;
-      limits =
-          c.self.inside.terms.limits;
+      limits = c.self.inside.terms.limits;
       old_strings = c.self.inside.terms.old_strings;
       imports = (kept j).imports;
       off = option_map asked_shown c.advance.new.off;
       refused = Some c.in-Err.reason;
-      stopped =
-          c.self.inside.stopped;
+      stopped = c.self.inside.stopped;
       texts = (kept j).texts;
     }))
     (rw (← c.self.view_is) c.in-Err.ensures.err)

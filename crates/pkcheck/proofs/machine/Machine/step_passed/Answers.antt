@@ -24,14 +24,11 @@ returns-in-Ok-clause-step c i same =
     (rw (← c.self.view_is) (c.self.invariant.0 c.in_default.is).1) c.requires.running
     (rw (← c.self.view_is) (λ j. record {
       knowledge = c.in-Ok.ensures.ok j;
-      limits =
-          c.self.inside.terms.limits;
+      limits = c.self.inside.terms.limits;
       old_strings = c.self.inside.terms.old_strings;
-      imports =
-          c.make.ensures.imports j;
+      imports = c.make.ensures.imports j;
       off = option_map asked_shown c.self.inside.off;
-      refused =
-          c.self.inside.refused;
+      refused = c.self.inside.refused;
       stopped = c.self.inside.stopped;
       texts = c.in-Ok.ensures.texts j;
     })))
@@ -52,14 +49,11 @@ returns-in-Err-clause-step c i same =
     (rw (← c.self.view_is) c.in-Err.ensures.err)
     (rw (← c.self.view_is) (λ j. record {
       knowledge = (c.in-Err.ensures.kept j).knowledge;
-      limits =
-          c.self.inside.terms.limits;
+      limits = c.self.inside.terms.limits;
       old_strings = c.self.inside.terms.old_strings;
-      imports =
-          (c.in-Err.ensures.kept j).imports;
+      imports = (c.in-Err.ensures.kept j).imports;
       off = None;
       refused = Some c.in-Err.reason;
-      stopped =
-          c.self.inside.stopped;
+      stopped = c.self.inside.stopped;
       texts = (c.in-Err.ensures.kept j).texts;
     })))

@@ -7,7 +7,7 @@ returns-clause-err c m = err_on _ _ c.push.result
     (λ r h. (
       h.0,
       grown c.args.limits.now 0 _ _ c.args.stack.now m r
-          (duplicated (record { entries = c.args.stack.now; memo = m })
-          _ c.in_ok-value.ensures.ok) h.1,
+          (duplicated (record { entries = c.args.stack.now; memo = m }) _ c.in_ok-value.ensures.ok)
+          h.1,
     ))
     c.push.ensures.err

@@ -83,8 +83,7 @@ returns-in_err-operate-in-Operates-clause-err c =
     c.args.terms.now.limits (instruction_of c.args.inst.now) c.args.held.now.knowledge
     (effect_of c.op-op.result) (record {
       reason = c.in_err-operate-in-Operates.field-0.0;
-      pair =
-          None;
+      pair = None;
     }) (of_action c.args.terms.now.old_strings (instruction_of c.args.inst.now) _ _ _
     c.op-op.ensures.op c.action_of.ensures.effect c.action_of.ensures.old c.in-Operates.is refl)
     (c.in_err-operate-in-Operates.ensures.err (policy_of c.args.policy.now)

@@ -10,8 +10,7 @@ use Rattle.pkops.proofs.contents.escapes.read_escaped.Goals.{in_default-characte
 pub bytes-init : goal.bytes-init
 bytes-init c =
     record {
-      kept = joined_is (string_bytes c.new-text.result) c.args.line.now
-          c.new-text.ensures.bytes;
+      kept = joined_is (string_bytes c.new-text.result) c.args.line.now c.new-text.ensures.bytes;
       small = tt;
     }
 
@@ -28,8 +27,7 @@ bytes-preserved c =
     elim c.match-character.branch [
       | in-Some-character+in_ok-push w ↦
           record {
-            kept = rw (w.text-is, w.in_ok-push.ensures.bytes)
-                (rw w.in-Some-character.is at on);
+            kept = rw (w.text-is, w.in_ok-push.ensures.bytes) (rw w.in-Some-character.is at on);
             small = c.in-Some.ensures.small;
           }
       | in_default-character w ↦

@@ -27,8 +27,7 @@ bytes-preserved c =
     elim c.match-ended.branch [
       | in-Some-ended+in_ok-push w ↦
           record {
-            kept = rw (w.bytes-is, w.in_ok-push.ensures.items)
-                (rw w.in-Some-ended.is at on);
+            kept = rw (w.bytes-is, w.in_ok-push.ensures.items) (rw w.in-Some-ended.is at on);
             small = c.in-Some.ensures.small;
           }
       | in_default-ended w ↦

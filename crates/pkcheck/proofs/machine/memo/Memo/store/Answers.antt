@@ -16,8 +16,7 @@ returns-then-len-count-clause-err c =
       refl,
       inl (
         refl,
-        rw (← c.self.view_is)
-            (omega (arith, more, old, none, v, c.len-count.ensures.value)),
+        rw (← c.self.view_is) (omega (arith, more, old, none, v, c.len-count.ensures.value)),
       ),
     )
 

@@ -49,8 +49,7 @@ returns-then-number-self-clause-err c =
             let full = ltb-false c.len-count.result c.memo.result a.1 in
             inl (
               a.0,
-              rw (← c.self.view_is, sym same)
-                  (omega (arith, more, v, full, c.len-count.ensures)),
+              rw (← c.self.view_is, sym same) (omega (arith, more, v, full, c.len-count.ensures)),
             )
         | inr e ↦ inr e
       ],
@@ -126,8 +125,7 @@ returns-clause-err c =
             let full = ltb-false c.len-count.result c.memo.result a.1 in
             inl (
               a.0,
-              rw (← c.self.view_is, sym same)
-                  (omega (arith, more, v, full, c.len-count.ensures)),
+              rw (← c.self.view_is, sym same) (omega (arith, more, v, full, c.len-count.ensures)),
             )
         | inr e ↦ inr e
       ],

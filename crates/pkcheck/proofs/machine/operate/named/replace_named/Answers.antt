@@ -162,7 +162,6 @@ returns-in-Err c =
           c.args.terms.now.limits c.in-Err.reason c.in-Err.ensures.err.1
           (rw (
             length_seen,
-            length_below c.in_ok-found.found.place entries
-                c.in_ok-found.ensures.within,
+            length_below c.in_ok-found.found.place entries c.in_ok-found.ensures.within,
           ) c.in-Err.ensures.err.2);
     })

@@ -33,8 +33,7 @@ returns-then-receiver_fault-clause-err c ts sees p i m =
     { entries = seen ts c.args.stack.now; memo = m }) _ (record
     { reason = reason.WrongClass; pair = None }) found (
       WrongClass,
-      judged_wrong p NoName
-          c.args.gives i _ wrong,
+      judged_wrong p NoName c.args.gives i _ wrong,
       refl,
       refl,
     )))
@@ -82,6 +81,5 @@ returns-in-Err-clause-err c ts sees p i m =
     c.in-Err.ensures.err.1
     (rw (
       length_seen,
-      length_below c.in_ok-found.found.place c.args.stack.now
-          c.in_ok-found.ensures.within,
+      length_below c.in_ok-found.found.place c.args.stack.now c.in_ok-found.ensures.within,
     ) c.in-Err.ensures.err.2)

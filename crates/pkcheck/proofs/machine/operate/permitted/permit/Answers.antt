@@ -15,8 +15,7 @@ unknown_refused AnyImport h = absurd (h refl)
 pub returns-in-Unknown-clause-err : goal.returns-in-Unknown-clause-err
 returns-in-Unknown-clause-err c = inl (
   UnknownImport,
-  rw c.in-Unknown.is
-      (unknown_refused c.args.policy.now c.in_default.not-AnyImport),
+  rw c.in-Unknown.is (unknown_refused c.args.policy.now c.in_default.not-AnyImport),
   refl,
   refl,
 )

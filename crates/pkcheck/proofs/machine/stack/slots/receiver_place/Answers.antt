@@ -11,8 +11,7 @@ returns-in_default-stack-clause-err c =
     let e = items_at_bar c.args.stack.now c.in-Some.place (c.in-Some.place - 1) _ (omega arith)
     (omega (arith, c.in-Some.ensures.value.0)) 1 0 refl c.in_default-stack.is in (
       NoItem,
-      receiver_missing c.args.rule (shown c.args.stack.now []) _ c.in-Some.ensures.value.1
-          NoItem e,
+      receiver_missing c.args.rule (shown c.args.stack.now []) _ c.in-Some.ensures.value.1 NoItem e,
       refl,
     )
 
@@ -23,8 +22,7 @@ returns-in-Some-rule_fault-clause-err c =
     let f = c.in-Some-rule_fault.ensures (values_of (drop c.in-Some.place c.args.stack.now))
     (omega (arith, c.in-Some.ensures.count)) in (
       f.0,
-      receiver_breaks c.args.rule (shown c.args.stack.now []) _ c.in-Some.ensures.value.1 _ _ e
-          f.1,
+      receiver_breaks c.args.rule (shown c.args.stack.now []) _ c.in-Some.ensures.value.1 _ _ e f.1,
       f.2,
     )
 

@@ -1,4 +1,4 @@
--- An exact reader of a value gives an exact reader of the arguments that hold the value.
+-- Exact readers of arguments, made of exact readers of what the arguments hold.
 use Rattle.std.proofs.Common.{◌≡◌, ℕ, List, ◌++◌, Result, Ok, Err, sym, ap, subst, ◌∙◌, inl, inr}
 use Rattle.pkops.specs.declared.layout.Layout.{Layout}
 use Rattle.pkops.specs.declared.fault.Fault.{Fault}

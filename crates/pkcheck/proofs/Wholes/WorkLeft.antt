@@ -1,4 +1,4 @@
--- What is left to do in a row of pickles, which falls with each instruction.
+-- A measure of what is left to do along a row of pickles.
 use Rattle.std.proofs.Common.{◌≡◌, ℕ, ◌+◌, ◌-◌, ◌*◌, ◌<◌, ◌≤◌, length, arith}
 use Rattle.pkops.specs.Spelling.{Instruction, spelling}
 use Rattle.pkread.specs.Core.{Phase, Open, Ended, Refused}
