@@ -22,6 +22,8 @@ from test_scanning import BAD, GOOD, LIST, npy, tarred, zipped
 
 LARGE = pickle.dumps([random.Random(1).getrandbits(8 * 300_000).to_bytes(300_000, "little")], 4)
 BEHIND = BAD + bytes(300_000)
+SECONDS = 180
+"""How long a process may take. Only one that hangs takes that long, however busy the machine is."""
 
 
 def command(*words, **named):
@@ -36,7 +38,7 @@ def command(*words, **named):
 def told(*words, given=b"", **named):
     """Status, output and errors of the command."""
     began = command(*words, stdin=subprocess.PIPE, **named)
-    out, errors = began.communicate(given, timeout=60)
+    out, errors = began.communicate(given, timeout=SECONDS)
     return began.returncode, out.decode("utf-8"), errors.decode("utf-8")
 
 
@@ -44,14 +46,15 @@ def told_from(other, *words):
     """The same, where standard input is the output of another process."""
     began = command(*words, stdin=other.stdout)
     other.stdout.close()
-    out, errors = began.communicate(timeout=60)
+    out, errors = began.communicate(timeout=SECONDS)
     other.wait()
     return began.returncode, out.decode("utf-8"), errors.decode("utf-8")
 
 
 def opened_for_writing(pipe):
     """The pipe, once somebody reads from it."""
-    for _ in range(400):
+    last = time.monotonic() + SECONDS
+    while time.monotonic() < last:
         try:
             return os.open(pipe, os.O_WRONLY | os.O_NONBLOCK)
         except OSError:
@@ -207,7 +210,7 @@ class HostileFiles(unittest.TestCase):
                 began = command("scan", pipe, "--jobs", "2", start_new_session=True)
                 writer = opened_for_writing(pipe)
                 os.kill(began.pid, sent)
-                _, errors = began.communicate(timeout=20)  # no process is left that holds the pipe
+                _, errors = began.communicate(timeout=SECONDS)  # no process is left that holds it
                 os.close(writer)
                 self.assertEqual((began.returncode, errors), (status, b""))
 
