@@ -10,6 +10,7 @@ ghost use Rattle.pkops.specs.Spelling.{Argument, IsLine, layout_at, line_feed, s
 ghost use Rattle.pkops.specs.declared.Layout.TheVariants as layout;
 ghost use Rattle.pkops.specs.Table.{code_of};
 ghost use Rattle.pkops.specs.declared.Op.{Op as SpecOp};
+ghost use Rattle.pkops.specs.declared.Op.TheVariants as op;
 ghost use Rattle.pkread.specs.Private.Gathering.{HasFixedLength, IsFront, IsInFront};
 ghost use Rattle.pkread.specs.Private.Judging.{is_plain};
 
@@ -22,6 +23,9 @@ const SHORT_TEXT: u8 = 0x8c;
 
 /// The code of SHORT_BINBYTES.
 const SHORT_BYTES: u8 = 0x43;
+
+/// The highest protocol that is known.
+const HIGHEST_PROTOCOL: u8 = 5;
 
 /// The most bytes that are searched for the ends of lines.
 const LINES: usize = 257;
@@ -152,12 +156,27 @@ fn varying_length(code: u8, bytes: &[u8], limits: &Limits) -> usize
     let Some(op) = op_of_byte(code) else {
         return 0;
     };
+    if let Op::Proto = op {
+        return proto_length(bytes);
+    }
     match layout_of_op(op) {
         Layout::Counted(width, false) => counted_length(op, width, bytes, limits),
         Layout::Line(most) => line_length(op, most, bytes),
         Layout::Pair(most) => pair_length(op, most, bytes),
         _ => 0,
     }
+}
+
+/// The number of bytes of the PROTO that the bytes begin with, or 0 if they don't hold all of it, or
+/// its protocol is unknown.
+fn proto_length(bytes: &[u8]) -> usize
+    requires code { code_of op.Proto ≡ slice_index bytes.now 0 }
+    ensures { (limits : Bounds) → result ≢ 0 → IsInFront limits op.Proto result bytes.now }
+{
+    if bytes.len() < 2 || bytes[1] > HIGHEST_PROTOCOL {
+        return 0;
+    }
+    2
 }
 
 /// The limit on the payload of an opcode.

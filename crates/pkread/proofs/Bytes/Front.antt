@@ -11,7 +11,7 @@ use Rattle.std.proofs.lemmas.List.{get_or-take, length-drop, length-take, take-a
 use Rattle.std.proofs.lemmas.List.{take-append-le, take-take, take_all, take_at, take_more}
 use Rattle.std.proofs.lemmas.List.Quantifiers.{position-Some}
 use Rattle.std.proofs.lemmas.Bool.Decides.{Decides-ltb, nat_tests}
-use Rattle.byteorder.specs.Endian.{little_from}
+use Rattle.byteorder.specs.Endian.{little_bytes, little_from}
 use Rattle.byteorder.specs.Numbers.{little_from-lt}
 use Rattle.pkops.specs.Contents.{IsGood, Keeps, rule_of}
 use Rattle.pkops.specs.Growth.{CountLaws, FieldLaws}
@@ -31,6 +31,7 @@ use Rattle.pkread.proofs.Bytes.Lengths.{field_few, is_few}
 use Rattle.pkread.proofs.Bytes.Plain.{any_rule, takes_any, text_admitted, text_rule}
 use Rattle.pkread.proofs.Bytes.Taken.{AreBytes-take}
 use Rattle.pkread.proofs.Bytes.Texts.{line_admitted, pair_admitted}
+use Rattle.pkread.specs.Admission.{objection}
 use Rattle.pkread.specs.Framing.{other}
 use Rattle.pkread.specs.Pieces.{role_of}
 use Rattle.pkread.specs.Private.Gathering.{HasFixedLength, IsFront, IsInFront}
@@ -96,6 +97,43 @@ fixed_front fields limits n o (x ∷ rest) h fits room code =
       few = is_few limits.counted n (omega (arith, is, few));
       within = room;
     }
+
+-- a known protocol is spelled in one byte, and PROTO with it is admitted
+protocol_is : (version : ℕ) → version ≤ 5 → (little_bytes 1 version ≡ version ∷ [])
+    × (objection (instruction op.Proto (Number 1 version)) ≡ None)
+protocol_is zero known = (refl, refl)
+protocol_is (suc zero) known = (refl, refl)
+protocol_is (suc (suc zero)) known = (refl, refl)
+protocol_is (suc (suc (suc zero))) known = (refl, refl)
+protocol_is (suc (suc (suc (suc zero)))) known = (refl, refl)
+protocol_is (suc (suc (suc (suc (suc zero))))) known = (refl, refl)
+protocol_is (suc (suc (suc (suc (suc (suc more)))))) known = absurd (omega (arith, known))
+
+-- PROTO with a known protocol
+pub proto_front : (limits : Bounds) (bytes : List ℕ) → 2 ≤ length bytes →
+    code_of op.Proto ≡ get_or bytes 0 0 → get_or bytes 1 0 ≤ 5 → IsInFront limits op.Proto 2 bytes
+proto_front limits [] room code known = absurd (omega (arith, room))
+proto_front limits (x ∷ []) room code known = absurd (omega (arith, room))
+proto_front limits (x ∷ version ∷ rest) room code known =
+    let is = protocol_is version known in
+    let small : version < 256 = omega (arith, known) in (
+      0,
+      record {
+        found = record {
+          arg = Number 1 version;
+          lies = record {
+            laid = record { suits = (refl, small); within = tt };
+            spelled = rw (code, is.0) refl;
+            split_is = refl;
+          };
+          good = record { suits = (refl, small); contents = tt };
+          admitted = is.1;
+        };
+        role = refl;
+        few = is_few limits.counted 2 (omega arith);
+        within = room;
+      },
+    )
 
 -- an opcode with an argument that varies in length is neither STOP nor FRAME
 counted_role : (o : Op) (size : Width) → layout_at o ≡ layout.Counted size false →

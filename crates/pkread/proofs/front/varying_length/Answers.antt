@@ -3,6 +3,13 @@ use Rattle.pkops.specs.declared.Op.{Op}
 use Rattle.pkread.specs.Private.Gathering.{IsInFront}
 use Rattle.pkread.proofs.front.varying_length.Goals as goal
 
+pub returns-in-Proto : goal.returns-in-Proto
+returns-in-Proto c o code ne =
+    subst (λ (x : Op). IsInFront c.args.limits.now x c.proto_length.result c.args.bytes.now)
+    (c.one_code.ensures c.in-Some.op o (c.in-Some.ensures.found ∙ sym code))
+    (subst (λ (x : Op). IsInFront c.args.limits.now x c.proto_length.result c.args.bytes.now)
+    (sym c.in-Proto.is) (c.proto_length.ensures c.args.limits.now ne))
+
 pub returns-in-Counted-default-false : goal.returns-in-Counted-default-false
 returns-in-Counted-default-false c o code ne =
     subst (λ (x : Op). IsInFront c.args.limits.now x
