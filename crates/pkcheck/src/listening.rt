@@ -94,7 +94,7 @@ pub fn check_heard<R: Source, L: Listener>(
             Ok(Next::Ended) => {
                 return Ok(Ok(Yes {
                     taken: reader.taken(),
-                    imports: session.into_imports(),
+                    imports: session.take_imports(),
                 }));
             }
             Ok(Next::Inst { at, inst }) => {

@@ -49,6 +49,7 @@ use pkops::{Inst, Limits, Op};
 use pkread::Reason;
 use std::alloc::{AllocError, Global};
 use std::marker::Model;
+use std::mem;
 pub use stepping::Moved;
 
 /// A machine that follows the instructions of a pickle and knows what is true in every run of it,
@@ -260,19 +261,20 @@ impl Machine {
         Ok(())
     }
 
-    /// The imports, consuming the machine.
-    pub(crate) fn into_imports(self) -> Imports
-        ensures { result ≡ self.imports }
+    /// Moves the imports out. Nothing is known afterwards.
+    pub(crate) fn take_imports(&mut self) -> Imports
+        ensures { result ≡ self.old.imports }
     {
-        let Machine { held, .. } = self;
-        held.into_imports()
+        self.held.take_imports(self.terms.alloc)
     }
 
-    /// The pair that was off the list, consuming the machine.
-    pub(crate) fn into_off_list(self) -> Option<Asked>
-        ensures { option_map asked_shown result ≡ self.off }
+    /// Moves out the pair that was off the list. The machine then begins again.
+    pub(crate) fn take_off_list(&mut self) -> Option<Asked>
+        ensures { option_map asked_shown result ≡ self.old.off }
     {
-        let Machine { off, .. } = self;
+        let terms = self.terms;
+        let fresh = Machine::new_as(terms.alloc, &terms.limits, terms.old_strings);
+        let Machine { off, .. } = mem::replace(self, fresh);
         off
     }
 

@@ -93,29 +93,33 @@ pub fn check_all<R: Source>(
             if let Err(reason) = session.judge_lent(&inst, policy) {
                 let at = reader.taken();
                 reader.advance(length);
-                return Err(row.refused(session, at, reason));
+                return Err(row.refused(&mut session, at, reason));
             }
             reader.advance(length);
             continue;
         }
         match reader.next_head() {
-            Err(refusal) => return Err(row.refused(session, refusal.at, refusal.reason)),
+            Err(refusal) => return Err(row.refused(&mut session, refusal.at, refusal.reason)),
             Ok(Head::Ended) => {
                 let taken = reader.taken();
                 match row.next(&mut reader, &mut session) {
-                    Err(refusal) => return Err(row.refused(session, refusal.at, refusal.reason)),
+                    Err(refusal) => return Err(row.refused(
+                        &mut session,
+                        refusal.at,
+                        refusal.reason,
+                    )),
                     Ok(true) => {}
-                    Ok(false) => return Ok(row.accepted(taken, session)),
+                    Ok(false) => return Ok(row.accepted(taken, &mut session)),
                 }
             }
             Ok(Head::Passed { at, op, .. }) => {
                 if let Err(reason) = session.judge_passed(op, reader.taken() - at, policy) {
-                    return Err(row.refused(session, at, reason));
+                    return Err(row.refused(&mut session, at, reason));
                 }
             }
             Ok(Head::Inst { at, inst }) => {
                 if let Err(reason) = session.judge(&inst, policy) {
-                    return Err(row.refused(session, at, reason));
+                    return Err(row.refused(&mut session, at, reason));
                 }
             }
         }
@@ -174,11 +178,11 @@ impl Row {
     }
 
     /// The accepted row, in which this many bytes were taken.
-    fn accepted(self, taken: u64, session: Session) -> YesAll
+    fn accepted(self, taken: u64, session: &mut Session) -> YesAll
         ensures taken { result.taken ≡ taken }
         ensures pickles { result.pickles ≡ self.pickles }
         ensures imports { result.imports
-            ≡ listed_in self.memo self.apart.asked session.machine.imports }
+            ≡ listed_in self.memo self.apart.asked session.old.machine.imports }
     {
         let Row {
             memo,
@@ -187,7 +191,7 @@ impl Row {
         } = self;
         let imports = match memo {
             Memo::Fresh => Imports::from_ledger(apart),
-            Memo::Kept => session.into_imports(),
+            Memo::Kept => session.take_imports(),
         };
         YesAll {
             taken,
@@ -197,9 +201,9 @@ impl Row {
     }
 
     /// The refusal of the pickle behind those so far, at this offset, for this reason.
-    fn refused(self, session: Session, at: u64, reason: Reason) -> NoAll
+    fn refused(self, session: &mut Session, at: u64, reason: Reason) -> NoAll
         ensures pickle { result.pickle ≡ self.pickles }
-        ensures no { IsNoAt at reason session.machine.off result.no }
+        ensures no { IsNoAt at reason session.old.machine.off result.no }
     {
         NoAll {
             pickle: self.pickles,

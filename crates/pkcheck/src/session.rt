@@ -130,24 +130,25 @@ impl Session {
         Ok(())
     }
 
-    /// The refusal of a pickle at this offset, for this reason.
-    pub fn refuse(self, at: u64, reason: Reason) -> No
-        ensures { IsNoAt at reason self.machine.off result }
+    /// The refusal of a pickle at this offset, for this reason. This ends the session. It is taken
+    /// by reference, because a call that moves it needs a stack slot for it, and the compiler
+    /// clears the slots of all such calls at the start of every check.
+    #[inline(never)]
+    pub fn refuse(&mut self, at: u64, reason: Reason) -> No
+        ensures { IsNoAt at reason self.old.machine.off result }
     {
-        let Session { machine, .. } = self;
         No {
             at,
             reason,
-            pair: machine.into_off_list(),
+            pair: self.machine.take_off_list(),
         }
     }
 
-    /// The imports, consuming the session.
-    pub fn into_imports(self) -> Imports
-        ensures { result ≡ self.machine.imports }
+    /// The imports. This ends the session. See `refuse`.
+    pub fn take_imports(&mut self) -> Imports
+        ensures { result ≡ self.old.machine.imports }
     {
-        let Session { machine, .. } = self;
-        machine.into_imports()
+        self.machine.take_imports()
     }
 }
 

@@ -33,6 +33,7 @@ use pkops::{Inst, Limits, Op};
 use pkread::Reason;
 use std::alloc::{AllocError, Global};
 use std::marker::Model;
+use std::mem;
 
 /// What is known about the stack and the memo, and the imports so far.
 #[derive(Drop)]
@@ -118,12 +119,14 @@ impl Held {
         imports.append(alloc, &self.ledger)
     }
 
-    /// The imports, consuming the rest.
-    pub fn into_imports(self) -> Imports
-        ensures { result ≡ self.imports }
+    /// Moves the imports out, and forgets the rest.
+    pub fn take_imports(&mut self, alloc: Global) -> Imports
+        ensures imports { result ≡ self.old.imports }
+        ensures after { self.new ≡ record { knowledge = nothing_known; texts = 0; imports = [] } }
     {
-        let Held { ledger, .. } = self;
-        Imports::from_ledger(ledger)
+        self.stack.clear();
+        self.memo.clear();
+        Imports::from_ledger(mem::replace(&mut self.ledger, Ledger::new(alloc)))
     }
 
     /// Pushes a new object of this class.

@@ -159,7 +159,7 @@ returns-in-Ok-Ended-clause-answer g c =
     let w = accepted _ _ _ _ _ r.0 r.1 _ _ _ r.2 _ _ _ e.0
     (let same = ap (λ s. s.source) e.1 in seen_so _ _ _ k.3 (search rules) ∙ same)
     (from_start _ _ (c.taken.ensures ∙ ap (λ s. s.taken) e.1))
-    (c.into_imports.ensures ∙ r.2.imports) in
+    (c.take_imports.ensures ∙ r.2.imports) in
     (r.3, record { right = w.0; each = subst (λ p. AreHeardBehind [] p r.3) (sym w.1) r.4 }, r.5)
 
 pub returns-in-Err-judge-clause-answer : goal.returns-in-Err-judge-clause-answer
@@ -183,6 +183,17 @@ returns-in-Err-judge-clause-answer g c =
       record { right = w.0; each = each },
       g.met.L.Listener.hears_more _ _ _ r.3 x r.5 c.in_ok-hear-in-Ok-Inst.ensures,
     )
+
+pub returns-in-Err-judge-clause-count : goal.returns-in-Err-judge-clause-count
+returns-in-Err-judge-clause-count g c =
+    let k = c.next.follows.holds-at-none in
+    let r = c.instructions.invariant.checked in
+    let took = took_next _ _ _ r.0 _ r.2.reads r.2.read_limits _ refl c.nexts.ensures.given
+    c.next.result c.in-Ok-Inst.at c.in-Ok-Inst.inst k.1
+    (cc (c.in-Ok-Inst.is, c.in-Ok-Inst.field-0-is)) in
+    count_took _ _ _ _ _ r.0 r.1 _ _ _ r.2 _ c.in-Ok-Inst.at (instruction_of c.in-Ok-Inst.inst) _ _
+    _ _ _ (returns-in-Err-judge-clause-answer g c).1.right c.refuse-in-Err-judge.ensures.why took
+    (seen_so _ _ _ k.3 (search rules)) _ c.in-Err-judge.ensures.err
 
 pub returns-in_err-hear-in-Ok-Inst-clause-cut_short :
     goal.returns-in_err-hear-in-Ok-Inst-clause-cut_short

@@ -28,16 +28,15 @@ piece-requires-clause-within c =
     (rw c.entries-ends.ensures at c.end_of-end.ensures) in
     rw c.deref.ensures.value found.within
 
-pub unreachable-requires : goal.unreachable-requires
-unreachable-requires c =
+pub from_utf8_unchecked-requires : goal.from_utf8_unchecked-requires
+from_utf8_unchecked-requires c =
     let many = how_many _ c.self.inside.ends c.self.inside.bytes.items c.self.invariant in
     let found = lies_by _ c.self.inside.ends c.self.inside.bytes.items c.self.invariant
     c.args.number c.start_of-start.result c.end_of-end.result
     (omega (arith, many, c.len.ensures.value)) c.start_of-start.ensures.first
     (rw c.entries-ends.ensures at c.start_of-start.ensures.next)
     (rw c.entries-ends.ensures at c.end_of-end.ensures) in
-    c.in_default.ensures.cases.0
-    (rw (c.piece.ensures, c.deref.ensures.value, found.text) found.utf8)
+    rw (c.piece.ensures, c.deref.ensures.value, found.text) found.utf8
 
 pub returns : goal.returns
 returns c =
@@ -47,5 +46,5 @@ returns c =
     (omega (arith, many, c.len.ensures.value)) c.start_of-start.ensures.first
     (rw c.entries-ends.ensures at c.start_of-start.ensures.next)
     (rw c.entries-ends.ensures at c.end_of-end.ensures) in
-    c.in-Ok.ensures.cases.0 ∙ c.piece.ensures ∙ rw c.deref.ensures.value found.text
+    c.from_utf8_unchecked.ensures ∙ c.piece.ensures ∙ rw c.deref.ensures.value found.text
     ∙ ap (λ ts. get_or ts c.args.number []) c.self.view_is
