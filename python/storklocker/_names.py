@@ -2,6 +2,7 @@
 
 import _compat_pickle as tables
 import functools
+import sys
 
 TYPE_CHECKING = False
 if TYPE_CHECKING:
@@ -55,4 +56,5 @@ def is_lost(pair: "Pair") -> bool:
         return False
     from importlib.util import find_spec
 
-    return find_spec(pair[0].partition(".")[0]) is None
+    top = pair[0].partition(".")[0]
+    return sys.modules.get(top) is None and find_spec(top) is None

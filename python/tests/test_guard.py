@@ -15,7 +15,9 @@ import pickle
 import sys
 import tempfile
 import threading
+import types
 import unittest
+import unittest.mock
 from pathlib import Path
 
 import storklocker
@@ -602,6 +604,13 @@ class OldNames(unittest.TestCase):
         with self.assertRaises(Refused) as raised:
             guard.loads(b"c__builtin__\neval\n.")
         self.assertEqual(raised.exception.hint, "")
+
+    def test_an_old_name_that_the_process_has_given_to_a_module(self):
+        made = types.ModuleType("Queue")  # its `__spec__` is None
+        made.Queue = list
+        with unittest.mock.patch.dict(sys.modules, Queue=made):
+            guard = Guard(AllowList([("Queue", "Queue")]))
+            self.assertIs(guard.loads(b"cQueue\nQueue\n."), list)
 
     def test_each_pair_of_the_tables(self):
         import _compat_pickle
