@@ -18,7 +18,10 @@ FIRST_BLOCK = 1 << 14
 
 def block_of(read: Callable[..., Any], count: int) -> bytes:
     """Reads up to `count` bytes; returns none at the end of the file."""
-    given = read(count)
+    try:
+        given = read(count)
+    except UnicodeDecodeError as error:
+        raise TypeError("the file must be open in binary mode: it decodes its bytes") from error
     if given is None:
         raise BlockingIOError("the file has no bytes yet: use a file in blocking mode")
     if isinstance(given, (bytes, bytearray, memoryview)):

@@ -381,11 +381,15 @@ class Files(unittest.TestCase):
             (Silent(), BlockingIOError),
             (io.StringIO("N."), TypeError),
             (open(os.devnull), TypeError),
+            (io.TextIOWrapper(io.BytesIO(b"\x80\x04N."), "utf-8"), TypeError),
+            (io.TextIOWrapper(Piped(b"\x80\x04N."), "utf-8"), TypeError),
             (open(os.devnull, "wb"), OSError),
             (Minimal, TypeError),
         ):
             with self.subTest(file=file), self.assertRaises(error):
                 GUARD.load(file)
+            with self.subTest(file=file), self.assertRaises(error):
+                GUARD.Unpickler(file).load()
             getattr(file, "close", lambda: None)() if not isinstance(file, type) else None
 
     def test_a_closed_file(self):
