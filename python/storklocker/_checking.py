@@ -2,6 +2,7 @@
 
 from __future__ import annotations
 
+from ._limits import flag
 from ._lists import settings_of
 from ._storklocker import row_verdict, verdict
 
@@ -52,7 +53,8 @@ def check_row(
     means that one Unpickler loads them all and keeps its memo. From 4 MiB on, Ctrl-C ends a call in
     the main thread at once, and the check runs to its end in the background.
     """
-    settings = settings_of(allow, limits, old_strings, bool(one_unpickler))
+    keeps_memo = flag("one_unpickler", one_unpickler)
+    settings = settings_of(allow, limits, old_strings, keeps_memo)
     if type(data) is bytes and len(data) >= INTERRUPTIBLE_FROM:
         from ._waiting import interruptible
 

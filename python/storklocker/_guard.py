@@ -5,7 +5,7 @@ import pickle
 
 from . import _names
 from ._answers import MoreBytes, Reason, Refused, Verdict
-from ._limits import Limits
+from ._limits import Limits, flag
 from ._lists import AllowList, settings_of
 from ._storklocker import verdict, verdict_unless_whole
 
@@ -40,7 +40,7 @@ def loads(
     `pickle.loads` raises. A buffer other than `bytes` is copied first, so that exactly the checked
     bytes are loaded.
     """
-    if limits is None and old_strings == "unknown" and not fix_imports:
+    if limits is None and old_strings == "unknown" and fix_imports is False:
         guard = _plain_guard(allow)
     else:
         guard = Guard(allow, limits=limits, old_strings=old_strings, fix_imports=fix_imports)
@@ -148,9 +148,9 @@ class Guard:
         self._old_strings = old_strings
         is_own = settings == settings_of(allow, None, "unknown")
         self._settings = None if is_own else settings  # None is faster: they are the list's own
-        self._fix_imports = bool(fix_imports)
+        self._fix_imports = flag("fix_imports", fix_imports)
         self._on_refusal = on_refusal
-        self._enforce = bool(enforce)
+        self._enforce = flag("enforce", enforce)
         self._is_plain = not fix_imports and old_strings != "bytes"
         self._new = allow._for_loading()
         self._old = allow._for_old_names() if fix_imports else self._new

@@ -62,11 +62,18 @@ class Limits(namedtuple("Limits", "counted stack memo passed numbers large")):
             _limit(memo),
             _limit(passed),
             _limit(numbers),
-            bool(large),
+            flag("large", large),
         )
 
     def __reduce__(self) -> "Tuple[Any, ...]":
         return (limits_of, tuple(self))
+
+
+def flag(name: str, given: bool) -> bool:
+    """An argument that must be a bool: None or "no" could mean the opposite of its truth value."""
+    if not isinstance(given, bool):
+        raise TypeError(f"{name} must be True or False, not {given!r:.80}")
+    return given
 
 
 def _limit(number: int) -> int:
