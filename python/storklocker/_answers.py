@@ -267,8 +267,7 @@ class MoreBytes(Refused):
     hint = ""
 
     def __str__(self) -> str:
-        more = self.length - self.taken
-        return f"{more} bytes stand behind the pickle, which has {self.taken}"
+        return f"the pickle ends after {self.taken} of {self.length} bytes"
 
     @property
     def length(self) -> int:

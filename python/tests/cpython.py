@@ -23,7 +23,7 @@ NOT_COVERED = {
     "test_global_ext2": CODES,
     "test_global_ext4": CODES,
     "test_maxint64": KIND,
-    "test_misc_get": "bytes stand behind its pickle",
+    "test_misc_get": "more bytes follow its pickle",
     "test_negative_put": KIND,
     "test_priming_unpickler_memo": "a memo that was set from outside is unknown to a check",
     "test_proto": KIND,
