@@ -77,6 +77,13 @@ def _hint(pair: "Optional[Tuple[str, str]]", allow: AllowList, fix_imports: bool
     return f"Python 3 calls it {named}, {listed}: fix_imports=True"
 
 
+def _view_of(data: "Any") -> memoryview:
+    try:
+        return memoryview(data)
+    except TypeError:
+        raise TypeError(f"data must be bytes or another buffer, not {type(data)!r}") from None
+
+
 class Guard:
     """A replacement for the module `pickle` that loads only what a proved checker has accepted.
 
@@ -235,7 +242,7 @@ class Guard:
         """`loads`, which runs in a thread from 65,536 bytes on, so that the check of a large pickle
         doesn't block the event loop.
         """
-        if memoryview(data).nbytes < ASYNC_FROM:
+        if _view_of(data).nbytes < ASYNC_FROM:
             return self.loads(data, **named)
         import asyncio
         import contextvars
@@ -318,7 +325,7 @@ class Guard:
     def _copied(self, data: "Any") -> bytes:
         """A copy of a buffer as bytes. Checks the front of a long buffer before copying all of it.
         """
-        view = memoryview(data)
+        view = _view_of(data)
         if view.nbytes > 2 * _FRONT and view.c_contiguous:
             front = bytes(pickle.PickleBuffer(data).raw()[:_FRONT])
             verdict = self._judge(front)

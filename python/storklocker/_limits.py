@@ -57,11 +57,11 @@ class Limits(namedtuple("Limits", "counted stack memo passed numbers large")):
     ) -> "Limits":
         return super().__new__(
             cls,
-            _limit(counted),
-            _limit(stack),
-            _limit(memo),
-            _limit(passed),
-            _limit(numbers),
+            _limit("counted", counted),
+            _limit("stack", stack),
+            _limit("memo", memo),
+            _limit("passed", passed),
+            _limit("numbers", numbers),
             flag("large", large),
         )
 
@@ -76,10 +76,12 @@ def flag(name: str, given: bool) -> bool:
     return given
 
 
-def _limit(number: int) -> int:
-    if 0 <= operator.index(number) < 1 << 64:
-        return int(number)
-    raise ValueError("a limit must be a number from 0 to 2 ** 64 - 1")
+def _limit(name: str, number: int) -> int:
+    if not hasattr(number, "__index__"):
+        raise TypeError(f"{name} must be a whole number, not {number!r:.80}")
+    if not 0 <= operator.index(number) < 1 << 64:
+        raise ValueError(f"{name} must be a number from 0 to 2 ** 64 - 1, not {number!r:.80}")
+    return int(number)
 
 
 def limits_of(counted: int, stack: int, memo: int, passed: int, numbers: int, large: int) -> Limits:

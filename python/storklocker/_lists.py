@@ -62,7 +62,7 @@ class AllowList(_Pairs):
         """
         if not isinstance(text, (str, bytes, bytearray)):
             raise TypeError(f"the text of a list file must be str or bytes, not {type(text)!r}")
-        data = text.encode() if isinstance(text, str) else bytes(text)
+        data = _bytes_of(text) if isinstance(text, str) else bytes(text)
         (fault, numbers), room = with_room(lambda size: read_list(data, size))
         if fault != 0:
             words = LIST_FAULTS[fault]
@@ -193,7 +193,7 @@ def _pairs_in(given: "Any") -> "Iterator[Any]":
                 f"the names of module {module!r} must be a list of strings, not {names!r:.80}"
             )
         for name in names:
-            yield (f"a name of module {module!r}", (module, name))
+            yield (f"an entry of module {module!r}", (module, name))
 
 
 def _encoded(given: "Any") -> "Iterator[Tuple[bytes, bytes]]":
@@ -203,7 +203,7 @@ def _encoded(given: "Any") -> "Iterator[Tuple[bytes, bytes]]":
         )
     for words, pair in _pairs_in(given):
         if not _is_pair(pair):
-            raise TypeError(f"{words} is not a pair of a module and a name: {pair!r:.80}")
+            raise TypeError(f"{words} must be two strings, a module and a name, not {pair!r:.80}")
         if not (pair[0] and pair[1]):
             raise ValueError(f"{words} has an empty module or name: {pair!r:.80}")
         yield (pair[0].encode(), pair[1].encode())

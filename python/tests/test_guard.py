@@ -176,14 +176,15 @@ class Loads(unittest.TestCase):
 
     def test_bad_input(self):
         for given in (None, "N.", 5, [78, 46], object()):
-            with self.subTest(given=given), self.assertRaises(TypeError):
-                GUARD.loads(given)
-            with self.subTest(given=given), self.assertRaises(TypeError):
-                GUARD.load(given)
-            with self.subTest(given=given), self.assertRaises(TypeError):
-                GUARD.check(given)
-            with self.subTest(given=given), self.assertRaises(TypeError):
-                asyncio.run(GUARD.loads_async(given))
+            for words, call in (
+                ("data must be bytes", GUARD.loads),
+                ("data must be bytes", GUARD.check),
+                ("data must be bytes", lambda it: asyncio.run(GUARD.loads_async(it))),
+                ("file must have 'read'", GUARD.load),
+                ("file must have 'read'", GUARD.Unpickler),
+            ):
+                with self.subTest(given=given), self.assertRaisesRegex(TypeError, words):
+                    call(given)
         for given in (None, [("a", "b")], "list.toml", {"a": ["b"]}, AllowList):
             for call in (
                 lambda: Guard(given),

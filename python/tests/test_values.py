@@ -107,6 +107,8 @@ class Lists(unittest.TestCase):
         for given in (None, 5, ["version = 1"]):
             with self.subTest(given=given), self.assertRaises(TypeError):
                 AllowList.from_text(given)
+        with self.assertRaises(storklocker.ListFault):
+            AllowList.from_text('version = 1\n[imports]\na = ["\ud800"]')
         with self.assertRaises(OSError):
             AllowList.from_file("no such file")
         for given in (None, 0, [], io.BytesIO()):
@@ -209,10 +211,10 @@ class LimitsOfAll(unittest.TestCase):
     def test_what_is_no_limit(self):
         for word in ("counted", "stack", "memo", "passed", "numbers"):
             for number in (-1, 1 << 64):
-                with self.subTest(word=word), self.assertRaises(ValueError):
+                with self.subTest(word=word), self.assertRaisesRegex(ValueError, f"^{word} must"):
                     Limits(**{word: number})
-            for number in ("1", 1.5, b"1"):
-                with self.subTest(word=word), self.assertRaises(TypeError):
+            for number in ("1", 1.5, b"1", None):
+                with self.subTest(word=word), self.assertRaisesRegex(TypeError, f"^{word} must"):
                     Limits(**{word: number})
         with self.assertRaises(TypeError):
             Limits(heap=1)
