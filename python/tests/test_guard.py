@@ -203,14 +203,14 @@ class Loads(unittest.TestCase):
                 Guard(BY_PAIRS, old_strings=word)
         for given in (None, 0, 1, "", "no"):
             for name, call in (
-                ("enforce", lambda: Guard(BY_PAIRS, enforce=given)),
-                ("fix_imports", lambda: Guard(BY_PAIRS, fix_imports=given)),
-                ("fix_imports", lambda: storklocker.loads(b"N.", BY_PAIRS, fix_imports=given)),
-                ("one_unpickler", lambda: storklocker.check_row(b"", BY_PAIRS, one_unpickler=given)),
-                ("large", lambda: storklocker.Limits(large=given)),
+                ("enforce", lambda **named: Guard(BY_PAIRS, **named)),
+                ("fix_imports", lambda **named: Guard(BY_PAIRS, **named)),
+                ("fix_imports", lambda **named: storklocker.loads(b"N.", BY_PAIRS, **named)),
+                ("one_unpickler", lambda **named: storklocker.check_row(b"", BY_PAIRS, **named)),
+                ("large", storklocker.Limits),
             ):
                 with self.subTest(name=name, given=given), self.assertRaises(TypeError) as raised:
-                    call()
+                    call(**{name: given})
                 self.assertIn(f"{name} must be True or False", str(raised.exception))
         for words in ((), (b"N.",), (b"N.", BY_PAIRS, 5)):
             for call in (storklocker.check, storklocker.check_row):
