@@ -54,7 +54,7 @@ def hostile(number):
     return shapes[number % len(shapes)]
 
 
-SAID = ("ImportOffList", "ImportOffList", "Truncated", "the pickle ends after", "load raised TypeError")
+SAID = ("ImportOffList", "ImportOffList", "Truncated", "pickle ends after", "load raised TypeError")
 """What is said of each of the five, in their order."""
 
 
