@@ -24,7 +24,7 @@ harmless, or that loading succeeds. See docs/PYTHON.md.
 """
 
 # In these modules annotations are in quotes, because importing `__future__` would take 0.2 ms.
-from ._answers import Import, ListFault, MoreBytes, Reason, Refused, RowVerdict, Verdict
+from ._answers import ListFault, MoreBytes, Refused, RowVerdict, Verdict
 from ._limits import Limits
 from ._lists import STANDARD, AllowList
 from ._guard import Guard, loads
@@ -35,7 +35,8 @@ if TYPE_CHECKING:
     from typing import Any, List
 
     from ._checking import check, check_row
-    from ._imports import imports, missing
+    from ._imports import Import, imports, missing
+    from ._reasons import Reason
     from ._refusal import Refusal, context
 
 __all__ = [
@@ -64,8 +65,10 @@ __all__ = [
 _LATER = {
     "check": "_checking",
     "check_row": "_checking",
+    "Import": "_imports",
     "imports": "_imports",
     "missing": "_imports",
+    "Reason": "_reasons",
     "Refusal": "_refusal",
     "context": "_refusal",
 }

@@ -1,6 +1,5 @@
 """Answers of the checker, and the exceptions for refusals."""
 
-import enum
 import functools
 import operator
 import pickle
@@ -9,6 +8,9 @@ TYPE_CHECKING = False  # importing `typing` would take half the time of importin
 if TYPE_CHECKING:
     from collections import namedtuple
     from typing import Any, Dict, Iterable, Optional, Tuple
+
+    from ._imports import Import
+    from ._reasons import Reason
 else:  # that of `collections` compiles code for each class, which would take a tenth of it
 
     def namedtuple(name: str, words: str) -> type:
@@ -48,32 +50,22 @@ class _Fields(tuple):  # type: ignore[type-arg]
         return tuple(self)
 
 
-class Reason(enum.IntEnum):
-    """Why a pickle is refused. Names and numbers match the program's, and never change."""
-
-    Source = 1
-    Truncated = 2
-    UnknownOpcode = 3
-    BadArgument = 4
-    TooLarge = 5
-    ExtensionCode = 6
-    UnsupportedProtocol = 7
-    BrokenFrame = 8
-    MissingMark = 9
-    MissingItem = 10
-    MissingMemo = 11
-    OddItems = 12
-    WrongClass = 13
-    NotText = 14
-    UnknownImport = 15
-    ImportOffList = 16
-    LeftOver = 17
-    OutOfMemory = 18
-    NotAscii = 19
+class _Reasons(list):  # type: ignore[type-arg]
+    """The reasons, indexed by number."""
 
 
-REASONS = (None, *Reason)
-"""The reasons, indexed by number."""
+class _LaterReasons(_Reasons):
+    """A list that its first use fills, because to make the enum would take a quarter of the time of
+    importing the package.
+    """
+
+    def __getitem__(self, number: "Any") -> "Any":
+        from ._reasons import Reason
+
+        self[:] = (None, *Reason)
+        self.__class__ = _Reasons  # type: ignore[assignment]
+        return self[number]
+
 
 LIST_FAULTS = {
     1: "Syntax",
@@ -91,18 +83,6 @@ LIST_FAULTS = {
 
 SHOWN = 64
 """The number of bytes of a name that the text of a refusal shows."""
-
-
-class Import(namedtuple("Import", "module name")):
-    """An import of a pickle. Both fields are None if the pickle doesn't reveal the pair."""
-
-    __slots__ = ()
-
-    module: "Optional[str]"
-    name: "Optional[str]"
-
-    def __new__(cls, module: "Optional[str]", name: "Optional[str]") -> "Import":
-        return super().__new__(cls, module, name)
 
 
 class Verdict(namedtuple("Verdict", "accepted taken imports at reason number pair pickles")):
@@ -160,11 +140,9 @@ class Verdict(namedtuple("Verdict", "accepted taken imports at reason number pai
         """
         asked = self._asked
         if self._missing is None:
-            found: Tuple[Import, ...] = ()
-            if asked:
-                from ._imports import missing_of
+            from ._imports import Import, missing_of
 
-                found = tuple(missing_of(*asked))
+            found = tuple(missing_of(*asked)) if asked else ()
             self._missing = found or (() if self.pair is None else (Import(*self.pair),))
             self._asked = ()
         return self._missing
@@ -200,7 +178,7 @@ class RowVerdict(Verdict):
         return f"no in pickle {self.pickles} at {self.at}: {self._reason(most)}"
 
 
-HELD = (Verdict, RowVerdict, REASONS, "_asked")
+HELD = (Verdict, RowVerdict, _LaterReasons(), "_asked")
 """Objects that the extension module builds answers from, in the order of `_storklocker.c`."""
 
 

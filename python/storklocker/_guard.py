@@ -4,7 +4,7 @@ import functools
 import pickle
 
 from . import _names
-from ._answers import MoreBytes, Reason, Refused, Verdict
+from ._answers import MoreBytes, Refused, Verdict
 from ._limits import Limits, flag
 from ._lists import AllowList, settings_of
 from ._storklocker import verdict, verdict_unless_whole
@@ -327,6 +327,8 @@ class Guard:
         """
         view = _view_of(data)
         if view.nbytes > 2 * _FRONT and view.c_contiguous:
+            from ._reasons import Reason
+
             front = bytes(pickle.PickleBuffer(data).raw()[:_FRONT])
             verdict = self._judge(front)
             if verdict.reason is not Reason.Truncated and self._enforce:

@@ -2,19 +2,34 @@
 
 from __future__ import annotations
 
-from ._answers import Import, Refused
+from ._answers import Refused
 from ._lists import AllowList, records, settings_of, with_room
 from ._storklocker import imports as _imports
 
 TYPE_CHECKING = False
 if TYPE_CHECKING:
+    from collections import namedtuple
     from typing import Iterable, List, Optional, Tuple
 
     from ._answers import Verdict
     from ._limits import Limits
     from ._lists import Names
+else:
+    from ._answers import namedtuple
 
 _NOTHING = AllowList([])
+
+
+class Import(namedtuple("Import", "module name")):
+    """An import of a pickle. Both fields are None if the pickle doesn't reveal the pair."""
+
+    __slots__ = ()
+
+    module: Optional[str]
+    name: Optional[str]
+
+    def __new__(cls, module: Optional[str], name: Optional[str]) -> Import:
+        return super().__new__(cls, module, name)
 
 
 def imports(

@@ -4,7 +4,7 @@ from __future__ import annotations
 
 import io
 
-from ._answers import Reason
+from ._reasons import Reason
 
 TYPE_CHECKING = False
 if TYPE_CHECKING:

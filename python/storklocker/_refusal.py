@@ -6,7 +6,8 @@ import contextlib
 import contextvars
 from typing import Any, Iterator, Tuple
 
-from ._answers import Import, Verdict
+from ._answers import Verdict
+from ._imports import Import
 
 CONTEXT: "contextvars.ContextVar[Any]" = contextvars.ContextVar(
     "storklocker.context", default=None

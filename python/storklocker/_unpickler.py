@@ -8,9 +8,10 @@ import threading
 from typing import TYPE_CHECKING, Any, Dict, Iterable, Optional, Set
 
 from . import _names
-from ._answers import Reason, Verdict
+from ._answers import Verdict
 from ._checking import check_row
 from ._reading import FIRST_BLOCK, block_of, can_step_back
+from ._reasons import Reason
 from ._storklocker import verdict
 from ._walking import Walk
 

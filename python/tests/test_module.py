@@ -194,11 +194,23 @@ class Module(unittest.TestCase):
             "importlib.util",
             "pickletools",
             "json",
+            "storklocker._imports",
+            "storklocker._reasons",
             "threading",
             "typing",
             "typing_extensions",
         ):
             self.assertNotIn(module, imported)
+
+    def test_the_first_reason_is_one_like_any_other(self):
+        said = python(
+            "import storklocker, sys; guard = storklocker.Guard(storklocker.AllowList([]))\n"
+            "guard.loads(b'N.'); print('storklocker._reasons' in sys.modules)\n"
+            "for data in (b'N', b'N.', b'q', b'q'):\n"
+            "    print(repr(guard.check(data).reason))"
+        )
+        reasons = [repr(it) for it in (Reason.Truncated, None, Reason.Truncated, Reason.Truncated)]
+        self.assertEqual(said.splitlines(), ["False", *reasons])
 
     def test_types(self):
         found = (

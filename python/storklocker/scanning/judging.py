@@ -6,11 +6,12 @@ import itertools
 import pickletools
 from typing import Any, BinaryIO, Deque, Dict, Iterator, List, NamedTuple, Optional, Tuple
 
-from .._answers import Reason, Verdict
+from .._answers import Verdict
 from .._checking import check
 from .._imports import imports_in, imports_of
 from .._limits import Limits
 from .._lists import AllowList, records
+from .._reasons import Reason
 from .containers import UNPACKED, Finding, Piece, Stream, pieces_of
 from .dangers import dangers_in
 from .reaching import READERS_STOP, reaches

@@ -11,7 +11,7 @@ from __future__ import annotations
 import pickletools
 from typing import Callable, Dict
 
-from .._answers import Reason
+from .._reasons import Reason
 
 READERS_STOP = frozenset(
     (
