@@ -14,11 +14,12 @@
 enum { VERDICT, ROW_VERDICT, REASONS, ASKED };
 
 struct state {
-    PyObject *held, *pairs;
+    PyObject *pairs; /* the type; its attribute `_held` is `HELD` */
 };
 
 typedef struct {
     PyObject_HEAD
+    PyObject *held;
     PyObject *kept; /* a tuple of pairs of bytes objects, which `pairs` points into */
     struct storklocker_pair *pairs;
     size_t count;
@@ -27,9 +28,10 @@ typedef struct {
 
 /* The arguments of a call, borrowed from the caller, and what they are converted to. */
 struct request {
-    PyObject *data, *allow, *size;
+    PyObject *data, *allow, *made, *size; /* `made`: settings, or None for the list's own */
     const Pairs *list;
-    struct storklocker_settings settings;
+    const struct storklocker_settings *settings;
+    struct storklocker_settings others;
     const uint8_t *bytes;
     size_t length;
 };
@@ -51,6 +53,7 @@ static void pairs_dealloc(PyObject *self) {
     PyTypeObject *type = Py_TYPE(self);
     PyMem_Free(((Pairs *)self)->pairs);
     Py_CLEAR(((Pairs *)self)->kept);
+    Py_CLEAR(((Pairs *)self)->held);
     ((freefunc)PyType_GetSlot(type, Py_tp_free))(self);
     Py_DECREF(type);
 }
@@ -68,6 +71,7 @@ static PyObject *pairs_new(PyTypeObject *type, PyObject *args, PyObject *Py_UNUS
     Py_INCREF(kept);
     self->kept = kept;
     self->settings = settings;
+    self->held = PyObject_GetAttrString((PyObject *)type, "_held");
     self->pairs = PyMem_New(struct storklocker_pair, count + 1);
     if (self->pairs == NULL)
         PyErr_NoMemory();
@@ -83,33 +87,26 @@ static PyObject *pairs_new(PyTypeObject *type, PyObject *args, PyObject *Py_UNUS
     return (PyObject *)self;
 }
 
-static PyMemberDef pairs_members[] = {
-    {"_pairs", T_OBJECT_EX, offsetof(Pairs, kept), READONLY, NULL}, {NULL, 0, 0, 0, NULL}};
-static PyType_Slot pairs_slots[] = {
-    {Py_tp_new, pairs_new},
-    {Py_tp_dealloc, pairs_dealloc},
-    {Py_tp_members, pairs_members},
-    {0, NULL}};
-static PyType_Spec pairs_spec = {
-    "storklocker._storklocker.Pairs", sizeof(Pairs), 0, Py_TPFLAGS_DEFAULT | Py_TPFLAGS_BASETYPE,
-    pairs_slots};
-
-/* Reads the bytes, the list, its settings or None for the list's own, and for some calls a size. */
-static int is_taken(const struct state *state, PyObject *args, struct request *r) {
-    PyObject *settings;
-    r->size = NULL;
-    if (!PyArg_UnpackTuple(args, "a call", 3, 4, &r->data, &r->allow, &settings, &r->size))
-        return 0;
+static int has_bytes(struct request *r) {
     if (!PyBytes_CheckExact(r->data))
-        return is_wrong(
-            "data must be bytes, which cannot change after the check", r->data);
-    if (!PyObject_TypeCheck(r->allow, (PyTypeObject *)state->pairs))
-        return is_wrong("allow must be a storklocker.AllowList", r->allow);
+        return is_wrong("data must be bytes, which cannot change after the check", r->data);
     r->bytes = (const uint8_t *)PyBytes_AsString(r->data);
     r->length = (size_t)PyBytes_Size(r->data);
+    return 1;
+}
+
+/* Reads the bytes, the list, settings or None, and for some calls a size. */
+static int is_taken(PyObject *module, PyObject *args, struct request *r) {
+    const struct state *state = PyModule_GetState(module);
+    r->size = NULL;
+    if (!PyArg_UnpackTuple(args, "a call", 3, 4, &r->data, &r->allow, &r->made, &r->size)
+        || !has_bytes(r))
+        return 0;
+    if (!PyObject_TypeCheck(r->allow, (PyTypeObject *)state->pairs))
+        return is_wrong("allow must be a storklocker.AllowList", r->allow);
     r->list = (const Pairs *)r->allow;
-    r->settings = r->list->settings;
-    return settings == Py_None || has_settings(settings, &r->settings);
+    r->settings = r->made == Py_None ? &r->list->settings : &r->others;
+    return r->made == Py_None || has_settings(r->made, &r->others);
 }
 
 /* Releases the GIL if there are many bytes to check. */
@@ -128,15 +125,15 @@ static void ask(
     call_of_pairs *call, const struct request *r, uint8_t *room, size_t size,
     struct storklocker_verdict *v) {
     PyThreadState *thread = lock_released(r);
-    call(r->list->pairs, r->list->count, &r->settings, r->bytes, r->length, room, size, v);
+    call(r->list->pairs, r->list->count, r->settings, r->bytes, r->length, room, size, v);
     take_lock(thread);
 }
 
 /* A Verdict or a RowVerdict. It steals the reference to the pair. */
 static PyObject *verdict_of(
-    const struct state *state, int kind, const struct storklocker_verdict *v, PyObject *pair) {
-    PyTypeObject *type = (PyTypeObject *)PyTuple_GetItem(state->held, kind);
-    PyObject *reasons = PyTuple_GetItem(state->held, REASONS);
+    PyObject *held, int kind, const struct storklocker_verdict *v, PyObject *pair) {
+    PyTypeObject *type = (PyTypeObject *)PyTuple_GetItem(held, kind);
+    PyObject *reasons = PyTuple_GetItem(held, REASONS);
     int is_numbered = v->reason == STORKLOCKER_UNKNOWN_OPCODE
         || v->reason == STORKLOCKER_UNSUPPORTED_PROTOCOL || v->reason == STORKLOCKER_MISSING_MEMO;
     PyObject *fields[] = {
@@ -173,52 +170,68 @@ static PyObject *pair_of(const struct storklocker_verdict *v, const uint8_t *roo
 
 /* The answer of a call; None if `is_short` and one accepted pickle is all of the bytes. Calls again
    if the names don't fit. A verdict keeps the arguments for its `missing`. */
-static PyObject *answered(
-    PyObject *module, PyObject *args, call_of_pairs *call, int kind, int is_short) {
-    const struct state *state = PyModule_GetState(module);
-    struct request r;
+static PyObject *answered(const struct request *r, call_of_pairs *call, int kind, int is_short) {
     struct storklocker_verdict v;
     uint8_t few[ROOM], *room = few;
-    if (!is_taken(state, args, &r))
-        return NULL;
-    ask(call, &r, room, ROOM, &v);
-    if (is_short && v.status == STORKLOCKER_YES && v.taken == r.length)
+    ask(call, r, room, ROOM, &v);
+    if (is_short && v.status == STORKLOCKER_YES && v.taken == r->length)
         Py_RETURN_NONE;
     size_t wanted = (size_t)(v.module_length + v.name_length);
     if (wanted > ROOM) {
         if ((room = PyMem_Malloc(wanted)) == NULL)
             return PyErr_NoMemory();
-        ask(call, &r, room, wanted, &v);
+        ask(call, r, room, wanted, &v);
     }
-    PyObject *made = verdict_of(state, kind, &v, pair_of(&v, room));
+    PyObject *made = verdict_of(r->list->held, kind, &v, pair_of(&v, room));
     if (room != few)
         PyMem_Free(room);
-    int is_import =
-        v.reason == STORKLOCKER_IMPORT_OFF_LIST || v.reason == STORKLOCKER_UNKNOWN_IMPORT;
-    PyObject *asked = PyTuple_GetItem(state->held, ASKED);
-    if (made != NULL && kind == VERDICT && is_import && PyObject_SetAttr(made, asked, args) < 0)
+    if (made == NULL || kind != VERDICT
+        || (v.reason != STORKLOCKER_IMPORT_OFF_LIST && v.reason != STORKLOCKER_UNKNOWN_IMPORT))
+        return made;
+    PyObject *asked = PyTuple_Pack(3, r->data, r->allow, r->made);
+    if (asked == NULL || PyObject_SetAttr(made, PyTuple_GetItem(r->list->held, ASKED), asked) < 0)
         Py_CLEAR(made);
+    Py_XDECREF(asked);
     return made;
 }
 
 static PyObject *verdict(PyObject *module, PyObject *args) {
-    return answered(module, args, storklocker_check_pairs, VERDICT, 0);
-}
-
-static PyObject *verdict_unless_whole(PyObject *module, PyObject *args) {
-    return answered(module, args, storklocker_check_pairs, VERDICT, 1);
+    struct request r;
+    return is_taken(module, args, &r) ? answered(&r, storklocker_check_pairs, VERDICT, 0) : NULL;
 }
 
 static PyObject *row_verdict(PyObject *module, PyObject *args) {
-    return answered(module, args, storklocker_check_row, ROW_VERDICT, 0);
+    struct request r;
+    return is_taken(module, args, &r) ? answered(&r, storklocker_check_row, ROW_VERDICT, 0) : NULL;
 }
 
+static PyObject *pairs_refusal(PyObject *self, PyObject *data) {
+    struct request r = {.data = data, .allow = self, .made = Py_None, .list = (const Pairs *)self};
+    r.settings = &r.list->settings;
+    return has_bytes(&r) ? answered(&r, storklocker_check_pairs, VERDICT, 1) : NULL;
+}
+
+static PyMemberDef pairs_members[] = {
+    {"_pairs", T_OBJECT_EX, offsetof(Pairs, kept), READONLY, NULL}, {NULL, 0, 0, 0, NULL}};
+static PyMethodDef pairs_methods[] = {
+    {"_refusal", pairs_refusal, METH_O,
+     "None if the pickle is accepted and is all of the bytes, otherwise its Verdict."},
+    {NULL, NULL, 0, NULL}};
+static PyType_Slot pairs_slots[] = {
+    {Py_tp_new, pairs_new},
+    {Py_tp_dealloc, pairs_dealloc},
+    {Py_tp_members, pairs_members},
+    {Py_tp_methods, pairs_methods},
+    {0, NULL}};
+static PyType_Spec pairs_spec = {
+    "storklocker._storklocker.Pairs", sizeof(Pairs), 0, Py_TPFLAGS_DEFAULT | Py_TPFLAGS_BASETYPE,
+    pairs_slots};
+
 static PyObject *imports(PyObject *module, PyObject *args) {
-    const struct state *state = PyModule_GetState(module);
     struct request r;
     struct storklocker_verdict v;
     uint64_t wanted = 0;
-    if (!is_taken(state, args, &r))
+    if (!is_taken(module, args, &r))
         return NULL;
     Py_ssize_t size = PyLong_AsSsize_t(r.size);
     PyObject *room = PyErr_Occurred() ? NULL : PyBytes_FromStringAndSize(NULL, size);
@@ -226,9 +239,10 @@ static PyObject *imports(PyObject *module, PyObject *args) {
         return NULL;
     uint8_t *start = (uint8_t *)PyBytes_AsString(room);
     PyThreadState *thread = lock_released(&r);
-    storklocker_imports(&r.settings, r.bytes, r.length, start, (size_t)size, &wanted, &v);
+    storklocker_imports(r.settings, r.bytes, r.length, start, (size_t)size, &wanted, &v);
     take_lock(thread);
-    return Py_BuildValue("NKN", verdict_of(state, VERDICT, &v, Py_BuildValue("")), wanted, room);
+    PyObject *made = verdict_of(r.list->held, VERDICT, &v, Py_BuildValue(""));
+    return Py_BuildValue("NKN", made, wanted, room);
 }
 
 static PyObject *read_list(PyObject *Py_UNUSED(module), PyObject *args) {
@@ -252,32 +266,28 @@ static PyObject *read_list(PyObject *Py_UNUSED(module), PyObject *args) {
 
 static PyMethodDef methods[] = {
     {"verdict", verdict, METH_VARARGS, "The Verdict of the pickle at the front of the bytes."},
-    {"verdict_unless_whole", verdict_unless_whole, METH_VARARGS,
-     "None if the pickle is accepted and is all of the bytes, otherwise its Verdict."},
     {"row_verdict", row_verdict, METH_VARARGS, "The RowVerdict of all pickles in the bytes."},
     {"imports", imports, METH_VARARGS,
      "The Verdict with every import permitted, bytes needed, and the imports."},
-    {"read_list", read_list, METH_VARARGS,
-     "Fault or 0, limits, bytes needed, and the pairs."},
+    {"read_list", read_list, METH_VARARGS, "Fault or 0, limits, bytes needed, and the pairs."},
     {NULL, NULL, 0, NULL}};
 
 static int filled(PyObject *module) {
     struct state *state = PyModule_GetState(module);
     PyObject *package = PyImport_ImportModule("storklocker._answers");
-    state->held = package != NULL ? PyObject_GetAttrString(package, "HELD") : NULL;
+    PyObject *held = package != NULL ? PyObject_GetAttrString(package, "HELD") : NULL;
     Py_XDECREF(package);
-    state->pairs = state->held != NULL ? PyType_FromSpec(&pairs_spec) : NULL;
-    if (state->pairs == NULL || PyObject_SetAttrString(module, "Pairs", state->pairs) < 0)
-        return -1;
-    return PyModule_AddStringConstant(module, "version", storklocker_version());
+    state->pairs = held != NULL ? PyType_FromSpec(&pairs_spec) : NULL;
+    int is_made = state->pairs != NULL && PyObject_SetAttrString(state->pairs, "_held", held) == 0
+        && PyObject_SetAttrString(module, "Pairs", state->pairs) == 0;
+    Py_XDECREF(held);
+    return is_made ? PyModule_AddStringConstant(module, "version", storklocker_version()) : -1;
 }
 
 static void freed(void *module) {
     struct state *state = PyModule_GetState(module);
-    if (state != NULL) {
-        Py_CLEAR(state->held);
+    if (state != NULL)
         Py_CLEAR(state->pairs);
-    }
 }
 
 static PyModuleDef_Slot slots[] = {{Py_mod_exec, filled}, {0, NULL}};

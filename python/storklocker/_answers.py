@@ -3,6 +3,7 @@
 import functools
 import operator
 import pickle
+from collections import deque
 
 TYPE_CHECKING = False  # importing `typing` would take half the time of importing the package
 if TYPE_CHECKING:
@@ -50,19 +51,19 @@ class _Fields(tuple):  # type: ignore[type-arg]
         return tuple(self)
 
 
-class _Reasons(list):  # type: ignore[type-arg]
+class _Reasons(deque):  # type: ignore[type-arg]
     """The reasons, indexed by number."""
 
 
 class _LaterReasons(_Reasons):
-    """A list that its first use fills, because to make the enum would take a quarter of the time of
-    importing the package.
+    """A sequence that its first use fills, because to make the enum would take a quarter of the time
+    of importing the package. (C would not index the subclass of a list without a call.)
     """
 
     def __getitem__(self, number: "Any") -> "Any":
         from ._reasons import Reason
 
-        self[:] = (None, *Reason)
+        self.extend((None, *Reason))
         self.__class__ = _Reasons  # type: ignore[assignment]
         return self[number]
 

@@ -7,7 +7,7 @@ from . import _names
 from ._answers import MoreBytes, Refused, Verdict
 from ._limits import Limits, flag
 from ._lists import AllowList, settings_of
-from ._storklocker import verdict, verdict_unless_whole
+from ._storklocker import verdict
 
 TYPE_CHECKING = False
 if TYPE_CHECKING:
@@ -126,7 +126,6 @@ class Guard:
         "_allow",
         "_limits",
         "_old_strings",
-        "_settings",
         "_fix_imports",
         "_on_refusal",
         "_enforce",
@@ -153,14 +152,12 @@ class Guard:
         self._allow = allow
         self._limits = limits
         self._old_strings = old_strings
-        is_own = settings == settings_of(allow, None, "unknown")
-        self._settings = None if is_own else settings  # None is faster: they are the list's own
         self._fix_imports = flag("fix_imports", fix_imports)
         self._on_refusal = on_refusal
         self._enforce = flag("enforce", enforce)
         self._is_plain = not fix_imports and old_strings != "bytes"
-        self._new = allow._for_loading()
-        self._old = allow._for_old_names() if fix_imports else self._new
+        self._new = allow._for_loading()._under(settings)
+        self._old = allow._for_old_names()._under(settings) if fix_imports else self._new
         self._unpickler: Optional[Type[GuardedUnpickler]] = None
 
     @property
@@ -208,7 +205,7 @@ class Guard:
         if type(data) is not bytes:
             data = self._copied(data)
         listed = self._listed_for(data) if self._fix_imports else self._new
-        no = verdict_unless_whole(data, listed, self._settings)
+        no = listed._refusal(data)
         if no is not None:
             if self._enforce:
                 raise self._told(no, data)  # a variable of it would make a cycle with this frame
@@ -282,7 +279,7 @@ class Guard:
 
     def _judge(self, data: bytes) -> Verdict:
         """The verdict on the pickle at the front of `data`."""
-        return verdict(data, self._listed_for(data), self._settings)
+        return verdict(data, self._listed_for(data), None)
 
     def _decoding(self, encoding: "Optional[str]", errors: "Optional[str]") -> "Tuple[str, str]":
         """The encoding and errors for Python 2 strings: those of `old_strings`, or if that is
@@ -318,8 +315,7 @@ class Guard:
     def _refusal_of(self, data: bytes) -> "Optional[Refused]":
         """The exception for `data`, reported to `on_refusal`, or None if it is one accepted pickle.
         """
-        listed = self._listed_for(data)
-        verdict = verdict_unless_whole(data, listed, self._settings)
+        verdict = self._listed_for(data)._refusal(data)
         return None if verdict is None else self._told(verdict, data)
 
     def _copied(self, data: "Any") -> bytes:

@@ -47,9 +47,14 @@ class AllowList(_Pairs):
         return cls._of(_encoded(pairs), None)
 
     @classmethod
-    def _of(cls, pairs: "Iterable[Tuple[bytes, bytes]]", limits: "Optional[Limits]") -> "AllowList":
-        settings = packed(STANDARD if limits is None else limits, "unknown", False)
-        made = super().__new__(cls, tuple(sorted(set(pairs))), settings)
+    def _of(
+        cls,
+        pairs: "Iterable[Tuple[bytes, bytes]]",
+        limits: "Optional[Limits]",
+        settings: "Optional[bytes]" = None,
+    ) -> "AllowList":
+        own = packed(STANDARD if limits is None else limits, "unknown", False)
+        made = super().__new__(cls, tuple(sorted(set(pairs))), settings or own)
         made._limits = limits
         made._loaded = made._fixed = made._guard = None
         return made
@@ -129,6 +134,12 @@ class AllowList(_Pairs):
 
     def __reduce__(self) -> "Tuple[Any, ...]":
         return (_list_of, (type(self), self._pairs, self._limits))
+
+    def _under(self, settings: bytes) -> "AllowList":
+        """The list with these settings for the calls that name none."""
+        if settings == settings_of(self, None, "unknown"):
+            return self
+        return self._of(self._pairs, self._limits, settings)
 
     def _for_loading(self) -> "AllowList":
         """The pairs that this Python can import, without those of modules that only Python 2 has.

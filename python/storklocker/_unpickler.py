@@ -143,7 +143,7 @@ class GuardedUnpickler(pickle.Unpickler):
         self._put_back()
         guard, data = self.guard, self._bytes[self._taken :]
         if self._pickles:  # lets `missing` check the pickle on its own, not as part of the row
-            verdict._asked = (data, guard._listed_for(data), guard._settings)
+            verdict._asked = (data, guard._listed_for(data), None)
         guard._refuse(verdict, data)
         while self._read_on():  # not enforced: everything is loaded
             pass
@@ -165,7 +165,7 @@ class GuardedUnpickler(pickle.Unpickler):
         guard = self.guard
         allow = guard._old if is_old else guard._new
         if self._pickles == 0:
-            return verdict(data, allow, guard._settings)
+            return verdict(data, allow, None)
         return check_row(
             data, allow, one_unpickler=True, limits=guard._limits, old_strings=guard._old_strings
         )
