@@ -56,8 +56,8 @@ class _Reasons(deque):  # type: ignore[type-arg]
 
 
 class _LaterReasons(_Reasons):
-    """A sequence that its first use fills, because to make the enum would take a quarter of the time
-    of importing the package. (C would not index the subclass of a list without a call.)
+    """Is filled at its first use: making the enum would take a quarter of the time of importing the
+    package. (A subclass of list would be indexed by a call of Python.)
     """
 
     def __getitem__(self, number: "Any") -> "Any":
