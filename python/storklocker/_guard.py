@@ -24,7 +24,7 @@ _loads = pickle.loads
 
 
 def loads(
-    data: bytes,
+    data: "Any",
     allow: AllowList,
     *,
     limits: "Optional[Limits]" = None,
