@@ -6,6 +6,7 @@ mod entry;
 mod fate;
 mod frame;
 pub mod laws;
+mod made;
 mod measure;
 mod memo;
 mod numbers;

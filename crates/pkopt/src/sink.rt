@@ -1,9 +1,7 @@
 //! What takes the bytes of a form.
 
-ghost use Rattle.std.specs.Prelude.{◌≡◌, ◌++◌, [], List, OnOk, ℕ};
-ghost use Rattle.pkopt.specs.Private.Sinks.{appended_more, appended_none};
-
-use std::alloc::AllocError;
+ghost use Rattle.std.specs.Prelude.{◌≡◌, ◌≤◌, ◌++◌, [], List, OnOk, length, ℕ};
+ghost use Rattle.pkopt.specs.Private.Produced.{between};
 
 /// Takes the bytes of a form, one piece after another.
 pub(crate) trait Sink {
@@ -21,23 +19,22 @@ pub(crate) trait Sink {
     fn take(&mut self, piece: &[u8]) -> Result<(), Self::Error>
         ensures { OnOk result (takes self.old self.new piece.now) };
 
+    /// Takes the bytes between two offsets as one more piece.
+    ///
+    /// # Errors
+    ///
+    /// Those of `take`.
+    #[inline(always)]
+    fn take_between(&mut self, bytes: &[u8], from: usize, here: usize) -> Result<(), Self::Error>
+        requires order { from ≤ here }
+        requires within { here ≤ length bytes.now }
+        ensures { OnOk result (takes self.old self.new (between from here bytes.now)) }
+    {
+        self.take(&bytes[from..here])
+    }
+
     ghost takes_none: { (x : Self) → takes x x [] };
 
     ghost takes_more: { (x y z : Self) (a b : List ℕ)
         → takes x y a → takes y z b → takes x z (a ++ b) };
-}
-
-impl Sink for Vec<u8> {
-    type Error = AllocError;
-
-    ghost takes = { λ x y bytes. y.items ≡ x.items ++ bytes };
-
-    #[inline(always)]
-    fn take(&mut self, piece: &[u8]) -> Result<(), AllocError> {
-        self.extend_from_slice(piece)
-    }
-
-    ghost takes_none = { λ x. appended_none x.items };
-
-    ghost takes_more = { λ x y z a b f g. appended_more x.items y.items z.items a b f g };
 }

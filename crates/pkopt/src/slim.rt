@@ -94,7 +94,7 @@ impl Pass {
             return Ok(());
         }
         let here = place.at as usize;
-        sink.take(&bytes[self.from..here])?;
+        sink.take_between(bytes, self.from, here)?;
         self.from = here + usize::from(place.size);
         match fate {
             Fate::Gets(number) => give_renumbered(sink, place.op, number),

@@ -8,6 +8,7 @@ ghost use Rattle.pkopt.specs.Private.Sinks.{Measures};
 
 use crate::fate::Plan;
 use crate::frame::{Front, front_of};
+use crate::made::Made;
 use crate::measure::Measure;
 use crate::place::{Part, any_frame};
 use crate::rest::Rest;
@@ -29,16 +30,16 @@ fn made_of(
     parts: &[Part],
     taken: usize,
     plan: &Plan,
-) -> Result<Option<Vec<u8>>, AllocError>
+) -> Result<Option<Made>, AllocError>
     requires within { end_behind 0 parts.now ≤ taken }
     requires there { taken ≤ length bytes.now }
     ensures { IfOk result (λ made. IfSome made (λ slim.
-        slim.items ≡ slim_bytes plan.now bytes.now taken parts.now)) }
+        slim ≡ slim_bytes plan.now bytes.now taken parts.now)) }
 {
     if parts.len() < taken / LONG {
         return Ok(None);
     }
-    let mut slim = Vec::with_capacity(alloc, taken)?;
+    let mut slim = Made::with_room(alloc, taken)?;
     give_slim(bytes, parts, taken, plan, &mut slim)?;
     Ok(Some(slim))
 }
@@ -49,18 +50,18 @@ fn measure_of(
     parts: &[Part],
     taken: usize,
     plan: &Plan,
-    made: &Option<Vec<u8>>,
+    made: &Option<Made>,
 ) -> Result<Measure, AllocError>
     requires within { end_behind 0 parts.now ≤ taken }
     requires there { taken ≤ length bytes.now }
     requires made { IfSome made.now (λ slim.
-        slim.items ≡ slim_bytes plan.now bytes.now taken parts.now) }
+        slim ≡ slim_bytes plan.now bytes.now taken parts.now) }
     ensures { IfOk result (λ measure.
         Measures measure (slim_bytes plan.now bytes.now taken parts.now)) }
 {
     let mut measure = Measure::new();
     match made {
-        Some(slim) => measure.take(slim)?,
+        Some(slim) => measure.take(slim.bytes())?,
         None => give_slim(bytes, parts, taken, plan, &mut measure)?,
     }
     Ok(measure)
@@ -78,7 +79,7 @@ pub struct Form<'a> {
     parts: Vec<Part>,
     plan: Plan,
     /// The slim form, if it is made.
-    made: Option<Vec<u8>>,
+    made: Option<Made>,
     front: Front,
     /// The length of the form.
     len: u64,
@@ -102,7 +103,7 @@ impl<'a> Model for Form<'a> {
         × (f.taken ≤ length f.bytes.now)
         × (f.front.head ≤ length (slim_bytes f.plan f.bytes.now f.taken f.parts.items))
         × IfSome f.made (λ slim.
-        slim.items ≡ slim_bytes f.plan f.bytes.now f.taken f.parts.items)
+        slim ≡ slim_bytes f.plan f.bytes.now f.taken f.parts.items)
         × (f.len ≡ length (written f.plan f.bytes.now f.taken f.parts.items f.front.bytes.items
         f.front.head)) };
 }
@@ -171,7 +172,7 @@ impl<'a> Form<'a> {
     {
         out.write_all(&self.front.bytes)?;
         if let Some(slim) = &self.made {
-            return out.write_all(&slim[self.front.head..]);
+            return out.write_all(&slim.bytes()[self.front.head..]);
         }
         let mut rest = Rest {
             out,

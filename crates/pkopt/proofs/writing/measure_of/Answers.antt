@@ -7,7 +7,7 @@ pub returns-in_ok-take-in-Some : goal.returns-in_ok-take-in-Some
 returns-in_ok-take-in-Some c =
     let m = c.take.new.self in
     let made = rw c.in-Some.is at c.requires.made in
-    subst (λ (l : List ℕ). Measures m l) (c.deref.ensures.value ∙ made)
+    subst (λ (l : List ℕ). Measures m l) (c.bytes.ensures ∙ made)
     (measured _ m _ c.new-measure.ensures c.in_ok-take-in-Some.ensures)
 
 pub returns-in_ok-give_slim-in-None : goal.returns-in_ok-give_slim-in-None

@@ -17,7 +17,7 @@ invariant_of-result c =
     let taken = c.args.taken in
     let slim = subst (λ (l : List Part). Measures m (slim_bytes plan bytes taken l))
     c.deref-2.ensures.value c.in_ok-measure.ensures in
-    let made = subst (λ (l : List Part). IfSome c.in_ok-made.made (λ v. v.items
+    let made = subst (λ (l : List Part). IfSome c.in_ok-made.made (λ v. v
     ≡ slim_bytes plan bytes taken l)) c.deref.ensures.value c.in_ok-made.ensures in
     let front = c.in_ok-front.front in
     let fits = c.in_ok-front.ensures.fits in
