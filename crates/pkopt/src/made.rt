@@ -131,7 +131,7 @@ impl Sink for Made {
     fn take_between(&mut self, bytes: &[u8], from: usize, here: usize) -> Result<(), AllocError> {
         let len = self.len;
         let count = here - from;
-        if count > MOVE || bytes.len() - from < MOVE || self.store.len() - len < MOVE {
+        if count > MOVE || from + MOVE > bytes.len() || len + MOVE > self.store.len() {
             return self.take_slowly(&bytes[from..here]);
         }
         put_move(&mut self.store, len, bytes, from);

@@ -1,10 +1,11 @@
 //! How instructions use the memo, and the last write of each number.
 
-ghost use Rattle.std.specs.Prelude.{◌≡◌, ◌+◌, [], OnOk, length};
+ghost use Rattle.std.specs.Prelude.{◌≡◌, ◌+◌, [], IfNone, IfOk, IfSome, OnOk, Some, length};
 ghost use Rattle.pkcheck.specs.Shape.{recalled, stored};
 ghost use Rattle.pkopt.specs.Private.Memories.{Notes, write_held};
 ghost use Rattle.pkopt.specs.Private.Passes.{memo_use};
 
+use crate::entry::Entry;
 use pkops::Op;
 use std::alloc::{AllocError, Global};
 use std::collections::BTreeMap;
@@ -81,25 +82,59 @@ impl Memo {
         self.ordered.len() + self.rest.len()
     }
 
-    /// The last write of a number, if there is one.
-    #[inline]
-    pub(crate) fn get(&self, number: usize) -> Option<u32>
-        ensures { result ≡ write_held self.now.first self.now.ordered.items
-            self.now.rest.entries number }
+    /// The last write of a number, if the number is one of the ordered ones.
+    #[inline(always)]
+    fn in_order(&self, number: usize) -> Option<u32>
+        ensures some { IfSome result (λ write. write_held self.now.first self.now.ordered.items
+            self.now.rest.entries number ≡ Some write) }
+        ensures none { IfNone result (write_held self.now.first self.now.ordered.items
+            self.now.rest.entries number ≡ recalled number self.now.rest.entries) }
     {
         if number < self.first {
-            return found(&self.rest, number);
+            return None;
         }
         let place = number - self.first;
         if place < self.ordered.len() {
-            return Some(self.ordered[place]);
+            Some(self.ordered[place])
+        } else {
+            None
         }
-        found(&self.rest, number)
     }
 
-    /// Records the last write of a number.
-    #[inline]
+    /// The last write of a number, if there is one.
+    ///
+    /// # Errors
+    ///
+    /// That of `Entry::new`.
+    #[inline(always)]
+    pub(crate) fn last_write(&self, number: usize) -> Result<Entry, AllocError>
+        ensures { IfOk result (λ write. write ≡ write_held self.now.first self.now.ordered.items
+            self.now.rest.entries number) }
+    {
+        if let Some(write) = self.in_order(number) {
+            return Entry::new(Some(write));
+        }
+        Entry::new(found(&self.rest, number))
+    }
+
+    /// Records the last write of a number. Most are the next in order.
+    #[inline(always)]
     pub(crate) fn note(&mut self, number: usize, write: u32) -> Result<(), AllocError>
+        ensures { OnOk result (Notes number write self.old self.new) }
+    {
+        if number < self.first || !self.rest.is_empty() {
+            return self.note_slowly(number, write);
+        }
+        if number - self.first != self.ordered.len() {
+            return self.note_slowly(number, write);
+        }
+        self.ordered.push(write)?;
+        Ok(())
+    }
+
+    /// Records the last write of a number that may not be the next in order.
+    #[inline(never)]
+    fn note_slowly(&mut self, number: usize, write: u32) -> Result<(), AllocError>
         ensures { OnOk result (Notes number write self.old self.new) }
     {
         if self.ordered.is_empty() && self.rest.is_empty() {
@@ -113,10 +148,6 @@ impl Memo {
         let place = number - self.first;
         if place < self.ordered.len() {
             self.ordered[place] = write;
-            return Ok(());
-        }
-        if place == self.ordered.len() && self.rest.is_empty() {
-            self.ordered.push(write)?;
             return Ok(());
         }
         put(&mut self.rest, number, write)

@@ -5,7 +5,7 @@ ghost use Rattle.pkopt.specs.Private.Fates.{fate_in, reads_after, writes_after};
 ghost use Rattle.pkopt.specs.Private.Passes.{memo_use};
 ghost use Rattle.pkopt.specs.Private.Places.{end_behind, places_behind};
 ghost use Rattle.pkopt.specs.Private.Produced.{at_start, emitted, fate_at, first_past, from_after};
-ghost use Rattle.pkopt.specs.Private.Produced.{passed, produced};
+ghost use Rattle.pkopt.specs.Private.Produced.{between, passed, produced};
 
 use crate::fate::{
     Fate, Plan, fetched_fate, next_fate, number_of, passed_fate, source_of, stored_fate,
@@ -72,6 +72,28 @@ impl Pass {
         }
     }
 
+    /// Gives a sink the unchanged bytes before a place, and goes on behind it.
+    #[inline(always)]
+    fn give_before<S: Sink>(
+        &mut self,
+        place: Place,
+        bytes: &[u8],
+        sink: &mut S,
+    ) -> Result<(), S::Error>
+        requires low { self.old.from ≤ place.at }
+        requires high { place.at + place.size ≤ length bytes.now }
+        ensures form { OnOk result (S.takes sink.old sink.new
+            (between self.old.from place.at bytes.now)) }
+        ensures from { self.new.from ≡ place.at + place.size }
+        ensures writes { self.new.writes ≡ self.old.writes }
+        ensures reads { self.new.reads ≡ self.old.reads }
+    {
+        let here = place.at as usize;
+        let from = self.from;
+        self.from = here + usize::from(place.size);
+        sink.take_between(bytes, from, here)
+    }
+
     /// Gives a sink what is left of the instruction at a place. Unchanged bytes before it are given
     /// only when something else follows them.
     #[inline(always)]
@@ -90,15 +112,13 @@ impl Pass {
         ensures writes { self.new.writes ≡ self.old.writes }
         ensures reads { self.new.reads ≡ self.old.reads }
     {
-        if let Fate::Stays = fate {
-            return Ok(());
-        }
-        let here = place.at as usize;
-        sink.take_between(bytes, self.from, here)?;
-        self.from = here + usize::from(place.size);
         match fate {
-            Fate::Gets(number) => give_renumbered(sink, place.op, number),
-            _ => Ok(()),
+            Fate::Stays => Ok(()),
+            Fate::Gets(number) => {
+                self.give_before(place, bytes, sink)?;
+                give_renumbered(sink, place.op, number)
+            }
+            _ => self.give_before(place, bytes, sink),
         }
     }
 }
@@ -123,9 +143,7 @@ pub(crate) fn give_slim<S: Sink>(
     for part in parts {
         let place = part.place_behind(end);
         end = place.at + u64::from(place.size);
-        if is_plain(place.op) {
-            continue;
-        }
+        // The fate of an instruction that never changes is to stay.
         let fate = pass.fate(plan, place.op);
         pass.emit(fate, place, bytes, sink)?;
     }

@@ -5,7 +5,7 @@ ghost use Rattle.pkops.specs.Inst.{instruction_of};
 ghost use Rattle.pkops.specs.Operands.{memo_number};
 ghost use Rattle.pkopt.specs.Private.Memories.{Notes, write_held};
 ghost use Rattle.pkopt.specs.Private.Passes.{IsNewTrace, Marks, NotesStep, Skips};
-ghost use Rattle.pkopt.specs.Private.Places.{place, stays_as_is};
+ghost use Rattle.pkopt.specs.Private.Places.{place, place_of, stays_as_is};
 
 use crate::entry::Entry;
 use crate::memo::{Memo, MemoUse, memo_use};
@@ -70,6 +70,7 @@ impl Trace {
     }
 
     /// Records a write under this number.
+    #[inline(always)]
     fn write(&mut self, number: usize) -> Result<(), AllocError>
         ensures writes { OnOk result (self.new.writes ≡ self.old.writes + 1) }
         ensures memo { OnOk result (Notes number self.old.writes self.old.memo self.new.memo) }
@@ -86,6 +87,7 @@ impl Trace {
     }
 
     /// Records a read of this number.
+    #[inline(always)]
     fn read(&mut self, number: usize) -> Result<(), AllocError>
         ensures writes { self.new.writes ≡ self.old.writes }
         ensures memo { self.new.memo ≡ self.old.memo }
@@ -95,25 +97,26 @@ impl Trace {
         ensures parts { self.new.parts.items ≡ self.old.parts.items }
         ensures end { self.new.end ≡ self.old.end }
     {
-        let source = Entry::new(self.memo.get(number))?;
+        let source = self.memo.last_write(number)?;
         self.sources.push(source)?;
         Ok(())
     }
 
-    /// Records what an instruction of this opcode, which names this number, does to the memo.
+    /// Records what an instruction does to the memo.
     #[inline(always)]
-    fn follow(&mut self, op: Op, number: usize) -> Result<(), AllocError>
-        ensures step { OnOk result (NotesStep op number self.old self.new) }
+    fn follow(&mut self, inst: &Inst<'_>) -> Result<(), AllocError>
+        ensures step { OnOk result (NotesStep (instruction_of inst.now).op
+            (memo_number (instruction_of inst.now)) self.old self.new) }
         ensures parts { self.new.parts.items ≡ self.old.parts.items }
         ensures end { self.new.end ≡ self.old.end }
     {
-        match memo_use(op) {
-            MemoUse::Stores => self.write(number),
+        match memo_use(inst.op()) {
+            MemoUse::Stores => self.write(number_of(inst)),
             MemoUse::StoresNext => {
                 let next = self.memo.len();
                 self.write(next)
             }
-            MemoUse::Fetches => self.read(number),
+            MemoUse::Fetches => self.read(number_of(inst)),
             MemoUse::Neither => Ok(()),
         }
     }
@@ -191,16 +194,17 @@ impl Trace {
         Ok(())
     }
 
-    /// Records an instruction that may change, at this offset and of this length. It names this
-    /// memo number, or 0.
-    #[inline(never)]
-    fn take(&mut self, at: u64, op: Op, size: u16, number: usize) -> Result<(), AllocError>
-        requires { stays_as_is op ≡ false }
-        ensures places { OnOk result (Marks (place at size op) self.old self.new) }
-        ensures step { OnOk result (NotesStep op number self.old self.new) }
+    /// Records an instruction that may change, at this offset.
+    #[inline(always)]
+    fn take(&mut self, at: u64, inst: &Inst<'_>) -> Result<(), AllocError>
+        requires { stays_as_is (instruction_of inst.now).op ≡ false }
+        ensures places { OnOk result (Marks (place_of at (instruction_of inst.now))
+            self.old self.new) }
+        ensures step { OnOk result (NotesStep (instruction_of inst.now).op
+            (memo_number (instruction_of inst.now)) self.old self.new) }
     {
-        self.place(at, op, size)?;
-        self.follow(op, number)
+        self.place(at, inst.op(), size_of(inst))?;
+        self.follow(inst)
     }
 }
 
@@ -218,7 +222,7 @@ impl Listener for Trace {
         if is_plain(inst.op()) {
             return Ok(());
         }
-        self.take(at, inst.op(), size_of(inst), number_of(inst))
+        self.take(at, inst)
     }
 
     ghost hears_none = { hears_none };

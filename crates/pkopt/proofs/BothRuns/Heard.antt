@@ -37,15 +37,11 @@ plain_heard x at marks i e = λ ws h ends.
 
 -- another one is heard
 pub other_heard : {A E : Type 0} (r : Result A E) (x y : Trace) (at marks : ℕ) (i : Instruction)
-    (o : Op) (size n : ℕ) → o ≡ i.op → size ≡ length (spelling i) → n ≡ memo_number i
-    → stays_as_is i.op ≡ false → OnOk r (Marks (place at size o) x y)
-    → OnOk r (NotesStep o n x y) → OnOk r (Hears x y (heard at i marks ∷ []))
-other_heard (Ok a) x y at marks i o size n code long number e placed step = λ ws h ends.
-    let s = (subst (λ n. NotesStep i.op n x y) number (subst (λ o. NotesStep o n x y) code step)) ws
-    h in
-    let p =
-    (subst (λ n. Marks (place at n i.op) x y) long
-    (subst (λ o. Marks (place at size o) x y) code placed)) ends in
+    → stays_as_is i.op ≡ false → OnOk r (Marks (place_of at i) x y)
+    → OnOk r (NotesStep i.op (memo_number i) x y) → OnOk r (Hears x y (heard at i marks ∷ []))
+other_heard (Ok a) x y at marks i e placed step = λ ws h ends.
+    let s = step ws h in
+    let p = placed ends in
     record {
       follows = s.0;
       ends = p.0;
@@ -54,7 +50,7 @@ other_heard (Ok a) x y at marks i o size n code long number e placed step = λ w
       places_now = p.1 ∙ ap (λ b. places_behind 0 x.parts.items ++ cond b [] (place_of at i ∷ []))
           (sym e);
     }
-other_heard (Err a) x y at marks i o size n code long number e placed step = tt
+other_heard (Err a) x y at marks i e placed step = tt
 
 -- all of a pickle was heard
 heard_told : (before is : List Instruction) (hs : List Heard) → AreHeardBehind before is hs

@@ -1,11 +1,11 @@
-use Rattle.std.proofs.Common.{arith, sym, ap, ◌∙◌, ◌+◌, ◌++◌, List, drop}
+use Rattle.std.proofs.Common.{arith, sym, ap, ◌∙◌, ◌+◌, ◌++◌, ℕ, List, drop}
 use Rattle.pkops.specs.declared.Op.TheVariants as op
 use Rattle.pkopt.specs.declared.place.Part.{Part}
 use Rattle.pkopt.specs.declared.place.Place.{Place}
 use Rattle.pkopt.specs.Private.Places.{places_behind}
-use Rattle.pkopt.specs.Private.Produced.{emitted, produced}
-use Rattle.pkopt.proofs.MemoWrites.Parts.{ends_short, places_next, short_behind}
-use Rattle.pkopt.proofs.SlimForm.Steps.{from_least, stepped}
+use Rattle.pkopt.specs.Private.Produced.{emitted}
+use Rattle.pkopt.proofs.MemoWrites.Parts.{ends_short, short_behind}
+use Rattle.pkopt.proofs.SlimForm.Steps.{from_least, produced_next, stepped}
 use Rattle.pkopt.proofs.slim.give_slim.Goals as goal
 
 abbrev none : Part
@@ -48,9 +48,9 @@ loop-part-preserved g c =
     let x = c.place_behind-place.result in
     let pass = c.loop-part.pass in
     let so_far = c.loop-part.invariant.so_far in
-    let next = places_next c.args.parts.now c.loop-part.end c.loop-part.part-index none x
-    c.from.result c.loop-part-test.true c.place_behind-place.ensures c.from.ensures
-    (sym c.if-is_plain.ensures) in
+    let next = produced_next c.args.plan.now c.args.bytes.now c.args.taken c.args.parts.now
+    c.loop-part.end c.loop-part.part-index none x c.from.result pass c.loop-part-test.true
+    c.place_behind-place.ensures c.from.ensures in
     let later = places_behind (x.at + c.from.result)
     (drop (c.loop-part.part-index + 1) c.args.parts.now) in
     let size = c.from.ensures in
@@ -76,8 +76,6 @@ loop-part-preserved g c =
             c.emit.new.self c.fate-fate.result so_far.0 _
             c.fate-fate.ensures.fate c.fate-fate.ensures.writes c.fate-fate.ensures.reads
             c.fate-fate.ensures.from new_writes new_reads c.in_ok-emit.ensures.from
-            (ap
-            (λ (l : List Place). so_far.0 ++ produced c.args.plan.now c.args.bytes.now
-            c.args.taken l pass) (sym next) ∙ so_far.2),
+            (ap (λ (l : List ℕ). so_far.0 ++ l) (sym next) ∙ so_far.2),
       );
     }

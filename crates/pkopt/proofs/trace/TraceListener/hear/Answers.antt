@@ -6,10 +6,10 @@ use Rattle.pkopt.proofs.trace.TraceListener.hear.Goals as goal
 
 pub returns : goal.returns
 returns c = other_heard c.take.result c.args.self.now c.take.new.self c.args.at c.args._marks
-    (instruction_of c.args.inst.now) _ _ _ c.op-2.ensures.op c.size_of.ensures c.number_of.ensures
+    (instruction_of c.args.inst.now)
     (ap stays_as_is (sym c.op.ensures.op) ∙ sym c.is_plain.ensures ∙ c.if-is_plain.false)
     c.take.ensures.places c.take.ensures.step
 
-pub size_of-requires : goal.size_of-requires
-size_of-requires c = ap stays_as_is (sym c.op.ensures.op) ∙ sym c.is_plain.ensures
+pub take-requires : goal.take-requires
+take-requires c = ap stays_as_is (sym c.op.ensures.op) ∙ sym c.is_plain.ensures
     ∙ c.if-is_plain.false

@@ -1,6 +1,6 @@
 use Rattle.std.proofs.Common.{arith, inl, inr}
 use Rattle.pkopt.proofs.MemoWrites.Noted.{noted_in_rest}
-use Rattle.pkopt.proofs.memo.Memo.note.Goals as goal
+use Rattle.pkopt.proofs.memo.Memo.note_slowly.Goals as goal
 
 pub returns-then-number-self : goal.returns-then-number-self
 returns-then-number-self c = noted_in_rest c.put.result _ _ _ _ _ _
