@@ -1,5 +1,6 @@
 -- The memo, and the new numbers of its writes that stay.
 pub mod Recalled
+pub mod Rows
 pub mod Noted
 pub mod Followed
 pub mod NewNumbers

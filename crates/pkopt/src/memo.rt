@@ -1,8 +1,10 @@
 //! How instructions use the memo, and the last write of each number.
 
-ghost use Rattle.std.specs.Prelude.{◌≡◌, ◌+◌, [], IfNone, IfOk, IfSome, OnOk, Some, length};
+ghost use Rattle.std.specs.Prelude.{◌≡◌, ◌<◌, ◌^◌, [], IfNone, IfOk, IfSome, OnOk, Some, length};
+ghost use Rattle.std.specs.Prelude.{slice_index_or};
 ghost use Rattle.pkcheck.specs.Shape.{recalled, stored};
-ghost use Rattle.pkopt.specs.Private.Memories.{Notes, write_held};
+ghost use Rattle.pkopt.specs.Private.Memories.{Notes, first_writes, last_held, numbers_held};
+ghost use Rattle.pkopt.specs.Private.Memories.{row_of};
 ghost use Rattle.pkopt.specs.Private.Passes.{memo_use};
 
 use crate::entry::Entry;
@@ -41,12 +43,14 @@ pub(crate) fn memo_use(op: Op) -> MemoUse
 }
 
 /// The last write of each number. Writes are named 0, 1, 2 and so on, in order. Most pickles number
-/// them consecutively from 0 or 1, and these are found by index.
+/// them consecutively from 0 or 1, and these are found by subtraction.
 pub(crate) struct Memo {
     /// The number of the first write.
     first: usize,
-    /// The last writes of that number and the following ones, as long as they came in order.
-    ordered: Vec<u32>,
+    /// How many writes there are, as long as each has the number after the one before; then 0.
+    in_order: u32,
+    /// From then on, the last writes of the first number and the following ones.
+    listed: Vec<u32>,
     /// The last writes of the other numbers.
     rest: BTreeMap<usize, u32>,
 }
@@ -55,7 +59,8 @@ impl Drop for Memo {
     fn drop(self) {
         let Memo {
             first: _first,
-            ordered: _ordered,
+            in_order: _in_order,
+            listed: _listed,
             rest: _rest,
         } = self;
     }
@@ -64,38 +69,64 @@ impl Drop for Memo {
 impl Memo {
     /// An empty memo, before the first write. Allocates nothing.
     pub(crate) fn new(alloc: Global) -> Memo
-        ensures ordered { result.ordered.items ≡ [] }
+        ensures row { row_of result ≡ [] }
         ensures rest { result.rest.entries ≡ [] }
     {
         Memo {
             first: 0,
-            ordered: Vec::new(alloc),
+            in_order: 0,
+            listed: Vec::new(alloc),
             rest: BTreeMap::new(alloc),
         }
     }
 
-    /// How many distinct numbers were written.
-    #[inline]
-    pub(crate) fn len(&self) -> usize
-        ensures { result ≡ length self.now.ordered.items + length self.now.rest.entries }
+    /// How many consecutive numbers there are.
+    #[inline(always)]
+    fn row_len(&self) -> usize
+        ensures is { result ≡ length (row_of self.now) }
+        ensures small { result < 2 ^ 63 }
     {
-        self.ordered.len() + self.rest.len()
+        if self.in_order == 0 {
+            self.listed.len()
+        } else {
+            self.in_order as usize
+        }
     }
 
-    /// The last write of a number, if the number is one of the ordered ones.
+    /// How many distinct numbers were written.
     #[inline(always)]
-    fn in_order(&self, number: usize) -> Option<u32>
-        ensures some { IfSome result (λ write. write_held self.now.first self.now.ordered.items
-            self.now.rest.entries number ≡ Some write) }
-        ensures none { IfNone result (write_held self.now.first self.now.ordered.items
-            self.now.rest.entries number ≡ recalled number self.now.rest.entries) }
+    pub(crate) fn len(&self) -> usize
+        ensures { result ≡ numbers_held self.now }
+    {
+        self.row_len() + self.rest.len()
+    }
+
+    /// The last write of one of the consecutive numbers.
+    #[inline(always)]
+    fn row_at(&self, place: usize) -> u32
+        requires { place < length (row_of self.now) }
+        ensures { result ≡ slice_index_or (row_of self.now) place 0 }
+    {
+        if self.in_order == 0 {
+            self.listed[place]
+        } else {
+            write_at(place, self.in_order)
+        }
+    }
+
+    /// The last write of a number, if it is one of the consecutive ones.
+    #[inline(always)]
+    fn in_row(&self, number: usize) -> Option<u32>
+        ensures some { IfSome result (λ write. last_held self.now number ≡ Some write) }
+        ensures none { IfNone result (last_held self.now number
+            ≡ recalled number self.now.rest.entries) }
     {
         if number < self.first {
             return None;
         }
         let place = number - self.first;
-        if place < self.ordered.len() {
-            Some(self.ordered[place])
+        if place < self.row_len() {
+            Some(self.row_at(place))
         } else {
             None
         }
@@ -108,50 +139,100 @@ impl Memo {
     /// That of `Entry::new`.
     #[inline(always)]
     pub(crate) fn last_write(&self, number: usize) -> Result<Entry, AllocError>
-        ensures { IfOk result (λ write. write ≡ write_held self.now.first self.now.ordered.items
-            self.now.rest.entries number) }
+        ensures { IfOk result (λ write. write ≡ last_held self.now number) }
     {
-        if let Some(write) = self.in_order(number) {
+        if let Some(write) = self.in_row(number) {
             return Entry::new(Some(write));
         }
         Entry::new(found(&self.rest, number))
     }
 
-    /// Records the last write of a number. Most are the next in order.
+    /// Records the last write of a number.
     #[inline(always)]
     pub(crate) fn note(&mut self, number: usize, write: u32) -> Result<(), AllocError>
         ensures { OnOk result (Notes number write self.old self.new) }
     {
-        if number < self.first || !self.rest.is_empty() {
+        if number < self.first || !self.listed.is_empty() || !self.rest.is_empty() {
             return self.note_slowly(number, write);
         }
-        if number - self.first != self.ordered.len() {
+        if write != self.in_order || number - self.first != self.in_order as usize {
             return self.note_slowly(number, write);
         }
-        self.ordered.push(write)?;
+        let Some(in_order) = self.in_order.checked_add(1) else {
+            return Err(AllocError);
+        };
+        self.in_order = in_order;
         Ok(())
     }
 
-    /// Records the last write of a number that may not be the next in order.
+    /// Records the last write of a number, which may not be the next in order.
     #[inline(never)]
     fn note_slowly(&mut self, number: usize, write: u32) -> Result<(), AllocError>
         ensures { OnOk result (Notes number write self.old self.new) }
     {
-        if self.ordered.is_empty() && self.rest.is_empty() {
+        if write == 0 && self.len() == 0 {
             self.first = number;
-            self.ordered.push(write)?;
+            self.in_order = 1;
             return Ok(());
         }
+        self.list()?;
+        self.note_listed(number, write)
+    }
+
+    /// Lists the writes that are in order.
+    fn list(&mut self) -> Result<(), AllocError>
+        ensures listed { OnOk result (self.new.in_order ≡ 0) }
+        ensures row { OnOk result (row_of self.new ≡ row_of self.old) }
+        ensures first { self.new.first ≡ self.old.first }
+        ensures rest { self.new.rest.entries ≡ self.old.rest.entries }
+    {
+        if self.in_order == 0 {
+            return Ok(());
+        }
+        list_first(&mut self.listed, self.in_order)?;
+        self.in_order = 0;
+        Ok(())
+    }
+
+    /// Records the last write of a number, once the row is listed.
+    fn note_listed(&mut self, number: usize, write: u32) -> Result<(), AllocError>
+        requires { self.old.in_order ≡ 0 }
+        ensures { OnOk result (Notes number write self.old self.new) }
+    {
         if number < self.first {
             return put(&mut self.rest, number, write);
         }
         let place = number - self.first;
-        if place < self.ordered.len() {
-            self.ordered[place] = write;
+        if place < self.listed.len() {
+            self.listed[place] = write;
+            return Ok(());
+        }
+        if place == self.listed.len() && self.rest.is_empty() {
+            self.listed.push(write)?;
             return Ok(());
         }
         put(&mut self.rest, number, write)
     }
+}
+
+/// The write at a place among so many writes that are in order.
+#[inline(always)]
+fn write_at(place: usize, in_order: u32) -> u32
+    requires { place < in_order }
+    ensures { result ≡ place }
+{
+    place as u32
+}
+
+/// Lists the first writes.
+fn list_first(listed: &mut Vec<u32>, count: u32) -> Result<(), AllocError>
+    ensures { OnOk result (listed.new.items ≡ first_writes count) }
+{
+    listed.clear();
+    for write in 0..count {
+        listed.push(write)?;
+    }
+    Ok(())
 }
 
 /// The entry of a number in the tree.

@@ -3,7 +3,7 @@
 ghost use Rattle.std.specs.Prelude.{◌≡◌, ◌+◌, ◌++◌, ◌∷◌, ◌<◌, ◌≤◌, [], IfOk, OnOk, false, ℕ};
 ghost use Rattle.pkops.specs.Inst.{instruction_of};
 ghost use Rattle.pkops.specs.Operands.{memo_number};
-ghost use Rattle.pkopt.specs.Private.Memories.{Notes, write_held};
+ghost use Rattle.pkopt.specs.Private.Memories.{Notes, last_held};
 ghost use Rattle.pkopt.specs.Private.Passes.{IsNewTrace, Marks, NotesStep, Skips};
 ghost use Rattle.pkopt.specs.Private.Places.{place, place_of, stays_as_is};
 
@@ -91,9 +91,8 @@ impl Trace {
     fn read(&mut self, number: usize) -> Result<(), AllocError>
         ensures writes { self.new.writes ≡ self.old.writes }
         ensures memo { self.new.memo ≡ self.old.memo }
-        ensures sources { OnOk result (self.new.sources.items ≡ self.old.sources.items
-            ++ write_held self.old.memo.first self.old.memo.ordered.items
-            self.old.memo.rest.entries number ∷ []) }
+        ensures sources { OnOk result (self.new.sources.items
+            ≡ self.old.sources.items ++ last_held self.old.memo number ∷ []) }
         ensures parts { self.new.parts.items ≡ self.old.parts.items }
         ensures end { self.new.end ≡ self.old.end }
     {
@@ -166,9 +165,10 @@ impl Trace {
         ensures memo { self.new.memo ≡ self.old.memo }
         ensures sources { self.new.sources.items ≡ self.old.sources.items }
     {
-        let Some(count) = at.checked_sub(self.end) else {
+        if at < self.end {
             return Err(AllocError);
-        };
+        }
+        let count = at - self.end;
         if count <= MOST_BEFORE {
             return Ok(count as u8);
         }

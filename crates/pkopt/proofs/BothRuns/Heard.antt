@@ -11,6 +11,7 @@ use Rattle.pkcheck.specs.Heard.{Heard, heard, AreHeardBehind}
 use Rattle.pkopt.specs.declared.place.Part.{Part}
 use Rattle.pkopt.specs.declared.place.Place.{Place}
 use Rattle.pkopt.specs.declared.trace.Trace.{Trace}
+use Rattle.pkopt.specs.Private.Memories.{row_of}
 use Rattle.pkopt.specs.Private.Passes.{IsNewTrace, EndsSo, FollowsWrites, Hears, Marks, NotesStep}
 use Rattle.pkopt.specs.Private.Passes.{Tracks}
 use Rattle.pkopt.specs.Private.Places.{end_behind, place, stays_as_is, place_of, places_behind}
@@ -85,8 +86,8 @@ heard_tracks x y p hs first each h =
     let nothing : EndsSo x = first.end ∙ ap (end_behind 0) (sym first.parts) in
     let s = h []
     (record {
-      holds = none_remembered x.memo.first x.memo.ordered.items x.memo.rest.entries
-          first.ordered first.rest;
+      holds = none_remembered x.memo.first (row_of x.memo) x.memo.rest.entries first.row
+          first.rest;
       count = first.writes;
     }) nothing in
     let all = heard_told [] p hs each in

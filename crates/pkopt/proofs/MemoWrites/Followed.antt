@@ -9,7 +9,7 @@ use Rattle.pkcheck.specs.Effects.{Moves, effect_of}
 use Rattle.pkopt.specs.declared.memo.MemoUse.TheVariants.{Stores, StoresNext, Fetches}
 use Rattle.pkopt.specs.declared.memo.Memo.{Memo}
 use Rattle.pkopt.specs.declared.trace.Trace.{Trace}
-use Rattle.pkopt.specs.Private.Memories.{HoldsWrites, Notes, write_held}
+use Rattle.pkopt.specs.Private.Memories.{HoldsWrites, Notes, last_held, numbers_held}
 use Rattle.pkopt.specs.Private.Passes.{FollowsWrites, NotesStep, memo_use}
 use Rattle.pkopt.specs.Writers.{Writes, last_write, wrote, read_by}
 
@@ -47,7 +47,7 @@ module _ {A E : Type 0} (o : Op) (old new : Trace) (n : ℕ) where
   store_step (Err a) e count noted same = tt
 
   pub next_step : (m : ℕ) (r : Result A E) → effect_of o ≡ Moves move.StoresNext
-      → m ≡ length old.memo.ordered.items + length old.memo.rest.entries
+      → m ≡ numbers_held old.memo
       → OnOk r (new.writes ≡ old.writes + 1) → OnOk r (Notes m old.writes old.memo new.memo)
       → new.sources.items ≡ old.sources.items → OnOk r (NotesStep o n old new)
   next_step m (Ok a) e is count noted same = λ ws h.
@@ -65,8 +65,8 @@ module _ {A E : Type 0} (o : Op) (old new : Trace) (n : ℕ) where
 
   pub fetch_step : (r : Result A E) → effect_of o ≡ Moves move.Fetches
       → new.writes ≡ old.writes → new.memo ≡ old.memo
-      → OnOk r (new.sources.items ≡ old.sources.items ++ write_held old.memo.first
-      old.memo.ordered.items old.memo.rest.entries n ∷ []) → OnOk r (NotesStep o n old new)
+      → OnOk r (new.sources.items ≡ old.sources.items ++ last_held old.memo n ∷ [])
+      → OnOk r (NotesStep o n old new)
   fetch_step (Ok a) e count kept grown = λ ws h.
       let behind : ws ≡ wrote (effect_of o) n ws = sym (ap (λ e. wrote e n ws) e) in
       let one : last_write n ws ∷ [] ≡ read_by (effect_of o) n ws =
@@ -80,3 +80,16 @@ module _ {A E : Type 0} (o : Op) (old new : Trace) (n : ℕ) where
             ∙ ap (λ (l : List (Option ℕ)). old.sources.items ++ l) one,
       )
   fetch_step (Err a) e count kept grown = tt
+
+  -- it does the same from a trace that is alike
+  pub step_from : (mid : Trace) (r : Result A E) → mid.writes ≡ old.writes → mid.memo ≡ old.memo
+      → mid.sources.items ≡ old.sources.items → OnOk r (NotesStep o n mid new)
+      → OnOk r (NotesStep o n old new)
+  step_from mid (Ok a) count same kept step = λ ws h.
+      let s = step ws
+      (record {
+        holds = subst (λ (m : Memo). HoldsWrites ws m) (sym same) h.holds;
+        count = count ∙ h.count;
+      }) in
+      (s.0, s.1 ∙ ap (λ (l : List (Option ℕ)). l ++ read_by (effect_of o) n ws) kept)
+  step_from mid (Err a) count same kept step = tt

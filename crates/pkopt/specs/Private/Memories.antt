@@ -1,10 +1,22 @@
 -- The memo that the first pass keeps, compared with the writes so far.
-use Rattle.std.specs.Prelude.{◌≡◌, ℕ, ◌+◌, ◌-◌, ◌<◌, ◌≤◌, cond, ltb, List, ◌∷◌, length, Option}
-use Rattle.std.specs.Prelude.{Some, None, slice_index_or}
+use Rattle.std.specs.Prelude.{◌≡◌, ℕ, zero, suc, ◌+◌, ◌-◌, ◌<◌, ◌≤◌, cond, ltb, nat_eq, List, []}
+use Rattle.std.specs.Prelude.{◌∷◌, ◌++◌, length, Option, Some, None, slice_index_or}
 use Rattle.pkcheck.specs.Shape.{recalled}
 use Rattle.pkopt.specs.declared.memo.Memo.{Memo}
 use Rattle.pkopt.specs.Private.Traces.{Rising}
 use Rattle.pkopt.specs.Writers.{Writes, last_write, different}
+
+-- the first n writes
+abbrev pub first_writes : ℕ → List ℕ
+first_writes zero = []
+first_writes (suc n) = first_writes n ++ n ∷ []
+
+-- the row of consecutive numbers: the first writes while all are in order, otherwise those listed
+abbrev pub row_by : ℕ → List ℕ → List ℕ
+row_by in_order listed = cond (nat_eq in_order 0) listed (first_writes in_order)
+
+abbrev pub row_of : Memo → List ℕ
+row_of m = row_by m.in_order m.listed.items
 
 -- the last write of a number, which is either in the row of consecutive numbers or among the rest
 abbrev pub write_held : ℕ → List ℕ → List (ℕ × ℕ) → ℕ → Option ℕ
@@ -23,7 +35,15 @@ pub record Remembers (ws : Writes) (first : ℕ) (row : List ℕ) (rest : List (
 
 -- the memo holds the last write of each number
 abbrev pub HoldsWrites : Writes → Memo → Type 0
-HoldsWrites ws m = Remembers ws m.first m.ordered.items m.rest.entries
+HoldsWrites ws m = Remembers ws m.first (row_of m) m.rest.entries
+
+-- the last write that a memo holds of a number
+abbrev pub last_held : Memo → ℕ → Option ℕ
+last_held m n = write_held m.first (row_of m) m.rest.entries n
+
+-- how many numbers it holds
+abbrev pub numbers_held : Memo → ℕ
+numbers_held m = length (row_of m) + length m.rest.entries
 
 -- the last write, of this number, was recorded
 abbrev pub Notes : (number write : ℕ) → Memo → Memo → Type 0

@@ -9,7 +9,7 @@ use Rattle.pkcheck.specs.Heard.{Heard}
 use Rattle.pkopt.specs.declared.memo.MemoUse.{MemoUse}
 use Rattle.pkopt.specs.declared.trace.Trace.{Trace}
 use Rattle.pkopt.specs.declared.memo.MemoUse.TheVariants.{Stores, StoresNext, Fetches, Neither}
-use Rattle.pkopt.specs.Private.Memories.{HoldsWrites}
+use Rattle.pkopt.specs.Private.Memories.{HoldsWrites, row_of}
 use Rattle.pkopt.specs.declared.place.Place.{Place}
 use Rattle.pkopt.specs.Private.Places.{end_behind, places_behind, places_from, places_told, told}
 use Rattle.pkopt.specs.Writers.{Writes, read_by, wrote, sources, is_read, new_number, after_all}
@@ -27,7 +27,7 @@ memo_use o = Neither
 
 -- before the first instruction
 pub record IsNewTrace (t : Trace) : Type 0 where
-  pub ordered : t.memo.ordered.items ≡ []
+  pub row : row_of t.memo ≡ []
   pub rest : t.memo.rest.entries ≡ []
   pub writes : t.writes ≡ 0
   pub sources : t.sources.items ≡ []
