@@ -1,6 +1,6 @@
 //! New numbers for the memo writes that stay.
 
-ghost use Rattle.std.specs.Prelude.{◌≡◌, ◌≤◌, IfOk, List, None, Option, Some, cond, min, suc, ℕ};
+ghost use Rattle.std.specs.Prelude.{◌≡◌, ◌≤◌, IfOk, List, Option, min, suc, ℕ};
 ghost use Rattle.pkopt.specs.Private.Passes.{AreKept, AreNumbers};
 
 use crate::entry::Entry;
@@ -22,23 +22,12 @@ fn kept_among(alloc: Global, sources: &[Entry], writes: usize) -> Result<Vec<boo
     Ok(kept)
 }
 
-/// The number of a write, if it stays.
-fn number_if(stays: bool, next: u32) -> Option<u32>
-    ensures { result ≡ cond stays (Some next) None }
-{
-    if stays { Some(next) } else { None }
-}
-
-/// The next number after a write, at most the limit.
-fn number_after(stays: bool, next: u32, limit: u32) -> u32
+/// The number after this one, at most the limit.
+fn number_after(next: u32, limit: u32) -> u32
     requires { next ≤ limit }
-    ensures { result ≡ cond stays (min (suc next) limit) next }
+    ensures { result ≡ min (suc next) limit }
 {
-    if stays && next < limit {
-        next + 1
-    } else {
-        next
-    }
+    if next < limit { next + 1 } else { next }
 }
 
 /// Numbers the writes that stay. Once the numbers reach the limit, all further writes get the
@@ -50,9 +39,14 @@ fn numbered(alloc: Global, kept: &[bool], limit: u32) -> Result<Vec<Entry>, Allo
     let mut numbers = Vec::new(alloc);
     let mut next: u32 = 0;
     for stays in kept {
-        let number = Entry::new(number_if(*stays, next))?;
+        if !*stays {
+            let none = Entry::new(None)?;
+            numbers.push(none)?;
+            continue;
+        }
+        let number = Entry::new(Some(next))?;
         numbers.push(number)?;
-        next = number_after(*stays, next, limit);
+        next = number_after(next, limit);
     }
     Ok(numbers)
 }

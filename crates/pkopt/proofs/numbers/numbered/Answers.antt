@@ -1,26 +1,49 @@
-use Rattle.std.proofs.Common.{arith, sym, ap, length, length-append, ◌+◌, ◌∷◌, ◌++◌, ◌∙◌, [], ℕ}
-use Rattle.std.proofs.Common.{Option}
+use Rattle.std.proofs.Common.{◌≡◌, arith, refl, rules, sym, ap, length, length-append, get_or, ◌+◌}
+use Rattle.std.proofs.Common.{◌∷◌, ◌++◌, ◌∙◌, [], ℕ, Option, None, Some, true, false}
 use Rattle.pkopt.proofs.MemoWrites.WritesKept.{numbers_on, after_within}
 use Rattle.pkopt.proofs.numbers.numbered.Goals as goal
 
 pub loop-stays-preserved : goal.loop-stays-preserved
 loop-stays-preserved c =
     let i = c.loop-stays.invariant in
-    let grown = c.in_ok-push.ensures.items ∙ ap
+    let k = c.loop-stays.stays-index in
+    let next = c.loop-stays.next in
+    let stays : get_or c.args.kept.now k false ≡ true = search rules in
+    let grown = c.in_ok-push-2.ensures.items ∙ ap
     (λ (x : Option ℕ). c.loop-stays.numbers.items ++ x ∷ []) c.in_ok-number.ensures in
     let more = ap length grown in
-    let parts = length-append c.loop-stays.numbers.items (c.number_if.result ∷ []) in
+    let parts = length-append c.loop-stays.numbers.items (Some next ∷ []) in
     let count = i.count in
     let inside = c.loop-stays-test.true in
     record {
       count = omega (arith, more, parts, count);
-      within = after_within _ c.loop-stays.next c.args.limit c.number_after-next.result
+      within = after_within true next c.args.limit c.number_after-next.result
           c.number_after-next.ensures i.within;
-      each = λ vs writes k. numbers_on vs c.loop-stays.stays-index (c.loop-stays.stays-index + 1)
-          c.args.limit c.loop-stays.next c.number_after-next.result c.loop-stays.numbers.items
-          c.push.new.self.items c.number_if.result _ (omega arith) count
-          (sym (k.each c.loop-stays.stays-index (let e = k.count in omega (arith, e, inside))))
-          c.number_if.ensures c.number_after-next.ensures grown (i.each vs writes k);
+      each = λ vs writes kept. numbers_on vs k (k + 1) c.args.limit next
+          c.number_after-next.result c.loop-stays.numbers.items _ (Some next) true (omega arith)
+          count (sym (kept.each k (let e = kept.count in omega (arith, e, inside))) ∙ stays)
+          refl c.number_after-next.ensures grown (i.each vs writes kept);
+    }
+
+pub loop-stays-preserved-then-not-stays : goal.loop-stays-preserved-then-not-stays
+loop-stays-preserved-then-not-stays c =
+    let i = c.loop-stays.invariant in
+    let k = c.loop-stays.stays-index in
+    let next = c.loop-stays.next in
+    let stays : get_or c.args.kept.now k false ≡ false = search rules in
+    let grown = c.in_ok-push.ensures.items ∙ ap
+    (λ (x : Option ℕ). c.loop-stays.numbers.items ++ x ∷ []) c.in_ok-none.ensures in
+    let more = ap length grown in
+    let parts = length-append c.loop-stays.numbers.items (None ∷ []) in
+    let count = i.count in
+    let inside = c.loop-stays-test.true in
+    record {
+      count = omega (arith, more, parts, count);
+      within = i.within;
+      each = λ vs writes kept. numbers_on vs k (k + 1) c.args.limit next next
+          c.loop-stays.numbers.items _ None false (omega arith) count
+          (sym (kept.each k (let e = kept.count in omega (arith, e, inside))) ∙ stays) refl refl
+          grown (i.each vs writes kept);
     }
 
 pub returns : goal.returns
