@@ -153,7 +153,11 @@ fn no_weights(alloc: Global, count: usize) -> Result<Vec<Weight>, AllocError>
 {
     let mut weights = Vec::with_capacity(alloc, count)?;
     for _place in 0..count {
-        weights.push(Weight { depth: 0, count: 0 })?;
+        weights.push(Weight {
+            depth: 0,
+            count: 0,
+            size: 0,
+        })?;
     }
     Ok(weights)
 }

@@ -1,4 +1,4 @@
-//! Finds the depth and the number of values of each object, before any value is built.
+//! Finds the depth, the number of values and the size of each object, before any value is built.
 
 ghost use Rattle.std.specs.Prelude.{◌≡◌, ◌<◌, ◌≤◌, ◌+◌, ◌^◌, min, max, length, All, MatchOption};
 ghost use Rattle.std.specs.Prelude.{IfSome};
@@ -10,39 +10,78 @@ ghost use Rattle.pkjson.specs.Private.Weighs.{MembersDeeper, IsTrusted, IsBounde
 use crate::node::Node;
 use crate::settled::Settled;
 
+/// The greatest size of a text or a key that is told apart.
+const LONG: usize = 1 << 30;
+
 /// The depth of a value, and the number of values in it, which stops at a cap.
 #[derive(Clone, Copy)]
 pub struct Weight {
     pub depth: u32,
     pub count: u32,
+    /// About how many bytes its text has, with a comma and without escapes. It stops at 2^32 - 1.
+    pub size: u32,
+}
+
+/// The weight of a value without parts, whose text has about this many bytes.
+#[inline]
+fn scalar(size: usize) -> Weight
+    ensures depth { result.depth ≡ 0 }
+    ensures count { result.count ≡ 1 }
+{
+    Weight {
+        depth: 0,
+        count: 1,
+        size: size.min(LONG) as u32,
+    }
+}
+
+/// The weight of a value with its key.
+#[inline]
+fn keyed(value: Weight, key: &str) -> Weight
+    ensures depth { result.depth ≡ value.depth }
+    ensures count { result.count ≡ value.count }
+{
+    Weight {
+        size: value.size.saturating_add(key_size(key)),
+        ..value
+    }
+}
+
+/// About how many bytes a key has in a text.
+#[inline]
+pub fn key_size(key: &str) -> u32 {
+    key.len().min(LONG) as u32 + 3
 }
 
 /// The weight of both together.
+#[inline]
 fn joined(one: Weight, other: Weight, cap: u32) -> Weight
     requires one { one.count ≤ cap }
     requires other { other.count ≤ cap }
     requires room { cap < 2 ^ 31 }
-    ensures { result ≡ record {
-      depth = max one.depth other.depth;
-      count = min cap (one.count + other.count);
-    } }
+    ensures depth { result.depth ≡ max one.depth other.depth }
+    ensures count { result.count ≡ min cap (one.count + other.count) }
 {
     Weight {
         depth: one.depth.max(other.depth),
         count: cap.min(one.count + other.count),
+        size: one.size.saturating_add(other.size),
     }
 }
 
 /// The weight of an object with these parts.
+#[inline]
 fn raised(inner: Weight, cap: u32) -> Weight
     requires depth { inner.depth < 2 ^ 31 }
     requires count { inner.count ≤ cap }
     requires room { cap < 2 ^ 31 }
-    ensures { result ≡ record { depth = inner.depth + 1; count = min cap (inner.count + 1) } }
+    ensures depth { result.depth ≡ inner.depth + 1 }
+    ensures count { result.count ≡ min cap (inner.count + 1) }
 {
     Weight {
         depth: inner.depth + 1,
         count: cap.min(inner.count + 1),
+        size: inner.size.saturating_add(3),
     }
 }
 
@@ -121,10 +160,10 @@ fn weigh_node(
                 None => None,
             }
         }
-        Node::Null => Some(Weight { depth: 0, count: 1 }),
-        Node::Bool(_) => Some(Weight { depth: 0, count: 1 }),
-        Node::Int(_) => Some(Weight { depth: 0, count: 1 }),
-        Node::Text(_) => Some(Weight { depth: 0, count: 1 }),
+        Node::Null => Some(scalar(5)),
+        Node::Bool(_) => Some(scalar(6)),
+        Node::Int(_) => Some(scalar(21)),
+        Node::Text(text) => Some(scalar(text.len().saturating_add(3))),
     }
 }
 
@@ -147,7 +186,11 @@ fn weigh_items(
     ensures weight { MatchOption result
         (AreDeeper (heap nodes.now) levels items.now) (ItemsWeigh (heap nodes.now) cap items.now) }
 {
-    let mut sum = Weight { depth: 0, count: 0 };
+    let mut sum = Weight {
+        depth: 0,
+        count: 0,
+        size: 0,
+    };
     for item in items {
         match weigh(nodes, done, *item, levels, cap) {
             Some(weight) => {
@@ -181,11 +224,15 @@ fn weigh_members(
         (MembersDeeper (heap nodes.now) levels (named_members members.now))
         (MembersWeigh (heap nodes.now) cap (named_members members.now)) }
 {
-    let mut sum = Weight { depth: 0, count: 0 };
-    for (_key, value) in members {
+    let mut sum = Weight {
+        depth: 0,
+        count: 0,
+        size: 0,
+    };
+    for (key, value) in members {
         match weigh(nodes, done, *value, levels, cap) {
             Some(weight) => {
-                sum = joined(sum, weight, cap);
+                sum = joined(sum, keyed(weight, key), cap);
             }
             None => {
                 return None;

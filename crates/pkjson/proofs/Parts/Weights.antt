@@ -79,19 +79,19 @@ member_count_snoc no_members k v = omega arith
 member_count_snoc (member l w vs) k v = omega (arith, member_count_snoc vs k v)
 
 module _ (h : Heap) (cap : ℕ) where
-  pub no_items_weigh : ItemsWeigh h cap [] (record { depth = 0; count = 0 })
+  pub no_items_weigh : (w : Weight) → w.depth ≡ 0 → w.count ≡ 0 → ItemsWeigh h cap [] w
   unfolding ItemsWeigh
-  no_items_weigh = (no_items, tt, refl, omega arith)
+  no_items_weigh w d c = (no_items, tt, d, omega (arith, c))
 
-  pub one_more : (xs : List ℕ) (x : ℕ) (a b : Weight) → ItemsWeigh h cap xs a → Weighs h cap x b
-      → ItemsWeigh h cap (xs ++ x ∷ [])
-      (record { depth = max a.depth b.depth; count = min cap (a.count + b.count) })
+  pub one_more : (xs : List ℕ) (x : ℕ) (a b sum : Weight) → sum.depth ≡ max a.depth b.depth
+      → sum.count ≡ min cap (a.count + b.count) → ItemsWeigh h cap xs a → Weighs h cap x b
+      → ItemsWeigh h cap (xs ++ x ∷ []) sum
   unfolding ItemsWeigh Weighs
-  one_more xs x a b i w = (
+  one_more xs x a b sum d c i w = (
     snoc i.0 w.0,
     unfold_snoc h xs x i.0 w.0 i.1 w.1,
-    omega (arith, depth_snoc i.0 w.0, i.2, w.2),
-    omega (arith, count_snoc i.0 w.0, i.3, w.3),
+    omega (arith, depth_snoc i.0 w.0, i.2, w.2, d),
+    omega (arith, count_snoc i.0 w.0, i.3, w.3, c),
   )
 
   pub one_deeper : (fuel : ℕ) (xs : List ℕ) (x : ℕ) (ys : List ℕ) → IsDeeper h fuel x
@@ -99,20 +99,19 @@ module _ (h : Heap) (cap : ℕ) where
   unfolding IsDeeper AreDeeper
   one_deeper fuel xs x ys d vs u = let i = at_seam h xs x ys vs u in omega (arith, i.2, d i.0 i.1)
 
-  pub no_members_weigh : MembersWeigh h cap [] (record { depth = 0; count = 0 })
+  pub no_members_weigh : (w : Weight) → w.depth ≡ 0 → w.count ≡ 0 → MembersWeigh h cap [] w
   unfolding MembersWeigh
-  no_members_weigh = (no_members, tt, refl, omega arith)
+  no_members_weigh w d c = (no_members, tt, d, omega (arith, c))
 
-  pub member_more : (xs : List (List ℕ × ℕ)) (k : List ℕ) (x : ℕ) (a b : Weight)
-      → MembersWeigh h cap xs a → Weighs h cap x b
-      → MembersWeigh h cap (xs ++ (k, x) ∷ [])
-      (record { depth = max a.depth b.depth; count = min cap (a.count + b.count) })
+  pub member_more : (xs : List (List ℕ × ℕ)) (k : List ℕ) (x : ℕ) (a b sum : Weight)
+      → sum.depth ≡ max a.depth b.depth → sum.count ≡ min cap (a.count + b.count)
+      → MembersWeigh h cap xs a → Weighs h cap x b → MembersWeigh h cap (xs ++ (k, x) ∷ []) sum
   unfolding MembersWeigh Weighs
-  member_more xs k x a b i w = (
+  member_more xs k x a b sum d c i w = (
     snoc_member i.0 k w.0,
     member_snoc h xs k x i.0 w.0 i.1 w.1,
-    omega (arith, member_depth_snoc i.0 k w.0, i.2, w.2),
-    omega (arith, member_count_snoc i.0 k w.0, i.3, w.3),
+    omega (arith, member_depth_snoc i.0 k w.0, i.2, w.2, d),
+    omega (arith, member_count_snoc i.0 k w.0, i.3, w.3, c),
   )
 
   pub member_deeper : (fuel : ℕ) (xs : List (List ℕ × ℕ)) (k : List ℕ) (x : ℕ)
@@ -122,22 +121,24 @@ module _ (h : Heap) (cap : ℕ) where
       omega (arith, i.2, d i.0 i.1)
 
   -- an object by what it holds
-  pub scalar_weighs : (x : ℕ) (s : Data) → 0 < cap → h x ≡ Some (Scalar s) → Unfolds h x s
-      → depth s ≡ 0 → count s ≡ 1 → Weighs h cap x (record { depth = 0; count = 1 })
+  pub scalar_weighs : (x : ℕ) (s : Data) (w : Weight) → 0 < cap → h x ≡ Some (Scalar s)
+      → Unfolds h x s → depth s ≡ 0 → count s ≡ 1 → w.depth ≡ 0 → w.count ≡ 1 → Weighs h cap x w
   unfolding Weighs
-  scalar_weighs x s some e u d c = (s, u, sym d, omega (arith, c))
+  scalar_weighs x s w some e u d c f g = (s, u, omega (arith, d, f), omega (arith, c, g))
 
-  pub sequence_weighs : (x : ℕ) (xs : List ℕ) (a : Weight) → h x ≡ Some (Sequence xs)
-      → ItemsWeigh h cap xs a
-      → Weighs h cap x (record { depth = a.depth + 1; count = min cap (a.count + 1) })
+  pub sequence_weighs : (x : ℕ) (xs : List ℕ) (a w : Weight) → h x ≡ Some (Sequence xs)
+      → ItemsWeigh h cap xs a → w.depth ≡ a.depth + 1 → w.count ≡ min cap (a.count + 1)
+      → Weighs h cap x w
   unfolding Weighs ItemsWeigh
-  sequence_weighs x xs a e i = (array i.0, (xs, e, i.1), omega (arith, i.2), omega (arith, i.3))
+  sequence_weighs x xs a w e i f g =
+      (array i.0, (xs, e, i.1), omega (arith, i.2, f), omega (arith, i.3, g))
 
-  pub pairs_weigh : (x : ℕ) (ps : List (List ℕ × ℕ)) (a : Weight) → h x ≡ Some (Pairs ps)
-      → MembersWeigh h cap ps a → Weighs h cap x
-      (record { depth = a.depth + 1; count = min cap (a.count + 1) })
+  pub pairs_weigh : (x : ℕ) (ps : List (List ℕ × ℕ)) (a w : Weight) → h x ≡ Some (Pairs ps)
+      → MembersWeigh h cap ps a → w.depth ≡ a.depth + 1 → w.count ≡ min cap (a.count + 1)
+      → Weighs h cap x w
   unfolding Weighs MembersWeigh
-  pairs_weigh x ps a e i = (object i.0, (ps, e, i.1), omega (arith, i.2), omega (arith, i.3))
+  pairs_weigh x ps a w e i f g =
+      (object i.0, (ps, e, i.1), omega (arith, i.2, f), omega (arith, i.3, g))
 
   pub sequence_deeper : (x : ℕ) (xs : List ℕ) (fuel less : ℕ) → fuel ≡ less + 1
       → h x ≡ Some (Sequence xs) → AreDeeper h less xs → IsDeeper h fuel x

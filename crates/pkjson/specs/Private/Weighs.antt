@@ -39,7 +39,7 @@ MembersDeeper h levels ps = (ms : Members) → UnfoldMembers h ps ms → levels 
 
 -- what is recorded of an object that isn't weighed yet
 abbrev pub no_weight : Weight
-no_weight = record { depth = 0; count = 0 }
+no_weight = record { depth = 0; count = 0; size = 0 }
 
 -- each recorded weight is right
 unfoldable pub IsTrusted : Heap → ℕ → List Weight → Type 0

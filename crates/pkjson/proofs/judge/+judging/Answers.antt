@@ -22,19 +22,19 @@ weigh_node-returns-then-levels-eq0-2-clause-weight t c =
 
 pub weigh_node-returns-in-Null-clause-weight : goal.weigh_node-returns-in-Null-clause-weight
 weigh_node-returns-in-Null-clause-weight t c = let e = held _ _ _ c.node.ensures.held
-    c.in-Null.is in scalar_weighs _ _ _ _ c.requires.room.some e e refl refl
+    c.in-Null.is in scalar_weighs _ _ _ _ _ c.requires.room.some e e refl refl c.scalar.ensures.depth c.scalar.ensures.count
 
 pub weigh_node-returns-in-Bool-clause-weight : goal.weigh_node-returns-in-Bool-clause-weight
 weigh_node-returns-in-Bool-clause-weight t c = let e = held _ _ _ c.node.ensures.held
-    c.in-Bool.is in scalar_weighs _ _ _ _ c.requires.room.some e e refl refl
+    c.in-Bool.is in scalar_weighs _ _ _ _ _ c.requires.room.some e e refl refl c.scalar-in-Bool.ensures.depth c.scalar-in-Bool.ensures.count
 
 pub weigh_node-returns-in-Int-clause-weight : goal.weigh_node-returns-in-Int-clause-weight
 weigh_node-returns-in-Int-clause-weight t c = let e = held _ _ _ c.node.ensures.held c.in-Int.is in
-    scalar_weighs _ _ _ _ c.requires.room.some e e refl refl
+    scalar_weighs _ _ _ _ _ c.requires.room.some e e refl refl c.scalar-in-Int.ensures.depth c.scalar-in-Int.ensures.count
 
 pub weigh_node-returns-in-Text-clause-weight : goal.weigh_node-returns-in-Text-clause-weight
 weigh_node-returns-in-Text-clause-weight t c = let e = held _ _ _ c.node.ensures.held
-    c.in-Text.is in scalar_weighs _ _ _ _ c.requires.room.some e e refl refl
+    c.in-Text.is in scalar_weighs _ _ _ _ _ c.requires.room.some e e refl refl c.scalar-in-Text.ensures.depth c.scalar-in-Text.ensures.count
 
 pub weigh_node-weigh_items-requires : goal.weigh_node-weigh_items-requires
 weigh_node-weigh_items-requires t c = let b =
@@ -45,9 +45,9 @@ weigh_node-weigh_members-requires t c = let b =
     below _ _ _ (c.node.ensures.below c.requires.closed) c.in-Dict.is in search (rules, b)
 
 pub weigh_node-returns-in-Some-clause-weight : goal.weigh_node-returns-in-Some-clause-weight
-weigh_node-returns-in-Some-clause-weight t c = rw c.raised.ensures
-    (sequence_weighs _ _ _ _ _ (held _ _ _ c.node.ensures.held c.in-List.is)
-    c.in-Some.ensures.weight)
+weigh_node-returns-in-Some-clause-weight t c = sequence_weighs _ _ _ _ _ _
+    (held _ _ _ c.node.ensures.held c.in-List.is) c.in-Some.ensures.weight
+    c.raised.ensures.depth c.raised.ensures.count
 
 pub weigh_node-returns-in-None-clause-weight : goal.weigh_node-returns-in-None-clause-weight
 weigh_node-returns-in-None-clause-weight t c = sequence_deeper _ c.args.cap _ _ _
@@ -57,9 +57,9 @@ weigh_node-returns-in-None-clause-weight t c = sequence_deeper _ c.args.cap _ _ 
 pub weigh_node-returns-in-Some-weigh_members-clause-weight
     : goal.weigh_node-returns-in-Some-weigh_members-clause-weight
 weigh_node-returns-in-Some-weigh_members-clause-weight t c =
-    rw c.raised-in-Some-weigh_members.ensures
-    (pairs_weigh _ _ _ _ _ (held _ _ _ c.node.ensures.held c.in-Dict.is)
-    c.in-Some-weigh_members.ensures.weight)
+    pairs_weigh _ _ _ _ _ _ (held _ _ _ c.node.ensures.held c.in-Dict.is)
+    c.in-Some-weigh_members.ensures.weight c.raised-in-Some-weigh_members.ensures.depth
+    c.raised-in-Some-weigh_members.ensures.count
 
 pub weigh_node-returns-in-None-weigh_members-clause-weight
     : goal.weigh_node-returns-in-None-weigh_members-clause-weight
@@ -101,7 +101,7 @@ weigh_items-loop-item-init t c = record {
   trusted = c.requires.trusted;
   depth = omega arith;
   count = omega arith;
-  sum = no_items_weigh _ _;
+  sum = no_items_weigh _ _ _ refl refl;
 }
 
 pub weigh_members-loop-key-init : goal.weigh_members-loop-key-init
@@ -110,7 +110,7 @@ weigh_members-loop-key-init t c = record {
   trusted = c.requires.trusted;
   depth = omega arith;
   count = omega arith;
-  sum = no_members_weigh _ _;
+  sum = no_members_weigh _ _ _ refl refl;
 }
 
 pub weigh_items-returns-in-None-clause-weight : goal.weigh_items-returns-in-None-clause-weight
@@ -123,32 +123,39 @@ pub weigh_items-loop-item-preserved : goal.weigh_items-loop-item-preserved
 weigh_items-loop-item-preserved t c = record {
   same = c.weigh.auto.done ∙ c.loop-item.invariant.same;
   trusted = c.in-Some.ensures.trusted;
-  depth = rw c.joined-sum.ensures
-      (omega (arith, c.in-Some.ensures.bounds.depth, c.loop-item.invariant.depth));
-  count = rw c.joined-sum.ensures (omega arith);
-  sum = rw (
-    take_more c.args.items.now c.loop-item.item-index 0 c.loop-item-test.true,
-    c.joined-sum.ensures,
-  )
-      (one_more _ _ _ _ _ _ c.loop-item.invariant.sum c.in-Some.ensures.weight);
+  depth = omega (
+    arith,
+    c.joined-sum.ensures.depth,
+    c.in-Some.ensures.bounds.depth,
+    c.loop-item.invariant.depth,
+  );
+  count = omega (arith, c.joined-sum.ensures.count);
+  sum = rw (take_more c.args.items.now c.loop-item.item-index 0 c.loop-item-test.true)
+      (one_more _ _ _ _ _ _ _ c.joined-sum.ensures.depth c.joined-sum.ensures.count
+      c.loop-item.invariant.sum c.in-Some.ensures.weight);
 }
 
 pub weigh_members-returns-in-None-clause-weight : goal.weigh_members-returns-in-None-clause-weight
 weigh_members-returns-in-None-clause-weight t c = subst
     (λ l. MembersDeeper (heap c.args.nodes.now) c.args.levels l)
-    (named_seam c.args.members.now c.loop-key._key-index no_member c.loop-key-test.true)
+    (named_seam c.args.members.now c.loop-key.key-index no_member c.loop-key-test.true)
     (member_deeper _ c.args.cap _ _ _ _ _ c.in-None.ensures.weight)
 
 pub weigh_members-loop-key-preserved : goal.weigh_members-loop-key-preserved
 weigh_members-loop-key-preserved t c = record {
   same = c.weigh.auto.done ∙ c.loop-key.invariant.same;
   trusted = c.in-Some.ensures.trusted;
-  depth = rw c.joined-sum.ensures
-      (omega (arith, c.in-Some.ensures.bounds.depth, c.loop-key.invariant.depth));
-  count = rw c.joined-sum.ensures (omega arith);
-  sum = rw (
-    named_more c.args.members.now c.loop-key._key-index no_member c.loop-key-test.true,
-    c.joined-sum.ensures,
-  )
-      (member_more _ _ _ _ _ _ _ c.loop-key.invariant.sum c.in-Some.ensures.weight);
+  depth = omega (
+    arith,
+    c.joined-sum.ensures.depth,
+    c.keyed.ensures.depth,
+    c.in-Some.ensures.bounds.depth,
+    c.loop-key.invariant.depth,
+  );
+  count = omega (arith, c.joined-sum.ensures.count);
+  sum = rw (named_more c.args.members.now c.loop-key.key-index no_member c.loop-key-test.true)
+      (member_more _ _ _ _ _ _ _ _
+      (omega (arith, c.joined-sum.ensures.depth, c.keyed.ensures.depth))
+      (omega (arith, c.joined-sum.ensures.count, c.keyed.ensures.count))
+      c.loop-key.invariant.sum c.in-Some.ensures.weight);
 }

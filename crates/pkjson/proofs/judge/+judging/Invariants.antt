@@ -30,5 +30,5 @@ invariant-weigh_members-loop-key l = record {
   trusted : IsTrusted (heap l.nodes) l.cap l.done;
   depth : l.sum.depth ≤ l.levels;
   count : l.sum.count ≤ l.cap;
-  sum : MembersWeigh (heap l.nodes) l.cap (named_members (take l._key-index l.members)) l.sum;
+  sum : MembersWeigh (heap l.nodes) l.cap (named_members (take l.key-index l.members)) l.sum;
 }
