@@ -4,3 +4,4 @@ pub mod Weights
 pub mod WeightAnswers
 pub mod Built
 pub mod Sent
+pub mod Pieces

@@ -1,5 +1,6 @@
 -- What the answers of an export mean.
 use Rattle.std.specs.Prelude.{◌≡◌, ◌≢◌, ℕ, ◌<◌, ◌≤◌, false, List, Option, Some, None}
+use Rattle.std.specs.Io.KnownBytes.{Appends}
 use Rattle.serde_json.specs.Data.{Data, depth}
 use Rattle.serde_json.specs.Written.{compact_text, has_float}
 use Rattle.pkops.specs.Limits.{Bounds, holding_all}
@@ -62,6 +63,11 @@ pub record IsValueOf (limits : Bounds) (bytes : List ℕ) (v : Data) : Type 0 wh
 -- the compact JSON text of that value
 abbrev pub IsTextOf : Bounds → List ℕ → List ℕ → Type 0
 IsTextOf limits bytes text = (v : Data) × IsValueOf limits bytes v × (text ≡ compact_text v)
+
+-- that text was written
+abbrev pub AppendsText : Bounds → List ℕ → Option (List ℕ) → Option (List ℕ) → Type 0
+AppendsText limits bytes old new =
+    (text : List ℕ) × IsTextOf limits bytes text × Appends old new text
 
 -- the result has no value within the depth limit, because it contains itself or nests too deeply
 pub record IsTooDeep (limits : Bounds) (bytes : List ℕ) : Type 0 where

@@ -16,6 +16,8 @@ pub mod Ranks
 pub mod Weighs
 pub mod Fits
 pub mod Sends
+pub mod Parts
+pub mod Pieces
 pub mod Settled
 pub mod Replayed
 pub mod Result

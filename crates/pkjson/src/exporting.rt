@@ -1,30 +1,35 @@
 //! Exports a plain pickle.
 
-ghost use Rattle.std.specs.Prelude.{◌≡◌, ◌<◌, ◌≤◌, length, replicate, IfOk, IfErr, OnOk};
+ghost use Rattle.std.specs.Prelude.{◌≡◌, ◌<◌, ◌≤◌, length, replicate, IfOk, IfErr, OnErr, OnOk};
 ghost use Rattle.serde_json.specs.View.{view};
 ghost use Rattle.pkread.specs.Rows.{sight};
 ghost use Rattle.pkjson.specs.Export.{IsValueOf, IsTextOf, IsNotExported, IsAccepted};
+ghost use Rattle.pkjson.specs.Export.{AppendsText};
 ghost use Rattle.pkjson.specs.Private.Arena.{holds};
 ghost use Rattle.pkjson.specs.Private.Seen.{kept_all};
 ghost use Rattle.pkjson.specs.Private.Settled.{AreGivenBelow};
 ghost use Rattle.pkjson.specs.Private.Nodes.{heap, size, IsClosed, AreOrdered};
 ghost use Rattle.pkjson.specs.Private.Result.{HasValue, IsValue, IsText, IsTooLarge};
-ghost use Rattle.pkjson.specs.Private.Result.{TellsRefusal};
+ghost use Rattle.pkjson.specs.Private.Result.{IsAnswered, TellsRefusal};
+ghost use Rattle.pkjson.specs.Private.Replayed.{Replays};
 ghost use Rattle.pkjson.specs.Private.Weighs.{no_weight};
 
 use crate::build::build;
 use crate::error::ExportError;
 use crate::judge::{Weight, weigh};
 use crate::objects::Object;
+use crate::pieces::{Weighed, write_value};
 use crate::replay::replay;
 use crate::settle::settle;
 use crate::settled::Settled;
-use crate::writing::text_of;
+use crate::writing::{Part, text_of};
 use pkcheck::{Policy, check};
 use pkops::Limits;
 use pkread::{Memory, Reason, Refusal};
 use serde_json::Value;
 use std::alloc::{AllocError, Global};
+use std::io;
+use std::io::Write;
 
 /// The value of the plain pickle at the front of the bytes. Lists and tuples become arrays; dicts
 /// become objects with members in the byte order of their keys. Nothing is executed, and bytes
@@ -44,8 +49,7 @@ pub fn export(alloc: Global, bytes: &[u8], limits: &Limits) -> Result<Value, Exp
     ensures value { IfOk result (λ value. IsValueOf limits.now bytes.now (view value)) }
     ensures error { IfErr result (IsNotExported limits.now bytes.now) }
 {
-    accept(alloc, bytes, limits)?;
-    let (objects, place) = replay(alloc, bytes, limits)?;
+    let (objects, place) = replayed(alloc, bytes, limits)?;
     settled_value(alloc, &objects, place, limits)
 }
 
@@ -59,9 +63,46 @@ pub fn export_text(alloc: Global, bytes: &[u8], limits: &Limits) -> Result<Vec<u
     ensures text { IfOk result (λ text. IsTextOf limits.now bytes.now text.items) }
     ensures error { IfErr result (IsNotExported limits.now bytes.now) }
 {
-    accept(alloc, bytes, limits)?;
-    let (objects, place) = replay(alloc, bytes, limits)?;
+    let (objects, place) = replayed(alloc, bytes, limits)?;
     settled_text(alloc, &objects, place, limits)
+}
+
+/// Writes the text that `export_text` returns, in pieces: it is never held whole. A refusal is
+/// known before anything is written.
+///
+/// # Errors
+///
+/// The writer's, or that there is no memory for a piece; how much was written is then unspecified.
+/// Inside, those of `export`.
+pub fn export_to<W: Write>(
+    alloc: Global,
+    bytes: &[u8],
+    limits: &Limits,
+    out: &mut W,
+) -> io::Result<Result<(), ExportError>>
+    ensures text { IfOk result (λ answer. OnOk answer
+        (AppendsText limits.now bytes.now (W.contents out.old) (W.contents out.new))) }
+    ensures error { IfOk result (λ answer. IfErr answer (IsNotExported limits.now bytes.now)) }
+    ensures unwritten { IfOk result (λ answer.
+        OnErr answer (W.contents out.new ≡ W.contents out.old)) }
+{
+    match replayed(alloc, bytes, limits) {
+        Ok((objects, place)) => settled_to(alloc, &objects, place, limits, out),
+        Err(error) => Ok(Err(error)),
+    }
+}
+
+/// The objects of an accepted plain pickle in their final state, and the number of its result.
+fn replayed<'a>(
+    alloc: Global,
+    bytes: &'a [u8],
+    limits: &Limits,
+) -> Result<(Vec<Object<'a>>, usize), ExportError>
+    ensures ok { IfOk result (λ r. Replays limits.now bytes.now (kept_all r.0.items) r.1) }
+    ensures err { IfErr result (IsNotExported limits.now bytes.now) }
+{
+    accept(alloc, bytes, limits)?;
+    replay(alloc, bytes, limits)
 }
 
 /// The value of an object in its final state, within the limits.
@@ -102,6 +143,25 @@ fn settled_text(
         return Err(ExportError::OutOfMemory);
     };
     written(alloc, &nodes, place, deepest(limits), most(limits))
+}
+
+/// Writes the text of the value of an object in its final state, within the limits.
+fn settled_to<W: Write>(
+    alloc: Global,
+    objects: &[Object<'_>],
+    place: usize,
+    limits: &Limits,
+    out: &mut W,
+) -> io::Result<Result<(), ExportError>>
+    requires within { place < length objects.now }
+    requires closed { AreGivenBelow (length objects.now) (kept_all objects.now) }
+    ensures { IfOk result (IsAnswered (holds (kept_all objects.now)) limits.now place
+        (W.contents out.old) (W.contents out.new)) }
+{
+    let Ok(nodes) = settle(alloc, objects) else {
+        return Ok(Err(ExportError::OutOfMemory));
+    };
+    written_to(alloc, &nodes, place, limits, out)
 }
 
 /// The limit on depth.
@@ -162,14 +222,14 @@ fn no_weights(alloc: Global, count: usize) -> Result<Vec<Weight>, AllocError>
     Ok(weights)
 }
 
-/// Checks that an object has a value within the limits.
+/// The weights of an object and of what it refers to, if it has a value within the limits.
 fn judged(
     alloc: Global,
     nodes: &Settled<'_, '_>,
     place: usize,
     deepest: u32,
     most: u32,
-) -> Result<(), ExportError>
+) -> Result<Vec<Weight>, ExportError>
     requires closed { IsClosed nodes.now }
     requires place { place < size nodes.now }
     requires deepest { deepest ≤ 1_000_000 }
@@ -186,7 +246,7 @@ fn judged(
     if weight.count > most {
         return Err(ExportError::TooMany);
     }
-    Ok(())
+    Ok(done)
 }
 
 /// The value of an object, within the limits.
@@ -228,8 +288,36 @@ fn written(
     ensures err { IfErr result (IsTooLarge (heap nodes.now) deepest most place) }
 {
     judged(alloc, nodes, place, deepest, most)?;
-    match text_of(alloc, nodes, place, deepest) {
+    match text_of(alloc, nodes, Part::Object(place), deepest) {
         Ok(text) => Ok(text),
         Err(_) => Err(ExportError::OutOfMemory),
+    }
+}
+
+/// Writes the text of the value of an object, within the limits.
+fn written_to<W: Write>(
+    alloc: Global,
+    nodes: &Settled<'_, '_>,
+    place: usize,
+    limits: &Limits,
+    out: &mut W,
+) -> io::Result<Result<(), ExportError>>
+    requires closed { IsClosed nodes.now }
+    requires place { place < size nodes.now }
+    ensures { IfOk result (IsAnswered (heap nodes.now) limits.now place
+        (W.contents out.old) (W.contents out.new)) }
+{
+    let levels = deepest(limits);
+    match judged(alloc, nodes, place, levels, most(limits)) {
+        Ok(weights) => {
+            let weighed = Weighed {
+                alloc,
+                nodes,
+                weights: weights.as_slice(),
+            };
+            write_value(&weighed, place, levels, out)?;
+            Ok(Ok(()))
+        }
+        Err(error) => Ok(Err(error)),
     }
 }

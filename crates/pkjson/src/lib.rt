@@ -16,6 +16,7 @@ mod memo;
 mod moves;
 mod node;
 mod objects;
+mod pieces;
 mod ranks;
 mod replay;
 mod settle;
@@ -26,4 +27,4 @@ mod texts;
 mod writing;
 
 pub use error::ExportError;
-pub use exporting::{export, export_text};
+pub use exporting::{export, export_text, export_to};

@@ -1,9 +1,10 @@
-//! Writes the text of the value that an object unfolds to, through serde.
+//! Makes the text of the value that an object unfolds to, or of a part of it, through serde.
 
 ghost use Rattle.std.specs.Prelude.{◌<◌, length, All, IfOk, OnOk};
 ghost use Rattle.pkjson.specs.Private.Nodes.{heap, size, named_members, IsClosed};
 ghost use Rattle.pkjson.specs.Private.Fits.{Fits, ItemsFit, MembersFit};
-ghost use Rattle.pkjson.specs.Private.Sends.{IsCompact, Sends, SendsArray, SendsObject};
+ghost use Rattle.pkjson.specs.Private.Parts.{IsPartBelow, PartFits, IsPartText};
+ghost use Rattle.pkjson.specs.Private.Sends.{Sends, SendsArray, SendsObject};
 
 use crate::node::Node;
 use crate::settled::Settled;
@@ -11,47 +12,62 @@ use serde::{Described, Serialize, Serializer};
 use serde_json::Number;
 use std::alloc::Global;
 
-/// The text of the value of an object, which must have one of at most this depth.
+/// A part of a value, by its objects.
+#[derive(Clone, Copy)]
+pub enum Part<'n, 'a> {
+    /// The value of this object.
+    Object(usize),
+    /// An array of the values of these objects.
+    Items(&'n [usize]),
+    /// An object with these members.
+    Members(&'n [(&'a str, usize)]),
+}
+
+/// The text of a part, whose objects must have values of at most this depth.
 pub fn text_of(
     alloc: Global,
     nodes: &Settled<'_, '_>,
-    place: usize,
+    part: Part<'_, '_>,
     levels: u32,
 ) -> Result<Vec<u8>, serde_json::Error>
     requires closed { IsClosed nodes.now }
-    requires place { place < size nodes.now }
-    requires fits { Fits (heap nodes.now) levels place }
-    ensures { IfOk result (λ text. IsCompact (heap nodes.now) place text.items) }
+    requires within { IsPartBelow (size nodes.now) part }
+    requires fits { PartFits (heap nodes.now) levels part }
+    ensures { IfOk result (λ text. IsPartText (heap nodes.now) part.entry text.items) }
 {
     let value = Unfolded {
         nodes,
-        place,
+        part,
         levels,
     };
     serde_json::to_vec(alloc, &value)
 }
 
-/// An object that serializes as the value it unfolds to, of at most this depth.
+/// A part that serializes as what its objects unfold to, of at most this depth.
 #[derive(Drop)]
 struct Unfolded<'n, 'a, 'b> {
     nodes: &'n Settled<'a, 'b>,
-    place: usize,
+    part: Part<'n, 'a>,
     levels: u32,
     ghost closed: { ∥ IsClosed nodes.now ∥₁ },
-    ghost within: { place < size nodes.now },
-    ghost fits: { ∥ Fits (heap nodes.now) levels place ∥₁ },
+    ghost within: { ∥ IsPartBelow (size nodes.now) part ∥₁ },
+    ghost fits: { ∥ PartFits (heap nodes.now) levels part ∥₁ },
 }
 
 impl<'n, 'a, 'b> Described for Unfolded<'n, 'a, 'b> {
     ghost use Rattle.pkjson.specs.Private.Nodes.{heap};
-    ghost use Rattle.pkjson.specs.Private.Sends.{Sends};
+    ghost use Rattle.pkjson.specs.Private.Parts.{SendsPart};
 
-    ghost writes = { λ value. Sends (heap value.nodes.now) value.place };
+    ghost writes = { λ value. SendsPart (heap value.nodes.now) value.part };
 }
 
 impl<'n, 'a, 'b> Serialize for Unfolded<'n, 'a, 'b> {
     fn serialize<S: Serializer>(&self, out: &mut S) -> Result<(), S::Error> {
-        send(self.nodes, self.place, self.levels, out)
+        match self.part {
+            Part::Object(place) => send(self.nodes, place, self.levels, out),
+            Part::Items(items) => send_items(self.nodes, items, self.levels, out),
+            Part::Members(members) => send_members(self.nodes, members, self.levels, out),
+        }
     }
 }
 

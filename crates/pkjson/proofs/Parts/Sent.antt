@@ -22,8 +22,13 @@ use Rattle.pkjson.specs.Unfolds.{Scalar, Sequence, Pairs, Heap, UnfoldItems, Unf
 use Rattle.pkjson.specs.Private.Nodes.{IsBelow, IsClosed, content, heap, named_members, nodes_of}
 use Rattle.pkjson.specs.Private.Nodes.{size}
 use Rattle.pkjson.specs.declared.settled.Settled.{Settled}
+use Rattle.pkjson.specs.Private.Parts.{IsArrayText, IsObjectText, IsPartBelow, IsPartText}
+use Rattle.pkjson.specs.Private.Parts.{SendsPart}
 use Rattle.pkjson.specs.Private.Sends.{IsCompact, Sends, SendsArray, SendsObject}
-use Rattle.pkjson.proofs.Values.NoFloats.{floatless_in, integer_floatless}
+use Rattle.pkjson.specs.declared.writing.Part.{Part}
+use Rattle.pkjson.specs.declared.writing.Part.TheVariants as part
+use Rattle.pkjson.proofs.Values.NoFloats.{floatless_in, integer_floatless, items_floatless}
+use Rattle.pkjson.proofs.Values.NoFloats.{members_floatless}
 
 module _ (h : Heap) (x : ℕ) (old new : Log) where
   pub sends_null : h x ≡ Some (Scalar null) → Logs old new event.nothing → Sends h x old new
@@ -55,7 +60,7 @@ module _ (h : Heap) (x : ℕ) (old new : Log) where
   unfolding Sends SendsObject
   sends_object ps e w = (object w.0, (ps, e, w.1), w.2)
 
-named_length : (ps : List (Bor (List ℕ) × ℕ)) → length (named_members ps) ≡ length ps
+pub named_length : (ps : List (Bor (List ℕ) × ℕ)) → length (named_members ps) ≡ length ps
 named_length [] = refl
 named_length (p ∷ ps) = ap suc (named_length ps)
 
@@ -132,6 +137,12 @@ below_prop n (node.List v) = Prim.hlevel props
 below_prop n (node.Dict v) = Prim.hlevel props
 below_prop n _ = Prim.hlevel props
 
+-- so is whether a part does
+pub part_below_prop : (n : ℕ) (p : Part) → IsProp (IsPartBelow n p)
+part_below_prop n (part.Object x) = Prim.hlevel props
+part_below_prop n (part.Items xs) = Prim.hlevel props
+part_below_prop n (part.Members ps) = Prim.hlevel props
+
 pub closed_prop : (s : Settled) → IsProp (IsClosed s)
 unfolding IsClosed
 closed_prop s = Π_prop (λ x. Π_prop (λ m. Π_prop (λ e. below_prop (size s) m)))
@@ -154,14 +165,29 @@ heap_floatless None d e = absurd cc
 heap_floatless (Some n) d e = node_floatless n d cc
 
 module _ (s : Settled) where
-  -- what is printed of the events of a value is its text
-  pub compact : (x : ℕ) (text : List ℕ)
-      → ((log : Log) × Sends (heap s) x (Some []) log × IsTextOf log text)
-      → IsCompact (heap s) x text
-  unfolding Sends IsCompact
-  compact x text w = (
+  scalars_floatless : (x : ℕ) (d : Data) → heap s x ≡ Some (Scalar d) → has_float d ≡ false
+  scalars_floatless x d e = heap_floatless (slice_get (nodes_of s) x) d e
+
+  -- what is printed of the events of a part is its text
+  pub compact : (p : Part) (text : List ℕ)
+      → ((log : Log) × SendsPart (heap s) p (Some []) log × IsTextOf log text)
+      → IsPartText (heap s) p text
+  unfolding Sends IsCompact SendsArray IsArrayText SendsObject IsObjectText
+  compact (part.Object x) text w = (
     w.1.0,
     w.1.1,
     text_of_value w.1.0 w.0 text w.1.2 w.2
-        (floatless_in (heap s) (λ n. heap_floatless (slice_get (nodes_of s) n)) x w.1.0 w.1.1),
+        (floatless_in (heap s) scalars_floatless x w.1.0 w.1.1),
+  )
+  compact (part.Items xs) text w = (
+    w.1.0,
+    w.1.1,
+    text_of_value (array w.1.0) w.0 text w.1.2 w.2
+        (items_floatless (heap s) scalars_floatless xs.now w.1.0 w.1.1),
+  )
+  compact (part.Members ps) text w = (
+    w.1.0,
+    w.1.1,
+    text_of_value (object w.1.0) w.0 text w.1.2 w.2
+        (members_floatless (heap s) scalars_floatless (named_members ps.now) w.1.0 w.1.1),
   )

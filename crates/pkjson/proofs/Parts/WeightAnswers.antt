@@ -1,14 +1,17 @@
 -- From a weight to the answer.
 use Rattle.std.proofs.Common.{◌≡◌, ℕ, ◌+◌, ◌<◌, ◌≤◌, List, length, get_or, replicate, sym, ap, ◌∙◌}
-use Rattle.std.proofs.Common.{subst, arith}
+use Rattle.std.proofs.Common.{subst, arith, refl, Option, Ok}
 use Rattle.std.proofs.lemmas.Option.{slice_get_within, get_or_from_slice_get}
 use Rattle.std.proofs.lemmas.List.{length-replicate, get_or-replicate}
 use Rattle.serde_json.specs.Data.{Data, depth}
+use Rattle.serde_json.specs.Written.{compact_text}
+use Rattle.pkops.specs.Limits.{Bounds}
 use Rattle.pkjson.specs.declared.judge.Weight.{Weight}
 use Rattle.pkjson.specs.Unfolds.{Heap, Unfolds, count}
 use Rattle.pkjson.specs.Private.Weighs.{Weighs, IsDeeper, IsTrusted, no_weight}
 use Rattle.pkjson.specs.Private.Fits.{Fits}
-use Rattle.pkjson.specs.Private.Result.{HasValue, IsValue, IsText}
+use Rattle.pkjson.specs.Private.Pieces.{Writes}
+use Rattle.pkjson.specs.Private.Result.{HasValue, IsAnswered, IsText, IsValue}
 use Rattle.pkjson.specs.Private.Sends.{IsCompact}
 use Rattle.pkjson.proofs.Values.OneValue.{unique}
 
@@ -50,3 +53,12 @@ module _ (h : Heap) (x : ℕ) where
     pub text_is : (text : List ℕ) → IsCompact h x text → IsText h deepest most x text
     unfolding IsCompact
     text_is text c = (c.0, value_is c.0 c.1, c.2)
+
+-- the text of the value was written
+pub text_written : (h : Heap) (limits : Bounds) (x d m : ℕ) (old new : Option (List ℕ))
+    → d ≡ limits.depth → m ≡ limits.values → HasValue h d m x → Writes h x old new
+    → IsAnswered h limits x old new (Ok tt)
+unfolding Writes
+text_written h limits x d m old new e f i w =
+    let is = value_is h x d m i w.0 w.1 in
+    (compact_text w.0, (w.0, (is.0, omega (arith, is.1, e), omega (arith, is.2, f)), refl), w.2)

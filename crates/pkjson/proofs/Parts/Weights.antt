@@ -1,6 +1,6 @@
 -- What the weights of parts say of the whole.
 use Rattle.std.proofs.Common.{◌≡◌, ℕ, suc, zero, ◌+◌, ◌<◌, ◌≤◌, List, [], ◌∷◌, ◌++◌, length, refl}
-use Rattle.std.proofs.Common.{sym, arith, Some}
+use Rattle.std.proofs.Common.{arith, Some}
 use Rattle.std.specs.Prelude.{max, min, get_or}
 use Rattle.std.proofs.lemmas.Option.{slice_get-get_or}
 use Rattle.serde_json.specs.Data.{Data, array, object, depth, Items, no_items, item, items_depth}

@@ -2,7 +2,8 @@
 use Rattle.std.proofs.Common.{◌≡◌, ◌<◌, ℕ, true, List, length, refl, sym, ap, ◌∙◌, subst, Result}
 use Rattle.std.proofs.Common.{Ok, Err, Vec, Global}
 use Rattle.serde_json.specs.Data.{Data}
-use Rattle.std.specs.Prelude.{IfOk, IfErr}
+use Rattle.std.specs.Prelude.{IfOk, IfErr, OnOk, Option}
+use Rattle.std.specs.declared.io.Error.{Error}
 use Rattle.serde_json.specs.View.{view}
 use Rattle.serde_json.specs.declared.value.Value.{Value}
 use Rattle.pkops.specs.Limits.{Bounds}
@@ -18,12 +19,12 @@ use Rattle.pkjson.specs.declared.objects.Object.{Object}
 use Rattle.pkjson.specs.Private.Acting.{ActsAs}
 use Rattle.pkjson.specs.Private.Arena.{Kept, holds}
 use Rattle.pkjson.specs.Contents.{contents}
-use Rattle.pkjson.specs.Export.{AcceptedAs, Results, IsValueOf, IsTextOf, IsNotExported}
+use Rattle.pkjson.specs.Export.{AcceptedAs, AppendsText, Results, IsValueOf, IsTextOf, IsNotExported}
 use Rattle.pkjson.specs.Private.Held.{parts}
 use Rattle.pkjson.specs.Private.Nodes.{heap_of}
 use Rattle.pkjson.specs.Plain.{is_plain_data}
 use Rattle.pkjson.specs.Private.Replayed.{Replays}
-use Rattle.pkjson.specs.Private.Result.{IsValue, IsText, IsTooLarge}
+use Rattle.pkjson.specs.Private.Result.{IsAnswered, IsValue, IsText, IsTooLarge}
 use Rattle.pkjson.specs.Private.Seen.{kept_all}
 use Rattle.pkjson.specs.Private.Settled.{AreGivenBelow, AreSettled}
 use Rattle.pkjson.specs.Private.Standing.{StandsAt}
@@ -132,6 +133,17 @@ module _ (ks : List Kept) (ns : List Node) (s : AreSettled ks ks ns) (deepest mo
   text_in (Ok t) h = is_text t.items h
   text_in (Err e) h = h
 
+-- the answer that was written is that of the objects
+pub answered_held : (ks : List Kept) (ns : List Node) (s : AreSettled ks ks ns) (limits : Bounds)
+    (x : ℕ) (old new : Option (List ℕ)) (r : Result (Result (Unit {0}) ExportError) Error)
+    → IfOk r (IsAnswered (heap_of ns) limits x old new)
+    → IfOk r (IsAnswered (holds ks) limits x old new)
+answered_held ks ns s limits x old new (Ok (Ok u)) h =
+    (h.0, is_text ks ns s limits.depth limits.values x h.0 h.1, h.2)
+answered_held ks ns s limits x old new (Ok (Err e)) h =
+    (is_too_large ks ns s limits.depth limits.values x e h.0, h.1)
+answered_held ks ns s limits x old new (Err e) h = h
+
 -- the limits are those of the caller
 module _ (ks : List Kept) (ns : List Node) (s : AreSettled ks ks ns) (d m deepest most x : ℕ)
     (e : d ≡ deepest) (f : m ≡ most) where
@@ -182,3 +194,19 @@ module _ (limits : Bounds) (bytes : List ℕ) (os : List Object) (x : ℕ)
         → IfErr r (IsNotExported limits bytes)
     refusal_answered (Ok w) h = h
     refusal_answered (Err f) h = is_refused limits bytes (kept_all ls) x there f h
+
+    module _ (old new : Option (List ℕ)) where
+      pub text_appended : (r : Result (Result (Unit {0}) ExportError) Error)
+          → IfOk r (IsAnswered (holds (kept_all ls)) limits x old new)
+          → IfOk r (λ answer. OnOk answer (AppendsText limits bytes old new))
+      text_appended (Ok (Ok u)) h =
+          (h.0, (h.1.0, is_value_of limits bytes (kept_all ls) x there h.1.0 h.1.1, h.1.2), h.2)
+      text_appended (Ok (Err e)) h = tt
+      text_appended (Err e) h = h
+
+      pub refusal_told : (r : Result (Result (Unit {0}) ExportError) Error)
+          → IfOk r (IsAnswered (holds (kept_all ls)) limits x old new)
+          → IfOk r (λ answer. IfErr answer (IsNotExported limits bytes))
+      refusal_told (Ok (Ok u)) h = tt
+      refusal_told (Ok (Err e)) h = is_refused limits bytes (kept_all ls) x there e h.0
+      refusal_told (Err e) h = h

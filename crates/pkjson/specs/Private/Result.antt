@@ -1,7 +1,9 @@
 -- The value of an object within the limits, or why it has none.
-use Rattle.std.specs.Prelude.{◌≡◌, ◌≢◌, ◌⊎◌, ℕ, ◌<◌, ◌≤◌, List}
+use Rattle.std.specs.Prelude.{◌≡◌, ◌≢◌, ◌⊎◌, ℕ, ◌<◌, ◌≤◌, List, Option, Result, Ok, Err}
+use Rattle.std.specs.Io.KnownBytes.{Appends}
 use Rattle.serde_json.specs.Data.{Data, depth}
 use Rattle.serde_json.specs.Written.{compact_text}
+use Rattle.pkops.specs.Limits.{Bounds}
 use Rattle.pkjson.specs.declared.error.ExportError.{ExportError}
 use Rattle.pkjson.specs.declared.error.ExportError.TheVariants.{Check, TooDeep, TooMany}
 use Rattle.pkjson.specs.declared.error.ExportError.TheVariants.{OutOfMemory}
@@ -28,6 +30,14 @@ IsTooLarge h deepest most x TooMany =
     (v : Data) × Unfolds h x v × (depth v ≤ deepest) × (most < count v)
 IsTooLarge h deepest most x OutOfMemory = Unit {0}
 IsTooLarge h deepest most x e = ⊥
+
+-- the text of the object's value was written, or there is none and nothing was written
+abbrev pub IsAnswered
+    : Heap → Bounds → ℕ → Option (List ℕ) → Option (List ℕ) → Result (Unit {0}) ExportError → Type 0
+IsAnswered h limits x old new (Ok u) =
+    (text : List ℕ) × IsText h limits.depth limits.values x text × Appends old new text
+IsAnswered h limits x old new (Err e) =
+    IsTooLarge h limits.depth limits.values x e × (new ≡ old)
 
 -- the error for a refusal; a refused allocation has its own
 abbrev pub TellsRefusal : ℕ → Reason → ExportError → Type 0

@@ -4,4 +4,4 @@ use Rattle.pkjson.proofs.writing.text_of.Goals as goal
 
 pub returns : goal.returns
 returns c = IfOk-weaker c.to_vec.result _ _
-    (λ text sent. compact c.args.nodes.now c.args.place text.items sent) c.to_vec.ensures.events
+    (λ text sent. compact c.args.nodes.now c.args.part text.items sent) c.to_vec.ensures.events
