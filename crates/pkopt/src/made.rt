@@ -10,8 +10,9 @@ use std::marker::Model;
 /// How many bytes are copied in one move, for a piece of at most so many.
 const MOVE: usize = 16;
 
-/// The least number of bytes by which a store is lengthened.
-const STEP: usize = 4_096;
+/// The least number of bytes by which a store is lengthened. They are zeroed shortly before they
+/// are replaced.
+const STEP: usize = 2_048;
 
 /// The bytes of a slim form. The store is longer, so that a short piece is copied in one move
 /// together with the bytes behind it, which the next piece replaces.
@@ -33,12 +34,12 @@ impl Model for Made {
 }
 
 impl Made {
-    /// Before the first byte, with room for so many.
+    /// Before the first byte, with memory for so many.
     pub(crate) fn with_room(alloc: Global, room: usize) -> Result<Made, AllocError>
         ensures { IfOk result (λ made. made ≡ []) }
     {
         Ok(Made {
-            store: vec![in alloc; 0; room]?,
+            store: Vec::with_capacity(alloc, room.saturating_add(STEP))?,
             len: 0,
         })
     }

@@ -1,7 +1,8 @@
 //! How instructions use the memo, and the last write of each number.
 
-ghost use Rattle.std.specs.Prelude.{◌≡◌, ◌<◌, ◌^◌, [], IfNone, IfOk, IfSome, OnOk, Some, length};
-ghost use Rattle.std.specs.Prelude.{slice_index_or};
+ghost use Rattle.std.specs.Prelude.{◌≡◌, ◌<◌, ◌+◌, ◌^◌, [], IfNone, IfOk, IfSome, OnOk, Some};
+ghost use Rattle.std.specs.Prelude.{length, slice_index_or};
+ghost use Rattle.std.specs.Bool.{OnTrue};
 ghost use Rattle.pkcheck.specs.Shape.{recalled, stored};
 ghost use Rattle.pkopt.specs.Private.Memories.{Notes, first_writes, last_held, numbers_held};
 ghost use Rattle.pkopt.specs.Private.Memories.{row_of};
@@ -147,22 +148,52 @@ impl Memo {
         Entry::new(found(&self.rest, number))
     }
 
-    /// Records the last write of a number.
+    /// Whether all writes before this one are in order.
     #[inline(always)]
-    pub(crate) fn note(&mut self, number: usize, write: u32) -> Result<(), AllocError>
-        ensures { OnOk result (Notes number write self.old self.new) }
+    fn goes_on(&self, write: u32) -> bool
+        ensures { OnTrue result ((length self.now.listed.items ≡ 0)
+            × (length self.now.rest.entries ≡ 0) × (write ≡ self.now.in_order)) }
     {
-        if number < self.first || !self.listed.is_empty() || !self.rest.is_empty() {
-            return self.note_slowly(number, write);
-        }
-        if write != self.in_order || number - self.first != self.in_order as usize {
-            return self.note_slowly(number, write);
-        }
+        write == self.in_order && self.listed.is_empty() && self.rest.is_empty()
+    }
+
+    /// Counts one more write that is in order.
+    #[inline(always)]
+    fn go_on(&mut self) -> Result<(), AllocError>
+        ensures in_order { OnOk result (self.new.in_order ≡ self.old.in_order + 1) }
+        ensures same { self.new ≡ record self.old { in_order = self.new.in_order } }
+    {
         let Some(in_order) = self.in_order.checked_add(1) else {
             return Err(AllocError);
         };
         self.in_order = in_order;
         Ok(())
+    }
+
+    /// Records the last write of a number.
+    #[inline(always)]
+    pub(crate) fn note(&mut self, number: usize, write: u32) -> Result<(), AllocError>
+        ensures { OnOk result (Notes number write self.old self.new) }
+    {
+        if number < self.first || number - self.first != self.in_order as usize {
+            return self.note_slowly(number, write);
+        }
+        if !self.goes_on(write) {
+            return self.note_slowly(number, write);
+        }
+        self.go_on()
+    }
+
+    /// Records a write under the number of memo entries.
+    #[inline(always)]
+    pub(crate) fn note_next(&mut self, write: u32) -> Result<(), AllocError>
+        ensures { OnOk result (Notes (numbers_held self.old) write self.old self.new) }
+    {
+        if self.first != 0 || !self.goes_on(write) {
+            let number = self.len();
+            return self.note_slowly(number, write);
+        }
+        self.go_on()
     }
 
     /// Records the last write of a number, which may not be the next in order.

@@ -3,7 +3,7 @@
 ghost use Rattle.std.specs.Prelude.{◌≡◌, ◌+◌, ◌++◌, ◌∷◌, ◌<◌, ◌≤◌, [], IfOk, OnOk, false, ℕ};
 ghost use Rattle.pkops.specs.Inst.{instruction_of};
 ghost use Rattle.pkops.specs.Operands.{memo_number};
-ghost use Rattle.pkopt.specs.Private.Memories.{Notes, last_held};
+ghost use Rattle.pkopt.specs.Private.Memories.{Notes, last_held, numbers_held};
 ghost use Rattle.pkopt.specs.Private.Passes.{IsNewTrace, Marks, NotesStep, Skips};
 ghost use Rattle.pkopt.specs.Private.Places.{place, place_of, stays_as_is};
 
@@ -86,6 +86,24 @@ impl Trace {
         Ok(())
     }
 
+    /// Records a write under the number of memo entries.
+    #[inline(always)]
+    fn write_next(&mut self) -> Result<(), AllocError>
+        ensures writes { OnOk result (self.new.writes ≡ self.old.writes + 1) }
+        ensures memo { OnOk result (Notes (numbers_held self.old.memo) self.old.writes
+            self.old.memo self.new.memo) }
+        ensures sources { self.new.sources.items ≡ self.old.sources.items }
+        ensures parts { self.new.parts.items ≡ self.old.parts.items }
+        ensures end { self.new.end ≡ self.old.end }
+    {
+        let Some(writes) = self.writes.checked_add(1) else {
+            return Err(AllocError);
+        };
+        self.memo.note_next(self.writes)?;
+        self.writes = writes;
+        Ok(())
+    }
+
     /// Records a read of this number.
     #[inline(always)]
     fn read(&mut self, number: usize) -> Result<(), AllocError>
@@ -111,10 +129,7 @@ impl Trace {
     {
         match memo_use(inst.op()) {
             MemoUse::Stores => self.write(number_of(inst)),
-            MemoUse::StoresNext => {
-                let next = self.memo.len();
-                self.write(next)
-            }
+            MemoUse::StoresNext => self.write_next(),
             MemoUse::Fetches => self.read(number_of(inst)),
             MemoUse::Neither => Ok(()),
         }

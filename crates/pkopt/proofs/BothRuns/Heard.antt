@@ -2,7 +2,6 @@
 use Rattle.std.proofs.Common.{◌≡◌, ℕ, ◌+◌, true, false, cond, List, [], ◌∷◌, ◌++◌, length, Option}
 use Rattle.std.proofs.Common.{Result, Ok, Err, refl, sym, ap, subst, ◌∙◌, append-nil, length-append}
 use Rattle.std.specs.Prelude.{OnOk}
-use Rattle.pkops.specs.declared.Op.{Op}
 use Rattle.pkops.specs.Operands.{memo_number}
 use Rattle.pkops.specs.Spelling.{Instruction, spelling}
 use Rattle.pkread.specs.Sequence.{spellings}
@@ -14,7 +13,7 @@ use Rattle.pkopt.specs.declared.trace.Trace.{Trace}
 use Rattle.pkopt.specs.Private.Memories.{row_of}
 use Rattle.pkopt.specs.Private.Passes.{IsNewTrace, EndsSo, FollowsWrites, Hears, Marks, NotesStep}
 use Rattle.pkopt.specs.Private.Passes.{Tracks}
-use Rattle.pkopt.specs.Private.Places.{end_behind, place, stays_as_is, place_of, places_behind}
+use Rattle.pkopt.specs.Private.Places.{end_behind, stays_as_is, place_of, places_behind}
 use Rattle.pkopt.specs.Private.Places.{places_from, places_told, told}
 use Rattle.pkopt.specs.Writers.{Writes, read_by, sources, after_all}
 use Rattle.pkopt.proofs.MemoWrites.Noted.{none_remembered}

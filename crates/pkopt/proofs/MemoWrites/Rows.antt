@@ -1,11 +1,14 @@
 -- The row of consecutive numbers.
 use Rattle.std.proofs.Common.{◌≡◌, ℕ, zero, suc, ◌+◌, ◌<◌, cond, List, [], ◌∷◌, ◌++◌}
-use Rattle.std.proofs.Common.{◌-◌, ◌≤◌, length, get_or, refl, ap, subst, sym, ◌∙◌, arith, length-append}
-use Rattle.std.proofs.Common.{inl, inr}
-use Rattle.std.specs.Prelude.{◌≢◌}
+use Rattle.std.proofs.Common.{◌-◌, ◌≤◌, length, get_or, refl, ap, subst, sym, ◌∙◌, arith}
+use Rattle.std.proofs.Common.{length-append}
+use Rattle.std.proofs.Common.{Result, Ok, Err, inl, inr}
+use Rattle.std.specs.Prelude.{◌≢◌, OnOk}
 use Rattle.std.proofs.lemmas.List.{get_or_append_left, get_or_at}
 use Rattle.std.proofs.lemmas.Bool.Decides.{eqb_tells}
-use Rattle.pkopt.specs.Private.Memories.{Remembers, first_writes, row_by}
+use Rattle.pkopt.specs.declared.memo.Memo.{Memo}
+use Rattle.pkopt.specs.Private.Memories.{HoldsWrites, Notes, Remembers, first_writes, numbers_held}
+use Rattle.pkopt.specs.Private.Memories.{row_by}
 use Rattle.pkopt.specs.Writers.{Writes}
 use Rattle.pkopt.proofs.MemoWrites.Noted.{note_behind_row}
 
@@ -58,13 +61,33 @@ none_in [] e = refl
 none_in (x ∷ xs) e = absurd (omega (arith, e))
 
 -- it is noted
-pub noted_in_order : (ws : Writes) (first n m w number : ℕ) (listed : List ℕ)
-    (rest : List (ℕ × ℕ)) → length listed ≡ 0 → length rest ≡ 0 → first ≤ number → number - first ≡ n → w ≡ n
-    → m ≡ n + 1 → w ≡ length ws → Remembers ws first (row_by n listed) rest
+noted_in_order : (ws : Writes) (first n m w number : ℕ) (listed : List ℕ)
+    (rest : List (ℕ × ℕ)) → length listed ≡ 0 → length rest ≡ 0 → first ≤ number
+    → number - first ≡ n → w ≡ n → m ≡ n + 1 → w ≡ length ws
+    → Remembers ws first (row_by n listed) rest
     → Remembers (number ∷ ws) first (row_by m listed) rest
 noted_in_order ws first n m w number listed rest unlisted alone low place same more is h =
     let none = none_in listed unlisted in
     let size = row_count n listed none in
     subst (λ (l : List ℕ). Remembers (number ∷ ws) first l rest)
     (ap (λ w. row_by n listed ++ w ∷ []) same ∙ sym (row_more n m listed listed none more))
-    (note_behind_row ws first (row_by n listed) rest number w is h (none_in rest alone) low (place ∙ sym size))
+    (note_behind_row ws first (row_by n listed) rest number w is h (none_in rest alone) low
+    (place ∙ sym size))
+
+pub goes_on : {A E : Type 0} (r : Result A E) (old new : Memo) (number w : ℕ)
+    → (length old.listed.items ≡ 0) × (length old.rest.entries ≡ 0) × (w ≡ old.in_order)
+    → old.first ≤ number → number - old.first ≡ old.in_order
+    → OnOk r (new.in_order ≡ old.in_order + 1)
+    → new ≡ record old { in_order = new.in_order } → OnOk r (Notes number w old new)
+goes_on (Ok a) old new number w all low place more same = λ ws is h.
+    subst (HoldsWrites (number ∷ ws)) (sym same)
+    (noted_in_order ws old.first old.in_order new.in_order w number old.listed.items
+    old.rest.entries all.0 all.1 low place all.2 more is h)
+goes_on (Err e) old new number w all low place more same = tt
+
+-- the number of memo entries, where the first number is 0
+pub next_number : (m : Memo) → length m.listed.items ≡ 0 → length m.rest.entries ≡ 0
+    → m.first ≡ 0 → (m.first ≤ numbers_held m) × (numbers_held m - m.first ≡ m.in_order)
+next_number m unlisted alone first =
+    let size = row_count m.in_order m.listed.items (none_in m.listed.items unlisted) in
+    (omega (arith, first), omega (arith, first, size, alone))

@@ -1,11 +1,13 @@
-use Rattle.std.proofs.Common.{◌≡◌, ◌≤◌, ◌+◌, ◌++◌, ℕ, ◌-◌, List, length, take, drop, ap, sym, ◌∙◌, arith}
+use Rattle.std.proofs.Common.{◌≡◌, ◌≤◌, ◌+◌, ◌++◌, ℕ, ◌-◌, List, length, take, drop, ap, sym}
+use Rattle.std.proofs.Common.{◌∙◌, arith}
 use Rattle.std.proofs.lemmas.List.{length-take-le, take-take}
 use Rattle.std.proofs.Math.Seq.{take-append-add}
 use Rattle.pkopt.proofs.made.put_move.Goals as goal
 
 -- the front of what was put
 front_put : (at n m : ℕ) (old new bytes : List ℕ) → n ≤ m → at ≤ length old
-    → take (at + m) new ≡ take at old ++ take m bytes → take (at + n) new ≡ take at old ++ take n bytes
+    → take (at + m) new ≡ take at old ++ take m bytes
+    → take (at + n) new ≡ take at old ++ take n bytes
 front_put at n m old new bytes le within e =
     sym (take-take (at + n) (at + m) new (omega (arith, le))) ∙ ap (take (at + n)) e
     ∙ ap (λ k. take (k + n) (take at old ++ take m bytes)) (sym (length-take-le at old within))
@@ -19,7 +21,8 @@ returns-clause-front c = λ n le.
     let bytes = drop c.args.from c.args.bytes.now in
     let room = c.requires.room in
     let size : c.args.from + 16 - c.args.from ≡ 16 = omega arith in
-    let is : moved ≡ take 16 bytes = c.copy_from_slice.ensures.after ∙ ap (λ n. take n bytes) size in
+    let is : moved ≡ take 16 bytes =
+    c.copy_from_slice.ensures.after ∙ ap (λ n. take n bytes) size in
     let len : length moved ≡ 16 = c.copy_from_slice.ensures.len in
     front_put c.args.at n 16 old c.put.new.store.items bytes le (omega (arith, room))
     (ap (λ n. take (c.args.at + n) c.put.new.store.items) (sym len) ∙ c.put.ensures.front
