@@ -1,6 +1,6 @@
 //! Worked pickles and their JSON, or why they have none.
 
-use pkjson::{ExportError, export, export_text};
+use pkjson::{ExportError, export, export_text, export_to};
 use pkops::{Limits, Op};
 use pkread::{Reason, Refusal};
 use std::alloc::Global;
@@ -66,18 +66,63 @@ fn values(rt: HostRuntime) -> Result<(), Fail> {
         assert_eq!(rt; text.as_str(), wanted);
         let written = export_text(rt.alloc(), bytes, &Limits::STANDARD)?;
         assert_eq!(rt; written.as_slice(), wanted.as_bytes());
+        let mut out = Vec::new(rt.alloc());
+        export_to(rt.alloc(), bytes, &Limits::STANDARD, &mut out)??;
+        assert_eq!(rt; out.as_slice(), wanted.as_bytes());
     }
     Ok(())
 }
 
 #[test]
-fn refusals(rt: HostRuntime) {
+fn refusals(rt: HostRuntime) -> Result<(), Fail> {
     for (bytes, wanted) in REFUSED {
         match export(rt.alloc(), bytes, &Limits::STANDARD) {
             Ok(_) => panic!(rt; "a value"),
             Err(error) => assert_eq!(rt; error, wanted),
         }
+        let mut out = Vec::new(rt.alloc());
+        match export_to(rt.alloc(), bytes, &Limits::STANDARD, &mut out)? {
+            Ok(()) => panic!(rt; "a text"),
+            Err(error) => assert_eq!(rt; error, wanted),
+        }
+        assert!(rt; out.is_empty());
     }
+    Ok(())
+}
+
+/// Appends a text some times.
+fn add(to: &mut Vec<u8>, text: &[u8], times: usize) -> Result<(), Fail> {
+    for _ in 0..times {
+        to.extend_from_slice(text)?;
+    }
+    Ok(())
+}
+
+/// A text of 70,001 characters as a key and as two items of its list, which has 30,000 others. Its
+/// first character is escaped in JSON.
+#[test]
+fn pieces(rt: HostRuntime) -> Result<(), Fail> {
+    let mut pickle = Vec::new(rt.alloc());
+    add(&mut pickle, b"X\x71\x11\x01\0\"", 1)?;
+    add(&mut pickle, b"a", 70_000)?;
+    add(&mut pickle, b"q\x000}h\0](h\0h\0", 1)?;
+    add(&mut pickle, b"N", 30_000)?;
+    add(&mut pickle, b"es.", 1)?;
+    let mut text = Vec::new(rt.alloc());
+    add(&mut text, b"\"\\\"", 1)?;
+    add(&mut text, b"a", 70_000)?;
+    add(&mut text, b"\"", 1)?;
+    let mut wanted = Vec::new(rt.alloc());
+    for before in ["{", ":[", ","] {
+        add(&mut wanted, before.as_bytes(), 1)?;
+        add(&mut wanted, &text, 1)?;
+    }
+    add(&mut wanted, b",null", 30_000)?;
+    add(&mut wanted, b"]}", 1)?;
+    let mut out = Vec::new(rt.alloc());
+    export_to(rt.alloc(), &pickle, &Limits::STANDARD, &mut out)??;
+    assert!(rt; out == wanted);
+    Ok(())
 }
 
 #[test]

@@ -4,7 +4,7 @@ use Rattle.std.proofs.Common.{refl, sym, ap, subst, ◌∙◌, append_assoc}
 use Rattle.std.specs.Io.KnownBytes.{Appends, Consumes}
 use Rattle.pkops.specs.Limits.{Bounds}
 use Rattle.pkread.specs.Rows.{Sight, Takes}
-use Rattle.pkjson.specs.Export.{IsNotExported, IsTextOf}
+use Rattle.pkjson.specs.Export.{AppendsText, IsNotExported}
 use Rattle.pkjson.specs.declared.ExportError.{ExportError}
 use Rattle.pkjson.specs.declared.ExportError.TheVariants.{Check, NotPlain, Key, Number, TooDeep}
 use Rattle.pkjson.specs.declared.ExportError.TheVariants.{TooMany, OutOfMemory}
@@ -46,11 +46,11 @@ error_for limits old new bytes TooMany t h = (bytes, t, h)
 error_for limits old new bytes OutOfMemory t h = (bytes, t.0)
 
 -- the text and then a line end
-pub ends_done : (limits : Bounds) (old new : Sight) (a b c : Option (List ℕ)) (bytes text : List ℕ)
-    → ReadsWhole old new bytes → IsTextOf limits bytes text → Appends a b text
-    → Appends b c (10 ∷ []) → EndsWith limits old new a c Done
-ends_done limits old new a b c bytes text t h p q =
-    (bytes, t, h.0, h.1, rw (← h.2) (appends_then a b c text _ p q))
+pub ends_done : (limits : Bounds) (old new : Sight) (a b c : Option (List ℕ)) (bytes : List ℕ)
+    → ReadsWhole old new bytes → AppendsText limits bytes a b → Appends b c (10 ∷ [])
+    → EndsWith limits old new a c Done
+ends_done limits old new a b c bytes t h q =
+    (bytes, t, h.1.0, h.1.1, rw (← h.1.2) (appends_then a b c h.0 _ h.2 q))
 
 -- a line whose name is written between two texts
 pub named_line : {A E : Type 0} (r : Result A E) (a b c d : Option (List ℕ))

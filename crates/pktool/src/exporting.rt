@@ -5,7 +5,7 @@ ghost use Rattle.pktool.specs.Json.{EndsWith};
 
 use crate::export_line::write_export_error;
 use crate::gathering::take_all;
-use pkjson::{ExportError, export_text};
+use pkjson::{ExportError, export_to};
 use pkops::Limits;
 use pkprint::Outcome;
 use pkread::Source;
@@ -14,11 +14,12 @@ use std::io;
 use std::io::Write;
 
 /// Reads a source to its end, and writes the plain pickle at its front as a line of JSON, or why it
-/// cannot be exported. If a read fails, nothing is written.
+/// cannot be exported. The line is written in pieces. If a read fails, nothing is written.
 ///
 /// # Errors
 ///
-/// The writer's. How much of the line was written is then unspecified.
+/// The writer's, or that there is no memory for a piece. How much of the line was written is then
+/// unspecified.
 #[tactic(auto, using(crate::proofs::Exports::error_for, crate::proofs::Exports::ends_done))]
 pub fn json_to<R: Source, W: Write>(
     alloc: Global,
@@ -37,9 +38,8 @@ pub fn json_to<R: Source, W: Write>(
         write_export_error(ExportError::OutOfMemory, out)?;
         return Ok(Outcome::Refused);
     };
-    match export_text(alloc, bytes.as_slice(), limits) {
-        Ok(text) => {
-            out.write_all(text.as_slice())?;
+    match export_to(alloc, bytes.as_slice(), limits, out)? {
+        Ok(()) => {
             out.write_all(b"\n")?;
             Ok(Outcome::Done)
         }

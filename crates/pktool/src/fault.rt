@@ -11,7 +11,7 @@ pub enum Fault<'a> {
     Words(String),
     /// A word of the command line is not UTF-8.
     NotUtf8,
-    /// An allocation was refused, for the command line or for the output buffer.
+    /// An allocation was refused, for the command line, the output buffer or a part of the answer.
     OutOfMemory,
     /// The file at this path cannot be opened or read.
     Unread(&'a str),
@@ -31,10 +31,11 @@ impl From<AllocError> for Fault<'_> {
     }
 }
 
-/// The fault for an answer that cannot be written.
+/// The fault for an answer that cannot be written, or has no memory while it is written.
 pub fn unwritten<'a>(error: &io::Error) -> Fault<'a> {
     match error.kind() {
         ErrorKind::BrokenPipe => Fault::Closed,
+        ErrorKind::OutOfMemory => Fault::OutOfMemory,
         _ => Fault::Unwritten,
     }
 }

@@ -99,6 +99,24 @@ fn fails_with_its_writer(rt: HostRuntime) -> Result<(), Fail> {
 }
 
 #[test]
+fn a_line_in_pieces_fails_with_its_writer(rt: HostRuntime) -> Result<(), Fail> {
+    let mut pickle = Vec::new(rt.alloc());
+    pickle.extend_from_slice(b"](")?;
+    pickle.resize(20_002, b'N')?;
+    pickle.extend_from_slice(b"e.")?;
+    let mut ample = Tiring { left: AMPLE };
+    let ended = answer(rt.alloc(), Call::Json, &pickle, &mut ample)?;
+    assert_eq!(rt; ended, Outcome::Done);
+    let needed = AMPLE.wrapping_sub(ample.left);
+    assert!(rt; needed > 4);
+    for left in 0..needed {
+        let ended = answer(rt.alloc(), Call::Json, &pickle, &mut Tiring { left });
+        assert!(rt; ended.is_err(), "after {left} writes");
+    }
+    Ok(())
+}
+
+#[test]
 fn a_form_fails_with_its_writer(rt: HostRuntime) -> Result<(), Fail> {
     let pickle = b"\x80\x04\x95\x0a\0\0\0\0\0\0\0]\x94Nq\x01ah\x010.";
     let Ok(form) = optimized_form(rt.alloc(), pickle, &Limits::STANDARD) else {
