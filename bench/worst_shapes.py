@@ -66,6 +66,12 @@ def branching(_: int) -> Iterator[bytes]:
     yield b"."
 
 
+def written_often(size: int, count: int) -> Make:
+    """A list that holds a text of this size this many times."""
+    text = (b"X" + struct.pack("<I", size) + b"a" * size + b"q\x000", 1)
+    return runs(text, (b"](", 1), (b"h\0", count), (b"e.", 1))
+
+
 def wide(_: int) -> Iterator[bytes]:
     """A dict with as many keys as a file of some megabytes has."""
     yield b"}("
@@ -102,6 +108,8 @@ EXPORTED: Dict[str, Make] = {
     "dicts of two long keys that differ last": dropped_dicts(b"b"),
     "dicts of one key": branching,
     "a dict of many keys": wide,
+    "a long text written 90 times": written_often(10 * MEGABYTE, 90),
+    "a short text written 900,000 times": written_often(90, 900_000),
     "layers of lists": layered,
     "doubled 18 times": runs((b")", 1), (b"2\x86", 18), (b".", 1)),
     "doubled 99 times": runs((b")", 1), (b"2\x86", 99), (b".", 1)),

@@ -5,3 +5,4 @@ pub mod WeightAnswers
 pub mod Built
 pub mod Sent
 pub mod Pieces
+pub mod SomeFit

@@ -46,13 +46,14 @@ impl<'n, 'a, 'b> Weighed<'n, 'a, 'b> {
         ensures later { first < result }
         ensures within { result ≤ length items.now }
     {
-        let mut size = self.size(items[first]);
+        let mut room = PIECE.saturating_sub(self.size(items[first]));
         let mut end = first + 1;
         while end < items.len() {
-            size = size.saturating_add(self.size(items[end]));
-            if size > PIECE {
+            let size = self.size(items[end]);
+            if size > room {
                 return end;
             }
+            room -= size;
             end += 1;
         }
         end
@@ -64,13 +65,14 @@ impl<'n, 'a, 'b> Weighed<'n, 'a, 'b> {
         ensures later { first < result }
         ensures within { result ≤ length members.now }
     {
-        let mut size = self.member_size(members[first]);
+        let mut room = PIECE.saturating_sub(self.member_size(members[first]));
         let mut end = first + 1;
         while end < members.len() {
-            size = size.saturating_add(self.member_size(members[end]));
-            if size > PIECE {
+            let size = self.member_size(members[end]);
+            if size > room {
                 return end;
             }
+            room -= size;
             end += 1;
         }
         end

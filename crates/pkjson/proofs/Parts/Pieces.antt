@@ -13,7 +13,6 @@ use Rattle.serde_json.specs.Data.{array, object, string, Items, no_items, item, 
 use Rattle.serde_json.specs.Data.{Members, no_members, member, members_depth}
 use Rattle.serde_json.specs.Written.{comma_if, compact_text, items_text, members_text}
 use Rattle.pkjson.specs.Unfolds.{Sequence, Pairs, Heap, UnfoldItems, UnfoldMembers}
-use Rattle.pkjson.specs.Private.Fits.{ItemsFit, MembersFit}
 use Rattle.pkjson.specs.Private.Nodes.{named_members}
 use Rattle.pkjson.specs.Private.Parts.{IsArrayText, IsObjectText}
 use Rattle.pkjson.specs.Private.Pieces.{Writes, WritesItems, WritesMembers, items_inside}
@@ -142,7 +141,7 @@ single [] d e = absurd (omega (arith, e))
 single (x ∷ y ∷ xs) d e = absurd (omega (arith, e))
 
 -- some of the members by their keys
-named_some : (ps : List Member) (n m : ℕ)
+pub named_some : (ps : List Member) (n m : ℕ)
     → named_members (slice_range ps n m) ≡ slice_range (named_members ps) n m
 named_some ps n m = sym (take-map _ (m - n) (drop n ps))
     ∙ ap (λ (l : List (List ℕ × ℕ)). take (m - n) l) (sym (drop-map _ n ps))
@@ -349,58 +348,3 @@ module _ (h : Heap) where
           (appends_then a b d (123 ∷ []) _ p
           (appends_then b c d (members_inside false w.0) (125 ∷ []) w.2 q)),
     )
-
-  -- some of the items fit where all of them do
-  first_fit : (xs ys : List ℕ) (vs : Items) → UnfoldItems h (xs ++ ys) vs
-      → (ws : Items) × UnfoldItems h xs ws × (items_depth ws ≤ items_depth vs)
-  first_fit [] ys vs u = (no_items, tt, omega arith)
-  first_fit (x ∷ xs) ys (item v vs) u = let i = first_fit xs ys vs u.1 in
-      (item v i.0, (u.0, i.1), omega (arith, i.2))
-  first_fit (x ∷ xs) ys no_items u = absurd u
-
-  last_fit : (xs ys : List ℕ) (vs : Items) → UnfoldItems h (xs ++ ys) vs
-      → (ws : Items) × UnfoldItems h ys ws × (items_depth ws ≤ items_depth vs)
-  last_fit [] ys vs u = (vs, u, omega arith)
-  last_fit (x ∷ xs) ys (item v vs) u = let i = last_fit xs ys vs u.1 in
-      (i.0, i.1, omega (arith, i.2))
-  last_fit (x ∷ xs) ys no_items u = absurd u
-
-  first_members_fit : (xs ys : List (List ℕ × ℕ)) (vs : Members) → UnfoldMembers h (xs ++ ys) vs
-      → (ws : Members) × UnfoldMembers h xs ws × (members_depth ws ≤ members_depth vs)
-  first_members_fit [] ys vs u = (no_members, tt, omega arith)
-  first_members_fit (x ∷ xs) ys (member k v vs) u = let i = first_members_fit xs ys vs u.2 in
-      (member k v i.0, (u.0, u.1, i.1), omega (arith, i.2))
-  first_members_fit (x ∷ xs) ys no_members u = absurd u
-
-  last_members_fit : (xs ys : List (List ℕ × ℕ)) (vs : Members) → UnfoldMembers h (xs ++ ys) vs
-      → (ws : Members) × UnfoldMembers h ys ws × (members_depth ws ≤ members_depth vs)
-  last_members_fit [] ys vs u = (vs, u, omega arith)
-  last_members_fit (x ∷ xs) ys (member k v vs) u = let i = last_members_fit xs ys vs u.2 in
-      (i.0, i.1, omega (arith, i.2))
-  last_members_fit (x ∷ xs) ys no_members u = absurd u
-
-  pub some_fit : (levels : ℕ) (xs : List ℕ) (n m : ℕ) → ItemsFit h levels xs
-      → ItemsFit h levels (slice_range xs n m)
-  unfolding ItemsFit
-  some_fit levels xs n m f =
-      let i = last_fit (take n xs) (drop n xs) f.0
-      (subst (λ ys. UnfoldItems h ys f.0) (sym (take-append-drop n xs)) f.1) in
-      let j = first_fit (take (m - n) (drop n xs)) (drop (m - n) (drop n xs)) i.0
-      (subst (λ ys. UnfoldItems h ys i.0) (sym (take-append-drop (m - n) (drop n xs))) i.1) in
-      (j.0, j.1, omega (arith, f.2, i.2, j.2))
-
-  some_pairs_fit : (levels : ℕ) (xs : List (List ℕ × ℕ)) (n m : ℕ) → MembersFit h levels xs
-      → MembersFit h levels (slice_range xs n m)
-  unfolding MembersFit
-  some_pairs_fit levels xs n m f =
-      let i = last_members_fit (take n xs) (drop n xs) f.0
-      (subst (λ ys. UnfoldMembers h ys f.0) (sym (take-append-drop n xs)) f.1) in
-      let j = first_members_fit (take (m - n) (drop n xs)) (drop (m - n) (drop n xs)) i.0
-      (subst (λ ys. UnfoldMembers h ys i.0) (sym (take-append-drop (m - n) (drop n xs))) i.1) in
-      (j.0, j.1, omega (arith, f.2, i.2, j.2))
-
-  pub some_members_fit : (levels : ℕ) (ps : List Member) (n m : ℕ)
-      → MembersFit h levels (named_members ps)
-      → MembersFit h levels (named_members (slice_range ps n m))
-  some_members_fit levels ps n m f = subst (MembersFit h levels) (sym (named_some ps n m))
-      (some_pairs_fit levels (named_members ps) n m f)

@@ -19,7 +19,8 @@ use Rattle.pkjson.specs.declared.objects.Object.{Object}
 use Rattle.pkjson.specs.Private.Acting.{ActsAs}
 use Rattle.pkjson.specs.Private.Arena.{Kept, holds}
 use Rattle.pkjson.specs.Contents.{contents}
-use Rattle.pkjson.specs.Export.{AcceptedAs, AppendsText, Results, IsValueOf, IsTextOf, IsNotExported}
+use Rattle.pkjson.specs.Export.{AcceptedAs, AppendsText, Results, IsValueOf}
+use Rattle.pkjson.specs.Export.{IsTextOf, IsNotExported}
 use Rattle.pkjson.specs.Private.Held.{parts}
 use Rattle.pkjson.specs.Private.Nodes.{heap_of}
 use Rattle.pkjson.specs.Plain.{is_plain_data}

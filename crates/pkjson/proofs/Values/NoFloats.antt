@@ -35,7 +35,8 @@ module _ (h : Heap) (scalars : (x : ℕ) (d : Data) → h x ≡ Some (Scalar d)
     floatless_in x (array vs) u = items_floatless u.0 vs u.2
     floatless_in x (object ms) u = members_floatless u.0 ms u.2
 
-    pub items_floatless : (xs : List ℕ) (vs : Items) → UnfoldItems h xs vs → items_have_float vs ≡ false
+    pub items_floatless : (xs : List ℕ) (vs : Items) → UnfoldItems h xs vs
+        → items_have_float vs ≡ false
     items_floatless [] no_items u = refl
     items_floatless (x ∷ xs) (item v vs) u = rw (floatless_in x v u.0) (items_floatless xs vs u.1)
     items_floatless [] (item v vs) u = absurd u

@@ -22,19 +22,23 @@ weigh_node-returns-then-levels-eq0-2-clause-weight t c =
 
 pub weigh_node-returns-in-Null-clause-weight : goal.weigh_node-returns-in-Null-clause-weight
 weigh_node-returns-in-Null-clause-weight t c = let e = held _ _ _ c.node.ensures.held
-    c.in-Null.is in scalar_weighs _ _ _ _ _ c.requires.room.some e e refl refl c.scalar.ensures.depth c.scalar.ensures.count
+    c.in-Null.is in scalar_weighs _ _ _ _ _ c.requires.room.some e e refl refl
+    c.scalar.ensures.depth c.scalar.ensures.count
 
 pub weigh_node-returns-in-Bool-clause-weight : goal.weigh_node-returns-in-Bool-clause-weight
 weigh_node-returns-in-Bool-clause-weight t c = let e = held _ _ _ c.node.ensures.held
-    c.in-Bool.is in scalar_weighs _ _ _ _ _ c.requires.room.some e e refl refl c.scalar-in-Bool.ensures.depth c.scalar-in-Bool.ensures.count
+    c.in-Bool.is in scalar_weighs _ _ _ _ _ c.requires.room.some e e refl refl
+    c.scalar-in-Bool.ensures.depth c.scalar-in-Bool.ensures.count
 
 pub weigh_node-returns-in-Int-clause-weight : goal.weigh_node-returns-in-Int-clause-weight
 weigh_node-returns-in-Int-clause-weight t c = let e = held _ _ _ c.node.ensures.held c.in-Int.is in
-    scalar_weighs _ _ _ _ _ c.requires.room.some e e refl refl c.scalar-in-Int.ensures.depth c.scalar-in-Int.ensures.count
+    scalar_weighs _ _ _ _ _ c.requires.room.some e e refl refl
+    c.scalar-in-Int.ensures.depth c.scalar-in-Int.ensures.count
 
 pub weigh_node-returns-in-Text-clause-weight : goal.weigh_node-returns-in-Text-clause-weight
 weigh_node-returns-in-Text-clause-weight t c = let e = held _ _ _ c.node.ensures.held
-    c.in-Text.is in scalar_weighs _ _ _ _ _ c.requires.room.some e e refl refl c.scalar-in-Text.ensures.depth c.scalar-in-Text.ensures.count
+    c.in-Text.is in scalar_weighs _ _ _ _ _ c.requires.room.some e e refl refl
+    c.scalar-in-Text.ensures.depth c.scalar-in-Text.ensures.count
 
 pub weigh_node-weigh_items-requires : goal.weigh_node-weigh_items-requires
 weigh_node-weigh_items-requires t c = let b =

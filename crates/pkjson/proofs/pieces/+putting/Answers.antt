@@ -9,9 +9,8 @@ use Rattle.pkjson.proofs.Parts.Built.{fits_some, fits_items, fits_any, fits_memb
 use Rattle.pkjson.proofs.Parts.Built.{member_fits}
 use Rattle.pkjson.proofs.Parts.NodesHeld.{Member, held, below, no_member}
 use Rattle.pkjson.proofs.Parts.Pieces.{dict_written, list_written, more_items, more_members}
-use Rattle.pkjson.proofs.Parts.Pieces.{no_items_written}
-use Rattle.pkjson.proofs.Parts.Pieces.{no_members_written, one_item, one_member, some_fit}
-use Rattle.pkjson.proofs.Parts.Pieces.{some_members_fit}
+use Rattle.pkjson.proofs.Parts.Pieces.{no_items_written, no_members_written, one_item, one_member}
+use Rattle.pkjson.proofs.Parts.SomeFit.{some_fit, some_members_fit}
 use Rattle.pkjson.proofs.pieces.+putting.Goals as goal
 
 pub write_value-overflow_sub-levels : goal.write_value-overflow_sub-levels
@@ -38,7 +37,8 @@ write_value-write_members-requires g t c κs within =
     let l = fits_any _ _ _ _ e c.requires.fits in
     search (rules, b, f, l)
 
-pub write_value-returns-in_ok-write_items-in-List : goal.write_value-returns-in_ok-write_items-in-List
+pub write_value-returns-in_ok-write_items-in-List
+    : goal.write_value-returns-in_ok-write_items-in-List
 write_value-returns-in_ok-write_items-in-List g t c = on_ok_weaker c.write_all-in-List.result
     (λ close. list_written _ _ _ _ _ _ c.in-List.items.now
     (held _ _ _ c.node.ensures.held c.in-List.is) c.in_ok-write_all-in-List.ensures.bytes
