@@ -7,10 +7,10 @@ use Rattle.std.specs.Io.KnownBytes.{Appends}
 use Rattle.std.proofs.Math.Seq.{take-add}
 use Rattle.std.proofs.lemmas.Bool.{lt-ltb}
 use Rattle.std.specs.List.{drop-map}
-use Rattle.std.proofs.lemmas.List.{take_at, take-append-drop, take_all, take-map}
+use Rattle.std.proofs.lemmas.List.{take_at, take_all, take-map}
 use Rattle.std.proofs.lemmas.List.Edits.{length-between}
-use Rattle.serde_json.specs.Data.{array, object, string, Items, no_items, item, items_depth}
-use Rattle.serde_json.specs.Data.{Members, no_members, member, members_depth}
+use Rattle.serde_json.specs.Data.{array, object, string, Items, no_items, item}
+use Rattle.serde_json.specs.Data.{Members, no_members, member}
 use Rattle.serde_json.specs.Written.{comma_if, compact_text, items_text, members_text}
 use Rattle.pkjson.specs.Unfolds.{Sequence, Pairs, Heap, UnfoldItems, UnfoldMembers}
 use Rattle.pkjson.specs.Private.Nodes.{named_members}
