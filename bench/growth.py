@@ -41,7 +41,7 @@ def grows_evenly(bench: hostile.Bench, name: str, shape: hostile_shapes.Hostile)
     """
     for _ in range(TRIES):
         makes = [functools.partial(shape.make, megabytes) for megabytes in SIZES]
-        took = [bench.run(shape.allow, make)[0] for make in makes]
+        took = [bench.run(shape.allow, make).took for make in makes]
         even = took[2] <= NOISE * took[1]
         if even:
             break

@@ -10,7 +10,7 @@ import functools
 import pathlib
 import sys
 import tempfile
-from typing import Dict, Tuple
+from typing import Dict, NamedTuple
 
 import hostile_shapes
 import program
@@ -23,24 +23,45 @@ PER_BYTE = 3
 PER_BYTE_LARGE = 64
 
 
+class Cost(NamedTuple):
+    """The time per byte in nanoseconds, the peak memory, the size, and the line."""
+
+    took: float
+    peak: int
+    size: int
+    line: str
+
+
 class Bench:
-    """A folder with one list and one pickle at a time."""
+    """A folder with plain data, and one list and one pickle at a time."""
 
     def __init__(self, folder: str, rounds: int) -> None:
         self.allow = pathlib.Path(folder, "list.toml")
         self.pickle = pathlib.Path(folder, "pickle")
         self.rounds = rounds
         self.idle: Dict[str, float] = {}
+        self.plain_pickle = pathlib.Path(folder, "plain")
+        self.plain_size = 0
 
-    def run(self, allow: str, make: shapes.Make) -> Tuple[float, int, int, str]:
-        """The time per byte in nanoseconds, the peak memory, the size, and the line."""
+    def run(self, allow: str, make: shapes.Make) -> Cost:
+        """Checks a pickle, which is written anew."""
+        return self.cost(allow, self.pickle, shapes.write_apart(self.pickle, make))
+
+    def plain(self) -> Cost:
+        """Checks plain data of protocol 4, which is written once."""
+        if not self.plain_size:
+            make = functools.partial(shapes.plain, 4)
+            self.plain_size = shapes.write_apart(self.plain_pickle, make)
+        return self.cost(shapes.LIST, self.plain_pickle, self.plain_size)
+
+    def cost(self, allow: str, pickle: pathlib.Path, size: int) -> Cost:
         self.allow.write_text(allow)
         if allow not in self.idle:
-            shapes.write(self.pickle, [b"N."])
-            self.idle[allow] = program.best(self.allow, self.pickle, self.rounds).seconds
-        size = shapes.write_apart(self.pickle, make)
-        run = program.best(self.allow, self.pickle, self.rounds)
-        return (run.seconds - self.idle[allow]) / size * 1e9, run.peak, size, run.line
+            none = self.allow.with_suffix(".pickle")
+            none.write_bytes(b"N.")
+            self.idle[allow] = program.best(self.allow, none, self.rounds).seconds
+        run = program.best(self.allow, pickle, self.rounds)
+        return Cost((run.seconds - self.idle[allow]) / size * 1e9, run.peak, size, run.line)
 
 
 def shortened(line: str) -> str:
@@ -48,27 +69,25 @@ def shortened(line: str) -> str:
 
 
 def judged(
-    bench: Bench,
-    name: str,
-    hostile: hostile_shapes.Hostile,
-    megabytes: int,
-    plain: float,
-    per_byte: int,
+    bench: Bench, name: str, hostile: hostile_shapes.Hostile, megabytes: int, per_byte: int
 ) -> bool:
-    """Prints the line of a shape, and returns whether it keeps both bounds. If it seems too slow,
-    it is measured again: other work on the machine may be the cause.
+    """Prints the line of a shape, and returns whether it keeps both bounds. Plain data is checked
+    right before it, because the speed of a shared machine changes. If the shape seems too slow, both
+    are measured again.
     """
+    make = functools.partial(hostile.make, megabytes)
     for _ in range(TRIES):
-        make = functools.partial(hostile.make, megabytes)
-        took, peak, size, line = bench.run(hostile.allow, make)
-        if took <= TIMES * plain:
+        plain = bench.plain().took
+        cost = bench.run(hostile.allow, make)
+        times = cost.took / plain
+        if times <= TIMES:
             break
-    bound = BASE + per_byte * size
-    faults = ["TOO SLOW"] * (took > TIMES * plain) + ["TOO LARGE"] * (peak > bound)
+    bound = BASE + per_byte * cost.size
+    faults = ["TOO SLOW"] * (times > TIMES) + ["TOO LARGE"] * (cost.peak > bound)
     print(
-        f"{name:40} {size / 1e6:6.1f} MB {took:7.2f} ns a byte, "
-        f"{took / plain:5.2f} times plain data, {peak / 1e6:6.1f} of {bound / 1e6:.0f} MB  "
-        f"{shortened(line)} {', '.join(faults)}",
+        f"{name:40} {cost.size / 1e6:6.1f} MB {cost.took:7.2f} ns a byte, "
+        f"{times:5.2f} times plain data, {cost.peak / 1e6:6.1f} of {bound / 1e6:.0f} MB  "
+        f"{shortened(cost.line)} {', '.join(faults)}",
         flush=True,
     )
     return not faults
@@ -83,15 +102,14 @@ def main() -> int:
     program.build()
     with tempfile.TemporaryDirectory() as folder:
         bench = Bench(folder, asked.rounds)
-        plain = bench.run(shapes.LIST, functools.partial(shapes.plain, 4))[0]
-        print(f"plain data of protocol 4: {plain:.2f} ns a byte")
+        print(f"plain data of protocol 4: {bench.plain().took:.2f} ns a byte")
         every = {**hostile_shapes.GROWING, **hostile_shapes.AT_LIMITS}
         if asked.large:
             every = hostile_shapes.AT_NO_LIMIT
         per_byte = PER_BYTE_LARGE if asked.large else PER_BYTE
         wanted = {name: hostile for name, hostile in every.items() if asked.only in name}
         kept = [
-            judged(bench, name, hostile, asked.megabytes, plain, per_byte)
+            judged(bench, name, hostile, asked.megabytes, per_byte)
             for name, hostile in wanted.items()
         ]
     print(f"{kept.count(True)} within both bounds, {kept.count(False)} not")

@@ -2,15 +2,16 @@
 """Times the whole command `pktool optimize`, `pickletools.optimize`, `pktool check`, and Python
 reading the file and writing a copy.
 
-It measures CPU time, and the peak memory relative to the size of the file. `pickletools.optimize`
-works on bytes in memory with the garbage collector off; the command starts, reads its file, writes
-the other and ends.
+The commands take turns. A time is that of the best round, a ratio the median over the rounds. It
+measures CPU time and peak memory. `pickletools.optimize` works once on bytes in memory with the
+garbage collector off; the command starts, reads its file, writes the other and ends.
 """
 import argparse
+import dataclasses
 import pathlib
 import sys
 import tempfile
-from typing import Tuple
+from typing import List, Sequence
 
 import program
 import shapes
@@ -25,29 +26,56 @@ COPIES_BOUND, COPIES_TARGET = 3, 1.2
 COPIES = "open(sys.argv[1] + '.copy', 'wb').write(open(sys.argv[1], 'rb').read())"
 
 
-def measure(
-    folder: pathlib.Path, make: shapes.Make, rounds: int
-) -> Tuple[program.Run, program.Run, program.Run, program.Run, int]:
-    """The best run of the command, a run of Python, the best runs of the check and of the copy, and
-    the size of the file.
-    """
+@dataclasses.dataclass(frozen=True)
+class Measured:
+    """The size of a pickle in bytes, the runs by round, and a run of `pickletools.optimize`."""
+
+    size: int
+    check: List[program.Run]
+    copy: List[program.Run]
+    ours: List[program.Run]
+    theirs: program.Run
+
+    def best(self) -> program.Run:
+        return min(self.ours, key=lambda run: run.seconds)
+
+    def beside(self, runs: Sequence[program.Run]) -> float:
+        """The ratio of the command's time to that of other runs."""
+        ours, others = ([run.seconds for run in them] for them in (self.ours, runs))
+        return program.ratio(ours, others)
+
+    def faster(self) -> float:
+        return self.theirs.seconds / self.best().seconds
+
+    def row(self, name: str) -> str:
+        best = self.best()
+        return (
+            f"| {name} | {self.size / 1e6:.1f} | {best.seconds:.3f} "
+            f"| {self.beside(self.check):.2f} | {self.beside(self.copy):.2f} "
+            f"| {self.faster():.1f} | {best.peak / 1e6:.0f} | {self.theirs.peak / 1e6:.0f} |"
+        )
+
+
+def measure(folder: pathlib.Path, make: shapes.Make, rounds: int) -> Measured:
+    """The runs of a shape, which take turns."""
     path, out, allow = folder / "file.pickle", folder / "out.pickle", folder / "list.toml"
     allow.write_text(shapes.LIST)
     size = shapes.write_apart(path, make)
-    check = program.best(allow, path, rounds)
-    ours = program.best_of(rounds, lambda: program.run("optimize", path, out))
-    if ours.status != 0:
-        sys.exit(ours.line)
     theirs = program.python("pickletools.optimize(data)", path)
-    copy = program.best_of(rounds, lambda: program.python(COPIES, path))
-    return ours, theirs, check, copy, size
+    measured = Measured(size, [], [], [], theirs)
+    for _ in range(rounds):
+        ours = program.run("optimize", path, out)
+        if ours.status != 0:
+            sys.exit(ours.line)
+        measured.ours.append(ours)
+        measured.check.append(program.check(allow, path))
+        measured.copy.append(program.python(COPIES, path))
+    return measured
 
 
 def main() -> int:
     words = argparse.ArgumentParser(description=__doc__.splitlines()[0])
-    words.add_argument(
-        "--rounds", type=int, default=3, help="how often each command runs (3); the best counts"
-    )
+    words.add_argument("--rounds", type=int, default=5, help="how often each command runs (5)")
     words.add_argument(
         "--shape", choices=shapes.SHAPES, action="append", help="only this shape; may be repeated"
     )
@@ -61,16 +89,10 @@ def main() -> int:
     kept = True
     for name in asked.shape or shapes.SHAPES:
         with tempfile.TemporaryDirectory() as folder:
-            place, shape = pathlib.Path(folder), shapes.SHAPES[name]
-            ours, theirs, check, copy, size = measure(place, shape, asked.rounds)
-        ratio, times = theirs.seconds / ours.seconds, ours.seconds / check.seconds
-        copies = ours.seconds / copy.seconds
-        kept = kept and (ratio >= BOUND or copies <= COPIES_BOUND)
-        print(
-            f"| {name} | {size / 1e6:.1f} | {ours.seconds:.3f} | {times:.2f} | {copies:.2f} "
-            f"| {ratio:.1f} | {ours.peak / 1e6:.0f} | {theirs.peak / 1e6:.0f} |",
-            flush=True,
-        )
+            measured = measure(pathlib.Path(folder), shapes.SHAPES[name], asked.rounds)
+        copies = measured.beside(measured.copy)
+        kept = kept and (measured.faster() >= BOUND or copies <= COPIES_BOUND)
+        print(measured.row(name), flush=True)
     print(f"\nThe target is {TARGET} times, the bound {BOUND} times. On byte strings:")
     print(f"{COPIES_TARGET} times reading and writing the file, bound {COPIES_BOUND} times.")
     return 0 if kept else 1

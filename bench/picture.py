@@ -1,20 +1,10 @@
-#!/usr/bin/env python3
-"""Draws the processor time of `pktool check` beside `pickle.loads`, as docs/speed.svg.
+"""Draws the processor time of `pktool check` beside `pickle.loads`, as SVG.
 
 Each shape has a pair of bars. The figures are ratios of one run: `pickle.loads` is always 1.
 """
-import argparse
-import gc
-import pathlib
-import tempfile
 import typing
 from xml.sax import saxutils
 
-import program
-import shapes
-import speed
-
-PICTURE = program.ROOT / "docs" / "speed.svg"
 LEFT, WIDTH, BAR, SHAPE, TOP = 190, 400, 14, 44, 40
 
 STYLE = """text { font: 13px sans-serif; fill: #333 }
@@ -48,27 +38,3 @@ def drawing(ratios: typing.Mapping[str, float]) -> str:
         lines += bar(top, "check", ratio)
         lines += bar(top + BAR + 2, "loads", 1)
     return "\n".join([*lines, "</svg>", ""])
-
-
-def main() -> None:
-    words = argparse.ArgumentParser(description=__doc__.splitlines()[0])
-    words.add_argument("--rounds", type=int, default=5, help="how often each reader runs (5)")
-    words.add_argument("--out", type=pathlib.Path, default=PICTURE, help="docs/speed.svg otherwise")
-    asked = words.parse_args()
-    program.build()
-    gc.disable()
-    ratios = {}
-    with tempfile.TemporaryDirectory() as folder:
-        allow = pathlib.Path(folder, "list.toml")
-        allow.write_text(shapes.LIST)
-        for name in shapes.SHAPES:
-            path = pathlib.Path(folder, "pickle")
-            shapes.write_apart(path, shapes.SHAPES[name])
-            took, _, _ = speed.measure(name, path, allow, asked.rounds)
-            ratios[name] = took["check"] / took["loads"]
-            path.unlink()
-    asked.out.write_text(drawing(ratios))
-
-
-if __name__ == "__main__":
-    main()

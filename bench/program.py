@@ -2,6 +2,7 @@
 import dataclasses
 import os
 import pathlib
+import statistics
 import subprocess
 import sys
 from typing import Callable, List, Sequence, Union
@@ -75,6 +76,13 @@ def command(allow: pathlib.Path, pickle: pathlib.Path) -> List[str]:
 def check(allow: pathlib.Path, pickle: pathlib.Path) -> Run:
     """Checks a pickle under a list; both are paths."""
     return measured(command(allow, pickle))
+
+
+def ratio(times: Sequence[float], others: Sequence[float]) -> float:
+    """The median ratio of times that were measured in turns: of neighbours, because the speed of a
+    shared machine changes within seconds.
+    """
+    return statistics.median(time / other for time, other in zip(times, others))
 
 
 def best_of(rounds: int, action: Callable[[], Run]) -> Run:

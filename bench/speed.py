@@ -1,12 +1,15 @@
 #!/usr/bin/env python3
 """Times the whole command `pktool check` and CPython's own readers, and prints ratios.
 
-The readers take turns, and each counts with its best round. It measures CPU time, which other work
-on the machine affects less than wall time; nothing here waits, so on a quiet machine the two agree.
+The readers take turns. A time is that of the best round; a ratio is the median over the rounds, in
+which both readers ran at nearly the same moment, because the speed of a shared machine changes
+within seconds. It measures CPU time, which other work on the machine affects less than wall time;
+nothing here waits, so on a quiet machine the two agree.
 `pickle.loads` works on bytes in memory with the garbage collector off; the command starts, reads
 its list and its file, and ends.
 """
 import argparse
+import dataclasses
 import gc
 import os
 import pathlib
@@ -15,8 +18,9 @@ import pickletools
 import sys
 import tempfile
 import time
-from typing import Callable, Dict, List, Mapping, Tuple
+from typing import Callable, List, Sequence
 
+import picture
 import program
 import shapes
 
@@ -36,31 +40,44 @@ def walk(data: bytes) -> None:
         pass
 
 
-def measure(
-    name: str, path: pathlib.Path, allow: pathlib.Path, rounds: int
-) -> Tuple[Dict[str, float], int, int]:
-    """The best times of the command, of `pickle.loads` and of `pickletools.genops`, and the number
-    of instructions.
+@dataclasses.dataclass(frozen=True)
+class Measured:
+    """The size of a pickle in bytes, the number of its instructions, and the times of its readers
+    by round, in seconds.
     """
+
+    size: int
+    count: int
+    check: List[float]
+    loads: List[float]
+    genops: List[float]
+
+    def beside(self, times: Sequence[float]) -> float:
+        """The ratio of the command's time to that of another reader."""
+        return program.ratio(self.check, times)
+
+    def row(self, name: str) -> str:
+        check = min(self.check)
+        return (
+            f"| {name} | {self.size / 1e6:.1f} | {self.count:,} | {check:.3f} "
+            f"| {check / self.count * 1e9:.1f} | {self.beside(self.loads):.2f} "
+            f"| {1 / self.beside(self.genops):.0f} |"
+        )
+
+
+def measure(name: str, path: pathlib.Path, allow: pathlib.Path, rounds: int) -> Measured:
+    """The times of the command, of `pickle.loads` and of `pickletools.genops`."""
     data = path.read_bytes()
-    took: Dict[str, List[float]] = {"check": [], "loads": [], "genops": []}
+    count = sum(1 for _ in pickletools.genops(data))
+    measured = Measured(len(data), count, [], [], [])
     for _ in range(rounds):
         run = program.check(allow, path)
         if run.status != 0:
             sys.exit(f"{name}: {run.line}")
-        took["check"].append(run.seconds)
-        took["loads"].append(timed(lambda: load(data)))
-        took["genops"].append(timed(lambda: walk(data)))
-    count = sum(1 for _ in pickletools.genops(data))
-    return {reader: min(times) for reader, times in took.items()}, len(data), count
-
-
-def row(name: str, took: Mapping[str, float], size: int, count: int) -> str:
-    check, loads, genops = took["check"], took["loads"], took["genops"]
-    return (
-        f"| {name} | {size / 1e6:.1f} | {count:,} | {check:.3f} | {check / count * 1e9:.1f} "
-        f"| {check / loads:.2f} | {genops / check:.0f} |"
-    )
+        measured.check.append(run.seconds)
+        measured.loads.append(timed(lambda: load(data)))
+        measured.genops.append(timed(lambda: walk(data)))
+    return measured
 
 
 def main() -> None:
@@ -69,9 +86,13 @@ def main() -> None:
     words.add_argument(
         "--shape", choices=shapes.SHAPES, action="append", help="only this shape; may be repeated"
     )
+    words.add_argument(
+        "--picture", type=pathlib.Path, metavar="FILE", help="also draw the ratios into FILE (SVG)"
+    )
     asked = words.parse_args()
     program.build()
     gc.disable()
+    ratios = {}
     print(
         "| Shape | MB | Instructions | Seconds | ns an instruction "
         "| Times `pickle.loads` | Faster than `genops` |"
@@ -83,8 +104,12 @@ def main() -> None:
         for name in asked.shape or shapes.SHAPES:
             path = pathlib.Path(folder, "pickle")
             shapes.write_apart(path, shapes.SHAPES[name])
-            print(row(name, *measure(name, path, allow, asked.rounds)), flush=True)
+            measured = measure(name, path, allow, asked.rounds)
+            print(measured.row(name), flush=True)
+            ratios[name] = measured.beside(measured.loads)
             os.remove(path)
+    if asked.picture:
+        asked.picture.write_text(picture.drawing(ratios))
 
 
 if __name__ == "__main__":

@@ -11,7 +11,7 @@ import functools
 import pathlib
 import sys
 import tempfile
-from typing import List, Mapping, Tuple
+from typing import Mapping, Tuple
 
 import hostile_shapes
 import program
@@ -48,36 +48,49 @@ COMMANDS = [
 
 
 class Bench:
-    """A folder with one pickle at a time."""
+    """A folder with plain data, and one pickle at a time."""
 
-    def __init__(self, folder: str, word: str, rounds: int) -> None:
+    def __init__(self, folder: str, command: Command, rounds: int) -> None:
         self.pickle = pathlib.Path(folder, "pickle")
-        out = [pathlib.Path(folder, "out")] if word == "optimize" else []
-        self.words: List[program.Word] = [word, self.pickle, *out]
+        self.word = command.word
+        self.out = [pathlib.Path(folder, "out")] if command.word == "optimize" else []
         self.rounds = rounds
         self.idle: float = 0
         self.idle = self.run(lambda: [b"N."])[0].seconds
+        self.plain_pickle = pathlib.Path(folder, "plain")
+        self.plain_size = shapes.write_apart(self.plain_pickle, command.plain)
 
     def run(self, make: shapes.Make) -> Tuple[program.Run, float, int]:
-        """The best run, the time per byte in nanoseconds, and the size."""
+        """The best run on a pickle that is written anew, the time per byte in nanoseconds, and the
+        size.
+        """
         size = shapes.write_apart(self.pickle, make)
-        run = program.best_of(self.rounds, lambda: program.run(*self.words))
-        return run, (run.seconds - self.idle) / max(size, LEAST) * 1e9, size
+        return *self.cost(self.pickle, size), size
+
+    def plain(self) -> float:
+        """The time per byte of plain data, in nanoseconds."""
+        return self.cost(self.plain_pickle, self.plain_size)[1]
+
+    def cost(self, pickle: pathlib.Path, size: int) -> Tuple[program.Run, float]:
+        run = program.best_of(self.rounds, lambda: program.run(self.word, pickle, *self.out))
+        return run, (run.seconds - self.idle) / max(size, LEAST) * 1e9
 
 
-def judged(bench: Bench, name: str, make: shapes.Make, plain: float, per_byte: int) -> bool:
-    """Prints the line of a shape, and returns whether it keeps both bounds. If it seems too slow,
-    it is measured again.
+def judged(bench: Bench, name: str, make: shapes.Make, per_byte: int) -> bool:
+    """Prints the line of a shape, and returns whether it keeps both bounds. Plain data is measured
+    right before it. If the shape seems too slow, both are measured again.
     """
     for _ in range(TRIES):
+        plain = bench.plain()
         run, took, size = bench.run(make)
-        if took <= TIMES * plain:
+        times = took / plain
+        if times <= TIMES:
             break
     bound = BASE + per_byte * size
-    faults = ["TOO SLOW"] * (took > TIMES * plain) + ["TOO LARGE"] * (run.peak > bound)
+    faults = ["TOO SLOW"] * (times > TIMES) + ["TOO LARGE"] * (run.peak > bound)
     print(
         f"{name:40} {size / 1e6:6.1f} MB {took:7.2f} ns a byte, "
-        f"{took / plain:5.2f} times plain data, {run.peak / 1e6:6.1f} of {bound / 1e6:.0f} MB  "
+        f"{times:5.2f} times plain data, {run.peak / 1e6:6.1f} of {bound / 1e6:.0f} MB  "
         f"{run.line.strip()[:40]} {', '.join(faults)}",
         flush=True,
     )
@@ -96,13 +109,12 @@ def main() -> int:
         if asked.command not in (None, command.word):
             continue
         with tempfile.TemporaryDirectory() as folder:
-            bench = Bench(folder, command.word, asked.rounds)
-            plain = bench.run(command.plain)[1]
-            print(f"\n{command.word}: {plain:.2f} ns a byte of plain data of protocol 4")
+            bench = Bench(folder, command, asked.rounds)
+            print(f"\n{command.word}: {bench.plain():.2f} ns a byte of plain data of protocol 4")
             for name, make in command.files.items():
                 if asked.only in name:
                     sized = functools.partial(make, asked.megabytes)
-                    kept.append(judged(bench, name, sized, plain, command.per_byte))
+                    kept.append(judged(bench, name, sized, command.per_byte))
     print(f"{kept.count(True)} within both bounds, {kept.count(False)} not")
     return 0 if all(kept) else 1
 
