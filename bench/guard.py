@@ -110,9 +110,7 @@ def best(call: Callable[[], object], rounds: int, calls: int) -> float:
     return least * 1e6
 
 
-def in_turns(
-    calls: Sequence[Callable[[], object]], rounds: int, count: int
-) -> List[List[float]]:
+def in_turns(calls: Sequence[Callable[[], object]], rounds: int, count: int) -> List[List[float]]:
     """The times of each call by round; the calls take turns."""
     return list(map(list, zip(*([best(call, 1, count) for call in calls] for _ in range(rounds)))))
 
@@ -131,6 +129,25 @@ def process(data: bytes, rounds: int) -> float:
             used = time.perf_counter() - started
             least = min(least, used)
     return least * 1e6
+
+
+def native(asked: argparse.Namespace) -> Figure:
+    """Prints the time of a check in C, without Python."""
+    archive = asked.archive or program.ROOT / "crates" / "pkguard" / "out" / "libpkguard.a"
+    sources = [program.ROOT / "bench" / "native.c", PYTHON / "storklocker.c", PYTHON / "heap.c"]
+    flags = ["-std=c11", "-O2", "-Wall", "-Wextra", "-Werror", f"-I{PYTHON / 'storklocker'}"]
+    data, took, bare = job(6), [], []
+    with tempfile.TemporaryDirectory() as folder:
+        made = pathlib.Path(folder, "native")
+        compiler = os.environ.get("CC", "cc")
+        subprocess.run([compiler, *flags, "-o", made, *sources, archive], check=True)
+        for _ in range(asked.rounds):
+            bare.append(best(lambda: pickle.loads(data), 1, asked.calls))
+            ran = subprocess.run([made], input=data, stdout=subprocess.PIPE, check=True)
+            took.append(float(ran.stdout))
+    print(f"\na check of {len(data)} bytes from C: {min(took):.2f} microseconds")
+    scaled = REFERENCE * program.ratio(took, bare)
+    return Figure("check of 198 bytes from C, in microseconds", scaled, 1.5)
 
 
 def many(count: int) -> List[Tuple[str, str]]:
@@ -276,6 +293,7 @@ def main() -> int:
 
     figures = [
         *pickles(storklocker, asked),
+        native(asked),
         lists(storklocker, asked),
         *threads(storklocker, asked),
         imported(asked),
