@@ -4,6 +4,7 @@ pub mod Taken
 pub mod Behind
 pub mod LinesBehind
 pub mod Judged
+pub mod Starts
 pub mod Texts
 pub mod Plain
 pub mod Skipped

@@ -42,48 +42,83 @@ pub(crate) struct Front {
     pub(crate) length: usize,
 }
 
-/// The number of bytes of the instructions that begin with a code, for opcodes of which every
-/// argument has the same length and is admitted; 0 for all others, and for STOP and FRAME.
-static LENGTHS: [u8; 256] = [
+/// An opcode and the number of bytes of its instructions. The length is 0 if they vary in length,
+/// an argument may be refused, or the opcode is STOP or FRAME. The opcode is unspecified then.
+#[derive(Clone, Copy)]
+struct Start {
+    op: Op,
+    length: u8,
+}
+
+/// The entry of the table for an opcode with this length, or for none.
+macro_rules! entry {
+    (_) => {
+        Start {
+            op: Op::Stop,
+            length: 0,
+        }
+    };
+    (($name:ident $length:literal)) => {
+        Start {
+            op: Op::$name,
+            length: $length,
+        }
+    };
+}
+
+/// The table with these entries.
+macro_rules! entries {
+    ($($entry:tt)*) => {
+        [$(entry!($entry)),*]
+    };
+}
+
+/// The opcode and the length for each code. One table has both, so that one look at it is enough.
+static STARTS: [Start; 256] = entries! {
     // 0x00
-    0, 0, 0, 0, 0, 0, 0, 0, 0, 0, 0, 0, 0, 0, 0, 0,
+    _ _ _ _ _ _ _ _ _ _ _ _ _ _ _ _
     // 0x10
-    0, 0, 0, 0, 0, 0, 0, 0, 0, 0, 0, 0, 0, 0, 0, 0,
+    _ _ _ _ _ _ _ _ _ _ _ _ _ _ _ _
     // 0x20
-    0, 0, 0, 0, 0, 0, 0, 0, 1, 1, 0, 0, 0, 0, 0, 0,
+    _ _ _ _ _ _ _ _ (Mark 1) (EmptyTuple 1) _ _ _ _ _ _
     // 0x30
-    1, 1, 1, 0, 0, 0, 0, 0, 0, 0, 0, 0, 0, 0, 0, 0,
+    (Pop 1) (PopMark 1) (Dup 1) _ _ _ _ _ _ _ _ _ _ _ _ _
     // 0x40
-    0, 0, 0, 0, 0, 0, 0, 9, 0, 0, 5, 2, 0, 3, 1, 0,
+    _ _ _ _ _ _ _ (BinFloat 9) _ _ (BinInt 5) (BinInt1 2) _ (BinInt2 3) (None 1) _
     // 0x50
-    0, 1, 1, 0, 0, 0, 0, 0, 0, 0, 0, 0, 0, 1, 0, 0,
+    _ (BinPersid 1) (Reduce 1) _ _ _ _ _ _ _ _ _ _ (EmptyList 1) _ _
     // 0x60
-    0, 1, 1, 0, 1, 1, 0, 0, 2, 0, 5, 0, 1, 0, 0, 1,
+    _ (Append 1) (Build 1) _ (Dict 1) (Appends 1) _ _ (BinGet 2) _ (LongBinGet 5) _ (List 1) _ _
+    (Obj 1)
     // 0x70
-    0, 2, 5, 1, 1, 1, 0, 0, 0, 0, 0, 0, 0, 1, 0, 0,
+    _ (BinPut 2) (LongBinPut 5) (SetItem 1) (Tuple 1) (SetItems 1) _ _ _ _ _ _ _ (EmptyDict 1) _ _
     // 0x80
-    0, 1, 0, 0, 0, 1, 1, 1, 1, 1, 0, 0, 0, 0, 0, 1,
+    _ (NewObj 1) _ _ _ (Tuple1 1) (Tuple2 1) (Tuple3 1) (NewTrue 1) (NewFalse 1) _ _ _ _ _
+    (EmptySet 1)
     // 0x90
-    1, 1, 1, 1, 1, 0, 0, 1, 1, 0, 0, 0, 0, 0, 0, 0,
-    // 0xA0
-    0, 0, 0, 0, 0, 0, 0, 0, 0, 0, 0, 0, 0, 0, 0, 0,
-    // 0xB0
-    0, 0, 0, 0, 0, 0, 0, 0, 0, 0, 0, 0, 0, 0, 0, 0,
-    // 0xC0
-    0, 0, 0, 0, 0, 0, 0, 0, 0, 0, 0, 0, 0, 0, 0, 0,
-    // 0xD0
-    0, 0, 0, 0, 0, 0, 0, 0, 0, 0, 0, 0, 0, 0, 0, 0,
-    // 0xE0
-    0, 0, 0, 0, 0, 0, 0, 0, 0, 0, 0, 0, 0, 0, 0, 0,
-    // 0xF0
-    0, 0, 0, 0, 0, 0, 0, 0, 0, 0, 0, 0, 0, 0, 0, 0,
-];
+    (AddItems 1) (FrozenSet 1) (NewObjEx 1) (StackGlobal 1) (Memoize 1) _ _ (NextBuffer 1)
+    (ReadonlyBuffer 1) _ _ _ _ _ _ _
+    // 0xa0
+    _ _ _ _ _ _ _ _ _ _ _ _ _ _ _ _
+    // 0xb0
+    _ _ _ _ _ _ _ _ _ _ _ _ _ _ _ _
+    // 0xc0
+    _ _ _ _ _ _ _ _ _ _ _ _ _ _ _ _
+    // 0xd0
+    _ _ _ _ _ _ _ _ _ _ _ _ _ _ _ _
+    // 0xe0
+    _ _ _ _ _ _ _ _ _ _ _ _ _ _ _ _
+    // 0xf0
+    _ _ _ _ _ _ _ _ _ _ _ _ _ _ _ _
+};
 
 #[inline(always)]
-fn length_of(code: u8) -> u8
-    ensures { (op : SpecOp) → code_of op ≡ code → result ≢ 0 → HasFixedLength op result }
+fn start_of(code: u8) -> Start
+    ensures code { result.length ≢ 0 → code_of result.op ≡ code }
+    ensures fixed { (op : SpecOp) → code_of op ≡ code → result.length ≢ 0
+        → HasFixedLength op result.length }
 {
-    LENGTHS[usize::from(code)]
+    STARTS[usize::from(code)]
 }
 
 /// The instruction that the bytes begin with, if they hold all of it, its payload is within the
@@ -99,18 +134,16 @@ pub(crate) fn front_of(bytes: &[u8], limits: &Limits) -> Option<Front>
         return None;
     }
     let code = bytes[0];
-    let length = usize::from(length_of(code));
+    let start = start_of(code);
+    let length = usize::from(start.length);
     if length == 0 {
         return varying_front(code, bytes, limits);
     }
     if length > bytes.len() {
         return None;
     }
-    let Some(op) = op_of_byte(code) else {
-        return None;
-    };
     Some(Front {
-        op,
+        op: start.op,
         split: 0,
         length,
     })
