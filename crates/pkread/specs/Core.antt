@@ -1,11 +1,12 @@
 -- What contracts see of a reader, apart from its source.
-use Rattle.std.specs.Prelude.{◌≡◌, ⊤, ℕ, ◌<◌, Bool, true, false, List, [], ◌∷◌}
+use Rattle.std.specs.Prelude.{◌≡◌, ⊤, ℕ, ◌<◌, List, [], ◌∷◌}
 use Rattle.pkops.specs.Limits.{Bounds}
 use Rattle.pkops.specs.declared.Op.{Op}
 use Rattle.pkops.specs.declared.Op.TheVariants.{Stop}
 use Rattle.pkread.specs.Held.{Held}
 use Rattle.pkread.specs.Rows.{all_bytes}
 use Rattle.pkread.specs.declared.state.Phase as declared
+use Rattle.pkread.specs.declared.state.Stage as stage
 use Rattle.pkread.specs.declared.refusal.Refusal.{Refusal}
 
 -- what the next call does: read an instruction, report the end because STOP was returned, or return
@@ -21,10 +22,17 @@ shown_phase declared.TheVariants.Open = Open
 shown_phase declared.TheVariants.Ended = Ended
 shown_phase (declared.TheVariants.Refused refusal) = Refused refusal
 
+-- the phase of a stage
+abbrev pub phase_at : stage.Stage → Phase
+phase_at stage.TheVariants.Open = Open
+phase_at stage.TheVariants.Begun = Open
+phase_at stage.TheVariants.Ended = Ended
+phase_at (stage.TheVariants.Refused refusal) = Refused refusal
+
 -- the bytes read ahead of the next instruction: those in the buffer if it has begun
-abbrev pub ahead_of : Bool → List ℕ → List ℕ
-ahead_of true bytes = bytes
-ahead_of false bytes = []
+abbrev pub ahead_of : stage.Stage → List ℕ → List ℕ
+ahead_of stage.TheVariants.Begun bytes = bytes
+ahead_of _ bytes = []
 
 -- at most one byte is read ahead; it isn't counted yet, so there must be room to count it
 abbrev pub AtMostOneAhead : List ℕ → ℕ → Type 0

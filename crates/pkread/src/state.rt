@@ -1,14 +1,14 @@
 //! The state of a reader apart from its source: the bytes of an instruction, and what comes next.
 
-ghost use Rattle.std.specs.Prelude.{◌≡◌, ◌≢◌, ◌+◌, ◌<◌, ◌≤◌, [], IfErr, IfOk, false, length};
-ghost use Rattle.std.specs.Prelude.{max, true};
+ghost use Rattle.std.specs.Prelude.{◌≡◌, ◌≢◌, ◌+◌, ◌<◌, ◌≤◌, [], ℕ, IfErr, IfOk, List, false};
+ghost use Rattle.std.specs.Prelude.{length, max, true};
 ghost use Rattle.pkops.specs.Inst.{instruction_of};
 ghost use Rattle.pkops.specs.Lying.{Lies};
 ghost use Rattle.pkops.specs.Scanning.{longest};
 ghost use Rattle.pkops.specs.Spelling.{Argument, instruction};
 ghost use Rattle.pkread.specs.Again.{WhyNoByte};
 ghost use Rattle.pkread.specs.Core as phase;
-ghost use Rattle.pkread.specs.Core.{NoneIfClosed, ahead_of, phase_after, shown_phase};
+ghost use Rattle.pkread.specs.Core.{NoneIfClosed, ahead_of, phase_after, phase_at, shown_phase};
 ghost use Rattle.pkread.specs.Held.{most_held};
 ghost use Rattle.pkread.specs.Private.Collecting.{Advances, ByteCame, Collects, CollectsHead};
 ghost use Rattle.pkread.specs.Private.Collecting.{EndsHere, IfHeld, NoneCame, Waits, before_next};
@@ -37,20 +37,32 @@ pub(crate) enum Phase {
     Refused(Refusal),
 }
 
+/// The phase, and whether the buffer holds a byte that was read ahead of the next instruction. One
+/// value has both, so that one test finds out whether an instruction can be lent.
+#[derive(Clone, Copy, Debug, Drop)]
+pub(crate) enum Stage {
+    /// Open, and nothing was read ahead.
+    Open,
+    /// Open, and a byte was read ahead.
+    Begun,
+    /// Ended.
+    Ended,
+    /// Refused.
+    Refused(Refusal),
+}
+
 /// The state of a reader apart from its source. It is a struct of its own so that dropping a reader
 /// leaves the final state of its source known.
 #[derive(Debug, Drop)]
 pub struct Core {
     gathering: Gathering,
-    phase: Phase,
-    /// Whether the buffer holds a byte that was read ahead of the next instruction.
-    begun: bool,
+    stage: Stage,
 }
 
 impl Model for Core {
     ghost use Rattle.std.specs.Prelude.{◌≤◌, length};
     ghost use Rattle.pkread.specs.Core.{AtMostOneAhead, CoreView, NoneIfClosed, SomeIfEnded};
-    ghost use Rattle.pkread.specs.Core.{ahead_of, shown_phase};
+    ghost use Rattle.pkread.specs.Core.{ahead_of, phase_at};
     ghost use Rattle.pkread.specs.Held.{most_held};
     ghost use Rattle.pkops.specs.Scanning.{longest};
 
@@ -58,17 +70,17 @@ impl Model for Core {
 
     ghost view = { λ c. record {
       held = c.gathering.buffer;
-      ahead = ahead_of c.begun c.gathering.buffer.bytes;
+      ahead = ahead_of c.stage c.gathering.buffer.bytes;
       taken = c.gathering.taken;
       limits = c.gathering.limits;
-      phase = shown_phase c.phase;
+      phase = phase_at c.stage;
     } };
 
     ghost invariant = { λ c. (most_held c.gathering.buffer ≤ longest c.gathering.limits.counted)
-        × (length (ahead_of c.begun c.gathering.buffer.bytes) ≤ c.gathering.buffer.peak)
-        × SomeIfEnded (shown_phase c.phase) (most_held c.gathering.buffer)
-        × AtMostOneAhead (ahead_of c.begun c.gathering.buffer.bytes) c.gathering.taken
-        × NoneIfClosed (shown_phase c.phase) (ahead_of c.begun c.gathering.buffer.bytes) };
+        × (length (ahead_of c.stage c.gathering.buffer.bytes) ≤ c.gathering.buffer.peak)
+        × SomeIfEnded (phase_at c.stage) (most_held c.gathering.buffer)
+        × AtMostOneAhead (ahead_of c.stage c.gathering.buffer.bytes) c.gathering.taken
+        × NoneIfClosed (phase_at c.stage) (ahead_of c.stage c.gathering.buffer.bytes) };
 }
 
 impl Core {
@@ -87,8 +99,7 @@ impl Core {
     {
         Core {
             gathering: Gathering::new(alloc, limits),
-            phase: Phase::Open,
-            begun: false,
+            stage: Stage::Open,
         }
     }
 
@@ -102,7 +113,12 @@ impl Core {
         ensures shown { shown_phase result ≡ self.now.phase }
         ensures closed { NoneIfClosed self.now.phase self.now.ahead }
     {
-        self.phase
+        match self.stage {
+            Stage::Open => Phase::Open,
+            Stage::Begun => Phase::Open,
+            Stage::Ended => Phase::Ended,
+            Stage::Refused(refusal) => Phase::Refused(refusal),
+        }
     }
 
     pub(crate) fn most(&self) -> usize
@@ -125,10 +141,7 @@ impl Core {
         ensures open { result ≡ true → self.now.phase ≡ phase.Open }
         ensures none { result ≡ true → self.now.ahead ≡ [] }
     {
-        if self.begun {
-            return false;
-        }
-        matches!(self.phase, Phase::Open)
+        matches!(self.stage, Stage::Open)
     }
 
     /// Whether `count` more bytes can be taken.
@@ -164,7 +177,7 @@ impl Core {
         ensures { self.new ≡ record self.old { phase = phase_after op } }
     {
         match op {
-            Op::Stop => self.phase = Phase::Ended,
+            Op::Stop => self.stage = Stage::Ended,
             _ => {}
         }
     }
@@ -191,7 +204,7 @@ impl Core {
         ensures after { self.new ≡ record self.old { phase = phase.Refused result } }
     {
         let refusal = Refusal { at, reason };
-        self.phase = Phase::Refused(refusal);
+        self.stage = Stage::Refused(refusal);
         refusal
     }
 
@@ -216,7 +229,7 @@ impl Core {
             (behind_next R.left R.failures source.new self.new) }
     {
         let at = self.gathering.taken();
-        keep(&mut self.gathering, &mut self.begun);
+        keep(&mut self.gathering, &mut self.stage);
         let gathered = self.gathering.gather(source);
         let _taken = self.gathering.taken();
         match gathered {
@@ -238,7 +251,7 @@ impl Core {
             (behind_next R.left R.failures source.new self.new) }
     {
         let at = self.gathering.taken();
-        keep(&mut self.gathering, &mut self.begun);
+        keep(&mut self.gathering, &mut self.stage);
         let gathered = self.gathering.gather_head(source);
         let _taken = self.gathering.taken();
         match gathered {
@@ -269,12 +282,10 @@ impl Core {
         self.gathering.clear();
         match ask(source, &mut self.gathering) {
             Ok(more) => {
-                self.begun = more;
-                self.phase = phase_of(more);
+                self.stage = stage_of(more);
                 Ok(more)
             }
             Err(reason) => {
-                self.begun = false;
                 let at = self.gathering.taken();
                 Err(self.refuse(at, reason))
             }
@@ -285,29 +296,31 @@ impl Core {
 /// Starts an instruction. Keeps the byte that was read ahead for it, and otherwise clears the
 /// buffer.
 #[inline(always)]
-fn keep(gathering: &mut Gathering, begun: &mut bool)
-    requires { length (ahead_of begun.old gathering.old.buffer.bytes) ≤ gathering.old.buffer.peak }
+fn keep(gathering: &mut Gathering, stage: &mut Stage)
+    requires { length (ahead_of stage.old gathering.old.buffer.bytes) ≤ gathering.old.buffer.peak }
     ensures kept { gathering.new ≡ record gathering.old {
       buffer = record {
-        bytes = ahead_of begun.old gathering.old.buffer.bytes;
+        bytes = ahead_of stage.old gathering.old.buffer.bytes;
         peak = most_held gathering.old.buffer;
       };
     } }
-    ensures none { begun.new ≡ false }
+    ensures phase { phase_at stage.new ≡ phase_at stage.old }
+    ensures none { (bytes : List ℕ) → ahead_of stage.new bytes ≡ [] }
 {
-    if *begun {
-        *begun = false;
-    } else {
-        gathering.clear();
+    match *stage {
+        Stage::Begun => *stage = Stage::Open,
+        _ => gathering.clear(),
     }
 }
 
-/// The phase after STOP: open if another byte follows.
-fn phase_of(more: bool) -> Phase
-    ensures open { more ≡ true → shown_phase result ≡ phase.Open }
-    ensures ended { more ≡ false → shown_phase result ≡ phase.Ended }
+/// The stage after STOP: begun if another byte follows.
+fn stage_of(more: bool) -> Stage
+    ensures open { more ≡ true → phase_at result ≡ phase.Open }
+    ensures ended { more ≡ false → phase_at result ≡ phase.Ended }
+    ensures ahead { (bytes : List ℕ) → more ≡ true → ahead_of result bytes ≡ bytes }
+    ensures none { (bytes : List ℕ) → more ≡ false → ahead_of result bytes ≡ [] }
 {
-    if more { Phase::Open } else { Phase::Ended }
+    if more { Stage::Begun } else { Stage::Ended }
 }
 
 /// Reads one byte ahead. Returns whether one arrived.
