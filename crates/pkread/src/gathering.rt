@@ -18,21 +18,27 @@ use std::marker::Model;
 /// The most bytes that one read asks for.
 const BLOCK: usize = 4096;
 
-/// The bytes of the current instruction, the number of bytes taken from the source so far, and the
-/// limits on what an instruction holds.
+/// The bytes of the current instruction, how many bytes can still be taken from the source, and the
+/// limits on what an instruction holds. At most 2^64 - 1 bytes are taken.
 #[derive(Debug, Drop)]
 pub(crate) struct Gathering {
     buffer: Buffer,
-    taken: u64,
+    room: u64,
     limits: Limits,
 }
 
 impl Model for Gathering {
+    ghost use Rattle.std.specs.Prelude.{◌-◌};
     ghost use Rattle.pkread.specs.Private.Progress.{GatheringView};
+    ghost use Rattle.pkread.specs.Rows.{all_bytes};
 
     ghost Value = { GatheringView };
 
-    ghost view = { λ g. record { buffer = g.buffer; taken = g.taken; limits = g.limits } };
+    ghost view = { λ g. record {
+      buffer = g.buffer;
+      taken = all_bytes - g.room;
+      limits = g.limits;
+    } };
 }
 
 impl Gathering {
@@ -42,7 +48,7 @@ impl Gathering {
     {
         Gathering {
             buffer: Buffer::new(alloc),
-            taken: 0,
+            room: u64::MAX,
             limits: *limits,
         }
     }
@@ -51,7 +57,15 @@ impl Gathering {
     pub(crate) fn taken(&self) -> u64
         ensures { result ≡ self.now.taken }
     {
-        self.taken
+        u64::MAX - self.room
+    }
+
+    /// How many bytes can still be taken.
+    #[inline]
+    pub(crate) fn room(&self) -> u64
+        ensures { self.now.taken + result ≡ all_bytes }
+    {
+        self.room
     }
 
     #[inline]
@@ -132,7 +146,7 @@ impl Gathering {
         requires { self.old.taken < all_bytes }
         ensures { self.new ≡ record self.old { taken = self.old.taken + 1 } }
     {
-        self.taken += 1;
+        self.room -= 1;
     }
 
     /// Counts an instruction of `count` bytes that is lent from where it lies, as if it were held.
@@ -145,7 +159,7 @@ impl Gathering {
         } }
     {
         self.buffer.count_lent(count);
-        self.taken += count as u64;
+        self.room -= count as u64;
     }
 
     /// Takes one byte. Refuses with `TooLarge` once 2^64 - 1 bytes were taken.
@@ -156,12 +170,12 @@ impl Gathering {
             (intake R.left R.failures source.old self.old)
             (intake R.left R.failures source.new self.new) }
     {
-        let before = self.taken;
-        if before == u64::MAX {
+        let room = self.room;
+        if room == 0 {
             return Err(Reason::TooLarge);
         }
         let byte = self.buffer.read_byte(source)?;
-        self.taken = before + 1;
+        self.room = room - 1;
         Ok(byte)
     }
 
@@ -194,13 +208,13 @@ impl Gathering {
             (intake R.left R.failures source.old self.old)
             (intake R.left R.failures source.new self.new) }
     {
-        let room = u64::MAX - self.taken;
+        let room = self.room;
         if room == 0 {
             return Err(Reason::TooLarge);
         }
         let wanted = left.min(BLOCK).min(room as usize);
         let n = self.buffer.read(source, wanted)?;
-        self.taken += n as u64;
+        self.room = room - n as u64;
         Ok(n)
     }
 
@@ -217,11 +231,11 @@ impl Gathering {
             (intake R.left R.failures source.old self.old)
             (intake R.left R.failures source.new self.new) }
     {
-        if u64::MAX - self.taken < N as u64 {
+        if self.room < N as u64 {
             return self.take_rest(source, N);
         }
         let n = self.buffer.read_field::<R, N>(source)?;
-        self.taken += n as u64;
+        self.room -= n as u64;
         if n == N {
             return Ok(());
         }

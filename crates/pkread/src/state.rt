@@ -149,7 +149,7 @@ impl Core {
     pub(crate) fn has_room(&self, count: usize) -> bool
         ensures { result ≡ true → self.now.taken + count ≤ all_bytes }
     {
-        u64::MAX - self.gathering.taken() >= count as u64
+        self.gathering.room() >= count as u64
     }
 
     /// Counts an instruction of `count` bytes that is lent from where it lies.

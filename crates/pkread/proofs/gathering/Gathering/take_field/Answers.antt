@@ -1,4 +1,4 @@
-use Rattle.std.proofs.Common.{◌<◌, arith, refl}
+use Rattle.std.proofs.Common.{◌-◌, ◌<◌, arith, refl}
 use Rattle.std.proofs.lemmas.Result.{err_from_is_err_and}
 use Rattle.pkread.proofs.Bytes.Taken.{lacks_all}
 use Rattle.pkread.specs.Rows.{all_bytes}
@@ -10,5 +10,5 @@ returns-in_err-n-clause-takes g c =
     let none = c.in_err-n.ensures in
     let some : 0 < g.row.N = c.requires.some in
     let left = c.if-self.false in
-    let room : c.self.inside.taken < all_bytes = omega arith in
+    let room : all_bytes - c.self.inside.room < all_bytes = omega arith in
     rw (← c.self.view_is, p.1, p.2) (lacks_all g.row.N _ _ _ some room none.same refl none.err)
