@@ -160,6 +160,20 @@ impl Machine {
         if let Some(reason) = self.refused {
             return Err(reason);
         }
+        self.step_on(inst, policy)
+    }
+
+    /// Steps as [`Machine::step`] does, but does not ask whether an earlier step was refused.
+    #[inline(always)]
+    pub(crate) fn step_on(&mut self, inst: &Inst, policy: &Policy) -> Result<Moved, Reason>
+        requires admitted { is_admitted (instruction_of inst.now) ≡ true }
+        requires running { self.old.stopped ≡ false }
+        requires well { self.old.refused ≡ None }
+        ensures step { IsStep (policy_of policy.now) (instruction_of inst.now) self.old self.new
+            result }
+        ensures texts { OnOk result (self.new.texts
+            ≡ texts_then self.old.old_strings (instruction_of inst.now).op self.old.texts) }
+    {
         match advance(&mut self.held, &self.terms, inst, policy, &mut self.off) {
             Ok(moved) => {
                 stop_after(moved, &mut self.stopped);

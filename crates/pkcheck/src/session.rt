@@ -68,7 +68,7 @@ impl Session {
             self.old.frame self.old.machine self.new.machine) }
     {
         self.frames.take_other(inst.len())?;
-        self.machine.step(inst, policy)?;
+        self.machine.step_on(inst, policy)?;
         Ok(())
     }
 
@@ -84,7 +84,7 @@ impl Session {
             self.old.frame self.old.machine self.new.machine) }
     {
         self.frames.take(inst.op(), inst.len(), frame_length(inst))?;
-        self.machine.step(inst, policy)?;
+        self.machine.step_on(inst, policy)?;
         Ok(())
     }
 
