@@ -262,14 +262,14 @@ impl Stack {
         ensures err { IfErr result (λ r. (self.new ≡ self.old)
             × WantsRoom limits.now.stack place r) }
     {
+        if place < self.len() {
+            self.replace_all(place, marks, value);
+            return Ok(());
+        }
         if place as u64 >= limits.stack() {
             return Err(Reason::TooLarge);
         }
-        if place >= self.len() {
-            return self.push_object(value);
-        }
-        self.replace_all(place, marks, value);
-        Ok(())
+        self.push_object(value)
     }
 
     /// Replaces one or more entries, all those from a place on, with one object.

@@ -3,10 +3,10 @@ use Rattle.pkcheck.proofs.Places.{below_all}
 use Rattle.pkcheck.proofs.Stepping.Errs.{ok_by}
 use Rattle.pkcheck.proofs.machine.stack.Stack.replace.Goals as goal
 
-pub returns-then-place-len-clause-ok : goal.returns-then-place-len-clause-ok
-returns-then-place-len-clause-ok c = rw (below_all c.args.place c.args.self.now (omega arith))
+pub returns-clause-ok : goal.returns-clause-ok
+returns-clause-ok c = rw (below_all c.args.place c.args.self.now (omega arith))
     c.push_object.ensures.ok
 
-pub returns-then-place-len-clause-room : goal.returns-then-place-len-clause-room
-returns-then-place-len-clause-room c = ok_by _ _ c.push_object.result
+pub returns-clause-room : goal.returns-clause-room
+returns-clause-room c = ok_by _ _ c.push_object.result
     (λ u is. let e = ap length is in omega (arith, e)) c.push_object.ensures.ok
