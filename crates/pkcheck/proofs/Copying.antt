@@ -5,7 +5,7 @@ use Rattle.std.proofs.Common.{add-one, append_assoc, length-append}
 use Rattle.std.proofs.Math.ListN.{set}
 use Rattle.std.proofs.Math.Seq.{get_or-append_seam, take-suc}
 use Rattle.std.proofs.lemmas.List.{map-append}
-use Rattle.pkcheck.specs.Private.Noted.{AreCopies, AreEntries, IsEntry, entry_asked}
+use Rattle.pkcheck.specs.Private.Noted.{AreCopies, AreEntries, IsEntry, KeepsCopies, entry_asked}
 use Rattle.pkcheck.specs.Private.Slots.{HasMoreTexts}
 use Rattle.pkcheck.specs.declared.machine.ledger.Entry.{Entry}
 use Rattle.pkcheck.proofs.Noting.{are_grown, are_more, asked_grown, longer, map_more, text_grown}
@@ -87,19 +87,19 @@ module _ (ts ws : List (List ℕ)) (es : List Entry) (before : List (List ℕ)) 
   -- one more entry is copied
   pub copied_more : (now new : List (List ℕ)) (copies next : List (Option ℕ)) (copied : List Entry)
       (count : ℕ) (d e : Entry) → CopiedSoFar ts ws es before now copies copied count
-      → count < length es → HasMoreTexts now new → length next ≡ length copies
-      → AreCopies next ts new → IsEntry 0 (length new) e × (entry_asked [] new e ≡ entry_asked ts ws
-      (get_or es count d)) → CopiedSoFar ts ws es before new next (copied ++ e ∷ []) (count + 1)
-  copied_more now new copies next copied count d e h lt grows size stand ok =
+      → count < length es → KeepsCopies ts copies next now new
+      → IsEntry 0 (length new) e × (entry_asked [] new e ≡ entry_asked ts ws (get_or es count d))
+      → CopiedSoFar ts ws es before new next (copied ++ e ∷ []) (count + 1)
+  copied_more now new copies next copied count d e h lt kept ok =
       let none : HasMoreTexts [] [] = same_table [] in
-      let here = asked_grown [] [] now new none grows copied h.named in
+      let here = asked_grown [] [] now new none kept.grows copied h.named in
       let last = take-suc es count d lt in
       record {
-        grows = grows_more before now new h.grows grows;
-        size = size ∙ h.size;
-        stand = stand;
-        named = are_more 0 (length new) copied e (are_grown [] [] now new none grows copied h.named)
-            ok.0;
+        grows = grows_more before now new h.grows kept.grows;
+        size = kept.count ∙ h.size;
+        stand = kept.copies;
+        named = are_more 0 (length new) copied e
+            (are_grown [] [] now new none kept.grows copied h.named) ok.0;
         same = map_more (entry_asked [] new) copied e ∙ (λ i. (here ∙ h.same) i ++ ok.1 i ∷ [])
             ∙ sym (map_more (entry_asked ts ws) (take count es) (get_or es count d))
             ∙ ap (map (entry_asked ts ws)) (sym last ∙ ap (λ n. take n es) (sym (add-one count)));

@@ -311,19 +311,6 @@ pub table_kept : {A E : Type 0} (x : Result A E) (ts us : List (List ℕ)) → u
 table_kept (Ok a) ts us e = record { more = []; is = e ∙ sym (append-nil ts) }
 table_kept (Err e) ts us h = tt
 
--- ---- an object on top
-
-pub given_seen : (ts : List (List ℕ)) (v : Value) (o : Option Known) (es : List (Entry Value))
-    → StandsIf ts (Some v) o → seen ts (Item v ∷ es) ≡ put o [] ++ seen ts es
-given_seen ts v (Some k) es h = ap (λ c. Item c ∷ seen ts es) h.is
-given_seen ts v None es h = absurd h
-
-pub given_sees : (ts : List (List ℕ)) (v : Value) (o : Option Known) (es : List (Entry Value))
-    → StandsIf ts (Some v) o → Sees ts es (seen ts es)
-    → Sees ts (Item v ∷ es) (seen ts (Item v ∷ es))
-given_sees ts v (Some k) es h s = (record { is = refl; numbered = h.numbered }, s)
-given_sees ts v None es h s = absurd h
-
 -- ---- an operation
 
 pub operate_resolves : {A E : Type 0} (x : Result A E) (l m : Noted) (es fs : List (Entry Value))

@@ -1,11 +1,11 @@
 -- How the view of the stack changes with its entries.
-use Rattle.std.proofs.Common.{◌≡◌, ℕ, suc, ◌<◌, List, [], ◌∷◌, ◌++◌, length, take, drop, get_or, Ok}
+use Rattle.std.proofs.Common.{◌≡◌, ℕ, suc, ◌<◌, List, [], ◌∷◌, ◌++◌, length, take, drop, get_or}
 use Rattle.std.proofs.Common.{Err, refl, ◌+◌, arith, length-drop}
 use Rattle.std.proofs.Math.Seq.{take-suc, drop-cons}
 use Rattle.pkcheck.specs.declared.machine.value.Value.{Value}
 use Rattle.pkcheck.specs.declared.machine.stack.slots.Slot.{Slot}
 use Rattle.pkcheck.specs.declared.machine.stack.slots.Slot.TheVariants as slot
-use Rattle.pkcheck.specs.Shape.{NoItem, Entry, slice, items}
+use Rattle.pkcheck.specs.Shape.{NoItem, Entry, items}
 use Rattle.pkcheck.specs.Private.Slots.{FirstObject, entry_of, shown, values_of}
 
 pub shown_append : (xs ys : List Slot) (below : List (Entry Value))
@@ -23,20 +23,6 @@ pub values_drop : (xs : List Slot) (m n : ℕ) (d x : Slot) → m ≡ suc n → 
 values_drop xs m n d x is h e = rw (is, drop-cons xs n d, e) refl
 
 module _ (xs : List Slot) (m n : ℕ) (d : Slot) (is : m ≡ suc n) (h : n < length xs) where
-  pub slice_at_bar : get_or xs n d ≡ slot.Mark
-      → slice (shown (take m xs) []) (values_of (drop m xs))
-      ≡ Ok (record { operands = values_of (drop n xs); below = shown (take n xs) [] })
-  slice_at_bar e = rw (shown_take xs m n d slot.Mark is h e, values_drop xs m n d slot.Mark is h e)
-      refl
-
-  pub slice_at_object : (v : Value) → get_or xs n d ≡ slot.Object v
-      → slice (shown (take m xs) []) (values_of (drop m xs))
-      ≡ slice (shown (take n xs) []) (values_of (drop n xs))
-  slice_at_object v e = rw (
-    shown_take xs m n d (slot.Object v) is h e,
-    values_drop xs m n d (slot.Object v) is h e,
-  ) refl
-
   pub items_at_bar : (k : ℕ) (j : ℕ) → k ≡ suc j → get_or xs n d ≡ slot.Mark
       → items k (shown (take m xs) []) (values_of (drop m xs)) ≡ Err NoItem
   items_at_bar k j e g = rw (e, shown_take xs m n d slot.Mark is h g) refl

@@ -9,6 +9,7 @@ pub mod Spelled
 pub mod Actions
 pub mod Judging
 pub mod ListIndex
+pub mod NewTexts
 pub mod NextPickle
 pub mod Replacing
 pub mod Advancing

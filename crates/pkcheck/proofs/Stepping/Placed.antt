@@ -1,16 +1,9 @@
 -- The operands of an operation, given the entries above the mark.
-use Rattle.std.proofs.Common.{◌≡◌, ℕ, List, [], Some, None, Ok, Err, refl, ◌-◌, ◌≤◌, length, take}
-use Rattle.std.proofs.Common.{drop, arith, length-drop}
-use Rattle.std.proofs.lemmas.List.{take_all}
+use Rattle.std.proofs.Common.{◌≡◌, List, [], Some, None, Ok, Err, refl}
 use Rattle.pkcheck.specs.declared.effect.SliceRule.{SliceRule}
 use Rattle.pkcheck.specs.declared.effect.Takes.TheVariants.{SliceAndReceiver}
 use Rattle.pkcheck.specs.Shape.{Breach, Entry, Taken, slice, items, breaks, operands}
 use Rattle.pkcheck.specs.declared.machine.value.Value.{Value}
-
--- a slice up to the end of the list
-pub to_end : {A : Type 0} (xs : List A) (n : ℕ) → take (length xs - n) (drop n xs) ≡ drop n xs
-to_end xs n = let le : length (drop n xs) ≤ length xs - n = omega (arith, length-drop n xs) in
-    take_all _ _ le
 
 module _ (rule : SliceRule) (es : List (Entry Value)) (t : Taken Value)
     (e : slice es [] ≡ Ok t) where

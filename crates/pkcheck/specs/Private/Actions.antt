@@ -1,5 +1,5 @@
 -- The effect of each action of the machine.
-use Rattle.std.specs.Prelude.{◌<◌, Bool, true, false, ⊤}
+use Rattle.std.specs.Prelude.{◌≡◌, ◌<◌, Bool, true, false, ⊤}
 use Rattle.pkcheck.specs.declared.machine.effects.Action.{Action}
 use Rattle.pkcheck.specs.declared.machine.effects.Action.TheVariants as action
 use Rattle.pkcheck.specs.declared.effect.Gives.TheVariants as gives
@@ -8,9 +8,11 @@ use Rattle.pkcheck.specs.declared.machine.effects.Operation.{Operation}
 use Rattle.pkcheck.specs.declared.effect.Takes.TheVariants.{Objects}
 use Rattle.pkcheck.specs.declared.effect.Takes.{Takes}
 use Rattle.pkcheck.specs.declared.effect.Gives.{Gives}
-use Rattle.pkcheck.specs.Effects.{Effect, Operates, Moves, Stops, answers, effect_of, pushes}
+use Rattle.pkcheck.specs.Effects.{Effect, Operates, Moves, Stops, answers, effect_of}
+use Rattle.pkcheck.specs.Effects.{is_old_string, pushes}
 use Rattle.pkcheck.specs.Private.Denials.{IgnoresArgument, WellGiven}
 use Rattle.pkcheck.specs.Private.Spelled.{IsTextLayout}
+use Rattle.pkops.specs.Spelling.{layout_at}
 use Rattle.pkops.specs.declared.Layout.{Layout}
 use Rattle.pkops.specs.declared.Op.{Op}
 
@@ -66,3 +68,10 @@ abbrev pub MaySpell : Action → Layout → Type 0
 MaySpell action.MakesText l = IsTextLayout l
 MaySpell action.ReadsOldString l = IsTextLayout l
 MaySpell _ l = ⊤
+
+-- what the machine does at an opcode
+pub record IsActionOf (o : Op) (a : Action) : Type 0 where
+  pub effect : effect_of o ≡ effect_by o a
+  pub old : is_old_string o ≡ is_reading a
+  pub well : IsWell o a
+  pub spelled : MaySpell a (layout_at o)

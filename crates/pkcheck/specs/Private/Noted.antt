@@ -10,7 +10,7 @@ use Rattle.pkcheck.specs.declared.machine.ledger.Entry.{Entry}
 use Rattle.pkcheck.specs.declared.machine.ledger.Entry.TheVariants as entry
 use Rattle.pkcheck.specs.declared.machine.value.Value.{Value}
 use Rattle.pkcheck.specs.Knowledge.{Asked, AskedPair, AskedUnknown}
-use Rattle.pkcheck.specs.Private.Slots.{IsNumbered}
+use Rattle.pkcheck.specs.Private.Slots.{HasMoreTexts, IsNumbered}
 
 -- the texts, and the imports in order
 pub record Noted : Type 0 where
@@ -55,6 +55,13 @@ abbrev pub AreCopies : List (Option ℕ) → List (List ℕ) → List (List ℕ)
 AreCopies copies texts written =
     (number copy : ℕ) → get_or copies number None ≡ Some copy →
     (copy < length written) × (get_or written copy [] ≡ get_or texts number [])
+
+-- the copies stay valid, and names are only appended
+pub record KeepsCopies (texts : List (List ℕ)) (old new : List (Option ℕ))
+    (before after : List (List ℕ)) : Type 0 where
+  pub copies : AreCopies new texts after
+  pub count : length new ≡ length old
+  pub grows : HasMoreTexts before after
 
 -- these objects refer only to the first `count` texts
 abbrev pub AreNumbered : ℕ → List Value → Type 0

@@ -1,10 +1,8 @@
 //! What each opcode does to the stack and the memo.
 ghost use Rattle.std.specs.Prelude.{◌≡◌, IsTrue};
 ghost use Rattle.pkcheck.specs.Effects.{effect_of, pushes, makes, may_make, answers, imports};
-ghost use Rattle.pkcheck.specs.Effects.{Operates, fills, is_old_string};
-ghost use Rattle.pkcheck.specs.Private.Actions.{IsOperation, IsWell, MaySpell, effect_by};
-ghost use Rattle.pkcheck.specs.Private.Actions.{effect_in, is_reading};
-ghost use Rattle.pkops.specs.Spelling.{layout_at};
+ghost use Rattle.pkcheck.specs.Effects.{Operates, fills};
+ghost use Rattle.pkcheck.specs.Private.Actions.{IsActionOf, IsOperation, effect_in};
 ghost use Rattle.pkops.specs.Payloads.{is_passed};
 
 use crate::effect::{Class, Gives, Move, Names, SliceRule, Takes, Wanted};
@@ -148,10 +146,7 @@ pub fn operation_of(op: Op) -> Operation
 /// What the machine does at the opcode.
 #[inline(always)]
 pub fn action_of(op: Op) -> Action
-    ensures effect { effect_of op ≡ effect_by op result }
-    ensures old { is_old_string op ≡ is_reading result }
-    ensures well { IsWell op result }
-    ensures spelled { MaySpell result (layout_at op) }
+    ensures { IsActionOf op result }
 {
     match op {
         Op::Int => Action::MakesIntOrBool,

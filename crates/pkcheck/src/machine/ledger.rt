@@ -5,7 +5,7 @@ ghost use Rattle.std.specs.Prelude.{is_some, map, option_map, IfOk, IfErr, IsSom
 ghost use Rattle.pkcheck.specs.Import.{asks_more};
 ghost use Rattle.pkcheck.specs.Knowledge.{AskedPair};
 ghost use Rattle.pkcheck.specs.Private.Noted.{AreCopies, AreEntries, IsEntry, IsNamed, IsNamedIf};
-ghost use Rattle.pkcheck.specs.Private.Noted.{entry_asked, named_asked};
+ghost use Rattle.pkcheck.specs.Private.Noted.{KeepsCopies, entry_asked, named_asked};
 ghost use Rattle.pkcheck.specs.Private.Slots.{HasMoreTexts};
 ghost use Rattle.std.specs.Str.{IsUtf8};
 
@@ -180,12 +180,21 @@ fn enter(written: &mut Texts, named: Named<'_>) -> Result<Entry, Reason>
     match named {
         Named::Unknown => Ok(Entry::Unknown),
         Named::Made(first, second) => Ok(Entry::Made(first, second)),
-        Named::Written(module_name, name) => {
-            let first = write(written, module_name)?;
-            let second = write(written, name)?;
-            Ok(Entry::Written(first, second))
-        }
+        Named::Written(module_name, name) => Ok(write_pair(written, module_name, name)?),
     }
+}
+
+/// Appends two names and returns their entry.
+fn write_pair(written: &mut Texts, module_name: &str, name: &str) -> Result<Entry, Reason>
+    ensures grows { HasMoreTexts written.old written.new }
+    ensures ok { (ts : List (List ℕ)) → IfOk result (λ e.
+        IsEntry (length ts) (length written.new) e
+        × (entry_asked ts written.new e ≡ AskedPair module_name.now name.now)) }
+    ensures err { IfErr result (λ r. r ≡ Reason.OutOfMemory) }
+{
+    let first = write(written, module_name)?;
+    let second = write(written, name)?;
+    Ok(Entry::Written(first, second))
 }
 
 /// Appends a name and returns its number.
@@ -237,9 +246,8 @@ fn copy_entry(
 ) -> Result<Entry, Reason>
     requires copies { AreCopies copies.old.items texts.now written.old }
     requires entry { IsEntry (length copies.old.items) (length names.now) entry }
-    ensures copies { AreCopies copies.new.items texts.now written.new }
-    ensures count { length copies.new.items ≡ length copies.old.items }
-    ensures grows { HasMoreTexts written.old written.new }
+    ensures kept { KeepsCopies texts.now copies.old.items copies.new.items
+        written.old written.new }
     ensures ok { IfOk result (λ e. IsEntry 0 (length written.new) e
         × (entry_asked [] written.new e ≡ entry_asked texts.now names.now entry)) }
 {
@@ -250,11 +258,11 @@ fn copy_entry(
             let second = copy_text(written, copies, texts, second)?;
             Ok(Entry::Written(first, second))
         }
-        Entry::Written(first, second) => {
-            let first = write(written, names.get(first as usize))?;
-            let second = write(written, names.get(second as usize))?;
-            Ok(Entry::Written(first, second))
-        }
+        Entry::Written(first, second) => write_pair(
+            written,
+            names.get(first as usize),
+            names.get(second as usize),
+        ),
     }
 }
 
@@ -267,9 +275,8 @@ fn copy_text(
 ) -> Result<u32, Reason>
     requires copies { AreCopies copies.old.items texts.now written.old }
     requires number { number < length copies.old.items }
-    ensures copies { AreCopies copies.new.items texts.now written.new }
-    ensures count { length copies.new.items ≡ length copies.old.items }
-    ensures grows { HasMoreTexts written.old written.new }
+    ensures kept { KeepsCopies texts.now copies.old.items copies.new.items
+        written.old written.new }
     ensures ok { IfOk result (λ n. (n < length written.new)
         × (get_or written.new n [] ≡ get_or texts.now number [])) }
 {

@@ -1,15 +1,14 @@
 //! Pushes the text that an instruction spells.
-ghost use Rattle.std.specs.Prelude.{◌≡◌, ◌≤◌, ◌∷◌, length, suc, Some, IfErr, OnOk, true};
+ghost use Rattle.std.specs.Prelude.{◌≡◌, true};
 ghost use Rattle.std.specs.Str.{IsUtf8};
 ghost use Rattle.pkops.specs.Contents.{IsGood, rule_of};
 ghost use Rattle.pkops.specs.Inst.{instruction_of};
 ghost use Rattle.pkops.specs.Spelling.{Counted, Line, instruction};
 ghost use Rattle.pkops.specs.declared.Rule.TheVariants as rule;
-ghost use Rattle.pkcheck.specs.Private.Denials.{WantsRoom};
-ghost use Rattle.pkcheck.specs.Private.Slots.{seen, HasMoreTexts, Sees};
+ghost use Rattle.pkcheck.specs.Private.Importing.{AreSeen};
+ghost use Rattle.pkcheck.specs.Private.NewTexts.{HasPushedText};
 ghost use Rattle.pkcheck.specs.Private.Spelled.{IsSpelled};
-ghost use Rattle.pkcheck.specs.Runs.{Text, text};
-ghost use Rattle.pkcheck.specs.Shape.{Item};
+ghost use Rattle.pkcheck.specs.Runs.{text};
 
 use crate::machine::ledger::Ledger;
 use crate::machine::stack::Stack;
@@ -28,16 +27,10 @@ fn name_text(
     text: &[u8],
 ) -> Result<(), Reason>
     requires utf8 { IsUtf8 text.now }
-    requires sees { Sees ledger.old.texts stack.old (seen ledger.old.texts stack.old) }
-    ensures ok { OnOk result (seen ledger.new.texts stack.new
-        ≡ Item (Some (Text text.now)) ∷ seen ledger.old.texts stack.old) }
-    ensures sees { OnOk result (Sees ledger.new.texts stack.new (seen ledger.new.texts stack.new)) }
-    ensures grows { OnOk result (HasMoreTexts ledger.old.texts ledger.new.texts) }
-    ensures count { OnOk result (length ledger.new.texts ≡ suc (length ledger.old.texts)) }
-    ensures asked { OnOk result (ledger.new.asked ≡ ledger.old.asked) }
-    ensures room { OnOk result (length stack.new ≤ limits.now.stack) }
-    ensures err { IfErr result (λ r. (stack.new ≡ stack.old) × (ledger.new ≡ ledger.old)
-        × WantsRoom limits.now.stack (length stack.old) r) }
+    requires sees { AreSeen (record { entries = stack.old; ledger = ledger.old }) }
+    ensures { HasPushedText limits.now.stack text.now
+        (record { entries = stack.old; ledger = ledger.old })
+        (record { entries = stack.new; ledger = ledger.new }) result }
 {
     let place = stack.len();
     let Ok(number) = u32::try_from(ledger.texts()) else {
@@ -62,17 +55,10 @@ fn name_payload(
     payload: &[u8],
 ) -> Result<(), Reason>
     requires good { IsGood (instruction op (Counted payload.now)) }
-    requires sees { Sees ledger.old.texts stack.old (seen ledger.old.texts stack.old) }
-    ensures ok { OnOk result (seen ledger.new.texts stack.new
-        ≡ Item (Some (Text (text (instruction op (Counted payload.now)))))
-        ∷ seen ledger.old.texts stack.old) }
-    ensures sees { OnOk result (Sees ledger.new.texts stack.new (seen ledger.new.texts stack.new)) }
-    ensures grows { OnOk result (HasMoreTexts ledger.old.texts ledger.new.texts) }
-    ensures count { OnOk result (length ledger.new.texts ≡ suc (length ledger.old.texts)) }
-    ensures asked { OnOk result (ledger.new.asked ≡ ledger.old.asked) }
-    ensures room { OnOk result (length stack.new ≤ terms.now.limits.stack) }
-    ensures err { IfErr result (λ r. (stack.new ≡ stack.old) × (ledger.new ≡ ledger.old)
-        × WantsRoom terms.now.limits.stack (length stack.old) r) }
+    requires sees { AreSeen (record { entries = stack.old; ledger = ledger.old }) }
+    ensures { HasPushedText terms.now.limits.stack (text (instruction op (Counted payload.now)))
+        (record { entries = stack.old; ledger = ledger.old })
+        (record { entries = stack.new; ledger = ledger.new }) result }
 {
     let inst = Inst::known(op, Arg::Counted(payload));
     let text = text_spelled(terms.alloc, &inst)?;
@@ -89,17 +75,10 @@ fn name_line(
     line: &[u8],
 ) -> Result<(), Reason>
     requires good { IsGood (instruction op (Line line.now)) }
-    requires sees { Sees ledger.old.texts stack.old (seen ledger.old.texts stack.old) }
-    ensures ok { OnOk result (seen ledger.new.texts stack.new
-        ≡ Item (Some (Text (text (instruction op (Line line.now)))))
-        ∷ seen ledger.old.texts stack.old) }
-    ensures sees { OnOk result (Sees ledger.new.texts stack.new (seen ledger.new.texts stack.new)) }
-    ensures grows { OnOk result (HasMoreTexts ledger.old.texts ledger.new.texts) }
-    ensures count { OnOk result (length ledger.new.texts ≡ suc (length ledger.old.texts)) }
-    ensures asked { OnOk result (ledger.new.asked ≡ ledger.old.asked) }
-    ensures room { OnOk result (length stack.new ≤ terms.now.limits.stack) }
-    ensures err { IfErr result (λ r. (stack.new ≡ stack.old) × (ledger.new ≡ ledger.old)
-        × WantsRoom terms.now.limits.stack (length stack.old) r) }
+    requires sees { AreSeen (record { entries = stack.old; ledger = ledger.old }) }
+    ensures { HasPushedText terms.now.limits.stack (text (instruction op (Line line.now)))
+        (record { entries = stack.old; ledger = ledger.old })
+        (record { entries = stack.new; ledger = ledger.new }) result }
 {
     let inst = Inst::known(op, Arg::Line(line));
     let text = text_spelled(terms.alloc, &inst)?;
@@ -115,16 +94,10 @@ pub fn make_text(
     inst: &Inst<'_>,
 ) -> Result<(), Reason>
     requires spells { IsSpelled (instruction_of inst.now).arg }
-    requires sees { Sees ledger.old.texts stack.old (seen ledger.old.texts stack.old) }
-    ensures ok { OnOk result (seen ledger.new.texts stack.new
-        ≡ Item (Some (Text (text (instruction_of inst.now)))) ∷ seen ledger.old.texts stack.old) }
-    ensures sees { OnOk result (Sees ledger.new.texts stack.new (seen ledger.new.texts stack.new)) }
-    ensures grows { OnOk result (HasMoreTexts ledger.old.texts ledger.new.texts) }
-    ensures count { OnOk result (length ledger.new.texts ≡ suc (length ledger.old.texts)) }
-    ensures asked { OnOk result (ledger.new.asked ≡ ledger.old.asked) }
-    ensures room { OnOk result (length stack.new ≤ terms.now.limits.stack) }
-    ensures err { IfErr result (λ r. (stack.new ≡ stack.old) × (ledger.new ≡ ledger.old)
-        × WantsRoom terms.now.limits.stack (length stack.old) r) }
+    requires sees { AreSeen (record { entries = stack.old; ledger = ledger.old }) }
+    ensures { HasPushedText terms.now.limits.stack (text (instruction_of inst.now))
+        (record { entries = stack.old; ledger = ledger.old })
+        (record { entries = stack.new; ledger = ledger.new }) result }
 {
     match inst.arg() {
         Arg::Counted(payload) if holds_utf8(inst.op()) => {

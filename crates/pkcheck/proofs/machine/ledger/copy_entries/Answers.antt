@@ -11,12 +11,12 @@ copy_entry-requires-clause-entry c =
 
 pub returns-in_default-clause-grows : goal.returns-in_default-clause-grows
 returns-in_default-clause-grows c = grows_more c.args.written.now c.entries.written
-    c.copy_entry.new.written c.entries.invariant.grows c.copy_entry.ensures.grows
+    c.copy_entry.new.written c.entries.invariant.grows c.copy_entry.ensures.kept.grows
 
 pub entries-preserved : goal.entries-preserved
 entries-preserved c =
     rw c.in_ok-push.ensures.items (copied_more c.args.texts.now c.args.names.now c.args.entries.now
     c.args.written.now c.entries.written c.copy_entry.new.written c.entries.copies.items
     c.copy_entry.new.copies.items c.entries.copied.items c.entries.entry-index entry.Unknown
-    c.in-Ok.copy c.entries.invariant c.entries-test.true c.copy_entry.ensures.grows
-    c.copy_entry.ensures.count c.copy_entry.ensures.copies c.in-Ok.ensures.ok)
+    c.in-Ok.copy c.entries.invariant c.entries-test.true c.copy_entry.ensures.kept
+    c.in-Ok.ensures.ok)

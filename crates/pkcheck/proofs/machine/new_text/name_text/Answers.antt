@@ -1,20 +1,22 @@
+use Rattle.std.proofs.Common.{[], ◌∷◌, arith, length-append, refl}
 use Rattle.pkcheck.proofs.Resolving.{text_seen, text_sees}
 use Rattle.pkcheck.proofs.machine.new_text.name_text.Goals as goal
 
-pub returns-clause-ok : goal.returns-clause-ok
-returns-clause-ok c = rw (
-  c.in-Ok-add_text.ensures.ok,
-  c.in_ok-push.ensures.ok,
-  c.in-Ok.ensures.1,
-  c.texts.ensures,
-)
-    (text_seen c.args.ledger.now.texts c.args.text.now c.args.stack.now c.requires.sees)
-
-pub returns-clause-sees : goal.returns-clause-sees
-returns-clause-sees c = rw (
-  c.in-Ok-add_text.ensures.ok,
-  c.in_ok-push.ensures.ok,
-  c.in-Ok.ensures.1,
-  c.texts.ensures,
-)
-    (text_sees c.args.ledger.now.texts c.args.text.now c.args.stack.now c.requires.sees)
+pub returns : goal.returns
+returns c =
+    let texts = c.args.ledger.now.texts in
+    let text = c.args.text.now in
+    rw (
+      c.in-Ok-add_text.ensures.ok,
+      c.in_ok-push.ensures.ok,
+      c.in-Ok.ensures.1,
+      c.texts.ensures,
+    ) (record {
+      ok = text_seen texts text c.args.stack.now c.requires.sees;
+      sees = text_sees texts text c.args.stack.now c.requires.sees;
+      grows = record { more = text ∷ []; is = refl };
+      count = omega (arith, length-append texts (text ∷ []));
+      asked = refl;
+      room = rw c.in_ok-push.ensures.ok at c.in_ok-push.ensures.room;
+      err = tt;
+    })
