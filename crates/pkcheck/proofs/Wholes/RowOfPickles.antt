@@ -388,3 +388,7 @@ pub count_on : (loading : Loading) (policy : Policy) (limits : Bounds) (old new 
     → (y : Reason) (b : ℕ) (here : Sight) → x ≡ y → b ≡ old.failures → new ≡ here
     → CountsAt y b here.failures → CountsAt x old.failures new.failures
 count_on loading policy limits old new n a x u r y b here e f g h = rw (e, ← f, g) h
+
+pub count_told : (x y : Reason) (before n m : ℕ) → x ≡ y → n ≡ m → CountsAt y before m
+    → CountsAt x before n
+count_told x y before n m e f h = rw (e, f) h

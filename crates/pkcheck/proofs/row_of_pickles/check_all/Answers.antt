@@ -18,7 +18,7 @@ use Rattle.pkcheck.proofs.Wholes.RowOfPickles.{all_listed, begins_first, count_o
 use Rattle.pkcheck.proofs.Wholes.RowOfPickles.{none_before, none_failed, pickle_more}
 use Rattle.pkcheck.proofs.Wholes.RowOfPickles.{refused_behind, row_accepted, row_begins}
 use Rattle.pkcheck.proofs.Wholes.RowOfPickles.{row_refused, row_took, some_byte, this, told}
-use Rattle.pkcheck.proofs.Wholes.RowOfPickles.{told_yes}
+use Rattle.pkcheck.proofs.Wholes.RowOfPickles.{count_told, told_yes}
 use Rattle.pkcheck.proofs.Wholes.WorkLeft.{less_to_do}
 use Rattle.pkcheck.proofs.Wholes.AnotherPickle.{again_false, again_true, behind_counts}
 use Rattle.pkcheck.proofs.Wholes.AnotherPickle.{behind_is_not_cut, refused_from, some_ahead}
@@ -49,22 +49,8 @@ instructions-init g c =
       );
     }
 
-pub returns-in-Err-clause-answer : goal.returns-in-Err-clause-answer
-returns-in-Err-clause-answer g c =
-    let r = c.instructions.invariant.row in
-    let inst = c.in-Some.inst in
-    let shown = c.in-Some.ensures.next in
-    let over = c.advance.ensures.passes (instruction_of inst) shown c.len-length.ensures in
-    let took = took_peeked _ _ _ r.4 _ r.6.reads r.6.read_limits _ c.heads.ensures.peeked
-    c.taken-at.result _ inst c.taken-at.ensures shown over in
-    let e = c.refused.ensures in
-    told _ _ _ _ _ _ _ _ _ _ _ _ _ _ refl e.pickle e.no.place e.no.why e.no.pair
-    (row_took c.rows.ensures.taking _ _ _ _ _ _ _ _ _ r.3 r.4 r.5 _ _ _ r.6 _ c.taken-at.result
-    (instruction_of inst) _ took (seen_so _ _ _ c.advance.ensures.none (search rules))
-    (longest c.args.policy.now) _ _ (λ is. r.7) c.in-Err.ensures.err).0
-
-pub returns-in-Err-clause-count : goal.returns-in-Err-clause-count
-returns-in-Err-clause-count g c =
+pub returns-in-Err : goal.returns-in-Err
+returns-in-Err g c =
     let r = c.instructions.invariant.row in
     let inst = c.in-Some.inst in
     let shown = c.in-Some.ensures.next in
@@ -72,11 +58,16 @@ returns-in-Err-clause-count g c =
     let took = took_peeked _ _ _ r.4 _ r.6.reads r.6.read_limits _ c.heads.ensures.peeked
     c.taken-at.result _ inst c.taken-at.ensures shown over in
     let now = sight g.R.Source.left g.R.Source.failures c.advance.new.self.source.now in
-    count_on _ _ _ _ _ _ _ _ _ (returns-in-Err-clause-answer g c) _ _ now c.refused.ensures.no.why
-    refl (search rules) (row_took c.rows.ensures.taking _ _ _ _ _ _ _ _ _ r.3 r.4 r.5 _ _ _
-    r.6 _ c.taken-at.result (instruction_of inst) now took
+    let e = c.refused.ensures in
+    let took_one = row_took c.rows.ensures.taking _ _ _ _ _ _ _ _ _ r.3 r.4 r.5 _ _ _ r.6 _
+    c.taken-at.result (instruction_of inst) now took
     (seen_so c.advance.new.self.core.ahead now now c.advance.ensures.none refl)
-    (longest c.args.policy.now) _ _ (λ is. r.7) c.in-Err.ensures.err).1
+    (longest c.args.policy.now) _ _ (λ is. r.7) c.in-Err.ensures.err in
+    record {
+      answer = told _ _ _ _ _ _ _ _ _ _ _ _ _ _ (search rules) e.pickle e.no.place e.no.why
+          e.no.pair took_one.0;
+      count = count_told _ _ _ _ _ e.no.why (search rules) took_one.1;
+    }
 
 pub instructions-preserved-in-Some : goal.instructions-preserved-in-Some
 instructions-preserved-in-Some g c =
@@ -260,67 +251,46 @@ pub returns-in-Ok-false-clause-count : goal.returns-in-Ok-false-clause-count
 returns-in-Ok-false-clause-count g c =
     (returns-in-Ok-false-clause-answer g c).bytes.count
 
-pub returns-in-Err-judge_passed-clause-answer : goal.returns-in-Err-judge_passed-clause-answer
-returns-in-Err-judge_passed-clause-answer g c =
+pub returns-in-Err-judge_passed : goal.returns-in-Err-judge_passed
+returns-in-Err-judge_passed g c =
     let k = c.next_head.follows.holds-at-none in
     let r = c.instructions.invariant.row in
     let w = took_passed _ _ _ r.4 _ r.6.reads r.6.read_limits _ c.heads.ensures.passed
     c.next_head.result c.in-Ok-Passed.at c.in-Ok-Passed.op c.in-Ok-Passed.field-0-2 k.1
     (cc (c.in-Ok-Passed.is, c.in-Ok-Passed.field-0-is)) in
     let i : Instruction = instruction c.in-Ok-Passed.op (Counted w.payload) in
+    let lender = c.next_head.follows.lender-at-none in
+    let now = sight g.R.Source.left g.R.Source.failures lender.source.now in
     let e = c.refused-in-Err-judge_passed.ensures in
-    told _ _ _ _ _ _ _ _ _ _ _ _ _ _ refl e.pickle e.no.place e.no.why e.no.pair
-    (row_took c.rows.ensures.taking _ _ _ _ _ _ _ _ _ r.3 r.4 r.5 _ _ _ r.6 _ c.in-Ok-Passed.at i
-    _ w.took (seen_so _ _ _ k.3 (search rules)) (longest c.args.policy.now) _ _ (λ is. r.7)
-    (c.in-Err-judge_passed.ensures.err i
-    (long_passed _ _ _ _ _ _ _ _ _ w _ c.taken.ensures))).0
+    let took_one = row_took c.rows.ensures.taking _ _ _ _ _ _ _ _ _ r.3 r.4 r.5 _ _ _ r.6 _
+    c.in-Ok-Passed.at i now w.took (seen_so lender.core.ahead now now k.3 refl)
+    (longest c.args.policy.now) _ _ (λ is. r.7) (c.in-Err-judge_passed.ensures.err i
+    (long_passed _ _ _ _ _ _ _ _ _ w _ c.taken.ensures)) in
+    record {
+      answer = told _ _ _ _ _ _ _ _ _ _ _ _ _ _ (search rules) e.pickle e.no.place e.no.why
+          e.no.pair took_one.0;
+      count = count_told _ _ _ _ _ e.no.why (search rules) took_one.1;
+    }
 
-pub returns-in-Err-judge_passed-clause-count : goal.returns-in-Err-judge_passed-clause-count
-returns-in-Err-judge_passed-clause-count g c =
-    let k = c.next_head.follows.holds-at-none in
-    let r = c.instructions.invariant.row in
-    let w = took_passed _ _ _ r.4 _ r.6.reads r.6.read_limits _ c.heads.ensures.passed
-    c.next_head.result c.in-Ok-Passed.at c.in-Ok-Passed.op c.in-Ok-Passed.field-0-2 k.1
-    (cc (c.in-Ok-Passed.is, c.in-Ok-Passed.field-0-is)) in
-    let i : Instruction = instruction c.in-Ok-Passed.op (Counted w.payload) in
-    let lender = c.next_head.follows.lender-at-none in
-    let now = sight g.R.Source.left g.R.Source.failures lender.source.now in
-    count_on _ _ _ _ _ _ _ _ _ (returns-in-Err-judge_passed-clause-answer g c) _ _ now
-    c.refused-in-Err-judge_passed.ensures.no.why refl (search rules)
-    (row_took c.rows.ensures.taking _ _ _ _ _ _ _ _ _ r.3 r.4 r.5 _ _ _ r.6 _ c.in-Ok-Passed.at i
-    now w.took
-    (seen_so lender.core.ahead now now k.3 refl) (longest c.args.policy.now) _ _ (λ is. r.7)
-    (c.in-Err-judge_passed.ensures.err i
-    (long_passed _ _ _ _ _ _ _ _ _ w _ c.taken.ensures))).1
-
-pub returns-in-Err-judge-clause-answer : goal.returns-in-Err-judge-clause-answer
-returns-in-Err-judge-clause-answer g c =
+pub returns-in-Err-judge : goal.returns-in-Err-judge
+returns-in-Err-judge g c =
     let k = c.next_head.follows.holds-at-none in
     let r = c.instructions.invariant.row in
     let took = took_head _ _ _ r.4 _ r.6.reads r.6.read_limits _ c.heads.ensures.given
     c.next_head.result c.in-Ok-Inst.at c.in-Ok-Inst.inst k.1
     (cc (c.in-Ok-Inst.is, c.in-Ok-Inst.field-0-is)) in
+    let lender = c.next_head.follows.lender-at-none in
+    let now = sight g.R.Source.left g.R.Source.failures lender.source.now in
     let e = c.refused-in-Err-judge.ensures in
-    told _ _ _ _ _ _ _ _ _ _ _ _ _ _ refl e.pickle e.no.place e.no.why e.no.pair
-    (row_took c.rows.ensures.taking _ _ _ _ _ _ _ _ _ r.3 r.4 r.5 _ _ _ r.6 _ c.in-Ok-Inst.at
-    (instruction_of c.in-Ok-Inst.inst) _ took (seen_so _ _ _ k.3 (search rules))
-    (longest c.args.policy.now) _ _ (λ is. r.7) c.in-Err-judge.ensures.err).0
-
-pub returns-in-Err-judge-clause-count : goal.returns-in-Err-judge-clause-count
-returns-in-Err-judge-clause-count g c =
-    let k = c.next_head.follows.holds-at-none in
-    let r = c.instructions.invariant.row in
-    let took = took_head _ _ _ r.4 _ r.6.reads r.6.read_limits _ c.heads.ensures.given
-    c.next_head.result c.in-Ok-Inst.at c.in-Ok-Inst.inst k.1
-    (cc (c.in-Ok-Inst.is, c.in-Ok-Inst.field-0-is)) in
-    let lender = c.next_head.follows.lender-at-none in
-    let now = sight g.R.Source.left g.R.Source.failures lender.source.now in
-    count_on _ _ _ _ _ _ _ _ _ (returns-in-Err-judge-clause-answer g c) _ _ now
-    c.refused-in-Err-judge.ensures.no.why refl (search rules)
-    (row_took c.rows.ensures.taking _ _ _ _ _ _ _ _ _ r.3 r.4 r.5 _ _ _ r.6 _ c.in-Ok-Inst.at
-    (instruction_of c.in-Ok-Inst.inst) now took
-    (seen_so lender.core.ahead now now k.3 refl) (longest c.args.policy.now) _ _ (λ is. r.7)
-    c.in-Err-judge.ensures.err).1
+    let took_one = row_took c.rows.ensures.taking _ _ _ _ _ _ _ _ _ r.3 r.4 r.5 _ _ _ r.6 _
+    c.in-Ok-Inst.at (instruction_of c.in-Ok-Inst.inst) now took
+    (seen_so lender.core.ahead now now k.3 refl)
+    (longest c.args.policy.now) _ _ (λ is. r.7) c.in-Err-judge.ensures.err in
+    record {
+      answer = told _ _ _ _ _ _ _ _ _ _ _ _ _ _ (search rules) e.pickle e.no.place e.no.why
+          e.no.pair took_one.0;
+      count = count_told _ _ _ _ _ e.no.why (search rules) took_one.1;
+    }
 
 pub instructions-preserved-in_default-judge_passed :
     goal.instructions-preserved-in_default-judge_passed
