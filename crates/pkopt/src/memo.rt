@@ -2,7 +2,6 @@
 
 ghost use Rattle.std.specs.Prelude.{◌≡◌, ◌<◌, ◌+◌, ◌^◌, [], IfNone, IfOk, IfSome, OnOk, Some};
 ghost use Rattle.std.specs.Prelude.{length, slice_index_or};
-ghost use Rattle.std.specs.Bool.{OnTrue};
 ghost use Rattle.pkcheck.specs.Shape.{recalled, stored};
 ghost use Rattle.pkopt.specs.Private.Memories.{Notes, first_writes, last_held, numbers_held};
 ghost use Rattle.pkopt.specs.Private.Memories.{row_of};
@@ -49,6 +48,7 @@ pub(crate) struct Memo {
     /// The number of the first write.
     first: usize,
     /// How many writes there are, as long as each has the number after the one before; then 0.
+    /// Until then nothing is listed, and there are no other numbers.
     in_order: u32,
     /// From then on, the last writes of the first number and the following ones.
     listed: Vec<u32>,
@@ -148,15 +148,6 @@ impl Memo {
         Entry::new(found(&self.rest, number))
     }
 
-    /// Whether all writes before this one are in order.
-    #[inline(always)]
-    fn goes_on(&self, write: u32) -> bool
-        ensures { OnTrue result ((length self.now.listed.items ≡ 0)
-            × (length self.now.rest.entries ≡ 0) × (write ≡ self.now.in_order)) }
-    {
-        write == self.in_order && self.listed.is_empty() && self.rest.is_empty()
-    }
-
     /// Counts one more write that is in order.
     #[inline(always)]
     fn go_on(&mut self) -> Result<(), AllocError>
@@ -178,7 +169,7 @@ impl Memo {
         if number < self.first || number - self.first != self.in_order as usize {
             return self.note_slowly(number, write);
         }
-        if !self.goes_on(write) {
+        if self.in_order == 0 {
             return self.note_slowly(number, write);
         }
         self.go_on()
@@ -189,7 +180,7 @@ impl Memo {
     pub(crate) fn note_next(&mut self, write: u32) -> Result<(), AllocError>
         ensures { OnOk result (Notes (numbers_held self.old) write self.old self.new) }
     {
-        if self.first != 0 || !self.goes_on(write) {
+        if self.first != 0 || self.in_order == 0 {
             let number = self.len();
             return self.note_slowly(number, write);
         }

@@ -10,13 +10,12 @@ use Rattle.pkcheck.specs.Heard.{Heard, heard, AreHeardBehind}
 use Rattle.pkopt.specs.declared.place.Part.{Part}
 use Rattle.pkopt.specs.declared.place.Place.{Place}
 use Rattle.pkopt.specs.declared.trace.Trace.{Trace}
-use Rattle.pkopt.specs.Private.Memories.{row_of}
 use Rattle.pkopt.specs.Private.Passes.{IsNewTrace, EndsSo, FollowsWrites, Hears, Marks, NotesStep}
 use Rattle.pkopt.specs.Private.Passes.{Tracks}
 use Rattle.pkopt.specs.Private.Places.{end_behind, stays_as_is, place_of, places_behind}
 use Rattle.pkopt.specs.Private.Places.{places_from, places_told, told}
 use Rattle.pkopt.specs.Writers.{Writes, read_by, sources, after_all}
-use Rattle.pkopt.proofs.MemoWrites.Noted.{none_remembered}
+use Rattle.pkopt.proofs.MemoWrites.Rows.{holds_none}
 use Rattle.pkopt.proofs.SlimForm.PlainInstructions.{plain_is}
 use Rattle.pkopt.proofs.SlimForm.Unchanged.{spellings-append}
 
@@ -85,8 +84,7 @@ heard_tracks x y p hs first each h =
     let nothing : EndsSo x = first.end ∙ ap (end_behind 0) (sym first.parts) in
     let s = h []
     (record {
-      holds = none_remembered x.memo.first (row_of x.memo) x.memo.rest.entries first.row
-          first.rest;
+      holds = holds_none x.memo first.row first.rest;
       count = first.writes;
     }) nothing in
     let all = heard_told [] p hs each in

@@ -51,8 +51,8 @@ module _ {A E : Type 0} (o : Op) (old new : Trace) (n : ℕ) where
       → OnOk r (new.writes ≡ old.writes + 1) → OnOk r (Notes m old.writes old.memo new.memo)
       → new.sources.items ≡ old.sources.items → OnOk r (NotesStep o n old new)
   next_step m (Ok a) e is count noted same = λ ws h.
-      let behind : m ∷ ws ≡ wrote (effect_of o) n ws = ap (λ n. n ∷ ws) (is ∙ sym h.holds.count)
-      ∙ sym (ap (λ e. wrote e n ws) e) in
+      let behind : m ∷ ws ≡ wrote (effect_of o) n ws =
+      ap (λ n. n ∷ ws) (is ∙ sym h.holds.last.count) ∙ sym (ap (λ e. wrote e n ws) e) in
       let none : [] ≡ read_by (effect_of o) n ws = sym (ap (λ e. read_by e n ws) e) in
       let before = h.count in (
         subst (λ (x : Writes). FollowsWrites x new) behind
@@ -76,7 +76,7 @@ module _ {A E : Type 0} (o : Op) (old new : Trace) (n : ℕ) where
               holds = subst (λ (m : Memo). HoldsWrites ws m) (sym kept) h.holds;
               count = count ∙ h.count;
             }),
-        grown ∙ ap (λ (o : Option ℕ). old.sources.items ++ o ∷ []) (sym (h.holds.found n))
+        grown ∙ ap (λ (o : Option ℕ). old.sources.items ++ o ∷ []) (sym (h.holds.last.found n))
             ∙ ap (λ (l : List (Option ℕ)). old.sources.items ++ l) one,
       )
   fetch_step (Err a) e count kept grown = tt

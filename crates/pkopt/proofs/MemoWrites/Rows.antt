@@ -8,9 +8,9 @@ use Rattle.std.proofs.lemmas.List.{get_or_append_left, get_or_at}
 use Rattle.std.proofs.lemmas.Bool.Decides.{eqb_tells}
 use Rattle.pkopt.specs.declared.memo.Memo.{Memo}
 use Rattle.pkopt.specs.Private.Memories.{HoldsWrites, Notes, Remembers, first_writes, numbers_held}
-use Rattle.pkopt.specs.Private.Memories.{row_by}
+use Rattle.pkopt.specs.Private.Memories.{row_by, row_of}
 use Rattle.pkopt.specs.Writers.{Writes}
-use Rattle.pkopt.proofs.MemoWrites.Noted.{note_behind_row}
+use Rattle.pkopt.proofs.MemoWrites.Noted.{begin_at, none_remembered, note_behind_row}
 
 pub first_count : (n : ℕ) → length (first_writes n) ≡ n
 first_count zero = refl
@@ -60,34 +60,93 @@ none_in : {A : Type 0} (xs : List A) → length xs ≡ 0 → xs ≡ []
 none_in [] e = refl
 none_in (x ∷ xs) e = absurd (omega (arith, e))
 
+-- a row of nothing isn't in order
+unordered : (n : ℕ) (listed : List ℕ) → length (row_by n listed) ≡ 0 → n ≡ 0
+unordered zero listed e = refl
+unordered (suc n) listed e =
+    let c = ap length (row_in_order (suc n) listed (λ q. omega (arith, q))) ∙ first_count (suc n) in
+    omega (arith, e, c)
+
 -- it is noted
 noted_in_order : (ws : Writes) (first n m w number : ℕ) (listed : List ℕ)
-    (rest : List (ℕ × ℕ)) → length listed ≡ 0 → length rest ≡ 0 → first ≤ number
+    (rest : List (ℕ × ℕ)) → listed ≡ [] → rest ≡ [] → first ≤ number
     → number - first ≡ n → w ≡ n → m ≡ n + 1 → w ≡ length ws
     → Remembers ws first (row_by n listed) rest
     → Remembers (number ∷ ws) first (row_by m listed) rest
-noted_in_order ws first n m w number listed rest unlisted alone low place same more is h =
-    let none = none_in listed unlisted in
-    let size = row_count n listed none in
+noted_in_order ws first n m w number listed rest none alone low place same more is h =
     subst (λ (l : List ℕ). Remembers (number ∷ ws) first l rest)
     (ap (λ w. row_by n listed ++ w ∷ []) same ∙ sym (row_more n m listed listed none more))
-    (note_behind_row ws first (row_by n listed) rest number w is h (none_in rest alone) low
-    (place ∙ sym size))
+    (note_behind_row ws first (row_by n listed) rest number w is h alone low
+    (place ∙ sym (row_count n listed none)))
+
+goes_on_from : (ws : Writes) (old new : Memo) (number w : ℕ) → old.in_order ≢ 0 → w ≡ length ws
+    → HoldsWrites ws old → old.first ≤ number → number - old.first ≡ old.in_order
+    → new.in_order ≡ old.in_order + 1 → new ≡ record old { in_order = new.in_order }
+    → HoldsWrites (number ∷ ws) new
+goes_on_from ws old new number w some is h low place more same =
+    let all = h.ordered some in
+    let count = all.2 in
+    subst (HoldsWrites (number ∷ ws)) (sym same)
+    (record {
+      last = noted_in_order ws old.first old.in_order new.in_order w number old.listed.items
+          old.rest.entries all.0 all.1 low place (is ∙ sym all.2) more is h.last;
+      ordered = λ _. (all.0, all.1, omega (arith, count, more));
+    })
 
 pub goes_on : {A E : Type 0} (r : Result A E) (old new : Memo) (number w : ℕ)
-    → (length old.listed.items ≡ 0) × (length old.rest.entries ≡ 0) × (w ≡ old.in_order)
-    → old.first ≤ number → number - old.first ≡ old.in_order
+    → old.in_order ≢ 0 → old.first ≤ number → number - old.first ≡ old.in_order
     → OnOk r (new.in_order ≡ old.in_order + 1)
     → new ≡ record old { in_order = new.in_order } → OnOk r (Notes number w old new)
-goes_on (Ok a) old new number w all low place more same = λ ws is h.
-    subst (HoldsWrites (number ∷ ws)) (sym same)
-    (noted_in_order ws old.first old.in_order new.in_order w number old.listed.items
-    old.rest.entries all.0 all.1 low place all.2 more is h)
-goes_on (Err e) old new number w all low place more same = tt
+goes_on (Ok a) old new number w some low place more same = λ ws is h.
+    goes_on_from ws old new number w some is h low place more same
+goes_on (Err e) old new number w some low place more same = tt
 
--- the number of memo entries, where the first number is 0
-pub next_number : (m : Memo) → length m.listed.items ≡ 0 → length m.rest.entries ≡ 0
-    → m.first ≡ 0 → (m.first ≤ numbers_held m) × (numbers_held m - m.first ≡ m.in_order)
-next_number m unlisted alone first =
-    let size = row_count m.in_order m.listed.items (none_in m.listed.items unlisted) in
-    (omega (arith, first), omega (arith, first, size, alone))
+-- likewise under the number of memo entries, where the first number is 0
+pub goes_on_next : {A E : Type 0} (r : Result A E) (old new : Memo) (w : ℕ)
+    → old.in_order ≢ 0 → old.first ≡ 0 → OnOk r (new.in_order ≡ old.in_order + 1)
+    → new ≡ record old { in_order = new.in_order }
+    → OnOk r (Notes (numbers_held old) w old new)
+goes_on_next (Ok a) old new w some first more same = λ ws is h.
+    let all = h.ordered some in
+    let size = row_count old.in_order old.listed.items all.0 in
+    let alone = ap length all.1 in
+    goes_on_from ws old new (numbers_held old) w some is h (omega (arith, first))
+    (omega (arith, first, size, alone)) more same
+goes_on_next (Err e) old new w some first more same = tt
+
+-- the first write
+pub begins : (old new : Memo) (number w : ℕ) → numbers_held old ≡ 0 → w ≡ 0
+    → new ≡ record old { first = number; in_order = 1 } → Notes number w old new
+begins old new number w empty start same = λ ws is h.
+    let no_row : length (row_of old) ≡ 0 = omega (arith, empty) in
+    let no_rest = none_in old.rest.entries (omega (arith, empty)) in
+    let listed = sym (row_listed old.in_order old.listed.items
+    (unordered old.in_order old.listed.items no_row)) ∙ none_in (row_of old) no_row in
+    let count : 1 ≡ length (number ∷ ws) = omega (arith, is, start) in
+    subst (HoldsWrites (number ∷ ws)) (sym same)
+    (record {
+      last = subst (λ (l : List ℕ). Remembers (number ∷ ws) number l old.rest.entries)
+          (ap (λ (l : List ℕ). l ++ w ∷ []) (none_in (row_of old) no_row)
+          ∙ ap (λ (n : ℕ). n ∷ []) start)
+          (note_behind_row ws number (row_of old) old.rest.entries number w is
+          (begin_at ws old.first (row_of old) old.rest.entries number
+          (none_in (row_of old) no_row) no_rest h.last) no_rest (omega arith)
+          (omega (arith, no_row)));
+      ordered = λ _. (listed, no_rest, count);
+    })
+
+-- once they aren't in order
+pub noted_listed : {A E : Type 0} (r : Result A E) (old new : Memo) (n w : ℕ) → new.in_order ≡ 0
+    → OnOk r ((ws : Writes) → w ≡ length ws
+    → Remembers ws old.first (row_of old) old.rest.entries
+    → Remembers (n ∷ ws) new.first (row_of new) new.rest.entries) → OnOk r (Notes n w old new)
+noted_listed (Ok a) old new n w listed noted = λ ws is h.
+    record { last = noted ws is h.last; ordered = λ some. absurd (some listed) }
+noted_listed (Err e) old new n w listed noted = tt
+
+-- before the first write
+pub holds_none : (m : Memo) → row_of m ≡ [] → m.rest.entries ≡ [] → HoldsWrites [] m
+holds_none m no_row no_rest = record {
+  last = none_remembered m.first (row_of m) m.rest.entries no_row no_rest;
+  ordered = λ some. absurd (some (unordered m.in_order m.listed.items (ap length no_row)));
+}

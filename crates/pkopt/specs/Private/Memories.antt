@@ -1,6 +1,6 @@
 -- The memo that the first pass keeps, compared with the writes so far.
 use Rattle.std.specs.Prelude.{◌≡◌, ℕ, zero, suc, ◌+◌, ◌-◌, ◌<◌, ◌≤◌, cond, ltb, nat_eq, List, []}
-use Rattle.std.specs.Prelude.{◌∷◌, ◌++◌, length, Option, Some, None, slice_index_or}
+use Rattle.std.specs.Prelude.{◌∷◌, ◌++◌, ◌≢◌, length, Option, Some, None, slice_index_or}
 use Rattle.pkcheck.specs.Shape.{recalled}
 use Rattle.pkopt.specs.declared.memo.Memo.{Memo}
 use Rattle.pkopt.specs.Private.Traces.{Rising}
@@ -34,8 +34,11 @@ pub record Remembers (ws : Writes) (first : ℕ) (row : List ℕ) (rest : List (
   pub apart : (n : ℕ) → first ≤ n → n < first + length row → recalled n rest ≡ None
 
 -- the memo holds the last write of each number
-abbrev pub HoldsWrites : Writes → Memo → Type 0
-HoldsWrites ws m = Remembers ws m.first (row_of m) m.rest.entries
+pub record HoldsWrites (ws : Writes) (m : Memo) : Type 0 where
+  pub last : Remembers ws m.first (row_of m) m.rest.entries
+  -- while the writes are in order, they are counted, and nothing is listed or outside the row
+  pub ordered : m.in_order ≢ 0 →
+      (m.listed.items ≡ []) × (m.rest.entries ≡ []) × (m.in_order ≡ length ws)
 
 -- the last write that a memo holds of a number
 abbrev pub last_held : Memo → ℕ → Option ℕ

@@ -1,13 +1,11 @@
-use Rattle.std.proofs.Common.{◌≡◌, ◌-◌, ◌≤◌, length, rules}
+use Rattle.std.proofs.Common.{◌≡◌, ◌-◌, ◌≤◌, rules}
 use Rattle.pkopt.proofs.MemoWrites.Rows.{goes_on}
 use Rattle.pkopt.proofs.memo.Memo.note.Goals as goal
 
 pub returns : goal.returns
 returns c =
     let m = c.args.self.now in
-    let all : (length m.listed.items ≡ 0) × (length m.rest.entries ≡ 0)
-    × (c.args.write ≡ m.in_order) = search rules in
     let low : m.first ≤ c.args.number = search rules in
     let place : c.args.number - m.first ≡ m.in_order = search rules in
-    goes_on c.go_on.result m c.go_on.new.self c.args.number c.args.write all low place
-    c.go_on.ensures.in_order c.go_on.ensures.same
+    goes_on c.go_on.result m c.go_on.new.self c.args.number c.args.write c.if-self-eq0.false low
+    place c.go_on.ensures.in_order c.go_on.ensures.same
