@@ -36,16 +36,14 @@ fn numbered(alloc: Global, kept: &[bool], limit: u32) -> Result<Vec<Entry>, Allo
     ensures { IfOk result (λ numbers. (vs : List (Option ℕ)) (writes : ℕ) →
         AreKept vs writes kept.now → AreNumbers vs writes limit numbers.items) }
 {
-    let mut numbers = Vec::new(alloc);
+    let none = Entry::new(None)?;
+    let mut numbers = vec![in alloc; none; kept.len()]?;
     let mut next: u32 = 0;
-    for stays in kept {
-        if !*stays {
-            let none = Entry::new(None)?;
-            numbers.push(none)?;
+    for write in 0..kept.len() {
+        if !kept[write] {
             continue;
         }
-        let number = Entry::new(Some(next))?;
-        numbers.push(number)?;
+        numbers[write] = Entry::new(Some(next))?;
         next = number_after(next, limit);
     }
     Ok(numbers)

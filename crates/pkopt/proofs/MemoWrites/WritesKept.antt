@@ -1,10 +1,12 @@
 -- Which writes are read, and their new numbers, found read by read and write by write.
 use Rattle.std.proofs.Common.{◌≡◌, ℕ, suc, ◌<◌, ◌≤◌, Bool, true, false, cond, ◌||◌, List, [], ◌∷◌}
 use Rattle.std.proofs.Common.{◌++◌, length, take, get_or, set, Option, Some, None, Result, Ok, Err}
-use Rattle.std.proofs.Common.{inl, inr, refl, sym, ap, ◌∙◌, arith}
+use Rattle.std.proofs.Common.{inl, inr, refl, sym, ap, ◌∙◌, arith, ltb, replicate}
 use Rattle.std.specs.Prelude.{min, IfOk}
-use Rattle.std.proofs.lemmas.List.{get_or-set_other, get_or-set_same, get_or_append_left}
-use Rattle.std.proofs.Math.Seq.{take-suc, get_or-append_seam}
+use Rattle.std.proofs.lemmas.List.{get_or-set_other, get_or-set_same, get_or-replicate}
+use Rattle.std.proofs.lemmas.List.{get_or_past, length-replicate}
+use Rattle.std.proofs.lemmas.Bool.{ltb-true, ltb-false}
+use Rattle.std.proofs.Math.Seq.{take-suc}
 use Rattle.std.proofs.lemmas.Bool.Decides.{eqb_tells}
 use Rattle.pkopt.specs.Writers.{is_this, is_read, new_number}
 use Rattle.pkopt.proofs.MemoWrites.NewNumbers.{new_step, tells_eq}
@@ -58,12 +60,13 @@ module _ (w m i : ℕ) (vs : List (Option ℕ)) (kept : List Bool) (d v : Option
     | inr q ↦ unmarked (ap (is_this w) g ∙ q.0)
   ]
 
--- the new numbers of the first k writes
+-- the new numbers of the first k writes, where the others have none yet
 pub record NumbersTo (vs : List (Option ℕ)) (k limit next : ℕ)
     (numbers : List (Option ℕ)) : Type 0 where
   pub next_is : next ≡ min (new_number vs k) limit
   pub each : (w : ℕ) → w < k → get_or numbers w None
       ≡ cond (is_read w vs) (Some (min (new_number vs w) limit)) None
+  pub others : (w : ℕ) → k ≤ w → get_or numbers w None ≡ None
 
 next_number : (vs : List (Option ℕ)) (k limit next : ℕ) (b : Bool) → is_read k vs ≡ b
     → next ≡ min (new_number vs k) limit → cond b (min (suc next) limit) next
@@ -71,32 +74,57 @@ next_number : (vs : List (Option ℕ)) (k limit next : ℕ) (b : Bool) → is_re
 next_number vs k limit next true e h = let s = new_step vs k true e in omega (arith, s, h)
 next_number vs k limit next false e h = let s = new_step vs k false e in omega (arith, s, h)
 
-number_at : (vs : List (Option ℕ)) (w k limit next : ℕ) (numbers : List (Option ℕ)) (x : Option ℕ)
-    → length numbers ≡ k → x ≡ cond (is_read k vs) (Some next) None
-    → NumbersTo vs k limit next numbers → w < suc k
-    → get_or (numbers ++ x ∷ []) w None ≡ cond (is_read w vs) (Some (min (new_number vs w) limit))
-    None
-number_at vs w k limit next numbers x len is h lt = elim (tells_eq w k) [
-  | inl q ↦ ap (λ n. get_or (numbers ++ x ∷ []) n None) (q ∙ sym len)
-      ∙ get_or-append_seam numbers x [] None ∙ is
-      ∙ ap (λ n. cond (is_read k vs) (Some n) None) h.next_is
-      ∙ ap (λ w. cond (is_read w vs) (Some (min (new_number vs w) limit)) None) (sym q)
-  | inr q ↦ get_or_append_left numbers (x ∷ []) None w (omega (arith, lt, q, len))
-      ∙ h.each w (omega (arith, lt, q))
-]
+module _ (vs : List (Option ℕ)) (k m limit next : ℕ) (numbers : List (Option ℕ)) (is : m ≡ suc k)
+    (h : NumbersTo vs k limit next numbers) where
+  abbrev given : ℕ → Bool → Option ℕ
+  given w b = cond b (Some (min (new_number vs w) limit)) None
 
--- one write more
-pub numbers_on : (vs : List (Option ℕ)) (k m limit next next' : ℕ)
-    (numbers numbers' : List (Option ℕ)) (x : Option ℕ) (b : Bool) → m ≡ suc k → length numbers ≡ k
-    → is_read k vs ≡ b → x ≡ cond b (Some next) None → next' ≡ cond b (min (suc next) limit) next
-    → numbers' ≡ numbers ++ x ∷ [] → NumbersTo vs k limit next numbers
-    → NumbersTo vs m limit next' numbers'
-numbers_on vs k m limit next next' numbers numbers' x b is len read number after grown h =
-    rw (is, grown) (record {
-      next_is = after ∙ next_number vs k limit next b read h.next_is;
-      each = λ w lt. number_at vs w k limit next numbers x len
-          (number ∙ ap (λ b. cond b (Some next) None) (sym read)) h lt;
-    })
+  -- the next write is read
+  pub number_on : (next' : ℕ) → k < length numbers → is_read k vs ≡ true
+      → next' ≡ min (suc next) limit → NumbersTo vs m limit next' (set numbers k (Some next))
+  number_on next' inside read after = record {
+    next_is = after ∙ next_number vs k limit next true read h.next_is
+        ∙ ap (λ n. min (new_number vs n) limit) (sym is);
+    each = λ w lt. elim (tells_eq w k) [
+      | inl q ↦ ap (λ n. get_or (set numbers k (Some next)) n None) q
+          ∙ get_or-set_same numbers k (Some next) None inside
+          ∙ ap (λ n. Some n) h.next_is ∙ sym (ap (given k) read)
+          ∙ sym (ap (λ n. given n (is_read n vs)) q)
+      | inr q ↦ get_or-set_other numbers k w (Some next) None q
+          ∙ h.each w (omega (arith, lt, q, is))
+    ];
+    others = λ w le. get_or-set_other numbers k w (Some next) None
+        (λ q. omega (arith, q, le, is)) ∙ h.others w (omega (arith, le, is));
+  }
+
+  -- no read reads the next write
+  pub none_on : is_read k vs ≡ false → NumbersTo vs m limit next numbers
+  none_on read = record {
+    next_is = next_number vs k limit next false read h.next_is
+        ∙ ap (λ n. min (new_number vs n) limit) (sym is);
+    each = λ w lt. elim (tells_eq w k) [
+      | inl q ↦ h.others w (omega (arith, q)) ∙ sym (ap (given k) read)
+          ∙ sym (ap (λ n. given n (is_read n vs)) q)
+      | inr q ↦ h.each w (omega (arith, lt, q, is))
+    ];
+    others = λ w le. h.others w (omega (arith, le, is));
+  }
+
+none_at : (n w : ℕ) (b : Bool) → ltb w n ≡ b
+    → get_or (replicate {A = Option ℕ} n None) w None ≡ None
+none_at n w true e = get_or-replicate n w None None (ltb-true w n e)
+none_at n w false e = let size = length-replicate {A = Option ℕ} n None in
+    let far = ltb-false w n e in
+    get_or_past (replicate {A = Option ℕ} n None) w None (omega (arith, size, far))
+
+-- no write has one yet
+pub none_numbered : (vs : List (Option ℕ)) (count limit : ℕ)
+    → NumbersTo vs 0 limit 0 (replicate count None)
+none_numbered vs count limit = record {
+  next_is = omega arith;
+  each = λ w lt. absurd (omega (arith, lt));
+  others = λ w le. none_at count w (ltb w count) refl;
+}
 
 pub after_within : (b : Bool) (next limit next' : ℕ) → next' ≡ cond b (min (suc next) limit) next
     → next ≤ limit → next' ≤ limit

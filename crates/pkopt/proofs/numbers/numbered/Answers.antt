@@ -1,59 +1,63 @@
-use Rattle.std.proofs.Common.{◌≡◌, arith, refl, rules, sym, ap, length, length-append, get_or, ◌+◌}
-use Rattle.std.proofs.Common.{◌∷◌, ◌++◌, ◌∙◌, [], ℕ, Option, None, Some, true, false}
-use Rattle.pkopt.proofs.MemoWrites.WritesKept.{numbers_on, after_within}
+use Rattle.std.proofs.Common.{◌≡◌, ◌+◌, ◌∙◌, arith, rules, sym, ap, subst, true, false, length}
+use Rattle.std.proofs.Common.{None, set, Option, ℕ, replicate, get_or}
+use Rattle.std.proofs.lemmas.List.{length-set, length-replicate}
+use Rattle.pkopt.proofs.MemoWrites.WritesKept.{NumbersTo, number_on, none_on, none_numbered}
 use Rattle.pkopt.proofs.numbers.numbered.Goals as goal
 
-pub loop-stays-preserved : goal.loop-stays-preserved
-loop-stays-preserved c =
-    let i = c.loop-stays.invariant in
-    let k = c.loop-stays.stays-index in
-    let next = c.loop-stays.next in
-    let stays : get_or c.args.kept.now k false ≡ true = search rules in
-    let grown = c.in_ok-push-2.ensures.items ∙ ap
-    (λ (x : Option ℕ). c.loop-stays.numbers.items ++ x ∷ []) c.in_ok-number.ensures in
-    let more = ap length grown in
-    let parts = length-append c.loop-stays.numbers.items (Some next ∷ []) in
-    let count = i.count in
-    let inside = c.loop-stays-test.true in
+pub loop-write-init : goal.loop-write-init
+loop-write-init c =
+    let all : c.in_ok-numbers.numbers.items ≡ replicate (length c.args.kept.now) None =
+    search rules in
     record {
-      count = omega (arith, more, parts, count);
-      within = after_within true next c.args.limit c.number_after-next.result
-          c.number_after-next.ensures i.within;
-      each = λ vs writes kept. numbers_on vs k (k + 1) c.args.limit next
-          c.number_after-next.result c.loop-stays.numbers.items _ (Some next) true (omega arith)
-          count (sym (kept.each k (let e = kept.count in omega (arith, e, inside))) ∙ stays)
-          refl c.number_after-next.ensures grown (i.each vs writes kept);
+      count = ap length all ∙ length-replicate {A = Option ℕ} (length c.args.kept.now) None;
+      within = omega arith;
+      each = λ vs writes kept. subst (NumbersTo vs 0 c.args.limit 0) (sym all)
+          (none_numbered vs (length c.args.kept.now) c.args.limit);
     }
 
-pub loop-stays-preserved-then-not-stays : goal.loop-stays-preserved-then-not-stays
-loop-stays-preserved-then-not-stays c =
-    let i = c.loop-stays.invariant in
-    let k = c.loop-stays.stays-index in
-    let next = c.loop-stays.next in
-    let stays : get_or c.args.kept.now k false ≡ false = search rules in
-    let grown = c.in_ok-push.ensures.items ∙ ap
-    (λ (x : Option ℕ). c.loop-stays.numbers.items ++ x ∷ []) c.in_ok-none.ensures in
-    let more = ap length grown in
-    let parts = length-append c.loop-stays.numbers.items (None ∷ []) in
+pub loop-write-preserved : goal.loop-write-preserved
+loop-write-preserved c =
+    let i = c.loop-write.invariant in
+    let k = c.loop-write.write in
+    let inside = c.loop-write-test.true in
     let count = i.count in
-    let inside = c.loop-stays-test.true in
+    let stays : get_or c.args.kept.now k false ≡ true = search rules in
+    let number = c.in_ok-numbers-2.ensures in
     record {
-      count = omega (arith, more, parts, count);
+      count = length-set c.loop-write.numbers.items k c.in_ok-numbers-2.field-0 ∙ count;
+      within = let next = c.number_after-next.ensures in omega (arith, next);
+      each = λ vs writes kept. subst
+          (λ (x : Option ℕ). NumbersTo vs (k + 1) c.args.limit c.number_after-next.result
+          (set c.loop-write.numbers.items k x)) (sym number)
+          (number_on vs k (k + 1) c.args.limit c.loop-write.next c.loop-write.numbers.items
+          (omega arith) (i.each vs writes kept) c.number_after-next.result
+          (omega (arith, inside, count))
+          (sym (kept.each k (let e = kept.count in omega (arith, e, inside))) ∙ stays)
+          c.number_after-next.ensures);
+    }
+
+pub loop-write-preserved-then-not-kept-write : goal.loop-write-preserved-then-not-kept-write
+loop-write-preserved-then-not-kept-write c =
+    let i = c.loop-write.invariant in
+    let k = c.loop-write.write in
+    let inside = c.loop-write-test.true in
+    let none : get_or c.args.kept.now k false ≡ false = search rules in
+    record {
+      count = i.count;
       within = i.within;
-      each = λ vs writes kept. numbers_on vs k (k + 1) c.args.limit next next
-          c.loop-stays.numbers.items _ None false (omega arith) count
-          (sym (kept.each k (let e = kept.count in omega (arith, e, inside))) ∙ stays) refl refl
-          grown (i.each vs writes kept);
+      each = λ vs writes kept. none_on vs k (k + 1) c.args.limit c.loop-write.next
+          c.loop-write.numbers.items (omega arith) (i.each vs writes kept)
+          (sym (kept.each k (let e = kept.count in omega (arith, e, inside))) ∙ none);
     }
 
 pub returns : goal.returns
 returns c = λ vs writes k.
-    let i = c.loop-stays.invariant in
+    let i = c.loop-write.invariant in
     let count = i.count in
-    let end = c.loop-stays-test.false in
-    let le = c.loop-stays.auto.stays-index-end in
+    let end = c.loop-write-test.false in
+    let le = c.loop-write.auto.write-end in
     let e = k.count in
     record {
-      count = omega (arith, count, end, le, e);
+      count = omega (arith, count, e);
       each = λ w lt. (i.each vs writes k).each w (omega (arith, lt, end, e));
     }
