@@ -21,7 +21,6 @@ pub(crate) enum Fate {
 }
 
 /// What is known about the memo instructions of a pickle.
-#[derive(Drop)]
 pub(crate) struct Plan {
     /// For each read, the write that it reads.
     pub sources: Vec<Entry>,
@@ -29,6 +28,16 @@ pub(crate) struct Plan {
     pub numbers: Vec<Entry>,
     /// The limit on the memo: no write may have it as its number.
     pub limit: u32,
+}
+
+impl Drop for Plan {
+    fn drop(self) {
+        let Plan {
+            sources: _sources,
+            numbers: _numbers,
+            limit: _limit,
+        } = self;
+    }
 }
 
 /// The new number of a write, if it stays.

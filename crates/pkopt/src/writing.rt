@@ -68,7 +68,6 @@ fn measure_of(
 }
 
 /// The optimized form of a pickle. It borrows the pickle, and is complete only where it is written.
-#[derive(Drop)]
 pub struct Form<'a> {
     alloc: Global,
     /// The bytes that begin with the pickle.
@@ -83,6 +82,21 @@ pub struct Form<'a> {
     front: Front,
     /// The length of the form.
     len: u64,
+}
+
+impl<'a> Drop for Form<'a> {
+    fn drop(self) {
+        let Form {
+            alloc: _alloc,
+            bytes: _bytes,
+            taken: _taken,
+            parts: _parts,
+            plan: _plan,
+            made: _made,
+            front: _front,
+            len: _len,
+        } = self;
+    }
 }
 
 impl<'a> Model for Form<'a> {
