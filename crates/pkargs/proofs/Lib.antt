@@ -1,1 +1,1 @@
-pub mod Globals
+pub mod Growing

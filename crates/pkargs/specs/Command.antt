@@ -1,8 +1,10 @@
 -- The command line of the program, as `clap` defines a simple command.
 use Rattle.std.specs.Prelude.{◌≡◌, Bool, List, [], ◌∷◌, map, Option, Some, true, false}
 use Rattle.std.specs.Prelude.{codes, string_bytes}
-use Rattle.clap.specs.Words.{App, Row, Rule, Text, first_of, new_rule, subcommand_of}
+use Rattle.clap.specs.Words.{App, Row, Rule, Text, app_of, first_of, new_rule, subcommand_of}
 use Rattle.clap.specs.Simple.{new_shape}
+use Rattle.clap.specs.declared.Command.{Command}
+use Rattle.clap.specs.declared.Command.TheViews.{out-Command as fields_of}
 use Rattle.clap.specs.declared.builder.action.ArgAction.TheVariants.{SetTrue}
 use Rattle.clap.specs.declared.builder.value_parser.ValueParser.{ValueParser}
 use Rattle.clap.specs.declared.builder.value_parser.ValueParser.TheVariants.{Names}
@@ -75,7 +77,7 @@ check_app parser =
 abbrev pub optimize_app : App
 optimize_app = app_with (codes "optimize") (file_rule ∷ out_rule ∷ [])
 
--- the program without its subcommands, then with the first three of them
+-- the program without its subcommands
 abbrev pub bare_app : App
 bare_app = record {
   top = record (new_shape (codes "pktool")) {
@@ -84,18 +86,6 @@ bare_app = record {
     disable_help_subcommand = true;
   };
   subs = [];
-}
-
-abbrev pub reading_app : ValueParser → App
-reading_app parser = record {
-  top = record (new_shape (codes "pktool")) {
-    is_leaf = false;
-    has_version = true;
-    subcommand_required = true;
-    disable_help_subcommand = true;
-  };
-  subs =
-      (file_app (codes "dis")).top ∷ (check_app parser).top ∷ (file_app (codes "imports")).top ∷ [];
 }
 
 -- one level of subcommands, one of which is required
@@ -112,16 +102,18 @@ program_app parser = record {
       ∷ optimize_app.top ∷ (file_app (codes "json")).top ∷ [];
 }
 
+-- a command without an argument that its subcommands share
+abbrev pub IsLocal : App → Command → Type 0
+IsLocal app command = (app_of command ≡ app) × ((fields_of command).has_globals ≡ false)
+
 -- these are the option, the command and the program, for a parser that accepts exactly the three
 -- words
 abbrev pub IsOldRule : Rule → Type 0
 IsOldRule rule = (parser : ValueParser) × TakesOldWords parser × (rule ≡ old_rule parser)
 
-abbrev pub IsCheck : App → Type 0
-IsCheck app = (parser : ValueParser) × TakesOldWords parser × (app ≡ check_app parser)
-
-abbrev pub IsReading : App → Type 0
-IsReading app = (parser : ValueParser) × TakesOldWords parser × (app ≡ reading_app parser)
+abbrev pub IsCheck : Command → Type 0
+IsCheck command =
+    (parser : ValueParser) × TakesOldWords parser × IsLocal (check_app parser) command
 
 abbrev pub IsProgram : App → Type 0
 IsProgram app = (parser : ValueParser) × TakesOldWords parser × (app ≡ program_app parser)

@@ -1,8 +1,7 @@
 //! The command line, as `clap` is told of it.
-ghost use Rattle.std.specs.Prelude.{◌≡◌, IfOk, false};
-ghost use Rattle.clap.specs.Words.{app_of, rule_of};
-ghost use Rattle.clap.specs.declared.Command.TheViews.{out-Command as fields_of};
-ghost use Rattle.pkargs.specs.Command.{IsCheck, IsOldRule, IsProgram, IsReading, all_rule};
+ghost use Rattle.std.specs.Prelude.{◌≡◌, IfOk, IsOkAnd, false};
+ghost use Rattle.clap.specs.Words.{AddsArg, AddsSubcommand, app_of, rule_of};
+ghost use Rattle.pkargs.specs.Command.{IsCheck, IsLocal, IsOldRule, IsProgram, all_rule};
 ghost use Rattle.pkargs.specs.Command.{allow_rule, bare_app, file_app, file_rule, one_rule};
 ghost use Rattle.pkargs.specs.Command.{optimize_app, out_rule};
 
@@ -17,19 +16,26 @@ static OLD_WORDS: [&str; 3] = ["unknown", "ascii", "bytes"];
 pub fn program<'a>(alloc: Global) -> Result<Command<'a>, AllocError>
     ensures { IfOk result (λ command. IsProgram (app_of command)) }
 {
-    reading_program(alloc)?
-        .subcommand(optimize_command(alloc)?)?
-        .subcommand(file_command(alloc, "json", "Writes a plain pickle as JSON", JSON)?)
+    let dis = file_command(alloc, "dis", "Lists the instructions of a pickle", LINES);
+    let imports = file_command(alloc, "imports", "Lists what a pickle imports", IMPORTS);
+    let json = file_command(alloc, "json", "Writes a plain pickle as JSON", JSON);
+    let program = with_subcommand(Ok(bare_program(alloc)), dis);
+    let program = with_subcommand(program, check_command(alloc));
+    let program = with_subcommand(program, imports);
+    let program = with_subcommand(program, optimize_command(alloc));
+    with_subcommand(program, json)
 }
 
-/// The program with the first three of its subcommands.
-fn reading_program<'a>(alloc: Global) -> Result<Command<'a>, AllocError>
-    ensures { IfOk result (λ command. IsReading (app_of command)) }
+/// A command with one more subcommand. Errors are passed in, since each `?` in a chain of such
+/// calls would be proved with all that is dropped there.
+fn with_subcommand<'a>(
+    command: Result<Command<'a>, AllocError>,
+    more: Result<Command<'a>, AllocError>,
+) -> Result<Command<'a>, AllocError>
+    ensures { IfOk result (λ whole.
+        IsOkAnd command.entry (λ old. IsOkAnd more.entry (λ sub. AddsSubcommand old sub whole))) }
 {
-    bare_program(alloc)
-        .subcommand(file_command(alloc, "dis", "Lists the instructions of a pickle", LINES)?)?
-        .subcommand(check_command(alloc)?)?
-        .subcommand(file_command(alloc, "imports", "Lists what a pickle imports", IMPORTS)?)
+    command?.subcommand(more?)
 }
 
 /// The program without its subcommands.
@@ -51,8 +57,7 @@ fn file_command<'a>(
     about: &'a str,
     lines: &'a str,
 ) -> Result<Command<'a>, AllocError>
-    ensures shape { IfOk result (λ command. app_of command ≡ file_app name.entry.now) }
-    ensures local { IfOk result (λ command. (fields_of command).has_globals ≡ false) }
+    ensures { IfOk result (IsLocal (file_app name.entry.now)) }
 {
     Command::new(alloc, name)
         .about(about)
@@ -62,16 +67,26 @@ fn file_command<'a>(
 
 /// `check --allow LIST [--old-strings OBJECT] [--all [--one-unpickler]] FILE`.
 fn check_command<'a>(alloc: Global) -> Result<Command<'a>, AllocError>
-    ensures shape { IfOk result (λ command. IsCheck (app_of command)) }
-    ensures local { IfOk result (λ command. (fields_of command).has_globals ≡ false) }
+    ensures { IfOk result IsCheck }
 {
-    Command::new(alloc, "check")
+    let one = one_flag(alloc)?;
+    let command = Command::new(alloc, "check")
         .about("Says whether a pickle imports listed names alone, and cannot go wrong")
-        .arg(allow_option(alloc))?
-        .arg(old_option(alloc))?
-        .arg(all_flag(alloc))?
-        .arg(one_flag(alloc)?)?
-        .arg(file_argument(alloc))
+        .arg(allow_option(alloc));
+    let command = with_argument(command, old_option(alloc));
+    let command = with_argument(command, all_flag(alloc));
+    let command = with_argument(command, one);
+    with_argument(command, file_argument(alloc))
+}
+
+/// A command with one more argument.
+fn with_argument<'a>(
+    command: Result<Command<'a>, AllocError>,
+    arg: Arg<'a>,
+) -> Result<Command<'a>, AllocError>
+    ensures { IfOk result (λ whole. IsOkAnd command.entry (λ old. AddsArg old arg.entry whole)) }
+{
+    command?.arg(arg)
 }
 
 /// `--allow LIST`.
@@ -130,14 +145,13 @@ fn file_argument<'a>(alloc: Global) -> Arg<'a>
 
 /// `optimize FILE OUT`.
 fn optimize_command<'a>(alloc: Global) -> Result<Command<'a>, AllocError>
-    ensures shape { IfOk result (λ command. app_of command ≡ optimize_app) }
-    ensures local { IfOk result (λ command. (fields_of command).has_globals ≡ false) }
+    ensures { IfOk result (IsLocal optimize_app) }
 {
-    Command::new(alloc, "optimize")
+    let command = Command::new(alloc, "optimize")
         .about("Writes a pickle anew in fewer bytes")
         .after_help(OPTIMIZED)
-        .arg(file_argument(alloc))?
-        .arg(out_argument(alloc))
+        .arg(file_argument(alloc));
+    with_argument(command, out_argument(alloc))
 }
 
 /// `OUT`.

@@ -1,34 +1,46 @@
-use Rattle.std.proofs.Common.{◌∙◌, ◌||◌, ap, ap₂}
+use Rattle.std.proofs.Common.{◌∙◌, ap, codes}
 use Rattle.std.proofs.lemmas.Result.{IfOk-weaker}
-use Rattle.clap.specs.Words.{with_rule}
 use Rattle.clap.specs.Simple.{app_of_fields}
-use Rattle.pkargs.proofs.Globals.{globals}
+use Rattle.clap.specs.Words.{App, new_app, with_rule}
+use Rattle.clap.specs.declared.builder.value_parser.ValueParser.{ValueParser}
+use Rattle.pkargs.specs.Command.{IsLocal, all_rule, allow_rule, file_rule, old_rule, one_rule}
+use Rattle.pkargs.proofs.Growing.{argued, argued_if, globals}
 use Rattle.pkargs.proofs.building.check_command.Goals as goal
 
-pub returns-clause-shape : goal.returns-clause-shape
-returns-clause-shape c =
-    let named = ap app_of_fields c.about.ensures ∙ c.new.ensures.app in
-    let old = c.old_option.ensures.rule in
-    let one = c.in_ok-arg.ensures.shape c.allow_option.ensures.local
-    ∙ ap₂ with_rule named c.allow_option.ensures.rule in
-    let two = c.in_ok-arg-2.ensures.shape c.old_option.ensures.local ∙ ap₂ with_rule one old.2 in
-    let three = c.in_ok-arg-3.ensures.shape c.all_flag.ensures.local
-    ∙ ap₂ with_rule two c.all_flag.ensures.rule in
-    let four = c.in_ok-arg-4.ensures.shape c.in_ok-one_flag.ensures.local
-    ∙ ap₂ with_rule three c.in_ok-one_flag.ensures.rule in
-    IfOk-weaker c.arg-5.result _ _
-    (λ r h. (
-      old.0,
-      old.1,
-      h.shape c.file_argument.ensures.local ∙ ap₂ with_rule four c.file_argument.ensures.rule,
-    )) c.arg-5.ensures
+-- with one argument, two and so on
+abbrev bare : App
+bare = new_app (codes "check")
 
-pub returns-clause-local : goal.returns-clause-local
-returns-clause-local c =
+abbrev first : App
+first = with_rule bare allow_rule
+
+abbrev second : ValueParser → App
+second parser = with_rule first (old_rule parser)
+
+abbrev third : ValueParser → App
+third parser = with_rule (second parser) all_rule
+
+abbrev fourth : ValueParser → App
+fourth parser = with_rule (third parser) one_rule
+
+pub returns : goal.returns
+returns c =
+    let named = ap app_of_fields c.about.ensures ∙ c.new.ensures.app in
     let none = ap globals c.about.ensures ∙ c.new.ensures.local in
-    let one = c.in_ok-arg.ensures.globals ∙ ap₂ ◌||◌ none c.allow_option.ensures.local in
-    let two = c.in_ok-arg-2.ensures.globals ∙ ap₂ ◌||◌ one c.old_option.ensures.local in
-    let three = c.in_ok-arg-3.ensures.globals ∙ ap₂ ◌||◌ two c.all_flag.ensures.local in
-    let four = c.in_ok-arg-4.ensures.globals ∙ ap₂ ◌||◌ three c.in_ok-one_flag.ensures.local in
-    IfOk-weaker c.arg-5.result _ _ (λ r h. h.globals ∙ ap₂ ◌||◌ four c.file_argument.ensures.local)
-    c.arg-5.ensures
+    let allow = IfOk-weaker c.arg-command.result _ (IsLocal first)
+    (λ r h. argued c.about.result r c.allow_option.result bare allow_rule (named, none)
+    c.allow_option.ensures.rule c.allow_option.ensures.local h) c.arg-command.ensures in
+    let parser = c.old_option.ensures.rule.0 in
+    let old = argued_if c.with_argument-command.result c.arg-command.result c.old_option.result
+    first (old_rule parser) allow c.old_option.ensures.rule.2 c.old_option.ensures.local
+    c.with_argument-command.ensures in
+    let all = argued_if c.with_argument-command-2.result c.with_argument-command.result
+    c.all_flag.result (second parser) all_rule old c.all_flag.ensures.rule c.all_flag.ensures.local
+    c.with_argument-command-2.ensures in
+    let one = argued_if c.with_argument-command-3.result c.with_argument-command-2.result
+    c.in_ok-one.one (third parser) one_rule all c.in_ok-one.ensures.rule
+    c.in_ok-one.ensures.local c.with_argument-command-3.ensures in
+    let file = argued_if c.with_argument.result c.with_argument-command-3.result
+    c.file_argument.result (fourth parser) file_rule one c.file_argument.ensures.rule
+    c.file_argument.ensures.local c.with_argument.ensures in
+    IfOk-weaker c.with_argument.result _ _ (λ r h. (parser, c.old_option.ensures.rule.1, h)) file

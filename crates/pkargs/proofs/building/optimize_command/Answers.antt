@@ -1,23 +1,22 @@
-use Rattle.std.proofs.Common.{◌∙◌, ◌||◌, ap, ap₂}
+use Rattle.std.proofs.Common.{◌∙◌, ap, codes}
 use Rattle.std.proofs.lemmas.Result.{IfOk-weaker}
-use Rattle.clap.specs.Words.{with_rule}
 use Rattle.clap.specs.Simple.{app_of_fields}
-use Rattle.pkargs.proofs.Globals.{globals}
+use Rattle.clap.specs.Words.{App, new_app, with_rule}
+use Rattle.pkargs.specs.Command.{IsLocal, file_rule, out_rule}
+use Rattle.pkargs.proofs.Growing.{argued, argued_if, globals}
 use Rattle.pkargs.proofs.building.optimize_command.Goals as goal
 
-pub returns-clause-shape : goal.returns-clause-shape
-returns-clause-shape c =
+abbrev bare : App
+bare = new_app (codes "optimize")
+
+pub returns : goal.returns
+returns c =
     let named = ap app_of_fields c.after_help.ensures ∙ ap app_of_fields c.about.ensures
     ∙ c.new.ensures.app in
-    let one = c.in_ok-arg.ensures.shape c.file_argument.ensures.local
-    ∙ ap₂ with_rule named c.file_argument.ensures.rule in
-    IfOk-weaker c.arg-2.result _ _
-    (λ r h. h.shape c.out_argument.ensures.local
-    ∙ ap₂ with_rule one c.out_argument.ensures.rule) c.arg-2.ensures
-
-pub returns-clause-local : goal.returns-clause-local
-returns-clause-local c =
     let none = ap globals c.after_help.ensures ∙ ap globals c.about.ensures ∙ c.new.ensures.local in
-    let one = c.in_ok-arg.ensures.globals ∙ ap₂ ◌||◌ none c.file_argument.ensures.local in
-    IfOk-weaker c.arg-2.result _ _ (λ r h. h.globals ∙ ap₂ ◌||◌ one c.out_argument.ensures.local)
-    c.arg-2.ensures
+    let file = IfOk-weaker c.arg-command.result _ (IsLocal (with_rule bare file_rule))
+    (λ r h. argued c.after_help.result r c.file_argument.result bare file_rule (named, none)
+    c.file_argument.ensures.rule c.file_argument.ensures.local h) c.arg-command.ensures in
+    argued_if c.with_argument.result c.arg-command.result c.out_argument.result
+    (with_rule bare file_rule) out_rule file c.out_argument.ensures.rule
+    c.out_argument.ensures.local c.with_argument.ensures
