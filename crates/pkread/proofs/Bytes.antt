@@ -10,3 +10,4 @@ pub mod Plain
 pub mod Skipped
 pub mod Lengths
 pub mod Front
+pub mod FrontLines

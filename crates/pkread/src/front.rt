@@ -200,7 +200,7 @@ fn varying_length(code: u8, bytes: &[u8], limits: &Limits) -> usize
     }
 }
 
-/// The number of bytes of the PROTO that the bytes begin with, or 0 if they don't hold all of it, or
+/// The number of bytes of the PROTO that the bytes begin with, or 0 if they don't hold all of it or
 /// its protocol is unknown.
 fn proto_length(bytes: &[u8]) -> usize
     requires code { code_of op.Proto ≡ slice_index bytes.now 0 }

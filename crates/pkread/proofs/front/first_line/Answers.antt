@@ -1,5 +1,5 @@
 use Rattle.std.proofs.Common.{refl}
-use Rattle.pkread.proofs.Bytes.Front.{split_is}
+use Rattle.pkread.proofs.Bytes.FrontLines.{split_is}
 use Rattle.pkread.proofs.front.first_line.Goals as goal
 
 pub returns-in-Global : goal.returns-in-Global

@@ -1,6 +1,6 @@
 use Rattle.std.proofs.Common.{◌∙◌, ap}
 use Rattle.std.specs.Prelude.{unwrap_or}
-use Rattle.pkread.proofs.Bytes.Front.{feed_behind}
+use Rattle.pkread.proofs.Bytes.FrontLines.{feed_behind}
 use Rattle.pkread.proofs.front.first_line_slowly.Goals as goal
 
 pub returns-in-Some : goal.returns-in-Some

@@ -1,5 +1,5 @@
 use Rattle.std.proofs.Common.{◌-◌, arith, drop, refl, sym, take}
-use Rattle.pkread.proofs.Bytes.Front.{front_suits, line_front}
+use Rattle.pkread.proofs.Bytes.FrontLines.{front_suits, line_front}
 use Rattle.pkread.proofs.front.line_length.Goals as goal
 
 pub is_good-requires : goal.is_good-requires

@@ -1,5 +1,5 @@
 use Rattle.std.proofs.Common.{◌-◌, arith, drop, refl, sym, take}
-use Rattle.pkread.proofs.Bytes.Front.{pair_front, pair_suits}
+use Rattle.pkread.proofs.Bytes.FrontLines.{pair_front, pair_suits}
 use Rattle.pkread.proofs.front.pair_length.Goals as goal
 
 pub is_good-requires : goal.is_good-requires
