@@ -148,13 +148,14 @@ impl Memo {
         Entry::new(found(&self.rest, number))
     }
 
-    /// Counts one more write that is in order.
+    /// Counts one more write that is in order. The caller counts this write too, so the sum costs
+    /// nothing.
     #[inline(always)]
-    fn go_on(&mut self) -> Result<(), AllocError>
-        ensures in_order { OnOk result (self.new.in_order ≡ self.old.in_order + 1) }
+    fn go_on(&mut self, write: u32) -> Result<(), AllocError>
+        ensures in_order { OnOk result (self.new.in_order ≡ write + 1) }
         ensures same { self.new ≡ record self.old { in_order = self.new.in_order } }
     {
-        let Some(in_order) = self.in_order.checked_add(1) else {
+        let Some(in_order) = write.checked_add(1) else {
             return Err(AllocError);
         };
         self.in_order = in_order;
@@ -172,7 +173,7 @@ impl Memo {
         if self.in_order == 0 {
             return self.note_slowly(number, write);
         }
-        self.go_on()
+        self.go_on(write)
     }
 
     /// Records a write under the number of memo entries.
@@ -184,7 +185,7 @@ impl Memo {
             let number = self.len();
             return self.note_slowly(number, write);
         }
-        self.go_on()
+        self.go_on(write)
     }
 
     /// Records the last write of a number, which may not be the next in order.

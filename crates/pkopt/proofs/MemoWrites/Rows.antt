@@ -81,21 +81,21 @@ noted_in_order ws first n m w number listed rest none alone low place same more 
 
 goes_on_from : (ws : Writes) (old new : Memo) (number w : ℕ) → old.in_order ≢ 0 → w ≡ length ws
     → HoldsWrites ws old → old.first ≤ number → number - old.first ≡ old.in_order
-    → new.in_order ≡ old.in_order + 1 → new ≡ record old { in_order = new.in_order }
+    → new.in_order ≡ w + 1 → new ≡ record old { in_order = new.in_order }
     → HoldsWrites (number ∷ ws) new
 goes_on_from ws old new number w some is h low place more same =
     let all = h.ordered some in
-    let count = all.2 in
+    let next = is ∙ sym all.2 in
     subst (HoldsWrites (number ∷ ws)) (sym same)
     (record {
       last = noted_in_order ws old.first old.in_order new.in_order w number old.listed.items
-          old.rest.entries all.0 all.1 low place (is ∙ sym all.2) more is h.last;
-      ordered = λ _. (all.0, all.1, omega (arith, count, more));
+          old.rest.entries all.0 all.1 low place next (more ∙ ap (λ n. n + 1) next) is h.last;
+      ordered = λ _. (all.0, all.1, omega (arith, is, more));
     })
 
 pub goes_on : {A E : Type 0} (r : Result A E) (old new : Memo) (number w : ℕ)
     → old.in_order ≢ 0 → old.first ≤ number → number - old.first ≡ old.in_order
-    → OnOk r (new.in_order ≡ old.in_order + 1)
+    → OnOk r (new.in_order ≡ w + 1)
     → new ≡ record old { in_order = new.in_order } → OnOk r (Notes number w old new)
 goes_on (Ok a) old new number w some low place more same = λ ws is h.
     goes_on_from ws old new number w some is h low place more same
@@ -103,7 +103,7 @@ goes_on (Err e) old new number w some low place more same = tt
 
 -- likewise under the number of memo entries, where the first number is 0
 pub goes_on_next : {A E : Type 0} (r : Result A E) (old new : Memo) (w : ℕ)
-    → old.in_order ≢ 0 → old.first ≡ 0 → OnOk r (new.in_order ≡ old.in_order + 1)
+    → old.in_order ≢ 0 → old.first ≡ 0 → OnOk r (new.in_order ≡ w + 1)
     → new ≡ record old { in_order = new.in_order }
     → OnOk r (Notes (numbers_held old) w old new)
 goes_on_next (Ok a) old new w some first more same = λ ws is h.
