@@ -26,11 +26,20 @@ use pkops::Inst;
 use std::alloc::Global;
 
 /// The stack and the memo, which refer to objects by number, and the objects.
-#[derive(Drop)]
 pub struct Arena<'a> {
     pub stack: Vec<Slot>,
     pub memo: Memo,
     pub objects: Vec<Object<'a>>,
+}
+
+impl<'a> Drop for Arena<'a> {
+    fn drop(self) {
+        let Arena {
+            stack: _stack,
+            memo: _memo,
+            objects: _objects,
+        } = self;
+    }
 }
 
 impl<'a> Arena<'a> {
@@ -49,7 +58,11 @@ impl<'a> Arena<'a> {
     pub fn into_objects(self) -> Vec<Object<'a>>
         ensures { result ≡ self.entry.objects }
     {
-        let Arena { objects, .. } = self;
+        let Arena {
+            stack: _stack,
+            memo: _memo,
+            objects,
+        } = self;
         objects
     }
 

@@ -18,11 +18,20 @@ const LONG: usize = 64;
 
 /// The distinct texts of keys in byte order, and for each object the position of its text among
 /// them. Both are empty if no dict has a long key.
-#[derive(Drop)]
 pub struct Ranks<'a, 'b> {
     pub objects: &'a [Object<'b>],
     pub texts: Vec<(&'a str, usize)>,
     pub places: Vec<Option<u32>>,
+}
+
+impl<'a, 'b> Drop for Ranks<'a, 'b> {
+    fn drop(self) {
+        let Ranks {
+            objects: _objects,
+            texts: _texts,
+            places: _places,
+        } = self;
+    }
 }
 
 /// The ranks of all keys of the dicts that have a long key.

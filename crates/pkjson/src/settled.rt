@@ -8,13 +8,22 @@ use crate::objects::Object;
 use std::slice;
 
 /// The objects of a run, and the members of those that are dicts.
-#[derive(Drop)]
 pub struct Settled<'a, 'b> {
     pub objects: &'a [Object<'b>],
     /// The members of each dict that has some, in the order of the objects.
     pub dicts: Vec<Vec<(&'a str, usize)>>,
     /// For each object, the number of such dicts before it.
     pub places: Vec<u32>,
+}
+
+impl<'a, 'b> Drop for Settled<'a, 'b> {
+    fn drop(self) {
+        let Settled {
+            objects: _objects,
+            dicts: _dicts,
+            places: _places,
+        } = self;
+    }
 }
 
 impl<'a, 'b> Settled<'a, 'b> {
