@@ -1,9 +1,9 @@
 //! The members of a dict in its final state.
 
-ghost use Rattle.std.specs.Prelude.{◌≡◌, ◌<◌, [], length, All, IfOk};
+ghost use Rattle.std.specs.Prelude.{◌≡◌, ◌<◌, length, All, IfOk};
 ghost use Rattle.pkjson.specs.Private.Arena.{kind_at};
-ghost use Rattle.pkjson.specs.Contents.{characters, paired, standing};
-ghost use Rattle.pkjson.specs.Private.Nodes.{named_members, Ascending};
+ghost use Rattle.pkjson.specs.Contents.{characters};
+ghost use Rattle.pkjson.specs.Private.Ranks.{AreMembers};
 ghost use Rattle.pkjson.specs.Private.Seen.{kept_all};
 
 use crate::objects::Object;
@@ -31,10 +31,8 @@ fn standing_pairs<'a>(
     given: &[usize],
 ) -> Result<BTreeMap<&'a str, usize>, AllocError>
     requires { All (λ x. x < length objects.now) given.now }
-    ensures ascending { IfOk result (λ m. Ascending (named_members m.entries)) }
-    ensures below { IfOk result (λ m. All (λ p. p.1 < length objects.now) m.entries) }
-    ensures pairs { IfOk result (λ m. named_members m.entries
-        ≡ standing [] (paired (kind_at (kept_all objects.now)) given.now)) }
+    ensures { IfOk result (λ m.
+        AreMembers (kept_all objects.now) (length objects.now) given.now m.entries) }
 {
     let mut pairs = BTreeMap::new(alloc);
     let mut index = 0;
@@ -52,10 +50,8 @@ pub fn members<'a>(
     given: &[usize],
 ) -> Result<Vec<(&'a str, usize)>, AllocError>
     requires { All (λ x. x < length objects.now) given.now }
-    ensures ascending { IfOk result (λ v. Ascending (named_members v.items)) }
-    ensures below { IfOk result (λ v. All (λ p. p.1 < length objects.now) v.items) }
-    ensures pairs { IfOk result (λ v. named_members v.items
-        ≡ standing [] (paired (kind_at (kept_all objects.now)) given.now)) }
+    ensures { IfOk result (λ v.
+        AreMembers (kept_all objects.now) (length objects.now) given.now v.items) }
 {
     let pairs = standing_pairs(alloc, objects, given)?;
     let mut members = Vec::with_capacity(alloc, pairs.len())?;

@@ -33,8 +33,12 @@ loop-index-preserved c = (
       c.loop-index-test.true c.requires) c.loop-index.invariant.3),
 )
 
-pub returns-clause-pairs : goal.returns-clause-pairs
-returns-clause-pairs c =
-    sym (c.loop-index.invariant.1 ∙ ap (standing (named_members c.loop-index.pairs.entries))
-    (none_left (kind_at (kept_all c.args.objects.now)) c.args.given.now c.loop-index.index
-    c.loop-index-test.false))
+pub returns : goal.returns
+returns c = record {
+  ascending = c.loop-index.invariant.2;
+  below = c.loop-index.invariant.3;
+  pairs = sym
+      (c.loop-index.invariant.1 ∙ ap (standing (named_members c.loop-index.pairs.entries))
+      (none_left (kind_at (kept_all c.args.objects.now)) c.args.given.now c.loop-index.index
+      c.loop-index-test.false));
+}
