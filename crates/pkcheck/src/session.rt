@@ -29,10 +29,19 @@ use std::marker::Model;
 
 /// The frame rules and the machine of a check. If the frame rules refuse an instruction, the
 /// machine stays unchanged.
-#[derive(Drop)]
 pub(crate) struct Session {
     frames: Frames,
     machine: Machine,
+}
+
+/// Written by hand: a loop that owns a session then drops it in one step at each of its exits.
+impl Drop for Session {
+    fn drop(self) {
+        let Session {
+            frames: _frames,
+            machine: _machine,
+        } = self;
+    }
 }
 
 impl Model for Session {

@@ -7,7 +7,7 @@ ghost use Rattle.pkcheck.specs.ListFile.{each_limit_fault, greatest_at, greatest
 ghost use Rattle.pkcheck.specs.ListFile.{is_limit, is_true_value, key_fault, large_fault};
 ghost use Rattle.pkcheck.specs.ListFile.{limit_fault};
 ghost use Rattle.pkcheck.specs.ListFile.{limit_or, limits_among, limits_at, limits_fault};
-ghost use Rattle.pkcheck.specs.ListFile.{limits_in, standard_where, table_fault};
+ghost use Rattle.pkcheck.specs.ListFile.{limits_in, table_fault};
 
 use crate::allow::rules::value_at;
 use crate::allow::{AllowError, Where};
@@ -78,17 +78,6 @@ fn greatest_where(is_large: bool) -> Limits
         Limits::GREATEST_LARGE
     } else {
         Limits::GREATEST
-    }
-}
-
-/// The default limits, for large data or not.
-fn standard_where(is_large: bool) -> Limits
-    ensures { result ≡ standard_where is_large }
-{
-    if is_large {
-        Limits::LARGE
-    } else {
-        Limits::STANDARD
     }
 }
 
