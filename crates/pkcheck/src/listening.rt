@@ -79,14 +79,16 @@ pub fn check_heard<R: Source, L: Listener>(
     'instructions: loop {
         if let Some(inst) = reader.peek() {
             let at = reader.taken();
-            let length = inst.len();
-            let heard = listener.hear(at, &inst, session.marks());
-            let verdict = session.judge_lent(&inst, policy);
-            reader.advance(length as usize);
-            heard?;
-            if let Err(reason) = verdict {
+            let length = inst.len() as usize;
+            if let Err(error) = listener.hear(at, &inst, session.marks()) {
+                reader.advance(length);
+                return Err(error);
+            }
+            if let Err(reason) = session.judge_lent(&inst, policy) {
+                reader.advance(length);
                 return Ok(Err(session.refuse(at, reason)));
             }
+            reader.advance(length);
             continue;
         }
         match reader.next() {

@@ -169,7 +169,3 @@ module _ (start : Sight) (from : ℕ) (limits : Bounds) (p : List Instruction) (
 pub seen_so : (ahead : List ℕ) (now here : Sight) → ahead ≡ [] → now ≡ here
     → now ≡ unread ahead here
 seen_so ahead now here e h = h ∙ rw e refl
-
-pub failures_so : (ahead : List ℕ) (now here : Sight) → ahead ≡ [] → now ≡ here
-    → now.failures ≡ (unread ahead here).failures
-failures_so ahead now here e h = ap (λ s. s.failures) (seen_so ahead now here e h)

@@ -1,13 +1,11 @@
 use Rattle.std.proofs.Common.{rules, [], ◌∷◌, ◌++◌, refl, sym, ap, subst, ◌∙◌, append-nil, arith}
-use Rattle.std.proofs.lemmas.Result.{err_from_is_err_and}
 use Rattle.pkops.specs.Inst.{instruction_of}
 use Rattle.pkcheck.specs.Heard.{AreHeardBehind, heard}
-use Rattle.pkread.specs.Rows.{sight}
 use Rattle.pkcheck.proofs.Wholes.Checked.{from_start, checked_none, checked_took, accepted}
 use Rattle.pkcheck.proofs.Wholes.Checked.{count_took}
 use Rattle.pkcheck.proofs.Wholes.Checked.{refusal_of, refused_turned, refused_took}
 use Rattle.pkcheck.proofs.Wholes.FramesSoFar.{FrameLaws}
-use Rattle.pkcheck.proofs.Wholes.Given.{failures_so, seen_so, refused_next, took_next, took_peeked}
+use Rattle.pkcheck.proofs.Wholes.Given.{seen_so, refused_next, took_next, took_peeked}
 use Rattle.pkcheck.proofs.Wholes.Hearing.{cut_short, heard_more, heard_here, if_err}
 use Rattle.pkcheck.proofs.Stepping.Longest.{longest}
 use Rattle.pkcheck.proofs.listening.check_heard.Goals as goal
@@ -35,62 +33,15 @@ instructions-init g c =
       );
     }
 
-pub returns-in-Err-clause-answer : goal.returns-in-Err-clause-answer
-returns-in-Err-clause-answer g c =
+pub returns-in-Err-clause-cut_short : goal.returns-in-Err-clause-cut_short
+returns-in-Err-clause-cut_short g c =
     let r = c.instructions.invariant.checked in
     let inst = c.in-Some.inst in
     let i = instruction_of inst in
     let shown = c.in-Some.ensures.next in
     let over = c.advance.ensures.passes i shown c.len-length.ensures in
     let took = took_peeked _ _ _ r.0 _ r.2.reads r.2.read_limits _ c.nexts.ensures.peeked
-    c.taken-at.result _ inst c.taken-at.ensures shown over in
-    let x = heard c.taken-at.result i c.marks.result in
-    let here = heard_here _ _ _ r.0 r.1 _ _ _ r.2 _ c.taken-at.result i took _ c.marks.ensures in
-    let refused = refused_took _ _ _ _ _ r.0 r.1 _ _ _ r.2 _ c.taken-at.result i _ took
-    (seen_so _ _ _ c.advance.ensures.none (search rules)) (longest c.args.policy.now) _ _ _
-    c.in-Err.ensures.err refl in
-    let w = refusal_of _ _ _ _ _ r.0 r.1 _ _ _ r.2 _ _ _ _ _ _ _ c.refuse.ensures refl refused in
-    let each = subst (λ p. AreHeardBehind [] p (r.3 ++ x ∷ [])) (sym w.1)
-    (heard_more [] r.0 r.3 i x r.4 here) in (
-      r.3 ++ x ∷ [],
-      record { right = w.0; each = each },
-      g.met.L.Listener.hears_more _ _ _ r.3 x r.5 c.in_ok-heard.ensures,
-    )
-
-pub returns-in-Err-clause-count : goal.returns-in-Err-clause-count
-returns-in-Err-clause-count g c =
-    let r = c.instructions.invariant.checked in
-    let inst = c.in-Some.inst in
-    let i = instruction_of inst in
-    let shown = c.in-Some.ensures.next in
-    let over = c.advance.ensures.passes i shown c.len-length.ensures in
-    let took = took_peeked _ _ _ r.0 _ r.2.reads r.2.read_limits _ c.nexts.ensures.peeked
-    c.taken-at.result _ inst c.taken-at.ensures shown over in
-    count_took _ _ _ _ _ r.0 r.1 _ _ _ r.2 _ c.taken-at.result i _ _ _ _ _
-    (returns-in-Err-clause-answer g c).1.right c.refuse.ensures.why took
-    (seen_so _ _ _ c.advance.ensures.none (search rules)) _ c.in-Err.ensures.err
-
-pub returns-in_err-heard-clause-count : goal.returns-in_err-heard-clause-count
-returns-in_err-heard-clause-count g c =
-    let r = c.instructions.invariant.checked in
-    let over = c.advance.ensures.passes (instruction_of c.in-Some.inst) c.in-Some.ensures.next
-    c.len-length.ensures in
-    let p = err_from_is_err_and c.from_residual.result c.from_residual.ensures.1 in
-    let same = failures_so c.advance.new.self.core.ahead
-    (sight g.R.Source.left g.R.Source.failures c.source-1.given.0) _ c.advance.ensures.none
-    (search rules) in
-    rw p.1 (same ∙ (over.bytes.count ∙ r.2.reads.bytes.count))
-
-pub returns-in_err-heard-clause-cut_short : goal.returns-in_err-heard-clause-cut_short
-returns-in_err-heard-clause-cut_short g c =
-    let r = c.instructions.invariant.checked in
-    let inst = c.in-Some.inst in
-    let i = instruction_of inst in
-    let shown = c.in-Some.ensures.next in
-    let over = c.advance.ensures.passes i shown c.len-length.ensures in
-    let took = took_peeked _ _ _ r.0 _ r.2.reads r.2.read_limits _ c.nexts.ensures.peeked
-    c.taken-at.result _ inst c.taken-at.ensures shown over in
-    if_err c.from_residual.result (
+    c.taken-at.result _ inst c.taken-at.ensures shown over in (
       r.3,
       c.instructions.listener,
       cut_short _ _ _ r.0 r.1 _ _ _ r.2 _ c.taken-at.result i _ took
@@ -98,35 +49,75 @@ returns-in_err-heard-clause-cut_short g c =
       r.5,
     )
 
+pub returns-in-Err-clause-count : goal.returns-in-Err-clause-count
+returns-in-Err-clause-count g c = (returns-in-Err-clause-cut_short g c).2.bytes.count
+
+pub returns-in-Err-judge_lent-clause-answer : goal.returns-in-Err-judge_lent-clause-answer
+returns-in-Err-judge_lent-clause-answer g c =
+    let r = c.instructions.invariant.checked in
+    let inst = c.in-Some.inst in
+    let i = instruction_of inst in
+    let shown = c.in-Some.ensures.next in
+    let over = c.advance-in-Err-judge_lent.ensures.passes i shown c.len-length.ensures in
+    let took = took_peeked _ _ _ r.0 _ r.2.reads r.2.read_limits _ c.nexts.ensures.peeked
+    c.taken-at.result _ inst c.taken-at.ensures shown over in
+    let x = heard c.taken-at.result i c.marks.result in
+    let here = heard_here _ _ _ r.0 r.1 _ _ _ r.2 _ c.taken-at.result i took _ c.marks.ensures in
+    let refused = refused_took _ _ _ _ _ r.0 r.1 _ _ _ r.2 _ c.taken-at.result i _ took
+    (seen_so _ _ _ c.advance-in-Err-judge_lent.ensures.none (search rules))
+    (longest c.args.policy.now) _ _ _ c.in-Err-judge_lent.ensures.err refl in
+    let w = refusal_of _ _ _ _ _ r.0 r.1 _ _ _ r.2 _ _ _ _ _ _ _ c.refuse.ensures refl refused in
+    let each = subst (λ p. AreHeardBehind [] p (r.3 ++ x ∷ [])) (sym w.1)
+    (heard_more [] r.0 r.3 i x r.4 here) in (
+      r.3 ++ x ∷ [],
+      record { right = w.0; each = each },
+      g.met.L.Listener.hears_more _ _ _ r.3 x r.5 c.in_default-hear.ensures,
+    )
+
+pub returns-in-Err-judge_lent-clause-count : goal.returns-in-Err-judge_lent-clause-count
+returns-in-Err-judge_lent-clause-count g c =
+    let r = c.instructions.invariant.checked in
+    let inst = c.in-Some.inst in
+    let i = instruction_of inst in
+    let shown = c.in-Some.ensures.next in
+    let over = c.advance-in-Err-judge_lent.ensures.passes i shown c.len-length.ensures in
+    let took = took_peeked _ _ _ r.0 _ r.2.reads r.2.read_limits _ c.nexts.ensures.peeked
+    c.taken-at.result _ inst c.taken-at.ensures shown over in
+    count_took _ _ _ _ _ r.0 r.1 _ _ _ r.2 _ c.taken-at.result i _ _ _ _ _
+    (returns-in-Err-judge_lent-clause-answer g c).1.right c.refuse.ensures.why took
+    (seen_so _ _ _ c.advance-in-Err-judge_lent.ensures.none (search rules)) _
+    c.in-Err-judge_lent.ensures.err
+
 pub instructions-preserved-in-Some : goal.instructions-preserved-in-Some
 instructions-preserved-in-Some g c =
     let r = c.instructions.invariant.checked in
     let inst = c.in-Some.inst in
     let i = instruction_of inst in
     let shown = c.in-Some.ensures.next in
-    let over = c.advance.ensures.passes i shown c.len-length.ensures in
+    let over = c.advance-in-Some.ensures.passes i shown c.len-length.ensures in
     let took = took_peeked _ _ _ r.0 _ r.2.reads r.2.read_limits _ c.nexts.ensures.peeked
     c.taken-at.result _ inst c.taken-at.ensures shown over in
     let x = heard c.taken-at.result i c.marks.result in
     let here = heard_here _ _ _ r.0 r.1 _ _ _ r.2 _ c.taken-at.result i took _ c.marks.ensures in
     let checked = checked_took _ _ _ _ _ r.0 r.1 _ _ _ r.2 _ _ _ c.taken-at.result i took
-    c.in_default-verdict.ensures.ok in
+    c.in_default-judge_lent.ensures.ok in
     let each = heard_more [] r.0 r.3 i x r.4 here in
     record {
-      same = c.advance.ensures.source ∙ c.instructions.invariant.same;
+      same = c.advance-in-Some.ensures.source ∙ c.instructions.invariant.same;
       checked = (
         _,
         _,
         checked,
         r.3 ++ x ∷ [],
         each,
-        g.met.L.Listener.hears_more _ _ _ r.3 x r.5 c.in_ok-heard.ensures,
+        g.met.L.Listener.hears_more _ _ _ r.3 x r.5 c.in_default-hear.ensures,
       );
     }
 
 pub instructions-smaller-in-Some : goal.instructions-smaller-in-Some
 instructions-smaller-in-Some g c =
-    let over = c.advance.ensures.passes (instruction_of c.in-Some.inst) c.in-Some.ensures.next
+    let inst = c.in-Some.inst in
+    let over = c.advance-in-Some.ensures.passes (instruction_of inst) c.in-Some.ensures.next
     c.len-length.ensures in
     let taken = over.taken in
     let within = over.within in
@@ -203,7 +194,7 @@ returns-in_err-hear-in-Ok-Inst-clause-cut_short g c =
     let took = took_next _ _ _ r.0 _ r.2.reads r.2.read_limits _ refl c.nexts.ensures.given
     c.next.result c.in-Ok-Inst.at c.in-Ok-Inst.inst k.1
     (cc (c.in-Ok-Inst.is, c.in-Ok-Inst.field-0-is)) in
-    if_err c.from_residual-in_err-hear-in-Ok-Inst.result (
+    if_err c.from_residual.result (
       r.3,
       c.instructions.listener,
       cut_short _ _ _ r.0 r.1 _ _ _ r.2 _
