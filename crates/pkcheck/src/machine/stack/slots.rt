@@ -40,10 +40,10 @@ pub fn top(slots: &[Slot]) -> Option<Value>
     if slots.is_empty() {
         return None;
     }
-    match slots[slots.len() - 1] {
-        Slot::Mark => None,
-        Slot::Object(value) => Some(value),
-    }
+    let Slot::Object(value) = slots[slots.len() - 1] else {
+        return None;
+    };
+    Some(value)
 }
 
 /// Pushes an object. Out of line, so other paths reserve no register for it.
