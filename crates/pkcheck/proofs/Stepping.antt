@@ -12,4 +12,5 @@ pub mod CoveredStep
 pub mod Passing
 pub mod Operations
 pub mod Pushing
+pub mod Replaced
 pub mod Longest

@@ -43,3 +43,9 @@ pub record HasOperated {A : Type 0} (limits : Bounds) (e : Effect) (old new : Li
   pub room : OnOk answer (length new ≤ limits.stack)
   pub kept : OnErr answer (new ≡ old)
   pub err : IfErr answer (IsReplaceFault limits e old)
+
+-- what an operation that imports nothing does to the stack if its operands are there
+pub record HasReplaced (e : Effect) (old new : List (Entry Value)) : Type 0 where
+  pub ok : Replaces e old new
+  pub sees : StaysSeen old new
+  pub fewer : length new ≤ length old

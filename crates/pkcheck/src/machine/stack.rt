@@ -1,10 +1,10 @@
 //! The stack: marks, and what is known about objects.
 ghost use Rattle.pkcheck.specs.Private.Denials.{HasFirst, IsLack, WantsRoom};
-ghost use Rattle.pkcheck.specs.Private.Places.{above, below};
+ghost use Rattle.pkcheck.specs.Private.Places.{Replaced, above, below};
 ghost use Rattle.pkcheck.specs.Shape.{Entry, Mark, Item, NoMark, front, marks_of, operands, slice};
 ghost use Rattle.pkcheck.specs.Shape.{top};
 ghost use Rattle.std.specs.Prelude.{◌≡◌, true, List, [], ◌∷◌, ◌++◌, ◌+◌, ◌^◌, ◌<◌, ◌≤◌, length};
-ghost use Rattle.std.specs.Prelude.{drop, nat_lt, IfOk, IfErr, OnOk};
+ghost use Rattle.std.specs.Prelude.{drop, false, nat_lt, IfOk, IfErr, OnOk};
 
 mod operands;
 mod slots;
@@ -16,7 +16,7 @@ pub use operands::Operands;
 use pkops::Limits;
 use pkread::Reason;
 pub use slots::Found;
-use slots::{Slot, mark_place, marks_below, place_of, put_on_top, top};
+use slots::{Slot, mark_place, marks_below, one_object, place_of, put_on_top, top, two_objects};
 use std::alloc::Global;
 use std::marker::Model;
 
@@ -270,6 +270,35 @@ impl Stack {
             return Err(Reason::TooLarge);
         }
         self.push_object(value)
+    }
+
+    /// Replaces the topmost object with another one. Returns false and changes nothing if there is
+    /// none. It looks at its entry, which is faster than `find`.
+    #[inline(always)]
+    pub fn replace_one(&mut self, value: Value) -> bool
+        ensures done { result ≡ true → Replaced 1 value self.old self.new }
+        ensures kept { result ≡ false → self.new ≡ self.old }
+    {
+        let Some(place) = one_object(self.slots.entries()) else {
+            return false;
+        };
+        let marks = self.marks();
+        self.replace_all(place, marks, value);
+        true
+    }
+
+    /// Like `replace_one`, for the topmost two objects.
+    #[inline(always)]
+    pub fn replace_two(&mut self, value: Value) -> bool
+        ensures done { result ≡ true → Replaced 2 value self.old self.new }
+        ensures kept { result ≡ false → self.new ≡ self.old }
+    {
+        let Some(place) = two_objects(self.slots.entries()) else {
+            return false;
+        };
+        let marks = self.marks();
+        self.replace_all(place, marks, value);
+        true
     }
 
     /// Replaces one or more entries, all those from a place on, with one object.

@@ -1,17 +1,18 @@
 //! The operations that import nothing.
-ghost use Rattle.std.specs.Prelude.{◌≡◌, ◌≤◌, length, IfErr, OnErr, OnOk};
+ghost use Rattle.std.specs.Prelude.{◌≡◌, ◌≤◌, false, length, true, IfErr, OnErr, OnOk};
 ghost use Rattle.pkcheck.specs.declared.effect.Names.{Names};
 ghost use Rattle.pkcheck.specs.Effects.{Operates, effect_of};
 ghost use Rattle.pkcheck.specs.Private.Actions.{IsUnnamed};
 ghost use Rattle.pkcheck.specs.Private.Denials.{IgnoresArgument, WellGiven};
-ghost use Rattle.pkcheck.specs.Private.Replacing.{HasOperated, IsReplaceFault, Replaces, StaysSeen};
+ghost use Rattle.pkcheck.specs.Private.Replacing.{HasOperated, HasReplaced, IsReplaceFault};
+ghost use Rattle.pkcheck.specs.Private.Replacing.{Replaces, StaysSeen};
 
-use crate::effect::{Gives, Takes};
+use crate::effect::{Class, Gives, Takes};
 use crate::machine::effects::operation_of;
 use crate::machine::operate::given::give;
 use crate::machine::operate::receiver::receiver_fault;
 use crate::machine::stack::Stack;
-use crate::machine::value::value_of;
+use crate::machine::value::{Value, value_of};
 use pkops::{Limits, Op};
 use pkread::Reason;
 
@@ -39,10 +40,38 @@ fn replace(stack: &mut Stack, limits: &Limits, takes: Takes, gives: Gives) -> Re
     }
 }
 
-/// Applies the operation of an opcode that imports nothing. The most frequent ones have arms of
-/// their own, each with the tests of that operation alone.
-#[inline(never)]
+/// Applies the most frequent operations that leave a new object, if their operands are there. They
+/// look at one or two entries. Returns false and changes nothing at any other operation.
+#[inline(always)]
+fn make_quickly(stack: &mut Stack, op: Op) -> bool
+    ensures done { result ≡ true → HasReplaced (effect_of op) stack.old stack.new }
+    ensures kept { result ≡ false → stack.new ≡ stack.old }
+{
+    match op {
+        Op::Tuple1 => stack.replace_one(Value::Made(Class::Tuple)),
+        Op::Tuple2 => stack.replace_two(Value::Made(Class::Tuple)),
+        Op::Reduce => stack.replace_two(Value::Unknown),
+        _ => false,
+    }
+}
+
+/// Applies the operation of an opcode that imports nothing.
+#[inline(always)]
 pub fn operate_unnamed(stack: &mut Stack, limits: &Limits, op: Op) -> Result<(), Reason>
+    requires within { length stack.old ≤ limits.now.stack }
+    requires unnamed { IsUnnamed (effect_of op) }
+    ensures { HasOperated limits.now (effect_of op) stack.old stack.new result }
+{
+    if make_quickly(stack, op) {
+        return Ok(());
+    }
+    operate_any(stack, limits, op)
+}
+
+/// Applies the operation of an opcode that imports nothing. Frequent ones have arms of their own,
+/// each with the tests of that operation alone.
+#[inline(never)]
+fn operate_any(stack: &mut Stack, limits: &Limits, op: Op) -> Result<(), Reason>
     requires within { length stack.old ≤ limits.now.stack }
     requires unnamed { IsUnnamed (effect_of op) }
     ensures { HasOperated limits.now (effect_of op) stack.old stack.new result }
@@ -53,9 +82,6 @@ pub fn operate_unnamed(stack: &mut Stack, limits: &Limits, op: Op) -> Result<(),
         Op::SetItem => operate(stack, limits, Op::SetItem),
         Op::SetItems => operate(stack, limits, Op::SetItems),
         Op::Tuple => operate(stack, limits, Op::Tuple),
-        Op::Tuple1 => operate(stack, limits, Op::Tuple1),
-        Op::Tuple2 => operate(stack, limits, Op::Tuple2),
-        Op::Reduce => operate(stack, limits, Op::Reduce),
         Op::Build => operate(stack, limits, Op::Build),
         _ => operate_slowly(stack, limits, op),
     }

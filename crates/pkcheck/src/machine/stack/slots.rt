@@ -105,6 +105,37 @@ pub fn objects_place(stack: &[Slot], places: &[usize], count: usize) -> Option<u
     Some(stack.len() - count)
 }
 
+/// The place of the topmost entry, if it is an object.
+#[inline(always)]
+pub fn one_object(slots: &[Slot]) -> Option<usize>
+    ensures { IfSome result (λ n. (n + 1 ≡ length slots.now) × AllObjects (drop n slots.now)) }
+{
+    if slots.is_empty() {
+        return None;
+    }
+    let Slot::Object(_) = slots[slots.len() - 1] else {
+        return None;
+    };
+    Some(slots.len() - 1)
+}
+
+/// The place of the lower one of the topmost two entries, if both are objects.
+#[inline(always)]
+pub fn two_objects(slots: &[Slot]) -> Option<usize>
+    ensures { IfSome result (λ n. (n + 2 ≡ length slots.now) × AllObjects (drop n slots.now)) }
+{
+    if slots.len() < 2 {
+        return None;
+    }
+    let Some(place) = one_object(slots) else {
+        return None;
+    };
+    let Slot::Object(_) = slots[place - 1] else {
+        return None;
+    };
+    Some(place - 1)
+}
+
 /// The number of objects among the entries.
 pub fn count_objects(slots: &[Slot]) -> usize
     ensures { result ≡ length (values_of slots.now) }

@@ -1,28 +1,16 @@
+use Rattle.std.proofs.Common.{arith}
 use Rattle.pkcheck.proofs.machine.operate.nameless.operate_unnamed.Goals as goal
 
-pub returns-in-Append : goal.returns-in-Append
-returns-in-Append c = rw (c.in-Append.is) c.operate.ensures
+pub returns-then-make_quickly : goal.returns-then-make_quickly
+returns-then-make_quickly c =
+    let made = c.make_quickly.ensures.done c.if-make_quickly.true in
+    record {
+      ok = made.ok;
+      sees = made.sees;
+      room = omega (arith, made.fewer, c.requires.within);
+      kept = tt;
+      err = tt;
+    }
 
-pub returns-in-Appends : goal.returns-in-Appends
-returns-in-Appends c = rw (c.in-Appends.is) c.operate-in-Appends.ensures
-
-pub returns-in-SetItem : goal.returns-in-SetItem
-returns-in-SetItem c = rw (c.in-SetItem.is) c.operate-in-SetItem.ensures
-
-pub returns-in-SetItems : goal.returns-in-SetItems
-returns-in-SetItems c = rw (c.in-SetItems.is) c.operate-in-SetItems.ensures
-
-pub returns-in-Tuple : goal.returns-in-Tuple
-returns-in-Tuple c = rw (c.in-Tuple.is) c.operate-in-Tuple.ensures
-
-pub returns-in-Tuple1 : goal.returns-in-Tuple1
-returns-in-Tuple1 c = rw (c.in-Tuple1.is) c.operate-in-Tuple1.ensures
-
-pub returns-in-Tuple2 : goal.returns-in-Tuple2
-returns-in-Tuple2 c = rw (c.in-Tuple2.is) c.operate-in-Tuple2.ensures
-
-pub returns-in-Reduce : goal.returns-in-Reduce
-returns-in-Reduce c = rw (c.in-Reduce.is) c.operate-in-Reduce.ensures
-
-pub returns-in-Build : goal.returns-in-Build
-returns-in-Build c = rw (c.in-Build.is) c.operate-in-Build.ensures
+pub returns : goal.returns
+returns c = rw (← (c.make_quickly.ensures.kept c.if-make_quickly.false)) c.operate_any.ensures
