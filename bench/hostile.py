@@ -72,8 +72,8 @@ def judged(
     bench: Bench, name: str, hostile: hostile_shapes.Hostile, megabytes: int, per_byte: int
 ) -> bool:
     """Prints the line of a shape, and returns whether it keeps both bounds. Plain data is checked
-    right before it, because the speed of a shared machine changes. If the shape seems too slow, both
-    are measured again.
+    right before it, because the speed of a shared machine changes. If the shape seems too slow,
+    both are measured again.
     """
     make = functools.partial(hostile.make, megabytes)
     for _ in range(TRIES):
