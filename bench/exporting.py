@@ -1,9 +1,9 @@
 #!/usr/bin/env python3
 """Times the whole command `pktool json` and `json.dumps(pickle.loads(..))` on plain data.
 
-The two take turns. A time is that of the best round, a ratio the median over the rounds. It measures
-CPU time and peak memory. Python works on bytes in memory with the garbage collector off; the command starts, reads its file,
-writes its line into a pipe and ends.
+The two take turns. A time is that of the best round, a ratio the median over the rounds. It
+measures CPU time and peak memory. Python works on bytes in memory with the garbage collector off;
+the command starts, reads its file, writes its line into a pipe and ends.
 """
 import argparse
 import pathlib
