@@ -195,9 +195,7 @@ def pickles(storklocker: ModuleType, asked: argparse.Namespace) -> List[Figure]:
 
 
 def lists(storklocker: ModuleType, asked: argparse.Namespace) -> Figure:
-    """Times a yes and a no under lists of many lengths. The figure is for the
-    shortest.
-    """
+    """Times a yes and a no under lists of many lengths. The figure is the greatest."""
     print(
         "\n| Pairs | `pickle.loads` | `check`, accepted | `check`, refused "
         "| refused by `guard.loads` |\n|---|---|---|---|---|"
@@ -222,7 +220,7 @@ def lists(storklocker: ModuleType, asked: argparse.Namespace) -> Figure:
         times = in_turns(calls, asked.rounds, 20 if count > 1000 else asked.calls)
         found.append(program.ratio(times[-1], times[0]))
         print(f"| {count:,} | " + " | ".join(f"{min(it):,.2f}" for it in times) + " |")
-    return Figure("refusal, in microseconds", REFERENCE * found[0], 3)
+    return Figure("refusal, in microseconds", REFERENCE * max(found), 3)
 
 
 def processors(count: int) -> List[Tuple[int, ...]]:
