@@ -1,2 +1,2 @@
-pub mod Growing
-pub mod Requiring
+pub mod MoreArguments
+pub mod Requirements

@@ -1,16 +1,16 @@
-pub mod Halving
-pub mod Covering
-pub mod Stepping
+pub mod BinarySearch
+pub mod Coverage
+pub mod StepParts
 pub mod Wholes
 pub mod ListFile
 -- the fields of the machine: the stack, the memo, the texts, the imports
 pub mod Shown
 pub mod Bars
 pub mod Cells
-pub mod Joining
-pub mod Resolving
-pub mod Noting
-pub mod Copying
+pub mod JoinedTexts
+pub mod ResolvedEntries
+pub mod NotedImports
+pub mod Copies
 pub mod Topmost
 pub mod Numbered
 pub mod Places

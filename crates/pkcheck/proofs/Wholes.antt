@@ -11,7 +11,7 @@ pub mod Given
 pub mod Payloads
 pub mod Refusals
 pub mod Checked
-pub mod Hearing
+pub mod HeardInstructions
 pub mod AnotherPickle
 pub mod WorkLeft
 pub mod RowOfPickles

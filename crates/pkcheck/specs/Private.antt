@@ -7,10 +7,10 @@ pub mod Joined
 pub mod Denials
 pub mod Spelled
 pub mod Actions
-pub mod Judging
+pub mod Judgement
 pub mod ListIndex
 pub mod NewTexts
 pub mod NextPickle
-pub mod Replacing
-pub mod Advancing
-pub mod Importing
+pub mod NamelessOperations
+pub mod Steps
+pub mod NamedOperations

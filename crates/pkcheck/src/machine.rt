@@ -27,10 +27,10 @@ ghost use Rattle.pkcheck.specs.Covers.{Covers};
 ghost use Rattle.pkcheck.specs.Import.{asked_shown, policy_of, pair_shown};
 ghost use Rattle.pkcheck.specs.Private.NextPickle.{moved_apart, restarted};
 ghost use Rattle.pkops.specs.Payloads.{is_passed};
-ghost use Rattle.pkcheck.specs.Stepping.{AnswersAsBefore, AppendsPermitted, FailsStep, GoesOn};
-ghost use Rattle.pkcheck.specs.Stepping.{IfFirst};
-ghost use Rattle.pkcheck.specs.Stepping.{IsNoFalseAlarm, IsStep, MayLackMemory, MeansInEachRun};
-ghost use Rattle.pkcheck.specs.Stepping.{PassesNoFault, RefusesForGood, UnknownIsNeeded};
+ghost use Rattle.pkcheck.specs.Step.{AnswersAsBefore, AppendsPermitted, FailsStep, GoesOn};
+ghost use Rattle.pkcheck.specs.Step.{IfFirst};
+ghost use Rattle.pkcheck.specs.Step.{IsNoFalseAlarm, IsStep, MayLackMemory, MeansInEachRun};
+ghost use Rattle.pkcheck.specs.Step.{PassesNoFault, RefusesForGood, UnknownIsNeeded};
 ghost use Rattle.pkcheck.specs.Texts.{texts_then};
 ghost use Rattle.pkcheck.specs.View.{fresh, has_off_list, stopped_by};
 

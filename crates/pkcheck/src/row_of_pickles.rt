@@ -1,10 +1,10 @@
 //! Checks pickles that follow one another in a source.
 
 ghost use Rattle.std.specs.Prelude.{◌≡◌, ◌<◌, [], None, true};
-ghost use Rattle.pkread.specs.Reading.{TakesNoneAhead, has_ended, state};
+ghost use Rattle.pkread.specs.ReaderCalls.{TakesNoneAhead, has_ended, state};
 ghost use Rattle.pkread.specs.Rows.{all_bytes, sight};
 ghost use Rattle.pkcheck.specs.Import.{policy_of};
-ghost use Rattle.pkcheck.specs.Private.Judging.{IsNoAt};
+ghost use Rattle.pkcheck.specs.Private.Judgement.{IsNoAt};
 ghost use Rattle.pkcheck.specs.Private.NextPickle.{IsCounted, IsRestarted, LooksBehind, listed_in};
 ghost use Rattle.pkcheck.specs.RowOfPickles.{CountsInRow, IsRightOfRow};
 

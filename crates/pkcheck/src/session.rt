@@ -9,7 +9,7 @@ ghost use Rattle.pkread.specs.Framing.{other};
 ghost use Rattle.pkread.specs.Pieces.{number_of, role_of};
 ghost use Rattle.pkcheck.specs.Covers.{Covers};
 ghost use Rattle.pkcheck.specs.Import.{policy_of};
-ghost use Rattle.pkcheck.specs.Private.Judging.{HasLength, IsNoAt, BothGoOn, IsRefused};
+ghost use Rattle.pkcheck.specs.Private.Judgement.{HasLength, IsNoAt, BothGoOn, IsRefused};
 ghost use Rattle.pkcheck.specs.Private.NextPickle.{moved_apart, restarted};
 ghost use Rattle.pkcheck.specs.Runs.{State};
 ghost use Rattle.pkcheck.specs.Shape.{marks_of};
@@ -45,7 +45,7 @@ impl Drop for Session {
 }
 
 impl Model for Session {
-    ghost use Rattle.pkcheck.specs.Private.Judging.{SessionView};
+    ghost use Rattle.pkcheck.specs.Private.Judgement.{SessionView};
 
     ghost Value = { SessionView };
 

@@ -1,10 +1,10 @@
 -- Definitions that only private functions cite. They need not be trusted: the contract of `export`
 -- follows from them.
 pub mod Arena
-pub mod Acting
+pub mod PlainActions
 pub mod Mirrors
 pub mod Fronts
-pub mod Standing
+pub mod ReplayProgress
 pub mod Kinds
 pub mod Cells
 pub mod Seen

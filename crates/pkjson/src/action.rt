@@ -5,7 +5,7 @@ ghost use Rattle.pkops.specs.Spelling.{Argument, instruction};
 ghost use Rattle.pkcheck.specs.Effects.{effect_of};
 ghost use Rattle.pkjson.specs.Contents.{kind_by_effect};
 ghost use Rattle.pkjson.specs.Plain.{is_plain_data};
-ghost use Rattle.pkjson.specs.Private.Acting.{ActsAs, KindsAgree};
+ghost use Rattle.pkjson.specs.Private.PlainActions.{ActsAs, KindsAgree};
 
 use pkops::Op;
 

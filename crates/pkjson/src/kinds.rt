@@ -4,7 +4,7 @@ ghost use Rattle.std.specs.Prelude.{◌≡◌, IfOk, IfErr, IfSome, true, false}
 ghost use Rattle.pkops.specs.Inst.{instruction_of};
 ghost use Rattle.pkops.specs.Spelling.{shown_arg};
 ghost use Rattle.pkjson.specs.Contents.{says_true, text_named};
-ghost use Rattle.pkjson.specs.Private.Acting.{kind_made, number_made};
+ghost use Rattle.pkjson.specs.Private.PlainActions.{kind_made, number_made};
 ghost use Rattle.pkjson.specs.Private.Halts.{IsNoKind};
 ghost use Rattle.pkjson.specs.Private.Kinds.{kind_seen};
 

@@ -6,6 +6,7 @@ mod arena;
 mod build;
 mod error;
 mod exporting;
+mod final_members;
 mod front;
 mod halt;
 mod integer;
@@ -22,7 +23,6 @@ mod replay;
 mod settle;
 mod settled;
 mod slots;
-mod standing;
 mod texts;
 mod writing;
 

@@ -7,8 +7,8 @@ ghost use Rattle.pkjson.specs.Contents.{characters};
 ghost use Rattle.pkjson.specs.Private.Ranks.{AreMembers, ArePlaces, AreRanks, StandsIn};
 ghost use Rattle.pkjson.specs.Private.Seen.{kept_all};
 
+use crate::final_members::{members, text_at};
 use crate::objects::Object;
-use crate::standing::{members, text_at};
 use std::alloc::{AllocError, Global};
 use std::cmp::Ordering;
 use std::collections::{BTreeMap, BTreeSet};

@@ -3,7 +3,7 @@
 ghost use Rattle.std.specs.Prelude.{◌≡◌, [], ◌∷◌, ◌++◌, ◌<◌, ◌≤◌, length, take, drop, IfOk};
 ghost use Rattle.std.specs.Prelude.{MatchOption, Ok, OnOk};
 ghost use Rattle.pkcheck.specs.Shape.{items, slice, top};
-ghost use Rattle.pkjson.specs.Private.Acting.{picked, found_above, IsLacking};
+ghost use Rattle.pkjson.specs.Private.PlainActions.{picked, found_above, IsLacking};
 ghost use Rattle.pkjson.specs.Private.Seen.{numbers_of, seen_entries, FindsPlace, FindsObject};
 
 use crate::action::Takes;

@@ -15,7 +15,7 @@ use Rattle.pkops.specs.Floats.{IsFloatLine}
 use Rattle.pkops.specs.OldStrings.{IsStringLine}
 use Rattle.pkops.specs.Escapes.{SpellsText}
 use Rattle.pkops.specs.Forms.{forms_behind}
-use Rattle.pkops.specs.Scanning.{longest}
+use Rattle.pkops.specs.Scans.{longest}
 use Rattle.pkops.specs.OldBytes.{old_bytes}
 use Rattle.pkops.specs.Text.{text_bytes}
 use Rattle.pkops.proofs.ContentsRules.EscapesSpelled.{points_of_spelled, spelled_points}

@@ -7,7 +7,7 @@ use Rattle.pkops.specs.declared.form.Form.TheVariants as form
 use Rattle.pkops.specs.declared.layout.Layout.{Layout}
 use Rattle.pkops.specs.declared.layout.Layout.TheVariants as layout
 use Rattle.pkops.specs.declared.op.Op.{Op}
-use Rattle.pkops.specs.Lying.{split_of}
+use Rattle.pkops.specs.KnownLayout.{split_of}
 use Rattle.pkops.specs.Spelling.{Argument, Nothing, Number, Signed, Float, Line, Pair, Counted}
 use Rattle.pkops.specs.Spelling.{instruction, layout_at, shown_arg, size_of, spelling}
 

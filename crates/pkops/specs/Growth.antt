@@ -1,9 +1,9 @@
 -- What a prefix of an instruction becomes as more bytes arrive, for readers that take the bytes
 -- themselves.
 use Rattle.std.specs.Prelude.{◌≡◌, ◌⊎◌, ◌<◌, ◌≤◌, ◌+◌, [], ◌∷◌, ◌++◌, Bool, List, length, take, ℕ}
-use Rattle.pkops.specs.Lying.{AreBytes, IsCountField, IsFixed, Lies, count_in, field_len}
+use Rattle.pkops.specs.KnownLayout.{AreBytes, IsCountField, IsFixed, Lies, count_in, field_len}
 use Rattle.pkops.specs.Payloads.{HasCount}
-use Rattle.pkops.specs.Scanning.{Begun, HasFault, longest}
+use Rattle.pkops.specs.Scans.{Begun, HasFault, longest}
 use Rattle.pkops.specs.Spelling.{Argument, Counted, count_limit, layout_at}
 use Rattle.pkops.specs.Table.{code_of}
 use Rattle.pkops.specs.declared.fault.Fault.TheVariants.{BadArgument, TooLarge}

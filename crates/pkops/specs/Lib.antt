@@ -14,10 +14,10 @@ pub mod Operands
 pub mod Admitted
 pub mod Payloads
 pub mod Limits
-pub mod Scanning
+pub mod Scans
 pub mod Answer
-pub mod Lying
+pub mod KnownLayout
 pub mod Growth
-pub mod Deciding
+pub mod RuleTests
 pub mod Printed
 pub mod Private

@@ -7,7 +7,7 @@ use Rattle.std.specs.Option.{option_map}
 use Rattle.std.specs.Str.Parse.{digits_value}
 use Rattle.pkops.specs.declared.op.Op.{Op}
 use Rattle.pkops.specs.declared.op.Op.TheVariants as op
-use Rattle.pkops.specs.Deciding.{is_quote}
+use Rattle.pkops.specs.RuleTests.{is_quote}
 use Rattle.pkops.specs.OldStrings.{Item, plain, escape, hex, print_item, IsItem, IsQuote, items_of}
 use Rattle.pkops.specs.Spelling.{Argument, Line, Counted, Instruction}
 

@@ -6,7 +6,7 @@ use Rattle.pkops.specs.declared.layout.Width.{Width}
 use Rattle.pkops.specs.declared.op.Op.{Op}
 use Rattle.pkops.specs.declared.op.Op.TheVariants as op
 use Rattle.pkops.specs.Limits.{Bounds}
-use Rattle.pkops.specs.Lying.{count_in}
+use Rattle.pkops.specs.KnownLayout.{count_in}
 use Rattle.pkops.specs.Spelling.{layout_at, size_of}
 use Rattle.pkops.specs.Table.{code_of}
 

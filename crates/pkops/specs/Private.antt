@@ -2,4 +2,4 @@
 -- `proofs/` relate them to the public definitions.
 pub mod EscapeSteps
 pub mod Places
-pub mod Reading
+pub mod FirstFaults

@@ -2,7 +2,7 @@
 
 ghost use Rattle.std.specs.Prelude.{◌≡◌, MatchBool};
 ghost use Rattle.pkops.specs.Contents.{Keeps, rule_of};
-ghost use Rattle.pkops.specs.Deciding.{passes};
+ghost use Rattle.pkops.specs.RuleTests.{passes};
 ghost use Rattle.pkops.specs.Spelling.{shown_arg};
 
 use crate::arg::Arg;

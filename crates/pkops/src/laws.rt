@@ -4,10 +4,10 @@
 ghost use Rattle.std.specs.Prelude.{◌≡◌, ◌↔◌, [], ◌++◌, List, Some, true, ℕ};
 ghost use Rattle.pkops.specs.Answer.{Answer, Answers};
 ghost use Rattle.pkops.specs.Contents.{Keeps};
-ghost use Rattle.pkops.specs.Deciding.{passes};
+ghost use Rattle.pkops.specs.RuleTests.{passes};
 ghost use Rattle.pkops.specs.Growth.{BegunLaws, CountLaws, FieldLaws};
 ghost use Rattle.pkops.specs.OldBytes.{NamesBytes, old_bytes};
-ghost use Rattle.pkops.specs.Scanning.{Spells};
+ghost use Rattle.pkops.specs.Scans.{Spells};
 ghost use Rattle.pkops.specs.Spelling.{Argument, Instruction};
 ghost use Rattle.pkops.specs.Table.{code_of};
 ghost use Rattle.pkops.specs.Text.{NamesText, text_bytes};

@@ -8,7 +8,7 @@ ghost use Rattle.pkops.specs.Numerals.{IsMemoNumber};
 ghost use Rattle.pkops.specs.Operands.{names_bool_by, names_memo_entry, number_said};
 ghost use Rattle.pkops.specs.declared.op.Op.TheVariants as opcode;
 ghost use Rattle.pkops.specs.Spelling.{Argument, instruction, shown_arg, size_of};
-ghost use Rattle.pkops.specs.Lying.{Lies, count_in};
+ghost use Rattle.pkops.specs.KnownLayout.{Lies, count_in};
 
 use crate::arg::Arg;
 use crate::contents::numeral::{is_bool_line, number_of};

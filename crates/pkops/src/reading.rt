@@ -4,8 +4,9 @@ ghost use Rattle.std.specs.Prelude.{◌≡◌, ◌⊎◌, ◌≤◌, ◌<◌, �
 ghost use Rattle.std.specs.Int.{cast_signed, w32};
 ghost use Rattle.pkops.specs.Spelling.{Argument, Number, Signed, Float, Line, Pair, Counted};
 ghost use Rattle.pkops.specs.Spelling.{shown_arg};
-ghost use Rattle.pkops.specs.Private.Reading.{ReturnsAs, pair_at, ◌>>=◌ as ◌and_then◌, bytes_at};
-ghost use Rattle.pkops.specs.Private.Reading.{number_at, line_at, payload_at, arg_at};
+ghost use Rattle.pkops.specs.Private.FirstFaults.{ReturnsAs, pair_at, ◌>>=◌ as ◌and_then◌};
+ghost use Rattle.pkops.specs.Private.FirstFaults.{bytes_at};
+ghost use Rattle.pkops.specs.Private.FirstFaults.{number_at, line_at, payload_at, arg_at};
 
 use crate::arg::Arg;
 use crate::fault::Fault;
@@ -45,7 +46,7 @@ fn number(width: usize, from: &[u8]) -> Result<(u64, &[u8]), Unread>
 }
 
 /// A line without its line feed, and the bytes after it.
-#[tactic(auto, unfolding(crate::specs::Private::Reading::line_at))]
+#[tactic(auto, unfolding(crate::specs::Private::FirstFaults::line_at))]
 fn line(most: usize, from: &[u8]) -> Result<(&[u8], &[u8]), Unread>
     ensures { ReturnsAs (λ x. (x.0.now, x.1.now)) result (line_at most from.now) }
 {
@@ -64,7 +65,7 @@ fn end_of_line(from: &[u8]) -> Option<usize>
 }
 
 /// A payload without its count, and the bytes after it.
-#[tactic(auto, unfolding(crate::specs::Private::Reading::payload_at))]
+#[tactic(auto, unfolding(crate::specs::Private::FirstFaults::payload_at))]
 fn payload<'a>(
     limit: u64,
     width: Width,
@@ -152,7 +153,7 @@ fn counted<'a>(
 }
 
 /// An argument of the layout, and the bytes after it.
-#[tactic(auto, unfolding(crate::specs::Private::Reading::arg_at))]
+#[tactic(auto, unfolding(crate::specs::Private::FirstFaults::arg_at))]
 pub fn argument<'a>(
     limit: u64,
     layout: Layout,

@@ -1,7 +1,7 @@
 //! The instruction at the front of bytes.
 
 ghost use Rattle.std.specs.Prelude.{◌≡◌};
-ghost use Rattle.pkops.specs.Private.Reading.{IsUnread};
+ghost use Rattle.pkops.specs.Private.FirstFaults.{IsUnread};
 ghost use Rattle.pkops.specs.Answer.{Answer, Answers, shown_scan};
 
 use crate::codes::op_of_byte;

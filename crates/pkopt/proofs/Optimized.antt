@@ -27,7 +27,7 @@ use Rattle.pkopt.specs.declared.fate.Plan.{Plan}
 use Rattle.pkopt.specs.declared.optimizing.Traced.{Traced}
 use Rattle.pkopt.specs.declared.trace.Trace.{Trace}
 use Rattle.pkopt.specs.Private.Passes.{AreNumbers, IsNewTrace, Hears}
-use Rattle.pkopt.specs.Private.Tracing.{IsTraced}
+use Rattle.pkopt.specs.Private.TracedCheck.{IsTraced}
 use Rattle.pkopt.specs.Answer.{Checks, pickle, Optimizes, FailsCheck, IsNotOptimized}
 use Rattle.pkread.specs.Rows.{in_memory}
 use Rattle.pkopt.specs.Private.Fates.{Aims, IsSlim, IsPlanFor}

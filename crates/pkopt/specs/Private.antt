@@ -11,5 +11,5 @@ pub mod Sinks
 pub mod Produced
 pub mod Outputs
 pub mod FrameBytes
-pub mod Tracing
-pub mod Hearing
+pub mod TracedCheck
+pub mod HeardParts

@@ -8,7 +8,7 @@ ghost use Rattle.pkopt.specs.Answer.{IsNotOptimized, Optimizes, Checks, FailsChe
 ghost use Rattle.pkopt.specs.Private.Fates.{IsPlanFor};
 ghost use Rattle.pkopt.specs.Private.Places.{end_behind, places_behind};
 ghost use Rattle.pkopt.specs.Private.Produced.{first_past};
-ghost use Rattle.pkopt.specs.Private.Tracing.{IsTraced};
+ghost use Rattle.pkopt.specs.Private.TracedCheck.{IsTraced};
 ghost use Rattle.pkopt.specs.Writers.{after_all, sources as sources_of};
 
 use crate::entry::Entry;

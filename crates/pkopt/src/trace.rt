@@ -227,7 +227,7 @@ impl Listener for Trace {
     type Error = AllocError;
 
     ghost use Rattle.pkopt.specs.Private.Passes.{Hears};
-    ghost use Rattle.pkopt.specs.Private.Hearing.{hears_none, hears_more};
+    ghost use Rattle.pkopt.specs.Private.HeardParts.{hears_none, hears_more};
 
     ghost hears = { Hears };
 

@@ -2,7 +2,7 @@
 use Rattle.std.specs.Prelude.{ℕ, Option, None, Some, IsTrue, if◌then◌else◌}
 use Rattle.pkops.specs.Admitted.{is_admitted}
 use Rattle.pkops.specs.Contents.{IsGood}
-use Rattle.pkops.specs.Scanning.{IsWithin}
+use Rattle.pkops.specs.Scans.{IsWithin}
 use Rattle.pkops.specs.Spelling.{Argument, Number, Instruction}
 use Rattle.pkops.specs.declared.Op.{Op}
 use Rattle.pkops.specs.declared.Op.TheVariants as op

@@ -3,7 +3,7 @@ use Rattle.std.specs.Prelude.{◌≡◌, ℕ, ◌<◌, Bool, true, false, List, 
 use Rattle.std.specs.Prelude.{MatchResult}
 use Rattle.std.specs.Io.KnownBytes.{IsAtEnd}
 use Rattle.pkread.specs.Core.{CoreView, Open, Refused}
-use Rattle.pkread.specs.Reading.{ReaderState, source_of}
+use Rattle.pkread.specs.ReaderCalls.{ReaderState, source_of}
 use Rattle.pkread.specs.Rows.{Sight, Takes, Fails, Refuses, sight, all_bytes}
 use Rattle.pkread.specs.Sequence.{CountsAt}
 use Rattle.pkread.specs.declared.reader.Reader.{Reader}

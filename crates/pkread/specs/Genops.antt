@@ -3,7 +3,7 @@ use Rattle.std.specs.Prelude.{◌≡◌, ℕ, ◌+◌, Bool, true, false, cond, 
 use Rattle.std.specs.Prelude.{None, Result, MatchBool, MatchOption, MatchResult}
 use Rattle.std.specs.Iterator.{Count, at_most}
 use Rattle.pkops.specs.Inst.{instruction_of}
-use Rattle.pkops.specs.Scanning.{Begun}
+use Rattle.pkops.specs.Scans.{Begun}
 use Rattle.pkops.specs.Spelling.{Instruction, spelling}
 use Rattle.pkops.specs.declared.Inst.{Inst}
 use Rattle.pkops.specs.declared.Op.{Op}

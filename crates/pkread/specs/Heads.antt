@@ -8,7 +8,7 @@ use Rattle.pkops.specs.Spelling.{Counted, instruction, spelling}
 use Rattle.pkops.specs.declared.Op.{Op}
 use Rattle.pkread.specs.Core.{Phase, Open, Ended, Refused}
 use Rattle.pkread.specs.Admission.{IsAllowed}
-use Rattle.pkread.specs.Reading.{Gives, ReaderState}
+use Rattle.pkread.specs.ReaderCalls.{Gives, ReaderState}
 use Rattle.pkread.specs.Rows.{Refuses, Sight, Takes, all_bytes}
 use Rattle.pkread.specs.Sequence.{CountsAt}
 use Rattle.pkread.specs.declared.reader.Head.{Head}

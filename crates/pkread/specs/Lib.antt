@@ -5,7 +5,7 @@ pub mod Admission
 pub mod Rows
 pub mod Held
 pub mod Core
-pub mod Reading
+pub mod ReaderCalls
 pub mod Heads
 pub mod Peek
 pub mod Again

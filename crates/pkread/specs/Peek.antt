@@ -1,14 +1,14 @@
 -- What `peek` shows of the next instruction, and what `advance` does with it.
 use Rattle.std.specs.Prelude.{◌≡◌, ℕ, ◌+◌, ◌≤◌, length, max}
 use Rattle.pkops.specs.Payloads.{payload_limit}
-use Rattle.pkops.specs.Scanning.{longest}
+use Rattle.pkops.specs.Scans.{longest}
 use Rattle.pkops.specs.Spelling.{Instruction, spelling}
 use Rattle.pkread.specs.Admission.{IsAllowedBy}
 use Rattle.pkread.specs.Core.{Open, phase_after}
 use Rattle.pkread.specs.Framing.{other}
 use Rattle.pkread.specs.Pieces.{number_of, role_of}
 use Rattle.pkread.specs.Pull.{BeginsWith}
-use Rattle.pkread.specs.Reading.{ReaderState}
+use Rattle.pkread.specs.ReaderCalls.{ReaderState}
 use Rattle.pkread.specs.Rows.{Takes, all_bytes}
 
 -- the bytes left begin with this instruction, which is neither STOP nor FRAME and whose payload is

@@ -3,7 +3,7 @@ use Rattle.std.specs.Prelude.{◌≡◌, ◌≢◌, ℕ, ◌+◌, ◌-◌, ◌^�
 use Rattle.std.specs.Prelude.{length, take, Option, Some}
 use Rattle.std.specs.Io.KnownBytes.{Consumes, IsAtEnd, prepend_known}
 use Rattle.pkops.specs.Answer.{IsWhole}
-use Rattle.pkops.specs.Scanning.{Begun, HasFault}
+use Rattle.pkops.specs.Scans.{Begun, HasFault}
 use Rattle.pkops.specs.Spelling.{Instruction}
 use Rattle.pkops.specs.declared.Fault.TheVariants as fault
 use Rattle.pkread.specs.Admission.{objection}

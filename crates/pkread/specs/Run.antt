@@ -10,7 +10,7 @@ use Rattle.pkread.specs.Admission.{IsAllowedBy}
 use Rattle.pkread.specs.Core.{Phase, Open, Ended, Refused}
 use Rattle.pkread.specs.Heads.{IsSkipped, Skips, RefusesHead, StepsHead}
 use Rattle.pkread.specs.Peek.{IsNext, PassesOver}
-use Rattle.pkread.specs.Reading.{Gives, RefusesAt, ReaderState, Steps, begun}
+use Rattle.pkread.specs.ReaderCalls.{Gives, RefusesAt, ReaderState, Steps, begun}
 use Rattle.pkread.specs.Rows.{Sight, Takes}
 use Rattle.pkread.specs.Sequence.{IsSequence, NoStop, StopIsLast, spellings}
 use Rattle.pkread.specs.declared.reader.Head.{Head}

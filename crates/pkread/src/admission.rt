@@ -5,7 +5,8 @@ ghost use Rattle.pkops.specs.Contents.{IsGood};
 ghost use Rattle.pkops.specs.Inst.{instruction_of};
 ghost use Rattle.pkops.specs.Spelling.{Suits, instruction, layout_at, shown_arg};
 ghost use Rattle.pkread.specs.Admission.{objection};
-ghost use Rattle.pkread.specs.Private.Judging.{IsFaulty, IsFine, IsSpelled, fault_reason, is_plain};
+ghost use Rattle.pkread.specs.Private.Judgement.{IsFaulty, IsFine, IsSpelled, fault_reason};
+ghost use Rattle.pkread.specs.Private.Judgement.{is_plain};
 
 use crate::refusal::Reason;
 use pkops::{Arg, Fault, Inst, Op, Rule, argument_of};

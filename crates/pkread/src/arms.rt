@@ -1,13 +1,13 @@
 //! One arm for each layout of an argument.
 
 ghost use Rattle.std.specs.Prelude.{◌≡◌, ◌∷◌, ◌<◌, ◌≤◌, [], ℕ, length};
-ghost use Rattle.pkops.specs.Lying.{IsFixed, field_len};
+ghost use Rattle.pkops.specs.KnownLayout.{IsFixed, field_len};
 ghost use Rattle.pkops.specs.Spelling.{layout_at, size_of};
 ghost use Rattle.pkops.specs.Table.{code_of};
 ghost use Rattle.pkops.specs.declared.Layout.TheVariants as layout;
-ghost use Rattle.pkread.specs.Private.Gathering.{TakesArgument, TakesCount, TakesSplit};
+ghost use Rattle.pkread.specs.Private.Arms.{TakesArgument, TakesCount, TakesSplit};
 ghost use Rattle.pkread.specs.Private.Progress.{KeepsRest, intake};
-ghost use Rattle.pkread.specs.Private.Taking.{TakesAll};
+ghost use Rattle.pkread.specs.Private.Reads.{TakesAll};
 
 use crate::admission::{is_good, is_plain, judged};
 use crate::gathering::Gathering;

@@ -4,15 +4,15 @@ ghost use Rattle.std.specs.Prelude.{◌≡◌, ◌≢◌, ◌<◌, ◌≤◌, �
 ghost use Rattle.std.specs.Prelude.{List, false, length, position, slice_index, true};
 ghost use Rattle.std.specs.Str.{IsUtf8};
 ghost use Rattle.pkops.specs.Limits.{Bounds};
-ghost use Rattle.pkops.specs.Lying.{Lies};
+ghost use Rattle.pkops.specs.KnownLayout.{Lies};
 ghost use Rattle.pkops.specs.Payloads.{payload_limit};
 ghost use Rattle.pkops.specs.Spelling.{Argument, IsLine, layout_at, line_feed, size_of};
 ghost use Rattle.pkops.specs.declared.Layout.TheVariants as layout;
 ghost use Rattle.pkops.specs.Table.{code_of};
 ghost use Rattle.pkops.specs.declared.Op.{Op as SpecOp};
 ghost use Rattle.pkops.specs.declared.Op.TheVariants as op;
-ghost use Rattle.pkread.specs.Private.Gathering.{HasFixedLength, IsFront, IsInFront};
-ghost use Rattle.pkread.specs.Private.Judging.{is_plain};
+ghost use Rattle.pkread.specs.Private.Arms.{HasFixedLength, IsFront, IsInFront};
+ghost use Rattle.pkread.specs.Private.Judgement.{is_plain};
 
 use crate::admission::{is_good, is_plain};
 use pkops::laws::{growth, one_code};

@@ -1,13 +1,13 @@
 //! Takes the bytes of one instruction from a source, in one pass.
 
 ghost use Rattle.std.specs.Prelude.{◌≡◌, ◌∷◌, ◌≤◌, [], IfOk, length};
-ghost use Rattle.pkops.specs.Scanning.{longest};
+ghost use Rattle.pkops.specs.Scans.{longest};
 ghost use Rattle.pkops.specs.Spelling.{layout_at};
 ghost use Rattle.pkops.specs.Table.{code_of};
 ghost use Rattle.pkread.specs.Core.{AtMostOneAhead};
-ghost use Rattle.pkread.specs.Private.Gathering.{TakesFound, TakesOp, TakesSplit, TakesWhole};
+ghost use Rattle.pkread.specs.Private.Arms.{TakesFound, TakesOp, TakesSplit, TakesWhole};
 ghost use Rattle.pkread.specs.Private.Progress.{KeepsRest, intake, intake_start};
-ghost use Rattle.pkread.specs.Private.Taking.{TakesByte};
+ghost use Rattle.pkread.specs.Private.Reads.{TakesByte};
 
 use crate::arms::Count;
 use crate::gathering::Gathering;

@@ -5,8 +5,8 @@ ghost use Rattle.std.specs.Prelude.{IfErr, IfNone, IfOk, IfSome, false, true};
 ghost use Rattle.pkread.specs.Rows.{all_bytes, sight};
 ghost use Rattle.pkread.specs.Held.{most_held, none_held};
 ghost use Rattle.pkread.specs.Private.Progress.{KeepsRest, intake};
-ghost use Rattle.pkread.specs.Private.Taking.{ReadsByte, ReadsNone, TakesAll, TakesBlock};
-ghost use Rattle.pkread.specs.Private.Taking.{TakesByte};
+ghost use Rattle.pkread.specs.Private.Reads.{ReadsByte, ReadsNone, TakesAll, TakesBlock};
+ghost use Rattle.pkread.specs.Private.Reads.{TakesByte};
 
 use crate::buffer::Buffer;
 use crate::refusal::Reason;

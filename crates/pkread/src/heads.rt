@@ -2,15 +2,15 @@
 
 ghost use Rattle.std.specs.Prelude.{◌≡◌, ◌∷◌, ◌≤◌, [], false, length, max, true};
 ghost use Rattle.pkops.specs.Payloads.{is_passed};
-ghost use Rattle.pkops.specs.Scanning.{longest};
+ghost use Rattle.pkops.specs.Scans.{longest};
 ghost use Rattle.pkops.specs.Spelling.{layout_at};
 ghost use Rattle.pkops.specs.Table.{code_of};
 ghost use Rattle.pkops.specs.declared.Layout.TheVariants as layout;
 ghost use Rattle.pkread.specs.Core.{AtMostOneAhead};
 ghost use Rattle.pkread.specs.Held.{most_held};
 ghost use Rattle.pkread.specs.Private.Progress.{intake, intake_start};
-ghost use Rattle.pkread.specs.Private.Skipping.{RisesLittle, SkipsAll, SkipsArgument};
-ghost use Rattle.pkread.specs.Private.Skipping.{TakesHead};
+ghost use Rattle.pkread.specs.Private.SkippedBytes.{RisesLittle, SkipsAll, SkipsArgument};
+ghost use Rattle.pkread.specs.Private.SkippedBytes.{TakesHead};
 
 use crate::arms::Count;
 use crate::gather::Found;

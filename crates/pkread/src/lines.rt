@@ -1,6 +1,6 @@
 //! Takes lines, byte by byte.
 
-ghost use Rattle.pkread.specs.Private.Gathering.{TakesLine};
+ghost use Rattle.pkread.specs.Private.Arms.{TakesLine};
 ghost use Rattle.pkread.specs.Private.Progress.{KeepsRest, intake};
 
 use crate::gathering::Gathering;

@@ -2,9 +2,9 @@
 
 ghost use Rattle.std.specs.Prelude.{◌≡◌, ◌≤◌, [], IfSome, length, true};
 ghost use Rattle.std.specs.Borrow.{sem};
-ghost use Rattle.pkread.specs.Reading.{source_name, source_of};
+ghost use Rattle.pkread.specs.ReaderCalls.{source_name, source_of};
 ghost use Rattle.pkops.specs.Inst.{instruction_of};
-ghost use Rattle.pkops.specs.Scanning.{longest};
+ghost use Rattle.pkops.specs.Scans.{longest};
 ghost use Rattle.pkops.specs.Spelling.{Instruction, spelling};
 ghost use Rattle.pkread.specs.Rows.{sight};
 
@@ -84,8 +84,9 @@ impl<'r, R: Source> Reader<'r, R> {
     ghost use Rattle.pkread.specs.Again.{StepsAgain, TakesOneAhead};
     ghost use Rattle.pkread.specs.Heads.{ShowsAHead, StepsHead};
     ghost use Rattle.pkread.specs.Peek.{IsNext, PassesOver};
-    ghost use Rattle.pkread.specs.Reading.{KeepsSource, LeavesSource, Shows, Steps, TakesNoneAhead};
-    ghost use Rattle.pkread.specs.Reading.{begun, has_ended, source_of, state};
+    ghost use Rattle.pkread.specs.ReaderCalls.{KeepsSource, LeavesSource, Shows, Steps};
+    ghost use Rattle.pkread.specs.ReaderCalls.{TakesNoneAhead};
+    ghost use Rattle.pkread.specs.ReaderCalls.{begun, has_ended, source_of, state};
 
     /// A reader at the start of the source.
     pub fn new(alloc: Global, source: &'r mut R, limits: &Limits) -> Reader<'r, R>

@@ -3,17 +3,17 @@
 ghost use Rattle.std.specs.Prelude.{◌≡◌, ◌≢◌, ◌+◌, ◌<◌, ◌≤◌, [], ℕ, IfErr, IfOk, List, false};
 ghost use Rattle.std.specs.Prelude.{length, max, true};
 ghost use Rattle.pkops.specs.Inst.{instruction_of};
-ghost use Rattle.pkops.specs.Lying.{Lies};
-ghost use Rattle.pkops.specs.Scanning.{longest};
+ghost use Rattle.pkops.specs.KnownLayout.{Lies};
+ghost use Rattle.pkops.specs.Scans.{longest};
 ghost use Rattle.pkops.specs.Spelling.{Argument, instruction};
 ghost use Rattle.pkread.specs.Again.{WhyNoByte};
 ghost use Rattle.pkread.specs.Core as phase;
 ghost use Rattle.pkread.specs.Core.{NoneIfClosed, ahead_of, phase_after, phase_at, shown_phase};
 ghost use Rattle.pkread.specs.Held.{most_held};
-ghost use Rattle.pkread.specs.Private.Collecting.{Advances, ByteCame, Collects, CollectsHead};
-ghost use Rattle.pkread.specs.Private.Collecting.{EndsHere, IfHeld, NoneCame, Waits, before_next};
-ghost use Rattle.pkread.specs.Private.Collecting.{behind_next, phase_behind};
-ghost use Rattle.pkread.specs.Private.Gathering.{IsFound};
+ghost use Rattle.pkread.specs.Private.OpenReader.{Advances, ByteCame, Collects, CollectsHead};
+ghost use Rattle.pkread.specs.Private.OpenReader.{EndsHere, IfHeld, NoneCame, Waits, before_next};
+ghost use Rattle.pkread.specs.Private.OpenReader.{behind_next, phase_behind};
+ghost use Rattle.pkread.specs.Private.Arms.{IsFound};
 ghost use Rattle.pkread.specs.Private.Progress.{KeepsRest};
 ghost use Rattle.pkread.specs.Rows.{all_bytes, sight};
 
@@ -64,7 +64,7 @@ impl Model for Core {
     ghost use Rattle.pkread.specs.Core.{AtMostOneAhead, CoreView, NoneIfClosed, SomeIfEnded};
     ghost use Rattle.pkread.specs.Core.{ahead_of, phase_at};
     ghost use Rattle.pkread.specs.Held.{most_held};
-    ghost use Rattle.pkops.specs.Scanning.{longest};
+    ghost use Rattle.pkops.specs.Scans.{longest};
 
     ghost Value = { CoreView };
 

@@ -3,7 +3,7 @@ use Rattle.std.proofs.Common.{Bool, true, false, Result, Ok, Err, IfErr, IfOk, �
 use Rattle.std.proofs.Common.{List, [], ◌∷◌, Option, None, Some, refl, ap, subst, ◌∙◌}
 use Rattle.std.specs.Io.KnownBytes.{IsAtEnd, prepend_known}
 use Rattle.pkread.specs.Again.{RefusesAgain, NoByteIsRefused, StepsAgain, WhyNoByte}
-use Rattle.pkread.specs.Reading.{ReaderState}
+use Rattle.pkread.specs.ReaderCalls.{ReaderState}
 use Rattle.pkread.specs.Core.{Open, Refused}
 use Rattle.pkread.specs.Rows.{Sight, Takes, all_bytes, unread}
 use Rattle.pkread.specs.Sequence.{CountsAt}

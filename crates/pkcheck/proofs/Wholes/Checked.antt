@@ -10,7 +10,7 @@ use Rattle.pkread.specs.Admission.{IsAllowedBy}
 use Rattle.pkread.specs.Core.{Open}
 use Rattle.pkread.specs.Framing.{counted, counted_all}
 use Rattle.pkread.specs.Pieces.{piece_of}
-use Rattle.pkread.specs.Reading.{ReaderState, begun, has_ended, is_ended}
+use Rattle.pkread.specs.ReaderCalls.{ReaderState, begun, has_ended, is_ended}
 use Rattle.pkread.specs.Run.{Reads, ReadingBegins, ReadingGoesOn}
 use Rattle.pkread.specs.Sequence.{CountsAt, IsSequence, NoStop}
 use Rattle.pkread.specs.Rows.{Sight, Takes, Refuses as ReaderRefuses}
@@ -20,8 +20,8 @@ use Rattle.pkread.specs.declared.Refusal.{Refusal as ReadRefusal}
 use Rattle.pkcheck.specs.Accepted.{AcceptedFrom}
 use Rattle.std.specs.Prelude.{option_map}
 use Rattle.pkcheck.specs.Import.{asked_shown, asks_more}
-use Rattle.pkcheck.specs.Private.Judging.{IsNoAt, BothGoOn, BreaksFrame, IsRefusedByMachine}
-use Rattle.pkcheck.specs.Private.Judging.{IsRefused}
+use Rattle.pkcheck.specs.Private.Judgement.{IsNoAt, BothGoOn, BreaksFrame, IsRefusedByMachine}
+use Rattle.pkcheck.specs.Private.Judgement.{IsRefused}
 use Rattle.pkcheck.specs.Knowledge.{Policy, Asked, Refusal, reason_of, advance, nothing_known}
 use Rattle.pkcheck.specs.Listing.{imports_among, ImportsAreListed, permitted_by}
 use Rattle.pkcheck.specs.Refused.{RefusedFrom, Why, reading, judging, growing, HasFirstFault}
@@ -29,9 +29,9 @@ use Rattle.pkcheck.specs.RowRuns.{Afresh, Beginning, listed_before}
 use Rattle.pkcheck.specs.RunFaults.{HasRunFault, IsFaultless, RunsFrom}
 use Rattle.pkcheck.specs.Faults.{HasFaultHere, everyone}
 use Rattle.pkcheck.specs.Heard.{refused_instruction}
-use Rattle.pkcheck.proofs.Covering.Answering.{Word}
-use Rattle.pkcheck.proofs.Covering.Verdicts.{Yes, verdict}
-use Rattle.pkcheck.specs.Stepping.{StepWantsMemory}
+use Rattle.pkcheck.proofs.Coverage.OneTextStates.{Word}
+use Rattle.pkcheck.proofs.Coverage.Verdicts.{Yes, verdict}
+use Rattle.pkcheck.specs.Step.{StepWantsMemory}
 use Rattle.pkcheck.specs.View.{View, fresh, stopped_by, off_pair}
 use Rattle.pkcheck.specs.WholeRuns.{EndsWell, run_as}
 use Rattle.pkcheck.proofs.Wholes.FramesSoFar.{FrameLaws}
@@ -41,12 +41,12 @@ use Rattle.pkcheck.proofs.Wholes.Given.{Took, Turned}
 use Rattle.pkcheck.proofs.Wholes.Listed.{among_more, listed_from, sound_from}
 use Rattle.pkcheck.proofs.Wholes.Origins.{Begins, Origin, alone, begins_afresh, in_each}
 use Rattle.pkcheck.proofs.Wholes.Origins.{stands_from}
-use Rattle.pkcheck.proofs.Stepping.Stops.{stops_nowhere, nowhere_last, sequence_last}
-use Rattle.pkcheck.proofs.Stepping.Settings.{same_end, wants_no_registry}
-use Rattle.pkcheck.proofs.Covering.Showing.{IsLonger}
-use Rattle.pkcheck.proofs.Covering.Standing.{Stands, has_fault}
-use Rattle.pkcheck.proofs.Covering.FirstFault.{first, pair_of}
-use Rattle.pkcheck.proofs.Stepping.Extensions.{no_extension}
+use Rattle.pkcheck.proofs.StepParts.Stops.{stops_nowhere, nowhere_last, sequence_last}
+use Rattle.pkcheck.proofs.StepParts.Settings.{same_end, wants_no_registry}
+use Rattle.pkcheck.proofs.Coverage.ShownFaults.{IsLonger}
+use Rattle.pkcheck.proofs.Coverage.FaultsReached.{Stands, has_fault}
+use Rattle.pkcheck.proofs.Coverage.FirstFault.{first, pair_of}
+use Rattle.pkcheck.proofs.StepParts.Extensions.{no_extension}
 use Rattle.pkcheck.proofs.Wholes.Walk.{along, verdict_more}
 use Rattle.pkcheck.proofs.Wholes.Refusals.{none_earlier, counts_at}
 

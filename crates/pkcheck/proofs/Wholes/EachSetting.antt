@@ -31,7 +31,7 @@ use Rattle.pkcheck.specs.Runs.{named, operate_step, operated, perform, start, st
 use Rattle.pkcheck.specs.Runs.{text, with_answer}
 use Rattle.pkcheck.specs.WholeRuns.{AllListed, Ended, EndedBy, EndsWell, Reached, first_outcome}
 use Rattle.pkcheck.specs.WholeRuns.{go_on, outcomes_after, run_as}
-use Rattle.pkcheck.proofs.Stepping.Pushing.{old_unknown}
+use Rattle.pkcheck.proofs.StepParts.PushedObjects.{old_unknown}
 use Rattle.pkcheck.proofs.Wholes.RunSteps.{kept, perform_unused}
 use Rattle.pkcheck.specs.EachSetting.{SoundInEach}
 

@@ -13,7 +13,7 @@ use Rattle.pkops.specs.Answer.{Answer, Answers, Bad, IsWhole, More, Whole}
 use Rattle.pkops.specs.Contents.{IsGood}
 use Rattle.pkops.specs.Limits.{Bounds}
 use Rattle.pkops.specs.Payloads.{is_passed, is_passed_code, payload_limit, payload_limit_at}
-use Rattle.pkops.specs.Scanning.{Begun, HasFault as ShowsFault, IsWithin}
+use Rattle.pkops.specs.Scans.{Begun, HasFault as ShowsFault, IsWithin}
 use Rattle.pkops.specs.Spelling.{Instruction, spelling}
 use Rattle.pkops.specs.Table.{code_of}
 use Rattle.pkops.specs.declared.Fault.{Fault}

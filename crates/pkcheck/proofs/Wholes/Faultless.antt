@@ -6,8 +6,8 @@ use Rattle.pkops.specs.Limits.{Bounds}
 use Rattle.pkops.specs.Spelling.{Instruction}
 use Rattle.pkread.specs.Pieces.{FramesGoOn, piece_of}
 use Rattle.pkcheck.specs.Covers.{Asks, IsObject}
-use Rattle.pkcheck.proofs.Covering.CoversBy.{FollowsBy, FollowsIfOk, any_answer, objects_grow}
-use Rattle.pkcheck.proofs.Covering.Verdicts.{StopsLast}
+use Rattle.pkcheck.proofs.Coverage.CoversBy.{FollowsBy, FollowsIfOk, any_answer, objects_grow}
+use Rattle.pkcheck.proofs.Coverage.Verdicts.{StopsLast}
 use Rattle.pkcheck.specs.Knowledge.{Knowledge, Policy, Asked, AskedUnknown, Progress, advance}
 use Rattle.pkcheck.specs.Listing.{EachAsks, UnknownIsOpen}
 use Rattle.pkread.specs.Framing.{IsFramed, counted_all}
@@ -17,12 +17,12 @@ use Rattle.pkcheck.specs.Faults.{Arrivals, HasFaultHere, everyone}
 use Rattle.pkcheck.specs.RowRuns.{Beginning}
 use Rattle.pkcheck.specs.RunFaults.{HasRunFault, IsFaultless, RunsFrom}
 use Rattle.pkcheck.specs.Runs.{State, Stepped, WentOn, Raised, Stopped, Stuck, step_as}
-use Rattle.pkcheck.proofs.Covering.Verdicts.{Yes, verdict}
-use Rattle.pkcheck.proofs.Covering.Following.{step_follows}
-use Rattle.pkcheck.proofs.Covering.FirstFault.{no_fault, unknown_exactly}
+use Rattle.pkcheck.proofs.Coverage.Verdicts.{Yes, verdict}
+use Rattle.pkcheck.proofs.Coverage.AcceptedSteps.{step_follows}
+use Rattle.pkcheck.proofs.Coverage.FirstFault.{no_fault, unknown_exactly}
 use Rattle.pkcheck.proofs.Wholes.FramesSoFar.{framed_in}
 use Rattle.pkcheck.proofs.Wholes.Origins.{Begins, arrived, stands_from}
-use Rattle.pkcheck.proofs.Stepping.Stops.{nowhere_before}
+use Rattle.pkcheck.proofs.StepParts.Stops.{nowhere_before}
 use Rattle.pkcheck.proofs.Wholes.Walk.{along, verdict_first, verdict_split}
 
 -- a fault of an instruction that obeys the frame rules is one of the machine

@@ -13,7 +13,7 @@ use Rattle.pkread.specs.Admission.{IsAllowedBy}
 use Rattle.pkread.specs.Core.{Open, phase_after}
 use Rattle.pkread.specs.Heads.{IsSkipped, StepsHead}
 use Rattle.pkread.specs.Peek.{IsNext, PassesOver}
-use Rattle.pkread.specs.Reading.{Gives, ReaderState, Steps}
+use Rattle.pkread.specs.ReaderCalls.{Gives, ReaderState, Steps}
 use Rattle.pkread.specs.Rows.{Refuses, Sight, Takes, unread}
 use Rattle.pkread.specs.Run.{HeadIsRead, HoldsTo, NextIsRead, PassedIsRead, PassesTo, PeekedIsRead}
 use Rattle.pkread.specs.Run.{Reads, ReadsMore, RefusalIsRead, RefusalOfHeads}

@@ -16,19 +16,19 @@ use Rattle.pkcheck.specs.Knowledge.{Knowledge, Policy, Asked, AskedPair, AskedUn
 use Rattle.pkcheck.specs.Knowledge.{advance}
 use Rattle.pkops.specs.Limits.{Bounds}
 use Rattle.pkcheck.specs.Covers.{Pointwise, IsObject, imports_of, IsAsked, Adds}
-use Rattle.pkcheck.proofs.Stepping.Settings.{only_stop as never_stops}
-use Rattle.pkcheck.proofs.Covering.CoversBy.{any_answer, CoversBy, FollowsBy, FollowsIfOk}
-use Rattle.pkcheck.proofs.Covering.CoversBy.{objects_grow}
+use Rattle.pkcheck.proofs.StepParts.Settings.{only_stop as never_stops}
+use Rattle.pkcheck.proofs.Coverage.CoversBy.{any_answer, CoversBy, FollowsBy, FollowsIfOk}
+use Rattle.pkcheck.proofs.Coverage.CoversBy.{objects_grow}
 use Rattle.pkcheck.specs.Import.{asks_more}
 use Rattle.pkcheck.specs.WholeRuns.{Ended, first_outcome, outcomes_after, go_on, run_as, EndsWell}
 use Rattle.pkcheck.specs.WholeRuns.{AllListed}
-use Rattle.pkcheck.proofs.Covering.Verdicts.{Yes, verdict, IsYes}
-use Rattle.pkcheck.proofs.Covering.Verdicts.{StopsLast}
+use Rattle.pkcheck.proofs.Coverage.Verdicts.{Yes, verdict, IsYes}
+use Rattle.pkcheck.proofs.Coverage.Verdicts.{StopsLast}
 use Rattle.pkcheck.specs.Listing.{StandsFor, IsBeginning, ImportsAreListed, imports_among}
 use Rattle.pkcheck.specs.Listing.{permitted_by}
-use Rattle.pkcheck.proofs.Covering.Alike.{Pointwise-append}
-use Rattle.pkcheck.proofs.Covering.Following.{step_follows}
-use Rattle.pkcheck.proofs.Covering.Soundness.{emptied, imports_of-append, sound_along}
+use Rattle.pkcheck.proofs.Coverage.Alike.{Pointwise-append}
+use Rattle.pkcheck.proofs.Coverage.AcceptedSteps.{step_follows}
+use Rattle.pkcheck.proofs.Coverage.Soundness.{emptied, imports_of-append, sound_along}
 use Rattle.pkcheck.proofs.Wholes.Walk.{verdict_first}
 
 -- only STOP stops

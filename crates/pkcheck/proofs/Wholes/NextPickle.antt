@@ -23,14 +23,14 @@ use Rattle.pkcheck.specs.Runs.{Stopped, Stuck, effect_asks, perform, start, step
 use Rattle.pkcheck.specs.Shape.{Breach, Entry, top}
 use Rattle.pkcheck.specs.WholeRuns.{AllListed, Ended, EndedBy, EndsWell, Reached, first_outcome}
 use Rattle.pkcheck.specs.WholeRuns.{go_on, outcomes_after, run_as}
-use Rattle.pkcheck.proofs.Covering.Answering.{Answered, IsGoing, Word, grows, learn_exactly}
-use Rattle.pkcheck.proofs.Covering.Answering.{new_text, new_text_holds}
-use Rattle.pkcheck.proofs.Covering.CoversBy.{CoversBy, FollowsBy, FollowsIfOk, any_answer}
-use Rattle.pkcheck.proofs.Covering.CoversBy.{objects_grow}
-use Rattle.pkcheck.proofs.Covering.Following.{step_follows}
-use Rattle.pkcheck.proofs.Covering.Verdicts.{StopsLast, Yes, verdict}
-use Rattle.pkcheck.proofs.Stepping.Settings.{only_stop}
-use Rattle.pkcheck.proofs.Stepping.Stops.{stops_nowhere, sequence_last}
+use Rattle.pkcheck.proofs.Coverage.OneTextStates.{Answered, IsGoing, Word, grows, learn_exactly}
+use Rattle.pkcheck.proofs.Coverage.OneTextStates.{new_text, new_text_holds}
+use Rattle.pkcheck.proofs.Coverage.CoversBy.{CoversBy, FollowsBy, FollowsIfOk, any_answer}
+use Rattle.pkcheck.proofs.Coverage.CoversBy.{objects_grow}
+use Rattle.pkcheck.proofs.Coverage.AcceptedSteps.{step_follows}
+use Rattle.pkcheck.proofs.Coverage.Verdicts.{StopsLast, Yes, verdict}
+use Rattle.pkcheck.proofs.StepParts.Settings.{only_stop}
+use Rattle.pkcheck.proofs.StepParts.Stops.{stops_nowhere, sequence_last}
 use Rattle.pkcheck.proofs.Wholes.Listed.{after_first, listed_from, only_stop as stopped_by_stop}
 use Rattle.pkcheck.proofs.Wholes.Listed.{sound_from, stop_is_last}
 use Rattle.pkcheck.proofs.Wholes.Origins.{Begins, StartsIn}

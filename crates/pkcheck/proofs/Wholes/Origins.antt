@@ -13,9 +13,9 @@ use Rattle.pkcheck.specs.RowRuns.{InEachRunFrom, listed_before}
 use Rattle.pkcheck.specs.RunFaults.{RunsFrom}
 use Rattle.pkcheck.specs.Runs.{CanCome, Outcome, State, start}
 use Rattle.pkcheck.specs.WholeRuns.{AllListed, CanGetTo, Ended, GetsTo, run_as}
-use Rattle.pkcheck.proofs.Covering.Answering.{Answered, Word}
-use Rattle.pkcheck.proofs.Covering.CoversBy.{CoversBy}
-use Rattle.pkcheck.proofs.Covering.Standing.{Stands}
+use Rattle.pkcheck.proofs.Coverage.OneTextStates.{Answered, Word}
+use Rattle.pkcheck.proofs.Coverage.CoversBy.{CoversBy}
+use Rattle.pkcheck.proofs.Coverage.FaultsReached.{Stands}
 use Rattle.pkcheck.proofs.Wholes.Walk.{Along}
 
 -- the offset of the first byte of a pickle, where its runs begin, and what is known there

@@ -7,9 +7,9 @@ use Rattle.pkops.specs.Spelling.{Counted, Instruction, instruction}
 use Rattle.pkops.specs.declared.Op.{Op}
 use Rattle.pkops.specs.declared.Op.TheVariants as op
 use Rattle.pkread.specs.Pieces.{number_of, piece_of, role_of}
-use Rattle.pkread.specs.Reading.{ReaderState}
+use Rattle.pkread.specs.ReaderCalls.{ReaderState}
 use Rattle.pkread.specs.Rows.{Sight}
-use Rattle.pkcheck.specs.Private.Judging.{HasLength}
+use Rattle.pkcheck.specs.Private.Judgement.{HasLength}
 use Rattle.pkcheck.proofs.Wholes.Given.{Passed}
 
 no_frame : (o : Op) (m n : ℕ) → IsTrue (is_passed o) → role_of o m ≡ role_of o n

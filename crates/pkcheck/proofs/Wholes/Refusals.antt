@@ -5,7 +5,7 @@ use Rattle.pkops.specs.Spelling.{Instruction}
 use Rattle.pkread.specs.Sequence.{CountsAt}
 use Rattle.pkread.specs.declared.Reason.{Reason}
 use Rattle.pkread.specs.declared.Reason.TheVariants as reason
-use Rattle.pkcheck.specs.Private.Judging.{IsRefused}
+use Rattle.pkcheck.specs.Private.Judgement.{IsRefused}
 use Rattle.pkcheck.specs.Knowledge.{Policy, Refusal, reason_of, Lacks, WrongClass, NotText}
 use Rattle.pkcheck.specs.Knowledge.{UnknownImport, OffList, LeftOver, NotAscii, TooLarge}
 use Rattle.pkcheck.specs.Shape.{NoMark, NoItem, NoMemo, Odd, Extension}

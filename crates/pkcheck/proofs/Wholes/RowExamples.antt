@@ -12,7 +12,7 @@ use Rattle.pkcheck.specs.Runs.{Did, Event, Foreign, Go, Outcome, Plain, Raise, S
 use Rattle.pkcheck.specs.Runs.{Raised, Stopped, Stuck, start}
 use Rattle.pkcheck.specs.Shape.{NoItem, NoMark, NoMemo}
 use Rattle.pkcheck.specs.WholeRuns.{Ended, EndedBy, Reached, run}
-use Rattle.pkcheck.proofs.Covering.Examples.{at, bare, text}
+use Rattle.pkcheck.proofs.Coverage.Examples.{at, bare, text}
 
 abbrev get : ℕ → Instruction
 get n = at op.BinGet n

@@ -12,7 +12,7 @@ use Rattle.pkops.specs.Payloads.{payload_limit, payload_limit_at}
 use Rattle.pkops.specs.Spelling.{Instruction, spelling}
 use Rattle.pkread.specs.Again.{NoByteIsRefused}
 use Rattle.pkread.specs.Run.{ReadingGoesOn}
-use Rattle.pkread.specs.Reading.{ReaderState}
+use Rattle.pkread.specs.ReaderCalls.{ReaderState}
 use Rattle.pkread.specs.Core.{Open}
 use Rattle.pkread.specs.Rows.{Refuses, Sight, Takes, TakingLaws, all_bytes}
 use Rattle.pkread.specs.Sequence.{CountsAt, IsSequence, StopIsLast, spellings}
@@ -23,9 +23,9 @@ use Rattle.pkops.specs.declared.Op.TheVariants.{Stop}
 use Rattle.pkcheck.proofs.Wholes.Checked.{Checked, IsReady, accepted, checked_again, count_took}
 use Rattle.pkcheck.proofs.Wholes.Checked.{refused_took, refused_turned}
 use Rattle.pkcheck.proofs.Wholes.Given.{Took}
-use Rattle.pkcheck.proofs.Covering.Answering.{Word}
-use Rattle.pkcheck.proofs.Covering.Showing.{IsLonger}
-use Rattle.pkcheck.specs.Private.Judging.{IsRefused}
+use Rattle.pkcheck.proofs.Coverage.OneTextStates.{Word}
+use Rattle.pkcheck.proofs.Coverage.ShownFaults.{IsLonger}
+use Rattle.pkcheck.specs.Private.Judgement.{IsRefused}
 use Rattle.pkcheck.proofs.Wholes.NextPickle.{begins_next, imports_more}
 use Rattle.pkcheck.proofs.Wholes.Origins.{Begins, Origin, begins_afresh, begins_row}
 use Rattle.pkcheck.proofs.Wholes.FramesSoFar.{FrameLaws}

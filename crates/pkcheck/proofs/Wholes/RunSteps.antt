@@ -15,9 +15,9 @@ use Rattle.pkcheck.specs.Runs.{Stuck, Named, NoImport, Pair, NotTexts, asks, com
 use Rattle.pkcheck.specs.Runs.{operate_step, perform, step_as, effect_asks}
 use Rattle.pkcheck.specs.Knowledge.{Knowledge, Progress, Refusal, within}
 use Rattle.pkcheck.specs.Covers.{IsObject}
-use Rattle.pkcheck.proofs.Covering.CoversBy.{CoversBy, FollowsBy}
+use Rattle.pkcheck.proofs.Coverage.CoversBy.{CoversBy, FollowsBy}
 use Rattle.pkcheck.specs.WholeRuns.{Ended, Reached, first_outcome, outcomes_after, go_on, run_as}
-use Rattle.pkcheck.proofs.Covering.Answering.{IsGoing, Exactly}
+use Rattle.pkcheck.proofs.Coverage.OneTextStates.{IsGoing, Exactly}
 
 -- a step that asks nothing ignores the outcome
 come_unused : (b : Bool) (gives : Gives) (i : Instruction) (t : Taken ℕ) (o q : Outcome) (s : State)

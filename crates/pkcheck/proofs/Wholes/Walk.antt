@@ -11,14 +11,14 @@ use Rattle.pkcheck.specs.Runs.{CanCome, Text, State, Outcome, step_as, effect_as
 use Rattle.pkcheck.specs.Knowledge.{Knowledge, Policy, Asked, Progress, Refusal, learn, advance}
 use Rattle.pkops.specs.Limits.{Bounds}
 use Rattle.pkcheck.specs.Covers.{IsObject}
-use Rattle.pkcheck.proofs.Covering.CoversBy.{any_answer, CoversBy, FollowsBy, FollowsIfOk}
-use Rattle.pkcheck.proofs.Covering.CoversBy.{objects_grow}
+use Rattle.pkcheck.proofs.Coverage.CoversBy.{any_answer, CoversBy, FollowsBy, FollowsIfOk}
+use Rattle.pkcheck.proofs.Coverage.CoversBy.{objects_grow}
 use Rattle.pkcheck.specs.WholeRuns.{Reached, first_outcome, go_on, run_as, CanGetTo}
-use Rattle.pkcheck.proofs.Covering.Verdicts.{Verdict, Yes, No, with_import, verdict_on, verdict}
-use Rattle.pkcheck.proofs.Covering.Following.{step_follows}
-use Rattle.pkcheck.proofs.Covering.Answering.{Answered, Word, new_text, new_text_holds, grows}
-use Rattle.pkcheck.proofs.Covering.Answering.{learn_exactly}
-use Rattle.pkcheck.proofs.Stepping.Settings.{only_stop}
+use Rattle.pkcheck.proofs.Coverage.Verdicts.{Verdict, Yes, No, with_import, verdict_on, verdict}
+use Rattle.pkcheck.proofs.Coverage.AcceptedSteps.{step_follows}
+use Rattle.pkcheck.proofs.Coverage.OneTextStates.{Answered, Word, new_text, new_text_holds, grows}
+use Rattle.pkcheck.proofs.Coverage.OneTextStates.{learn_exactly}
+use Rattle.pkcheck.proofs.StepParts.Settings.{only_stop}
 use Rattle.pkcheck.proofs.Wholes.RunSteps.{run_on, same_reached, each_on, gone, going}
 
 -- no instruction is STOP

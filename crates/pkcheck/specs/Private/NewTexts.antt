@@ -2,7 +2,7 @@
 use Rattle.std.specs.Prelude.{ℕ, ◌≡◌, ◌≤◌, ◌∷◌, IfErr, List, OnOk, Result, Some, length, suc}
 use Rattle.pkread.specs.declared.Reason.{Reason}
 use Rattle.pkcheck.specs.Private.Denials.{WantsRoom}
-use Rattle.pkcheck.specs.Private.Importing.{AreSeen, Piled}
+use Rattle.pkcheck.specs.Private.NamedOperations.{AreSeen, Piled}
 use Rattle.pkcheck.specs.Private.Slots.{HasMoreTexts, seen}
 use Rattle.pkcheck.specs.Runs.{Text}
 use Rattle.pkcheck.specs.Shape.{Item}

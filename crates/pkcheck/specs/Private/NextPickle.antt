@@ -3,11 +3,11 @@ use Rattle.std.specs.Prelude.{◌≡◌, ℕ, ◌+◌, ◌++◌, Bool, false, If
 use Rattle.std.specs.Prelude.{OnErr, OnOk, Option, Result}
 use Rattle.pkread.specs.Again.{StepsAgain, TakesOneAhead, WhyNoByte}
 use Rattle.pkread.specs.Core.{CoreView}
-use Rattle.pkread.specs.Reading.{KeepsSource, ReaderState, state}
+use Rattle.pkread.specs.ReaderCalls.{KeepsSource, ReaderState, state}
 use Rattle.pkread.specs.declared.Refusal.{Refusal}
 use Rattle.pkread.specs.declared.reader.Reader.{Reader}
 use Rattle.pkcheck.specs.declared.row_of_pickles.Row.{Row}
-use Rattle.pkcheck.specs.Private.Judging.{SessionView}
+use Rattle.pkcheck.specs.Private.Judgement.{SessionView}
 use Rattle.pkcheck.specs.declared.loading.Memo.{Memo}
 use Rattle.pkcheck.specs.declared.loading.Memo.TheVariants.{Fresh, Kept}
 use Rattle.pkcheck.specs.Knowledge.{Asked}

@@ -4,7 +4,7 @@ ghost use Rattle.std.specs.Prelude.{◌≡◌, ◌≤◌, ◌++◌, [], length, 
 ghost use Rattle.std.specs.Prelude.{None, OnErr, OnOk, Some, false, suc};
 ghost use Rattle.pkcheck.specs.Effects.{effect_of, number_moved};
 ghost use Rattle.pkcheck.specs.Private.Actions.{IsOperation, IsUnnamed};
-ghost use Rattle.pkcheck.specs.Private.Advancing.{IsStepFault};
+ghost use Rattle.pkcheck.specs.Private.Steps.{IsStepFault};
 ghost use Rattle.pkcheck.specs.Private.Denials.{IsFaultOf, IsStopFault, Proceeds, WantsRoom};
 ghost use Rattle.pkcheck.specs.Private.Denials.{pair_denied, with_item, with_made};
 ghost use Rattle.pkcheck.specs.Private.Spelled.{IsSpelled};

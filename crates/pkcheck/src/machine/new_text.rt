@@ -5,7 +5,7 @@ ghost use Rattle.pkops.specs.Contents.{IsGood, rule_of};
 ghost use Rattle.pkops.specs.Inst.{instruction_of};
 ghost use Rattle.pkops.specs.Spelling.{Counted, Line, instruction};
 ghost use Rattle.pkops.specs.declared.Rule.TheVariants as rule;
-ghost use Rattle.pkcheck.specs.Private.Importing.{AreSeen};
+ghost use Rattle.pkcheck.specs.Private.NamedOperations.{AreSeen};
 ghost use Rattle.pkcheck.specs.Private.NewTexts.{HasPushedText};
 ghost use Rattle.pkcheck.specs.Private.Spelled.{IsSpelled};
 ghost use Rattle.pkcheck.specs.Runs.{text};

@@ -14,7 +14,7 @@ use Rattle.pkjson.specs.declared.action.Move.{Move}
 use Rattle.pkjson.specs.declared.action.Move.TheVariants as move
 use Rattle.pkjson.specs.declared.action.Takes.{Takes}
 use Rattle.pkjson.specs.declared.action.Takes.TheVariants.{Objects, Slice}
-use Rattle.pkjson.specs.Private.Acting.{picked, found_above, move_of, TakesSame, TakesAbove}
+use Rattle.pkjson.specs.Private.PlainActions.{picked, found_above, move_of, TakesSame, TakesAbove}
 use Rattle.pkjson.specs.Plain.{rest_of}
 use Rattle.pkjson.specs.Private.Mirrors.{AreBelow, EntriesBelow, CellsBelow, IsHeld}
 

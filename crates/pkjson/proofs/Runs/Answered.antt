@@ -16,7 +16,7 @@ use Rattle.pkjson.specs.declared.error.ExportError.{ExportError}
 use Rattle.pkjson.specs.declared.error.ExportError.TheVariants.{TooDeep, TooMany, OutOfMemory}
 use Rattle.pkjson.specs.declared.node.Node.{Node}
 use Rattle.pkjson.specs.declared.objects.Object.{Object}
-use Rattle.pkjson.specs.Private.Acting.{ActsAs}
+use Rattle.pkjson.specs.Private.PlainActions.{ActsAs}
 use Rattle.pkjson.specs.Private.Arena.{Kept, holds}
 use Rattle.pkjson.specs.Contents.{contents}
 use Rattle.pkjson.specs.Export.{AcceptedAs, AppendsText, Results, IsValueOf}
@@ -28,7 +28,7 @@ use Rattle.pkjson.specs.Private.Replayed.{Replays}
 use Rattle.pkjson.specs.Private.Result.{IsAnswered, IsValue, IsText, IsTooLarge}
 use Rattle.pkjson.specs.Private.Seen.{kept_all}
 use Rattle.pkjson.specs.Private.Settled.{AreGivenBelow, AreSettled}
-use Rattle.pkjson.specs.Private.Standing.{StandsAt}
+use Rattle.pkjson.specs.Private.ReplayProgress.{StandsAt}
 use Rattle.pkjson.proofs.Values.NoFloats.{floatless}
 use Rattle.pkjson.proofs.Kept.EventsMirrored.{mirrors_contents}
 use Rattle.pkjson.proofs.Runs.PlainRun.{stops_here}

@@ -14,7 +14,7 @@ use Rattle.pkcheck.specs.Shape.{Entry, top}
 use Rattle.pkjson.specs.declared.action.Action.{Action}
 use Rattle.pkjson.specs.declared.action.Action.TheVariants.{Stops}
 use Rattle.pkjson.specs.declared.arena.Arena.{Arena as Held}
-use Rattle.pkjson.specs.Private.Acting.{acted, fault_acted, ActsAs, KindsAgree, IsLacking}
+use Rattle.pkjson.specs.Private.PlainActions.{acted, fault_acted, ActsAs, KindsAgree, IsLacking}
 use Rattle.pkjson.specs.Contents.{kind_by_effect}
 use Rattle.pkjson.specs.Export.{AcceptedAs, IsAccepted, FaultsAt}
 use Rattle.pkjson.specs.Private.Held.{parts}
@@ -22,7 +22,7 @@ use Rattle.pkjson.specs.Private.Mirrors.{EntriesBelow}
 use Rattle.pkjson.specs.Plain.{Fault, OtherOpcode, is_plain_data}
 use Rattle.pkjson.specs.Private.Replayed.{Replays}
 use Rattle.pkjson.specs.Private.Fronts.{HasFront, IsFront}
-use Rattle.pkjson.specs.Private.Standing.{Stands, StandsAt}
+use Rattle.pkjson.specs.Private.ReplayProgress.{Stands, StandsAt}
 use Rattle.pkjson.proofs.Runs.Answered.{replays}
 use Rattle.pkjson.proofs.Runs.RunToStop.{rest_is}
 use Rattle.pkjson.proofs.Runs.PlainRun.{stands_at, other_opcode, faulty, lacks_nothing}

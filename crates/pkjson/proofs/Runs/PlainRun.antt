@@ -27,10 +27,10 @@ use Rattle.pkjson.specs.Plain.{Fault, OtherKey, LargeNumber, OtherOpcode, is_pla
 use Rattle.pkjson.specs.Plain.{plain_run, first_fault, fault_of, fault_here, fault_after, keys_by}
 use Rattle.pkjson.specs.Plain.{are_texts, number_fits, is_known_text, every_other, rest_of, taken}
 use Rattle.pkjson.specs.Private.Arena.{Kept, Arena, kind_at, is_text_kind, are_text_kinds}
-use Rattle.pkjson.specs.Private.Acting.{acted, keys_acted, number_acted, fault_acted, ActsAs}
-use Rattle.pkjson.specs.Private.Acting.{KindsAgree}
+use Rattle.pkjson.specs.Private.PlainActions.{acted, keys_acted, number_acted, fault_acted, ActsAs}
+use Rattle.pkjson.specs.Private.PlainActions.{KindsAgree}
 use Rattle.pkjson.specs.Private.Mirrors.{MirrorsState}
-use Rattle.pkjson.specs.Private.Standing.{HasStop, Stands, StandsAt}
+use Rattle.pkjson.specs.Private.ReplayProgress.{HasStop, Stands, StandsAt}
 use Rattle.pkjson.proofs.Kept.OperandsTaken.{found_of, above_of, above_rest, err_ok, ok_same}
 use Rattle.pkjson.proofs.Runs.PlainStep.{IsNotStuck, mirrors_step, stops_at}
 

@@ -27,8 +27,9 @@ use Rattle.pkjson.specs.Contents.{Kind, OfItems, OfPairs, OfValue, kind_by_effec
 use Rattle.pkjson.specs.Plain.{goes_on, is_known_text}
 use Rattle.pkjson.specs.Private.Arena.{Kept, Arena, kept_by, kind_at, update, more_given}
 use Rattle.pkjson.specs.Private.Arena.{is_text_kind}
-use Rattle.pkjson.specs.Private.Acting.{picked, found_above, made_of, filled_of, kind_made, move_of}
-use Rattle.pkjson.specs.Private.Acting.{acted, MakesSame, FillsSame, ActsAs, KindsAgree}
+use Rattle.pkjson.specs.Private.PlainActions.{picked, found_above, made_of, filled_of, kind_made}
+use Rattle.pkjson.specs.Private.PlainActions.{move_of}
+use Rattle.pkjson.specs.Private.PlainActions.{acted, MakesSame, FillsSame, ActsAs, KindsAgree}
 use Rattle.pkjson.specs.Private.Mirrors.{Mirrors, AreBelow, EntriesBelow, CellsBelow, IsHeld}
 use Rattle.pkjson.specs.Private.Mirrors.{GivenBelow, MirrorsState}
 use Rattle.pkjson.proofs.Kept.EventsMirrored.{mirrors_made, mirrors_received}

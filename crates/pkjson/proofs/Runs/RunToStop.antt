@@ -28,7 +28,7 @@ use Rattle.pkjson.specs.Private.Arena.{no_object}
 use Rattle.pkjson.specs.Private.Mirrors.{MirrorsState}
 use Rattle.pkjson.specs.Export.{AcceptedAs, IsAccepted, IsNotExported}
 use Rattle.pkjson.specs.Private.Result.{TellsRefusal}
-use Rattle.pkjson.specs.Private.Standing.{HasStop, Stands}
+use Rattle.pkjson.specs.Private.ReplayProgress.{HasStop, Stands}
 use Rattle.pkjson.proofs.Runs.PlainRun.{run_is}
 
 has_stop : (front : List Instruction) (last : Instruction) → last.op ≡ op.Stop

@@ -4,7 +4,7 @@ use Rattle.pkops.specs.declared.Inst.{Inst}
 use Rattle.pkops.specs.declared.Op.{Op}
 use Rattle.pkops.specs.Contents.{IsGood}
 use Rattle.pkops.specs.Inst.{instruction_of}
-use Rattle.pkops.specs.Lying.{split_of}
+use Rattle.pkops.specs.KnownLayout.{split_of}
 use Rattle.pkops.specs.Spelling.{Instruction, spelling}
 use Rattle.pkread.specs.Admission.{IsAllowed}
 

@@ -7,7 +7,7 @@ use Rattle.pkops.specs.Spelling.{Instruction}
 use Rattle.pkjson.specs.declared.action.Action.{Action}
 use Rattle.pkjson.specs.Plain as fault
 use Rattle.pkjson.specs.Private.Arena.{Arena}
-use Rattle.pkjson.specs.Private.Acting.{acted, fault_acted, IsLacking}
+use Rattle.pkjson.specs.Private.PlainActions.{acted, fault_acted, IsLacking}
 
 -- the integer does not fit, or an allocation was refused
 abbrev pub IsNoKind : Bool → Halt → Type 0

@@ -11,7 +11,7 @@ use Rattle.pkjson.specs.declared.slots.Slot.{Slot}
 use Rattle.pkjson.specs.declared.slots.Slot.TheVariants as slot
 use Rattle.pkjson.specs.Contents.{OfItems, OfPairs, OfValue}
 use Rattle.pkjson.specs.Private.Arena.{Kept}
-use Rattle.pkjson.specs.Private.Acting.{IsLacking}
+use Rattle.pkjson.specs.Private.PlainActions.{IsLacking}
 
 -- the object that the program's `Object` stands for
 abbrev pub kept_of : Object → Kept

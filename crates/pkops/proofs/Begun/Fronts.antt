@@ -1,7 +1,7 @@
 -- What begins an instruction is begun by each of its fronts.
 use Rattle.std.proofs.Common.{ℕ, List, ◌++◌, ◌∙◌, append_assoc, arith}
 use Rattle.std.proofs.lemmas.List.{length-append, length-drop}
-use Rattle.pkops.specs.Scanning.{Begun}
+use Rattle.pkops.specs.Scans.{Begun}
 use Rattle.pkops.proofs.ExactReaders.Fields.{not_nil, some_left}
 
 pub fronts_begin : (limit : ℕ) (front more : List ℕ) → Begun limit (front ++ more)

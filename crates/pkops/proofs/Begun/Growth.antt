@@ -12,9 +12,9 @@ use Rattle.pkops.specs.declared.layout.Layout.{Layout}
 use Rattle.pkops.specs.declared.layout.Layout.TheVariants as layout
 use Rattle.pkops.specs.declared.layout.Width.{Width}
 use Rattle.pkops.specs.declared.op.Op.{Op}
-use Rattle.pkops.specs.Lying.{Lies, split_of, field_len, IsFixed}
-use Rattle.pkops.specs.Private.Reading.{arg_at, payload_at, bytes_at}
-use Rattle.pkops.specs.Scanning.{Begun, HasFault}
+use Rattle.pkops.specs.KnownLayout.{Lies, split_of, field_len, IsFixed}
+use Rattle.pkops.specs.Private.FirstFaults.{arg_at, payload_at, bytes_at}
+use Rattle.pkops.specs.Scans.{Begun, HasFault}
 use Rattle.pkops.specs.Spelling.{Argument, Nothing, Number, Signed, Float, Counted, instruction}
 use Rattle.pkops.specs.Spelling.{laid, layout_at, size_of, count_limit}
 use Rattle.pkops.specs.Table.{code_of}

@@ -17,7 +17,7 @@ use Rattle.pkops.specs.declared.layout.Width.TheVariants as width
 use Rattle.pkops.specs.Table.{kind_of}
 use Rattle.pkops.specs.Spelling.{Argument, Nothing, Number, Signed, Float, Line, Pair, Counted}
 use Rattle.pkops.specs.Spelling.{Suits, laid, layout_of, layout_at, size_of}
-use Rattle.pkops.specs.Scanning.{IsWithin, Begun, count_len, longest}
+use Rattle.pkops.specs.Scans.{IsWithin, Begun, count_len, longest}
 use Rattle.pkops.proofs.ExactReaders.Fields.{some_left}
 
 -- the lines of a layout have at most 65,536 bytes

@@ -7,7 +7,7 @@ use Rattle.pkops.specs.declared.contents.Rule.{Rule}
 use Rattle.pkops.specs.declared.contents.Rule.TheVariants as rule
 use Rattle.pkops.specs.Spelling.{Argument, Line, Pair, Counted}
 use Rattle.pkops.specs.Contents.{Keeps}
-use Rattle.pkops.specs.Deciding.{passes, is_name}
+use Rattle.pkops.specs.RuleTests.{passes, is_name}
 use Rattle.pkops.specs.Escapes.{IsTextLine, points_of}
 use Rattle.pkops.proofs.ContentsRules.EscapesSpelled.{points_of_spelled, spelled_points}
 use Rattle.pkops.proofs.ContentsRules.Floats.{float_is, is_float_of}

@@ -10,9 +10,9 @@ use Rattle.std.proofs.lemmas.List.{take_rest, nil_from_length, length-drop}
 use Rattle.std.proofs.lemmas.List.Sums.{AllPass-from_list_all, list_all-from_AllPass}
 use Rattle.pkops.specs.Floats.{IsDigits, IsFraction, IsSign, IsExponent, Optional, IsDecimal}
 use Rattle.pkops.specs.Floats.{IsUnsigned, IsFloatLine}
-use Rattle.pkops.specs.Deciding.{starts_with_digit, after_digits, is_digits, is_signed_digits}
-use Rattle.pkops.specs.Deciding.{is_exponent_or_end, is_after_whole, is_decimal, is_word}
-use Rattle.pkops.specs.Deciding.{is_unsigned, is_float_line}
+use Rattle.pkops.specs.RuleTests.{starts_with_digit, after_digits, is_digits, is_signed_digits}
+use Rattle.pkops.specs.RuleTests.{is_exponent_or_end, is_after_whole, is_decimal, is_word}
+use Rattle.pkops.specs.RuleTests.{is_unsigned, is_float_line}
 use Rattle.pkops.proofs.ContentsRules.Numerals.{or_right}
 
 -- ---- digits at the front

@@ -12,7 +12,7 @@ use Rattle.pkops.specs.declared.arg.Arg.{Arg}
 use Rattle.pkops.specs.declared.arg.Arg.TheVariants as arg
 use Rattle.pkops.specs.Spelling.{Argument, Instruction, Pair, instruction, shown_arg}
 use Rattle.pkops.specs.Contents.{IsName, IsGood}
-use Rattle.pkops.specs.Deciding.{is_name}
+use Rattle.pkops.specs.RuleTests.{is_name}
 
 pub ascii_is : (line : List ℕ) → list_all is_ascii line ≡ true → IsAscii line
 ascii_is [] e i = omega arith

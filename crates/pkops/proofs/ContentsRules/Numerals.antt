@@ -17,9 +17,9 @@ use Rattle.std.proofs.lemmas.List.Sums.{AllPass-from_list_all, list_all-from_All
 use Rattle.std.proofs.Math.Seq.{get_or-append_seam}
 use Rattle.pkops.specs.Numerals.{is_bool_line, IsPositive, IsNatural, IsNumeral, IsIntLine}
 use Rattle.pkops.specs.Numerals.{IsLongLine, IsMemoNumber}
-use Rattle.pkops.specs.Deciding.{is_zero, is_positive, is_natural, is_negative, is_numeral}
-use Rattle.pkops.specs.Deciding.{is_int_line, ends_in_l, is_marked_numeral, is_long_line}
-use Rattle.pkops.specs.Deciding.{is_memo_number}
+use Rattle.pkops.specs.RuleTests.{is_zero, is_positive, is_natural, is_negative, is_numeral}
+use Rattle.pkops.specs.RuleTests.{is_int_line, ends_in_l, is_marked_numeral, is_long_line}
+use Rattle.pkops.specs.RuleTests.{is_memo_number}
 
 pub or_left : (a b : Bool) → a ≡ true → (a || b) ≡ true
 or_left a b e = rw e refl

@@ -17,7 +17,7 @@ use Rattle.pkops.specs.OldBytes.{byte_of, bytes_between, letter_byte}
 use Rattle.pkops.specs.OldStrings.{Item, plain, escape, hex, print_item, is_escape_letter, IsItem}
 use Rattle.pkops.specs.OldStrings.{IsQuote, IsStringLine, items_of}
 use Rattle.pkops.specs.Private.Places.{place_step}
-use Rattle.pkops.specs.Deciding.{are_items, is_quote, is_string_line}
+use Rattle.pkops.specs.RuleTests.{are_items, is_quote, is_string_line}
 use Rattle.pkops.proofs.ContentsRules.OldStringsSpelled.{not_x, items_is, is_items_of}
 use Rattle.pkops.proofs.ContentsRules.OldStringsSpelled.{items_of_printed, items_printed}
 use Rattle.pkops.proofs.ContentsRules.OldStringsLoop.{with_byte, spelled, joined, one_step}

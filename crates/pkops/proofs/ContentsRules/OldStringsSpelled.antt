@@ -8,7 +8,7 @@ use Rattle.std.proofs.lemmas.Bool.{and_parts, cases_Bool, eqb-true, eqb-false, n
 use Rattle.std.proofs.lemmas.Bool.{le-leb, both_ways}
 use Rattle.pkops.specs.OldStrings.{Item, plain, escape, hex, print_item, is_escape_letter, IsItem}
 use Rattle.pkops.specs.OldStrings.{is_plain, hex_at, old_escape_at, item_at, items_of}
-use Rattle.pkops.specs.Deciding.{are_items}
+use Rattle.pkops.specs.RuleTests.{are_items}
 use Rattle.pkops.proofs.ContentsRules.FormsRead.{IsRead, IsPrinted, AreInverse, read_of, printed_of}
 
 abbrev pub Items : ℕ → List ℕ → Type 0

@@ -14,8 +14,8 @@ use Rattle.pkops.specs.declared.fault.Fault.{Fault}
 use Rattle.pkops.specs.declared.fault.Fault.TheVariants.{UnknownOpcode, BadArgument, TooLarge}
 use Rattle.pkops.specs.Spelling.{Argument, Nothing, Number, Signed, Float, Line, Pair, Counted}
 use Rattle.pkops.specs.Spelling.{Suits, laid, IsLine}
-use Rattle.pkops.specs.Scanning.{MayBegin, IsNegative, IsAbove}
-use Rattle.pkops.specs.Private.Reading.{arg_at}
+use Rattle.pkops.specs.Scans.{MayBegin, IsNegative, IsAbove}
+use Rattle.pkops.specs.Private.FirstFaults.{arg_at}
 use Rattle.pkops.proofs.ExactReaders.Exact.{Takes}
 use Rattle.pkops.proofs.ExactReaders.Fields.{ok_is, NoFault, self, number_exact, bytes_exact}
 use Rattle.pkops.proofs.ExactReaders.Fields.{some_left}

@@ -13,7 +13,7 @@ use Rattle.byteorder.specs.Numbers.{length-bytes_low_first}
 use Rattle.pkops.specs.declared.fault.Fault.{Fault}
 use Rattle.pkops.specs.declared.reading.Unread.{Unread}
 use Rattle.pkops.specs.declared.reading.Unread.TheVariants.{Short, Bad}
-use Rattle.pkops.specs.Private.Reading.{bytes_at, number_at}
+use Rattle.pkops.specs.Private.FirstFaults.{bytes_at, number_at}
 use Rattle.pkops.proofs.ExactReaders.Exact.{IsBytes, Lacks, Takes, IsExact}
 
 pub IsBytes-drop : (n : ℕ) (bytes : List ℕ) → IsBytes bytes → IsBytes (drop n bytes)

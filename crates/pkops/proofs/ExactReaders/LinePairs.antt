@@ -8,8 +8,8 @@ use Rattle.pkops.specs.declared.fault.Fault.TheVariants.{UnknownOpcode, BadArgum
 use Rattle.pkops.specs.declared.reading.Unread.{Unread}
 use Rattle.pkops.specs.declared.reading.Unread.TheVariants.{Short, Bad}
 use Rattle.pkops.specs.Spelling.{IsLine}
-use Rattle.pkops.specs.Private.Reading.{◌>>=◌, line_at, pair_at}
-use Rattle.pkops.specs.Scanning.{IsLong}
+use Rattle.pkops.specs.Private.FirstFaults.{◌>>=◌, line_at, pair_at}
+use Rattle.pkops.specs.Scans.{IsLong}
 use Rattle.pkops.proofs.ExactReaders.Exact.{IsBytes, Lacks, Takes, IsExact}
 use Rattle.pkops.proofs.ExactReaders.Fields.{ok_is, not_nil}
 use Rattle.pkops.proofs.ExactReaders.Lines.{line_text, LineFault, line_exact}

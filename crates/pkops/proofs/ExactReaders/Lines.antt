@@ -9,8 +9,8 @@ use Rattle.pkops.specs.declared.fault.Fault.{Fault}
 use Rattle.pkops.specs.declared.fault.Fault.TheVariants.{UnknownOpcode, BadArgument, TooLarge}
 use Rattle.pkops.specs.declared.reading.Unread.TheVariants.{Short, Bad}
 use Rattle.pkops.specs.Spelling.{IsLine}
-use Rattle.pkops.specs.Private.Reading.{line_at}
-use Rattle.pkops.specs.Scanning.{IsLong}
+use Rattle.pkops.specs.Private.FirstFaults.{line_at}
+use Rattle.pkops.specs.Scans.{IsLong}
 use Rattle.pkops.proofs.ExactReaders.LineEnds.{Clean, end_of, end_at, no_end, IsSplit, either_end}
 use Rattle.pkops.proofs.ExactReaders.Exact.{IsBytes, Lacks, Takes, IsExact}
 use Rattle.pkops.proofs.ExactReaders.Fields.{after_fits, not_nil, some_left, ok_is}

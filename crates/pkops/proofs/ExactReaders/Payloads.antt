@@ -16,7 +16,7 @@ use Rattle.pkops.specs.declared.fault.Fault.TheVariants.{UnknownOpcode, BadArgum
 use Rattle.pkops.specs.declared.reading.Unread.{Unread}
 use Rattle.pkops.specs.declared.reading.Unread.TheVariants.{Short, Bad}
 use Rattle.pkops.specs.Spelling.{size_of, count_limit}
-use Rattle.pkops.specs.Private.Reading.{bytes_at, payload_at}
+use Rattle.pkops.specs.Private.FirstFaults.{bytes_at, payload_at}
 use Rattle.pkops.proofs.ExactReaders.Exact.{IsBytes, Lacks, Takes, IsExact}
 use Rattle.pkops.proofs.ExactReaders.Fields.{IsBytes-drop, not_nil, some_left, zeros_fit}
 use Rattle.pkops.proofs.ExactReaders.Fields.{length-zeros, bytes_back, too_few, enough, few_bytes}

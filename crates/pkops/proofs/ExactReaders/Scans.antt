@@ -17,9 +17,9 @@ use Rattle.pkops.specs.Table.{code_of, kind_of}
 use Rattle.pkops.specs.Spelling.{Argument, Nothing, Instruction, instruction, laid, layout_of}
 use Rattle.pkops.specs.Spelling.{layout_at, spelling}
 use Rattle.pkops.specs.Contents.{IsGood}
-use Rattle.pkops.specs.Scanning.{Begun, HasFault}
+use Rattle.pkops.specs.Scans.{Begun, HasFault}
 use Rattle.pkops.specs.Answer.{IsWhole, Answers}
-use Rattle.pkops.specs.Private.Reading.{IsUnread, arg_at}
+use Rattle.pkops.specs.Private.FirstFaults.{IsUnread, arg_at}
 use Rattle.pkops.proofs.ExactReaders.Exact.{IsBytes, Takes}
 use Rattle.pkops.proofs.ExactReaders.Fields.{not_nil}
 use Rattle.pkops.proofs.ExactReaders.Arguments.{arg_exact}

@@ -6,8 +6,8 @@ use Rattle.pkops.specs.declared.fault.Fault.TheVariants.{UnknownOpcode, BadArgum
 use Rattle.pkops.specs.declared.reading.Unread.{Unread}
 use Rattle.pkops.specs.declared.reading.Unread.TheVariants.{Short, Bad}
 use Rattle.pkops.specs.Spelling.{Argument, Suits, laid}
-use Rattle.pkops.specs.Scanning.{IsWithin, MayBegin, IsNegative, IsAbove}
-use Rattle.pkops.specs.Private.Reading.{◌>>=◌, arg_at}
+use Rattle.pkops.specs.Scans.{IsWithin, MayBegin, IsNegative, IsAbove}
+use Rattle.pkops.specs.Private.FirstFaults.{◌>>=◌, arg_at}
 use Rattle.pkops.proofs.ExactReaders.Exact.{IsBytes, Lacks, Takes, IsExact}
 use Rattle.pkops.proofs.ExactReaders.Fields.{ok_is}
 use Rattle.pkops.proofs.ExactReaders.LinePairs.{bind_ok, bind_err}

@@ -14,8 +14,8 @@ use Rattle.pkops.specs.declared.layout.Layout.TheVariants as layout
 use Rattle.pkops.specs.declared.op.Op.{Op}
 use Rattle.pkops.specs.Behind.{argument_behind, argument_in, spelled_by, split_by}
 use Rattle.pkops.specs.Contents.{IsGood}
-use Rattle.pkops.specs.Lying.{Lies, split_of}
-use Rattle.pkops.specs.Scanning.{IsWithin}
+use Rattle.pkops.specs.KnownLayout.{Lies, split_of}
+use Rattle.pkops.specs.Scans.{IsWithin}
 use Rattle.pkops.specs.Spelling.{Argument, Nothing, Number, Signed, Float, Line, Pair, Counted}
 use Rattle.pkops.specs.Spelling.{Suits, instruction, laid, layout_at, line_feed, size_of, spelling}
 use Rattle.pkops.specs.Table.{code_of}

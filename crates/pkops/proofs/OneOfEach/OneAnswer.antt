@@ -12,7 +12,7 @@ use Rattle.pkops.specs.Table.{code_of}
 use Rattle.pkops.specs.Spelling.{Argument, Instruction, instruction, laid, layout_at, spelling}
 use Rattle.pkops.specs.Contents.{IsGood}
 use Rattle.pkops.specs.Answer.{Answers}
-use Rattle.pkops.specs.Private.Reading.{arg_at}
+use Rattle.pkops.specs.Private.FirstFaults.{arg_at}
 use Rattle.pkops.proofs.ExactReaders.Fields.{ok_is}
 use Rattle.pkops.proofs.ExactReaders.Arguments.{arg_exact}
 use Rattle.pkops.proofs.ExactReaders.WrappedReaders.{ArgFault}

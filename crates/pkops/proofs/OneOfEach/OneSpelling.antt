@@ -6,8 +6,8 @@ use Rattle.pkops.specs.declared.op.Op.{Op}
 use Rattle.pkops.specs.Table.{code_of}
 use Rattle.pkops.specs.Spelling.{Argument, Counted, Instruction, instruction, laid, layout_at}
 use Rattle.pkops.specs.Spelling.{spelling}
-use Rattle.pkops.specs.Scanning.{IsWithin, Spells}
-use Rattle.pkops.specs.Private.Reading.{arg_at}
+use Rattle.pkops.specs.Scans.{IsWithin, Spells}
+use Rattle.pkops.specs.Private.FirstFaults.{arg_at}
 use Rattle.pkops.proofs.ExactReaders.Fields.{ok_is}
 use Rattle.pkops.proofs.ExactReaders.Arguments.{arg_exact}
 use Rattle.pkops.proofs.OneOfEach.OneCode.{one_code}

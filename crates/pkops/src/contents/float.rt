@@ -2,9 +2,9 @@
 
 ghost use Rattle.std.specs.Prelude.{◌≡◌, not, position};
 ghost use Rattle.std.specs.Char.{is_ascii_digit};
-ghost use Rattle.pkops.specs.Deciding.{after_digits, is_after_whole, is_decimal, is_digits};
-ghost use Rattle.pkops.specs.Deciding.{is_exponent_or_end, is_float_line, is_signed_digits};
-ghost use Rattle.pkops.specs.Deciding.{is_unsigned, starts_with_digit};
+ghost use Rattle.pkops.specs.RuleTests.{after_digits, is_after_whole, is_decimal, is_digits};
+ghost use Rattle.pkops.specs.RuleTests.{is_exponent_or_end, is_float_line, is_signed_digits};
+ghost use Rattle.pkops.specs.RuleTests.{is_unsigned, starts_with_digit};
 
 use crate::contents::numeral::are_digits;
 

@@ -3,7 +3,7 @@
 ghost use Rattle.std.specs.Prelude.{◌≡◌};
 ghost use Rattle.std.specs.List.{list_all};
 ghost use Rattle.std.specs.Char.{is_ascii};
-ghost use Rattle.pkops.specs.Deciding.{is_name};
+ghost use Rattle.pkops.specs.RuleTests.{is_name};
 
 /// Whether the line may be a module or a name: ASCII and not empty.
 pub fn is_name(line: &[u8]) -> bool

@@ -2,7 +2,7 @@
 
 ghost use Rattle.std.specs.Prelude.{◌≡◌, Some, None, if◌then◌else◌, IfOk, IfSome, is_some, map};
 ghost use Rattle.std.specs.Option.{option_map};
-ghost use Rattle.pkops.specs.Deciding.{are_items, is_string_line};
+ghost use Rattle.pkops.specs.RuleTests.{are_items, is_string_line};
 ghost use Rattle.pkops.specs.OldBytes.{bytes_between, bytes_of_line, letter_byte};
 ghost use Rattle.pkops.specs.Private.Places.{HoldsDigit, place_step};
 

@@ -5,7 +5,7 @@ use Rattle.std.specs.Prelude.{All, ◌≤◌}
 use Rattle.std.proofs.lemmas.List.Elements.{All-cons, All-head, All-nil, All-tail}
 use Rattle.pkops.specs.Limits.{holding_all}
 use Rattle.pkops.specs.Payloads.{payload_limit}
-use Rattle.pkops.specs.Scanning.{IsWithin}
+use Rattle.pkops.specs.Scans.{IsWithin}
 use Rattle.pkops.specs.Spelling.{Argument, Counted, Instruction, Suits, layout_at}
 use Rattle.pkops.specs.declared.Op.{Op}
 use Rattle.pkops.specs.declared.Op.TheVariants as op

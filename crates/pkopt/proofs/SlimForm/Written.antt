@@ -16,7 +16,7 @@ use Rattle.pkopt.specs.Private.Passes.{memo_use}
 use Rattle.pkopt.specs.Private.Places.{places_from}
 use Rattle.pkopt.specs.Slim.{left_of, slim_from}
 use Rattle.pkopt.specs.Writers.{Writes, after, sources, new_number, after_all}
-use Rattle.pkopt.specs.Private.Hearing.{after_all-more}
+use Rattle.pkopt.specs.Private.HeardParts.{after_all-more}
 use Rattle.pkopt.proofs.SlimForm.Fates.{At, Emits, RightFor, fate_right, at_next, on_right}
 use Rattle.pkopt.proofs.SlimForm.Fates.{past_right}
 use Rattle.pkopt.proofs.SlimForm.WritesRead.{after_all-append}

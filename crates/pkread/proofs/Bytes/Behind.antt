@@ -4,8 +4,8 @@ use Rattle.std.proofs.Common.{drop, refl, ap, ◌∙◌, inl, inr, arith, add-on
 use Rattle.std.proofs.lemmas.List.{length-take, take-append-drop, take-append-le, take_at}
 use Rattle.std.proofs.lemmas.Bool.{cases_lt}
 use Rattle.pkops.specs.Growth.{BegunLaws, CountLaws, FieldLaws}
-use Rattle.pkops.specs.Lying.{IsCountField, IsFixed, Lies, count_in, field_len}
-use Rattle.pkops.specs.Scanning.{Begun}
+use Rattle.pkops.specs.KnownLayout.{IsCountField, IsFixed, Lies, count_in, field_len}
+use Rattle.pkops.specs.Scans.{Begun}
 use Rattle.pkops.specs.Spelling.{Counted, count_limit, layout_at, size_of}
 use Rattle.pkops.specs.Table.{code_of}
 use Rattle.pkops.specs.declared.Layout.TheVariants as layout
@@ -14,10 +14,10 @@ use Rattle.pkops.specs.declared.Width.TheVariants as width
 use Rattle.pkops.specs.declared.Op.{Op}
 use Rattle.pkread.proofs.Bytes.Taken.{AreBytes-both, AreBytes-take, lacks_after, took_both}
 use Rattle.pkread.proofs.Bytes.Taken.{took_none}
-use Rattle.pkread.specs.Private.Gathering.{Counts, Grows, RowBehind, Stops}
+use Rattle.pkread.specs.Private.Arms.{Counts, Grows, RowBehind, Stops}
 use Rattle.pkread.specs.Private.Progress.{Intake}
 use Rattle.pkread.specs.Rows.{FrontsBegin, Sight}
-use Rattle.pkread.specs.Private.Taking.{AreAllBytes, LackRow, LacksSome, Took, TookAll}
+use Rattle.pkread.specs.Private.Reads.{AreAllBytes, LackRow, LacksSome, Took, TookAll}
 use Rattle.pkread.specs.declared.arms.Count.{Count}
 use Rattle.pkread.specs.declared.refusal.Reason.{Reason}
 use Rattle.pkread.specs.declared.refusal.Reason.TheVariants.{Source, Truncated, BadArgument}

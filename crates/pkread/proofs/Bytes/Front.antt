@@ -13,9 +13,9 @@ use Rattle.byteorder.specs.Numbers.{little_from-lt}
 use Rattle.pkops.specs.Contents.{Keeps, rule_of}
 use Rattle.pkops.specs.Growth.{CountLaws, FieldLaws}
 use Rattle.pkops.specs.Limits.{Bounds}
-use Rattle.pkops.specs.Lying.{AreBytes, Lies, count_in, field_len}
+use Rattle.pkops.specs.KnownLayout.{AreBytes, Lies, count_in, field_len}
 use Rattle.pkops.specs.Payloads.{payload_limit}
-use Rattle.pkops.specs.Scanning.{longest}
+use Rattle.pkops.specs.Scans.{longest}
 use Rattle.pkops.specs.Spelling.{Counted, Number}
 use Rattle.pkops.specs.Spelling.{count_limit, instruction, layout_at}
 use Rattle.pkops.specs.Spelling.{size_of}
@@ -30,9 +30,9 @@ use Rattle.pkread.proofs.Bytes.Taken.{AreBytes-take}
 use Rattle.pkread.specs.Admission.{objection}
 use Rattle.pkread.specs.Framing.{other}
 use Rattle.pkread.specs.Pieces.{role_of}
-use Rattle.pkread.specs.Private.Gathering.{HasFixedLength, IsFront, IsInFront}
-use Rattle.pkread.specs.Private.Judging.{is_plain}
-use Rattle.pkread.specs.Private.Taking.{AreAllBytes}
+use Rattle.pkread.specs.Private.Arms.{HasFixedLength, IsFront, IsInFront}
+use Rattle.pkread.specs.Private.Judgement.{is_plain}
+use Rattle.pkread.specs.Private.Reads.{AreAllBytes}
 use Rattle.pkread.specs.Pull.{BeginsWith, TakesCount}
 use Rattle.pkread.specs.Rows.{Sight, Takes}
 

@@ -11,7 +11,7 @@ use Rattle.std.proofs.lemmas.List.Quantifiers.{position-Some}
 use Rattle.std.proofs.lemmas.Bool.Decides.{Decides-ltb, nat_tests}
 use Rattle.pkops.specs.Contents.{IsGood}
 use Rattle.pkops.specs.Limits.{Bounds}
-use Rattle.pkops.specs.Lying.{Lies}
+use Rattle.pkops.specs.KnownLayout.{Lies}
 use Rattle.pkops.specs.Spelling.{Argument, Counted, Float, IsLine, Line, Nothing, Number, Pair}
 use Rattle.pkops.specs.Spelling.{Signed, Suits, instruction, layout_at, line_feed}
 use Rattle.pkops.specs.Table.{code_of}
@@ -22,7 +22,7 @@ use Rattle.pkread.proofs.Bytes.Lengths.{is_few}
 use Rattle.pkread.proofs.Bytes.Texts.{line_admitted, pair_admitted}
 use Rattle.pkread.specs.Framing.{other}
 use Rattle.pkread.specs.Pieces.{role_of}
-use Rattle.pkread.specs.Private.Gathering.{IsInFront}
+use Rattle.pkread.specs.Private.Arms.{IsInFront}
 
 -- an opcode with lines is neither STOP nor FRAME
 line_role : (o : Op) (most : ℕ) → layout_at o ≡ layout.Line most → role_of o 0 ≡ other

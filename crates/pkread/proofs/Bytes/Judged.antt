@@ -7,8 +7,8 @@ use Rattle.std.proofs.lemmas.List.{take_all, length-take}
 use Rattle.pkops.specs.Answer.{IsWhole}
 use Rattle.pkops.specs.Contents.{IsGood}
 use Rattle.pkops.specs.Growth.{BegunLaws}
-use Rattle.pkops.specs.Lying.{Lies}
-use Rattle.pkops.specs.Scanning.{HasFault, longest}
+use Rattle.pkops.specs.KnownLayout.{Lies}
+use Rattle.pkops.specs.Scans.{HasFault, longest}
 use Rattle.pkops.specs.Spelling.{Argument, Instruction, instruction, spelling}
 use Rattle.pkops.specs.Table.{code_of}
 use Rattle.pkops.specs.declared.Fault.TheVariants as fault
@@ -20,12 +20,12 @@ use Rattle.pkread.proofs.Reasons.Objections.{objection_is_amiss}
 use Rattle.pkread.proofs.Reasons.OneRow.{OneAnswer, one_row}
 use Rattle.pkread.specs.Admission.{objection}
 use Rattle.pkread.proofs.Bytes.Taken.{took_both}
-use Rattle.pkread.specs.Private.Gathering.{Finds, Gathers, Grows, IsFound, RowBehind, Stops}
-use Rattle.pkread.specs.Private.Gathering.{TakesFound, TakesWhole}
+use Rattle.pkread.specs.Private.Arms.{Finds, Gathers, Grows, IsFound, RowBehind, Stops}
+use Rattle.pkread.specs.Private.Arms.{TakesFound, TakesWhole}
 use Rattle.pkread.specs.Private.Progress.{Intake}
 use Rattle.pkread.specs.Rows.{FrontsBegin, IsAmiss, Refuses, ShowsReason, Sight, Takes}
-use Rattle.pkread.specs.Private.Judging.{TakesAnyArgument}
-use Rattle.pkread.specs.Private.Taking.{LacksSome, Took}
+use Rattle.pkread.specs.Private.Judgement.{TakesAnyArgument}
+use Rattle.pkread.specs.Private.Reads.{LacksSome, Took}
 use Rattle.pkread.specs.declared.gather.Found.{Found}
 use Rattle.pkread.specs.declared.refusal.Reason.{Reason}
 use Rattle.pkread.specs.declared.refusal.Reason.TheVariants.{Source, Truncated, UnknownOpcode}

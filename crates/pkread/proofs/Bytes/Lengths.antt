@@ -1,8 +1,8 @@
 -- How long an instruction is that a source has at hand.
 use Rattle.std.proofs.Common.{◌≡◌, ◌⊎◌, inl, inr, ℕ, ◌+◌, ◌≤◌, arith, false}
 use Rattle.std.proofs.Math.Nat.{le-max_left, le-max_right}
-use Rattle.pkops.specs.Lying.{field_len}
-use Rattle.pkops.specs.Scanning.{longest}
+use Rattle.pkops.specs.KnownLayout.{field_len}
+use Rattle.pkops.specs.Scans.{longest}
 use Rattle.pkops.specs.Spelling.{size_of}
 use Rattle.pkops.specs.declared.Layout.{Layout}
 use Rattle.pkops.specs.declared.Layout.TheVariants as layout

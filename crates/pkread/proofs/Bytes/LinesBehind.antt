@@ -5,8 +5,8 @@ use Rattle.std.proofs.Common.{append_assoc}
 use Rattle.std.specs.List.{AllByRecursion}
 use Rattle.std.proofs.lemmas.List.{take_all}
 use Rattle.pkops.specs.Growth.{BegunLaws}
-use Rattle.pkops.specs.Lying.{Lies}
-use Rattle.pkops.specs.Scanning.{Begun, HasFault, IsLong}
+use Rattle.pkops.specs.KnownLayout.{Lies}
+use Rattle.pkops.specs.Scans.{Begun, HasFault, IsLong}
 use Rattle.pkops.specs.Spelling.{IsLine, Line, Pair, instruction, layout_at}
 use Rattle.pkops.specs.Table.{code_of}
 use Rattle.pkops.specs.declared.Fault.TheVariants as fault
@@ -15,10 +15,10 @@ use Rattle.pkops.specs.declared.Op.{Op}
 use Rattle.pkread.proofs.Bytes.Behind.{begun_fronts, fronts_more, row_behind}
 use Rattle.pkread.proofs.Bytes.Takes.{Consumes-more, Takes-more}
 use Rattle.pkread.proofs.Bytes.Taken.{took_both}
-use Rattle.pkread.specs.Private.Gathering.{Grows, LacksLine, LineRow, RowBehind, Stops, TookLine}
+use Rattle.pkread.specs.Private.Arms.{Grows, LacksLine, LineRow, RowBehind, Stops, TookLine}
 use Rattle.pkread.specs.Private.Progress.{Intake}
 use Rattle.pkread.specs.Rows.{FrontsBegin, Sight, Takes}
-use Rattle.pkread.specs.Private.Taking.{Took}
+use Rattle.pkread.specs.Private.Reads.{Took}
 use Rattle.pkread.specs.declared.refusal.Reason.{Reason}
 use Rattle.pkread.specs.declared.refusal.Reason.TheVariants.{Source, Truncated, TooLarge}
 use Rattle.pkread.specs.declared.refusal.Reason.TheVariants.{OutOfMemory}

@@ -10,7 +10,7 @@ use Rattle.pkops.specs.declared.Op.{Op}
 use Rattle.pkops.specs.declared.Op.TheVariants as op
 use Rattle.pkops.specs.declared.Rule.TheVariants as rule
 use Rattle.pkread.specs.Admission.{objection}
-use Rattle.pkread.specs.Private.Judging.{IsFine, TakesAnyArgument, TakesUtf8, is_plain}
+use Rattle.pkread.specs.Private.Judgement.{IsFine, TakesAnyArgument, TakesUtf8, is_plain}
 
 pub any_rule : (o : Op) → is_plain o ≡ true → rule_of o ≡ rule.Anything
 any_rule op.Int e = cc

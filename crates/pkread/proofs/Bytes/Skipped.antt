@@ -21,12 +21,12 @@ use Rattle.pkread.proofs.Bytes.Plain.{any_rule}
 use Rattle.pkread.proofs.Reasons.OneRow.{OneAnswer}
 use Rattle.pkread.proofs.Bytes.Taken.{lacks_after, took_both, took_none}
 use Rattle.pkread.specs.Heads.{HoldsFew, SkipsBy}
-use Rattle.pkread.specs.Private.Gathering.{Counts, Finds, Stops}
-use Rattle.pkread.specs.Private.Judging.{is_plain}
+use Rattle.pkread.specs.Private.Arms.{Counts, Finds, Stops}
+use Rattle.pkread.specs.Private.Judgement.{is_plain}
 use Rattle.pkread.specs.Private.Progress.{Intake}
-use Rattle.pkread.specs.Private.Skipping.{GrowsSkipping, HeldWhole, RefusedHead, SkipsAll}
-use Rattle.pkread.specs.Private.Skipping.{StopsSkipping, holding}
-use Rattle.pkread.specs.Private.Taking.{LacksSome, Took, TookAll, TookBlock}
+use Rattle.pkread.specs.Private.SkippedBytes.{GrowsSkipping, HeldWhole, RefusedHead, SkipsAll}
+use Rattle.pkread.specs.Private.SkippedBytes.{StopsSkipping, holding}
+use Rattle.pkread.specs.Private.Reads.{LacksSome, Took, TookAll, TookBlock}
 use Rattle.pkread.specs.Rows.{FrontsBegin, Refuses}
 use Rattle.pkread.specs.declared.arms.Count.{Count}
 use Rattle.pkread.specs.declared.gather.Found.{Found}

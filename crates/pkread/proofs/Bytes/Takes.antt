@@ -2,10 +2,10 @@
 use Rattle.std.proofs.Common.{ℕ, List, [], ◌++◌, Option, None, Some, sym, ap, ◌∙◌, append_assoc}
 use Rattle.std.proofs.Common.{append-nil}
 use Rattle.std.specs.Io.KnownBytes.{Consumes}
-use Rattle.pkops.specs.Scanning.{HasFault}
+use Rattle.pkops.specs.Scans.{HasFault}
 use Rattle.pkops.specs.declared.Fault.{Fault}
 use Rattle.pkops.specs.declared.Fault.TheVariants as fault
-use Rattle.pkread.specs.Private.Judging.{fault_reason}
+use Rattle.pkread.specs.Private.Judgement.{fault_reason}
 use Rattle.pkread.specs.Rows.{IsAmiss, Sight, Takes}
 
 -- known bytes that were taken twice were taken at once

@@ -5,7 +5,7 @@ use Rattle.std.proofs.lemmas.List.{drop_at, take_all, take_at}
 use Rattle.std.specs.Str.{IsUtf8}
 use Rattle.pkops.specs.Contents.{IsGood}
 use Rattle.pkops.specs.Growth.{BegunLaws, CountLaws}
-use Rattle.pkops.specs.Lying.{Lies}
+use Rattle.pkops.specs.KnownLayout.{Lies}
 use Rattle.pkops.specs.Spelling.{Argument, Counted, Line, Suits, instruction, layout_at}
 use Rattle.pkops.specs.Table.{code_of}
 use Rattle.pkops.specs.declared.Layout.TheVariants as layout
@@ -15,10 +15,10 @@ use Rattle.pkread.proofs.Bytes.Behind.{payload_lie, payload_took}
 use Rattle.pkread.proofs.Bytes.Judged.{broken_of, stops_amiss}
 use Rattle.pkread.proofs.Bytes.LinesBehind.{one_lies}
 use Rattle.pkread.specs.Admission.{objection}
-use Rattle.pkread.specs.Private.Gathering.{Counts, Finds, Stops, TookLine}
-use Rattle.pkread.specs.Private.Judging.{TakesUtf8}
+use Rattle.pkread.specs.Private.Arms.{Counts, Finds, Stops, TookLine}
+use Rattle.pkread.specs.Private.Judgement.{TakesUtf8}
 use Rattle.pkread.specs.Private.Progress.{Intake}
-use Rattle.pkread.specs.Private.Taking.{Took, TookAll}
+use Rattle.pkread.specs.Private.Reads.{Took, TookAll}
 use Rattle.pkread.specs.declared.arms.Count.{Count}
 use Rattle.pkread.specs.declared.refusal.Reason.TheVariants.{BadArgument}
 

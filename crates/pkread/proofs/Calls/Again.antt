@@ -8,9 +8,9 @@ use Rattle.pkread.proofs.Reasons.OneRow.{OneAnswer, one_row}
 use Rattle.pkread.proofs.Bytes.Taken.{takes_none}
 use Rattle.pkread.specs.Again.{AnswersAgain, NoByteIsRefused, StepsAgain, WhyNoByte}
 use Rattle.pkread.specs.Core.{Phase, Open, Ended, Refused}
-use Rattle.pkread.specs.Private.Collecting.{ByteCame, NoneCame}
-use Rattle.pkread.specs.Private.Taking.{ReadsNone}
-use Rattle.pkread.specs.Reading.{ReaderState, is_ended}
+use Rattle.pkread.specs.Private.OpenReader.{ByteCame, NoneCame}
+use Rattle.pkread.specs.Private.Reads.{ReadsNone}
+use Rattle.pkread.specs.ReaderCalls.{ReaderState, is_ended}
 use Rattle.pkread.specs.Rows.{ShowsReason, Sight, Takes, all_bytes, unread}
 use Rattle.pkread.specs.declared.refusal.Reason.{Reason}
 use Rattle.pkread.specs.declared.refusal.Reason.TheVariants.{Source, Truncated, TooLarge}

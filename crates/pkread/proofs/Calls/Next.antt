@@ -10,10 +10,10 @@ use Rattle.pkops.specs.declared.Op.{Op}
 use Rattle.pkread.proofs.Reasons.Objections.{no_objection}
 use Rattle.pkread.specs.Admission.{IsAllowed, objection}
 use Rattle.pkread.specs.Core.{Phase, Open, Refused, phase_after}
-use Rattle.pkread.specs.Private.Gathering.{Gathers}
+use Rattle.pkread.specs.Private.Arms.{Gathers}
 use Rattle.pkread.specs.Private.Progress.{Intake}
-use Rattle.pkread.specs.Reading.{ReaderState, Gives, GivesNext, RefusesAt, StepsFrom, ShowsNext}
-use Rattle.pkread.specs.Reading.{ShowsFrom}
+use Rattle.pkread.specs.ReaderCalls.{ReaderState, Gives, GivesNext, RefusesAt, StepsFrom, ShowsNext}
+use Rattle.pkread.specs.ReaderCalls.{ShowsFrom}
 use Rattle.pkread.specs.Rows.{Refuses, ShowsReason, Sight, all_bytes, unread}
 use Rattle.pkread.specs.Sequence.{CountsAt}
 use Rattle.pkread.specs.declared.reader.Next.{Next}

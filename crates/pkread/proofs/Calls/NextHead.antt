@@ -10,10 +10,10 @@ use Rattle.pkread.proofs.Calls.Next.{IsGathered, come, counts_at, gives_whole, s
 use Rattle.pkread.specs.Core.{Phase, Open, Refused, phase_after}
 use Rattle.pkread.specs.Heads.{GivesHead, HoldsFew, Skips, RefusesHead, ShowsHead, ShowsHeadFrom}
 use Rattle.pkread.specs.Heads.{StepsHeadFrom}
-use Rattle.pkread.specs.Private.Skipping.{HeldWhole, RefusedHead, SkippedOne, TookHead}
-use Rattle.pkread.specs.Private.Collecting.{IfHeld}
+use Rattle.pkread.specs.Private.SkippedBytes.{HeldWhole, RefusedHead, SkippedOne, TookHead}
+use Rattle.pkread.specs.Private.OpenReader.{IfHeld}
 use Rattle.pkread.specs.Private.Progress.{Intake}
-use Rattle.pkread.specs.Reading.{Gives, ReaderState}
+use Rattle.pkread.specs.ReaderCalls.{Gives, ReaderState}
 use Rattle.pkread.specs.Rows.{all_bytes}
 use Rattle.pkread.specs.declared.gather.Found.{Found}
 use Rattle.pkread.specs.declared.heads.Gathered.{Gathered}

@@ -14,9 +14,9 @@ use Rattle.pkread.specs.Framing.{other}
 use Rattle.pkread.specs.Pieces.{number_of, role_of}
 use Rattle.pkread.specs.Held.{most_held}
 use Rattle.pkread.specs.Peek.{IsNext, PassesOver}
-use Rattle.pkread.specs.Private.Gathering.{IsFront}
+use Rattle.pkread.specs.Private.Arms.{IsFront}
 use Rattle.pkread.specs.Pull.{BeginsWith, TakesCount}
-use Rattle.pkread.specs.Reading.{ReaderState}
+use Rattle.pkread.specs.ReaderCalls.{ReaderState}
 use Rattle.pkread.specs.Rows.{Sight, Takes, all_bytes, unread}
 
 -- what a reader with this core shows, over a source that shows this

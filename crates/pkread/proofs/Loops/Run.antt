@@ -15,7 +15,7 @@ use Rattle.pkread.proofs.Bytes.Takes.{Takes-more}
 use Rattle.pkread.specs.Admission.{IsAllowed, IsAllowedBy}
 use Rattle.pkread.specs.Core.{Phase, Open, Ended, Refused, phase_after}
 use Rattle.pkread.specs.Heads.{IsSkipped, Skips, RefusesHead, StepsHeadFrom}
-use Rattle.pkread.specs.Reading.{ReaderState, begun, Gives, RefusesAt, StepsFrom}
+use Rattle.pkread.specs.ReaderCalls.{ReaderState, begun, Gives, RefusesAt, StepsFrom}
 pub use Rattle.pkread.specs.Run.{Reads, SoFar}
 use Rattle.pkread.specs.Run.{EndIsRead, EndOfHeads, HeadIsRead, NextIsRead, PassedIsRead}
 use Rattle.pkread.specs.Run.{PeekedIsRead, ReadingBegins, ReadingGoesOn, ReadsMore, RefusalIsRead}

@@ -4,7 +4,7 @@ use Rattle.std.proofs.Common.{arith, inl, inr}
 use Rattle.pkops.specs.Answer.{Answer, Answers, Bad, More, Whole}
 use Rattle.pkops.specs.declared.Fault.TheVariants as fault
 use Rattle.pkread.specs.Admission.{objection}
-use Rattle.pkread.specs.Private.Judging.{fault_reason}
+use Rattle.pkread.specs.Private.Judgement.{fault_reason}
 use Rattle.pkread.specs.Genops.{EndsOrIsAmiss}
 use Rattle.pkread.specs.Rows.{IsAmiss, ShowsReason, Sight, all_bytes}
 use Rattle.pkread.specs.declared.refusal.Reason.{Reason}

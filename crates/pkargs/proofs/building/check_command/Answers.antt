@@ -4,7 +4,7 @@ use Rattle.clap.specs.Simple.{app_of_fields}
 use Rattle.clap.specs.Words.{App, new_app, with_rule}
 use Rattle.clap.specs.declared.builder.value_parser.ValueParser.{ValueParser}
 use Rattle.pkargs.specs.Command.{IsLocal, all_rule, allow_rule, file_rule, old_rule, one_rule}
-use Rattle.pkargs.proofs.Growing.{argued, argued_if, globals}
+use Rattle.pkargs.proofs.MoreArguments.{argued, argued_if, globals}
 use Rattle.pkargs.proofs.building.check_command.Goals as goal
 
 -- with one argument, two and so on

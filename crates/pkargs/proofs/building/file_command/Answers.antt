@@ -3,7 +3,7 @@ use Rattle.std.proofs.lemmas.Result.{IfOk-weaker}
 use Rattle.clap.specs.Simple.{app_of_fields}
 use Rattle.clap.specs.Words.{new_app}
 use Rattle.pkargs.specs.Command.{IsLocal, file_app, file_rule}
-use Rattle.pkargs.proofs.Growing.{argued, globals}
+use Rattle.pkargs.proofs.MoreArguments.{argued, globals}
 use Rattle.pkargs.proofs.building.file_command.Goals as goal
 
 pub returns : goal.returns

@@ -3,7 +3,7 @@ use Rattle.std.proofs.lemmas.Result.{IfOk-weaker}
 use Rattle.clap.specs.Words.{Rule, new_rule, rule_of}
 use Rattle.clap.specs.declared.builder.action.ArgAction.TheVariants.{SetTrue}
 use Rattle.pkargs.specs.Command.{one_rule}
-use Rattle.pkargs.proofs.Requiring.{is_global, requiring}
+use Rattle.pkargs.proofs.Requirements.{is_global, requiring}
 use Rattle.pkargs.proofs.building.one_flag.Goals as goal
 
 abbrev named : Rule → Rule

@@ -3,7 +3,7 @@ use Rattle.std.proofs.lemmas.Result.{IfOk-weaker}
 use Rattle.clap.specs.Simple.{app_of_fields}
 use Rattle.clap.specs.Words.{App, new_app, with_rule}
 use Rattle.pkargs.specs.Command.{IsLocal, file_rule, out_rule}
-use Rattle.pkargs.proofs.Growing.{argued, argued_if, globals}
+use Rattle.pkargs.proofs.MoreArguments.{argued, argued_if, globals}
 use Rattle.pkargs.proofs.building.optimize_command.Goals as goal
 
 abbrev bare : App

@@ -4,7 +4,7 @@ use Rattle.clap.specs.declared.Command.{Command}
 use Rattle.clap.specs.declared.builder.value_parser.ValueParser.{ValueParser}
 use Rattle.pkargs.specs.Command.{IsCheck, IsLocal, TakesOldWords, bare_app, check_app, file_app}
 use Rattle.pkargs.specs.Command.{optimize_app, program_app}
-use Rattle.pkargs.proofs.Growing.{joined, joined_if}
+use Rattle.pkargs.proofs.MoreArguments.{joined, joined_if}
 use Rattle.pkargs.proofs.building.program.Goals as goal
 
 -- with `check` among the subcommands

@@ -1,4 +1,4 @@
-use Rattle.pkcheck.proofs.Halving.{halving_is_right}
+use Rattle.pkcheck.proofs.BinarySearch.{halving_is_right}
 use Rattle.pkcheck.proofs.laws.halving.Goals as goal
 
 pub returns : goal.returns

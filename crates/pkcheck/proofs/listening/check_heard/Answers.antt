@@ -6,8 +6,8 @@ use Rattle.pkcheck.proofs.Wholes.Checked.{count_took}
 use Rattle.pkcheck.proofs.Wholes.Checked.{refusal_of, refused_turned, refused_took}
 use Rattle.pkcheck.proofs.Wholes.FramesSoFar.{FrameLaws}
 use Rattle.pkcheck.proofs.Wholes.Given.{seen_so, refused_next, took_next, took_peeked}
-use Rattle.pkcheck.proofs.Wholes.Hearing.{cut_short, heard_more, heard_here, if_err}
-use Rattle.pkcheck.proofs.Stepping.Longest.{longest}
+use Rattle.pkcheck.proofs.Wholes.HeardInstructions.{cut_short, heard_more, heard_here, if_err}
+use Rattle.pkcheck.proofs.StepParts.Longest.{longest}
 use Rattle.pkcheck.proofs.listening.check_heard.Goals as goal
 
 pub instructions-init : goal.instructions-init

@@ -4,7 +4,7 @@ use Rattle.std.specs.Prelude.{Option}
 use Rattle.pkops.specs.Limits.{holding_all}
 use Rattle.pkops.specs.Spelling.{Instruction}
 use Rattle.pkread.specs.Rows.{sight, all_bytes}
-use Rattle.pkread.specs.Reading.{state}
+use Rattle.pkread.specs.ReaderCalls.{state}
 use Rattle.pkcheck.specs.Heard.{Heard, AreHeardBehind}
 use Rattle.pkcheck.specs.Import.{policy_of}
 use Rattle.pkcheck.specs.Knowledge.{Asked}

@@ -1,5 +1,5 @@
 use Rattle.std.proofs.Common.{◌≡◌, true, ◌∙◌, sym}
-use Rattle.pkcheck.proofs.Halving.{found_is_had}
+use Rattle.pkcheck.proofs.BinarySearch.{found_is_had}
 use Rattle.pkcheck.proofs.pairs.have.Goals as goal
 
 pub returns-then-found : goal.returns-then-found

@@ -2,13 +2,13 @@ use Rattle.std.proofs.Common.{rules, ◌<◌, [], ◌∷◌, ◌++◌, refl, sym
 use Rattle.pkops.specs.Inst.{instruction_of}
 use Rattle.pkops.specs.Payloads.{payload_limit}
 use Rattle.pkops.specs.Spelling.{Counted, Instruction, instruction}
-use Rattle.pkread.specs.Reading.{state}
+use Rattle.pkread.specs.ReaderCalls.{state}
 use Rattle.pkread.specs.Rows.{all_bytes, sight}
 use Rattle.pkcheck.proofs.Wholes.Checked.{checked_again, checked_first, checked_took}
 use Rattle.pkcheck.proofs.Wholes.Checked.{refused_turned}
 use Rattle.pkcheck.proofs.Wholes.FramesSoFar.{FrameLaws}
 use Rattle.pkcheck.proofs.Wholes.Given.{refused_head, seen_so, took_head, took_passed, took_peeked}
-use Rattle.pkcheck.proofs.Stepping.Longest.{longest}
+use Rattle.pkcheck.proofs.StepParts.Longest.{longest}
 use Rattle.pkcheck.specs.Knowledge.{nothing_known}
 use Rattle.pkcheck.specs.Private.NextPickle.{listed_in, restarted}
 use Rattle.pkcheck.specs.RowOfPickles.{begins}

@@ -2,7 +2,7 @@ use Rattle.std.proofs.Common.{◌≡◌, ◌≢◌, List, []}
 use Rattle.std.specs.Prelude.{Option}
 use Rattle.pkops.specs.Spelling.{Instruction}
 use Rattle.pkread.specs.Rows.{Sight, sight}
-use Rattle.pkread.specs.Reading.{state}
+use Rattle.pkread.specs.ReaderCalls.{state}
 use Rattle.pkcheck.specs.Import.{policy_of}
 use Rattle.pkcheck.specs.Knowledge.{Asked}
 use Rattle.pkcheck.specs.RowOfPickles.{HasMore}

@@ -1,7 +1,7 @@
 //! The operations that import a pair.
 ghost use Rattle.std.specs.Prelude.{◌≡◌, ◌⊎◌, ◌≤◌, length, map, option_map, IfOk, IfErr};
 ghost use Rattle.std.specs.Prelude.{IfSome, Ok};
-ghost use Rattle.pkcheck.specs.Private.Importing.{AreSeen, HasImported};
+ghost use Rattle.pkcheck.specs.Private.NamedOperations.{AreSeen, HasImported};
 ghost use Rattle.pkcheck.specs.Private.Slots.{known};
 ghost use Rattle.pkcheck.specs.Import.{policy_of};
 ghost use Rattle.pkcheck.specs.Private.Noted.{AreNumbered, IsNamedIf, Spells, named_asked};

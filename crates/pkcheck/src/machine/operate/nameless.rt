@@ -4,8 +4,9 @@ ghost use Rattle.pkcheck.specs.declared.effect.Names.{Names};
 ghost use Rattle.pkcheck.specs.Effects.{Operates, effect_of};
 ghost use Rattle.pkcheck.specs.Private.Actions.{IsUnnamed};
 ghost use Rattle.pkcheck.specs.Private.Denials.{IgnoresArgument, WellGiven};
-ghost use Rattle.pkcheck.specs.Private.Replacing.{HasOperated, HasReplaced, IsReplaceFault};
-ghost use Rattle.pkcheck.specs.Private.Replacing.{Replaces, StaysSeen};
+ghost use Rattle.pkcheck.specs.Private.NamelessOperations.{HasOperated, HasReplaced};
+ghost use Rattle.pkcheck.specs.Private.NamelessOperations.{IsReplaceFault};
+ghost use Rattle.pkcheck.specs.Private.NamelessOperations.{Replaces, StaysSeen};
 
 use crate::effect::{Class, Gives, Takes};
 use crate::machine::effects::operation_of;

@@ -1,5 +1,5 @@
 use Rattle.pkguard.specs.Encoding.{eight_bytes, encoded_text, greatest_number}
-use Rattle.pkguard.proofs.Writing.{written_both}
+use Rattle.pkguard.proofs.Pieces.{written_both}
 use Rattle.pkguard.proofs.encoding.put_import.Goals as goal
 
 pub returns-in-Pair : goal.returns-in-Pair

@@ -1,6 +1,6 @@
 use Rattle.pkcheck.specs.Import.{import_shown}
 use Rattle.pkguard.specs.Encoding.{encoded}
-use Rattle.pkguard.proofs.Writing.{flat_map_next}
+use Rattle.pkguard.proofs.Pieces.{flat_map_next}
 use Rattle.pkguard.proofs.encoding.put_imports.Goals as goal
 
 pub loop-number-preserved : goal.loop-number-preserved

@@ -1,6 +1,6 @@
 use Rattle.std.proofs.Common.{length}
 use Rattle.pkguard.specs.Encoding.{eight_bytes}
-use Rattle.pkguard.proofs.Writing.{written_both}
+use Rattle.pkguard.proofs.Pieces.{written_both}
 use Rattle.pkguard.proofs.encoding.put_text.Goals as goal
 
 pub returns : goal.returns

@@ -1,7 +1,7 @@
 use Rattle.std.proofs.Common.{◌≡◌, arith, sym, ap, subst, ◌∙◌, ◌+◌, ◌-◌, length, drop, length-drop}
 use Rattle.pkops.specs.Inst.{instruction_of}
 use Rattle.pkcheck.specs.Effects.{effect_of}
-use Rattle.pkjson.specs.Private.Acting.{ActsAs}
+use Rattle.pkjson.specs.Private.PlainActions.{ActsAs}
 use Rattle.pkjson.specs.Private.Arena.{no_object}
 use Rattle.pkjson.specs.Private.Halts.{IsHalted}
 use Rattle.pkjson.specs.Private.Held.{parts}
@@ -9,7 +9,7 @@ use Rattle.pkjson.specs.Plain.{OtherKey, LargeNumber, is_plain_data}
 use Rattle.pkjson.specs.Private.Fronts.{IsFront}
 use Rattle.pkjson.specs.Private.Replayed.{Replays}
 use Rattle.pkjson.specs.Private.Seen.{kept_all}
-use Rattle.pkjson.specs.Private.Standing.{Stands}
+use Rattle.pkjson.specs.Private.ReplayProgress.{Stands}
 use Rattle.pkjson.proofs.Entries.{all_after}
 use Rattle.pkjson.proofs.Runs.NextInstruction.{a_front, entries_there, no_front, within, some}
 use Rattle.pkjson.proofs.Runs.NextInstruction.{other, faults, never_lacks, never_empty, ends, on}

@@ -2,7 +2,7 @@ use Rattle.std.proofs.Common.{◌≤◌, ◌-◌, List, length}
 use Rattle.pkops.specs.Spelling.{Instruction}
 use Rattle.pkjson.specs.Export.{AcceptedAs}
 use Rattle.pkjson.specs.Private.Held.{parts}
-use Rattle.pkjson.specs.Private.Standing.{Stands}
+use Rattle.pkjson.specs.Private.ReplayProgress.{Stands}
 use Rattle.pkjson.proofs.replay.replay.Given as goal
 
 abbrev pub invariant-instructions : goal.invariant-instructions

@@ -1,5 +1,5 @@
 use Rattle.std.proofs.Common.{◌≡◌, arith}
-use Rattle.pkread.specs.Private.Gathering.{HasFixedLength}
+use Rattle.pkread.specs.Private.Arms.{HasFixedLength}
 use Rattle.pkread.proofs.Bytes.Front.{fixed_front}
 use Rattle.pkread.proofs.front.front_of.Goals as goal
 

@@ -1,6 +1,6 @@
 use Rattle.std.proofs.Common.{◌∙◌, sym, subst}
 use Rattle.pkops.specs.declared.Op.{Op}
-use Rattle.pkread.specs.Private.Gathering.{IsInFront}
+use Rattle.pkread.specs.Private.Arms.{IsInFront}
 use Rattle.pkread.proofs.front.varying_length.Goals as goal
 
 pub returns-in-Proto : goal.returns-in-Proto

@@ -3,9 +3,9 @@ use Rattle.pkops.specs.Inst.{instruction_of}
 use Rattle.pkcheck.specs.Knowledge.{Knowledge}
 use Rattle.pkcheck.specs.Import.{asked_shown, policy_of}
 use Rattle.pkcheck.specs.View.{View}
-use Rattle.pkcheck.proofs.Stepping.Longest.{longest}
-use Rattle.pkcheck.proofs.Stepping.CoveredStep.{denied, fails, goes_on}
-use Rattle.pkcheck.proofs.Stepping.Settings.{not_raised, texts_by_setting}
+use Rattle.pkcheck.proofs.StepParts.Longest.{longest}
+use Rattle.pkcheck.proofs.StepParts.CoveredStep.{denied, fails, goes_on}
+use Rattle.pkcheck.proofs.StepParts.Settings.{not_raised, texts_by_setting}
 use Rattle.pkcheck.proofs.machine.Machine.step_on.Goals as goal
 
 pub returns-in-Ok-clause-step : goal.returns-in-Ok-clause-step

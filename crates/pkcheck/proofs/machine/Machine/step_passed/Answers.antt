@@ -5,10 +5,10 @@ use Rattle.pkcheck.specs.Knowledge.{Knowledge}
 use Rattle.pkcheck.specs.declared.machine.stepping.Moved.TheVariants.{On}
 use Rattle.pkops.specs.Payloads.{is_passed}
 use Rattle.std.specs.Prelude.{IsTrue}
-use Rattle.pkcheck.proofs.Stepping.Settings.{passed_effect}
-use Rattle.pkcheck.proofs.Stepping.CoveredStep.{fails, goes_on}
-use Rattle.pkcheck.proofs.Stepping.Longest.{longest}
-use Rattle.pkcheck.proofs.Stepping.Passing.{lacks_room, passed_admitted, passes}
+use Rattle.pkcheck.proofs.StepParts.Settings.{passed_effect}
+use Rattle.pkcheck.proofs.StepParts.CoveredStep.{fails, goes_on}
+use Rattle.pkcheck.proofs.StepParts.Longest.{longest}
+use Rattle.pkcheck.proofs.StepParts.SkippedPayloads.{lacks_room, passed_admitted, passes}
 use Rattle.pkcheck.proofs.machine.Machine.step_passed.Goals as goal
 
 pub returns-in-Ok-clause-step : goal.returns-in-Ok-clause-step

@@ -1,6 +1,6 @@
 use Rattle.std.proofs.Common.{length}
 use Rattle.pkcheck.specs.declared.machine.ledger.Entry.TheVariants as entry
-use Rattle.pkcheck.proofs.Copying.{copied_more, entry_at, grows_more}
+use Rattle.pkcheck.proofs.Copies.{copied_more, entry_at, grows_more}
 use Rattle.pkcheck.proofs.machine.ledger.copy_entries.Goals as goal
 
 pub copy_entry-requires-clause-entry : goal.copy_entry-requires-clause-entry

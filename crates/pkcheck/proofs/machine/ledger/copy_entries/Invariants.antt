@@ -1,4 +1,4 @@
-use Rattle.pkcheck.proofs.Copying.{CopiedSoFar}
+use Rattle.pkcheck.proofs.Copies.{CopiedSoFar}
 use Rattle.pkcheck.proofs.machine.ledger.copy_entries.Given as goal
 
 abbrev pub invariant-entries : goal.invariant-entries

@@ -1,5 +1,5 @@
 use Rattle.std.proofs.Common.{refl}
-use Rattle.pkcheck.proofs.Copying.{copies_grown}
+use Rattle.pkcheck.proofs.Copies.{copies_grown}
 use Rattle.pkcheck.proofs.machine.ledger.copy_entry.Goals as goal
 
 pub returns-in-Written-clause-kept : goal.returns-in-Written-clause-kept

@@ -1,7 +1,7 @@
 use Rattle.std.proofs.Common.{◌∙◌, None, refl, rules, sym}
 use Rattle.std.proofs.lemmas.List.{get_or_default}
-use Rattle.pkcheck.proofs.Copying.{copies_more}
-use Rattle.pkcheck.proofs.Resolving.{same_table}
+use Rattle.pkcheck.proofs.Copies.{copies_more}
+use Rattle.pkcheck.proofs.ResolvedEntries.{same_table}
 use Rattle.pkcheck.proofs.machine.ledger.copy_text.Goals as goal
 
 pub returns-in-Some-clause-ok : goal.returns-in-Some-clause-ok

@@ -1,8 +1,8 @@
 use Rattle.std.proofs.Common.{refl}
 use Rattle.pkcheck.specs.declared.effect.Move.TheVariants.{PushesMark, Duplicates}
 use Rattle.pkcheck.specs.Shape.{Mark}
-use Rattle.pkcheck.proofs.Stepping.Errs.{err_on}
-use Rattle.pkcheck.proofs.Stepping.Moving.{grown, fault_of}
+use Rattle.pkcheck.proofs.StepParts.Errs.{err_on}
+use Rattle.pkcheck.proofs.StepParts.Moves.{grown, fault_of}
 use Rattle.pkcheck.proofs.machine.moves.apply.Goals as goal
 
 pub returns-in-PushesMark-clause-err : goal.returns-in-PushesMark-clause-err

@@ -1,7 +1,7 @@
 use Rattle.std.proofs.Common.{inl, sym, refl}
 use Rattle.pkcheck.specs.Shape.{NoMemo}
-use Rattle.pkcheck.proofs.Stepping.Errs.{err_on}
-use Rattle.pkcheck.proofs.Stepping.Moving.{grown, fetches, fetches_none}
+use Rattle.pkcheck.proofs.StepParts.Errs.{err_on}
+use Rattle.pkcheck.proofs.StepParts.Moves.{grown, fetches, fetches_none}
 use Rattle.pkcheck.proofs.machine.moves.recall.Goals as goal
 
 pub returns-in-Some-clause-err : goal.returns-in-Some-clause-err

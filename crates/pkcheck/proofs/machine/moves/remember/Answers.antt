@@ -1,5 +1,5 @@
-use Rattle.pkcheck.proofs.Stepping.Errs.{err_on}
-use Rattle.pkcheck.proofs.Stepping.Moving.{stuffed, stored_is}
+use Rattle.pkcheck.proofs.StepParts.Errs.{err_on}
+use Rattle.pkcheck.proofs.StepParts.Moves.{stuffed, stored_is}
 use Rattle.pkcheck.proofs.machine.moves.remember.Goals as goal
 
 pub returns-clause-err : goal.returns-clause-err

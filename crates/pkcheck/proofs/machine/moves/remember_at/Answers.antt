@@ -1,5 +1,5 @@
 use Rattle.std.proofs.Common.{◌<◌, inl, inr, refl, arith}
-use Rattle.pkcheck.proofs.Stepping.Moving.{stored_is}
+use Rattle.pkcheck.proofs.StepParts.Moves.{stored_is}
 use Rattle.pkcheck.proofs.machine.moves.remember_at.Goals as goal
 
 pub returns-then-number-numbers-clause-err : goal.returns-then-number-numbers-clause-err

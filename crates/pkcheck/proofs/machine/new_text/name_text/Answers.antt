@@ -1,5 +1,5 @@
 use Rattle.std.proofs.Common.{[], ◌∷◌, arith, length-append, refl}
-use Rattle.pkcheck.proofs.Resolving.{text_seen, text_sees}
+use Rattle.pkcheck.proofs.ResolvedEntries.{text_seen, text_sees}
 use Rattle.pkcheck.proofs.machine.new_text.name_text.Goals as goal
 
 pub returns : goal.returns

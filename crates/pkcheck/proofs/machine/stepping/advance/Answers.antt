@@ -5,8 +5,8 @@ use Rattle.pkcheck.specs.declared.effect.Gives.TheVariants.{Makes, MakesIntOrBoo
 use Rattle.pkcheck.specs.Effects.{Moves, effect_as, effect_of}
 use Rattle.pkcheck.specs.Import.{policy_of}
 use Rattle.pkcheck.specs.Runs.{Plain, Text, int_or_bool, text}
-use Rattle.pkcheck.proofs.Stepping.Going.{denied_by, move_denied, unnamed_goes}
-use Rattle.pkcheck.proofs.Stepping.Pushing.{not_pushed, of_action}
+use Rattle.pkcheck.proofs.StepParts.GoesOn.{denied_by, move_denied, unnamed_goes}
+use Rattle.pkcheck.proofs.StepParts.PushedObjects.{not_pushed, of_action}
 use Rattle.pkcheck.proofs.machine.stepping.advance.Goals as goal
 
 pub returns-in_err-make-in-Makes-clause-err : goal.returns-in_err-make-in-Makes-clause-err

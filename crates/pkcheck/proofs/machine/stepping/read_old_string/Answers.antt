@@ -8,9 +8,10 @@ use Rattle.pkcheck.specs.Effects.{Raises}
 use Rattle.pkcheck.specs.declared.effect.Gives.TheVariants.{Answers, Makes, MakesText}
 use Rattle.pkcheck.specs.Knowledge.{NotAscii}
 use Rattle.pkcheck.specs.Runs.{Plain, Text, text}
-use Rattle.pkcheck.proofs.Stepping.Errs.{err_on}
-use Rattle.pkcheck.proofs.Stepping.Going.{denied_by}
-use Rattle.pkcheck.proofs.Stepping.Pushing.{not_pushed, old_ascii, old_bytes_pushed, old_unknown}
+use Rattle.pkcheck.proofs.StepParts.Errs.{err_on}
+use Rattle.pkcheck.proofs.StepParts.GoesOn.{denied_by}
+use Rattle.pkcheck.proofs.StepParts.PushedObjects.{not_pushed, old_ascii, old_bytes_pushed}
+use Rattle.pkcheck.proofs.StepParts.PushedObjects.{old_unknown}
 use Rattle.pkcheck.proofs.machine.stepping.read_old_string.Goals as goal
 
 pub returns-in-Unknown : goal.returns-in-Unknown

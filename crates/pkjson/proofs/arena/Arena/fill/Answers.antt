@@ -1,7 +1,7 @@
 use Rattle.std.proofs.Common.{◌≡◌, ℕ, List, [], ◌<◌, sym, ap, subst, ◌∙◌, length, Some, Ok, Result}
 use Rattle.std.proofs.Common.{refl}
 use Rattle.pkcheck.specs.Shape.{Breach, Entry, and_then}
-use Rattle.pkjson.specs.Private.Acting.{found_above, filled_of}
+use Rattle.pkjson.specs.Private.PlainActions.{found_above, filled_of}
 use Rattle.pkjson.specs.Private.Arena.{Arena, Kept}
 use Rattle.pkjson.specs.Private.Held.{parts}
 use Rattle.pkjson.specs.Private.Seen.{seen_entries, kept_all, FindsObject}

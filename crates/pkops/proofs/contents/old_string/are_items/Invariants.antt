@@ -1,6 +1,6 @@
 use Rattle.std.proofs.Common.{◌≡◌, drop}
 use Rattle.std.specs.Prelude.{is_some}
-use Rattle.pkops.specs.Deciding.{are_items}
+use Rattle.pkops.specs.RuleTests.{are_items}
 use Rattle.pkops.specs.Private.Places.{HoldsDigit}
 use Rattle.pkops.proofs.ContentsRules.OldStringsLoop.{spelled}
 use Rattle.pkops.proofs.contents.old_string.are_items.Given as goal

@@ -1,7 +1,7 @@
 use Rattle.std.proofs.Common.{◌∙◌, ap, subst, sym}
 use Rattle.pkops.specs.declared.op.Op.TheVariants as op
 use Rattle.pkops.specs.Behind.{argument_in}
-use Rattle.pkops.specs.Lying.{Lies}
+use Rattle.pkops.specs.KnownLayout.{Lies}
 use Rattle.pkops.specs.Operands.{names_bool_by}
 use Rattle.pkops.proofs.Instructions.Good.{had_good}
 use Rattle.pkops.proofs.Instructions.BehindCode.{form_held}

@@ -1,7 +1,7 @@
 use Rattle.std.proofs.Common.{◌∙◌, sym, ap, subst}
 use Rattle.std.proofs.lemmas.Grind.{merely}
 use Rattle.pkops.specs.Contents.{IsGood}
-use Rattle.pkops.specs.Lying.{split_of}
+use Rattle.pkops.specs.KnownLayout.{split_of}
 use Rattle.pkops.specs.Spelling.{instruction, spelling}
 use Rattle.pkops.proofs.Instructions.BehindCode.{lies_behind}
 use Rattle.pkops.proofs.inst.Inst.spelled.Goals as goal

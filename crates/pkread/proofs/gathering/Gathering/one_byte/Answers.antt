@@ -1,6 +1,6 @@
 use Rattle.std.proofs.Common.{◌≡◌, refl}
 use Rattle.std.proofs.lemmas.Result.{err_from_is_err_and}
-use Rattle.pkops.specs.Lying.{field_len, IsFixed}
+use Rattle.pkops.specs.KnownLayout.{field_len, IsFixed}
 use Rattle.pkops.specs.Spelling.{layout_at}
 use Rattle.pkread.proofs.Bytes.Behind.{field_grows, field_stops}
 use Rattle.pkread.proofs.Bytes.Judged.{all_judged}

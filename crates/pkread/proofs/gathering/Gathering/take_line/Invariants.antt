@@ -1,7 +1,7 @@
 use Rattle.std.proofs.Common.{◌≡◌, ◌≢◌, ◌+◌, length, List, ℕ}
 use Rattle.std.specs.List.{AllByRecursion}
 use Rattle.pkread.specs.Private.Progress.{KeepsRest, intake}
-use Rattle.pkread.specs.Private.Taking.{Took}
+use Rattle.pkread.specs.Private.Reads.{Took}
 use Rattle.pkread.proofs.gathering.Gathering.take_line.Given as goal
 
 abbrev pub invariant-bytes : goal.invariant-bytes

@@ -1,6 +1,6 @@
 use Rattle.std.proofs.Common.{◌≡◌, ◌+◌, length, List, ℕ}
 use Rattle.pkread.specs.Private.Progress.{KeepsRest, intake}
-use Rattle.pkread.specs.Private.Taking.{Took}
+use Rattle.pkread.specs.Private.Reads.{Took}
 use Rattle.pkread.proofs.gathering.Gathering.take_rest_slowly.Given as goal
 
 abbrev pub invariant-blocks-2 : goal.invariant-blocks-2

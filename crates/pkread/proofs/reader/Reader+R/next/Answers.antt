@@ -1,8 +1,8 @@
 use Rattle.std.proofs.Common.{◌≡◌, [], refl, subst}
 use Rattle.std.proofs.lemmas.Result.{err_from_is_err_and}
 use Rattle.pkread.specs.Core.{Open}
-use Rattle.pkread.specs.Private.Gathering.{Gathers}
-use Rattle.pkread.specs.Reading.{state}
+use Rattle.pkread.specs.Private.Arms.{Gathers}
+use Rattle.pkread.specs.ReaderCalls.{state}
 use Rattle.pkread.specs.Rows.{Refuses}
 use Rattle.pkread.proofs.Calls.Next.{come, gives_whole, is_allowed, refuses_at, seen_so, shows_open}
 use Rattle.pkread.proofs.Calls.Next.{steps_open}

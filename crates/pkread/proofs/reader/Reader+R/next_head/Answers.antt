@@ -2,8 +2,8 @@ use Rattle.std.proofs.Common.{◌≡◌, [], refl, subst}
 use Rattle.std.proofs.lemmas.Result.{err_from_is_err_and}
 use Rattle.pkread.specs.Core.{Open}
 use Rattle.pkread.specs.Held.{most_held}
-use Rattle.pkread.specs.Private.Skipping.{HeldWhole, RefusedHead, SkippedOne}
-use Rattle.pkread.specs.Reading.{state}
+use Rattle.pkread.specs.Private.SkippedBytes.{HeldWhole, RefusedHead, SkippedOne}
+use Rattle.pkread.specs.ReaderCalls.{state}
 use Rattle.pkread.proofs.Calls.Next.{come, is_allowed, seen_so}
 use Rattle.pkread.proofs.Calls.NextHead.{gives_held, gives_skipped, refuses_head, shows_head_open}
 use Rattle.pkread.proofs.Calls.NextHead.{steps_head_open}

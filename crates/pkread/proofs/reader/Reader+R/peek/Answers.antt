@@ -1,6 +1,6 @@
 use Rattle.std.proofs.Common.{refl, subst}
 use Rattle.pkread.specs.Pull.{BeginsWith}
-use Rattle.pkread.specs.Reading.{source_of, state}
+use Rattle.pkread.specs.ReaderCalls.{source_of, state}
 use Rattle.pkread.specs.Rows.{Sight, sight}
 use Rattle.pkread.proofs.Calls.Next.{seen_so}
 use Rattle.pkread.proofs.Calls.Peek.{is_next}

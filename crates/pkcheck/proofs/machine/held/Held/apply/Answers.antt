@@ -2,8 +2,8 @@ use Rattle.std.proofs.Common.{length}
 use Rattle.pkops.specs.Inst.{instruction_of}
 use Rattle.pkops.specs.Operands.{memo_number}
 use Rattle.pkcheck.specs.Private.Slots.{resolved}
-use Rattle.pkcheck.proofs.Stepping.Errs.{on_both, ok_on, err_on}
-use Rattle.pkcheck.proofs.Resolving.{moved_fault, moved_resolves, moved_seen}
+use Rattle.pkcheck.proofs.StepParts.Errs.{on_both, ok_on, err_on}
+use Rattle.pkcheck.proofs.ResolvedEntries.{moved_fault, moved_resolves, moved_seen}
 use Rattle.pkcheck.proofs.machine.held.Held.apply.Goals as goal
 
 pub invariant_of-self : goal.invariant_of-self

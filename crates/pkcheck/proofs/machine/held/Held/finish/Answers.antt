@@ -1,7 +1,7 @@
 use Rattle.std.proofs.Common.{arith}
 use Rattle.pkcheck.specs.Private.Slots.{remembered, seen}
-use Rattle.pkcheck.proofs.Stepping.Going.{stop_left}
-use Rattle.pkcheck.proofs.Resolving.{length_seen, top_seen}
+use Rattle.pkcheck.proofs.StepParts.GoesOn.{stop_left}
+use Rattle.pkcheck.proofs.ResolvedEntries.{length_seen, top_seen}
 use Rattle.pkcheck.proofs.machine.held.Held.finish.Goals as goal
 
 pub returns-then-len-gt1-clause-err : goal.returns-then-len-gt1-clause-err

@@ -1,8 +1,8 @@
 use Rattle.std.proofs.Common.{Some}
 use Rattle.pkops.specs.Inst.{instruction_of}
 use Rattle.pkcheck.specs.Runs.{Text, text}
-use Rattle.pkcheck.proofs.Resolving.{item_learned, operate_resolves}
-use Rattle.pkcheck.proofs.Stepping.Errs.{on_err}
+use Rattle.pkcheck.proofs.ResolvedEntries.{item_learned, operate_resolves}
+use Rattle.pkcheck.proofs.StepParts.Errs.{on_err}
 use Rattle.pkcheck.proofs.machine.held.Held.make_text.Goals as goal
 
 pub invariant_of-self : goal.invariant_of-self

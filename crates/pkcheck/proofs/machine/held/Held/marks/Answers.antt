@@ -1,5 +1,5 @@
 use Rattle.std.proofs.Common.{◌∙◌}
-use Rattle.pkcheck.proofs.Resolving.{marks_seen}
+use Rattle.pkcheck.proofs.ResolvedEntries.{marks_seen}
 use Rattle.pkcheck.proofs.machine.held.Held.marks.Goals as goal
 
 pub returns : goal.returns

@@ -1,12 +1,12 @@
 use Rattle.std.proofs.Common.{IfErr, IfOk, subst}
 use Rattle.pkcheck.specs.Effects.{effect_of}
-use Rattle.pkcheck.specs.Private.Advancing.{IsStepFault}
+use Rattle.pkcheck.specs.Private.Steps.{IsStepFault}
 use Rattle.pkcheck.specs.Private.Denials.{Proceeds, pair_denied}
 use Rattle.pkcheck.specs.Import.{policy_of}
 use Rattle.pkcheck.specs.Knowledge.{learn}
 use Rattle.pkcheck.specs.Private.Slots.{remembered, resolved, seen}
 use Rattle.pkops.specs.Inst.{instruction_of}
-use Rattle.pkcheck.proofs.Resolving.{operate_resolves, remembered_on, table_kept}
+use Rattle.pkcheck.proofs.ResolvedEntries.{operate_resolves, remembered_on, table_kept}
 use Rattle.pkcheck.proofs.machine.held.Held.operate_named.Goals as goal
 
 pub invariant_of-self : goal.invariant_of-self

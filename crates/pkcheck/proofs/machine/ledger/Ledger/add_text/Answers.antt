@@ -1,7 +1,7 @@
 use Rattle.std.proofs.Common.{[], ◌∷◌}
-use Rattle.pkcheck.proofs.Stepping.Errs.{ok_on, on_each}
-use Rattle.pkcheck.proofs.Noting.{are_grown, asked_grown}
-use Rattle.pkcheck.proofs.Resolving.{same_table}
+use Rattle.pkcheck.proofs.StepParts.Errs.{ok_on, on_each}
+use Rattle.pkcheck.proofs.NotedImports.{are_grown, asked_grown}
+use Rattle.pkcheck.proofs.ResolvedEntries.{same_table}
 use Rattle.pkcheck.proofs.machine.ledger.Ledger.add_text.Goals as goal
 
 pub invariant_of-self : goal.invariant_of-self

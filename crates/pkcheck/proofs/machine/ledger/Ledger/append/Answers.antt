@@ -1,8 +1,8 @@
 use Rattle.std.proofs.Common.{◌++◌, ◌∙◌, ap, map}
 use Rattle.pkcheck.specs.Private.Noted.{entry_asked}
-use Rattle.pkcheck.proofs.Copying.{are_behind, asked_behind}
-use Rattle.pkcheck.proofs.Noting.{are_grown}
-use Rattle.pkcheck.proofs.Resolving.{same_table}
+use Rattle.pkcheck.proofs.Copies.{are_behind, asked_behind}
+use Rattle.pkcheck.proofs.NotedImports.{are_grown}
+use Rattle.pkcheck.proofs.ResolvedEntries.{same_table}
 use Rattle.pkcheck.proofs.machine.ledger.Ledger.append.Goals as goal
 
 pub invariant_of-self : goal.invariant_of-self

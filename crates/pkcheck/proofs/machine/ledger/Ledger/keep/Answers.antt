@@ -1,7 +1,7 @@
 use Rattle.std.proofs.Common.{length, sym}
 use Rattle.std.proofs.lemmas.List.{take-map}
 use Rattle.pkcheck.specs.Private.Noted.{entry_asked}
-use Rattle.pkcheck.proofs.Noting.{are_kept}
+use Rattle.pkcheck.proofs.NotedImports.{are_kept}
 use Rattle.pkcheck.proofs.machine.ledger.Ledger.keep.Goals as goal
 
 pub invariant_of-self : goal.invariant_of-self

@@ -1,8 +1,8 @@
 use Rattle.std.proofs.Common.{[], ◌∷◌, ◌++◌, ◌∙◌, length, refl, subst, sym}
 use Rattle.std.proofs.lemmas.Result.{err_from_is_err_and}
 use Rattle.pkcheck.specs.Private.Noted.{IsNamedIf, Noted, entry_asked}
-use Rattle.pkcheck.proofs.Noting.{are_grown, are_more, asked_grown, map_more}
-use Rattle.pkcheck.proofs.Resolving.{same_table}
+use Rattle.pkcheck.proofs.NotedImports.{are_grown, are_more, asked_grown, map_more}
+use Rattle.pkcheck.proofs.ResolvedEntries.{same_table}
 use Rattle.pkcheck.proofs.machine.ledger.Ledger.list.Goals as goal
 
 pub invariant_of-self : goal.invariant_of-self

@@ -2,7 +2,7 @@ use Rattle.std.proofs.Common.{◌∙◌, ◌+◌, ◌-◌, ◌<◌, ◌^◌, ap,
 use Rattle.std.proofs.lemmas.Bool.{ltb-false}
 use Rattle.std.proofs.Math.ListN.{set, length-set}
 use Rattle.pkcheck.specs.Private.Slots.{AreBelow, AreFrom}
-use Rattle.pkcheck.proofs.Stepping.Errs.{on_both, ok_on, err_on}
+use Rattle.pkcheck.proofs.StepParts.Errs.{on_both, ok_on, err_on}
 use Rattle.pkcheck.proofs.Cells.{below_stored, cells, from_stored, length_cells, more_low}
 use Rattle.pkcheck.proofs.Cells.{more_rest, put_low, put_rest, put_row}
 use Rattle.pkcheck.proofs.machine.memo.Memo.store_other_slowly.Goals as goal

@@ -4,7 +4,7 @@ use Rattle.pkcheck.specs.Knowledge.{WrongClass, NotText}
 use Rattle.pkcheck.specs.Import.{policy_of}
 use Rattle.pkcheck.specs.Private.Noted.{named_asked}
 use Rattle.pkcheck.specs.Private.Slots.{known}
-use Rattle.pkcheck.proofs.Stepping.Judged.{judged_wrong, judged_err, judged_ok, may_name}
+use Rattle.pkcheck.proofs.StepParts.Judged.{judged_wrong, judged_err, judged_ok, may_name}
 use Rattle.pkcheck.proofs.machine.operate.named.permitted_name.Goals as goal
 use Rattle.pkcheck.proofs.machine.operate.named.permitted_name.Goals.{in-Some+in_ok-permit}
 use Rattle.pkcheck.proofs.machine.operate.named.permitted_name.Goals.{in_default}

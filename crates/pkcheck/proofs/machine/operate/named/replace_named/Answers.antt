@@ -5,12 +5,12 @@ use Rattle.pkops.specs.Spelling.{Nothing, instruction}
 use Rattle.pkcheck.specs.Private.Slots.{seen}
 use Rattle.pkcheck.specs.Import.{policy_of}
 use Rattle.pkcheck.specs.Private.Noted.{named_asked}
-use Rattle.pkcheck.proofs.Noting.{are_numbered, listed_before}
+use Rattle.pkcheck.proofs.NotedImports.{are_numbered, listed_before}
 use Rattle.pkcheck.proofs.Places.{length_below}
-use Rattle.pkcheck.proofs.Resolving.{found_seen, found_is, found_lacks, put_seen, put_sees}
-use Rattle.pkcheck.proofs.Resolving.{length_seen, same_table}
-use Rattle.pkcheck.proofs.Stepping.Judged.{lack_denied, judged_denied, within_denied, does_pass}
-use Rattle.pkcheck.proofs.Stepping.Judged.{judged_name, unroomed, left_there, given_none}
+use Rattle.pkcheck.proofs.ResolvedEntries.{found_seen, found_is, found_lacks, put_seen, put_sees}
+use Rattle.pkcheck.proofs.ResolvedEntries.{length_seen, same_table}
+use Rattle.pkcheck.proofs.StepParts.Judged.{lack_denied, judged_denied, within_denied, does_pass}
+use Rattle.pkcheck.proofs.StepParts.Judged.{judged_name, unroomed, left_there, given_none}
 use Rattle.pkcheck.proofs.machine.operate.named.replace_named.Goals as goal
 
 pub returns-in_err-found : goal.returns-in_err-found

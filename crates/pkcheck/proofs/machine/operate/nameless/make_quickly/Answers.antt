@@ -4,7 +4,7 @@ use Rattle.pkops.specs.Spelling.{Nothing, instruction}
 use Rattle.pkcheck.specs.declared.effect.Class.TheVariants as class
 use Rattle.pkcheck.specs.declared.effect.Gives.TheVariants.{Answers, Makes}
 use Rattle.pkcheck.specs.declared.machine.value.Value.TheVariants.{Made, Unknown}
-use Rattle.pkcheck.proofs.Stepping.Replaced.{has_replaced}
+use Rattle.pkcheck.proofs.StepParts.Replaced.{has_replaced}
 use Rattle.pkcheck.proofs.machine.operate.nameless.make_quickly.Goals as goal
 
 pub returns-in-Tuple1-clause-done : goal.returns-in-Tuple1-clause-done

@@ -1,5 +1,5 @@
 use Rattle.pkcheck.specs.Effects.{effect_of}
-use Rattle.pkcheck.proofs.Stepping.Operations.{unnamed_is}
+use Rattle.pkcheck.proofs.StepParts.Operations.{unnamed_is}
 use Rattle.pkcheck.proofs.machine.operate.nameless.operate.Goals as goal
 
 pub returns : goal.returns

@@ -7,11 +7,11 @@ use Rattle.pkcheck.specs.declared.effect.Names.TheVariants.{NoName}
 use Rattle.pkcheck.specs.Knowledge.{WrongClass}
 use Rattle.pkcheck.specs.Private.Slots.{seen}
 use Rattle.pkcheck.proofs.Places.{length_below}
-use Rattle.pkcheck.proofs.Resolving.{found_seen, found_is, found_lacks, put_seen, put_sees}
-use Rattle.pkcheck.proofs.Resolving.{length_seen, same_table}
-use Rattle.pkcheck.proofs.Stepping.Judged.{lack_denied, judged_denied, judged_ok, judged_wrong}
-use Rattle.pkcheck.proofs.Stepping.Judged.{within_denied, does_pass, unroomed, left_there}
-use Rattle.pkcheck.proofs.Stepping.Judged.{given_none}
+use Rattle.pkcheck.proofs.ResolvedEntries.{found_seen, found_is, found_lacks, put_seen, put_sees}
+use Rattle.pkcheck.proofs.ResolvedEntries.{length_seen, same_table}
+use Rattle.pkcheck.proofs.StepParts.Judged.{lack_denied, judged_denied, judged_ok, judged_wrong}
+use Rattle.pkcheck.proofs.StepParts.Judged.{within_denied, does_pass, unroomed, left_there}
+use Rattle.pkcheck.proofs.StepParts.Judged.{given_none}
 use Rattle.pkcheck.proofs.machine.operate.nameless.replace.Goals as goal
 
 pub returns-in_err-found-clause-err : goal.returns-in_err-found-clause-err

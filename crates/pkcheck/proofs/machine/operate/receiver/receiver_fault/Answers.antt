@@ -1,5 +1,5 @@
 use Rattle.std.proofs.Common.{◌∙◌}
-use Rattle.pkcheck.proofs.Stepping.Judged.{wrong_head, wrong_none}
+use Rattle.pkcheck.proofs.StepParts.Judged.{wrong_head, wrong_none}
 use Rattle.pkcheck.proofs.machine.operate.receiver.receiver_fault.Goals as goal
 
 pub returns-in-Some : goal.returns-in-Some

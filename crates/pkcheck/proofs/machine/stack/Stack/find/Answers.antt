@@ -1,7 +1,7 @@
 use Rattle.std.proofs.Common.{◌≡◌, ◌<◌, ◌∙◌, ◌≤◌, ◌+◌, ◌++◌, length, subst, arith}
 use Rattle.pkcheck.specs.Shape.{front, marks_of}
 use Rattle.pkcheck.specs.Private.Places.{above, below}
-use Rattle.pkcheck.proofs.Stepping.Errs.{ok_by}
+use Rattle.pkcheck.proofs.StepParts.Errs.{ok_by}
 use Rattle.pkcheck.proofs.Limited.{length_shown}
 use Rattle.pkcheck.proofs.Places.{below_marks, first_left, first_there, found_at}
 use Rattle.pkcheck.proofs.machine.stack.Stack.find.Goals as goal

@@ -1,6 +1,6 @@
 use Rattle.std.proofs.Common.{length, ap, arith}
 use Rattle.pkcheck.proofs.Places.{below_all}
-use Rattle.pkcheck.proofs.Stepping.Errs.{ok_by}
+use Rattle.pkcheck.proofs.StepParts.Errs.{ok_by}
 use Rattle.pkcheck.proofs.machine.stack.Stack.replace.Goals as goal
 
 pub returns-clause-ok : goal.returns-clause-ok

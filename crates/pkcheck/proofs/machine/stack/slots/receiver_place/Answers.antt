@@ -3,7 +3,7 @@ use Rattle.pkcheck.specs.Shape.{NoItem}
 use Rattle.pkcheck.specs.Private.Slots.{shown, values_of}
 use Rattle.pkcheck.proofs.Bars.{marks_over_object}
 use Rattle.pkcheck.proofs.Shown.{items_at_bar, items_at_object, first_object}
-use Rattle.pkcheck.proofs.Stepping.Placed.{receiver_missing, receiver_fits, receiver_breaks}
+use Rattle.pkcheck.proofs.StepParts.Placed.{receiver_missing, receiver_fits, receiver_breaks}
 use Rattle.pkcheck.proofs.machine.stack.slots.receiver_place.Goals as goal
 
 pub returns-in_default-stack-clause-err : goal.returns-in_default-stack-clause-err

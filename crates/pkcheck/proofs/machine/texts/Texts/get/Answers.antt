@@ -1,5 +1,5 @@
 use Rattle.std.proofs.Common.{◌∙◌, [], ap, arith, get_or, length}
-use Rattle.pkcheck.proofs.Joining.{how_many, lies_by, none_past}
+use Rattle.pkcheck.proofs.JoinedTexts.{how_many, lies_by, none_past}
 use Rattle.pkcheck.proofs.machine.texts.Texts.get.Goals as goal
 
 pub returns-then-number-len : goal.returns-then-number-len

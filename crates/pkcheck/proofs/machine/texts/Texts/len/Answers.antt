@@ -1,5 +1,5 @@
 use Rattle.std.proofs.Common.{ap, arith, length}
-use Rattle.pkcheck.proofs.Joining.{how_many}
+use Rattle.pkcheck.proofs.JoinedTexts.{how_many}
 use Rattle.pkcheck.proofs.machine.texts.Texts.len.Goals as goal
 
 pub returns : goal.returns

@@ -1,7 +1,7 @@
 use Rattle.std.proofs.Common.{◌∷◌, [], ◌++◌, ◌∙◌, ap, arith}
 use Rattle.std.specs.Prelude.{length}
 use Rattle.pkcheck.specs.Private.Joined.{AreJoined, cut}
-use Rattle.pkcheck.proofs.Joining.{cut_joined, joined_cut, joined_more}
+use Rattle.pkcheck.proofs.JoinedTexts.{cut_joined, joined_cut, joined_more}
 use Rattle.pkcheck.proofs.machine.texts.Texts.push.Goals as goal
 
 more : (c : goal.In-Ok)

@@ -1,0 +1,53 @@
+-- How one instruction is judged after it was read.
+use Rattle.std.specs.Prelude.{◌≡◌, ℕ, ◌⊎◌, Option, None, Some, length, option_map}
+use Rattle.pkops.specs.Spelling.{Instruction, spelling}
+use Rattle.pkops.specs.declared.Op.{Op}
+use Rattle.pkread.specs.Framing.{counted}
+use Rattle.pkread.specs.Pieces.{piece_of}
+use Rattle.pkread.specs.declared.Reason.{Reason}
+use Rattle.pkread.specs.declared.Reason.TheVariants.{BrokenFrame}
+use Rattle.pkcheck.specs.Import.{asked_shown}
+use Rattle.pkcheck.specs.Knowledge.{Asked, Policy}
+use Rattle.pkcheck.specs.Step.{FailsStep, GoesOn}
+use Rattle.pkcheck.specs.View.{View}
+use Rattle.pkcheck.specs.declared.checking.No.{No}
+use Rattle.pkcheck.specs.declared.machine.stepping.Moved.{Moved}
+
+-- the state of a check: the bytes left in the open frame, and the machine
+pub record SessionView : Type 0 where
+  pub frame : ℕ
+  pub machine : View
+
+-- a refusal at this offset, for this reason, with this pair off the list
+pub record IsNoAt (at : ℕ) (reason : Reason) (off : Option Asked) (no : No) : Type 0 where
+  pub place : no.at ≡ at
+  pub why : no.reason ≡ reason
+  pub pair : option_map asked_shown no.pair ≡ off
+
+-- the instruction has this opcode and this length
+pub record HasLength (i : Instruction) (op : Op) (count : ℕ) : Type 0 where
+  pub op_is : i.op ≡ op
+  pub long : length (spelling i) ≡ count
+
+-- the instruction obeys the frame rules, and the machine goes on
+abbrev pub BothGoOn : Policy → Instruction → ℕ → View → ℕ → View → Type 0
+BothGoOn policy i was_open before is_open after =
+    (counted was_open (piece_of i) ≡ Some is_open)
+    × ((moved : Moved) × GoesOn policy i before after moved)
+
+-- the instruction breaks the frame rules
+abbrev pub BreaksFrame : Instruction → ℕ → View → View → Reason → Type 0
+BreaksFrame i was_open before after reason =
+    (counted was_open (piece_of i) ≡ None) × (after ≡ before) × (reason ≡ BrokenFrame)
+
+-- the instruction obeys the frame rules, and the machine refuses it or an allocation is refused
+abbrev pub IsRefusedByMachine : Policy → Instruction → ℕ → View → View → Reason → Type 0
+IsRefusedByMachine policy i was_open before after reason =
+    ((is_open : ℕ) × (counted was_open (piece_of i) ≡ Some is_open))
+    × FailsStep policy i before after reason
+
+-- the frame rules or the machine refuse the instruction
+abbrev pub IsRefused : Policy → Instruction → ℕ → View → View → Reason → Type 0
+IsRefused policy i was_open before after reason =
+    BreaksFrame i was_open before after reason
+    ⊎ IsRefusedByMachine policy i was_open before after reason

@@ -1,0 +1,165 @@
+-- How the arms take the bytes of one instruction.
+use Rattle.std.specs.Prelude.{◌≡◌, ◌≢◌, ◌⊎◌, ℕ, ◌+◌, ◌<◌, ◌≤◌, List, [], ◌∷◌, ◌++◌, length}
+use Rattle.std.specs.Prelude.{None, Result, MatchResult, take, true}
+use Rattle.std.specs.List.{AllByRecursion}
+use Rattle.std.specs.Io.KnownBytes.{IsAtEnd}
+use Rattle.pkops.specs.Contents.{IsGood}
+use Rattle.pkops.specs.Limits.{Bounds}
+use Rattle.pkops.specs.KnownLayout.{IsFixed, Lies, count_in, field_len}
+use Rattle.pkops.specs.Payloads.{payload_limit}
+use Rattle.pkops.specs.Scans.{Begun, longest}
+use Rattle.pkops.specs.Spelling.{Argument, IsLine, count_limit, instruction, layout_at}
+use Rattle.pkops.specs.Spelling.{line_feed, size_of}
+use Rattle.pkops.specs.Table.{code_of}
+use Rattle.pkops.specs.declared.Op.{Op}
+use Rattle.pkread.specs.Admission.{objection}
+use Rattle.pkread.specs.Framing.{other}
+use Rattle.pkread.specs.Pieces.{role_of}
+use Rattle.pkread.specs.Private.Judgement.{is_plain}
+use Rattle.pkread.specs.Private.Progress.{Intake}
+use Rattle.pkread.specs.Private.Reads.{AreAllBytes, LackRow, Took}
+use Rattle.pkread.specs.Rows.{Sight, Fails, FrontsBegin, IsAmiss, Refuses, Takes, all_bytes}
+use Rattle.pkread.specs.declared.arms.Count.{Count}
+use Rattle.pkread.specs.declared.gather.Found.{Found}
+use Rattle.pkread.specs.declared.refusal.Reason.{Reason}
+use Rattle.pkread.specs.declared.refusal.Reason.TheVariants.{Source, Truncated, TooLarge}
+use Rattle.pkread.specs.declared.refusal.Reason.TheVariants.{OutOfMemory}
+
+-- the bytes of an instruction were taken, and no shorter prefix is a whole one
+pub record Gathers (limit : ℕ) (old new : Intake) : Type 0 where
+  pub taken : new.taken ≡ old.taken + length new.bytes
+  pub fronts : FrontsBegin limit new.bytes
+  pub source : Takes old.source new.source new.bytes
+
+-- what a reason says if `bytes` are those of the instruction so far, and only `run`, at their end,
+-- was taken between the two views of the source
+abbrev pub RowBehind : ℕ → Sight → Sight → List ℕ → List ℕ → ℕ → Reason → Type 0
+RowBehind limit before after run bytes taken Source = Fails before after run × Begun limit bytes
+RowBehind limit before after run bytes taken Truncated =
+    Takes before after run × IsAtEnd after.left × (taken < all_bytes) × Begun limit bytes
+RowBehind limit before after run bytes taken TooLarge =
+    Takes before after run
+    × (IsAmiss limit bytes TooLarge ⊎ (Begun limit bytes × (taken ≡ all_bytes)))
+RowBehind limit before after run bytes taken OutOfMemory =
+    Takes before after run × Begun limit bytes
+RowBehind limit before after run bytes taken reason =
+    Takes before after run × IsAmiss limit bytes reason
+
+-- bytes were appended, and the result spells the opcode with an argument
+pub record Grows (limit : ℕ) (op : Op) (split : ℕ) (old new : Intake) : Type 0 where
+  pub bytes : List ℕ
+  pub took : Took bytes old new
+  pub arg : Argument
+  pub lies : Lies limit op arg split new.bytes
+
+-- bytes were appended up to the one that shows the reason
+pub record Stops (limit : ℕ) (old new : Intake) (reason : Reason) : Type 0 where
+  pub bytes : List ℕ
+  pub held : new.bytes ≡ old.bytes ++ bytes
+  pub count_is : new.taken ≡ old.taken + length bytes
+  pub fronts : FrontsBegin limit new.bytes
+  pub row : RowBehind limit old.source new.source bytes new.bytes new.taken reason
+
+-- a count was taken, and it is within the limit
+pub record Counts (c : Count) (n : ℕ) (old new : Intake) : Type 0 where
+  pub field : List ℕ
+  pub took : Took field old new
+  pub len : length field ≡ size_of c.width
+  pub count : n ≡ count_in c.width field
+  pub under : n < count_limit c.width c.signed
+  pub within : n ≤ c.limit
+
+-- a line of at most `most` bytes was taken
+pub record TookLine (most : ℕ) (old new : Intake) : Type 0 where
+  pub text : List ℕ
+  pub took : Took (text ++ line_feed ∷ []) old new
+  pub line : IsLine most text
+
+-- why no line was taken: the next byte could not be read, or the line is too long
+abbrev pub LineRow : ℕ → Sight → Sight → List ℕ → ℕ → Reason → Type 0
+LineRow most before after bytes u TooLarge =
+    Takes before after bytes
+    × (((length bytes ≤ most) × (u ≡ all_bytes)) ⊎ (length bytes ≡ most + 1))
+LineRow most before after bytes u reason =
+    (length bytes ≤ most) × LackRow before after bytes u reason
+
+-- bytes without a newline were taken, but no complete line
+pub record LacksLine (most : ℕ) (old new : Intake) (reason : Reason) : Type 0 where
+  pub bytes : List ℕ
+  pub fit : AreAllBytes bytes
+  pub held : new.bytes ≡ old.bytes ++ bytes
+  pub count_is : new.taken ≡ old.taken + length bytes
+  pub endless : AllByRecursion (λ byte. byte ≢ line_feed) bytes
+  pub row : LineRow most old.source new.source bytes new.taken reason
+
+-- the bytes spell the opcode with an argument that is good and admitted; `split` is where its first
+-- line ends
+pub record IsFound (limit : ℕ) (bytes : List ℕ) (op : Op) (split : ℕ) : Type 0 where
+  pub arg : Argument
+  pub lies : Lies limit op arg split bytes
+  pub good : IsGood (instruction op arg)
+  pub admitted : objection (instruction op arg) ≡ None
+
+-- bytes were appended, and the result spells the opcode with an argument that is good and admitted
+pub record Finds (limit : ℕ) (op : Op) (split : ℕ) (old new : Intake) : Type 0 where
+  pub bytes : List ℕ
+  pub took : Took bytes old new
+  pub found : IsFound limit new.bytes op split
+
+-- an instruction of this opcode has n bytes, whatever they are, is good and admitted, and is
+-- neither STOP nor FRAME
+pub record HasFixedLength (op : Op) (n : ℕ) : Type 0 where
+  pub fixed : IsFixed (layout_at op)
+  pub length_is : n ≡ field_len (layout_at op) + 1
+  pub plain : is_plain op ≡ true
+  pub role : role_of op 0 ≡ other
+
+-- the first n bytes are an instruction of this opcode, which is neither STOP nor FRAME, within the
+-- limits and short enough for a buffer
+pub record IsFront (limits : Bounds) (op : Op) (split n : ℕ) (bytes : List ℕ) : Type 0 where
+  pub found : IsFound (payload_limit limits op) (take n bytes) op split
+  pub role : role_of op 0 ≡ other
+  pub few : n ≤ longest limits.counted
+  pub within : n ≤ length bytes
+
+-- like IsFront, wherever its first line ends
+abbrev pub IsInFront : Bounds → Op → ℕ → List ℕ → Type 0
+IsInFront limits op n bytes = (split : ℕ) × IsFront limits op split n bytes
+
+-- takes a line, or says why not
+abbrev pub TakesLine : {A : Type 0} → ℕ → Result A Reason → Intake → Intake → Type 0
+TakesLine most result old new =
+    MatchResult result (λ _. TookLine most old new) (LacksLine most old new)
+
+-- takes a count, or says why not
+abbrev pub TakesCount : Count → Result ℕ Reason → Intake → Intake → Type 0
+TakesCount c result old new = MatchResult result (λ n. Counts c n old new) (Stops c.limit old new)
+
+-- takes and judges the argument of an opcode, or says why not
+abbrev pub TakesArgument : {A : Type 0} → ℕ → Op → Result A Reason → Intake → Intake → Type 0
+TakesArgument limit op result old new =
+    MatchResult result (λ _. Finds limit op 0 old new) (Stops limit old new)
+
+-- like TakesArgument, and returns where the first line ends
+abbrev pub TakesSplit : ℕ → Op → Result ℕ Reason → Intake → Intake → Type 0
+TakesSplit limit op result old new =
+    MatchResult result (λ split. Finds limit op split old new) (Stops limit old new)
+
+-- takes a code, or says why not, under any limit
+abbrev pub TakesOp : Result Op Reason → Intake → Intake → Type 0
+TakesOp result old new =
+    MatchResult result
+    (λ op. Took (code_of op ∷ []) old new)
+    (λ reason. (limit : ℕ) → Stops limit old new reason)
+
+-- takes an instruction, or says why not
+abbrev pub TakesFound : ℕ → Result Found Reason → Intake → Intake → Type 0
+TakesFound limit result old new =
+    MatchResult result (λ f. Finds limit f.op f.split old new) (Stops limit old new)
+
+-- takes a whole instruction, or says why it is refused
+abbrev pub TakesWhole : ℕ → Result Found Reason → Intake → Intake → Type 0
+TakesWhole limit result old new =
+    MatchResult result
+    (λ f. IsFound limit new.bytes f.op f.split × Gathers limit old new)
+    (Refuses limit old.source new.source new.bytes old.taken new.taken)
