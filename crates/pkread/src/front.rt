@@ -15,6 +15,7 @@ ghost use Rattle.pkread.specs.Private.Arms.{HasFixedLength, IsFront, IsInFront};
 ghost use Rattle.pkread.specs.Private.Judgement.{is_plain};
 
 use crate::admission::{is_good, is_plain};
+use crate::memo_lines::memo_line_length;
 use pkops::laws::{growth, one_code};
 use pkops::{Arg, Layout, Limits, Op, Width, count_behind, is_utf8, layout_of_op, op_of_byte};
 
@@ -23,6 +24,9 @@ const SHORT_TEXT: u8 = 0x8c;
 
 /// The code of SHORT_BINBYTES.
 const SHORT_BYTES: u8 = 0x43;
+
+/// The code of BINUNICODE.
+const TEXT: u8 = 0x58;
 
 /// The highest protocol that is known.
 const HIGHEST_PROTOCOL: u8 = 5;
@@ -185,6 +189,13 @@ fn varying_length(code: u8, bytes: &[u8], limits: &Limits) -> usize
     }
     if code == SHORT_BYTES {
         return counted_length(Op::ShortBinBytes, Width::One, bytes, limits);
+    }
+    if code == TEXT {
+        return counted_length(Op::BinUnicode, Width::Four, bytes, limits);
+    }
+    let memo_line = memo_line_length(code, bytes);
+    if memo_line != 0 {
+        return memo_line;
     }
     let Some(op) = op_of_byte(code) else {
         return 0;

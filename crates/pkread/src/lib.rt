@@ -20,6 +20,7 @@ mod gathering;
 mod heads;
 pub mod laws;
 mod lines;
+mod memo_lines;
 mod reader;
 mod refusal;
 mod slice;
