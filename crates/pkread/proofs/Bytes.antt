@@ -11,4 +11,4 @@ pub mod Skipped
 pub mod Lengths
 pub mod Front
 pub mod FrontLines
-pub mod MemoLines
+pub mod FrequentLines

@@ -15,7 +15,7 @@ ghost use Rattle.pkread.specs.Private.Arms.{HasFixedLength, IsFront, IsInFront};
 ghost use Rattle.pkread.specs.Private.Judgement.{is_plain};
 
 use crate::admission::{is_good, is_plain};
-use crate::memo_lines::memo_line_length;
+use crate::frequent_lines::frequent_line_length;
 use pkops::laws::{growth, one_code};
 use pkops::{Arg, Layout, Limits, Op, Width, count_behind, is_utf8, layout_of_op, op_of_byte};
 
@@ -193,10 +193,34 @@ fn varying_length(code: u8, bytes: &[u8], limits: &Limits) -> usize
     if code == TEXT {
         return counted_length(Op::BinUnicode, Width::Four, bytes, limits);
     }
-    let memo_line = memo_line_length(code, bytes);
-    if memo_line != 0 {
-        return memo_line;
+    other_length(code, bytes, limits)
+}
+
+/// `varying_length` of the opcodes that it doesn't handle itself. The frequent ones of protocol 0
+/// come first, and need no stack here.
+#[inline(never)]
+fn other_length(code: u8, bytes: &[u8], limits: &Limits) -> usize
+    requires some { 0 < length bytes.now }
+    requires code { code ≡ slice_index bytes.now 0 }
+    ensures { (op : SpecOp) → code_of op ≡ code → result ≢ 0
+        → IsInFront limits.now op result bytes.now }
+{
+    let line = frequent_line_length(code, bytes);
+    if line != 0 {
+        return line;
     }
+    rare_length(code, bytes, limits)
+}
+
+/// `varying_length` of any opcode.
+#[inline(never)]
+fn rare_length(code: u8, bytes: &[u8], limits: &Limits) -> usize
+    requires some { 0 < length bytes.now }
+    requires code { code ≡ slice_index bytes.now 0 }
+    ensures { (op : SpecOp) → code_of op ≡ code → result ≢ 0
+        → IsInFront limits.now op result bytes.now }
+{
+    one_code();
     let Some(op) = op_of_byte(code) else {
         return 0;
     };

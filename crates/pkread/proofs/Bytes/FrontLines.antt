@@ -25,7 +25,7 @@ use Rattle.pkread.specs.Pieces.{role_of}
 use Rattle.pkread.specs.Private.Arms.{IsInFront}
 
 -- an opcode with lines is neither STOP nor FRAME
-line_role : (o : Op) (most : ℕ) → layout_at o ≡ layout.Line most → role_of o 0 ≡ other
+pub line_role : (o : Op) (most : ℕ) → layout_at o ≡ layout.Line most → role_of o 0 ≡ other
 line_role op.Stop most e = absurd cc
 line_role op.Frame most e = absurd cc
 line_role _ most e = refl
@@ -36,7 +36,7 @@ pair_role op.Frame most e = absurd cc
 pair_role _ most e = refl
 
 -- a line has no line feed before its end
-pub no_feed : (xs : List ℕ) (n : ℕ) → n ≤ length xs →
+no_feed : (xs : List ℕ) (n : ℕ) → n ≤ length xs →
     ((k : ℕ) → k < n → (get_or xs k 0 == 10) ≡ false) →
     AllByRecursion (λ byte. byte ≢ line_feed) (take n xs)
 no_feed xs zero le h = tt
@@ -196,7 +196,7 @@ feed_at (y ∷ line) behind h =
     let rest = feed_at line behind h.1 in
     rw other (omega (arith, rest))
 
-pub feed_found : (line behind : List ℕ) → AllByRecursion (λ byte. byte ≢ line_feed) line →
+feed_found : (line behind : List ℕ) → AllByRecursion (λ byte. byte ≢ line_feed) line →
     position (λ (byte : ℕ). byte == 10) (line ++ 10 ∷ behind) ≡ Some (length line)
 feed_found line behind h =
     let inside : length line < length (line ++ 10 ∷ behind) =

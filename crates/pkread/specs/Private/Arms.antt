@@ -1,17 +1,20 @@
 -- How the arms take the bytes of one instruction.
 use Rattle.std.specs.Prelude.{◌≡◌, ◌≢◌, ◌⊎◌, ℕ, ◌+◌, ◌<◌, ◌≤◌, List, [], ◌∷◌, ◌++◌, length}
-use Rattle.std.specs.Prelude.{None, Result, MatchResult, take, true}
-use Rattle.std.specs.List.{AllByRecursion}
+use Rattle.std.specs.Prelude.{None, Result, MatchResult, slice_index, take, true}
+use Rattle.std.specs.Char.{is_ascii_digit}
+use Rattle.std.specs.List.{AllByRecursion, list_all}
 use Rattle.std.specs.Io.KnownBytes.{IsAtEnd}
-use Rattle.pkops.specs.Contents.{IsGood}
+use Rattle.pkops.specs.Contents.{IsGood, Keeps}
 use Rattle.pkops.specs.Limits.{Bounds}
 use Rattle.pkops.specs.KnownLayout.{IsFixed, Lies, count_in, field_len}
 use Rattle.pkops.specs.Payloads.{payload_limit}
+use Rattle.pkops.specs.RuleTests.{is_natural}
 use Rattle.pkops.specs.Scans.{Begun, longest}
-use Rattle.pkops.specs.Spelling.{Argument, IsLine, count_limit, instruction, layout_at}
+use Rattle.pkops.specs.Spelling.{Argument, IsLine, Line, count_limit, instruction, layout_at}
 use Rattle.pkops.specs.Spelling.{line_feed, size_of}
 use Rattle.pkops.specs.Table.{code_of}
 use Rattle.pkops.specs.declared.Op.{Op}
+use Rattle.pkops.specs.declared.Rule.{Rule}
 use Rattle.pkread.specs.Admission.{objection}
 use Rattle.pkread.specs.Framing.{other}
 use Rattle.pkread.specs.Pieces.{role_of}
@@ -125,6 +128,22 @@ pub record IsFront (limits : Bounds) (op : Op) (split n : ℕ) (bytes : List ℕ
 -- like IsFront, wherever its first line ends
 abbrev pub IsInFront : Bounds → Op → ℕ → List ℕ → Type 0
 IsInFront limits op n bytes = (split : ℕ) × IsFront limits op split n bytes
+
+-- behind the code stand a line that obeys the rule, and its line feed: n bytes with the code
+pub record HasLine (rule : Rule) (n : ℕ) (bytes : List ℕ) : Type 0 where
+  pub line : List ℕ
+  pub behind : List ℕ
+  pub spelled : bytes ≡ slice_index bytes 0 ∷ (line ++ line_feed ∷ behind)
+  pub count : n ≡ length line + 2
+  pub short : IsLine 256 line
+  pub obeys : Keeps rule (Line line)
+
+-- the first n bytes are the digits of a natural number, and a line feed follows
+pub record BeginsWithNumber (n : ℕ) (bytes : List ℕ) : Type 0 where
+  pub inside : n < length bytes
+  pub feed : slice_index bytes n ≡ line_feed
+  pub digits : list_all is_ascii_digit (take n bytes) ≡ true
+  pub natural : is_natural (take n bytes) ≡ true
 
 -- takes a line, or says why not
 abbrev pub TakesLine : {A : Type 0} → ℕ → Result A Reason → Intake → Intake → Type 0

@@ -1,7 +1,7 @@
 use Rattle.std.proofs.Common.{◌∙◌, sym, subst}
 use Rattle.pkops.specs.declared.Op.{Op}
 use Rattle.pkread.specs.Private.Arms.{IsInFront}
-use Rattle.pkread.proofs.front.varying_length.Goals as goal
+use Rattle.pkread.proofs.front.rare_length.Goals as goal
 
 pub returns-in-Proto : goal.returns-in-Proto
 returns-in-Proto c o code ne =
@@ -13,9 +13,9 @@ returns-in-Proto c o code ne =
 pub returns-in-Counted-default-false : goal.returns-in-Counted-default-false
 returns-in-Counted-default-false c o code ne =
     subst (λ (x : Op). IsInFront c.args.limits.now x
-    c.counted_length-in-Counted-default-false.result c.args.bytes.now)
+    c.counted_length.result c.args.bytes.now)
     (c.one_code.ensures c.in-Some.op o (c.in-Some.ensures.found ∙ sym code))
-    (c.counted_length-in-Counted-default-false.ensures ne)
+    (c.counted_length.ensures ne)
 
 pub returns-in-Line : goal.returns-in-Line
 returns-in-Line c o code ne =
