@@ -11,7 +11,7 @@ ghost use Rattle.pkops.specs.Spelling.{Argument, instruction, shown_arg, size_of
 ghost use Rattle.pkops.specs.KnownLayout.{Lies, count_in};
 
 use crate::arg::Arg;
-use crate::contents::numeral::{is_bool_line, number_of};
+use crate::contents::numeral::{is_bool_line, number_of, value_of};
 use crate::layout::{Layout, Width};
 use crate::op::Op;
 use crate::table::layout_of_op;
@@ -92,13 +92,16 @@ pub fn is_bool_behind(bytes: &[u8]) -> bool
     is_bool_line(between(1, bytes.len() - 1, bytes))
 }
 
-/// The number in the line after the code.
+/// The number in the line after the code. It often has one digit.
 #[inline(never)]
 fn line_number_behind(bytes: &[u8]) -> u32
     requires some { 2 ≤ length bytes.now }
     requires number { IsMemoNumber (take (length bytes.now - 2) (drop 1 bytes.now)) }
     ensures { result ≡ digits_value 10 (take (length bytes.now - 2) (drop 1 bytes.now)) }
 {
+    if bytes.len() == 3 {
+        return value_of(bytes[1]);
+    }
     number_of(between(1, bytes.len() - 1, bytes))
 }
 

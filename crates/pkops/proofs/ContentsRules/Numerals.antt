@@ -1,13 +1,13 @@
 -- The tests of numerals hold exactly of the numerals.
 use Rattle.std.proofs.Common.{◌≡◌, ℕ, suc, ◌+◌, ◌*◌, ◌-◌, ◌^◌, ◌<◌, Bool, true, false, ◌||◌, eqb}
-use Rattle.std.proofs.Common.{leb, List, [], ◌∷◌, ◌++◌, length, take, get_or, refl, sym, ap, ◌∙◌}
-use Rattle.std.proofs.Common.{arith, inl, inr}
+use Rattle.std.proofs.Common.{leb, List, [], ◌∷◌, ◌++◌, length, take, drop, get_or, refl, sym, ap}
+use Rattle.std.proofs.Common.{subst, ◌∙◌, arith, inl, inr}
 use Rattle.std.specs.Prelude.{codes}
 use Rattle.std.specs.Char.{digit_value, is_ascii_digit}
 use Rattle.std.specs.List.{list_all}
 use Rattle.std.specs.Str.Parse.{AllDigits, digits_value}
 use Rattle.std.proofs.lemmas.Bool.{and_parts, and_from, or_cases, eqb-true, leb-true, ltb-true}
-use Rattle.std.proofs.lemmas.Bool.{lt-ltb}
+use Rattle.std.proofs.lemmas.Bool.{le-leb, lt-ltb}
 use Rattle.std.proofs.lemmas.Int.Digits.{digits_value-lt, digits_value_more}
 use Rattle.std.proofs.lemmas.Str.{digit_value_digit}
 use Rattle.std.proofs.Math.Nat.{pow-le-pow_right}
@@ -167,3 +167,23 @@ few_digits ds e short =
     let below = digits_value-lt 10 ds (all_digits ds e) in
     let most = pow-le-pow_right {n = 10} (omega arith) {i = length ds} {j = 9} (omega arith) in
     omega arith
+
+-- the only digit of a natural number
+only_digit : (digit : ℕ) → IsNatural (digit ∷ []) → is_ascii_digit digit ≡ true
+only_digit digit (inl e) = subst (λ (l : List ℕ). is_ascii_digit (get_or l 0 0) ≡ true) (sym e) refl
+only_digit digit (inr (first, rest, nonzero, digits, e)) =
+    let p = and_parts (leb 49 first) (leb first 57) nonzero in
+    let low = leb-true 49 first p.0 in
+    let same : digit ≡ first = ap (λ (l : List ℕ). get_or l 0 0) e in
+    rw same (and_from _ _ (le-leb 48 first (omega (arith, low))) p.1)
+
+-- a memo number of one digit, between two bytes
+pub one_digit : (bytes : List ℕ) → length bytes ≡ 3
+    → IsMemoNumber (take (length bytes - 2) (drop 1 bytes))
+    → (is_ascii_digit (get_or bytes 1 0) ≡ true)
+    × (digit_value (get_or bytes 1 0) ≡ digits_value 10 (take (length bytes - 2) (drop 1 bytes)))
+one_digit [] three is = absurd (omega (arith, three))
+one_digit (a ∷ []) three is = absurd (omega (arith, three))
+one_digit (a ∷ digit ∷ []) three is = absurd (omega (arith, three))
+one_digit (a ∷ digit ∷ b ∷ []) three is = (only_digit digit is.natural, omega arith)
+one_digit (a ∷ digit ∷ b ∷ c ∷ rest) three is = absurd (omega (arith, three))
