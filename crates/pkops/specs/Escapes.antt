@@ -3,11 +3,11 @@
 -- printer from a tree to its bytes, and a rule for valid trees; each tree is one character. It
 -- refuses two things that the codec accepts: a backslash that begins no escape, and surrogates.
 use Rattle.std.specs.Prelude.{◌≡◌, ◌≢◌, ℕ, ◌==◌, Bool, ◌&&◌, if◌then◌else◌, List, [], ◌∷◌, ◌++◌}
-use Rattle.std.specs.Prelude.{length, take, map, codes, Option, Some, None}
+use Rattle.std.specs.Prelude.{length, take, map, codes, not, Option, Some, None}
 use lib.Utf8.{scalar}
 use Rattle.std.specs.List.{All, AllPass, list_all, flat_map}
 use Rattle.std.specs.Option.{option_map}
-use Rattle.std.specs.Char.{IsScalar, is_ascii_hexdigit}
+use Rattle.std.specs.Char.{IsScalar, is_ascii, is_ascii_hexdigit}
 use Rattle.std.specs.Str.Parse.{digits_value}
 use Rattle.pkops.specs.Forms.{forms_of}
 
@@ -78,3 +78,10 @@ character_at byte text = if byte == 92 then escape_at text else Some (plain byte
 -- the code points of the text that a line spells, if it spells one
 abbrev pub points_of : List ℕ → Option (List ℕ)
 points_of line = option_map (map code_point) (forms_of character_at print_character line)
+
+-- ---- lines that need no decoding
+
+-- an ASCII byte other than a backslash; a line of such bytes spells itself, as
+-- `laws::plain_line_is_text` says
+abbrev pub is_plain_ascii : ℕ → Bool
+is_plain_ascii byte = is_ascii byte && not (byte == 92)

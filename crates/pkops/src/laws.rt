@@ -2,17 +2,21 @@
 //! to use its law in a proof.
 
 ghost use Rattle.std.specs.Prelude.{◌≡◌, ◌↔◌, [], ◌++◌, List, Some, true, ℕ};
+ghost use Rattle.std.specs.List.{list_all};
+ghost use Rattle.std.specs.Str.{IsUtf8};
 ghost use Rattle.pkops.specs.Answer.{Answer, Answers};
 ghost use Rattle.pkops.specs.Contents.{Keeps};
+ghost use Rattle.pkops.specs.Escapes.{is_plain_ascii};
 ghost use Rattle.pkops.specs.RuleTests.{passes};
 ghost use Rattle.pkops.specs.Growth.{BegunLaws, CountLaws, FieldLaws};
 ghost use Rattle.pkops.specs.OldBytes.{NamesBytes, old_bytes};
 ghost use Rattle.pkops.specs.Scans.{Spells};
-ghost use Rattle.pkops.specs.Spelling.{Argument, Instruction};
+ghost use Rattle.pkops.specs.Spelling.{Argument, Instruction, Line, instruction};
 ghost use Rattle.pkops.specs.Table.{code_of};
 ghost use Rattle.pkops.specs.Text.{NamesText, text_bytes};
 ghost use Rattle.pkops.specs.declared.contents.Rule.{Rule};
 ghost use Rattle.pkops.specs.declared.op.Op.{Op};
+ghost use Rattle.pkops.specs.declared.op.Op.TheVariants as op;
 
 /// No spelling is a proper prefix of another, so bytes have one reading however they are split.
 #[inline]
@@ -53,6 +57,14 @@ pub fn rules_are_computed()
 #[inline]
 pub fn text_is_named()
     ensures { (i : Instruction) (text : List ℕ) → NamesText i text ↔ (text_bytes i ≡ Some text) }
+{}
+
+/// A line that `spells_itself` is UTF-8, and the text that UNICODE spells with it.
+#[inline]
+pub fn plain_line_is_text()
+    ensures utf8 { (line : List ℕ) → list_all is_plain_ascii line ≡ true → IsUtf8 line }
+    ensures text { (line : List ℕ) → list_all is_plain_ascii line ≡ true →
+        NamesText (instruction op.Unicode (Line line)) line }
 {}
 
 /// The bytes that `old_bytes_of` returns are those of the Python 2 string that the instruction

@@ -1,7 +1,9 @@
 //! Scans at the edges: truncated and negative counts, the limits, and contents that obey or break a
 //! rule.
 
-use pkops::{Arg, Fault, Inst, Limits, Op, Scan, assemble, old_bytes_of, scan, text_of};
+use pkops::{
+    Arg, Fault, Inst, Limits, Op, Scan, assemble, old_bytes_of, scan, spells_itself, text_of,
+};
 use std::test::Fail;
 
 #[derive(Clone, Copy, Debug, PartialEq, Eq)]
@@ -215,6 +217,19 @@ fn texts(rt: HostRuntime) -> Result<(), Fail> {
         let inst = instruction(bytes)?;
         let named = text_of(rt.alloc(), &inst)?;
         assert_eq!(rt; named.as_deref(), text, "{bytes:?}");
+    }
+    Ok(())
+}
+
+#[test]
+fn lines_without_escapes(rt: HostRuntime) -> Result<(), Fail> {
+    for (line, plain) in [
+        (b"".as_slice(), true),
+        (b"\x00 u\x7f".as_slice(), true),
+        (b"\\u0061".as_slice(), false),
+        (b"a\xe9".as_slice(), false),
+    ] {
+        assert_eq!(rt; spells_itself(line), plain, "{line:?}");
     }
     Ok(())
 }

@@ -15,7 +15,8 @@ use crate::machine::stack::Stack;
 use crate::machine::terms::Terms;
 use crate::machine::texts::text_spelled;
 use crate::machine::value::Value;
-use pkops::{Arg, Inst, Limits, Op};
+use pkops::laws::{plain_line_is_text, text_is_named};
+use pkops::{Arg, Inst, Limits, Op, spells_itself};
 use pkread::Reason;
 
 /// Adds a text to the table, and pushes its number.
@@ -68,6 +69,41 @@ fn name_payload(
 /// Like `name_text`, for an opcode and its line. See `name_payload`.
 #[inline(never)]
 fn name_line(
+    stack: &mut Stack,
+    ledger: &mut Ledger,
+    terms: &Terms,
+    op: Op,
+    line: &[u8],
+) -> Result<(), Reason>
+    requires good { IsGood (instruction op (Line line.now)) }
+    requires sees { AreSeen (record { entries = stack.old; ledger = ledger.old }) }
+    ensures { HasPushedText terms.now.limits.stack (text (instruction op (Line line.now)))
+        (record { entries = stack.old; ledger = ledger.old })
+        (record { entries = stack.new; ledger = ledger.new }) result }
+{
+    if is_text(op, line) {
+        return name_text(stack, ledger, &terms.limits, line);
+    }
+    name_line_slowly(stack, ledger, terms, op, line)
+}
+
+/// Whether the line is the text itself and needs no decoding.
+#[inline]
+fn is_text(op: Op, line: &[u8]) -> bool
+    ensures utf8 { result ≡ true → IsUtf8 line.now }
+    ensures text { result ≡ true → text (instruction op (Line line.now)) ≡ line.now }
+{
+    plain_line_is_text();
+    text_is_named();
+    match op {
+        Op::Unicode => spells_itself(line),
+        _ => false,
+    }
+}
+
+/// `name_line` for any line.
+#[inline(never)]
+fn name_line_slowly(
     stack: &mut Stack,
     ledger: &mut Ledger,
     terms: &Terms,

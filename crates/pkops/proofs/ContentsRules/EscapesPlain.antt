@@ -9,8 +9,7 @@ use Rattle.std.specs.Str.{IsAscii}
 use Rattle.std.proofs.lemmas.Bool.{and_parts, and_from}
 use Rattle.std.proofs.lemmas.Str.{encodes-IsAscii}
 use Rattle.pkops.specs.declared.contents.escapes.State.TheVariants.{Outside}
-use Rattle.pkops.specs.Escapes.{points_of}
-use Rattle.pkops.specs.Private.EscapeSteps.{is_plain_ascii}
+use Rattle.pkops.specs.Escapes.{is_plain_ascii, points_of}
 use Rattle.pkops.proofs.ContentsRules.EscapeLoop.{code_points}
 use Rattle.pkops.proofs.ContentsRules.EscapesRead.{named_is}
 use Rattle.pkops.proofs.ContentsRules.Names.{ascii_is}

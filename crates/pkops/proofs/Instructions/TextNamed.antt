@@ -1,14 +1,17 @@
 -- The text of an instruction as a function is the one that it names.
 use Rattle.std.proofs.Common.{MatchOption, ◌≡◌, ◌↔◌, ℕ, List, Option, Some, None, refl, sym, ap}
-use Rattle.std.proofs.Common.{◌∙◌}
+use Rattle.std.proofs.Common.{◌∙◌, true}
 use Rattle.std.specs.Prelude.{encode_utf8_all}
+use Rattle.std.specs.List.{list_all}
 use Rattle.std.specs.Option.{option_map}
+use Rattle.pkops.specs.declared.op.Op.TheVariants as op
 use Rattle.pkops.specs.declared.contents.Rule.{Rule}
 use Rattle.pkops.specs.declared.contents.Rule.TheVariants as rule
-use Rattle.pkops.specs.Spelling.{Argument, Line, Counted, Instruction}
+use Rattle.pkops.specs.Spelling.{Argument, Line, Counted, Instruction, instruction}
 use Rattle.pkops.specs.Contents.{rule_of}
-use Rattle.pkops.specs.Escapes.{SpellsText, points_of}
+use Rattle.pkops.specs.Escapes.{SpellsText, is_plain_ascii, points_of}
 use Rattle.pkops.specs.Text.{NamesTextBy, NamesText, text_by, text_bytes}
+use Rattle.pkops.proofs.ContentsRules.EscapesPlain.{plain_text}
 use Rattle.pkops.proofs.ContentsRules.EscapesSpelled.{points_of_spelled, spelled_points}
 
 -- the two sides of a line of UNICODE, given what is read of it
@@ -37,6 +40,11 @@ back _ _ text e = absurd cc
 pub text_is_named : (i : Instruction) (text : List ℕ)
     → NamesText i text ↔ (text_bytes i ≡ Some text)
 text_is_named i text = (forth (rule_of i.op) i.arg text, back (rule_of i.op) i.arg text)
+
+-- a line of plain bytes is the text that UNICODE names with it
+pub plain_named : (line : List ℕ) → list_all is_plain_ascii line ≡ true
+    → NamesText (instruction op.Unicode (Line line)) line
+plain_named line plain = line_back line line (points_of line) refl (plain_text line plain)
 
 -- what is answered as the function says is answered as the relation says
 pub answered : {A : Type 0} (i : Instruction) (view : A → List ℕ) (text : Option A)

@@ -1,8 +1,8 @@
 -- How the code reads text with escapes, byte by byte; `proofs/EscapesRead.antt` proves that it
 -- reads exactly what `Escapes` says.
-use Rattle.std.specs.Prelude.{ℕ, ◌+◌, ◌-◌, ◌*◌, ◌<◌, Bool, ◌&&◌, ◌||◌, ◌==◌, nat_lt, not}
+use Rattle.std.specs.Prelude.{ℕ, ◌+◌, ◌-◌, ◌*◌, ◌<◌, Bool, ◌&&◌, ◌||◌, ◌==◌, nat_lt}
 use Rattle.std.specs.Prelude.{if◌then◌else◌, Option, Some, None, ⊤}
-use Rattle.std.specs.Char.{is_ascii, is_ascii_hexdigit, digit_value}
+use Rattle.std.specs.Char.{is_ascii_hexdigit, digit_value}
 use Rattle.pkops.specs.declared.contents.escapes.State.{State}
 use Rattle.pkops.specs.declared.contents.escapes.State.TheVariants.{Outside, Behind, Digits}
 
@@ -30,7 +30,3 @@ abbrev pub IsPointSoFar : State → Type 0
 IsPointSoFar Outside = ⊤
 IsPointSoFar Behind = ⊤
 IsPointSoFar (Digits left value) = value < 0x11_0000
-
--- ASCII bytes other than a backslash spell themselves
-abbrev pub is_plain_ascii : ℕ → Bool
-is_plain_ascii byte = is_ascii byte && not (byte == 92)

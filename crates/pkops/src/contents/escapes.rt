@@ -5,9 +5,8 @@ ghost use Rattle.std.specs.Prelude.{is_some, string_bytes};
 ghost use Rattle.std.specs.Prelude.{true};
 ghost use Rattle.std.specs.List.{list_all};
 ghost use Rattle.std.specs.Option.{option_map};
-ghost use Rattle.pkops.specs.Private.EscapeSteps.{IsPointSoFar, digit_step, is_plain_ascii};
-ghost use Rattle.pkops.specs.Private.EscapeSteps.{escape_step};
-ghost use Rattle.pkops.specs.Escapes.{points_of};
+ghost use Rattle.pkops.specs.Private.EscapeSteps.{IsPointSoFar, digit_step, escape_step};
+ghost use Rattle.pkops.specs.Escapes.{is_plain_ascii, points_of};
 
 use crate::contents::digit::hex_value;
 use std::alloc::{AllocError, Global};
@@ -29,15 +28,17 @@ pub fn read_text(alloc: Global, line: &[u8]) -> Result<Option<String>, AllocErro
     ensures { IfOk result (λ text.
         option_map string_bytes text ≡ option_map encode_utf8_all (points_of line.now)) }
 {
-    if is_plain(line) {
+    if spells_itself(line) {
         read_plain(alloc, line)
     } else {
         read_escaped(alloc, line)
     }
 }
 
-/// Whether a line is ASCII without a backslash, as most lines are. Such a line spells itself.
-fn is_plain(line: &[u8]) -> bool
+/// Whether a line of UNICODE is ASCII without a backslash, as most are. It is then its own text: see
+/// `laws::plain_line_is_text`.
+#[inline]
+pub fn spells_itself(line: &[u8]) -> bool
     ensures { result ≡ list_all is_plain_ascii line.now }
 {
     line.iter().all(|byte| byte.is_ascii() && *byte != b'\\')
@@ -80,7 +81,7 @@ fn read_escaped(alloc: Global, line: &[u8]) -> Result<Option<String>, AllocError
 pub fn spells_text(line: &[u8]) -> bool
     ensures { result ≡ is_some (points_of line.now) }
 {
-    is_plain(line) || spells_escaped(line)
+    spells_itself(line) || spells_escaped(line)
 }
 
 /// Whether any line spells a text, read byte by byte.

@@ -3,8 +3,8 @@ use Rattle.std.proofs.lemmas.Result.{IfOk-weaker}
 use Rattle.pkops.proofs.ContentsRules.EscapesPlain.{plain_text}
 use Rattle.pkops.proofs.contents.escapes.read_text.Goals as goal
 
-pub returns-then-is_plain : goal.returns-then-is_plain
-returns-then-is_plain c =
+pub returns-then-spells_itself : goal.returns-then-spells_itself
+returns-then-spells_itself c =
     IfOk-weaker c.read_plain.result _ _
-    (λ text e. e ∙ sym (plain_text c.args.line.now (sym c.if-is_plain.ensures)))
+    (λ text e. e ∙ sym (plain_text c.args.line.now (sym c.if-spells_itself.ensures)))
     c.read_plain.ensures
