@@ -69,7 +69,7 @@ impl Model for Machine {
 
     ghost Value = { View };
 
-    ghost use Rattle.std.specs.Prelude.{◌≡◌, None, is_some, length, option_map};
+    ghost use Rattle.std.specs.Prelude.{◌≡◌, None, is_some, option_map};
     ghost use Rattle.pkcheck.specs.Import.{asked_shown, pair_shown};
     ghost use Rattle.pkcheck.specs.Private.Denials.{FitsLimits};
     ghost use Rattle.pkcheck.specs.View.{has_off_list};

@@ -1,5 +1,5 @@
 -- Worked rows of what is told to C.
-use Rattle.std.proofs.Common.{◌≡◌, List, [], ◌∷◌, ◌++◌, ℕ, refl}
+use Rattle.std.proofs.Common.{◌≡◌, [], ◌∷◌, ◌++◌, refl}
 use Rattle.std.specs.Prelude.{codes, replicate}
 use Rattle.toml.specs.Data.{string, array, no_items, item, no_members, member}
 use Rattle.pkcheck.specs.Knowledge.{AskedPair, AskedUnknown}

@@ -33,17 +33,6 @@ flat_map_next {A = A} f xs n x e = rw add-one (go xs n e)
     go (y ∷ ys) (suc n) e =
         ap (λ l. f y ++ l) (go ys n e) ∙ sym (append_assoc (f y) (flat_map f (take n ys)) (f x))
 
--- nothing more
-pub written_none :
-    (front before after : List ℕ) (next : ℕ)
-    → IsWritten front before after next → IsWritten (front ++ []) before after next
-written_none front before after next h =
-    subst (λ bytes. IsWritten bytes before after next) (sym (append-nil front)) h
-
--- nothing at all
-pub written_nothing : (room : List ℕ) → IsWritten [] room room 0
-written_nothing room = record { same = refl; place = refl; there = λ _. refl }
-
 -- one part of the pairs is written, and the others are left
 pub encoded_more :
     (done all : List ℕ) (xs ys : List Asked)

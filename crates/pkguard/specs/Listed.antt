@@ -1,8 +1,8 @@
 -- The pairs and limits of a list file, as reported to C.
-use Rattle.std.specs.Prelude.{◌++◌, ◌&&◌, nat_le, Bool, if◌then◌else◌, List, [], ◌∷◌, ℕ, codes}
+use Rattle.std.specs.Prelude.{◌++◌, ◌&&◌, nat_le, Bool, if◌then◌else◌, List, [], ◌∷◌, ℕ}
 use Rattle.std.specs.Prelude.{Option, Some}
 use Rattle.toml.specs.Data.{Data, string, table, array, Items, no_items, item, Members, no_members}
-use Rattle.toml.specs.Data.{member, get_member}
+use Rattle.toml.specs.Data.{member}
 use Rattle.pkops.specs.Limits.{Bounds, greatest}
 use Rattle.pkcheck.specs.Knowledge.{Asked, AskedPair}
 use Rattle.pkguard.specs.declared.settings.Settings.{Settings}

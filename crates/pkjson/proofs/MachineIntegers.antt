@@ -1,10 +1,9 @@
 -- Integers that 64 bits hold.
-use Rattle.std.proofs.Common.{◌≡◌, ◌≢◌, ℕ, zero, suc, ◌+◌, ◌-◌, ◌*◌, ◌^◌, ◌<◌, ◌≤◌, inl, inr, Bool}
+use Rattle.std.proofs.Common.{◌≡◌, ◌≢◌, ℕ, zero, suc, ◌+◌, ◌-◌, ◌*◌, ◌^◌, ◌<◌, ◌≤◌, Bool}
 use Rattle.std.proofs.Common.{true, false, cond, List, [], ◌∷◌, length, drop, get_or, refl, sym, ap}
 use Rattle.std.proofs.Common.{◌∙◌, subst, arith, drop-cons}
-use Rattle.std.specs.Prelude.{ltb, nat_eq, nat_le}
-use Rattle.std.proofs.lemmas.Bool.{ne_eqb, le-ltb}
-use Rattle.pkjson.specs.Private.Capped.{IsCapped}
+use Rattle.std.specs.Prelude.{nat_eq, nat_le}
+use Rattle.std.proofs.lemmas.Bool.{ne_eqb}
 use Rattle.pkjson.specs.Integers.{decimal_after, natural, has_sign}
 
 cond_least : (b : Bool) (n m : ℕ) → n ≤ m → n ≤ cond b n m
@@ -36,14 +35,6 @@ has_sign_last (b ∷ c ∷ bs) h = let e : length (b ∷ c ∷ bs) - 1
     ≡ suc (length (c ∷ bs) - 1) = omega arith in
     subst (λ k. has_sign (c ∷ bs) ≡ nat_le 128 (get_or (b ∷ c ∷ bs) k 0)) (sym e)
     (has_sign_last (c ∷ bs) (omega arith))
-
-capped_false : (cap n m : ℕ) → (cap < n) × (cap < m) → ltb n (cap + 1) ≡ ltb m (cap + 1)
-capped_false cap n m h = le-ltb n (cap + 1) (omega (arith, h.0))
-    ∙ sym (le-ltb m (cap + 1) (omega (arith, h.1)))
-
-fits_alike : (n m : ℕ) → IsCapped (2 ^ 63 - 1) n m → ltb n (2 ^ 63) ≡ ltb m (2 ^ 63)
-fits_alike n m (inl e) = ap (λ k. ltb k (2 ^ 63)) (sym e)
-fits_alike n m (inr h) = capped_false (2 ^ 63 - 1) n m h
 
 natural_least : (flip : Bool) (b : ℕ) (bs : List ℕ) → natural flip bs * 256 ≤ natural flip (b ∷ bs)
 natural_least flip b bs = omega arith

@@ -1,6 +1,6 @@
 //! The stack, the memo and the objects of a plain run.
 
-ghost use Rattle.std.specs.Prelude.{◌≡◌, [], length, drop, true, IfOk, IfErr, OnOk, MatchOption};
+ghost use Rattle.std.specs.Prelude.{◌≡◌, length, drop, true, IfErr, OnOk, MatchOption};
 ghost use Rattle.std.specs.Prelude.{Ok, None};
 ghost use Rattle.pkops.specs.Inst.{instruction_of};
 ghost use Rattle.pkcheck.specs.Shape.{and_then, top};

@@ -1,6 +1,6 @@
 //! Builds the value that an object unfolds to.
 
-ghost use Rattle.std.specs.Prelude.{◌<◌, length, All, IfOk};
+ghost use Rattle.std.specs.Prelude.{◌<◌, All, IfOk};
 ghost use Rattle.serde_json.specs.View.{view, items_view, members_view};
 ghost use Rattle.pkjson.specs.Unfolds.{Unfolds, UnfoldItems, UnfoldMembers};
 ghost use Rattle.pkjson.specs.Private.Nodes.{heap, size, named_members, IsClosed, Ascending};

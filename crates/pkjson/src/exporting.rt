@@ -2,7 +2,6 @@
 
 ghost use Rattle.std.specs.Prelude.{◌≡◌, ◌<◌, ◌≤◌, length, replicate, IfOk, IfErr, OnErr, OnOk};
 ghost use Rattle.serde_json.specs.View.{view};
-ghost use Rattle.pkread.specs.Rows.{sight};
 ghost use Rattle.pkjson.specs.Export.{IsValueOf, IsTextOf, IsNotExported, IsAccepted};
 ghost use Rattle.pkjson.specs.Export.{AppendsText};
 ghost use Rattle.pkjson.specs.Private.Arena.{holds};

@@ -1,6 +1,6 @@
 //! The integers that arguments name, if they fit 64 signed bits.
 
-ghost use Rattle.std.specs.Prelude.{◌≡◌, ◌<◌, ◌≤◌, ◌^◌, ◌-◌, cond, ltb, nat_eq, pos, negsuc, neg_ℤ};
+ghost use Rattle.std.specs.Prelude.{◌≡◌, ◌<◌, ◌^◌, ◌-◌, pos, negsuc, neg_ℤ};
 ghost use Rattle.std.specs.Prelude.{Some, None};
 ghost use Rattle.pkops.specs.Spelling.{shown_arg};
 ghost use Rattle.pkjson.specs.Private.Capped.{IsCapped};

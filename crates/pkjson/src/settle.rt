@@ -1,6 +1,6 @@
 //! Finds the members of each dict, in their final state.
 
-ghost use Rattle.std.specs.Prelude.{◌≡◌, ◌<◌, length, All, IfOk, OnOk};
+ghost use Rattle.std.specs.Prelude.{◌<◌, length, All, IfOk, OnOk};
 ghost use Rattle.pkjson.specs.Private.Nodes.{nodes_of};
 ghost use Rattle.pkjson.specs.Private.Ranks.{AreRanks};
 ghost use Rattle.pkjson.specs.Private.Seen.{kept_all, kept_of};

@@ -1,6 +1,6 @@
 //! The entries of the stack; the last one is on top.
 
-ghost use Rattle.std.specs.Prelude.{◌≡◌, [], ◌∷◌, ◌++◌, ◌<◌, ◌≤◌, length, take, drop, IfOk};
+ghost use Rattle.std.specs.Prelude.{◌≡◌, [], ◌∷◌, ◌++◌, ◌<◌, drop, IfOk};
 ghost use Rattle.std.specs.Prelude.{MatchOption, Ok, OnOk};
 ghost use Rattle.pkcheck.specs.Shape.{items, slice, top};
 ghost use Rattle.pkjson.specs.Private.PlainActions.{picked, found_above, IsLacking};

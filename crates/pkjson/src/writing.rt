@@ -1,6 +1,6 @@
 //! Makes the text of the value that an object unfolds to, or of a part of it, through serde.
 
-ghost use Rattle.std.specs.Prelude.{◌<◌, length, All, IfOk, OnOk};
+ghost use Rattle.std.specs.Prelude.{◌<◌, All, IfOk, OnOk};
 ghost use Rattle.pkjson.specs.Private.Nodes.{heap, size, named_members, IsClosed};
 ghost use Rattle.pkjson.specs.Private.Fits.{Fits, ItemsFit, MembersFit};
 ghost use Rattle.pkjson.specs.Private.Parts.{IsPartBelow, PartFits, IsPartText};

@@ -117,15 +117,6 @@ mirrors_received ks es i r xs l h = record {
       (ap (λ l. all_given n es ++ l) (sym (append-nil _)) ∙ sym (given_append n es _));
 }
 
-pub mirrors_nothing : (ks : List Kept) (es : List Event) (i : Instruction) → Mirrors ks es
-    → Mirrors ks (es ++ Did i [] None ∷ [])
-mirrors_nothing ks es i h = record {
-  kinds = λ n. h.kinds n ∙ ap (option_map kind_by_effect)
-      (sym (first_none (maker n es)) ∙ sym (maker_append n es _));
-  given = λ n. h.given n ∙ ap (kept_in (kind_at ks n))
-      (sym (append-nil _) ∙ sym (given_append n es _));
-}
-
 paired_same : (f g : ℕ → Option Kind) (xs : List ℕ) → ((n : ℕ) → f n ≡ g n)
     → paired f xs ≡ paired g xs
 paired_same f g [] h = refl

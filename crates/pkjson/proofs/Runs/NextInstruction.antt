@@ -141,7 +141,3 @@ module _ (limits : Bounds) (bytes rest : List ℕ) (at : ℕ) (h : Held) (acc : 
             → Replays limits bytes (parts h).kept x
         ends x es t = replays limits bytes acc.0 rest at h (instruction_of inst) acc.1
             (here acc.0 acc.1) (plain_here Stops plain acts) (acts_here Stops plain acts) x es t
-
--- how much was followed
-pub at_more : (b r n : ℕ) → r ≤ b → n ≤ r → b - (r - n) ≡ b - r + n
-at_more b r n h g = omega arith

@@ -1,5 +1,5 @@
 -- What the reader of an argument finds, said of the instruction.
-use Rattle.std.proofs.Common.{◌≡◌, ◌≢◌, ℕ, suc, ◌-◌, ◌≤◌, List, [], ◌∷◌, ◌++◌, length, take, drop}
+use Rattle.std.proofs.Common.{◌≡◌, ℕ, suc, ◌-◌, ◌≤◌, List, [], ◌∷◌, ◌++◌, length, take, drop}
 use Rattle.std.proofs.Common.{get_or, Option, Some, None, Result, Ok, Err, refl, sym, ap, subst}
 use Rattle.std.proofs.Common.{◌∙◌, arith, inl, inr}
 use Rattle.std.proofs.lemmas.List.{length-append, take_at, append-nil}
@@ -144,12 +144,6 @@ pub all_faulty : (limit : ℕ) (o : Op) (bytes : List ℕ) (fault : Fault) → F
     → arg_at limit (layout_at o) (drop 1 bytes) ≡ Err (Bad fault) → HasFault limit fault bytes
 all_faulty limit o [] fault h e = absurd (let le = h.0 in omega arith)
 all_faulty limit o (code ∷ from) fault h e = faulty limit code from o h.1 (λ i. h.2 (suc i)) fault e
-
-pub no_op : (limit : ℕ) (bytes : List ℕ) → 1 ≤ length bytes
-    → ((o : Op) → code_of o ≢ get_or bytes 0 0)
-    → HasFault limit (UnknownOpcode (get_or bytes 0 0)) bytes
-no_op limit [] h none = absurd (omega arith)
-no_op limit (code ∷ from) h none = (from, refl, none)
 
 tail_is : (bytes : List ℕ) → 1 ≤ length bytes
     → take (length bytes - 1) (drop 1 bytes) ≡ drop 1 bytes

@@ -1,6 +1,6 @@
 //! Strings in quotes: the line of STRING.
 
-ghost use Rattle.std.specs.Prelude.{◌≡◌, Some, None, if◌then◌else◌, IfOk, IfSome, is_some, map};
+ghost use Rattle.std.specs.Prelude.{◌≡◌, Some, None, IfOk, IfSome};
 ghost use Rattle.std.specs.Option.{option_map};
 ghost use Rattle.pkops.specs.RuleTests.{are_items, is_string_line};
 ghost use Rattle.pkops.specs.OldBytes.{bytes_between, bytes_of_line, letter_byte};

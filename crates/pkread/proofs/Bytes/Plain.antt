@@ -1,7 +1,6 @@
 -- Opcodes whose arguments need no look, and those whose payload is not passed.
-use Rattle.std.proofs.Common.{◌≡◌, ℕ, Bool, true, false, List, None, refl}
+use Rattle.std.proofs.Common.{◌≡◌, ℕ, Bool, true, false, List, None}
 use Rattle.pkops.specs.Contents.{rule_of}
-use Rattle.pkops.specs.Payloads.{is_passed}
 use Rattle.pkops.specs.Spelling.{Argument, instruction, layout_at}
 use Rattle.pkops.specs.declared.Layout.TheVariants as layout
 use Rattle.pkops.specs.declared.Width.{Width}
@@ -49,12 +48,3 @@ takes_utf8 o size signed lay e = record {
   contents = text_rule o size signed lay e;
   admitted = λ arg. text_admitted o size signed arg lay;
 }
-
--- an opcode whose payload is passed has a counted argument
-pub not_passed : (o : Op) → ((size : Width) (signed : Bool) →
-    layout_at o ≡ layout.Counted size signed → ⊥) → false ≡ is_passed o
-not_passed op.BinBytes h = absurd (h width.Four false refl)
-not_passed op.ShortBinBytes h = absurd (h width.One false refl)
-not_passed op.BinBytes8 h = absurd (h width.Eight false refl)
-not_passed op.ByteArray8 h = absurd (h width.Eight false refl)
-not_passed _ h = refl

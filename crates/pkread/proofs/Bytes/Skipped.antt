@@ -41,13 +41,6 @@ pub passed_admitted : (o : Op) (arg : Argument) → is_passed o ≡ true → IsT
 passed_admitted op.Int arg e = cc
 passed_admitted _ arg e = cc
 
--- the other two have counts of eight bytes
-pub passed_wide : (o : Op) → is_passed o ≡ true → (o ≡ op.ShortBinBytes → ⊥) → (o ≡ op.BinBytes →
-    ⊥) → layout_at o ≡ layout.Counted width.Eight false
-passed_wide op.BinBytes e h0 h1 = absurd (h1 refl)
-passed_wide op.ShortBinBytes e h0 h1 = absurd (h0 refl)
-passed_wide _ e h0 h1 = cc
-
 -- bytes that were taken behind others, as if those were held
 pub took_over : (c d : List ℕ) (old mid new : Intake) →
     Took c old (holding (old.bytes ++ c) mid) →

@@ -66,14 +66,6 @@ took_none p = record {
   count = omega arith;
 }
 
--- a read, counted
-pub took_read : (wanted n : ℕ) (old new : Intake)
-    (r : ReadsSome wanted n old.bytes old.source new.bytes new.source) →
-    new.taken ≡ old.taken + n → Took r.bytes old new
-took_read wanted n old new r e =
-    let is = r.count in
-    record { fit = r.fit; held = r.held; source = r.taken; count = omega (arith, e, is) }
-
 lack_row : (o m p : Sight) (c : List ℕ) (u : ℕ) (r : Reason) →
     Takes o m c → u < all_bytes → ReadsNone m p r → LackRow o p c u r
 lack_row o m p c u Source k l h = record {
@@ -134,17 +126,6 @@ lack_more o m p c d u Truncated k h = (Takes-more k h.0, h.1, h.2)
 lack_more o m p c d u TooLarge k h = (Takes-more k h.0, h.1)
 lack_more o m p c d u OutOfMemory k h = Takes-more k h
 lack_more o m p c d u _ k h = absurd h
-
--- one byte was read
-pub took_byte : (x : ℕ) (old new : Intake) →
-    ReadsByte x old.bytes old.source new.bytes new.source → new.taken ≡ old.taken + 1 →
-    Took (x ∷ []) old new
-took_byte x old new r e =
-    record { fit = byte_fits x r.fit; held = r.held; source = r.taken; count = e }
-  where
-    byte_fits : (x : ℕ) → x < 256 → AreAllBytes (x ∷ [])
-    byte_fits x h zero = h
-    byte_fits x h (suc i) = omega arith
 
 -- one byte, as a field of one
 pub took_one : (x : ℕ) (old new : Intake) → Took (x ∷ []) old new → TookAll 1 old new

@@ -2,7 +2,7 @@
 ghost use Rattle.pkcheck.specs.Private.Denials.{IsLack};
 ghost use Rattle.pkcheck.specs.Knowledge.{Lacks, reason_of};
 ghost use Rattle.pkcheck.specs.Shape.{Breach, NoMark, NoItem, operands, slice, items, breaks};
-ghost use Rattle.pkcheck.specs.Shape.{marks_of, top};
+ghost use Rattle.pkcheck.specs.Shape.{top};
 ghost use Rattle.pkcheck.specs.Private.Slots.{bars, shown, values_of, AllObjects, FirstObject};
 ghost use Rattle.pkcheck.specs.Private.Slots.{taken_from, StartsWell};
 ghost use Rattle.std.specs.Prelude.{ℕ, ◌≡◌, List, [], ◌∷◌, ◌<◌, ◌≤◌, ◌+◌, ◌-◌, length, take, drop};

@@ -1,9 +1,8 @@
 use Rattle.std.proofs.Common.{◌++◌, sym}
-use Rattle.toml.specs.View.{view, items_view}
+use Rattle.toml.specs.View.{view}
 use Rattle.pkguard.specs.Encoding.{encoded_all}
-use Rattle.pkguard.specs.Listed.{pair_in, pairs_among}
-use Rattle.pkguard.specs.Private.Written.{IsWritten}
-use Rattle.pkguard.proofs.Pieces.{each_step, encoded_end, pairs_end, written_both}
+use Rattle.pkguard.specs.Listed.{pair_in}
+use Rattle.pkguard.proofs.Pieces.{each_step, written_both}
 use Rattle.pkguard.proofs.list.put_each.Goals as goal
 
 pub loop-name-preserved : goal.loop-name-preserved
