@@ -1,6 +1,6 @@
 //! Text with escapes: the line of UNICODE.
 
-ghost use Rattle.std.specs.Prelude.{◌≡◌, Some, None, if◌then◌else◌, encode_utf8_all, IfOk, IfSome};
+ghost use Rattle.std.specs.Prelude.{◌≡◌, Some, None, encode_utf8_all, IfOk, IfSome};
 ghost use Rattle.std.specs.Prelude.{is_some, string_bytes};
 ghost use Rattle.std.specs.Prelude.{true};
 ghost use Rattle.std.specs.List.{list_all};
@@ -35,8 +35,8 @@ pub fn read_text(alloc: Global, line: &[u8]) -> Result<Option<String>, AllocErro
     }
 }
 
-/// Whether a line of UNICODE is ASCII without a backslash, as most are. It is then its own text: see
-/// `laws::plain_line_is_text`.
+/// Whether a line of UNICODE is ASCII without a backslash, as most are. Such a line is its own text
+/// (`laws::plain_line_is_text`).
 #[inline]
 pub fn spells_itself(line: &[u8]) -> bool
     ensures { result ≡ list_all is_plain_ascii line.now }
