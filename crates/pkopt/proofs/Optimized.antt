@@ -1,6 +1,6 @@
 -- What the answers of `optimize` rest on.
 use Rattle.std.proofs.Common.{◌≡◌, ℕ, zero, suc, ◌<◌, ◌≤◌, ◌^◌, Bool, true, false, List, [], ◌∷◌}
-use Rattle.std.proofs.Common.{◌++◌, length, Option, None, Some, Result, cond, length-append, Ok}
+use Rattle.std.proofs.Common.{◌++◌, length, Option, None, Some, Result, cond, Ok}
 use Rattle.std.proofs.Common.{inl, inr, refl, sym, ap, subst, ◌∙◌, arith}
 use Rattle.std.proofs.lemmas.Bool.{cond_both}
 use Rattle.std.specs.Prelude.{◌≢◌, All, slice_index_or}
@@ -17,18 +17,15 @@ use Rattle.pkcheck.specs.Listing.{permitted_by}
 use Rattle.pkcheck.specs.Ends.{IsFree, WellCarriesOver, WellIsFree}
 use Rattle.pkcheck.specs.Runs.{Outcome, start}
 use Rattle.pkcheck.specs.WholeRuns.{Sound, run}
-use Rattle.pkcheck.specs.Accepted.{Accepted}
 use Rattle.pkcheck.specs.Heard.{Heard, IsRightAndHeard}
 use Rattle.pkcheck.specs.declared.Yes.{Yes}
 use Rattle.pkcheck.specs.declared.No.{No}
-use Rattle.pkcheck.specs.Knowledge.{Asked}
-use Rattle.pkcheck.specs.Refused.{Refused}
 use Rattle.pkopt.specs.declared.fate.Plan.{Plan}
 use Rattle.pkopt.specs.declared.optimizing.Traced.{Traced}
 use Rattle.pkopt.specs.declared.trace.Trace.{Trace}
-use Rattle.pkopt.specs.Private.Passes.{AreNumbers, IsNewTrace, Hears}
+use Rattle.pkopt.specs.Private.Passes.{IsNewTrace, Hears}
 use Rattle.pkopt.specs.Private.TracedCheck.{IsTraced}
-use Rattle.pkopt.specs.Answer.{Checks, pickle, Optimizes, FailsCheck, IsNotOptimized}
+use Rattle.pkopt.specs.Answer.{Checks, pickle, Optimizes, IsNotOptimized}
 use Rattle.pkread.specs.Rows.{in_memory}
 use Rattle.pkopt.specs.Private.Fates.{Aims, IsSlim, IsPlanFor}
 use Rattle.pkopt.specs.Private.FrameBytes.{framed_bytes}
@@ -154,33 +151,6 @@ optimizes exact well_free carries limits bytes c limit out has result lt short s
           (subst (λ m. new_number (sources [] p) (length (after_all p [])) ≤ m) same h.fits);
     }
 
--- a check of bytes in memory
-pub checks_memory : (limits : Bounds) (bytes left rest : List ℕ) (taken : ℕ) (imports : List Asked)
-    → left ≡ bytes → Accepted Unknown None (holding_all limits) (in_memory left)
-    (in_memory rest) taken imports → Checks limits bytes
-checks_memory limits bytes left rest taken imports e h =
-    record {
-      rest = rest;
-      taken = taken;
-      imports = imports;
-      accepted = subst
-          (λ b. Accepted Unknown None (holding_all limits) (in_memory b) (in_memory rest) taken
-          imports) e h;
-    }
-
-pub fails_memory : (limits : Bounds) (bytes left rest : List ℕ) (refusal : Refusal)
-    (pair : Option Asked) → left ≡ bytes → Refused Unknown None (holding_all limits)
-    (in_memory left) (in_memory rest) refusal.at refusal.reason pair
-    → FailsCheck limits bytes refusal
-fails_memory limits bytes left rest refusal pair e h =
-    record {
-      rest = rest;
-      pair = pair;
-      refused = subst
-          (λ b. Refused Unknown None (holding_all limits) (in_memory b)
-          (in_memory rest) refusal.at refusal.reason pair) e h;
-    }
-
 -- the check was heard
 traced_memory : (limits : Bounds) (bytes rest : List ℕ) (accepted : Yes) (hs : List Heard)
     (x y : Trace) → IsRightAndHeard None (holding_all limits) (in_memory bytes) (in_memory rest)
@@ -221,25 +191,6 @@ aims_at limits bytes x plan t planned =
       taken_so = t.count;
       planned = planned;
     }
-
-pub plan_for : (p : List Instruction) (plan : Plan) (found : List (Option ℕ)) (writes : ℕ)
-    → plan.sources.items ≡ found → AreNumbers found writes plan.limit plan.numbers.items
-    → found ≡ sources [] p → writes ≡ length (after_all p []) → IsPlanFor p plan
-plan_for p plan found writes same h e w = record {
-  reads = same ∙ e;
-  writes = subst
-      (λ (l : List (Option ℕ)). AreNumbers l (length (after_all p [])) plan.limit
-      plan.numbers.items) e (subst (λ w. AreNumbers found w plan.limit plan.numbers.items) w h);
-}
-
--- the pickle is there
-pub taken_within : (limits : Bounds) (bytes : List ℕ) (x : Traced) → IsTraced limits bytes x
-    → x.taken ≤ length bytes
-taken_within limits bytes x t =
-    let count = t.count in
-    let e = ap length t.checks.accepted.bytes.bytes in
-    let l = length-append (spellings (pickle t.checks)) t.checks.rest in
-    omega (arith, count, e, l)
 
 module _ (limits : Bounds) (bytes : List ℕ) (x : Traced) (plan : Plan) (t : IsTraced limits bytes x)
     (planned : IsPlanFor (pickle t.checks) plan) (same : plan.limit ≡ limits.memo) where

@@ -140,6 +140,27 @@ impl Sink for Made {
         Ok(())
     }
 
+    #[inline(always)]
+    fn take_with_two(
+        &mut self,
+        bytes: &[u8],
+        from: usize,
+        here: usize,
+        first: u8,
+        second: u8,
+    ) -> Result<(), AllocError> {
+        let len = self.len;
+        let count = here - from;
+        if count > MOVE || from + MOVE > bytes.len() || len + MOVE + 2 > self.store.len() {
+            self.take_slowly(&bytes[from..here])?;
+            return self.take_slowly(&[first, second]);
+        }
+        put_move(&mut self.store, len, bytes, from);
+        put(&mut self.store, len + count, &[first, second]);
+        self.len = len + count + 2;
+        Ok(())
+    }
+
     ghost takes_none = { λ x. appended_none x };
 
     ghost takes_more = { λ x y z a b f g. appended_more x y z a b f g };

@@ -138,7 +138,6 @@ impl Memo {
     /// # Errors
     ///
     /// That of `Entry::new`.
-    #[inline(always)]
     pub(crate) fn last_write(&self, number: usize) -> Result<Entry, AllocError>
         ensures { IfOk result (λ write. write ≡ last_held self.now number) }
     {
@@ -146,6 +145,17 @@ impl Memo {
             return Entry::new(Some(write));
         }
         Entry::new(found(&self.rest, number))
+    }
+
+    /// The last write of a number, if the writes are in order and one of them has it.
+    #[inline(always)]
+    pub(crate) fn write_in_order(&self, number: usize) -> Option<u32>
+        ensures { IfSome result (λ write. last_held self.now number ≡ Some write) }
+    {
+        if number < self.first || number - self.first >= self.in_order as usize {
+            return None;
+        }
+        Some(write_at(number - self.first, self.in_order))
     }
 
     /// Counts one more write that is in order. The caller counts this write too, so the sum costs

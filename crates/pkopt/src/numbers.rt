@@ -1,22 +1,48 @@
 //! New numbers for the memo writes that stay.
 
-ghost use Rattle.std.specs.Prelude.{◌≡◌, ◌≤◌, IfOk, List, Option, min, suc, ℕ};
+ghost use Rattle.std.specs.Prelude.{◌≡◌, ◌<◌, ◌≤◌, IfOk, List, OnOk, Option, false, length, min};
+ghost use Rattle.std.specs.Prelude.{slice_index_or, suc, ℕ};
 ghost use Rattle.pkopt.specs.Private.Passes.{AreKept, AreNumbers};
 
 use crate::entry::Entry;
 use std::alloc::{AllocError, Global};
 
-/// For each write, whether some read reads it.
-fn kept_among(alloc: Global, sources: &[Entry], writes: usize) -> Result<Vec<bool>, AllocError>
-    ensures { IfOk result (λ kept. AreKept sources.now writes kept.items) }
+/// Lengthens a list up to this write.
+#[inline(never)]
+fn reach_slowly(kept: &mut Vec<bool>, write: usize) -> Result<(), AllocError>
+    ensures there { OnOk result (write < length kept.new.items) }
+    ensures same { (w : ℕ) → slice_index_or kept.new.items w false
+        ≡ slice_index_or kept.old.items w false }
 {
-    let mut kept = vec![in alloc; false; writes]?;
+    'unread: while kept.len() <= write {
+        kept.push(false)?;
+    }
+    Ok(())
+}
+
+/// Makes sure that a list has this write.
+#[inline(always)]
+fn reach(kept: &mut Vec<bool>, write: usize) -> Result<(), AllocError>
+    ensures there { OnOk result (write < length kept.new.items) }
+    ensures same { (w : ℕ) → slice_index_or kept.new.items w false
+        ≡ slice_index_or kept.old.items w false }
+{
+    if write < kept.len() {
+        return Ok(());
+    }
+    reach_slowly(kept, write)
+}
+
+/// For each write up to the last one that some read reads, whether one does. In most long pickles
+/// only early writes are read, so the list is short.
+fn kept_among(alloc: Global, sources: &[Entry]) -> Result<Vec<bool>, AllocError>
+    ensures { IfOk result (λ kept. AreKept sources.now kept.items) }
+{
+    let mut kept = Vec::new(alloc);
     for source in sources {
         if let Some(write) = source.number() {
-            let write = write as usize;
-            if write < kept.len() {
-                kept[write] = true;
-            }
+            reach(&mut kept, write as usize)?;
+            kept[write as usize] = true;
         }
     }
     Ok(kept)
@@ -33,8 +59,8 @@ fn number_after(next: u32, limit: u32) -> u32
 /// Numbers the writes that stay. Once the numbers reach the limit, all further writes get the
 /// limit.
 fn numbered(alloc: Global, kept: &[bool], limit: u32) -> Result<Vec<Entry>, AllocError>
-    ensures { IfOk result (λ numbers. (vs : List (Option ℕ)) (writes : ℕ) →
-        AreKept vs writes kept.now → AreNumbers vs writes limit numbers.items) }
+    ensures { IfOk result (λ numbers. (vs : List (Option ℕ)) →
+        AreKept vs kept.now → AreNumbers vs limit numbers.items) }
 {
     let none = Entry::new(None)?;
     let mut numbers = vec![in alloc; none; kept.len()]?;
@@ -49,15 +75,15 @@ fn numbered(alloc: Global, kept: &[bool], limit: u32) -> Result<Vec<Entry>, Allo
     Ok(numbers)
 }
 
-/// For each write that some read reads, its new number, or the limit if the number is greater.
+/// For each write that some read reads, its new number, or the limit if the number is greater. The
+/// writes behind the list are not read.
 pub(crate) fn new_numbers(
     alloc: Global,
     sources: &[Entry],
-    writes: usize,
     limit: u32,
 ) -> Result<Vec<Entry>, AllocError>
-    ensures { IfOk result (λ numbers. AreNumbers sources.now writes limit numbers.items) }
+    ensures { IfOk result (λ numbers. AreNumbers sources.now limit numbers.items) }
 {
-    let kept = kept_among(alloc, sources, writes)?;
+    let kept = kept_among(alloc, sources)?;
     numbered(alloc, &kept, limit)
 }

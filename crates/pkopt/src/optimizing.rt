@@ -9,7 +9,7 @@ ghost use Rattle.pkopt.specs.Private.Fates.{IsPlanFor};
 ghost use Rattle.pkopt.specs.Private.Places.{end_behind, places_behind};
 ghost use Rattle.pkopt.specs.Private.Produced.{first_past};
 ghost use Rattle.pkopt.specs.Private.TracedCheck.{IsTraced};
-ghost use Rattle.pkopt.specs.Writers.{after_all, sources as sources_of};
+ghost use Rattle.pkopt.specs.Writers.{sources as sources_of};
 
 use crate::entry::Entry;
 use crate::fate::Plan;
@@ -48,19 +48,14 @@ fn too_large(at: u64) -> Refusal
 }
 
 /// Plans what happens to the memo instructions of a pickle.
-fn plan_of(
-    alloc: Global,
-    sources: Vec<Entry>,
-    writes: u32,
-    limits: &Limits,
-) -> Result<Plan, AllocError>
+fn plan_of(alloc: Global, sources: Vec<Entry>, limits: &Limits) -> Result<Plan, AllocError>
     ensures plan { IfOk result (λ plan. (p : List Instruction) → sources.items ≡ sources_of [] p →
-        writes ≡ length (after_all p []) → IsPlanFor p plan) }
+        IsPlanFor p plan) }
     ensures limit { IfOk result (λ plan. plan.limit ≡ limits.now.memo) }
     ensures small { IfOk result (λ plan. plan.limit < 2 ^ 32) }
 {
     let limit = limits.memo() as u32;
-    let numbers = new_numbers(alloc, &sources, writes as usize, limit)?;
+    let numbers = new_numbers(alloc, &sources, limit)?;
     Ok(Plan {
         sources,
         numbers,
@@ -164,7 +159,7 @@ pub fn optimized_form<'a>(
         end,
     } = trace;
     drop(memo);
-    let Ok(plan) = plan_of(alloc, sources, writes, limits) else {
+    let Ok(plan) = plan_of(alloc, sources, limits) else {
         return Err(lacks_memory());
     };
     if let Some(at) = past_limit(&parts, &plan, writes) {

@@ -13,7 +13,7 @@ use pkops::Op;
 
 /// The code byte of an opcode that names a memo entry.
 #[inline(always)]
-fn code(op: Op) -> u8
+pub(crate) fn code(op: Op) -> u8
     requires { names_memo_entry op ≡ true }
     ensures { result ≡ code_of op }
 {

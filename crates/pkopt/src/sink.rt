@@ -1,6 +1,6 @@
 //! What takes the bytes of a form.
 
-ghost use Rattle.std.specs.Prelude.{◌≡◌, ◌≤◌, ◌++◌, [], List, OnOk, length, ℕ};
+ghost use Rattle.std.specs.Prelude.{◌≡◌, ◌≤◌, ◌++◌, ◌∷◌, [], List, OnOk, length, ℕ};
 ghost use Rattle.pkopt.specs.Private.Produced.{between};
 
 /// Takes the bytes of a form, one piece after another.
@@ -31,6 +31,29 @@ pub(crate) trait Sink {
         ensures { OnOk result (takes self.old self.new (between from here bytes.now)) }
     {
         self.take(&bytes[from..here])
+    }
+
+    /// Takes the bytes between two offsets and two more as one piece.
+    ///
+    /// # Errors
+    ///
+    /// Those of `take`.
+    #[inline(always)]
+    fn take_with_two(
+        &mut self,
+        bytes: &[u8],
+        from: usize,
+        here: usize,
+        first: u8,
+        second: u8,
+    ) -> Result<(), Self::Error>
+        requires order { from ≤ here }
+        requires within { here ≤ length bytes.now }
+        ensures { OnOk result (takes self.old self.new
+            (between from here bytes.now ++ first ∷ second ∷ [])) }
+    {
+        self.take_between(bytes, from, here)?;
+        self.take(&[first, second])
     }
 
     ghost takes_none: { (x : Self) → takes x x [] };

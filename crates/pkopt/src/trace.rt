@@ -1,6 +1,7 @@
 //! Records the memo and the frames of a pickle while it is checked.
 
 ghost use Rattle.std.specs.Prelude.{◌≡◌, ◌+◌, ◌++◌, ◌∷◌, ◌<◌, ◌≤◌, [], IfOk, OnOk, false, ℕ};
+ghost use Rattle.pkops.specs.declared.Op.TheVariants as op;
 ghost use Rattle.pkops.specs.Inst.{instruction_of};
 ghost use Rattle.pkops.specs.Operands.{memo_number};
 ghost use Rattle.pkopt.specs.Private.Memories.{Notes, last_held, numbers_held};
@@ -104,9 +105,9 @@ impl Trace {
         Ok(())
     }
 
-    /// Records a read of this number.
-    #[inline(always)]
-    fn read(&mut self, number: usize) -> Result<(), AllocError>
+    /// Records a read of this number, which may have no write in order.
+    #[inline(never)]
+    fn read_slowly(&mut self, number: usize) -> Result<(), AllocError>
         ensures writes { self.new.writes ≡ self.old.writes }
         ensures memo { self.new.memo ≡ self.old.memo }
         ensures sources { OnOk result (self.new.sources.items
@@ -119,18 +120,35 @@ impl Trace {
         Ok(())
     }
 
-    /// Records what an instruction does to the memo.
+    /// Records a read of this number.
     #[inline(always)]
-    fn follow(&mut self, inst: &Inst<'_>) -> Result<(), AllocError>
-        ensures step { OnOk result (NotesStep (instruction_of inst.now).op
-            (memo_number (instruction_of inst.now)) self.old self.new) }
+    fn read(&mut self, number: usize) -> Result<(), AllocError>
+        ensures writes { self.new.writes ≡ self.old.writes }
+        ensures memo { self.new.memo ≡ self.old.memo }
+        ensures sources { OnOk result (self.new.sources.items
+            ≡ self.old.sources.items ++ last_held self.old.memo number ∷ []) }
         ensures parts { self.new.parts.items ≡ self.old.parts.items }
         ensures end { self.new.end ≡ self.old.end }
     {
-        match memo_use(inst.op()) {
-            MemoUse::Stores => self.write(number_of(inst)),
+        let Some(write) = self.memo.write_in_order(number) else {
+            return self.read_slowly(number);
+        };
+        let source = Entry::new(Some(write))?;
+        self.sources.push(source)?;
+        Ok(())
+    }
+
+    /// Records what an instruction with this opcode and memo number does to the memo.
+    #[inline(always)]
+    fn follow(&mut self, op: Op, number: usize) -> Result<(), AllocError>
+        ensures step { OnOk result (NotesStep op number self.old self.new) }
+        ensures parts { self.new.parts.items ≡ self.old.parts.items }
+        ensures end { self.new.end ≡ self.old.end }
+    {
+        match memo_use(op) {
+            MemoUse::Stores => self.write(number),
             MemoUse::StoresNext => self.write_next(),
-            MemoUse::Fetches => self.read(number_of(inst)),
+            MemoUse::Fetches => self.read(number),
             MemoUse::Neither => Ok(()),
         }
     }
@@ -209,6 +227,18 @@ impl Trace {
         Ok(())
     }
 
+    /// Records an instruction that may change, at this offset, by its opcode, length and memo
+    /// number.
+    #[inline(never)]
+    fn take_slowly(&mut self, at: u64, op: Op, size: u16, number: usize) -> Result<(), AllocError>
+        requires { stays_as_is op ≡ false }
+        ensures places { OnOk result (Marks (place at size op) self.old self.new) }
+        ensures step { OnOk result (NotesStep op number self.old self.new) }
+    {
+        self.place(at, op, size)?;
+        self.follow(op, number)
+    }
+
     /// Records an instruction that may change, at this offset.
     #[inline(always)]
     fn take(&mut self, at: u64, inst: &Inst<'_>) -> Result<(), AllocError>
@@ -218,8 +248,46 @@ impl Trace {
         ensures step { OnOk result (NotesStep (instruction_of inst.now).op
             (memo_number (instruction_of inst.now)) self.old self.new) }
     {
-        self.place(at, inst.op(), size_of(inst))?;
-        self.follow(inst)
+        self.take_slowly(at, inst.op(), size_of(inst), number_of(inst))
+    }
+
+    /// Records a BINGET at this offset. It does what `take` does, without a jump table.
+    #[inline(always)]
+    fn take_binget(&mut self, at: u64, inst: &Inst<'_>) -> Result<(), AllocError>
+        requires { (instruction_of inst.now).op ≡ op.BinGet }
+        ensures places { OnOk result (Marks (place_of at (instruction_of inst.now))
+            self.old self.new) }
+        ensures step { OnOk result (NotesStep (instruction_of inst.now).op
+            (memo_number (instruction_of inst.now)) self.old self.new) }
+    {
+        self.place(at, Op::BinGet, size_of(inst))?;
+        self.read(number_of(inst))
+    }
+
+    /// Records a MEMOIZE at this offset. It does what `take` does, without a jump table.
+    #[inline(always)]
+    fn take_memoize(&mut self, at: u64, inst: &Inst<'_>) -> Result<(), AllocError>
+        requires { (instruction_of inst.now).op ≡ op.Memoize }
+        ensures places { OnOk result (Marks (place_of at (instruction_of inst.now))
+            self.old self.new) }
+        ensures step { OnOk result (NotesStep (instruction_of inst.now).op
+            (memo_number (instruction_of inst.now)) self.old self.new) }
+    {
+        self.place(at, Op::Memoize, size_of(inst))?;
+        self.write_next()
+    }
+
+    /// Records a LONG_BINPUT at this offset. It does what `take` does, without a jump table.
+    #[inline(always)]
+    fn take_long_binput(&mut self, at: u64, inst: &Inst<'_>) -> Result<(), AllocError>
+        requires { (instruction_of inst.now).op ≡ op.LongBinPut }
+        ensures places { OnOk result (Marks (place_of at (instruction_of inst.now))
+            self.old self.new) }
+        ensures step { OnOk result (NotesStep (instruction_of inst.now).op
+            (memo_number (instruction_of inst.now)) self.old self.new) }
+    {
+        self.place(at, Op::LongBinPut, size_of(inst))?;
+        self.write(number_of(inst))
     }
 }
 
@@ -231,11 +299,22 @@ impl Listener for Trace {
 
     ghost hears = { Hears };
 
-    // Inlined into the check, so that an instruction that never changes costs only comparisons.
+    // Inlined into the check, so that an instruction that never changes costs only comparisons. The
+    // most frequent opcodes of long pickles come first.
     #[inline(always)]
     fn hear(&mut self, at: u64, inst: &Inst<'_>, _marks: usize) -> Result<(), AllocError> {
-        if is_plain(inst.op()) {
+        let op = inst.op();
+        if let Op::BinGet = op {
+            return self.take_binget(at, inst);
+        }
+        if let Op::Memoize = op {
+            return self.take_memoize(at, inst);
+        }
+        if is_plain(op) {
             return Ok(());
+        }
+        if let Op::LongBinPut = op {
+            return self.take_long_binput(at, inst);
         }
         self.take(at, inst)
     }

@@ -1,6 +1,6 @@
 -- What is known along a pickle, heard instruction by instruction.
-use Rattle.std.proofs.Common.{◌≡◌, ℕ, ◌+◌, true, false, cond, List, [], ◌∷◌, ◌++◌, length, Option}
-use Rattle.std.proofs.Common.{Result, Ok, Err, refl, sym, ap, subst, ◌∙◌, append-nil, length-append}
+use Rattle.std.proofs.Common.{◌≡◌, ℕ, ◌+◌, false, cond, List, [], ◌∷◌, ◌++◌, length, Option}
+use Rattle.std.proofs.Common.{Result, Ok, Err, refl, sym, ap, ◌∙◌, append-nil, length-append}
 use Rattle.std.specs.Prelude.{OnOk}
 use Rattle.pkops.specs.Operands.{memo_number}
 use Rattle.pkops.specs.Spelling.{Instruction, spelling}
@@ -10,29 +10,13 @@ use Rattle.pkcheck.specs.Heard.{Heard, heard, AreHeardBehind}
 use Rattle.pkopt.specs.declared.place.Part.{Part}
 use Rattle.pkopt.specs.declared.place.Place.{Place}
 use Rattle.pkopt.specs.declared.trace.Trace.{Trace}
-use Rattle.pkopt.specs.Private.Passes.{IsNewTrace, EndsSo, FollowsWrites, Hears, Marks, NotesStep}
+use Rattle.pkopt.specs.Private.Passes.{IsNewTrace, EndsSo, Hears, Marks, NotesStep}
 use Rattle.pkopt.specs.Private.Passes.{Tracks}
 use Rattle.pkopt.specs.Private.Places.{end_behind, stays_as_is, place_of, places_behind}
 use Rattle.pkopt.specs.Private.Places.{places_from, places_told, told}
-use Rattle.pkopt.specs.Writers.{Writes, read_by, sources, after_all}
+use Rattle.pkopt.specs.Writers.{read_by, sources, after_all}
 use Rattle.pkopt.proofs.MemoWrites.Rows.{holds_none}
-use Rattle.pkopt.proofs.SlimForm.PlainInstructions.{plain_is}
 use Rattle.pkopt.proofs.SlimForm.Unchanged.{spellings-append}
-
--- one plain instruction is heard
-pub plain_heard : (x : Trace) (at marks : ℕ) (i : Instruction) → stays_as_is i.op ≡ true
-    → Hears x x (heard at i marks ∷ [])
-plain_heard x at marks i e = λ ws h ends.
-    let plain = plain_is i e in
-    record {
-      follows = subst (λ (w : Writes). FollowsWrites w x) (sym (plain.no_write ws)) h;
-      ends = ends;
-      sources_now = sym (append-nil x.sources.items)
-          ∙ ap (λ (l : List (Option ℕ)). x.sources.items ++ l)
-          (sym (append-nil (read_by (effect_of i.op) (memo_number i) ws) ∙ plain.no_read ws));
-      places_now = sym (append-nil (places_behind 0 x.parts.items))
-          ∙ ap (λ b. places_behind 0 x.parts.items ++ cond b [] (place_of at i ∷ [])) (sym e);
-    }
 
 -- another one is heard
 pub other_heard : {A E : Type 0} (r : Result A E) (x y : Trace) (at marks : ℕ) (i : Instruction)

@@ -12,12 +12,6 @@ use Rattle.pkopt.specs.Writers.{Writes, wrote, after, is_read, new_number, after
 pub tells_eq : (a b : ℕ) → (a ≡ b) ⊎ (a ≢ b)
 tells_eq a b = elim (eqb_tells a b) [ inl h ↦ inl h.1 | inr h ↦ inr h.1 ]
 
--- an instruction of this effect writes the memo
-abbrev pub WritesMemo : Effect → Type 0
-WritesMemo (Moves Stores) = Unit {0}
-WritesMemo (Moves StoresNext) = Unit {0}
-WritesMemo e = ⊥
-
 wrote_le : (e : Effect) (n : ℕ) (ws : Writes) → length ws ≤ length (wrote e n ws)
 wrote_le (Moves Stores) n ws = omega arith
 wrote_le (Moves StoresNext) n ws = omega arith

@@ -2,15 +2,12 @@
 use Rattle.std.proofs.Common.{◌≡◌, ℕ, ◌+◌, ◌<◌, ◌≤◌, Bool, true, false, cond, ◌||◌, List, [], ◌∷◌}
 use Rattle.std.proofs.Common.{◌++◌, length, drop, get_or, refl, sym, ap, subst, ◌∙◌, arith}
 use Rattle.std.proofs.Common.{append-nil}
-use Rattle.std.proofs.Math.ListN.{drop_of_length-le}
 use Rattle.std.proofs.lemmas.List.{drop_more}
 use Rattle.std.specs.List.{list_any}
 use Rattle.pkops.specs.declared.Op.{Op}
 use Rattle.pkops.specs.declared.Op.TheVariants as op
 use Rattle.pkopt.specs.declared.place.Part.{Part}
 use Rattle.pkopt.specs.declared.place.Place.{Place}
-use Rattle.pkopt.specs.declared.trace.Trace.{Trace}
-use Rattle.pkopt.specs.Private.Passes.{Skips}
 use Rattle.pkopt.specs.Private.Places.{end_behind, end_of, place, place_behind, places_behind}
 use Rattle.pkopt.specs.Private.Places.{stays_as_is}
 use Rattle.pkopt.specs.Slim.{is_frame}
@@ -80,9 +77,6 @@ stayed part end end' parts parts' none plain grown moved h =
           ∙ append-nil (places_behind 0 parts),
     )
 
-pub skips_more : (x y z : Trace) → Skips x y → Skips y z → Skips x z
-skips_more x y z f g = λ h. let a = f h in let b = g a.0 in (b.0, b.1 ∙ a.1)
-
 -- an instruction that may change is recorded
 pub marked_at : (part : Part) (at end end' : ℕ) (parts parts' : List Part)
     → stays_as_is part.op ≡ false → parts' ≡ parts ++ part ∷ []
@@ -151,8 +145,3 @@ places_past parts from k d x size lt e same plain =
     (ap (λ (y : Place). stays_as_is y.op) (sym e) ∙ plain)
     ∙ ap (λ (y : Place). places_behind (y.at + y.size) later) (sym e)
     ∙ ap (λ n. places_behind (x.at + n) later) (sym same)
-
--- no part is left
-pub places_none : (parts : List Part) (from k : ℕ) → length parts ≤ k
-    → places_behind from (drop k parts) ≡ []
-places_none parts from k le = ap (places_behind from) (drop_of_length-le parts le)

@@ -1,14 +1,15 @@
 -- The row of consecutive numbers.
 use Rattle.std.proofs.Common.{◌≡◌, ℕ, zero, suc, ◌+◌, ◌<◌, cond, List, [], ◌∷◌, ◌++◌}
 use Rattle.std.proofs.Common.{◌-◌, ◌≤◌, length, get_or, refl, ap, subst, sym, ◌∙◌, arith}
-use Rattle.std.proofs.Common.{length-append}
+use Rattle.std.proofs.Common.{length-append, Some, ltb, le-ltb, lt-ltb}
 use Rattle.std.proofs.Common.{Result, Ok, Err, inl, inr}
 use Rattle.std.specs.Prelude.{◌≢◌, OnOk}
 use Rattle.std.proofs.lemmas.List.{get_or_append_left, get_or_at}
 use Rattle.std.proofs.lemmas.Bool.Decides.{eqb_tells}
 use Rattle.pkopt.specs.declared.memo.Memo.{Memo}
 use Rattle.pkopt.specs.Private.Memories.{HoldsWrites, Notes, Remembers, first_writes, numbers_held}
-use Rattle.pkopt.specs.Private.Memories.{row_by, row_of}
+use Rattle.pkopt.specs.Private.Memories.{last_held, row_by, row_of}
+use Rattle.pkcheck.specs.Shape.{recalled}
 use Rattle.pkopt.specs.Writers.{Writes}
 use Rattle.pkopt.proofs.MemoWrites.Noted.{begin_at, none_remembered, note_behind_row}
 
@@ -35,6 +36,20 @@ row_in_order n listed ne = elim (eqb_tells n 0) [
   | inl q ↦ absurd (ne q.1)
   | inr q ↦ ap (λ b. cond b listed (first_writes n)) q.0
 ]
+
+-- a write in order is held
+pub held_in_order : (m : Memo) (n : ℕ) → m.first ≤ n → n - m.first < m.in_order
+    → last_held m n ≡ Some (n - m.first)
+held_in_order m n low lt =
+    let is = row_in_order m.in_order m.listed.items (λ q. omega (arith, q, lt)) in
+    let size = ap (λ (l : List ℕ). length l) is ∙ first_count m.in_order in
+    ap (λ b. cond b (recalled n m.rest.entries)
+    (cond (ltb (n - m.first) (length (row_of m))) (Some (get_or (row_of m) (n - m.first) 0))
+    (recalled n m.rest.entries))) (le-ltb n m.first low)
+    ∙ ap (λ b. cond b (Some (get_or (row_of m) (n - m.first) 0)) (recalled n m.rest.entries))
+    (lt-ltb (n - m.first) (length (row_of m)) (omega (arith, lt, size)))
+    ∙ ap (λ (l : List ℕ). Some (get_or l (n - m.first) 0)) is
+    ∙ ap (λ k. Some k) (first_at m.in_order (n - m.first) lt)
 
 -- they aren't
 pub row_listed : (n : ℕ) (listed : List ℕ) → n ≡ 0 → row_by n listed ≡ listed

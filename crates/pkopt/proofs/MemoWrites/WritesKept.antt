@@ -1,5 +1,6 @@
 -- Which writes are read, and their new numbers, found read by read and write by write.
-use Rattle.std.proofs.Common.{◌≡◌, ℕ, suc, ◌<◌, ◌≤◌, Bool, true, false, cond, ◌||◌, List, [], ◌∷◌}
+use Rattle.std.proofs.Common.{◌≡◌, ℕ, zero, suc, ◌<◌, ◌≤◌, Bool, true, false, cond, ◌||◌, List, []}
+use Rattle.std.proofs.Common.{◌∷◌}
 use Rattle.std.proofs.Common.{◌++◌, length, take, get_or, set, Option, Some, None, Result, Ok, Err}
 use Rattle.std.proofs.Common.{inl, inr, refl, sym, ap, ◌∙◌, arith, ltb, replicate}
 use Rattle.std.specs.Prelude.{min, IfOk}
@@ -8,6 +9,7 @@ use Rattle.std.proofs.lemmas.List.{get_or_past, length-replicate}
 use Rattle.std.proofs.lemmas.Bool.{ltb-true, ltb-false}
 use Rattle.std.proofs.Math.Seq.{take-suc}
 use Rattle.std.proofs.lemmas.Bool.Decides.{eqb_tells}
+use Rattle.pkopt.specs.Private.Passes.{AreKept, AreNumbers}
 use Rattle.pkopt.specs.Writers.{is_this, is_read, new_number}
 use Rattle.pkopt.proofs.MemoWrites.NewNumbers.{new_step, tells_eq}
 use Rattle.pkopt.proofs.BothRuns.SlimRuns.{or_right}
@@ -50,14 +52,6 @@ module _ (w m i : ℕ) (vs : List (Option ℕ)) (kept : List Bool) (d v : Option
         ∙ sym (is_read-next w m i vs d v is lt e
         ∙ or_right (is_read w (take i vs)) _ (ap (is_this w) g ∙ q.0))
     | inr q ↦ get_or-set_other kept j w true false q.1 ∙ unmarked (ap (is_this w) g ∙ q.0)
-  ]
-
-  -- it is none of these
-  pub unmarked_past : (j : ℕ) → v ≡ Some j → length kept ≤ j → w < length kept
-      → get_or kept w false ≡ is_read w (take m vs)
-  unmarked_past j g far near = elim (eqb_tells w j) [
-    | inl q ↦ let s = q.1 in absurd (omega (arith, far, near, s))
-    | inr q ↦ unmarked (ap (is_this w) g ∙ q.0)
   ]
 
 -- the new numbers of the first k writes, where the others have none yet
@@ -126,10 +120,26 @@ none_numbered vs count limit = record {
   others = λ w le. none_at count w (ltb w count) refl;
 }
 
-pub after_within : (b : Bool) (next limit next' : ℕ) → next' ≡ cond b (min (suc next) limit) next
-    → next ≤ limit → next' ≤ limit
-after_within true next limit next' e le = omega (arith, e, le)
-after_within false next limit next' e le = omega (arith, e, le)
+-- all writes have theirs, once those of the list do
+module _ (vs : List (Option ℕ)) (k limit next : ℕ) (numbers : List (Option ℕ)) (kept : List Bool)
+    (h : NumbersTo vs k limit next numbers) (read : AreKept vs kept) (far : length kept ≤ k) where
+  number_at : (w : ℕ) (b : Bool) → ltb w k ≡ b → get_or numbers w None
+      ≡ cond (is_read w vs) (Some (min (new_number vs w) limit)) None
+  number_at w true e = h.each w (ltb-true w k e)
+  number_at w false e = let le = ltb-false w k e in
+      h.others w le ∙ sym (ap (λ b. cond b (Some (min (new_number vs w) limit)) None)
+      (sym (read.each w) ∙ get_or_past kept w false (omega (arith, far, le))))
+
+  pub all_numbered : AreNumbers vs limit numbers
+  all_numbered = record { each = λ w. number_at w (ltb w k) refl }
+
+-- an entry that isn't set changes nothing
+pub unset_more : (kept : List Bool) (w : ℕ) → get_or (kept ++ false ∷ []) w false
+    ≡ get_or kept w false
+unset_more [] zero = refl
+unset_more [] (suc w) = refl
+unset_more (b ∷ kept) zero = refl
+unset_more (b ∷ kept) (suc w) = unset_more kept w
 
 pub if_ok_map : {A E : Type 0} (P Q : A → Type 0) (r : Result A E) → ((a : A) → P a → Q a)
     → IfOk r P → IfOk r Q

@@ -103,11 +103,6 @@ module _ (vs : List (Option ℕ)) (limit : ℕ) where
   protos_slim ws (i ∷ is) (a, inr h) = protos_append (left_of vs ws (effect_of i.op) i) _
       (kept_good (is_proto i.op) ws i refl a) (protos_slim (after i ws) is h.1)
 
--- a PROTO is two bytes
-proto_is : (o : Op) → is_proto o ≡ true → o ≡ op.Proto
-proto_is op.Proto e = refl
-proto_is o e = cc
-
 two_bytes : (a : Argument) → Suits layout.U1 a
     → (b : ℕ) × (code_of op.Proto ∷ laid layout.U1 a ≡ 128 ∷ b ∷ [])
 two_bytes Nothing h = absurd h

@@ -21,9 +21,9 @@ use Rattle.pkopt.specs.Private.Fates.{fate_by, writes_after, reads_after}
 use Rattle.pkopt.specs.Private.Passes.{AreNumbers, memo_use}
 use Rattle.pkopt.specs.Slim.{renumbered, is_frame, read_left, left_of}
 use Rattle.pkopt.specs.Writers.{Writes, last_write, wrote, after, read_by, sources, is_this}
-use Rattle.pkopt.specs.Writers.{is_read, new_number, after_all}
+use Rattle.pkopt.specs.Writers.{is_read, new_number}
 use Rattle.pkopt.proofs.MemoWrites.Followed.{effect_stores, effect_next, effect_fetches}
-use Rattle.pkopt.proofs.MemoWrites.NewNumbers.{after_all_le, new_step, new_up_to}
+use Rattle.pkopt.proofs.MemoWrites.NewNumbers.{new_step, new_up_to}
 use Rattle.pkopt.proofs.BothRuns.SlimRuns.{or_left, or_right}
 
 pub last_write_lt : (n : ℕ) (ws : Writes) (w : ℕ) → last_write n ws ≡ Some w → w < length ws
@@ -56,22 +56,21 @@ Emits (Gets n) o spelled old new = names_memo_entry o ≡ true
 Emits f o spelled old new = new ≡ old
 
 -- where the second pass stands, behind these writes and before these instructions
-pub record At (vs : List (Option ℕ)) (total limit : ℕ) (ws : Writes) (left : List Instruction)
+pub record At (vs : List (Option ℕ)) (limit : ℕ) (ws : Writes) (left : List Instruction)
     (writes reads : ℕ) : Type 0 where
   pub counted : writes ≡ length ws
   pub reading : drop reads vs ≡ sources ws left
-  pub bounded : length (after_all left ws) ≤ total
   pub within : new_number vs (length ws) ≤ limit
 
-module _ (vs : List (Option ℕ)) (total limit : ℕ) (numbers : List (Option ℕ))
-    (right : AreNumbers vs total limit numbers) (ws : Writes) (i : Instruction)
+module _ (vs : List (Option ℕ)) (limit : ℕ) (numbers : List (Option ℕ))
+    (right : AreNumbers vs limit numbers) (ws : Writes) (i : Instruction)
     (is : List Instruction) where
   -- the new number is found there
-  number_there : (w : ℕ) (b : Bool) → is_read w vs ≡ b → w < total → new_number vs w ≤ limit
+  number_there : (w : ℕ) (b : Bool) → is_read w vs ≡ b → new_number vs w ≤ limit
       → get_or numbers w None ≡ cond b (Some (new_number vs w)) None
-  number_there w b e lt le =
+  number_there w b e le =
       let m : min (new_number vs w) limit ≡ new_number vs w = omega (arith, le) in
-      right.each w lt ∙ ap (λ b. cond b (Some (min (new_number vs w) limit)) None) e
+      right.each w ∙ ap (λ b. cond b (Some (min (new_number vs w) limit)) None) e
       ∙ ap (λ n. cond b (Some n) None) m
 
   -- what is written is what is left of the instruction, and the numbers stay within the limit
@@ -144,16 +143,16 @@ module _ (vs : List (Option ℕ)) (total limit : ℕ) (numbers : List (Option �
       → Emits f i.op spelled old new → new ≡ old ++ spellings (read_left vs a i)
 
   fetched_right : (a : Option ℕ) → ((w : ℕ) → a ≡ Some w → (is_read w vs ≡ true) × (w < length ws))
-      → length ws ≤ total → new_number vs (length ws) ≤ limit → names_memo_entry i.op ≡ true
+      → new_number vs (length ws) ≤ limit → names_memo_entry i.op ≡ true
       → FetchedRight a (fetched_fate numbers a) × (fetched_fate numbers a ≢ IsPast)
-  fetched_right None found within le names =
+  fetched_right None found le names =
       (λ old new spelled s g. one old new i (g ∙ ap (λ (l : List ℕ). old ++ l) s), λ q. cc)
-  fetched_right (Some w) found within le names =
+  fetched_right (Some w) found le names =
       let f = found w refl in
       let below = f.1 in
       let small = new_up_to vs w (length ws) (omega (arith, below)) in
       let there : get_or numbers w None ≡ Some (new_number vs w) =
-      number_there w true f.0 (omega (arith, below, within)) (omega (arith, small, le)) in (
+      number_there w true f.0 (omega (arith, small, le)) in (
         subst (λ x. FetchedRight (Some w) (kept_fate x)) (sym there)
             (λ old new spelled s g. one old new (renumbered (new_number vs w) i) (g names)),
         subst (λ x. kept_fate x ≢ IsPast) (sym there) (λ q. cc),
@@ -213,35 +212,24 @@ module _ (vs : List (Option ℕ)) (total limit : ℕ) (numbers : List (Option �
   names_fetched op.LongBinGet e = refl
   names_fetched o e = cc
 
-  abbrev Bounded : Effect → Type 0
-  Bounded e = length (after_all is (wrote e (memo_number i) ws)) ≤ total
-
-  before_write : (e : Effect) → length (wrote e (memo_number i) ws) ≡ suc (length ws) → Bounded e
-      → length ws < total
-  before_write e l b = let a = after_all_le is (wrote e (memo_number i) ws) in
-      omega (arith, a, b, l)
-
   fate_by_use : (u : MemoUse) (e : Effect) (writes reads : ℕ) → memo_use i.op ≡ u
       → effect_of i.op ≡ e → writes ≡ length ws → drop reads vs ≡ read_by e (memo_number i) ws
-      ++ sources (wrote e (memo_number i) ws) is → Bounded e → new_number vs (length ws) ≤ limit
+      ++ sources (wrote e (memo_number i) ws) is → new_number vs (length ws) ≤ limit
       → RightFor e (fate_by u vs numbers limit i.op writes reads)
-  fate_by_use Stores e writes reads is_use is_effect counted reading bounded le =
+  fate_by_use Stores e writes reads is_use is_effect counted reading le =
       let q : Moves move.Stores ≡ e = sym (effect_stores i.op is_use) ∙ is_effect in
-      let b : Bounded (Moves move.Stores) = subst Bounded (sym q) bounded in
       subst (λ e. RightFor e (stored_fate limit (get_or numbers writes None))) q
       (stored_right (is_read (length ws) vs) (get_or numbers writes None) refl
       (ap (λ w. get_or numbers w None) counted
-      ∙ number_there (length ws) (is_read (length ws) vs) refl
-      (before_write (Moves move.Stores) refl b) le) le (names_stored i.op is_use))
-  fate_by_use StoresNext e writes reads is_use is_effect counted reading bounded le =
+      ∙ number_there (length ws) (is_read (length ws) vs) refl le) le
+      (names_stored i.op is_use))
+  fate_by_use StoresNext e writes reads is_use is_effect counted reading le =
       let q : Moves move.StoresNext ≡ e = sym (effect_next i.op is_use) ∙ is_effect in
-      let b : Bounded (Moves move.StoresNext) = subst Bounded (sym q) bounded in
       subst (λ e. RightFor e (next_fate limit (get_or numbers writes None))) q
       (next_right (is_read (length ws) vs) (get_or numbers writes None) refl
       (ap (λ w. get_or numbers w None) counted
-      ∙ number_there (length ws) (is_read (length ws) vs) refl
-      (before_write (Moves move.StoresNext) refl b) le) le)
-  fate_by_use Fetches e writes reads is_use is_effect counted reading bounded le =
+      ∙ number_there (length ws) (is_read (length ws) vs) refl le) le)
+  fate_by_use Fetches e writes reads is_use is_effect counted reading le =
       let q : Moves move.Fetches ≡ e = sym (effect_fetches i.op is_use) ∙ is_effect in
       let r : drop reads vs ≡ last_write (memo_number i) ws
       ∷ sources ws is = subst
@@ -249,22 +237,20 @@ module _ (vs : List (Option ℕ)) (total limit : ℕ) (numbers : List (Option �
       ++ sources (wrote e (memo_number i) ws) is) (sym q) reading in
       let source : get_or vs reads None ≡ last_write (memo_number i) ws =
       (at_drop reads vs (last_write (memo_number i) ws) (sources ws is) r).0 in
-      let b : length (after_all is ws) ≤ total = subst Bounded (sym q) bounded in
-      let most = after_all_le is ws in
       let f = fetched_right (last_write (memo_number i) ws)
       (λ w g. (is_read_at reads vs w (source ∙ g), last_write_lt (memo_number i) ws w g))
-      (omega (arith, most, b)) le (names_fetched i.op is_use) in
+      le (names_fetched i.op is_use) in
       subst (λ e. RightFor e (fetched_fate numbers (get_or vs reads None))) q
       (subst (λ a. RightFor (Moves move.Fetches) (fetched_fate numbers a)) (sym source)
       (from_fetched (fetched_fate numbers (last_write (memo_number i) ws)) f.1 f.0 le))
-  fate_by_use Neither e writes reads is_use is_effect counted reading bounded le =
+  fate_by_use Neither e writes reads is_use is_effect counted reading le =
       passed_right e (subst Passes is_effect (neither i.op is_use)) le
 
   -- what becomes of the instruction is right
-  pub fate_right : (writes reads : ℕ) → At vs total limit ws (i ∷ is) writes reads
+  pub fate_right : (writes reads : ℕ) → At vs limit ws (i ∷ is) writes reads
       → RightFor (effect_of i.op) (fate_by (memo_use i.op) vs numbers limit i.op writes reads)
   fate_right writes reads h = fate_by_use (memo_use i.op)
-      (effect_of i.op) writes reads refl refl h.counted h.reading h.bounded h.within
+      (effect_of i.op) writes reads refl refl h.counted h.reading h.within
 
   -- and then the pass stands behind it
   at_by_use : (u : MemoUse) (e : Effect) (writes reads : ℕ) → memo_use i.op ≡ u → effect_of i.op ≡ e
@@ -303,14 +289,14 @@ module _ (vs : List (Option ℕ)) (total limit : ℕ) (numbers : List (Option �
             ∙ ap (λ (l : List (Option ℕ)). l ++ sources (wrote e (memo_number i) ws) is) h.no_read,
       )
 
-  pub at_next : (writes reads : ℕ) → At vs total limit ws (i ∷ is) writes reads
+  pub at_next : (writes reads : ℕ) → At vs limit ws (i ∷ is) writes reads
       → new_number vs (length (after i ws)) ≤ limit
-      → At vs total limit (after i ws) is (writes_after (memo_use i.op) writes)
+      → At vs limit (after i ws) is (writes_after (memo_use i.op) writes)
       (reads_after (memo_use i.op) reads)
   at_next writes reads h le =
       let a = at_by_use (memo_use i.op) (effect_of i.op) writes reads refl refl h.counted
       h.reading in
-      record { counted = a.0; reading = a.1; bounded = h.bounded; within = le }
+      record { counted = a.0; reading = a.1; within = le }
 
   pub on_right : (e : Effect) (f : Fate) → f ≢ IsPast → RightFor e f
       → Written e f × (new_number vs (length (wrote e (memo_number i) ws)) ≤ limit)

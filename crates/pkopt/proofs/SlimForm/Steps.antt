@@ -6,7 +6,8 @@ use Rattle.pkops.specs.declared.Op.TheVariants as op
 use Rattle.pkopt.specs.declared.fate.Fate.{Fate}
 use Rattle.pkopt.specs.declared.fate.Fate.TheVariants.{Goes, Stays, Gets, IsPast}
 use Rattle.pkopt.specs.declared.fate.Plan.{Plan}
-use Rattle.pkopt.specs.declared.memo.MemoUse.TheVariants.{Neither}
+use Rattle.pkopt.specs.declared.memo.MemoUse.{MemoUse}
+use Rattle.pkopt.specs.declared.memo.MemoUse.TheVariants.{Stores, StoresNext, Fetches, Neither}
 use Rattle.pkopt.specs.declared.place.Part.{Part}
 use Rattle.pkopt.specs.declared.place.Place.{Place}
 use Rattle.pkopt.specs.declared.slim.Pass.{Pass}
@@ -23,25 +24,39 @@ same_pass s t w r f =
     ∙ ap (λ n. record { writes = t.writes; reads = n; from = s.from }) r
     ∙ ap (λ n. record { writes = t.writes; reads = t.reads; from = n }) f
 
+-- the pass has the fate that it finds, and goes on behind it
+module _ (plan : Plan) (x : Place) (s mid : Pass) (f : Fate)
+    (fate : f ≡ fate_in plan x.op s.writes s.reads) (from : mid.from ≡ s.from) where
+  pub emits : (bytes : List ℕ) → emitted f x bytes mid.from
+      ≡ emitted (fate_at plan x s) x bytes s.from
+  emits bytes = ap (λ n. emitted f x bytes n) from ∙ ap (λ f. emitted f x bytes s.from) fate
+
+  pub goes_behind : (new : Pass) → mid.writes ≡ writes_after (memo_use x.op) s.writes
+      → mid.reads ≡ reads_after (memo_use x.op) s.reads → new.writes ≡ mid.writes
+      → new.reads ≡ mid.reads → new.from ≡ from_after f x mid.from → new ≡ passed plan x s
+  goes_behind new w r nw nr nf = same_pass new (passed plan x s) (nw ∙ w) (nr ∙ r)
+      (nf ∙ ap (λ n. from_after f x n) from ∙ ap (λ f. from_after f x s.from) fate)
+
 -- what the step gives comes before what is produced behind it
 pub stepped : (plan : Plan) (bytes : List ℕ) (taken : ℕ) (x : Place) (xs : List Place)
-    (s mid new : Pass) (f : Fate) (o whole : List ℕ)
-    → f ≡ fate_in plan x.op s.writes s.reads → mid.writes ≡ writes_after (memo_use x.op) s.writes
-    → mid.reads ≡ reads_after (memo_use x.op) s.reads → mid.from ≡ s.from
-    → new.writes ≡ mid.writes → new.reads ≡ mid.reads → new.from ≡ from_after f x mid.from
+    (s new : Pass) (o whole : List ℕ) → new ≡ passed plan x s
     → o ++ produced plan bytes taken (x ∷ xs) s ≡ whole
-    → (o ++ emitted f x bytes mid.from) ++ produced plan bytes taken xs new ≡ whole
-stepped plan bytes taken x xs s mid new f o whole fate w r from nw nr nf e =
-    let at = ap (λ n. from_after f x n) from ∙ ap (λ f. from_after f x s.from) fate in
-    let same : new ≡ passed plan x s = same_pass new (passed plan x s) (nw ∙ w) (nr ∙ r)
-    (nf ∙ at) in
-    let piece = ap (λ n. emitted f x bytes n) from ∙ ap (λ f. emitted f x bytes s.from) fate in
-    append_assoc o (emitted f x bytes mid.from) (produced plan bytes taken xs new)
-    ∙ ap (λ (l : List ℕ). o ++ (l ++ produced plan bytes taken xs new)) piece
+    → (o ++ emitted (fate_at plan x s) x bytes s.from) ++ produced plan bytes taken xs new ≡ whole
+stepped plan bytes taken x xs s new o whole same e =
+    append_assoc o (emitted (fate_at plan x s) x bytes s.from) (produced plan bytes taken xs new)
     ∙ ap
     (λ (t : Pass). o
     ++ (emitted (fate_at plan x s) x bytes s.from ++ produced plan bytes taken xs t)) same
     ∙ e
+
+pub few_writes : (u : MemoUse) (n : ℕ) → writes_after u n ≤ n + 1
+few_writes Stores n = omega arith
+few_writes StoresNext n = omega arith
+few_writes u n = omega arith
+
+pub few_reads : (u : MemoUse) (n : ℕ) → reads_after u n ≤ n + 1
+few_reads Fetches n = omega arith
+few_reads u n = omega arith
 
 -- what is not produced yet begins within the instruction, or before it
 pub from_least : (f : Fate) (x : Place) (from : ℕ) → from ≤ x.at

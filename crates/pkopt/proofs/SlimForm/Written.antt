@@ -48,15 +48,12 @@ module _ (bytes : List ℕ) (places : List Place) (taken : ℕ) (plan : Plan) (p
   abbrev vs : List (Option ℕ)
   vs = sources [] p
 
-  abbrev total : ℕ
-  total = length (after_all p [])
-
   -- the slim form up to here, where the pass stands between these
   pub record Stood (before left : List Instruction) (at writes reads : ℕ)
       (form : List ℕ) : Type 0 where
     pub parts : p ≡ before ++ left
     pub here : at ≡ length (spellings before)
-    pub place : At vs total plan.limit (after_all before []) left writes reads
+    pub place : At vs plan.limit (after_all before []) left writes reads
     pub spelled : form ≡ spellings (slim_from vs [] before)
 
   -- and the places of what isn't plain among what is left
@@ -80,7 +77,6 @@ module _ (bytes : List ℕ) (places : List Place) (taken : ℕ) (plan : Plan) (p
       place = record {
         counted = writes;
         reading = ap (λ k. drop k vs) reads;
-        bounded = omega arith;
         within = omega arith;
       };
       spelled = form_written bytes out 0 from ∙ empty;
@@ -111,12 +107,10 @@ module _ (bytes : List ℕ) (places : List Place) (taken : ℕ) (plan : Plan) (p
       record {
         parts = h.parts ∙ sym (append_assoc before q js);
         here = omega (arith, here, e, l);
-        place = subst (λ (x : Writes). At vs total plan.limit x js writes reads) (sym same)
+        place = subst (λ (x : Writes). At vs plan.limit x js writes reads) (sym same)
             (record {
               counted = h.place.counted;
               reading = h.place.reading ∙ sources_plain q js ws plain;
-              bounded = subst (λ (x : Writes). length x ≤ total)
-                  (after_plain q js ws plain) h.place.bounded;
               within = h.place.within;
             });
         spelled = grown form (spellings q) (slim_from vs [] before) q h.spelled refl
@@ -213,21 +207,21 @@ module _ (bytes : List ℕ) (places : List Place) (taken : ℕ) (plan : Plan) (p
     abbrev fate : Fate
     fate = fate_in plan i.op out.writes out.reads
 
-    right : RightFor vs total plan.limit plan.numbers.items aims.planned.writes ws i next.others
+    right : RightFor vs plan.limit plan.numbers.items aims.planned.numbers ws i next.others
         (effect_of i.op) fate
     right = subst
-        (λ (l : List (Option ℕ)). RightFor vs total plan.limit plan.numbers.items
-        aims.planned.writes ws i next.others (effect_of i.op)
+        (λ (l : List (Option ℕ)). RightFor vs plan.limit plan.numbers.items
+        aims.planned.numbers ws i next.others (effect_of i.op)
         (fate_by (memo_use i.op) l plan.numbers.items plan.limit i.op out.writes out.reads))
         (sym aims.planned.reads)
-        (fate_right vs total plan.limit plan.numbers.items aims.planned.writes ws i next.others
+        (fate_right vs plan.limit plan.numbers.items aims.planned.numbers ws i next.others
         out.writes out.reads there.place)
 
     -- it isn't passed
     pub slimmed_halted : fate_in plan place.op out.writes out.reads ≡ IsPast
         → IsPastAt p plan.limit place.at
     slimmed_halted q =
-        let past = past_right vs total plan.limit plan.numbers.items aims.planned.writes ws i
+        let past = past_right vs plan.limit plan.numbers.items aims.planned.numbers ws i
         next.others (effect_of i.op) fate
         (subst (λ o. fate_in plan o out.writes out.reads ≡ IsPast) same q) right in
         record {
@@ -240,7 +234,7 @@ module _ (bytes : List ℕ) (places : List Place) (taken : ℕ) (plan : Plan) (p
     pub slimmed_next : (new : Slim) → AddsPlace plan bytes place out new → Slimmed later new
     slimmed_next new adds =
         let goes = subst (λ o. fate_in plan o out.writes out.reads ≢ IsPast) same adds.goes_on in
-        let written = on_right vs total plan.limit plan.numbers.items aims.planned.writes ws i
+        let written = on_right vs plan.limit plan.numbers.items aims.planned.numbers ws i
         next.others (effect_of i.op) fate goes right in
         let spelled = take place.size (drop place.at bytes) in
         let form = form_up_to (place.at + place.size) bytes new in
@@ -266,14 +260,14 @@ module _ (bytes : List ℕ) (places : List Place) (taken : ℕ) (plan : Plan) (p
             parts = there.parts ∙ sym (append_assoc done (i ∷ []) next.others);
             here = omega (arith, here, e, l, k, size);
             place = subst
-                (λ (x : Writes). At vs total plan.limit x next.others new.writes new.reads)
+                (λ (x : Writes). At vs plan.limit x next.others new.writes new.reads)
                 (sym more)
-                (subst (λ n. At vs total plan.limit (after i ws) next.others n new.reads)
+                (subst (λ n. At vs plan.limit (after i ws) next.others n new.reads)
                 (sym counts)
                 (subst
-                (λ n. At vs total plan.limit (after i ws) next.others
+                (λ n. At vs plan.limit (after i ws) next.others
                 (writes_after (memo_use i.op) out.writes) n) (sym reads)
-                (at_next vs total plan.limit plan.numbers.items aims.planned.writes ws i next.others
+                (at_next vs plan.limit plan.numbers.items aims.planned.numbers ws i next.others
                 out.writes out.reads there.place written.1)));
             spelled = written.0 (form_up_to place.at bytes out) form spelled spelled_at emitted
                 ∙ grown (form_up_to place.at bytes out)

@@ -68,7 +68,7 @@ reads_after _ reads = reads
 -- the plan fits this pickle
 pub record IsPlanFor (p : List Instruction) (plan : Plan) : Type 0 where
   pub reads : plan.sources.items ≡ sources [] p
-  pub writes : AreNumbers (sources [] p) (length (after_all p [])) plan.limit plan.numbers.items
+  pub numbers : AreNumbers (sources [] p) plan.limit plan.numbers.items
 
 -- the output is the slim form
 pub record IsSlim (p : List Instruction) (limit : ℕ) (out : List ℕ) : Type 0 where

@@ -1,5 +1,5 @@
 -- The state of the two passes over a pickle, and their results.
-use Rattle.std.specs.Prelude.{◌≡◌, ℕ, ◌<◌, Bool, false, cond, min, List, [], ◌∷◌, ◌++◌, length}
+use Rattle.std.specs.Prelude.{◌≡◌, ℕ, Bool, false, cond, min, List, [], ◌∷◌, ◌++◌, length}
 use Rattle.std.specs.Prelude.{Option, Some, None, slice_index_or}
 use Rattle.pkops.specs.declared.Op.{Op}
 use Rattle.pkops.specs.declared.Op.TheVariants as op
@@ -78,14 +78,12 @@ pub record Tracks (p : List Instruction) (t : Trace) : Type 0 where
   pub places : places_behind 0 t.parts.items ≡ places_from 0 p
   pub ends : end_behind 0 t.parts.items ≡ t.end
 
--- for each write, whether it is read
-pub record AreKept (vs : List (Option ℕ)) (writes : ℕ) (kept : List Bool) : Type 0 where
-  pub count : length kept ≡ writes
-  pub each : (w : ℕ) → w < writes → slice_index_or kept w false ≡ is_read w vs
+-- for each write, whether it is read; those behind the list are not
+pub record AreKept (vs : List (Option ℕ)) (kept : List Bool) : Type 0 where
+  pub each : (w : ℕ) → slice_index_or kept w false ≡ is_read w vs
 
--- for each write that is read, its new number, or the limit if the number is greater
-pub record AreNumbers (vs : List (Option ℕ)) (writes limit : ℕ) (numbers : List (Option ℕ))
-    : Type 0 where
-  pub count : length numbers ≡ writes
-  pub each : (w : ℕ) → w < writes →
-      slice_index_or numbers w None ≡ cond (is_read w vs) (Some (min (new_number vs w) limit)) None
+-- for each write that is read, its new number, or the limit if the number is greater; those behind
+-- the list are not read
+pub record AreNumbers (vs : List (Option ℕ)) (limit : ℕ) (numbers : List (Option ℕ)) : Type 0 where
+  pub each : (w : ℕ) → slice_index_or numbers w None
+      ≡ cond (is_read w vs) (Some (min (new_number vs w) limit)) None

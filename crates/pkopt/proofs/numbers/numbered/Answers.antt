@@ -1,7 +1,8 @@
 use Rattle.std.proofs.Common.{◌≡◌, ◌+◌, ◌∙◌, arith, rules, sym, ap, subst, true, false, length}
 use Rattle.std.proofs.Common.{None, set, Option, ℕ, replicate, get_or}
 use Rattle.std.proofs.lemmas.List.{length-set, length-replicate}
-use Rattle.pkopt.proofs.MemoWrites.WritesKept.{NumbersTo, number_on, none_on, none_numbered}
+use Rattle.pkopt.proofs.MemoWrites.WritesKept.{NumbersTo, all_numbered, number_on, none_on}
+use Rattle.pkopt.proofs.MemoWrites.WritesKept.{none_numbered}
 use Rattle.pkopt.proofs.numbers.numbered.Goals as goal
 
 pub loop-write-init : goal.loop-write-init
@@ -11,7 +12,7 @@ loop-write-init c =
     record {
       count = ap length all ∙ length-replicate {A = Option ℕ} (length c.args.kept.now) None;
       within = omega arith;
-      each = λ vs writes kept. subst (NumbersTo vs 0 c.args.limit 0) (sym all)
+      each = λ vs kept. subst (NumbersTo vs 0 c.args.limit 0) (sym all)
           (none_numbered vs (length c.args.kept.now) c.args.limit);
     }
 
@@ -26,13 +27,13 @@ loop-write-preserved c =
     record {
       count = length-set c.loop-write.numbers.items k c.in_ok-numbers-2.field-0 ∙ count;
       within = let next = c.number_after-next.ensures in omega (arith, next);
-      each = λ vs writes kept. subst
+      each = λ vs kept. subst
           (λ (x : Option ℕ). NumbersTo vs (k + 1) c.args.limit c.number_after-next.result
           (set c.loop-write.numbers.items k x)) (sym number)
           (number_on vs k (k + 1) c.args.limit c.loop-write.next c.loop-write.numbers.items
-          (omega arith) (i.each vs writes kept) c.number_after-next.result
+          (omega arith) (i.each vs kept) c.number_after-next.result
           (omega (arith, inside, count))
-          (sym (kept.each k (let e = kept.count in omega (arith, e, inside))) ∙ stays)
+          (sym (kept.each k) ∙ stays)
           c.number_after-next.ensures);
     }
 
@@ -45,19 +46,13 @@ loop-write-preserved-then-not-kept-write c =
     record {
       count = i.count;
       within = i.within;
-      each = λ vs writes kept. none_on vs k (k + 1) c.args.limit c.loop-write.next
-          c.loop-write.numbers.items (omega arith) (i.each vs writes kept)
-          (sym (kept.each k (let e = kept.count in omega (arith, e, inside))) ∙ none);
+      each = λ vs kept. none_on vs k (k + 1) c.args.limit c.loop-write.next
+          c.loop-write.numbers.items (omega arith) (i.each vs kept)
+          (sym (kept.each k) ∙ none);
     }
 
 pub returns : goal.returns
-returns c = λ vs writes k.
-    let i = c.loop-write.invariant in
-    let count = i.count in
+returns c = λ vs kept.
     let end = c.loop-write-test.false in
-    let le = c.loop-write.auto.write-end in
-    let e = k.count in
-    record {
-      count = omega (arith, count, e);
-      each = λ w lt. (i.each vs writes k).each w (omega (arith, lt, end, e));
-    }
+    all_numbered vs c.loop-write.write c.args.limit c.loop-write.next c.loop-write.numbers.items
+    c.args.kept.now (c.loop-write.invariant.each vs kept) kept (omega (arith, end))

@@ -7,6 +7,6 @@ abbrev pub invariant-loop-write : goal.invariant-loop-write
 invariant-loop-write l = record {
   count : length l.numbers.items ≡ length l.kept;
   within : l.next ≤ l.limit;
-  each : (vs : List (Option ℕ)) (writes : ℕ) → AreKept vs writes l.kept
+  each : (vs : List (Option ℕ)) → AreKept vs l.kept
       → NumbersTo vs l.write l.limit l.next l.numbers.items;
 }

@@ -11,7 +11,7 @@ returns-in-Some-clause-err c =
     let x = c.in_ok-taken.field-0 in
     let t = c.in_ok-taken.ensures.ok in
     let plan = c.in-Ok.plan in
-    let planned = c.in-Ok.ensures.plan (pickle t.checks) t.tracks.reads t.tracks.writes in
+    let planned = c.in-Ok.ensures.plan (pickle t.checks) t.tracks.reads in
     let past = ap (λ (l : List Part). first_past plan (places_behind 0 l) 0 0)
     (sym c.deref.ensures.value) ∙ c.in-Some.ensures.some
     ∙ ap (λ n. Some n) (sym c.too_large.ensures.at) in
@@ -23,7 +23,7 @@ returns-clause-ok c =
     let x = c.in_ok-taken.field-0 in
     let t = c.in_ok-taken.ensures.ok in
     let plan = c.in-Ok.plan in
-    let planned = c.in-Ok.ensures.plan (pickle t.checks) t.tracks.reads t.tracks.writes in
+    let planned = c.in-Ok.ensures.plan (pickle t.checks) t.tracks.reads in
     let none : first_past plan (places_behind 0 x.trace.parts.items) 0 0 ≡ None =
     elim c.in_default-past_limit.ensures.none [
       | inl few ↦ few_writes c.args.limits.now c.args.bytes.now x plan t planned few

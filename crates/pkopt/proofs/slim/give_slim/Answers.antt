@@ -2,10 +2,12 @@ use Rattle.std.proofs.Common.{arith, sym, ap, ◌∙◌, ◌+◌, ◌++◌, ℕ,
 use Rattle.pkops.specs.declared.Op.TheVariants as op
 use Rattle.pkopt.specs.declared.place.Part.{Part}
 use Rattle.pkopt.specs.declared.place.Place.{Place}
+use Rattle.pkopt.specs.declared.slim.Pass.{Pass}
+use Rattle.pkopt.specs.Private.Passes.{memo_use}
 use Rattle.pkopt.specs.Private.Places.{places_behind}
-use Rattle.pkopt.specs.Private.Produced.{emitted}
+use Rattle.pkopt.specs.Private.Produced.{emitted, fate_at}
 use Rattle.pkopt.proofs.MemoWrites.Parts.{ends_short, short_behind}
-use Rattle.pkopt.proofs.SlimForm.Steps.{from_least, produced_next, stepped}
+use Rattle.pkopt.proofs.SlimForm.Steps.{few_reads, few_writes, from_least, produced_next, stepped}
 use Rattle.pkopt.proofs.slim.give_slim.Goals as goal
 
 abbrev none : Part
@@ -27,8 +29,8 @@ overflow_add-end g c =
     let fits = c.ranges.taken.fits in
     omega (arith, short, fits)
 
-pub emit-requires-clause-high : goal.emit-requires-clause-high
-emit-requires-clause-high g c =
+pub give_by_opcode-requires-clause-high : goal.give_by_opcode-requires-clause-high
+give_by_opcode-requires-clause-high g c =
     let short =
     (short_behind (c.args.taken + 1) c.args.parts.now c.loop-part.end c.loop-part.part-index
     none c.place_behind-place.result c.from.result c.loop-part-test.true
@@ -41,10 +43,6 @@ pub loop-part-preserved : goal.loop-part-preserved
 loop-part-preserved g c =
     let writes = c.loop-part.invariant.few_writes in
     let reads = c.loop-part.invariant.few_reads in
-    let more_writes = c.fate-fate.ensures.few_writes in
-    let more_reads = c.fate-fate.ensures.few_reads in
-    let new_writes = c.emit.ensures.writes in
-    let new_reads = c.emit.ensures.reads in
     let x = c.place_behind-place.result in
     let pass = c.loop-part.pass in
     let so_far = c.loop-part.invariant.so_far in
@@ -54,13 +52,17 @@ loop-part-preserved g c =
     let later = places_behind (x.at + c.from.result)
     (drop (c.loop-part.part-index + 1) c.args.parts.now) in
     let size = c.from.ensures in
-    let same = c.fate-fate.ensures.from in
     let before = c.loop-part.invariant.behind in
     let at = ap (λ (y : Place). y.at) c.place_behind-place.ensures in
-    let least = from_least c.fate-fate.result x c.fate-fate.new.self.from
-    (omega (arith, same, before, at)) in
-    let now = c.in_ok-emit.ensures.from in
-    let piece = emitted c.fate-fate.result x c.args.bytes.now c.fate-fate.new.self.from in
+    let fate = fate_at c.args.plan.now x pass in
+    let least = from_least fate x pass.from (omega (arith, before, at)) in
+    let new = c.in_ok-give_by_opcode.ensures.pass in
+    let now = ap (λ (p : Pass). p.from) new in
+    let more_writes = few_writes (memo_use x.op) pass.writes in
+    let more_reads = few_reads (memo_use x.op) pass.reads in
+    let new_writes = ap (λ (p : Pass). p.writes) new in
+    let new_reads = ap (λ (p : Pass). p.reads) new in
+    let piece = emitted fate x c.args.bytes.now pass.from in
     record {
       few_writes = omega (arith, writes, more_writes, new_writes);
       few_reads = omega (arith, reads, more_reads, new_reads);
@@ -71,11 +73,8 @@ loop-part-preserved g c =
       behind = omega (arith, least, now, size);
       so_far = (
         so_far.0 ++ piece,
-        g.met.S.Sink.takes_more _ _ _ so_far.0 piece so_far.1 c.in_ok-emit.ensures.form,
-        stepped c.args.plan.now c.args.bytes.now c.args.taken x later pass c.fate-fate.new.self
-            c.emit.new.self c.fate-fate.result so_far.0 _
-            c.fate-fate.ensures.fate c.fate-fate.ensures.writes c.fate-fate.ensures.reads
-            c.fate-fate.ensures.from new_writes new_reads c.in_ok-emit.ensures.from
-            (ap (λ (l : List ℕ). so_far.0 ++ l) (sym next) ∙ so_far.2),
+        g.met.S.Sink.takes_more _ _ _ so_far.0 piece so_far.1 c.in_ok-give_by_opcode.ensures.form,
+        stepped c.args.plan.now c.args.bytes.now c.args.taken x later pass c.give_by_opcode.new.self
+            so_far.0 _ new (ap (λ (l : List ℕ). so_far.0 ++ l) (sym next) ∙ so_far.2),
       );
     }
