@@ -1,6 +1,6 @@
 -- What is written, piece by piece.
-use Rattle.std.proofs.Common.{◌≡◌, ℕ, ◌+◌, ◌<◌, ◌≤◌, List, [], ◌∷◌, ◌++◌, ◌∙◌, Some, refl, sym, ap}
-use Rattle.std.proofs.Common.{subst, take, drop, length, get_or, arith, add-one, append-nil}
+use Rattle.std.proofs.Common.{◌≡◌, ℕ, ◌+◌, ◌<◌, List, [], ◌∷◌, ◌++◌, ◌∙◌, Some, refl, sym, ap}
+use Rattle.std.proofs.Common.{subst, take, drop, length, get_or, add-one, append-nil}
 use Rattle.std.proofs.Common.{append_assoc, drop-cons, zero, suc}
 use Rattle.std.specs.List.{flat_map, slice_get}
 use Rattle.std.proofs.lemmas.Grind.{flat_map-append}
@@ -41,28 +41,12 @@ encoded_more done all xs ys h =
     append_assoc done (encoded_all xs) (encoded_all ys)
     ∙ ap (λ l. done ++ l) (sym (flat_map-append encoded xs ys)) ∙ h
 
--- none are left
-pub encoded_end : (done all : List ℕ) (left : List Asked) → left ≡ []
-    → done ++ encoded_all left ≡ all → done ≡ all
-encoded_end done all left none h = sym (append-nil done) ∙ (rw none at h)
-
 -- one value more of an array
 pub pairs_step :
     (m : List ℕ) (values : List Value) (i : ℕ) (d : Value) → i < length values
     → pairs_among m (items_view (drop i values)) ≡ pair_in m (view (get_or values i d))
     ++ pairs_among m (items_view (drop (i + 1) values))
 pairs_step m values i d inside = rw (add-one, drop-cons values i d) refl
-
--- no value more
-pub pairs_end : (m : List ℕ) (values : List Value) (i : ℕ) → length values ≤ i
-    → pairs_among m (items_view (drop i values)) ≡ []
-pairs_end m values i h = rw (drop_all i values h) refl
-  where
-    drop_all : (i : ℕ) (xs : List Value) → length xs ≤ i → drop i xs ≡ []
-    drop_all zero [] h = refl
-    drop_all (suc i) [] h = refl
-    drop_all zero (x ∷ xs) h = absurd (omega (arith, h))
-    drop_all (suc i) (x ∷ xs) h = drop_all i xs (omega (arith, h))
 
 pub each_step :
     (m : List ℕ) (values : List Value) (i : ℕ) (d x : Value) (done all : List ℕ)

@@ -1,7 +1,7 @@
 //! The length of a form, and its first two bytes.
 
-ghost use Rattle.std.specs.Prelude.{◌≡◌, ℕ, List};
-ghost use Rattle.pkopt.specs.Private.Sinks.{Measures, byte_in, counts_more, counts_none};
+ghost use Rattle.std.specs.Prelude.{◌≡◌};
+ghost use Rattle.pkopt.specs.Private.Sinks.{byte_in, counts_more, counts_none};
 ghost use Rattle.pkopt.specs.Private.Sinks.{Counts, unmeasured};
 
 use crate::sink::Sink;

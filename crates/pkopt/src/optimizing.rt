@@ -1,7 +1,7 @@
 //! Optimizes a pickle.
 
 ghost use Rattle.std.specs.Prelude.{◌≡◌, ◌<◌, ◌≤◌, ◌^◌, ◌⊎◌, IfErr, IfNone, IfOk, IfSome, OnOk};
-ghost use Rattle.std.specs.Prelude.{List, None, Some, [], length};
+ghost use Rattle.std.specs.Prelude.{List, None, Some, []};
 ghost use Rattle.pkops.specs.Spelling.{Instruction};
 ghost use Rattle.pkread.specs.declared.Reason.TheVariants as reason;
 ghost use Rattle.pkopt.specs.Answer.{IsNotOptimized, Optimizes, Checks, FailsCheck, TakesAsChecked};

@@ -1,6 +1,6 @@
 //! What takes the bytes of a form.
 
-ghost use Rattle.std.specs.Prelude.{◌≡◌, ◌≤◌, ◌++◌, ◌∷◌, [], List, OnOk, length, ℕ};
+ghost use Rattle.std.specs.Prelude.{◌≤◌, ◌++◌, ◌∷◌, [], List, OnOk, length, ℕ};
 ghost use Rattle.pkopt.specs.Private.Produced.{between};
 
 /// Takes the bytes of a form, one piece after another.
