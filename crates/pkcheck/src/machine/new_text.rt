@@ -11,6 +11,7 @@ ghost use Rattle.pkcheck.specs.Private.Spelled.{IsSpelled};
 ghost use Rattle.pkcheck.specs.Runs.{text};
 
 use crate::machine::ledger::Ledger;
+use crate::machine::old_text::is_ascii;
 use crate::machine::stack::Stack;
 use crate::machine::terms::Terms;
 use crate::machine::texts::text_spelled;
@@ -49,6 +50,40 @@ fn name_text(
 /// instruction into memory in every step.
 #[inline(never)]
 fn name_payload(
+    stack: &mut Stack,
+    ledger: &mut Ledger,
+    terms: &Terms,
+    op: Op,
+    payload: &[u8],
+) -> Result<(), Reason>
+    requires good { IsGood (instruction op (Counted payload.now)) }
+    requires sees { AreSeen (record { entries = stack.old; ledger = ledger.old }) }
+    ensures { HasPushedText terms.now.limits.stack (text (instruction op (Counted payload.now)))
+        (record { entries = stack.old; ledger = ledger.old })
+        (record { entries = stack.new; ledger = ledger.new }) result }
+{
+    if is_old_text(op, payload) {
+        return name_text(stack, ledger, &terms.limits, payload);
+    }
+    name_payload_slowly(stack, ledger, terms, op, payload)
+}
+
+/// Whether the payload is a Python 2 string and the text itself.
+#[inline]
+fn is_old_text(op: Op, payload: &[u8]) -> bool
+    ensures utf8 { result ≡ true → IsUtf8 payload.now }
+    ensures text { result ≡ true → text (instruction op (Counted payload.now)) ≡ payload.now }
+{
+    match op {
+        Op::BinString => is_ascii(payload),
+        Op::ShortBinString => is_ascii(payload),
+        _ => false,
+    }
+}
+
+/// `name_payload` for any payload.
+#[inline(never)]
+fn name_payload_slowly(
     stack: &mut Stack,
     ledger: &mut Ledger,
     terms: &Terms,

@@ -33,7 +33,11 @@ fn is_ascii_payload(alloc: Global, op: Op, payload: &[u8]) -> Result<bool, Alloc
     ensures { IfOk result (λ answer. answer
         ≡ list_all is_ascii (unwrap_or (old_bytes (instruction op (Counted payload.now))) [])) }
 {
-    has_ascii(alloc, &Inst::known(op, Arg::Counted(payload)))
+    match op {
+        Op::BinString => Ok(is_ascii(payload)),
+        Op::ShortBinString => Ok(is_ascii(payload)),
+        _ => has_ascii(alloc, &Inst::known(op, Arg::Counted(payload))),
+    }
 }
 
 /// Like `has_ascii`, for an opcode and its line. See `is_ascii_payload`.
@@ -57,7 +61,8 @@ fn has_ascii(alloc: Global, inst: &Inst<'_>) -> Result<bool, AllocError>
     }
 }
 
-fn is_ascii(bytes: &[u8]) -> bool
+/// Whether all bytes are ASCII.
+pub fn is_ascii(bytes: &[u8]) -> bool
     ensures { result ≡ list_all is_ascii bytes.now }
 {
     bytes.iter().all(|byte| byte.is_ascii())

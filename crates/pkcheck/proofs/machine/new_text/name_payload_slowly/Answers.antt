@@ -1,5 +1,5 @@
 use Rattle.std.proofs.lemmas.Str.{IsUtf8-string_bytes}
-use Rattle.pkcheck.proofs.machine.new_text.name_payload.Goals as goal
+use Rattle.pkcheck.proofs.machine.new_text.name_payload_slowly.Goals as goal
 
 pub name_text-requires-clause-utf8 : goal.name_text-requires-clause-utf8
 name_text-requires-clause-utf8 c =
