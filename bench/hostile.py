@@ -1,8 +1,9 @@
 #!/usr/bin/env python3
 """Checks files that are designed to cost time or memory. The status is 1 if one costs too much.
 
-The time per byte excludes the list and the program's start. It may be at most five times that of a
-byte of plain data. The peak memory may be at most 96 MB plus three times the size of the file, or
+The time per byte excludes the list and the program's start. The target is five times that of a byte
+of plain data, the bound eight times: how many it is depends on how slow a machine's memory is
+beside its processor. The peak memory may be at most 96 MB plus three times the size of the file, or
 64 times under the limits for large data, because a stack or memo entry takes more than the byte
 that creates it.
 """
@@ -16,7 +17,7 @@ import hostile_shapes
 import program
 import shapes
 
-TIMES = 5
+TARGET, BOUND = 5, 8
 TRIES = 3
 BASE = 96 * 10**6
 PER_BYTE = 3
@@ -72,7 +73,7 @@ def judged(
     bench: Bench, name: str, hostile: hostile_shapes.Hostile, megabytes: int, per_byte: int
 ) -> bool:
     """Prints the line of a shape, and returns whether it keeps both bounds. Plain data is checked
-    right before it, because the speed of a shared machine changes. If the shape seems too slow,
+    right before it, because the speed of a shared machine changes. If the shape misses the target,
     both are measured again.
     """
     make = functools.partial(hostile.make, megabytes)
@@ -80,14 +81,15 @@ def judged(
         plain = bench.plain().took
         cost = bench.run(hostile.allow, make)
         times = cost.took / plain
-        if times <= TIMES:
+        if times <= TARGET:
             break
     bound = BASE + per_byte * cost.size
-    faults = ["TOO SLOW"] * (times > TIMES) + ["TOO LARGE"] * (cost.peak > bound)
+    faults = ["TOO SLOW"] * (times > BOUND) + ["TOO LARGE"] * (cost.peak > bound)
+    remarks = faults or ["above the target"] * (times > TARGET)
     print(
         f"{name:40} {cost.size / 1e6:6.1f} MB {cost.took:7.2f} ns a byte, "
         f"{times:5.2f} times plain data, {cost.peak / 1e6:6.1f} of {bound / 1e6:.0f} MB  "
-        f"{shortened(cost.line)} {', '.join(faults)}",
+        f"{shortened(cost.line)} {', '.join(remarks)}",
         flush=True,
     )
     return not faults
