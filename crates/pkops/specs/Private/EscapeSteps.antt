@@ -1,5 +1,5 @@
--- How the code reads text with escapes, byte by byte; `proofs/EscapesRead.antt` proves that it
--- reads exactly what `Escapes` says.
+-- How the code reads text with escapes, byte by byte; `proofs/ContentsRules/EscapesRead.antt`
+-- proves that it reads exactly what `Escapes` says.
 use Rattle.std.specs.Prelude.{ℕ, ◌+◌, ◌-◌, ◌*◌, ◌<◌, Bool, ◌&&◌, ◌||◌, ◌==◌, nat_lt}
 use Rattle.std.specs.Prelude.{if◌then◌else◌, Option, Some, None, ⊤}
 use Rattle.std.specs.Char.{is_ascii_hexdigit, digit_value}

@@ -1,5 +1,5 @@
 -- How the code reads an argument from left to right, and which fault it reports first;
--- `proofs/Arguments.antt` proves that it reads each layout as `Scans` says.
+-- `proofs/ExactReaders/Arguments.antt` proves that it reads each layout as `Scans` says.
 use Rattle.std.specs.Prelude.{◌≡◌, ℕ, ◌+◌, List, length, take, drop, Bool, Option, Some, None}
 use Rattle.std.specs.Prelude.{Result, Ok, Err, nat_lt, nat_le, position, ◌==◌, if◌then◌else◌}
 use Rattle.std.specs.Int.{w32, cast_signed}

@@ -1,5 +1,5 @@
--- How the code reads a string in quotes, byte by byte; `proofs/OldStrings.antt` proves that it
--- reads exactly what `OldStrings` says.
+-- How the code reads a string in quotes, byte by byte; `proofs/ContentsRules/OldStrings.antt`
+-- proves that it reads exactly what `OldStrings` says.
 use Rattle.std.specs.Prelude.{ℕ, ◌+◌, ◌*◌, ◌<◌, ◌&&◌, ◌==◌, nat_le, if◌then◌else◌, Option, Some}
 use Rattle.std.specs.Prelude.{None, ⊤}
 use Rattle.std.specs.Char.{is_ascii_hexdigit, digit_value}
