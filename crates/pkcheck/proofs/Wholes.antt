@@ -11,6 +11,8 @@ pub mod Given
 pub mod Payloads
 pub mod Refusals
 pub mod Checked
+pub mod InTurn
+pub mod LentInstructions
 pub mod HeardInstructions
 pub mod AnotherPickle
 pub mod WorkLeft

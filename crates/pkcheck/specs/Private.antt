@@ -8,6 +8,7 @@ pub mod Denials
 pub mod Spelled
 pub mod Actions
 pub mod Judgement
+pub mod Lent
 pub mod ListIndex
 pub mod NewTexts
 pub mod NextPickle

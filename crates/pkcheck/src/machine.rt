@@ -212,6 +212,14 @@ impl Machine {
         }
     }
 
+    /// The limits of the check.
+    #[inline(always)]
+    pub(crate) fn limits(&self) -> &Limits
+        ensures { result.now ≡ self.now.limits }
+    {
+        &self.terms.limits
+    }
+
     /// The number of open marks, which is the same in every run.
     pub fn marks(&self) -> usize
         ensures known { result ≡ marks_of self.now.knowledge.entries }

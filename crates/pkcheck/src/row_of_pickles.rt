@@ -88,15 +88,8 @@ pub fn check_all<R: Source>(
     let mut session = Session::new(alloc, limits, loading.old_strings);
     let mut row = Row::new(alloc, loading.memo);
     'instructions: loop {
-        if let Some(inst) = reader.peek() {
-            let length = inst.len() as usize;
-            if let Err(reason) = session.judge_lent(&inst, policy) {
-                let at = reader.taken();
-                reader.advance(length);
-                return Err(row.refused(&mut session, at, reason));
-            }
-            reader.advance(length);
-            continue;
+        if let Err(refusal) = session.judge_at_hand(&mut reader, policy) {
+            return Err(row.refused(&mut session, refusal.at, refusal.reason));
         }
         match reader.next_head() {
             Err(refusal) => return Err(row.refused(&mut session, refusal.at, refusal.reason)),

@@ -1,21 +1,23 @@
 //! The frames and the machine of one check, which judge one instruction at a time.
 
-ghost use Rattle.std.specs.Prelude.{◌≡◌, ◌<◌, IfOk, IfErr, IsTrue, None, OnErr, OnOk, false};
+ghost use Rattle.std.specs.Prelude.{◌≡◌, ◌<◌, ℕ, IfOk, IfErr, IsTrue, None, OnErr, OnOk, false};
 ghost use Rattle.pkops.specs.Admitted.{is_admitted};
 ghost use Rattle.pkops.specs.Inst.{instruction_of};
 ghost use Rattle.pkops.specs.Payloads.{is_passed};
 ghost use Rattle.pkops.specs.Spelling.{Instruction};
 ghost use Rattle.pkread.specs.Framing.{other};
 ghost use Rattle.pkread.specs.Pieces.{number_of, role_of};
+ghost use Rattle.pkread.specs.ReaderCalls.{KeepsSource, TakesNoneAhead, has_ended, state};
 ghost use Rattle.pkcheck.specs.Covers.{Covers};
 ghost use Rattle.pkcheck.specs.Import.{policy_of};
-ghost use Rattle.pkcheck.specs.Private.Judgement.{HasLength, IsNoAt, BothGoOn, IsRefused};
+ghost use Rattle.pkcheck.specs.Private.Judgement.{BothGoOn, HasLength, IsNoAt, IsRefused};
+ghost use Rattle.pkcheck.specs.Private.Lent.{GoesAlong, PassInTurn, RefusesLent, TurnsDown};
 ghost use Rattle.pkcheck.specs.Private.NextPickle.{moved_apart, restarted};
 ghost use Rattle.pkcheck.specs.Runs.{State};
 ghost use Rattle.pkcheck.specs.Shape.{marks_of};
 ghost use Rattle.pkcheck.specs.View.{fresh};
 
-use crate::checking::No;
+use crate::checking::{No, Yes};
 use crate::imports::Imports;
 use crate::loading::Memo;
 use crate::machine::Machine;
@@ -23,9 +25,19 @@ use crate::machine::ledger::Ledger;
 use crate::old_strings::OldStrings;
 use crate::policy::Policy;
 use pkops::{Inst, Limits, Op};
-use pkread::{Frames, Reason, frame_argument};
+use pkread::{Frames, Reader, Reason, Refusal, Source, frame_argument, lend};
 use std::alloc::{AllocError, Global};
 use std::marker::Model;
+
+/// The first instruction that a session refuses among some bytes.
+#[derive(Clone, Copy, Debug, Drop)]
+pub(crate) struct Turned {
+    /// The number of bytes in front of it.
+    pub before: usize,
+    /// The number of its bytes.
+    pub length: usize,
+    pub reason: Reason,
+}
 
 /// The frame rules and the machine of a check. If the frame rules refuse an instruction, the
 /// machine stays unchanged.
@@ -63,6 +75,73 @@ impl Session {
         }
     }
 
+    /// Judges instructions that are at hand, and takes the bytes of those accepted and of the first
+    /// one refused.
+    #[inline(always)]
+    pub fn judge_at_hand<R: Source>(
+        &mut self,
+        reader: &mut Reader<'_, R>,
+        policy: &Policy<'_>,
+    ) -> Result<(), Refusal>
+        requires ends { self.old.machine.stopped ≡ has_ended (state R.left R.failures reader.old) }
+        requires well { self.old.machine.refused ≡ None }
+        ensures source { KeepsSource reader.old reader.new }
+        ensures ok { OnOk result (GoesAlong (policy_of policy.now)
+            (state R.left R.failures reader.old) (state R.left R.failures reader.new) self.old
+            self.new) }
+        ensures none { OnErr result (TakesNoneAhead reader.new) }
+        ensures err { IfErr result (RefusesLent (policy_of policy.now)
+            (state R.left R.failures reader.old) (state R.left R.failures reader.new) self.old
+            self.new.machine) }
+    {
+        let Some(bytes) = reader.at_hand() else {
+            return Ok(());
+        };
+        match self.judge_all_lent(bytes, policy) {
+            Ok(count) => {
+                reader.advance(count);
+                return Ok(());
+            }
+            Err(turned) => {
+                let at = reader.taken() + turned.before as u64;
+                reader.advance(turned.before + turned.length);
+                return Err(Refusal {
+                    at,
+                    reason: turned.reason,
+                });
+            }
+        }
+    }
+
+    /// Judges the instructions at the front of some bytes, as far as they can be lent and lie in the
+    /// open frame. Returns the number of their bytes.
+    #[inline(always)]
+    fn judge_all_lent(&mut self, bytes: &[u8], policy: &Policy<'_>) -> Result<usize, Turned>
+        requires running { self.old.machine.stopped ≡ false }
+        requires well { self.old.machine.refused ≡ None }
+        ensures ok { IfOk result (λ count. (n : ℕ) × PassInTurn (policy_of policy.now) bytes.now
+            self.old n self.new count) }
+        ensures err { IfErr result (TurnsDown (policy_of policy.now) bytes.now self.old
+            self.new.machine) }
+    {
+        let inside = self.frames.inside(bytes);
+        let mut rest = inside;
+        'instructions: while let Some(inst) = lend(rest, self.machine.limits()) {
+            let length = inst.len() as usize;
+            if let Err(reason) = self.machine.step_on(&inst, policy) {
+                return Err(Turned {
+                    before: inside.len() - rest.len(),
+                    length,
+                    reason,
+                });
+            }
+            rest = &rest[length..];
+        }
+        let count = inside.len() - rest.len();
+        self.frames.take_inside(count);
+        Ok(count)
+    }
+
     /// Judges a lent instruction, first by the frame rules and then by the machine.
     #[inline(always)]
     pub fn judge_lent(&mut self, inst: &Inst<'_>, policy: &Policy<'_>) -> Result<(), Reason>
@@ -81,7 +160,7 @@ impl Session {
         Ok(())
     }
 
-    /// Judges an instruction that a loop seldom meets: any one that `peek` does not lend.
+    /// Judges an instruction that a loop seldom meets: any one that is not lent.
     #[inline(never)]
     pub fn judge(&mut self, inst: &Inst<'_>, policy: &Policy<'_>) -> Result<(), Reason>
         requires admitted { IsTrue (is_admitted (instruction_of inst.now)) }
@@ -150,6 +229,17 @@ impl Session {
             at,
             reason,
             pair: self.machine.take_off_list(),
+        }
+    }
+
+    /// The acceptance of a pickle of so many bytes. This ends the session. See `refuse`.
+    pub fn accept(&mut self, taken: u64) -> Yes
+        ensures taken { result.taken ≡ taken }
+        ensures imports { result.imports ≡ self.old.machine.imports }
+    {
+        Yes {
+            taken,
+            imports: self.take_imports(),
         }
     }
 

@@ -8,7 +8,6 @@ pub mod Starts
 pub mod Texts
 pub mod Plain
 pub mod Skipped
-pub mod Lengths
 pub mod Front
 pub mod FrontLines
 pub mod FrequentLines

@@ -3,4 +3,4 @@ pub mod Next
 pub mod NextHead
 pub mod Again
 pub mod WalkNext
-pub mod Peek
+pub mod AtHand

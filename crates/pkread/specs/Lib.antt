@@ -7,7 +7,7 @@ pub mod Held
 pub mod Core
 pub mod ReaderCalls
 pub mod Heads
-pub mod Peek
+pub mod AtHand
 pub mod Again
 pub mod Sequence
 pub mod Sequences

@@ -23,10 +23,6 @@ abbrev pub BeginsWith : Option (List ℕ) → List ℕ → Type 0
 BeginsWith None shown = ⊤
 BeginsWith (Some left) shown = (rest : List ℕ) × (left ≡ shown ++ rest)
 
--- so many of the bytes left were taken
-abbrev pub TakesCount : ℕ → Option (List ℕ) → Option (List ℕ) → Type 0
-TakesCount count old new = (run : List ℕ) × (length run ≡ count) × Consumes old new run
-
 -- the bytes left in a source over memory
 abbrev pub memory_left : Memory → List ℕ
 memory_left m = m.rest.now

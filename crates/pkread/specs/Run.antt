@@ -1,5 +1,5 @@
 -- What a loop over a reader's calls knows: the instructions returned so far.
-use Rattle.std.specs.Prelude.{◌≡◌, ℕ, ◌+◌, List, [], ◌∷◌, ◌++◌, All, length, Result, Ok, Err}
+use Rattle.std.specs.Prelude.{◌≡◌, ℕ, ◌+◌, List, [], ◌∷◌, ◌++◌, All, drop, length, Result, Ok, Err}
 use Rattle.pkops.specs.Inst.{instruction_of}
 use Rattle.pkops.specs.Limits.{Bounds}
 use Rattle.pkops.specs.Payloads.{payload_limit}
@@ -9,7 +9,7 @@ use Rattle.pkops.specs.declared.Op.{Op}
 use Rattle.pkread.specs.Admission.{IsAllowedBy}
 use Rattle.pkread.specs.Core.{Phase, Open, Ended, Refused}
 use Rattle.pkread.specs.Heads.{IsSkipped, Skips, RefusesHead, StepsHead}
-use Rattle.pkread.specs.Peek.{IsNext, PassesOver}
+use Rattle.pkread.specs.AtHand.{AreNext, IsLent, beyond}
 use Rattle.pkread.specs.ReaderCalls.{Gives, RefusesAt, ReaderState, Steps, begun}
 use Rattle.pkread.specs.Rows.{Sight, Takes}
 use Rattle.pkread.specs.Sequence.{IsSequence, NoStop, StopIsLast, spellings}
@@ -92,13 +92,22 @@ PassedIsRead =
     × (new.taken ≡ old.taken + length (spelling (instruction op (Counted payload))))
     × Skips old at op count new
 
--- an instruction that `peek` shows and `advance` takes follows the earlier ones
-abbrev pub PeekedIsRead : Type 0
-PeekedIsRead =
-    (start : Sight) (from : ℕ) (limit : Op → ℕ) (p : List Instruction) (old new : ReaderState)
-    (count : ℕ) (i : Instruction) →
-    PassesTo old limit → Reads start from limit p old → IsNext old count i →
-    PassesOver old i new → ReadsMore start from limit p i new
+-- an instruction lent from the bytes at hand follows the earlier ones once its bytes are taken, and
+-- the bytes behind it are the next ones then
+abbrev pub LentIsRead : Type 0
+LentIsRead =
+    (start : Sight) (from : ℕ) (limit : Op → ℕ) (p : List Instruction) (s : ReaderState)
+    (bytes : List ℕ) (i : Instruction) →
+    PassesTo s limit → Reads start from limit p s → AreNext s bytes → IsLent s.limits bytes i →
+    let t : ReaderState = beyond (length (spelling i)) s in
+    ReadsMore start from limit p i t × Takes s.source t.source (spelling i)
+    × AreNext t (drop (length (spelling i)) bytes)
+
+-- taking bytes twice is taking them at once
+abbrev pub TakingTwice : Type 0
+TakingTwice =
+    (first second : ℕ) (s : ReaderState) →
+    beyond (first + second) s ≡ beyond second (beyond first s)
 
 -- when a call reports the end, the instructions are a complete sequence, and nothing changed
 abbrev pub EndIsRead : Type 0

@@ -115,16 +115,6 @@ impl Buffer {
         self.peak = self.held;
     }
 
-    /// Updates the peak for `count` bytes that are lent from where they lie, as if they were held.
-    #[inline(always)]
-    pub(crate) fn count_lent(&mut self, count: usize)
-        ensures { self.new ≡ record self.old { peak = max self.old.peak count } }
-    {
-        if count > self.peak {
-            self.peak = count;
-        }
-    }
-
     /// Reads one byte and appends it. The byte passes through an array of one, because the compiler
     /// turns a copy of known length to a known place into a move.
     #[inline]

@@ -1,6 +1,6 @@
 //! The frame rules of PEP 3154, decided from the number of bytes left in the open frame.
 
-ghost use Rattle.std.specs.Prelude.{◌≡◌, ◌<◌, ℕ};
+ghost use Rattle.std.specs.Prelude.{◌≡◌, ◌≢◌, ◌-◌, ◌<◌, ℕ, take};
 ghost use Rattle.pkops.specs.Inst.{instruction_of};
 ghost use Rattle.pkread.specs.Framing.{TakesPiece, other};
 ghost use Rattle.pkread.specs.Pieces.{number_of, role_of};
@@ -78,6 +78,27 @@ impl Frames {
         }
         self.open -= length;
         Ok(())
+    }
+
+    /// As many of these bytes as lie in the open frame, or all of them outside any frame.
+    #[inline(always)]
+    pub fn inside<'a>(&self, bytes: &'a [u8]) -> &'a [u8]
+        ensures outside { self.now ≡ 0 → result.now ≡ bytes.now }
+        ensures inside { self.now ≢ 0 → result.now ≡ take self.now bytes.now }
+    {
+        if self.open == 0 || self.open >= bytes.len() as u64 {
+            return bytes;
+        }
+        &bytes[..self.open as usize]
+    }
+
+    /// Takes instructions at once, which are neither FRAME nor STOP and have `count` bytes in all.
+    /// If a frame is open, they lie in it.
+    #[inline(always)]
+    pub fn take_inside(&mut self, count: usize)
+        ensures { self.new ≡ self.old - count }
+    {
+        self.open = self.open.saturating_sub(count as u64);
     }
 }
 

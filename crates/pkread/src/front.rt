@@ -3,6 +3,7 @@
 ghost use Rattle.std.specs.Prelude.{◌≡◌, ◌≢◌, ◌<◌, ◌≤◌, ◌⊎◌, ◌+◌, ◌∷◌, ◌++◌, ◌==◌, ℕ, IfSome};
 ghost use Rattle.std.specs.Prelude.{List, false, length, position, slice_index, true};
 ghost use Rattle.std.specs.Str.{IsUtf8};
+ghost use Rattle.pkops.specs.Inst.{instruction_of};
 ghost use Rattle.pkops.specs.Limits.{Bounds};
 ghost use Rattle.pkops.specs.KnownLayout.{Lies};
 ghost use Rattle.pkops.specs.Payloads.{payload_limit};
@@ -11,13 +12,16 @@ ghost use Rattle.pkops.specs.declared.Layout.TheVariants as layout;
 ghost use Rattle.pkops.specs.Table.{code_of};
 ghost use Rattle.pkops.specs.declared.Op.{Op as SpecOp};
 ghost use Rattle.pkops.specs.declared.Op.TheVariants as op;
+ghost use Rattle.pkread.specs.AtHand.{IsLent};
 ghost use Rattle.pkread.specs.Private.Arms.{HasFixedLength, IsFront, IsInFront};
 ghost use Rattle.pkread.specs.Private.Judgement.{is_plain};
 
 use crate::admission::{is_good, is_plain};
 use crate::frequent_lines::frequent_line_length;
 use pkops::laws::{growth, one_code};
-use pkops::{Arg, Layout, Limits, Op, Width, count_behind, is_utf8, layout_of_op, op_of_byte};
+use pkops::{
+    Arg, Inst, Layout, Limits, Op, Width, count_behind, is_utf8, layout_of_op, op_of_byte,
+};
 
 /// The code of SHORT_BINUNICODE.
 const SHORT_TEXT: u8 = 0x8c;
@@ -34,16 +38,13 @@ const HIGHEST_PROTOCOL: u8 = 5;
 /// The most bytes that are searched for the ends of lines.
 const LINES: usize = 257;
 
-/// The most bytes that a buffer may hold whatever the limits.
-const MOST: usize = 131_075;
-
 /// An instruction at the front of some bytes. `split` is the length of the first of two lines,
 /// otherwise 0.
 #[derive(Clone, Copy, Debug)]
-pub(crate) struct Front {
-    pub(crate) op: Op,
-    pub(crate) split: usize,
-    pub(crate) length: usize,
+struct Front {
+    op: Op,
+    split: usize,
+    length: usize,
 }
 
 /// An opcode and the number of bytes of its instructions. The length is 0 if they vary in length,
@@ -125,11 +126,22 @@ fn start_of(code: u8) -> Start
     STARTS[usize::from(code)]
 }
 
-/// The instruction that the bytes begin with, if they hold all of it, its payload is within the
-/// limit of its opcode, it is not longer than a buffer may hold, and its lines end in the first 257
-/// bytes. Never STOP, which ends a pickle, nor FRAME.
+/// The instruction that the bytes begin with, lent from where it lies, if they hold all of it, its
+/// payload is within the limit of its opcode, and its lines end in the first 257 bytes. Never STOP,
+/// which ends a pickle, nor FRAME. `None` says nothing about the bytes.
 #[inline(always)]
-pub(crate) fn front_of(bytes: &[u8], limits: &Limits) -> Option<Front>
+pub fn lend<'a>(bytes: &'a [u8], limits: &Limits) -> Option<Inst<'a>>
+    ensures { IfSome result (λ inst. IsLent limits.now bytes.now (instruction_of inst)) }
+{
+    let Some(front) = front_of(bytes, limits) else {
+        return None;
+    };
+    Some(Inst::spelled(front.op, front.split, &bytes[..front.length]))
+}
+
+/// The instruction that `lend` lends.
+#[inline(always)]
+fn front_of(bytes: &[u8], limits: &Limits) -> Option<Front>
     ensures { IfSome result (λ front. IsFront limits.now front.op front.split front.length
         bytes.now) }
 {
@@ -260,7 +272,7 @@ fn limit_of(op: Op, limits: &Limits) -> u64
 }
 
 /// The number of bytes of the instruction with a payload that the bytes begin with, or 0 if they
-/// don't hold all of it, or it is not good or too long.
+/// don't hold all of it, it is not good, or its payload is above the limit.
 #[inline(always)]
 fn counted_length(op: Op, width: Width, bytes: &[u8], limits: &Limits) -> usize
     requires some { 0 < length bytes.now }
@@ -278,18 +290,10 @@ fn counted_length(op: Op, width: Width, bytes: &[u8], limits: &Limits) -> usize
         return 0;
     }
     let length = head + count as usize;
-    if !fits_buffer(length, count, limits) || !takes_payload(op, &bytes[head..length]) {
+    if !takes_payload(op, &bytes[head..length]) {
         return 0;
     }
     length
-}
-
-/// Whether a buffer may hold an instruction of this length with a payload of `count` bytes.
-#[inline(always)]
-fn fits_buffer(length: usize, count: u64, limits: &Limits) -> bool
-    ensures { result ≡ true → (count ≤ limits.now.counted) ⊎ (length ≤ 131_075) }
-{
-    length <= MOST || count <= limits.counted()
 }
 
 /// The number of bytes in front of a payload: the code and the count.

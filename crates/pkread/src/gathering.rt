@@ -153,12 +153,8 @@ impl Gathering {
     #[inline(always)]
     pub(crate) fn count_lent(&mut self, count: usize)
         requires { self.old.taken + count ≤ all_bytes }
-        ensures { self.new ≡ record self.old {
-          buffer = record self.old.buffer { peak = max self.old.buffer.peak count };
-          taken = self.old.taken + count;
-        } }
+        ensures { self.new ≡ record self.old { taken = self.old.taken + count } }
     {
-        self.buffer.count_lent(count);
         self.room -= count as u64;
     }
 

@@ -3,9 +3,9 @@
 ghost use Rattle.pkread.specs.Again.{NoByteIsRefused};
 ghost use Rattle.pkread.specs.Framing.{CountingIsExact};
 ghost use Rattle.pkread.specs.Pieces.{FramesBreak, FramesGoOn, FramesHold};
-ghost use Rattle.pkread.specs.Run.{EndIsRead, EndOfHeads, HeadIsRead, NextIsRead, PassedIsRead};
-ghost use Rattle.pkread.specs.Run.{PeekedIsRead, ReadingBegins, ReadingGoesOn, RefusalIsRead};
-ghost use Rattle.pkread.specs.Run.{RefusalOfHeads};
+ghost use Rattle.pkread.specs.Run.{EndIsRead, EndOfHeads, HeadIsRead, LentIsRead, NextIsRead};
+ghost use Rattle.pkread.specs.Run.{PassedIsRead, ReadingBegins, ReadingGoesOn, RefusalIsRead};
+ghost use Rattle.pkread.specs.Run.{RefusalOfHeads, TakingTwice};
 ghost use Rattle.pkread.specs.Rows.{TakingLaws};
 ghost use Rattle.pkread.specs.Sequences.{OneFront, OneSequence, SequenceGoesOn};
 ghost use Rattle.pkread.specs.Walked.{EndIsWalked, ItemIsWalked, RefusalIsWalked, WalkBegins};
@@ -25,7 +25,8 @@ pub fn framed()
 pub fn nexts()
     ensures begins { ReadingBegins }
     ensures given { NextIsRead }
-    ensures peeked { PeekedIsRead }
+    ensures lent { LentIsRead }
+    ensures twice { TakingTwice }
     ensures ended { EndIsRead }
     ensures refused { RefusalIsRead }
 {}
@@ -35,7 +36,8 @@ pub fn nexts()
 pub fn heads()
     ensures begins { ReadingBegins }
     ensures given { HeadIsRead }
-    ensures peeked { PeekedIsRead }
+    ensures lent { LentIsRead }
+    ensures twice { TakingTwice }
     ensures passed { PassedIsRead }
     ensures ended { EndOfHeads }
     ensures refused { RefusalOfHeads }

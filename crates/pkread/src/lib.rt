@@ -29,6 +29,7 @@ mod state;
 mod walk;
 
 pub use frames::{BrokenFrame, Frames, frame_argument};
+pub use front::lend;
 pub use reader::{Head, Next, Reader};
 pub use refusal::{Reason, Refusal};
 pub use slice::genops;

@@ -1,14 +1,11 @@
 //! The instructions of a source, one at a time.
 
-ghost use Rattle.std.specs.Prelude.{◌≡◌, ◌≤◌, [], IfSome, length, true};
+ghost use Rattle.std.specs.Prelude.{◌≡◌, ◌+◌, ◌≤◌, [], IfSome, length, true};
 ghost use Rattle.std.specs.Borrow.{sem};
 ghost use Rattle.pkread.specs.ReaderCalls.{source_name, source_of};
-ghost use Rattle.pkops.specs.Inst.{instruction_of};
 ghost use Rattle.pkops.specs.Scans.{longest};
-ghost use Rattle.pkops.specs.Spelling.{Instruction, spelling};
-ghost use Rattle.pkread.specs.Rows.{sight};
+ghost use Rattle.pkread.specs.Rows.{all_bytes, sight};
 
-use crate::front::front_of;
 use crate::heads::Gathered;
 use crate::refusal::Refusal;
 use crate::source::Source;
@@ -83,7 +80,7 @@ impl<'r, R: Source> Reader<'r, R> {
     ghost use Rattle.pkread.specs.contracts.state.Core.{the_row as core_row};
     ghost use Rattle.pkread.specs.Again.{StepsAgain, TakesOneAhead};
     ghost use Rattle.pkread.specs.Heads.{ShowsAHead, StepsHead};
-    ghost use Rattle.pkread.specs.Peek.{IsNext, PassesOver};
+    ghost use Rattle.pkread.specs.AtHand.{AreNext, beyond};
     ghost use Rattle.pkread.specs.ReaderCalls.{KeepsSource, LeavesSource, Shows, Steps};
     ghost use Rattle.pkread.specs.ReaderCalls.{TakesNoneAhead};
     ghost use Rattle.pkread.specs.ReaderCalls.{begun, has_ended, source_of, state};
@@ -180,42 +177,39 @@ impl<'r, R: Source> Reader<'r, R> {
         }
     }
 
-    /// The next instruction, lent from where it lies in memory, if the source has all of it at
-    /// hand. The limit on its payload is that of `next_head`. It is neither STOP nor FRAME, it has
-    /// at most 131,075 bytes, and a line of it at most 255. Nothing is taken: call `advance` with
-    /// its length, or a call that returns every instruction. `None` says nothing about the source.
+    /// The next bytes of the source, as far as they are at hand and can be taken. [`lend`] finds the
+    /// instruction that they begin with. Nothing is taken: call `advance` with the length of the
+    /// instructions that were used, or a call that returns every instruction. `None` after STOP,
+    /// after a refusal, and where an instruction has begun.
+    ///
+    /// [`lend`]: crate::lend
     #[inline(always)]
-    pub fn peek(&self) -> Option<Inst<'_>>
-        ensures next { IfSome result (λ inst. IsNext (state R.left R.failures self.now)
-            (R.at_hand (source_of self.now)) (instruction_of inst)) }
+    pub fn at_hand(&self) -> Option<&[u8]>
+        ensures next { IfSome result (λ bytes. AreNext (state R.left R.failures self.now)
+            bytes.now) }
+        ensures within { IfSome result (λ bytes. length bytes.now
+            ≤ R.at_hand (source_of self.now)) }
         ensures none { IfSome result (λ _. TakesNoneAhead self.now) }
     {
         if !self.core.is_open() {
             return None;
         }
         let bytes = self.source.ahead();
-        let Some(front) = front_of(bytes, self.core.limits()) else {
-            return None;
-        };
-        if !self.core.has_room(front.length) {
-            return None;
-        }
-        Some(Inst::spelled(front.op, front.split, &bytes[..front.length]))
+        let count = bytes.len().min(self.core.room() as usize);
+        Some(&bytes[..count])
     }
 
-    /// Takes the instruction that `peek` returned, which has `count` bytes. Its source is then as
-    /// after `next` or `next_head`.
+    /// Takes `count` of the bytes that `at_hand` returned: those of whole instructions. The source
+    /// is then as after calls of `next` or `next_head`.
     #[inline(always)]
     pub fn advance(&mut self, count: usize)
-        requires next { (i : Instruction) × IsNext (state R.left R.failures self.old)
-            (R.at_hand (source_of self.old)) i × (count ≡ length (spelling i)) }
+        requires within { count ≤ R.at_hand (source_of self.old) }
+        requires room { (state R.left R.failures self.old).taken + count ≤ all_bytes }
         requires none { TakesNoneAhead self.old }
         ensures source { KeepsSource self.old self.new }
         ensures none { TakesNoneAhead self.new }
-        ensures passes { (i : Instruction) → IsNext (state R.left R.failures self.old)
-            (R.at_hand (source_of self.old)) i → count ≡ length (spelling i)
-            → PassesOver (state R.left R.failures self.old) i
-            (state R.left R.failures self.new) }
+        ensures after { state R.left R.failures self.new
+            ≡ beyond count (state R.left R.failures self.old) }
     {
         self.source.advance(count);
         self.core.count_lent(count);

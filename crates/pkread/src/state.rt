@@ -128,13 +128,6 @@ impl Core {
         self.gathering.most()
     }
 
-    #[inline(always)]
-    pub(crate) fn limits(&self) -> &Limits
-        ensures { result.now ≡ self.now.limits }
-    {
-        self.gathering.limits()
-    }
-
     /// Whether an instruction is read next, and none of it was read ahead.
     #[inline(always)]
     pub(crate) fn is_open(&self) -> bool
@@ -144,25 +137,20 @@ impl Core {
         matches!(self.stage, Stage::Open)
     }
 
-    /// Whether `count` more bytes can be taken.
+    /// The number of bytes that can still be taken.
     #[inline(always)]
-    pub(crate) fn has_room(&self, count: usize) -> bool
-        ensures { result ≡ true → self.now.taken + count ≤ all_bytes }
+    pub(crate) fn room(&self) -> u64
+        ensures { self.now.taken + result ≡ all_bytes }
     {
-        self.gathering.room() >= count as u64
+        self.gathering.room()
     }
 
-    /// Counts an instruction of `count` bytes that is lent from where it lies.
+    /// Counts `count` bytes of instructions that are lent from where they lie.
     #[inline(always)]
     pub(crate) fn count_lent(&mut self, count: usize)
-        requires open { self.old.phase ≡ phase.Open }
         requires none { self.old.ahead ≡ [] }
         requires within { self.old.taken + count ≤ all_bytes }
-        requires few { count ≤ longest self.old.limits.counted }
-        ensures { self.new ≡ record self.old {
-          held = record self.old.held { peak = max self.old.held.peak count };
-          taken = self.old.taken + count;
-        } }
+        ensures { self.new ≡ record self.old { taken = self.old.taken + count } }
     {
         self.gathering.count_lent(count);
         let _taken = self.gathering.taken();

@@ -2,7 +2,7 @@
 
 use pkops::{Limits, Op};
 use pkread::{
-    Frames, Head, Input, Memory, Next, Reader, Reason, Refusal, Source, frame_argument, genops,
+    Frames, Head, Input, Memory, Next, Reader, Reason, Refusal, Source, frame_argument, genops, lend,
 };
 use std::alloc::Global;
 use std::process::Abort;
@@ -53,50 +53,61 @@ fn a_reader_gives_refuses_and_ends(rt: HostRuntime) {
     assert_eq!(rt; read_on(&rt, &mut Memory::new(b"N\xffN"), &refuses), 1);
 }
 
-// How many instructions are peeked and taken before one is not at hand, the bytes taken then, and
-// the answer of `next`.
-fn peek_on<T: Abort + AllocGlobal, R: Source>(rt: &T, source: &mut R) -> (u64, u64, Answer) {
-    let mut reader = Reader::new(rt.alloc(), source, &Limits::STANDARD);
-    let mut peeked = 0u64;
-    for _ in 0..9 {
-        let Some(inst) = reader.peek() else {
-            break;
-        };
-        let length = inst.len() as usize;
-        reader.advance(length);
-        peeked = peeked.wrapping_add(1);
+// The bytes of the instruction that is lent next, or 0.
+fn next_lent<R: Source>(reader: &Reader<'_, R>) -> usize {
+    match reader.at_hand() {
+        Some(bytes) => match lend(bytes, &Limits::STANDARD) {
+            Some(inst) => inst.len() as usize,
+            None => 0,
+        },
+        None => 0,
     }
-    (peeked, reader.taken(), answer_of(reader.next()))
+}
+
+// How many instructions are lent and taken before one is not at hand, the bytes taken then, and
+// the answer of `next`.
+fn lend_on<T: Abort + AllocGlobal, R: Source>(rt: &T, source: &mut R) -> (u64, u64, Answer) {
+    let mut reader = Reader::new(rt.alloc(), source, &Limits::STANDARD);
+    let mut lent = 0u64;
+    for _ in 0..9 {
+        let length = next_lent(&reader);
+        if length == 0 {
+            break;
+        }
+        reader.advance(length);
+        lent = lent.wrapping_add(1);
+    }
+    (lent, reader.taken(), answer_of(reader.next()))
 }
 
 #[test]
-fn what_is_at_hand_is_peeked(rt: HostRuntime) {
+fn what_is_at_hand_is_lent(rt: HostRuntime) {
     // BININT1, SHORT_BINUNICODE and INT, of 2, 3 and 3 bytes, then STOP.
     let mut memory = Memory::new(b"K\x05\x8c\x01aI7\n.");
-    assert_eq!(rt; peek_on(&rt, &mut memory), (3, 8, Ok(Some((8, Op::Stop)))));
+    assert_eq!(rt; lend_on(&rt, &mut memory), (3, 8, Ok(Some((8, Op::Stop)))));
     // SHORT_BINBYTES, BINUNICODE, GLOBAL and INST, of 3, 6, 5 and 5 bytes, then FRAME.
     let mut memory = Memory::new(b"C\x01\xffX\x01\0\0\0bcm\nf\nim\nf\n\x95\0\0\0\0\0\0\0\0");
     assert_eq!(rt;
-        peek_on(&rt, &mut memory),
+        lend_on(&rt, &mut memory),
         (4, 19, Ok(Some((19, Op::Frame))))
     );
     // A text and a GLOBAL that are cut, and a text that isn't UTF-8.
-    assert_eq!(rt; peek_on(&rt, &mut Memory::new(b"N\x8c\x02a")).0, 1);
-    assert_eq!(rt; peek_on(&rt, &mut Memory::new(b"Ncm\nf")).0, 1);
-    assert_eq!(rt; peek_on(&rt, &mut Memory::new(b"N\x8c\x01\xff")).0, 1);
+    assert_eq!(rt; lend_on(&rt, &mut Memory::new(b"N\x8c\x02a")).0, 1);
+    assert_eq!(rt; lend_on(&rt, &mut Memory::new(b"Ncm\nf")).0, 1);
+    assert_eq!(rt; lend_on(&rt, &mut Memory::new(b"N\x8c\x01\xff")).0, 1);
     // A source with nothing at hand.
     let first = (0, 0, Ok(Some((0, Op::None))));
-    assert_eq!(rt; peek_on(&rt, &mut Input::new(b"N.".as_slice())), first);
+    assert_eq!(rt; lend_on(&rt, &mut Input::new(b"N.".as_slice())), first);
 }
 
 #[test]
-fn a_long_payload_is_peeked(rt: HostRuntime) -> Result<(), Fail> {
+fn a_long_payload_is_lent(rt: HostRuntime) -> Result<(), Fail> {
     let mut long = Vec::new(rt.alloc());
     long.extend_from_slice(b"X\x40\x0d\x03\0")?;
     long.resize(200_005, b'a')?;
     long.push(b'.')?;
     let stops = (1, 200_005, Ok(Some((200_005, Op::Stop))));
-    assert_eq!(rt; peek_on(&rt, &mut Memory::new(&long)), stops);
+    assert_eq!(rt; lend_on(&rt, &mut Memory::new(&long)), stops);
     Ok(())
 }
 
@@ -217,4 +228,13 @@ fn frames(rt: HostRuntime) {
     assert!(rt; left_open.take(Op::Frame, 9, 3).is_ok());
     assert!(rt; left_open.take(Op::None, 1, 0).is_ok());
     assert!(rt; left_open.take(Op::Stop, 1, 0).is_err());
+
+    let mut inside = Frames::new();
+    assert_eq!(rt; inside.inside(b"NNN"), b"NNN".as_slice());
+    inside.take_inside(3);
+    assert!(rt; inside.take(Op::Frame, 9, 2).is_ok());
+    assert_eq!(rt; inside.inside(b"N.N"), b"N.".as_slice());
+    assert_eq!(rt; inside.inside(b"N"), b"N".as_slice());
+    inside.take_inside(1);
+    assert!(rt; inside.take(Op::Stop, 1, 0).is_ok());
 }

@@ -1,7 +1,7 @@
 -- What a reader returned after the earlier instructions, by any of its calls.
-use Rattle.std.proofs.Common.{◌≡◌, ℕ, suc, ◌+◌, true, false, List, [], ◌∷◌, ◌++◌, length, refl, sym}
+use Rattle.std.proofs.Common.{◌≡◌, ◌≢◌, ℕ, suc, ◌+◌, true, false, List, [], ◌∷◌, ◌++◌, length, refl, sym}
 use Rattle.std.proofs.Common.{ap, subst, ◌∙◌, arith, Result, Ok, Err}
-use Rattle.std.specs.Prelude.{All, Bool, IsTrue, if◌then◌else◌}
+use Rattle.std.specs.Prelude.{All, Bool, IsTrue, drop, if◌then◌else◌}
 use Rattle.pkops.specs.Inst.{instruction_of}
 use Rattle.pkops.specs.Limits.{Bounds}
 use Rattle.pkops.specs.Payloads.{is_passed, is_passed_code, payload_limit, payload_limit_at}
@@ -10,13 +10,13 @@ use Rattle.pkops.specs.declared.Inst.{Inst}
 use Rattle.pkops.specs.declared.Op.{Op}
 use Rattle.pkops.specs.declared.Op.TheVariants as op
 use Rattle.pkread.specs.Admission.{IsAllowedBy}
-use Rattle.pkread.specs.Core.{Open, phase_after}
+use Rattle.pkread.specs.AtHand.{AreNext, IsLent, beyond}
+use Rattle.pkread.specs.Core.{Ended, Open, Phase, Refused, phase_after}
 use Rattle.pkread.specs.Heads.{IsSkipped, StepsHead}
-use Rattle.pkread.specs.Peek.{IsNext, PassesOver}
-use Rattle.pkread.specs.ReaderCalls.{Gives, ReaderState, Steps}
+use Rattle.pkread.specs.ReaderCalls.{Gives, ReaderState, Steps, is_ended}
 use Rattle.pkread.specs.Rows.{Refuses, Sight, Takes, unread}
-use Rattle.pkread.specs.Run.{HeadIsRead, HoldsTo, NextIsRead, PassedIsRead, PassesTo, PeekedIsRead}
-use Rattle.pkread.specs.Run.{Reads, ReadsMore, RefusalIsRead, RefusalOfHeads}
+use Rattle.pkread.specs.Run.{HeadIsRead, HoldsTo, LentIsRead, NextIsRead, PassedIsRead, PassesTo}
+use Rattle.pkread.specs.Run.{Reads, ReadsMore, RefusalIsRead, RefusalOfHeads, SoFar}
 use Rattle.pkread.specs.Sequence.{NoStop}
 use Rattle.pkread.specs.declared.Head.{Head}
 use Rattle.pkread.specs.declared.Head.TheVariants as head
@@ -27,6 +27,13 @@ use Rattle.pkread.specs.declared.Refusal.{Refusal}
 last_of : {X : Type 0} (P : X → Type 0) (xs : List X) (x : X) → All P (xs ++ x ∷ []) → P x
 last_of P [] x h = h 0 x (omega arith)
 last_of P (y ∷ xs) x h = last_of P xs x (λ k d lt. h (suc k) d (omega (arith, lt)))
+
+-- without a STOP among the instructions, the reader has not ended
+pub not_ended : (p : List Instruction) (f : Phase) → SoFar p f → NoStop p → is_ended f ≡ false
+not_ended p Open so none = refl
+not_ended p Ended (front, last, e, is, before) none =
+    absurd (last_of (λ i. i.op ≢ op.Stop) front last (subst (All (λ i. i.op ≢ op.Stop)) e none) is)
+not_ended p (Refused r) so none = refl
 
 -- if skipped payloads have the limit of all others, every payload has it
 one_limit : (limits : Bounds) → limits.passed ≡ limits.counted → (passed : Bool)
@@ -110,23 +117,26 @@ module _ (start : Sight) (from : ℕ) (limits : Bounds) (p : List Instruction) (
     took_head law r at i k e = gave at (instruction_of i) t k.0
         (law start from (payload_limit limits) p s t r at i passes reads k e)
 
-    -- for `peek` and `advance`
-    pub took_peeked : PeekedIsRead → (at count : ℕ) (i : Inst) → at ≡ s.taken
-        → IsNext s count (instruction_of i) → PassesOver s (instruction_of i) t
-        → Took at (instruction_of i) t
-    took_peeked law at count i place shown over =
-        let more = law start from (payload_limit limits) p s t count
-        (instruction_of i) passes reads shown over in
-        record {
-          more = more;
-          same_limits = over.limits;
-          place = place;
-          allowed = last_of (IsAllowedBy (payload_limit limits)) p
-              (instruction_of i) more.reads.each;
-          bytes = over.bytes;
-          taken = over.taken;
-          phase = over.phase ∙ sym shown.goes_on;
-        }
+    -- for an instruction lent from the bytes at hand
+    pub took_lent : LentIsRead → (at : ℕ) (bytes : List ℕ) (i : Instruction) → at ≡ s.taken
+        → AreNext s bytes → IsLent limits bytes i → t ≡ beyond (length (spelling i)) s
+        → Took at i t × AreNext t (drop (length (spelling i)) bytes)
+    took_lent law at bytes i place next lent e =
+        let lent' = subst (λ (l : Bounds). IsLent l bytes i) (sym same) lent in
+        let (more, took, behind) = law start from (payload_limit limits) p s bytes i passes reads
+        next lent' in
+        rw e (
+          record {
+            more = more;
+            same_limits = refl;
+            place = place;
+            allowed = last_of (IsAllowedBy (payload_limit limits)) p i more.reads.each;
+            bytes = took;
+            taken = refl;
+            phase = next.phase ∙ sym lent.goes_on;
+          },
+          behind,
+        )
 
     open_after : (o : Op) → IsTrue (is_passed o) → Open ≡ phase_after o
     open_after op.Stop h = cc

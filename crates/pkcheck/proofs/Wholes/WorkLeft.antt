@@ -11,7 +11,7 @@ left_to_do taken Open = 2 * (all_bytes - taken)
 left_to_do taken Ended = 2 * (all_bytes - taken) + 1
 left_to_do taken (Refused r) = 2 * (all_bytes - taken)
 
--- the measure falls when an instruction is taken
+-- the measure falls when an instruction is taken, whatever was taken before
 left_most : (taken : ℕ) (p : Phase) → left_to_do taken p ≤ 2 * (all_bytes - taken) + 1
 left_most taken Open = omega arith
 left_most taken Ended = omega arith
@@ -22,6 +22,7 @@ left_least taken Open = omega arith
 left_least taken Ended = omega arith
 left_least taken (Refused r) = omega arith
 
-pub less_to_do : (s t : ℕ) (p q : Phase) (i : Instruction) → t ≡ s + length (spelling i)
-    → t ≤ all_bytes → left_to_do t q < left_to_do s p
-less_to_do s t p q i taken within = omega (arith, left_most t q, left_least s p, taken, within)
+pub less_to_do : (s m t : ℕ) (p q : Phase) (i : Instruction) → s ≤ m
+    → t ≡ m + length (spelling i) → t ≤ all_bytes → left_to_do t q < left_to_do s p
+less_to_do s m t p q i along taken within =
+    omega (arith, left_most t q, left_least s p, along, taken, within)

@@ -29,7 +29,6 @@ use Rattle.pkops.specs.declared.Op.{Op}
 use Rattle.pkops.specs.declared.Rule.{Rule}
 use Rattle.pkops.specs.declared.Rule.TheVariants as rule
 use Rattle.pkread.proofs.Bytes.FrontLines.{line_role}
-use Rattle.pkread.proofs.Bytes.Lengths.{is_few}
 use Rattle.pkread.proofs.Bytes.Texts.{line_admitted}
 use Rattle.pkread.specs.Private.Arms.{BeginsWithNumber, HasLine, IsInFront}
 
@@ -352,7 +351,6 @@ line_in_front limits o n most bytes lay room code h =
           admitted = line_admitted o most (Line h.line) lay;
         };
         role = line_role o most lay;
-        few = is_few limits.counted n (omega (arith, h.count, short));
         within = omega (arith, e, total, sum);
       },
     )

@@ -1,13 +1,11 @@
 -- The instruction at the front of the bytes that a source has at hand.
 use Rattle.std.proofs.Common.{◌≡◌, ℕ, suc, zero, ◌+◌, ◌-◌, ◌*◌, ◌<◌, ◌≤◌, Bool, false, true, List}
-use Rattle.std.proofs.Common.{[], ◌∷◌, ◌++◌, length, take, drop, get_or, Option, None, Some, refl}
-use Rattle.std.proofs.Common.{sym, ap, subst, ◌∙◌, arith, append_assoc}
+use Rattle.std.proofs.Common.{[], ◌∷◌, ◌++◌, length, take, drop, get_or, None, refl}
+use Rattle.std.proofs.Common.{sym, ap, subst, ◌∙◌, arith}
 use Rattle.std.specs.Prelude.{slice_index}
-use Rattle.std.specs.Io.KnownBytes.{Consumes}
 use Rattle.std.specs.Str.{IsUtf8}
 use Rattle.std.proofs.Math.Seq.{take-add}
-use Rattle.std.proofs.lemmas.List.{get_or-take, length-drop, length-take, take-append-drop}
-use Rattle.std.proofs.lemmas.List.{take-append-le, take_at}
+use Rattle.std.proofs.lemmas.List.{get_or-take, length-drop, length-take}
 use Rattle.byteorder.specs.Endian.{little_bytes, little_from}
 use Rattle.byteorder.specs.Numbers.{little_from-lt}
 use Rattle.pkops.specs.Contents.{Keeps, rule_of}
@@ -15,7 +13,6 @@ use Rattle.pkops.specs.Growth.{CountLaws, FieldLaws}
 use Rattle.pkops.specs.Limits.{Bounds}
 use Rattle.pkops.specs.KnownLayout.{AreBytes, Lies, count_in, field_len}
 use Rattle.pkops.specs.Payloads.{payload_limit}
-use Rattle.pkops.specs.Scans.{longest}
 use Rattle.pkops.specs.Spelling.{Counted, Number}
 use Rattle.pkops.specs.Spelling.{count_limit, instruction, layout_at}
 use Rattle.pkops.specs.Spelling.{size_of}
@@ -24,7 +21,6 @@ use Rattle.pkops.specs.declared.Layout.TheVariants as layout
 use Rattle.pkops.specs.declared.Width.{Width}
 use Rattle.pkops.specs.declared.Op.{Op}
 use Rattle.pkops.specs.declared.Op.TheVariants as op
-use Rattle.pkread.proofs.Bytes.Lengths.{field_few, is_few}
 use Rattle.pkread.proofs.Bytes.Plain.{any_rule, takes_any, text_admitted, text_rule}
 use Rattle.pkread.proofs.Bytes.Taken.{AreBytes-take}
 use Rattle.pkread.specs.Admission.{objection}
@@ -33,36 +29,6 @@ use Rattle.pkread.specs.Pieces.{role_of}
 use Rattle.pkread.specs.Private.Arms.{HasFixedLength, IsFront, IsInFront}
 use Rattle.pkread.specs.Private.Judgement.{is_plain}
 use Rattle.pkread.specs.Private.Reads.{AreAllBytes}
-use Rattle.pkread.specs.Pull.{BeginsWith, TakesCount}
-use Rattle.pkread.specs.Rows.{Sight, Takes}
-
--- a source that shows bytes shows their front
-pub begins_front : (n : ℕ) (left : Option (List ℕ)) (shown : List ℕ) → BeginsWith left shown →
-    BeginsWith left (take n shown)
-begins_front n None shown h = tt
-begins_front n (Some left) shown h = (
-  drop n shown ++ h.0,
-  h.1 ∙ (ap (λ (l : List ℕ). l ++ h.0) (sym (take-append-drop n shown))
-      ∙ append_assoc (take n shown) (drop n shown) h.0),
-)
-
-consumes_shown : (count : ℕ) (window : List ℕ) (old new : Option (List ℕ)) →
-    BeginsWith old window → count ≤ length window → TakesCount count old new →
-    Consumes old new (take count window)
-consumes_shown count window None new h le t = tt
-consumes_shown count window (Some l) None h le t = absurd t.2
-consumes_shown count window (Some l) (Some m) h le t =
-    let front : take count window ≡ t.0 =
-    sym (take-append-le count window h.0 le) ∙ (ap (take count) (sym h.1 ∙ t.2)
-    ∙ take_at t.0 m count t.1) in
-    rw front t.2
-
--- what is taken of the bytes shown is their front
-pub takes_shown : (count : ℕ) (window : List ℕ) (old new : Sight) → BeginsWith old.left window →
-    count ≤ length window → TakesCount count old.left new.left → new.failures ≡ old.failures →
-    Takes old new (take count window)
-takes_shown count window old new h le t same =
-    record { bytes = consumes_shown count window old.left new.left h le t; count = same }
 
 -- an opcode with an argument of fixed length, of which all are good
 pub fixed_front : FieldLaws → (limits : Bounds) (n : ℕ) (o : Op) (bytes : List ℕ) →
@@ -72,7 +38,6 @@ fixed_front fields limits n o [] h fits room code = absurd (omega (arith, room, 
 fixed_front fields limits n o (x ∷ rest) h fits room code =
     let limit = payload_limit limits o in
     let size = field_len (layout_at o) in
-    let few = field_few (layout_at o) in
     let behind : AreAllBytes rest = λ i. fits (suc i) in
     let is : n ≡ suc size = omega (arith, h.length_is) in
     let long : length (take size rest) ≡ size = omega (arith, is, room, length-take size rest) in
@@ -90,7 +55,6 @@ fixed_front fields limits n o (x ∷ rest) h fits room code =
         admitted = any.admitted whole.0;
       };
       role = h.role;
-      few = is_few limits.counted n (omega (arith, is, few));
       within = room;
     }
 
@@ -126,7 +90,6 @@ proto_front limits (x ∷ version ∷ rest) room code known =
           admitted = is.1;
         };
         role = refl;
-        few = is_few limits.counted 2 (omega arith);
         within = room;
       },
     )
@@ -159,12 +122,11 @@ pub counted_front : CountLaws → (limits : Bounds) (n : ℕ) (o : Op) (size : W
     layout_at o ≡ layout.Counted size false → AreAllBytes bytes → code_of o ≡ get_or bytes 0 0 →
     size_of size + 1 ≤ length bytes → count_in size (drop 1 bytes) ≤ payload_limit limits o →
     n ≡ size_of size + 1 + count_in size (drop 1 bytes) → n ≤ length bytes →
-    n ≤ longest limits.counted →
     (is_plain o ≡ false → IsUtf8 (take (n - (size_of size + 1)) (drop (size_of size + 1) bytes))) →
     IsInFront limits o n bytes
-counted_front counts limits n o size [] lay fits code head within is room few good =
+counted_front counts limits n o size [] lay fits code head within is room good =
     absurd (omega (arith, head))
-counted_front counts limits n o size (x ∷ rest) lay fits code head within is room few good =
+counted_front counts limits n o size (x ∷ rest) lay fits code head within is room good =
     let limit = payload_limit limits o in
     let k = size_of size in
     let count = count_in size rest in
@@ -203,7 +165,6 @@ counted_front counts limits n o size (x ∷ rest) lay fits code head within is r
           admitted = text_admitted o size false (Counted payload) lay;
         };
         role = counted_role o size lay;
-        few = few;
         within = room;
       },
     )

@@ -18,7 +18,6 @@ use Rattle.pkops.specs.Table.{code_of}
 use Rattle.pkops.specs.declared.Layout.TheVariants as layout
 use Rattle.pkops.specs.declared.Op.{Op}
 use Rattle.pkops.specs.declared.Op.TheVariants as op
-use Rattle.pkread.proofs.Bytes.Lengths.{is_few}
 use Rattle.pkread.proofs.Bytes.Texts.{line_admitted, pair_admitted}
 use Rattle.pkread.specs.Framing.{other}
 use Rattle.pkread.specs.Pieces.{role_of}
@@ -86,11 +85,10 @@ module _ (o : Op) (most end : ℕ) (line : List ℕ) (lay : layout_at o ≡ layo
   front_suits = rw lay (is_line most end line found short)
 
   line_at : (x count : ℕ) (rest : List ℕ) → code_of o ≡ x → line ≡ take count rest →
-      count ≤ 256 → IsGood (instruction o (Line (take end line))) → (limits : Bounds) →
+      IsGood (instruction o (Line (take end line))) → (limits : Bounds) →
       IsInFront limits o (end + 2) (x ∷ rest)
-  line_at x count rest code is few good limits =
+  line_at x count rest code is good limits =
       let whole = line_whole most end line found short count rest is in
-      let low = whole.1 in
       let high = whole.2 in
       let e : end + 2 ≡ suc (end + 1) = omega arith in
       let spelled : take (end + 2) (x ∷ rest) ≡ code_of o ∷ (take end line ++ line_feed ∷ []) =
@@ -108,18 +106,17 @@ module _ (o : Op) (most end : ℕ) (line : List ℕ) (lay : layout_at o ≡ layo
             admitted = line_admitted o most (Line (take end line)) lay;
           };
           role = line_role o most lay;
-          few = is_few limits.counted (end + 2) (omega (arith, low, few));
           within = omega (arith, high);
         },
       )
 
   pub line_front : (count : ℕ) (bytes : List ℕ) → 0 < length bytes →
-      code_of o ≡ get_or bytes 0 0 → line ≡ take count (drop 1 bytes) → count ≤ 256 →
+      code_of o ≡ get_or bytes 0 0 → line ≡ take count (drop 1 bytes) →
       IsGood (instruction o (Line (take end line))) → (limits : Bounds) →
       IsInFront limits o (end + 2) bytes
-  line_front count [] some code is few good limits = absurd (omega (arith, some))
-  line_front count (x ∷ rest) some code is few good limits =
-      line_at x count rest code is few good limits
+  line_front count [] some code is good limits = absurd (omega (arith, some))
+  line_front count (x ∷ rest) some code is good limits =
+      line_at x count rest code is good limits
 
 -- two lines that end in the bytes behind the code
 module _ (o : Op) (most first second : ℕ) (lines behind : List ℕ)
@@ -132,10 +129,10 @@ module _ (o : Op) (most first second : ℕ) (lines behind : List ℕ)
       rw lay (is_line most first lines found short, is_line most second behind found' short')
 
   pair_at : (x count more : ℕ) (rest : List ℕ) → code_of o ≡ x → lines ≡ take count rest →
-      behind ≡ take more (drop (first + 1) lines) → count ≤ 256 →
+      behind ≡ take more (drop (first + 1) lines) →
       IsGood (instruction o (Pair (take first lines) (take second behind))) → (limits : Bounds) →
       IsInFront limits o (first + second + 3) (x ∷ rest)
-  pair_at x count more rest code is is' few good limits =
+  pair_at x count more rest code is is' good limits =
       let one = line_whole most first lines found short count rest is in
       let two = line_whole most second behind found' short' more (drop (first + 1) lines) is' in
       let low = two.2 in
@@ -172,20 +169,18 @@ module _ (o : Op) (most first second : ℕ) (lines behind : List ℕ)
             admitted = pair_admitted o most (Pair (take first lines) (take second behind)) lay;
           };
           role = pair_role o most lay;
-          few = is_few limits.counted (first + second + 3)
-              (omega (arith, both, long, length-take count rest, few));
           within = omega (arith, both, long, length-take count rest);
         },
       )
 
   pub pair_front : (count more : ℕ) (bytes : List ℕ) → 0 < length bytes →
       code_of o ≡ get_or bytes 0 0 → lines ≡ take count (drop 1 bytes) →
-      behind ≡ take more (drop (first + 1) lines) → count ≤ 256 →
+      behind ≡ take more (drop (first + 1) lines) →
       IsGood (instruction o (Pair (take first lines) (take second behind))) → (limits : Bounds) →
       IsInFront limits o (first + second + 3) bytes
-  pair_front count more [] some code is is' few good limits = absurd (omega (arith, some))
-  pair_front count more (x ∷ rest) some code is is' few good limits =
-      pair_at x count more rest code is is' few good limits
+  pair_front count more [] some code is is' good limits = absurd (omega (arith, some))
+  pair_front count more (x ∷ rest) some code is is' good limits =
+      pair_at x count more rest code is is' good limits
 
 -- a line in front of its line feed is found
 feed_at : (line behind : List ℕ) → AllByRecursion (λ byte. byte ≢ line_feed) line →

@@ -4,7 +4,6 @@ use Rattle.pkops.specs.Contents.{rule_of}
 use Rattle.pkops.specs.Spelling.{Argument, instruction, layout_at}
 use Rattle.pkops.specs.declared.Layout.TheVariants as layout
 use Rattle.pkops.specs.declared.Width.{Width}
-use Rattle.pkops.specs.declared.Width.TheVariants as width
 use Rattle.pkops.specs.declared.Op.{Op}
 use Rattle.pkops.specs.declared.Op.TheVariants as op
 use Rattle.pkops.specs.declared.Rule.TheVariants as rule

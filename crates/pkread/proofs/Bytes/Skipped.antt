@@ -11,7 +11,6 @@ use Rattle.pkops.specs.Payloads.{HasCount, is_passed, is_passed_code, payload_li
 use Rattle.pkops.specs.Spelling.{Argument, Counted, instruction, layout_at, spelling}
 use Rattle.pkops.specs.Table.{code_of}
 use Rattle.pkops.specs.declared.Layout.TheVariants as layout
-use Rattle.pkops.specs.declared.Width.TheVariants as width
 use Rattle.pkops.specs.declared.Op.{Op}
 use Rattle.pkops.specs.declared.Op.TheVariants as op
 use Rattle.pkread.proofs.Bytes.Behind.{payload_lie, payload_stops, payload_took}

@@ -12,13 +12,15 @@ use Rattle.pkops.specs.declared.Inst.{Inst}
 use Rattle.pkops.specs.declared.Op.{Op}
 use Rattle.pkops.specs.declared.Op.TheVariants as op
 use Rattle.pkread.proofs.Bytes.Takes.{Takes-more}
+use Rattle.pkread.proofs.Calls.AtHand.{next_behind, takes_lent}
 use Rattle.pkread.specs.Admission.{IsAllowed, IsAllowedBy}
+use Rattle.pkread.specs.AtHand.{beyond}
 use Rattle.pkread.specs.Core.{Phase, Open, Ended, Refused, phase_after}
 use Rattle.pkread.specs.Heads.{IsSkipped, Skips, RefusesHead, StepsHeadFrom}
 use Rattle.pkread.specs.ReaderCalls.{ReaderState, begun, Gives, RefusesAt, StepsFrom}
 pub use Rattle.pkread.specs.Run.{Reads, SoFar}
 use Rattle.pkread.specs.Run.{EndIsRead, EndOfHeads, HeadIsRead, NextIsRead, PassedIsRead}
-use Rattle.pkread.specs.Run.{PeekedIsRead, ReadingBegins, ReadingGoesOn, ReadsMore, RefusalIsRead}
+use Rattle.pkread.specs.Run.{LentIsRead, ReadingBegins, ReadingGoesOn, ReadsMore, RefusalIsRead}
 use Rattle.pkread.specs.Run.{RefusalOfHeads}
 use Rattle.pkread.specs.Rows.{Sight, Takes}
 use Rattle.pkread.specs.Sequence.{IsSequence, NoStop, spellings}
@@ -250,14 +252,19 @@ passed_is_read start from limit p s t r at o count passes h k e =
       g,
     )
 
--- the law of `peek` and `advance`
-pub peeked_is_read : PeekedIsRead
-peeked_is_read start from limit p s t count i passes h shown over =
+-- an instruction that is lent from the bytes at hand
+pub lent_is_read : LentIsRead
+lent_is_read start from limit p s bytes i passes h next lent =
+    let t : ReaderState = beyond (length (spelling i)) s in
     let allowed : IsAllowedBy limit i = subst (λ (l : ℕ). IsAllowed l i)
-    (passes i.op) shown.allowed in
-    let phase = over.phase ∙ sym shown.goes_on in
-    more_of start from limit p s t i h shown.phase
-    (reads_one start from limit p s t i h shown.phase allowed over.bytes over.taken phase)
+    (passes i.op) lent.allowed in
+    let took = takes_lent s bytes i next lent in
+    let phase = next.phase ∙ sym lent.goes_on in (
+      more_of start from limit p s t i h next.phase
+          (reads_one start from limit p s t i h next.phase allowed took refl phase),
+      took,
+      next_behind s bytes i next lent,
+    )
 
 head_ended_not_err : (x : Refusal) → let a : Result Head Refusal = Ok head.Ended in a ≡ Err x → ⊥
 head_ended_not_err x e = cc

@@ -9,7 +9,7 @@ use Rattle.pkops.specs.Limits.{Bounds}
 use Rattle.pkops.specs.KnownLayout.{IsFixed, Lies, count_in, field_len}
 use Rattle.pkops.specs.Payloads.{payload_limit}
 use Rattle.pkops.specs.RuleTests.{is_natural}
-use Rattle.pkops.specs.Scans.{Begun, longest}
+use Rattle.pkops.specs.Scans.{Begun}
 use Rattle.pkops.specs.Spelling.{Argument, IsLine, Line, count_limit, instruction, layout_at}
 use Rattle.pkops.specs.Spelling.{line_feed, size_of}
 use Rattle.pkops.specs.Table.{code_of}
@@ -118,11 +118,10 @@ pub record HasFixedLength (op : Op) (n : ℕ) : Type 0 where
   pub role : role_of op 0 ≡ other
 
 -- the first n bytes are an instruction of this opcode, which is neither STOP nor FRAME, within the
--- limits and short enough for a buffer
+-- limits
 pub record IsFront (limits : Bounds) (op : Op) (split n : ℕ) (bytes : List ℕ) : Type 0 where
   pub found : IsFound (payload_limit limits op) (take n bytes) op split
   pub role : role_of op 0 ≡ other
-  pub few : n ≤ longest limits.counted
   pub within : n ≤ length bytes
 
 -- like IsFront, wherever its first line ends

@@ -1,12 +1,15 @@
 use Rattle.std.proofs.Common.{rules, [], ◌∷◌, ◌++◌, refl, sym, ap, subst, ◌∙◌, append-nil, arith}
 use Rattle.pkops.specs.Inst.{instruction_of}
+use Rattle.pkread.specs.AtHand.{beyond}
+use Rattle.pkread.specs.ReaderCalls.{state}
 use Rattle.pkcheck.specs.Heard.{AreHeardBehind, heard}
 use Rattle.pkcheck.proofs.Wholes.Checked.{from_start, checked_none, checked_took, accepted}
 use Rattle.pkcheck.proofs.Wholes.Checked.{count_took}
 use Rattle.pkcheck.proofs.Wholes.Checked.{refusal_of, refused_turned, refused_took}
 use Rattle.pkcheck.proofs.Wholes.FramesSoFar.{FrameLaws}
-use Rattle.pkcheck.proofs.Wholes.Given.{seen_so, refused_next, took_next, took_peeked}
+use Rattle.pkcheck.proofs.Wholes.Given.{seen_so, refused_next, took_lent, took_next}
 use Rattle.pkcheck.proofs.Wholes.HeardInstructions.{cut_short, heard_more, heard_here, if_err}
+use Rattle.pkcheck.proofs.Wholes.InTurn.{lent_within}
 use Rattle.pkcheck.proofs.StepParts.Longest.{longest}
 use Rattle.pkcheck.proofs.listening.check_heard.Goals as goal
 
@@ -36,12 +39,13 @@ instructions-init g c =
 pub returns-in-Err-clause-cut_short : goal.returns-in-Err-clause-cut_short
 returns-in-Err-clause-cut_short g c =
     let r = c.instructions.invariant.checked in
-    let inst = c.in-Some.inst in
-    let i = instruction_of inst in
-    let shown = c.in-Some.ensures.next in
-    let over = c.advance.ensures.passes i shown c.len-length.ensures in
-    let took = took_peeked _ _ _ r.0 _ r.2.reads r.2.read_limits _ c.nexts.ensures.peeked
-    c.taken-at.result _ inst c.taken-at.ensures shown over in (
+    let i = instruction_of c.in-Some.inst in
+    let s = state g.R.Source.left g.R.Source.failures c.instructions.reader in
+    let is = c.advance.ensures.after ∙ ap (λ n. beyond n s) c.len-length.ensures in
+    let lent = (let l = rw c.holding_all-limits.ensures at c.in-Some.ensures.next.lent in l) in
+    let took = (took_lent _ _ _ r.0 _ r.2.reads r.2.read_limits _ c.nexts.ensures.lent
+    c.taken-at.result c.in-Some.ensures.next.bytes i c.taken-at.ensures
+    c.in-Some.ensures.next.next lent is).0 in (
       r.3,
       c.instructions.listener,
       cut_short _ _ _ r.0 r.1 _ _ _ r.2 _ c.taken-at.result i _ took
@@ -55,12 +59,13 @@ returns-in-Err-clause-count g c = (returns-in-Err-clause-cut_short g c).2.bytes.
 pub returns-in-Err-judge_lent-clause-answer : goal.returns-in-Err-judge_lent-clause-answer
 returns-in-Err-judge_lent-clause-answer g c =
     let r = c.instructions.invariant.checked in
-    let inst = c.in-Some.inst in
-    let i = instruction_of inst in
-    let shown = c.in-Some.ensures.next in
-    let over = c.advance-in-Err-judge_lent.ensures.passes i shown c.len-length.ensures in
-    let took = took_peeked _ _ _ r.0 _ r.2.reads r.2.read_limits _ c.nexts.ensures.peeked
-    c.taken-at.result _ inst c.taken-at.ensures shown over in
+    let i = instruction_of c.in-Some.inst in
+    let s = state g.R.Source.left g.R.Source.failures c.instructions.reader in
+    let is = c.advance-in-Err-judge_lent.ensures.after ∙ ap (λ n. beyond n s) c.len-length.ensures in
+    let lent = (let l = rw c.holding_all-limits.ensures at c.in-Some.ensures.next.lent in l) in
+    let took = (took_lent _ _ _ r.0 _ r.2.reads r.2.read_limits _ c.nexts.ensures.lent
+    c.taken-at.result c.in-Some.ensures.next.bytes i c.taken-at.ensures
+    c.in-Some.ensures.next.next lent is).0 in
     let x = heard c.taken-at.result i c.marks.result in
     let here = heard_here _ _ _ r.0 r.1 _ _ _ r.2 _ c.taken-at.result i took _ c.marks.ensures in
     let refused = refused_took _ _ _ _ _ r.0 r.1 _ _ _ r.2 _ c.taken-at.result i _ took
@@ -77,12 +82,13 @@ returns-in-Err-judge_lent-clause-answer g c =
 pub returns-in-Err-judge_lent-clause-count : goal.returns-in-Err-judge_lent-clause-count
 returns-in-Err-judge_lent-clause-count g c =
     let r = c.instructions.invariant.checked in
-    let inst = c.in-Some.inst in
-    let i = instruction_of inst in
-    let shown = c.in-Some.ensures.next in
-    let over = c.advance-in-Err-judge_lent.ensures.passes i shown c.len-length.ensures in
-    let took = took_peeked _ _ _ r.0 _ r.2.reads r.2.read_limits _ c.nexts.ensures.peeked
-    c.taken-at.result _ inst c.taken-at.ensures shown over in
+    let i = instruction_of c.in-Some.inst in
+    let s = state g.R.Source.left g.R.Source.failures c.instructions.reader in
+    let is = c.advance-in-Err-judge_lent.ensures.after ∙ ap (λ n. beyond n s) c.len-length.ensures in
+    let lent = (let l = rw c.holding_all-limits.ensures at c.in-Some.ensures.next.lent in l) in
+    let took = (took_lent _ _ _ r.0 _ r.2.reads r.2.read_limits _ c.nexts.ensures.lent
+    c.taken-at.result c.in-Some.ensures.next.bytes i c.taken-at.ensures
+    c.in-Some.ensures.next.next lent is).0 in
     count_took _ _ _ _ _ r.0 r.1 _ _ _ r.2 _ c.taken-at.result i _ _ _ _ _
     (returns-in-Err-judge_lent-clause-answer g c).1.right c.refuse.ensures.why took
     (seen_so _ _ _ c.advance-in-Err-judge_lent.ensures.none (search rules)) _
@@ -91,12 +97,13 @@ returns-in-Err-judge_lent-clause-count g c =
 pub instructions-preserved-in-Some : goal.instructions-preserved-in-Some
 instructions-preserved-in-Some g c =
     let r = c.instructions.invariant.checked in
-    let inst = c.in-Some.inst in
-    let i = instruction_of inst in
-    let shown = c.in-Some.ensures.next in
-    let over = c.advance-in-Some.ensures.passes i shown c.len-length.ensures in
-    let took = took_peeked _ _ _ r.0 _ r.2.reads r.2.read_limits _ c.nexts.ensures.peeked
-    c.taken-at.result _ inst c.taken-at.ensures shown over in
+    let i = instruction_of c.in-Some.inst in
+    let s = state g.R.Source.left g.R.Source.failures c.instructions.reader in
+    let is = c.advance-in-Some.ensures.after ∙ ap (λ n. beyond n s) c.len-length.ensures in
+    let lent = (let l = rw c.holding_all-limits.ensures at c.in-Some.ensures.next.lent in l) in
+    let took = (took_lent _ _ _ r.0 _ r.2.reads r.2.read_limits _ c.nexts.ensures.lent
+    c.taken-at.result c.in-Some.ensures.next.bytes i c.taken-at.ensures
+    c.in-Some.ensures.next.next lent is).0 in
     let x = heard c.taken-at.result i c.marks.result in
     let here = heard_here _ _ _ r.0 r.1 _ _ _ r.2 _ c.taken-at.result i took _ c.marks.ensures in
     let checked = checked_took _ _ _ _ _ r.0 r.1 _ _ _ r.2 _ _ _ c.taken-at.result i took
@@ -116,12 +123,11 @@ instructions-preserved-in-Some g c =
 
 pub instructions-smaller-in-Some : goal.instructions-smaller-in-Some
 instructions-smaller-in-Some g c =
-    let inst = c.in-Some.inst in
-    let over = c.advance-in-Some.ensures.passes (instruction_of inst) c.in-Some.ensures.next
-    c.len-length.ensures in
-    let taken = over.taken in
-    let within = over.within in
-    omega (arith, taken, within)
+    let next = c.in-Some.ensures.next in
+    let within = next.next.within in
+    let long = lent_within _ next.bytes (instruction_of c.in-Some.inst) next.lent in
+    let taken = ap (λ s. s.taken) c.advance-in-Some.ensures.after in
+    omega (arith, taken, within, long, c.len-length.ensures)
 
 pub returns-in-Err-next-clause-answer : goal.returns-in-Err-next-clause-answer
 returns-in-Err-next-clause-answer g c =
@@ -149,8 +155,8 @@ returns-in-Ok-Ended-clause-answer g c =
     (cc (c.in-Ok-Ended.is, c.in-Ok-Ended.field-0-is)) in
     let w = accepted _ _ _ _ _ r.0 r.1 _ _ _ r.2 _ _ _ e.0
     (let same = ap (λ s. s.source) e.1 in seen_so _ _ _ k.3 (search rules) ∙ same)
-    (from_start _ _ (c.taken.ensures ∙ ap (λ s. s.taken) e.1))
-    (c.take_imports.ensures ∙ r.2.imports) in
+    (from_start _ _ (c.accept.ensures.taken ∙ (c.taken.ensures ∙ ap (λ s. s.taken) e.1)))
+    (c.accept.ensures.imports ∙ r.2.imports) in
     (r.3, record { right = w.0; each = subst (λ p. AreHeardBehind [] p r.3) (sym w.1) r.4 }, r.5)
 
 pub returns-in-Err-judge-clause-answer : goal.returns-in-Err-judge-clause-answer

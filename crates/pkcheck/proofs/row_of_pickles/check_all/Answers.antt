@@ -7,12 +7,14 @@ use Rattle.pkread.specs.Rows.{all_bytes, sight}
 use Rattle.pkcheck.proofs.Wholes.Checked.{checked_again, checked_first, checked_took}
 use Rattle.pkcheck.proofs.Wholes.Checked.{refused_turned}
 use Rattle.pkcheck.proofs.Wholes.FramesSoFar.{FrameLaws}
-use Rattle.pkcheck.proofs.Wholes.Given.{refused_head, seen_so, took_head, took_passed, took_peeked}
+use Rattle.pkcheck.proofs.Wholes.Given.{not_ended, refused_head, seen_so, took_head}
+use Rattle.pkcheck.proofs.Wholes.Given.{took_passed}
 use Rattle.pkcheck.proofs.StepParts.Longest.{longest}
 use Rattle.pkcheck.specs.Knowledge.{nothing_known}
 use Rattle.pkcheck.specs.Private.NextPickle.{listed_in, restarted}
 use Rattle.pkcheck.specs.RowOfPickles.{begins}
 use Rattle.pkcheck.proofs.Wholes.Origins.{Origin}
+use Rattle.pkcheck.proofs.Wholes.LentInstructions.{checked_along, refused_lent, taken_along}
 use Rattle.pkcheck.proofs.Wholes.Payloads.{long_passed}
 use Rattle.pkcheck.proofs.Wholes.RowOfPickles.{all_listed, begins_first, count_on, next_ready}
 use Rattle.pkcheck.proofs.Wholes.RowOfPickles.{none_before, none_failed, pickle_more}
@@ -51,87 +53,59 @@ instructions-init g c =
 
 pub returns-in-Err : goal.returns-in-Err
 returns-in-Err g c =
-    let r = c.instructions.invariant.row in
-    let inst = c.in-Some.inst in
-    let shown = c.in-Some.ensures.next in
-    let over = c.advance.ensures.passes (instruction_of inst) shown c.len-length.ensures in
-    let took = took_peeked _ _ _ r.4 _ r.6.reads r.6.read_limits _ c.heads.ensures.peeked
-    c.taken-at.result _ inst c.taken-at.ensures shown over in
-    let now = sight g.R.Source.left g.R.Source.failures c.advance.new.self.source.now in
+    let o = c.instructions.invariant.row in
+    let x = refused_lent _ _ _ _ _ c.heads.ensures.lent c.heads.ensures.twice o.4 o.5 _ _ _ _ o.6 _
+    c.in-Err.refusal c.in-Err.ensures.err in
+    let reader = c.judge_at_hand.new.reader in
+    let now = sight g.R.Source.left g.R.Source.failures reader.source.now in
     let e = c.refused.ensures in
-    let took_one = row_took c.rows.ensures.taking _ _ _ _ _ _ _ _ _ r.3 r.4 r.5 _ _ _ r.6 _
-    c.taken-at.result (instruction_of inst) now took
-    (seen_so c.advance.new.self.core.ahead now now c.advance.ensures.none refl)
-    (longest c.args.policy.now) _ _ (λ is. r.7) c.in-Err.ensures.err in
+    let took_one = row_took c.rows.ensures.taking _ _ _ _ _ _ _ _ _ o.3 x.read x.listed _ _ _
+    x.checked _ _ x.instruction now x.took (seen_so reader.core.ahead now now c.in-Err.ensures.none
+    refl) (longest c.args.policy.now) _ _ (λ is. o.7) x.why in
     record {
       answer = told _ _ _ _ _ _ _ _ _ _ _ _ _ _ (search rules) e.pickle e.no.place e.no.why
           e.no.pair took_one.0;
       count = count_told _ _ _ _ _ e.no.why (search rules) took_one.1;
     }
 
-pub instructions-preserved-in-Some : goal.instructions-preserved-in-Some
-instructions-preserved-in-Some g c =
-    let r = c.instructions.invariant.row in
-    let inst = c.in-Some.inst in
-    let shown = c.in-Some.ensures.next in
-    let over = c.advance-in-Some.ensures.passes (instruction_of inst) shown c.len-length.ensures in
-    let took = took_peeked _ _ _ r.4 _ r.6.reads r.6.read_limits _ c.heads.ensures.peeked
-    _ _ inst refl shown over in
-    record {
-      memo = c.instructions.invariant.memo;
-      same = c.advance-in-Some.ensures.source ∙ c.instructions.invariant.same;
-      row = (
-        _,
-        _,
-        r.2,
-        r.3,
-        _,
-        _,
-        checked_took _ _ _ _ _ r.4 r.5 _ _ _ r.6 _ _ _ _ (instruction_of inst)
-            took c.in_default-judge_lent.ensures.ok,
-        r.7,
-      );
-    }
-
-pub instructions-smaller-in-Some : goal.instructions-smaller-in-Some
-instructions-smaller-in-Some g c =
-    let inst = c.in-Some.inst in
-    let over = c.advance-in-Some.ensures.passes (instruction_of inst) c.in-Some.ensures.next
-    c.len-length.ensures in
-    less_to_do _ _ _ _ (instruction_of inst) over.taken over.within
-
 pub returns-in-Err-next_head-clause-answer : goal.returns-in-Err-next_head-clause-answer
 returns-in-Err-next_head-clause-answer g c =
     let k = c.next_head.follows.holds-at-none in
-    let r = c.instructions.invariant.row in
+    let o = c.instructions.invariant.row in
+    let r = checked_along _ _ _ _ _ c.heads.ensures.lent c.heads.ensures.twice o.4 o.5 _ _ _ _ o.6
+    _ c.in_default.ensures.ok in
     let e = c.refused-in-Err-next_head.ensures in
-    told _ _ _ _ _ _ _ _ _ _ _ _ _ _ refl e.pickle e.no.place e.no.why (e.no.pair ∙ r.6.off)
-    (row_refused c.rows.ensures.taking _ _ _ _ _ _ _ _ _ r.3 _ _ _ _
-    (refused_turned _ _ _ _ _ r.4 r.5 _ _ _ r.6 _ c.in-Err-next_head.refusal _
-    (refused_head _ _ _ r.4 _ r.6.reads r.6.read_limits _ c.heads.ensures.refused
+    told _ _ _ _ _ _ _ _ _ _ _ _ _ _ refl e.pickle e.no.place e.no.why (e.no.pair ∙ r.2.off)
+    (row_refused c.rows.ensures.taking _ _ _ _ _ _ _ _ _ o.3 _ _ _ _
+    (refused_turned _ _ _ _ _ r.0 r.1 _ _ _ r.2 _ c.in-Err-next_head.refusal _
+    (refused_head _ _ _ r.0 _ r.2.reads r.2.read_limits _ c.heads.ensures.refused
     c.next_head.result c.in-Err-next_head.refusal k.1 (cc (c.in-Err-next_head.is)))
-    (seen_so _ _ _ k.3 (search rules))).0 (λ is. r.7))
+    (seen_so _ _ _ k.3 (search rules))).0 (λ is. o.7))
 
 pub returns-in-Err-next_head-clause-count : goal.returns-in-Err-next_head-clause-count
 returns-in-Err-next_head-clause-count g c =
     let k = c.next_head.follows.holds-at-none in
-    let r = c.instructions.invariant.row in
-    let w = (c.heads.ensures.refused _ _ _ r.4 _ _ c.next_head.result c.in-Err-next_head.refusal
-    r.6.reads k.1 (cc (c.in-Err-next_head.is))).1 in
+    let o = c.instructions.invariant.row in
+    let r = checked_along _ _ _ _ _ c.heads.ensures.lent c.heads.ensures.twice o.4 o.5 _ _ _ _ o.6
+    _ c.in_default.ensures.ok in
+    let w = (c.heads.ensures.refused _ _ _ r.0 _ _ c.next_head.result c.in-Err-next_head.refusal
+    r.2.reads k.1 (cc (c.in-Err-next_head.is))).1 in
     count_on _ _ _ _ _ _ _ _ _ (returns-in-Err-next_head-clause-answer g c) _ _ _
     c.refused-in-Err-next_head.ensures.no.why
-    (r.6.reads.bytes.count ∙ none_failed c.rows.ensures.taking _ _ _ _ _ _ _ _ _ r.3)
+    (r.2.reads.bytes.count ∙ none_failed c.rows.ensures.taking _ _ _ _ _ _ _ _ _ o.3)
     (seen_so _ _ _ k.3 (search rules)) w.failures
 
 pub next-requires-clause-room : goal.next-requires-clause-room
 next-requires-clause-room g c =
     let k = c.next_head.follows.holds-at-none in
-    let r = c.instructions.invariant.row in
-    let e = c.heads.ensures.ended _ _ _ r.4 _ _ c.next_head.result r.6.reads k.1
+    let o = c.instructions.invariant.row in
+    let r = checked_along _ _ _ _ _ c.heads.ensures.lent c.heads.ensures.twice o.4 o.5 _ _ _ _ o.6
+    _ c.in_default.ensures.ok in
+    let e = c.heads.ensures.ended _ _ _ r.0 _ _ c.next_head.result r.2.reads k.1
     (cc (c.in-Ok-Ended.is, c.in-Ok-Ended.field-0-is)) in
-    let some = some_byte r.4 e.0.stops in
-    let reads = r.6.reads.count in
-    let few = r.3.few in
+    let some = some_byte r.0 e.0.stops in
+    let reads = r.2.reads.count in
+    let few = o.3.few in
     let range = c.taken-taken.type_inv in
     omega (arith, some, reads, few, range, c.taken-taken.ensures ∙ ap (λ s. s.taken) e.1)
 
@@ -139,8 +113,10 @@ pub returns-in-Err-next-clause-answer : goal.returns-in-Err-next-clause-answer
 returns-in-Err-next-clause-answer g c =
     let taking = c.rows.ensures.taking in
     let k = c.next_head.follows.holds-at-none in
-    let r = c.instructions.invariant.row in
-    let e = c.heads.ensures.ended _ _ _ r.4 _ _ c.next_head.result r.6.reads k.1
+    let o = c.instructions.invariant.row in
+    let r = checked_along _ _ _ _ _ c.heads.ensures.lent c.heads.ensures.twice o.4 o.5 _ _ _ _ o.6
+    _ c.in_default.ensures.ok in
+    let e = c.heads.ensures.ended _ _ _ r.0 _ _ c.next_head.result r.2.reads k.1
     (cc (c.in-Ok-Ended.is, c.in-Ok-Ended.field-0-is)) in
     let x = c.in-Err-next.refusal in
     let looks = c.next.ensures.reader in
@@ -150,17 +126,19 @@ returns-in-Err-next-clause-answer g c =
     let f = c.refused-in-Err-next.ensures in
     told _ _ _ _ _ _ _ _ _ _ _ _ _ _ (seen_so _ _ _ ahead (search rules))
     (f.pickle ∙ c.next.ensures.row.number) f.no.place f.no.why (f.no.pair ∙ off)
-    (row_refused taking _ _ _ _ _ _ _ _ _ (pickle_more taking _ _ _ _ _ _ _ _ _ r.3 r.4 r.5 _ _
-    _ r.6 e.0 _ (taking.none _) nothing_known _ refl) _ _ _ _
-    (refused_behind taking c.args.loading _ _ r.6.laws c.rows.ensures.begins _ r.6.read_limits _
-    _ (next_ready taking _ _ _ _ _ _ _ _ _ r.3 r.4 r.5 _ _ _ r.6 e.0) c.rows.ensures.refused _
+    (row_refused taking _ _ _ _ _ _ _ _ _ (pickle_more taking _ _ _ _ _ _ _ _ _ o.3 r.0 r.1 _ _
+    _ r.2 e.0 _ (taking.none _) nothing_known _ refl) _ _ _ _
+    (refused_behind taking c.args.loading _ _ r.2.laws c.rows.ensures.begins _ r.2.read_limits _
+    _ (next_ready taking _ _ _ _ _ _ _ _ _ o.3 r.0 r.1 _ _ _ r.2 e.0) c.rows.ensures.refused _
     x h) (λ is. absurd (behind_is_not_cut _ _ x h is)))
 
 pub returns-in-Err-next-clause-count : goal.returns-in-Err-next-clause-count
 returns-in-Err-next-clause-count g c =
     let k = c.next_head.follows.holds-at-none in
-    let r = c.instructions.invariant.row in
-    let e = c.heads.ensures.ended _ _ _ r.4 _ _ c.next_head.result r.6.reads k.1
+    let o = c.instructions.invariant.row in
+    let r = checked_along _ _ _ _ _ c.heads.ensures.lent c.heads.ensures.twice o.4 o.5 _ _ _ _ o.6
+    _ c.in_default.ensures.ok in
+    let e = c.heads.ensures.ended _ _ _ r.0 _ _ c.next_head.result r.2.reads k.1
     (cc (c.in-Ok-Ended.is, c.in-Ok-Ended.field-0-is)) in
     let x = c.in-Err-next.refusal in
     let looks = c.next.ensures.reader in
@@ -168,16 +146,18 @@ returns-in-Err-next-clause-count g c =
     let h = refused_from _ _ _ c.next.result x e.1 looks.refused c.in-Err-next.is in
     count_on _ _ _ _ _ _ _ _ _ (returns-in-Err-next-clause-answer g c) _ _ _
     c.refused-in-Err-next.ensures.no.why
-    (r.6.reads.bytes.count ∙ none_failed c.rows.ensures.taking _ _ _ _ _
-    _ _ _ _ r.3) (seen_so _ _ _ ahead (search rules))
+    (r.2.reads.bytes.count ∙ none_failed c.rows.ensures.taking _ _ _ _ _
+    _ _ _ _ o.3) (seen_so _ _ _ ahead (search rules))
     (behind_counts _ _ x h c.rows.ensures.refused)
 
 pub instructions-preserved-in-Ok-true : goal.instructions-preserved-in-Ok-true
 instructions-preserved-in-Ok-true g c =
     let taking = c.rows.ensures.taking in
     let k = c.next_head.follows.holds-at-none in
-    let r = c.instructions.invariant.row in
-    let e = c.heads.ensures.ended _ _ _ r.4 _ _ c.next_head.result r.6.reads k.1
+    let o = c.instructions.invariant.row in
+    let r = checked_along _ _ _ _ _ c.heads.ensures.lent c.heads.ensures.twice o.4 o.5 _ _ _ _ o.6
+    _ c.in_default.ensures.ok in
+    let e = c.heads.ensures.ended _ _ _ r.0 _ _ c.next_head.result r.2.reads k.1
     (cc (c.in-Ok-Ended.is, c.in-Ok-Ended.field-0-is)) in
     let counted = c.next.ensures.row in
     let looks = c.next.ensures.reader in
@@ -189,18 +169,19 @@ instructions-preserved-in-Ok-true g c =
     let apart = (let b = rw (c.in-Ok-true.is, kept) at counted.apart in b) in
     let machine = (let b = rw (c.in-Ok-true.is, kept) at c.next.ensures.session.ready in b) in
     let memo = c.args.loading.memo in
-    let more = pickle_more taking _ _ _ _ _ _ _ _ _ r.3 r.4 r.5 _ _ _ r.6 e.0 s.source h.0
-    (restarted memo c.instructions.session.machine).knowledge _ apart in
-    let ready = next_ready taking _ _ _ _ _ _ _ _ _ r.3 r.4 r.5 _ _ _ r.6 e.0 in
-    let row = r.2 ++ this r.4 r.5 ∷ [] in
+    let more = pickle_more taking _ _ _ _ _ _ _ _ _ o.3 r.0 r.1 _ _ _ r.2 e.0 s.source h.0
+    (restarted memo c.judge_at_hand.new.self.machine).knowledge _ apart in
+    let ready = next_ready taking _ _ _ _ _ _ _ _ _ o.3 r.0 r.1 _ _ _ r.2 e.0 in
+    let row = o.2 ++ this r.0 r.1 ∷ [] in
     let origin : Origin = record {
       at = s.taken;
       beginning = begins memo row;
-      known = (restarted memo c.instructions.session.machine).knowledge;
+      known = (restarted memo c.judge_at_hand.new.self.machine).knowledge;
     } in
     record {
       memo = counted.memo ∙ kept;
-      same = looks.source ∙ (k.0 ∙ c.instructions.invariant.same);
+      same = looks.source ∙ (k.0
+          ∙ (c.judge_at_hand.ensures.source ∙ c.instructions.invariant.same));
       row = (
         s.source,
         origin,
@@ -209,8 +190,8 @@ instructions-preserved-in-Ok-true g c =
         [],
         [],
         rw machine
-            (checked_again _ _ _ s.source r.6.laws c.rows.ensures.begins s h.1
-            (h.3 ∙ r.6.read_limits)
+            (checked_again _ _ _ s.source r.2.laws c.rows.ensures.begins s h.1
+            (h.3 ∙ r.2.read_limits)
             _ _ ready),
         λ ne. some_ahead ahead.0 _ _ ahead.1,
       );
@@ -220,8 +201,10 @@ pub returns-in-Ok-false-clause-answer : goal.returns-in-Ok-false-clause-answer
 returns-in-Ok-false-clause-answer g c =
     let taking = c.rows.ensures.taking in
     let k = c.next_head.follows.holds-at-none in
-    let r = c.instructions.invariant.row in
-    let e = c.heads.ensures.ended _ _ _ r.4 _ _ c.next_head.result r.6.reads k.1
+    let o = c.instructions.invariant.row in
+    let r = checked_along _ _ _ _ _ c.heads.ensures.lent c.heads.ensures.twice o.4 o.5 _ _ _ _ o.6
+    _ c.in_default.ensures.ok in
+    let e = c.heads.ensures.ended _ _ _ r.0 _ _ c.next_head.result r.2.reads k.1
     (cc (c.in-Ok-Ended.is, c.in-Ok-Ended.field-0-is)) in
     let counted = c.next.ensures.row in
     let looks = c.next.ensures.reader in
@@ -233,10 +216,10 @@ returns-in-Ok-false-clause-answer g c =
     let kept = c.instructions.invariant.memo in
     let apart = (let b = rw (c.in-Ok-false.is, kept) at counted.apart in b) in
     let machine = (let b = rw (c.in-Ok-false.is, kept) at c.next.ensures.session.ready in b) in
-    let more = pickle_more taking _ _ _ _ _ _ _ _ _ r.3 r.4 r.5 _ _ _ r.6 e.0 s.source h.0
+    let more = pickle_more taking _ _ _ _ _ _ _ _ _ o.3 r.0 r.1 _ _ _ r.2 e.0 s.source h.0
     nothing_known _ apart in
     let is = c.taken-taken.ensures ∙ ap (λ s. s.taken) e.1 in
-    let ready = next_ready taking _ _ _ _ _ _ _ _ _ r.3 r.4 r.5 _ _ _ r.6 e.0 in
+    let ready = next_ready taking _ _ _ _ _ _ _ _ _ o.3 r.0 r.1 _ _ _ r.2 e.0 in
     let f = c.accepted.ensures in
     told_yes _ _ _ _ _ _ _ _ _ _ _ _ (seen_so _ _ _ ahead (search rules)) f.taken
     (f.pickles ∙ counted.number)
@@ -254,17 +237,19 @@ returns-in-Ok-false-clause-count g c =
 pub returns-in-Err-judge_passed : goal.returns-in-Err-judge_passed
 returns-in-Err-judge_passed g c =
     let k = c.next_head.follows.holds-at-none in
-    let r = c.instructions.invariant.row in
-    let w = took_passed _ _ _ r.4 _ r.6.reads r.6.read_limits _ c.heads.ensures.passed
+    let o = c.instructions.invariant.row in
+    let r = checked_along _ _ _ _ _ c.heads.ensures.lent c.heads.ensures.twice o.4 o.5 _ _ _ _ o.6
+    _ c.in_default.ensures.ok in
+    let w = took_passed _ _ _ r.0 _ r.2.reads r.2.read_limits _ c.heads.ensures.passed
     c.next_head.result c.in-Ok-Passed.at c.in-Ok-Passed.op c.in-Ok-Passed.field-0-2 k.1
     (cc (c.in-Ok-Passed.is, c.in-Ok-Passed.field-0-is)) in
     let i : Instruction = instruction c.in-Ok-Passed.op (Counted w.payload) in
     let lender = c.next_head.follows.lender-at-none in
     let now = sight g.R.Source.left g.R.Source.failures lender.source.now in
     let e = c.refused-in-Err-judge_passed.ensures in
-    let took_one = row_took c.rows.ensures.taking _ _ _ _ _ _ _ _ _ r.3 r.4 r.5 _ _ _ r.6 _
+    let took_one = row_took c.rows.ensures.taking _ _ _ _ _ _ _ _ _ o.3 r.0 r.1 _ _ _ r.2 _
     c.in-Ok-Passed.at i now w.took (seen_so lender.core.ahead now now k.3 refl)
-    (longest c.args.policy.now) _ _ (λ is. r.7) (c.in-Err-judge_passed.ensures.err i
+    (longest c.args.policy.now) _ _ (λ is. o.7) (c.in-Err-judge_passed.ensures.err i
     (long_passed _ _ _ _ _ _ _ _ _ w _ c.taken.ensures)) in
     record {
       answer = told _ _ _ _ _ _ _ _ _ _ _ _ _ _ (search rules) e.pickle e.no.place e.no.why
@@ -275,17 +260,19 @@ returns-in-Err-judge_passed g c =
 pub returns-in-Err-judge : goal.returns-in-Err-judge
 returns-in-Err-judge g c =
     let k = c.next_head.follows.holds-at-none in
-    let r = c.instructions.invariant.row in
-    let took = took_head _ _ _ r.4 _ r.6.reads r.6.read_limits _ c.heads.ensures.given
+    let o = c.instructions.invariant.row in
+    let r = checked_along _ _ _ _ _ c.heads.ensures.lent c.heads.ensures.twice o.4 o.5 _ _ _ _ o.6
+    _ c.in_default.ensures.ok in
+    let took = took_head _ _ _ r.0 _ r.2.reads r.2.read_limits _ c.heads.ensures.given
     c.next_head.result c.in-Ok-Inst.at c.in-Ok-Inst.inst k.1
     (cc (c.in-Ok-Inst.is, c.in-Ok-Inst.field-0-is)) in
     let lender = c.next_head.follows.lender-at-none in
     let now = sight g.R.Source.left g.R.Source.failures lender.source.now in
     let e = c.refused-in-Err-judge.ensures in
-    let took_one = row_took c.rows.ensures.taking _ _ _ _ _ _ _ _ _ r.3 r.4 r.5 _ _ _ r.6 _
+    let took_one = row_took c.rows.ensures.taking _ _ _ _ _ _ _ _ _ o.3 r.0 r.1 _ _ _ r.2 _
     c.in-Ok-Inst.at (instruction_of c.in-Ok-Inst.inst) now took
     (seen_so lender.core.ahead now now k.3 refl)
-    (longest c.args.policy.now) _ _ (λ is. r.7) c.in-Err-judge.ensures.err in
+    (longest c.args.policy.now) _ _ (λ is. o.7) c.in-Err-judge.ensures.err in
     record {
       answer = told _ _ _ _ _ _ _ _ _ _ _ _ _ _ (search rules) e.pickle e.no.place e.no.why
           e.no.pair took_one.0;
@@ -296,65 +283,74 @@ pub instructions-preserved-in_default-judge_passed :
     goal.instructions-preserved-in_default-judge_passed
 instructions-preserved-in_default-judge_passed g c =
     let k = c.next_head.follows.holds-at-none in
-    let r = c.instructions.invariant.row in
-    let w = took_passed _ _ _ r.4 _ r.6.reads r.6.read_limits _ c.heads.ensures.passed
+    let o = c.instructions.invariant.row in
+    let r = checked_along _ _ _ _ _ c.heads.ensures.lent c.heads.ensures.twice o.4 o.5 _ _ _ _ o.6
+    _ c.in_default.ensures.ok in
+    let w = took_passed _ _ _ r.0 _ r.2.reads r.2.read_limits _ c.heads.ensures.passed
     c.next_head.result c.in-Ok-Passed.at c.in-Ok-Passed.op c.in-Ok-Passed.field-0-2 k.1
     (cc (c.in-Ok-Passed.is, c.in-Ok-Passed.field-0-is)) in
     let i : Instruction = instruction c.in-Ok-Passed.op (Counted w.payload) in
     record {
       memo = c.instructions.invariant.memo;
-      same = k.0 ∙ c.instructions.invariant.same;
+      same = k.0 ∙ (c.judge_at_hand.ensures.source ∙ c.instructions.invariant.same);
       row = (
         _,
         _,
-        r.2,
-        r.3,
+        o.2,
+        o.3,
         _,
         _,
-        checked_took _ _ _ _ _ r.4 r.5 _ _ _ r.6 _ _ _ c.in-Ok-Passed.at
+        checked_took _ _ _ _ _ r.0 r.1 _ _ _ r.2 _ _ _ c.in-Ok-Passed.at
             i w.took (c.in_default-judge_passed.ensures.ok i
             (long_passed _ _ _ _ _ _ _ _ _ w _ c.taken.ensures)),
-        r.7,
+        o.7,
       );
     }
 
 pub instructions-preserved : goal.instructions-preserved
 instructions-preserved g c =
     let k = c.next_head.follows.holds-at-none in
-    let r = c.instructions.invariant.row in
-    let took = took_head _ _ _ r.4 _ r.6.reads r.6.read_limits _ c.heads.ensures.given
+    let o = c.instructions.invariant.row in
+    let r = checked_along _ _ _ _ _ c.heads.ensures.lent c.heads.ensures.twice o.4 o.5 _ _ _ _ o.6
+    _ c.in_default.ensures.ok in
+    let took = took_head _ _ _ r.0 _ r.2.reads r.2.read_limits _ c.heads.ensures.given
     c.next_head.result c.in-Ok-Inst.at c.in-Ok-Inst.inst k.1
     (cc (c.in-Ok-Inst.is, c.in-Ok-Inst.field-0-is)) in
     record {
       memo = c.instructions.invariant.memo;
-      same = k.0 ∙ c.instructions.invariant.same;
+      same = k.0 ∙ (c.judge_at_hand.ensures.source ∙ c.instructions.invariant.same);
       row = (
         _,
         _,
-        r.2,
-        r.3,
+        o.2,
+        o.3,
         _,
         _,
-        checked_took _ _ _ _ _ r.4 r.5 _ _ _ r.6 _ _ _ c.in-Ok-Inst.at
+        checked_took _ _ _ _ _ r.0 r.1 _ _ _ r.2 _ _ _ c.in-Ok-Inst.at
             (instruction_of c.in-Ok-Inst.inst) took c.in_default-judge.ensures.ok,
-        r.7,
+        o.7,
       );
     }
 
 pub instructions-smaller : goal.instructions-smaller
 instructions-smaller g c =
     let k = c.next_head.follows.holds-at-none in
-    let r = c.instructions.invariant.row in
-    let w = (c.heads.ensures.given _ _ _ r.4 _ _ c.next_head.result c.in-Ok-Inst.at
-    c.in-Ok-Inst.inst (λ o. ap (λ l. payload_limit l o) r.6.read_limits) r.6.reads k.1
+    let o = c.instructions.invariant.row in
+    let r = checked_along _ _ _ _ _ c.heads.ensures.lent c.heads.ensures.twice o.4 o.5 _ _ _ _ o.6
+    _ c.in_default.ensures.ok in
+    let w = (c.heads.ensures.given _ _ _ r.0 _ _ c.next_head.result c.in-Ok-Inst.at
+    c.in-Ok-Inst.inst (λ o. ap (λ l. payload_limit l o) r.2.read_limits) r.2.reads k.1
     (cc (c.in-Ok-Inst.is, c.in-Ok-Inst.field-0-is))).1 in
-    less_to_do _ _ _ _ (instruction_of c.in-Ok-Inst.inst) w.taken w.within
+    less_to_do _ _ _ _ _ (instruction_of c.in-Ok-Inst.inst)
+    (taken_along _ _ _ _ _ c.in_default.ensures.ok) w.taken w.within
 
 pub judge_passed-requires-clause-passed : goal.judge_passed-requires-clause-passed
 judge_passed-requires-clause-passed g c =
     let k = c.next_head.follows.holds-at-none in
-    let r = c.instructions.invariant.row in
-    (took_passed _ _ _ r.4 _ r.6.reads r.6.read_limits _ c.heads.ensures.passed c.next_head.result
+    let o = c.instructions.invariant.row in
+    let r = checked_along _ _ _ _ _ c.heads.ensures.lent c.heads.ensures.twice o.4 o.5 _ _ _ _ o.6
+    _ c.in_default.ensures.ok in
+    (took_passed _ _ _ r.0 _ r.2.reads r.2.read_limits _ c.heads.ensures.passed c.next_head.result
     c.in-Ok-Passed.at c.in-Ok-Passed.op c.in-Ok-Passed.field-0-2 k.1
     (cc (c.in-Ok-Passed.is, c.in-Ok-Passed.field-0-is))).one.passed
 
@@ -362,9 +358,48 @@ pub instructions-smaller-in_default-judge_passed :
     goal.instructions-smaller-in_default-judge_passed
 instructions-smaller-in_default-judge_passed g c =
     let k = c.next_head.follows.holds-at-none in
-    let r = c.instructions.invariant.row in
-    let w = c.heads.ensures.passed _ _ _ r.4 _ _ c.next_head.result c.in-Ok-Passed.at
+    let o = c.instructions.invariant.row in
+    let r = checked_along _ _ _ _ _ c.heads.ensures.lent c.heads.ensures.twice o.4 o.5 _ _ _ _ o.6
+    _ c.in_default.ensures.ok in
+    let w = c.heads.ensures.passed _ _ _ r.0 _ _ c.next_head.result c.in-Ok-Passed.at
     c.in-Ok-Passed.op c.in-Ok-Passed.field-0-2
-    (λ o. ap (λ l. payload_limit l o) r.6.read_limits) r.6.reads k.1
+    (λ o. ap (λ l. payload_limit l o) r.2.read_limits) r.2.reads k.1
     (cc (c.in-Ok-Passed.is, c.in-Ok-Passed.field-0-is)) in
-    less_to_do _ _ _ _ (instruction c.in-Ok-Passed.op (Counted w.0)) w.4 w.5.within
+    less_to_do _ _ _ _ _ (instruction c.in-Ok-Passed.op (Counted w.0))
+    (taken_along _ _ _ _ _ c.in_default.ensures.ok) w.4 w.5.within
+
+pub judge-requires-clause-running : goal.judge-requires-clause-running
+judge-requires-clause-running g c =
+    let k = c.next_head.follows.holds-at-none in
+    let o = c.instructions.invariant.row in
+    let r = checked_along _ _ _ _ _ c.heads.ensures.lent c.heads.ensures.twice o.4 o.5 _ _ _ _ o.6
+    _ c.in_default.ensures.ok in
+    let took = took_head _ _ _ r.0 _ r.2.reads r.2.read_limits _ c.heads.ensures.given
+    c.next_head.result c.in-Ok-Inst.at c.in-Ok-Inst.inst k.1
+    (cc (c.in-Ok-Inst.is, c.in-Ok-Inst.field-0-is)) in
+    r.2.stopped ∙ not_ended r.0 _ r.2.reads.so_far took.more.no_stop
+
+pub judge-requires-clause-well : goal.judge-requires-clause-well
+judge-requires-clause-well g c =
+    let o = c.instructions.invariant.row in
+    let r = checked_along _ _ _ _ _ c.heads.ensures.lent c.heads.ensures.twice o.4 o.5 _ _ _ _ o.6
+    _ c.in_default.ensures.ok in
+    r.2.refused
+
+pub judge_passed-requires-clause-running : goal.judge_passed-requires-clause-running
+judge_passed-requires-clause-running g c =
+    let k = c.next_head.follows.holds-at-none in
+    let o = c.instructions.invariant.row in
+    let r = checked_along _ _ _ _ _ c.heads.ensures.lent c.heads.ensures.twice o.4 o.5 _ _ _ _ o.6
+    _ c.in_default.ensures.ok in
+    let w = took_passed _ _ _ r.0 _ r.2.reads r.2.read_limits _ c.heads.ensures.passed
+    c.next_head.result c.in-Ok-Passed.at c.in-Ok-Passed.op c.in-Ok-Passed.field-0-2 k.1
+    (cc (c.in-Ok-Passed.is, c.in-Ok-Passed.field-0-is)) in
+    r.2.stopped ∙ not_ended r.0 _ r.2.reads.so_far w.took.more.no_stop
+
+pub judge_passed-requires-clause-well : goal.judge_passed-requires-clause-well
+judge_passed-requires-clause-well g c =
+    let o = c.instructions.invariant.row in
+    let r = checked_along _ _ _ _ _ c.heads.ensures.lent c.heads.ensures.twice o.4 o.5 _ _ _ _ o.6
+    _ c.in_default.ensures.ok in
+    r.2.refused

@@ -1,4 +1,4 @@
-use Rattle.std.proofs.Common.{◌-◌, arith, drop, refl, sym, take}
+use Rattle.std.proofs.Common.{◌-◌, drop, refl, sym, take}
 use Rattle.pkread.proofs.Bytes.FrontLines.{front_suits, line_front}
 use Rattle.pkread.proofs.front.line_length.Goals as goal
 
@@ -13,4 +13,4 @@ returns g limit some =
     let line = take count (drop 1 g.args.bytes.now) in
     line_front g.args.op g.args.most g.in-Some.end line g.requires.lay (sym g.in-Some.ensures)
     g.if-end-most.false count g.args.bytes.now g.requires.some g.requires.code refl
-    (omega (arith, g.min.ensures)) (g.if-not-is_good.ensures) limit
+    (g.if-not-is_good.ensures) limit

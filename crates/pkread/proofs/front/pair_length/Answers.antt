@@ -1,4 +1,4 @@
-use Rattle.std.proofs.Common.{◌-◌, arith, drop, refl, sym, take}
+use Rattle.std.proofs.Common.{◌-◌, drop, refl, sym, take}
 use Rattle.pkread.proofs.Bytes.FrontLines.{pair_front, pair_suits}
 use Rattle.pkread.proofs.front.pair_length.Goals as goal
 
@@ -15,5 +15,4 @@ returns g limit some =
     pair_front g.args.op g.args.most g.in-Some.first g.in-Some-end_of_line.second lines _
     g.requires.lay (sym g.in-Some.ensures) g.if-first-most.false
     (sym g.in-Some-end_of_line.ensures) g.if-second-most.false count _ g.args.bytes.now
-    g.requires.some g.requires.code refl refl (omega (arith, g.min.ensures))
-    (g.if-not-is_good.ensures) limit
+    g.requires.some g.requires.code refl refl (g.if-not-is_good.ensures) limit

@@ -1,4 +1,5 @@
-use Rattle.pkread.proofs.Loops.Run.{end_is_read, next_is_read, peeked_is_read, reading_begins}
+use Rattle.pkread.proofs.Calls.AtHand.{taking_twice}
+use Rattle.pkread.proofs.Loops.Run.{end_is_read, lent_is_read, next_is_read, reading_begins}
 use Rattle.pkread.proofs.Loops.Run.{refusal_is_read}
 use Rattle.pkread.proofs.laws.nexts.Goals as goal
 
@@ -14,5 +15,8 @@ returns-clause-ended c = end_is_read
 pub returns-clause-refused : goal.returns-clause-refused
 returns-clause-refused c = refusal_is_read
 
-pub returns-clause-peeked : goal.returns-clause-peeked
-returns-clause-peeked c = peeked_is_read
+pub returns-clause-lent : goal.returns-clause-lent
+returns-clause-lent c = lent_is_read
+
+pub returns-clause-twice : goal.returns-clause-twice
+returns-clause-twice c = taking_twice

@@ -1,0 +1,8 @@
+use Rattle.pkread.proofs.Calls.AtHand.{is_lent}
+use Rattle.pkread.proofs.front.lend.Goals as goal
+
+pub returns : goal.returns
+returns c =
+    let f = c.in-Some.ensures in
+    is_lent c.args.limits.now c.in-Some.front.split c.in-Some.front.length c.in-Some.front.op
+    c.args.bytes.now _ f (c.spelled.ensures _ _ f.found.lies)
