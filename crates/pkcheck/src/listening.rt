@@ -1,15 +1,13 @@
 //! A check with a listener, which hears each instruction before it is judged.
 
 ghost use Rattle.std.specs.Prelude.{◌≡◌, ◌∷◌, ◌++◌, [], List, Result};
-ghost use Rattle.std.specs.Prelude.{IfErr, IfOk, IfSome, MatchResult, OnOk};
+ghost use Rattle.std.specs.Prelude.{IfErr, IfOk, MatchResult, OnOk};
 ghost use Rattle.pkops.specs.Inst.{instruction_of};
 ghost use Rattle.pkops.specs.Limits.{holding_all};
-ghost use Rattle.pkread.specs.ReaderCalls.{TakesNoneAhead, source_of, state};
 ghost use Rattle.pkread.specs.Rows.{sight};
 ghost use Rattle.pkcheck.specs.Answered.{CountsFailures};
 ghost use Rattle.pkcheck.specs.Heard.{Heard, IsCutShort, IsRightAndHeard, heard};
 ghost use Rattle.pkcheck.specs.Import.{policy_of};
-ghost use Rattle.pkcheck.specs.Private.Lent.{IsAtHand};
 
 use crate::checking::{No, Yes};
 use crate::old_strings::OldStrings;
@@ -17,7 +15,7 @@ use crate::policy::Policy;
 use crate::session::Session;
 use pkops::{Inst, Limits};
 use pkread::laws::{frames, nexts};
-use pkread::{Next, Reader, Source, lend};
+use pkread::{Next, Reader, Source};
 use std::alloc::Global;
 
 /// Hears the instructions of a pickle while it is checked.
@@ -79,19 +77,8 @@ pub fn check_heard<R: Source, L: Listener>(
     let mut reader = Reader::new(alloc, source, &limits);
     let mut session = Session::new(alloc, &limits, OldStrings::Unknown);
     'instructions: loop {
-        if let Some(inst) = next_at_hand(&reader, &limits) {
-            let at = reader.taken();
-            let length = inst.len() as usize;
-            if let Err(error) = listener.hear(at, &inst, session.marks()) {
-                reader.advance(length);
-                return Err(error);
-            }
-            if let Err(reason) = session.judge_lent(&inst, policy) {
-                reader.advance(length);
-                return Ok(Err(session.refuse(at, reason)));
-            }
-            reader.advance(length);
-            continue;
+        if let Err(refusal) = session.hear_at_hand(&mut reader, policy, listener)? {
+            return Ok(Err(session.refuse(refusal.at, refusal.reason)));
         }
         match reader.next() {
             Err(refusal) => return Ok(Err(session.refuse(refusal.at, refusal.reason))),
@@ -104,18 +91,4 @@ pub fn check_heard<R: Source, L: Listener>(
             }
         }
     }
-}
-
-/// The next instruction, lent from where it lies, if it is at hand.
-#[inline(always)]
-fn next_at_hand<'a, R: Source>(reader: &'a Reader<'_, R>, limits: &Limits) -> Option<Inst<'a>>
-    ensures next { IfSome result (λ inst. IsAtHand limits.now
-        (state R.left R.failures reader.now) (R.at_hand (source_of reader.now))
-        (instruction_of inst)) }
-    ensures none { IfSome result (λ _. TakesNoneAhead reader.now) }
-{
-    let Some(bytes) = reader.at_hand() else {
-        return None;
-    };
-    lend(bytes, limits)
 }

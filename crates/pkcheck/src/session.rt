@@ -1,17 +1,21 @@
 //! The frames and the machine of one check, which judge one instruction at a time.
 
-ghost use Rattle.std.specs.Prelude.{◌≡◌, ◌<◌, ℕ, IfOk, IfErr, IsTrue, None, OnErr, OnOk, false};
+ghost use Rattle.std.specs.Prelude.{◌≡◌, ◌+◌, ◌<◌, ◌≤◌, ℕ, List, IfOk, IfErr, IsTrue, MatchResult};
+ghost use Rattle.std.specs.Prelude.{None, OnErr, OnOk, false, length};
 ghost use Rattle.pkops.specs.Admitted.{is_admitted};
 ghost use Rattle.pkops.specs.Inst.{instruction_of};
 ghost use Rattle.pkops.specs.Payloads.{is_passed};
 ghost use Rattle.pkops.specs.Spelling.{Instruction};
-ghost use Rattle.pkread.specs.Framing.{other};
 ghost use Rattle.pkread.specs.Pieces.{number_of, role_of};
 ghost use Rattle.pkread.specs.ReaderCalls.{KeepsSource, TakesNoneAhead, has_ended, state};
+ghost use Rattle.pkread.specs.Rows.{all_bytes};
 ghost use Rattle.pkcheck.specs.Covers.{Covers};
+ghost use Rattle.pkcheck.specs.Heard.{Heard};
 ghost use Rattle.pkcheck.specs.Import.{policy_of};
 ghost use Rattle.pkcheck.specs.Private.Judgement.{BothGoOn, HasLength, IsNoAt, IsRefused};
-ghost use Rattle.pkcheck.specs.Private.Lent.{GoesAlong, PassInTurn, RefusesLent, TurnsDown};
+ghost use Rattle.pkcheck.specs.Private.Lent.{FailsAtHand, FailsInTurn, GoesAlong, HearsAlong};
+ghost use Rattle.pkcheck.specs.Private.Lent.{HearsInTurn, HearsRefused, HearsTurned, PassInTurn};
+ghost use Rattle.pkcheck.specs.Private.Lent.{RefusesLent, TurnsDown};
 ghost use Rattle.pkcheck.specs.Private.NextPickle.{moved_apart, restarted};
 ghost use Rattle.pkcheck.specs.Runs.{State};
 ghost use Rattle.pkcheck.specs.Shape.{marks_of};
@@ -19,6 +23,7 @@ ghost use Rattle.pkcheck.specs.View.{fresh};
 
 use crate::checking::{No, Yes};
 use crate::imports::Imports;
+use crate::listening::Listener;
 use crate::loading::Memo;
 use crate::machine::Machine;
 use crate::machine::ledger::Ledger;
@@ -37,6 +42,13 @@ pub(crate) struct Turned {
     /// The number of its bytes.
     pub length: usize,
     pub reason: Reason,
+}
+
+/// The first instruction among some bytes at which a listener fails. See `Turned`.
+pub(crate) struct Failed<E> {
+    pub before: usize,
+    pub length: usize,
+    pub error: E,
 }
 
 /// The frame rules and the machine of a check. If the frame rules refuse an instruction, the
@@ -113,15 +125,15 @@ impl Session {
         }
     }
 
-    /// Judges the instructions at the front of some bytes, as far as they can be lent and lie in the
-    /// open frame. Returns the number of their bytes.
+    /// Judges the instructions at the front of some bytes, as far as they can be lent and lie in
+    /// the open frame. Returns the number of their bytes.
     #[inline(always)]
     fn judge_all_lent(&mut self, bytes: &[u8], policy: &Policy<'_>) -> Result<usize, Turned>
         requires running { self.old.machine.stopped ≡ false }
         requires well { self.old.machine.refused ≡ None }
-        ensures ok { IfOk result (λ count. (n : ℕ) × PassInTurn (policy_of policy.now) bytes.now
-            self.old n self.new count) }
-        ensures err { IfErr result (TurnsDown (policy_of policy.now) bytes.now self.old
+        ensures ok { IfOk result (λ count. (n : ℕ) × (hs : List Heard) × PassInTurn
+            (policy_of policy.now) 0 bytes.now self.old n self.new count hs) }
+        ensures err { IfErr result (TurnsDown (policy_of policy.now) 0 bytes.now self.old
             self.new.machine) }
     {
         let inside = self.frames.inside(bytes);
@@ -142,22 +154,100 @@ impl Session {
         Ok(count)
     }
 
-    /// Judges a lent instruction, first by the frame rules and then by the machine.
+    /// As `judge_at_hand`, with a listener that hears each instruction before it is judged. If it
+    /// fails, the bytes up to the end of the instruction at which it did are taken.
     #[inline(always)]
-    pub fn judge_lent(&mut self, inst: &Inst<'_>, policy: &Policy<'_>) -> Result<(), Reason>
-        requires admitted { IsTrue (is_admitted (instruction_of inst.now)) }
-        requires role { role_of (instruction_of inst.now).op
-            (number_of (instruction_of inst.now).arg) ≡ other }
+    pub fn hear_at_hand<R: Source, L: Listener>(
+        &mut self,
+        reader: &mut Reader<'_, R>,
+        policy: &Policy<'_>,
+        listener: &mut L,
+    ) -> Result<Result<(), Refusal>, L::Error>
+        requires ends { self.old.machine.stopped ≡ has_ended (state R.left R.failures reader.old) }
+        requires well { self.old.machine.refused ≡ None }
+        ensures source { KeepsSource reader.old reader.new }
+        ensures ok { IfOk result (λ judged. OnOk judged (HearsAlong L.hears listener.old
+            listener.new (policy_of policy.now) (state R.left R.failures reader.old)
+            (state R.left R.failures reader.new) self.old self.new)) }
+        ensures no { IfOk result (λ judged. IfErr judged (HearsRefused L.hears listener.old
+            listener.new (policy_of policy.now) (state R.left R.failures reader.old)
+            (state R.left R.failures reader.new) self.old self.new.machine)) }
+        ensures err { OnErr result (FailsAtHand L.hears listener.old (policy_of policy.now)
+            (state R.left R.failures reader.old) (state R.left R.failures reader.new) self.old) }
+        ensures none { MatchResult result (λ judged. OnErr judged (TakesNoneAhead reader.new))
+            (λ _. TakesNoneAhead reader.new) }
+    {
+        let Some(bytes) = reader.at_hand() else {
+            return Ok(Ok(()));
+        };
+        let taken = reader.taken();
+        match self.hear_all_lent(taken, bytes, policy, listener) {
+            Ok(Ok(passed)) => {
+                reader.advance(passed);
+                return Ok(Ok(()));
+            }
+            Ok(Err(turned)) => {
+                reader.advance(turned.before + turned.length);
+                return Ok(Err(Refusal {
+                    at: taken + turned.before as u64,
+                    reason: turned.reason,
+                }));
+            }
+            Err(failed) => {
+                let Failed {
+                    before,
+                    length,
+                    error,
+                } = failed;
+                reader.advance(before + length);
+                return Err(error);
+            }
+        }
+    }
+
+    /// As `judge_all_lent`, with a listener. The first byte has the offset `at`.
+    #[inline(always)]
+    fn hear_all_lent<L: Listener>(
+        &mut self,
+        at: u64,
+        bytes: &[u8],
+        policy: &Policy<'_>,
+        listener: &mut L,
+    ) -> Result<Result<usize, Turned>, Failed<L::Error>>
         requires running { self.old.machine.stopped ≡ false }
         requires well { self.old.machine.refused ≡ None }
-        ensures ok { IfOk result (λ _. BothGoOn (policy_of policy.now) (instruction_of inst.now)
-            self.old.frame self.old.machine self.new.frame self.new.machine) }
-        ensures err { IfErr result (IsRefused (policy_of policy.now) (instruction_of inst.now)
-            self.old.frame self.old.machine self.new.machine) }
+        requires room { at + length bytes.now ≤ all_bytes }
+        ensures ok { IfOk result (λ judged. IfOk judged (HearsInTurn L.hears listener.old
+            listener.new (policy_of policy.now) at bytes.now self.old self.new)) }
+        ensures no { IfOk result (λ judged. IfErr judged (HearsTurned L.hears listener.old
+            listener.new (policy_of policy.now) at bytes.now self.old self.new.machine)) }
+        ensures err { IfErr result (λ failed. FailsInTurn L.hears listener.old
+            (policy_of policy.now) at bytes.now self.old failed.before failed.length) }
     {
-        self.frames.take_other(inst.len())?;
-        self.machine.step_on(inst, policy)?;
-        Ok(())
+        let inside = self.frames.inside(bytes);
+        let mut rest = inside;
+        'instructions: while let Some(inst) = lend(rest, self.machine.limits()) {
+            let before = inside.len() - rest.len();
+            let length = inst.len() as usize;
+            if let Err(error) = listener.hear(at + before as u64, &inst, self.machine.marks()) {
+                return Err(Failed {
+                    before,
+                    length,
+                    error,
+                });
+            }
+            if let Err(reason) = self.machine.step_on(&inst, policy) {
+                return Ok(Err(Turned {
+                    before,
+                    length,
+                    reason,
+                }));
+            }
+            rest = &rest[length..];
+        }
+        let count = inside.len() - rest.len();
+        self.frames.take_inside(count);
+        Ok(Ok(count))
     }
 
     /// Judges an instruction that a loop seldom meets: any one that is not lent.

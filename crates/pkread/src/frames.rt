@@ -2,7 +2,7 @@
 
 ghost use Rattle.std.specs.Prelude.{◌≡◌, ◌≢◌, ◌-◌, ◌<◌, ℕ, take};
 ghost use Rattle.pkops.specs.Inst.{instruction_of};
-ghost use Rattle.pkread.specs.Framing.{TakesPiece, other};
+ghost use Rattle.pkread.specs.Framing.{TakesPiece};
 ghost use Rattle.pkread.specs.Pieces.{number_of, role_of};
 
 use pkops::{Arg, Inst, Op};
@@ -60,18 +60,6 @@ impl Frames {
                 }
             }
             _ => {}
-        }
-        self.take_other(length)
-    }
-
-    /// Takes the next instruction, which is neither FRAME nor STOP and has this length in bytes.
-    #[inline(always)]
-    pub fn take_other(&mut self, length: u64) -> Result<(), BrokenFrame>
-        requires { 0 < length }
-        ensures { TakesPiece self.old (record { length = length; role = other }) result self.new }
-    {
-        if self.open == 0 {
-            return Ok(());
         }
         if length > self.open {
             return Err(BrokenFrame);

@@ -177,10 +177,10 @@ impl<'r, R: Source> Reader<'r, R> {
         }
     }
 
-    /// The next bytes of the source, as far as they are at hand and can be taken. [`lend`] finds the
-    /// instruction that they begin with. Nothing is taken: call `advance` with the length of the
-    /// instructions that were used, or a call that returns every instruction. `None` after STOP,
-    /// after a refusal, and where an instruction has begun.
+    /// The next bytes of the source, as far as they are at hand and can be taken. [`lend`] finds
+    /// the instruction that they begin with. Nothing is taken: call `advance` with the length of
+    /// the instructions that were used, or a call that returns every instruction. `None` after
+    /// STOP, after a refusal, and where an instruction has begun.
     ///
     /// [`lend`]: crate::lend
     #[inline(always)]

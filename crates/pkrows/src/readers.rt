@@ -2,7 +2,8 @@
 
 use pkops::{Limits, Op};
 use pkread::{
-    Frames, Head, Input, Memory, Next, Reader, Reason, Refusal, Source, frame_argument, genops, lend,
+    Frames, Head, Input, Memory, Next, Reader, Reason, Refusal, Source, frame_argument, genops,
+    lend,
 };
 use std::alloc::Global;
 use std::process::Abort;

@@ -1,6 +1,7 @@
 -- The loop over lent instructions, which counts the bytes of the open frame once.
-use Rattle.std.proofs.Common.{◌≡◌, ◌≢◌, ℕ, zero, suc, ◌+◌, ◌-◌, ◌<◌, ◌≤◌, List, [], ◌++◌, length}
-use Rattle.std.proofs.Common.{take, drop, None, Some, false, inr, refl, sym, ap, subst, ◌∙◌, arith}
+use Rattle.std.proofs.Common.{◌≡◌, ◌≢◌, ℕ, zero, suc, ◌+◌, ◌-◌, ◌<◌, ◌≤◌, List, [], ◌∷◌, ◌++◌}
+use Rattle.std.proofs.Common.{length, take, drop, None, Some, false, inr, refl, sym, ap, subst}
+use Rattle.std.proofs.Common.{◌∙◌, arith}
 use Rattle.std.proofs.Common.{append-nil, append_assoc}
 use Rattle.std.proofs.lemmas.List.{drop-append-le, drop-drop, length-append, length-drop}
 use Rattle.std.proofs.lemmas.List.{length-take, take-append-drop, take_all}
@@ -9,14 +10,14 @@ use Rattle.std.proofs.Math.Dec.{eqb-suc-zero}
 use Rattle.pkops.specs.Limits.{Bounds}
 use Rattle.pkops.specs.Spelling.{Instruction, spelling}
 use Rattle.pkread.specs.AtHand.{IsLent}
-use Rattle.pkread.specs.Core.{phase_after}
 use Rattle.pkread.specs.Framing.{Role, counted, other}
 use Rattle.pkread.specs.Pieces.{piece_of}
 use Rattle.pkread.specs.ReaderCalls.{is_ended}
-use Rattle.pkread.specs.declared.Reason.{Reason}
+use Rattle.pkcheck.specs.Heard.{Heard, heard}
 use Rattle.pkcheck.specs.Knowledge.{Policy}
 use Rattle.pkcheck.specs.Private.Judgement.{SessionView}
-use Rattle.pkcheck.specs.Private.Lent.{PassInTurn, TurnsDown}
+use Rattle.pkcheck.specs.Private.Lent.{PassInTurn, StopsAt, TurnsDown, heard_before}
+use Rattle.pkcheck.specs.Shape.{marks_of}
 use Rattle.pkcheck.specs.Step.{FailsStep, GoesOn}
 use Rattle.pkcheck.specs.View.{View, stopped_by}
 use Rattle.pkcheck.specs.declared.machine.stepping.Moved.{Moved}
@@ -66,7 +67,8 @@ counted_at (suc n) size left role is none few rest =
 -- the bytes left in a frame, behind an instruction that lies in it
 counted_inside : (frame count size : ℕ) (role : Role) → role ≡ other → 0 < size
     → (frame ≢ 0 → count + size ≤ frame)
-    → counted (frame - count) (record { length = size; role = role }) ≡ Some (frame - (count + size))
+    → counted (frame - count) (record { length = size; role = role })
+    ≡ Some (frame - (count + size))
 counted_inside frame count size role is some within =
     counted_at (frame - count) size (frame - (count + size)) role is
     (λ none. omega (arith, none))
@@ -76,13 +78,25 @@ counted_inside frame count size role is some within =
     is_open : frame - count ≢ 0 → frame ≢ 0
     is_open left e = left (omega (arith, e))
 
-module _ (policy : Policy) (bytes inside : List ℕ) (before : SessionView) where
-  -- some instructions were accepted, and these bytes are left of those inside the frame
-  pub record Along (rest : List ℕ) (m : View) : Type 0 where
+-- what is heard of an instruction
+pub heard_as : (at marks : ℕ) (i : Instruction) (m : View) → marks ≡ marks_of m.knowledge.entries
+    → heard at i marks ≡ heard_before at i m
+heard_as at marks i m is = ap (heard at i) is
+
+-- and is heard behind others
+pub one_more : {x y : Heard} → x ≡ y → (earlier hs : List Heard)
+    → (earlier ++ hs) ++ x ∷ [] ≡ earlier ++ (hs ++ y ∷ [])
+one_more {x = x} is earlier hs =
+    append_assoc earlier hs (x ∷ []) ∙ ap (λ z. earlier ++ (hs ++ z ∷ [])) is
+
+module _ (policy : Policy) (at : ℕ) (bytes inside : List ℕ) (before : SessionView) where
+  -- some instructions were accepted, this was heard of them, and these bytes are left of those
+  -- inside the frame
+  pub record Along (rest : List ℕ) (m : View) (hs : List Heard) : Type 0 where
     pub number : ℕ
     pub count : ℕ
-    pub pass : PassInTurn policy bytes before number
-        (record { frame = before.frame - count; machine = m }) count
+    pub pass : PassInTurn policy at bytes before number
+        (record { frame = before.frame - count; machine = m }) count hs
     pub left : rest ≡ drop count inside
     pub within : count ≤ length inside
     pub same_limits : m.limits ≡ before.machine.limits
@@ -90,13 +104,13 @@ module _ (policy : Policy) (bytes inside : List ℕ) (before : SessionView) wher
     pub stopped : m.stopped ≡ false
 
   pub along_none : before.machine.refused ≡ None → before.machine.stopped ≡ false
-      → Along inside before.machine
+      → Along inside before.machine []
   along_none well running =
       let frame : before.frame - 0 ≡ before.frame = omega arith in
       record {
         number = 0;
         count = 0;
-        pass = (ap (λ n. record { frame = n; machine = before.machine }) frame, refl);
+        pass = (ap (λ n. record { frame = n; machine = before.machine }) frame, refl, refl);
         left = refl;
         within = omega arith;
         same_limits = refl;
@@ -105,93 +119,112 @@ module _ (policy : Policy) (bytes inside : List ℕ) (before : SessionView) wher
       }
 
   module _ (whole : IsInside before.frame bytes inside) (rest : List ℕ) (m : View)
-      (h : Along rest m) (i : Instruction) (lent : IsLent m.limits rest i) where
-    -- how many bytes were passed over
-    pub passed : h.count ≡ length inside - length rest
-    passed =
-        let within = h.within in
-        omega (arith, within, ap length h.left, length-drop h.count inside)
+      (hs : List Heard) (h : Along rest m hs) (i : Instruction) (lent : IsLent m.limits rest i)
+    where
+      -- how many bytes were passed over
+      pub passed : h.count ≡ length inside - length rest
+      passed =
+          let within = h.within in
+          omega (arith, within, ap length h.left, length-drop h.count inside)
 
-    lent_here : IsLent before.machine.limits (drop h.count bytes) i
-    lent_here =
-        let longer : drop h.count bytes ≡ rest ++ whole.behind =
-        ap (drop h.count) whole.all ∙ (drop-append-le h.count inside whole.behind h.within
-        ∙ ap (λ (l : List ℕ). l ++ whole.behind) (sym h.left)) in
-        rw (longer, ← h.same_limits) (lent_longer m.limits rest whole.behind i lent)
+      pub lent_here : IsLent before.machine.limits (drop h.count bytes) i
+      lent_here =
+          let longer : drop h.count bytes ≡ rest ++ whole.behind =
+          ap (drop h.count) whole.all ∙ (drop-append-le h.count inside whole.behind h.within
+          ∙ ap (λ (l : List ℕ). l ++ whole.behind) (sym h.left)) in
+          rw (longer, ← h.same_limits) (lent_longer m.limits rest whole.behind i lent)
 
-    inside_rest : h.count + length (spelling i) ≤ length inside
-    inside_rest =
-        let within = h.within in
-        let all = ap length lent.spelled in
-        let left = ap length h.left in
-        omega (
-          arith,
-          within,
-          left,
-          all,
-          length-append (spelling i) lent.rest,
-          length-drop h.count inside,
-        )
+      inside_rest : h.count + length (spelling i) ≤ length inside
+      inside_rest =
+          let within = h.within in
+          let all = ap length lent.spelled in
+          let left = ap length h.left in
+          omega (
+            arith,
+            within,
+            left,
+            all,
+            length-append (spelling i) lent.rest,
+            length-drop h.count inside,
+          )
 
-    frame_after : counted (before.frame - h.count) (piece_of i)
-        ≡ Some (before.frame - (h.count + length (spelling i)))
-    frame_after =
-        let room = inside_rest in
-        counted_inside before.frame h.count (length (spelling i)) _ lent.role (omega arith)
-        (λ some. let few = whole.few some in omega (arith, few, room))
+      pub frame_after : counted (before.frame - h.count) (piece_of i)
+          ≡ Some (before.frame - (h.count + length (spelling i)))
+      frame_after =
+          let room = inside_rest in
+          counted_inside before.frame h.count (length (spelling i)) _ lent.role (omega arith)
+          (λ some. let few = whole.few some in omega (arith, few, room))
 
-    -- one more is accepted
-    pub along_more : (n : View) (moved : Moved) → GoesOn policy i m n moved
-        → Along (drop (length (spelling i)) rest) n
-    along_more n moved (progress, e, becomes, is) = record {
-      number = suc h.number;
-      count = h.count + length (spelling i);
-      pass = (
-        record { frame = before.frame - h.count; machine = m },
-        h.count,
-        i,
-        h.pass,
-        lent_here,
-        (frame_after, (moved, (progress, e, becomes, is))),
-        refl,
-      );
-      left = ap (drop (length (spelling i))) h.left
-          ∙ drop-drop (length (spelling i)) h.count inside;
-      within = inside_rest;
-      same_limits = ap (λ v. v.limits) becomes ∙ h.same_limits;
-      refused = ap (λ v. v.refused) becomes ∙ h.refused;
-      stopped = ap (λ v. v.stopped) becomes ∙ ap stopped_by is
-          ∙ same_end m.old_strings i progress.import ∙ ap is_ended lent.goes_on;
-    }
+      -- what is heard of it
+      pub heard_now : (place marks : ℕ) → place ≡ at + (length inside - length rest)
+          → marks ≡ marks_of m.knowledge.entries
+          → heard place i marks ≡ heard_before (at + h.count) i m
+      heard_now place marks is open_ones =
+          let count = passed in
+          rw (is, open_ones, count) refl
 
-    -- the next one is refused
-    pub turned_down : (n : View) (t : Turned) → t.before ≡ length inside - length rest
-        → t.length ≡ length (spelling i) → FailsStep policy i m n t.reason
-        → TurnsDown policy bytes before n t
-    turned_down n t place long fails =
-        let is : h.count ≡ t.before = passed ∙ sym place in
-        record {
-          number = h.number;
-          between = record { frame = before.frame - h.count; machine = m };
-          refused = i;
-          pass = subst (λ c. PassInTurn policy bytes before h.number
-              (record { frame = before.frame - h.count; machine = m }) c) is h.pass;
-          lent = subst (λ c. IsLent before.machine.limits (drop c bytes) i) is lent_here;
-          long = long;
-          why = inr ((_, frame_after), fails);
-        }
+      -- one more is accepted
+      pub along_more : (n : View) (moved : Moved) → GoesOn policy i m n moved
+          → Along (drop (length (spelling i)) rest) n (hs ++ heard_before (at + h.count) i m ∷ [])
+      along_more n moved (progress, e, becomes, is) = record {
+        number = suc h.number;
+        count = h.count + length (spelling i);
+        pass = (
+          record { frame = before.frame - h.count; machine = m },
+          h.count,
+          i,
+          hs,
+          h.pass,
+          lent_here,
+          (frame_after, (moved, (progress, e, becomes, is))),
+          refl,
+          refl,
+        );
+        left = ap (drop (length (spelling i))) h.left
+            ∙ drop-drop (length (spelling i)) h.count inside;
+        within = inside_rest;
+        same_limits = ap (λ v. v.limits) becomes ∙ h.same_limits;
+        refused = ap (λ v. v.refused) becomes ∙ h.refused;
+        stopped = ap (λ v. v.stopped) becomes ∙ ap stopped_by is
+            ∙ same_end m.old_strings i progress.import ∙ ap is_ended lent.goes_on;
+      }
+
+      -- the instruction stands behind those
+      abbrev pub stop_here : (count : ℕ) → count ≡ length inside - length rest
+          → StopsAt policy at bytes before count
+      stop_here count place =
+          let is : h.count ≡ count = passed ∙ sym place in
+          record {
+            number = h.number;
+            between = record { frame = before.frame - h.count; machine = m };
+            earlier = hs;
+            instruction = i;
+            pass = subst (λ c. PassInTurn policy at bytes before h.number
+                (record { frame = before.frame - h.count; machine = m }) c hs) is h.pass;
+            lent = subst (λ c. IsLent before.machine.limits (drop c bytes) i) is lent_here;
+          }
+
+      -- and is refused
+      abbrev pub turned_down : (n : View) (t : Turned) → t.before ≡ length inside - length rest
+          → t.length ≡ length (spelling i) → FailsStep policy i m n t.reason
+          → TurnsDown policy at bytes before n t
+      turned_down n t place long fails = record {
+        here = stop_here t.before place;
+        long = long;
+        why = inr ((_, frame_after), fails);
+      }
 
   -- where no more is lent
-  pub all_passed : (rest : List ℕ) (m : View) (h : Along rest m)
-      → PassInTurn policy bytes before h.number
+  pub all_passed : (rest : List ℕ) (m : View) (hs : List Heard) (h : Along rest m hs)
+      → PassInTurn policy at bytes before h.number
       (record { frame = before.frame - (length inside - length rest); machine = m })
-      (length inside - length rest)
-  all_passed rest m h =
+      (length inside - length rest) hs
+  all_passed rest m hs h =
       let within = h.within in
       let is : h.count ≡ length inside - length rest =
       omega (arith, within, ap length h.left, length-drop h.count inside) in
-      subst (λ c. PassInTurn policy bytes before h.number
-      (record { frame = before.frame - c; machine = m }) c) is h.pass
+      subst (λ c. PassInTurn policy at bytes before h.number
+      (record { frame = before.frame - c; machine = m }) c hs) is h.pass
 
 -- the bytes behind the first ones, as a slice of them shows
 pub behind_slice : (n : ℕ) (xs : List ℕ) → take (length xs - n) (drop n xs) ≡ drop n xs
@@ -212,20 +245,56 @@ lent_within limits bytes i lent =
     omega (arith, ap length lent.spelled, length-append (spelling i) lent.rest)
 
 -- and so do all of them
-pub pass_within : (policy : Policy) (bytes : List ℕ) (before : SessionView) (n : ℕ)
-    (after : SessionView) (count : ℕ) → PassInTurn policy bytes before n after count
-    → count ≤ length bytes
-pass_within policy bytes before zero after count (is, none) = omega (arith, none)
-pass_within policy bytes before (suc n) after count (between, so_far, i, pass, lent, both, is) =
-    let earlier = pass_within policy bytes before n between so_far pass in
+pub pass_within : (policy : Policy) (at : ℕ) (bytes : List ℕ) (before : SessionView) (n : ℕ)
+    (after : SessionView) (count : ℕ) (hs : List Heard)
+    → PassInTurn policy at bytes before n after count hs → count ≤ length bytes
+pass_within policy at bytes before zero after count hs (is, none, same) = omega (arith, none)
+pass_within policy at bytes before (suc n) after count hs
+    (between, so_far, i, earlier, pass, lent, both, is, same) =
+    let front = pass_within policy at bytes before n between so_far earlier pass in
     let long = lent_within before.machine.limits (drop so_far bytes) i lent in
-    omega (arith, is, earlier, long, length-drop so_far bytes)
+    omega (arith, is, front, long, length-drop so_far bytes)
 
--- the refused one lies in the bytes too
-pub turned_within : (policy : Policy) (bytes : List ℕ) (before : SessionView) (after : View)
-    (t : Turned) → TurnsDown policy bytes before after t → t.before + t.length ≤ length bytes
-turned_within policy bytes before after t d =
-    let earlier = pass_within policy bytes before d.number d.between t.before d.pass in
-    let long = lent_within before.machine.limits (drop t.before bytes) d.refused d.lent in
-    let is = d.long in
-    omega (arith, is, earlier, long, length-drop t.before bytes)
+-- the one behind them lies in the bytes too
+pub stops_within : (policy : Policy) (at : ℕ) (bytes : List ℕ) (before : SessionView) (count : ℕ)
+    (here : StopsAt policy at bytes before count)
+    → count + length (spelling here.instruction) ≤ length bytes
+stops_within policy at bytes before count here =
+    let front = pass_within policy at bytes before here.number here.between count here.earlier
+    here.pass in
+    let long = lent_within before.machine.limits (drop count bytes) here.instruction here.lent in
+    omega (arith, front, long, length-drop count bytes)
+
+-- instructions are accepted alike whatever offset the first byte has
+pub pass_at : (policy : Policy) (at from : ℕ) (bytes : List ℕ) (before : SessionView) (n : ℕ)
+    (after : SessionView) (count : ℕ) (hs : List Heard)
+    → PassInTurn policy at bytes before n after count hs
+    → (more : List Heard) × PassInTurn policy from bytes before n after count more
+pass_at policy at from bytes before zero after count hs (is, none, same) = ([], (is, none, refl))
+pass_at policy at from bytes before (suc n) after count hs
+    (between, so_far, i, earlier, pass, lent, both, is, same) =
+    let front = pass_at policy at from bytes before n between so_far earlier pass in (
+      front.0 ++ heard_before (from + so_far) i between.machine ∷ [],
+      (between, so_far, i, front.0, front.1, lent, both, is, refl),
+    )
+
+-- and refused alike
+pub turned_at : (policy : Policy) (at from : ℕ) (bytes : List ℕ) (before : SessionView)
+    (after : View) (t : Turned) → TurnsDown policy at bytes before after t
+    → TurnsDown policy from bytes before after t
+turned_at policy at from bytes before after t down =
+    let here = down.here in
+    let moved = pass_at policy at from bytes before here.number here.between t.before here.earlier
+    here.pass in
+    record {
+      here = record {
+        number = here.number;
+        between = here.between;
+        earlier = moved.0;
+        instruction = here.instruction;
+        pass = moved.1;
+        lent = here.lent;
+      };
+      long = down.long;
+      why = down.why;
+    }

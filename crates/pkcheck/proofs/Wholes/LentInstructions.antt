@@ -1,19 +1,22 @@
 -- Instructions that are lent from the bytes at hand and accepted in turn.
-use Rattle.std.proofs.Common.{◌≡◌, ◌≢◌, ℕ, zero, suc, ◌+◌, ◌-◌, ◌<◌, ◌≤◌, List, [], ◌∷◌, ◌++◌}
-use Rattle.std.proofs.Common.{length, take, drop, Option, None, Some, inl, inr, refl, sym, ap, subst, ◌∙◌, arith}
+use Rattle.std.specs.Prelude.{⊤}
+use Rattle.std.proofs.Common.{◌≡◌, ℕ, zero, suc, ◌+◌, ◌≤◌, List, [], ◌∷◌, ◌++◌}
+use Rattle.std.proofs.Common.{length, drop, Option, None, Some, inl, inr, refl, sym, ap, subst, ◌∙◌}
+use Rattle.std.proofs.Common.{arith, append-nil, append_assoc}
 use Rattle.std.specs.Prelude.{option_map}
-use Rattle.std.proofs.lemmas.List.{drop-drop, length-append, length-drop}
+use Rattle.std.proofs.lemmas.List.{drop-drop, length-drop}
 use Rattle.pkops.specs.Limits.{Bounds}
-use Rattle.pkops.specs.Payloads.{payload_limit}
 use Rattle.pkops.specs.Spelling.{Instruction, spelling}
 use Rattle.pkread.specs.AtHand.{AreNext, IsLent, beyond}
 use Rattle.pkread.specs.ReaderCalls.{ReaderState}
 use Rattle.pkread.specs.Rows.{Sight}
 use Rattle.pkread.specs.declared.Refusal.{Refusal}
 use Rattle.pkread.specs.Run.{LentIsRead, TakingTwice}
+use Rattle.pkcheck.specs.Heard.{Heard}
 use Rattle.pkcheck.specs.Knowledge.{Asked, Policy}
 use Rattle.pkcheck.specs.Private.Judgement.{IsRefused, SessionView}
-use Rattle.pkcheck.specs.Private.Lent.{GoesAlong, PassInTurn, RefusesLent}
+use Rattle.pkcheck.specs.Private.Lent.{GoesAlong, PassInTurn, RefusesLent, StopsAt}
+use Rattle.pkcheck.specs.Private.Lent.{heard_along, heard_before}
 use Rattle.pkcheck.specs.View.{View}
 use Rattle.pkcheck.specs.declared.old_strings.OldStrings.{OldStrings}
 use Rattle.pkcheck.proofs.Wholes.Checked.{Checked, checked_took}
@@ -38,105 +41,180 @@ beyond_none s =
     let count : s.taken + 0 ≡ s.taken = omega arith in
     rw (left, count) refl
 
+-- a property of the instructions read and of what is heard of them holds of one more
+abbrev pub GoesOnToHold : OldStrings → Policy → Bounds → Sight → Origin
+    → (List Instruction → List Heard → Type 0) → Type 0
+GoesOnToHold setting policy limits old o P = (p : List Instruction) (asked : List (Option Asked))
+    (s : ReaderState) (frame : ℕ) (m : View)
+    → Checked setting policy limits old o p asked s frame m → (t : ReaderState) (at : ℕ)
+    (i : Instruction) → Took old o.at limits p s at i t → (hs : List Heard) → P p hs
+    → P (p ++ i ∷ []) (hs ++ heard_before at i m ∷ [])
+
 module _ (setting : OldStrings) (policy : Policy) (limits : Bounds) (old : Sight) (o : Origin)
-    (lends : LentIsRead) (twice : TakingTwice) where
+    (lends : LentIsRead) (twice : TakingTwice) (P : List Instruction → List Heard → Type 0)
+    (holds_on : GoesOnToHold setting policy limits old o P) where
   -- where some instructions were accepted in turn
-  pub record Onward (bytes : List ℕ) (s : ReaderState) (count frame : ℕ) (m : View) : Type 0 where
+  pub record Onward (bytes : List ℕ) (s : ReaderState) (count frame : ℕ) (m : View)
+      (hs : List Heard) : Type 0 where
     pub read : List Instruction
     pub asked : List (Option Asked)
     pub checked : Checked setting policy limits old o read asked (beyond count s) frame m
+    pub holds : P read hs
     pub next : AreNext (beyond count s) (drop count bytes)
     pub within : count ≤ length bytes
 
   -- one more
   pub onward_took : (bytes : List ℕ) (s : ReaderState) (count frame : ℕ) (m : View)
-      (h : Onward bytes s count frame m) (i : Instruction) → IsLent limits (drop count bytes) i
+      (hs : List Heard) (h : Onward bytes s count frame m hs) (i : Instruction)
+      → IsLent limits (drop count bytes) i
       → (t : ReaderState) → t ≡ beyond (count + length (spelling i)) s
       → (at : ℕ) → at ≡ s.taken + count
       → Took old o.at limits h.read (beyond count s) at i t
       × AreNext t (drop (length (spelling i)) (drop count bytes))
-  onward_took bytes s count frame m h i lent t is at place =
-      took_lent old o.at limits h.read (beyond count s) h.checked.reads h.checked.read_limits t lends
-      at (drop count bytes) i place h.next lent (is ∙ twice count (length (spelling i)) s)
+  onward_took bytes s count frame m hs h i lent t is at place =
+      took_lent old o.at limits h.read (beyond count s) h.checked.reads h.checked.read_limits t
+      lends at (drop count bytes) i place h.next lent (is ∙ twice count (length (spelling i)) s)
 
   -- any number of them
   pub onward : (bytes : List ℕ) (s : ReaderState) (p : List Instruction)
       (asked : List (Option Asked)) (frame : ℕ) (m : View)
-      → Checked setting policy limits old o p asked s frame m → AreNext s bytes
-      → (n : ℕ) (after : SessionView) (count : ℕ)
-      → PassInTurn policy bytes (record { frame = frame; machine = m }) n after count
-      → Onward bytes s count after.frame after.machine
-  onward bytes s p asked frame m h next zero after count (is, none) =
+      → Checked setting policy limits old o p asked s frame m → (hs : List Heard) → P p hs
+      → AreNext s bytes → (n : ℕ) (after : SessionView) (count : ℕ) (more : List Heard)
+      → PassInTurn policy s.taken bytes (record { frame = frame; machine = m }) n after count more
+      → Onward bytes s count after.frame after.machine (hs ++ more)
+  onward bytes s p asked frame m h hs held next zero after count more (is, none, nothing) =
       let same = beyond_none s in
-      rw (is, none) (record {
+      rw (is, none, nothing) (record {
         read = p;
         asked = asked;
         checked = rw same h;
+        holds = subst (P p) (sym (append-nil hs)) held;
         next = rw same next;
         within = omega arith;
       })
-  onward bytes s p asked frame m h next (suc n) after count
-      (between, so_far, i, pass, lent, both, is) =
-      let w = onward bytes s p asked frame m h next n between so_far pass in
+  onward bytes s p asked frame m h hs held next (suc n) after count more
+      (between, so_far, i, earlier, pass, lent, both, is, all) =
+      let w = onward bytes s p asked frame m h hs held next n between so_far earlier pass in
       let size = length (spelling i) in
       let lent' = subst (λ (l : Bounds). IsLent l (drop so_far bytes) i) h.same_limits lent in
-      let took = onward_took bytes s so_far between.frame between.machine w i lent'
+      let took = onward_took bytes s so_far between.frame between.machine (hs ++ earlier) w i lent'
       (beyond (so_far + size) s) refl (s.taken + so_far) refl in
       let long = lent_within limits (drop so_far bytes) i lent' in
       let before = w.within in
-      rw is (record {
+      let item = heard_before (s.taken + so_far) i between.machine in
+      rw (is, all) (record {
         read = w.read ++ i ∷ [];
         asked = w.asked ++ both.1.1.0.import ∷ [];
         checked = checked_took setting policy limits old o w.read w.asked (beyond so_far s)
             between.frame between.machine w.checked (beyond (so_far + size) s) after.frame
             after.machine (s.taken + so_far) i took.0 both;
+        holds = subst (P (w.read ++ i ∷ [])) (append_assoc hs earlier (item ∷ []))
+            (holds_on w.read w.asked (beyond so_far s) between.frame between.machine w.checked
+            (beyond (so_far + size) s) (s.taken + so_far) i took.0 (hs ++ earlier) w.holds);
         next = subst (λ (b : List ℕ). AreNext (beyond (so_far + size) s) b)
             (drop-drop size so_far bytes) took.1;
         within = omega (arith, long, before, length-drop so_far bytes);
       })
 
   module _ (p : List Instruction) (asked : List (Option Asked)) (s t : ReaderState) (frame : ℕ)
-      (m : View) (h : Checked setting policy limits old o p asked s frame m) where
+      (m : View) (h : Checked setting policy limits old o p asked s frame m) (hs : List Heard)
+      (held : P p hs) where
     -- what is at hand is accepted
-    pub checked_along : (after : SessionView)
-        → GoesAlong policy s t (record { frame = frame; machine = m }) after
+    pub holding_along : (after : SessionView)
+        (g : GoesAlong policy s t (record { frame = frame; machine = m }) after)
         → (q : List Instruction) × (more : List (Option Asked))
         × Checked setting policy limits old o q more t after.frame after.machine
-    checked_along after (inl (is, same)) = rw (is, same) (p, asked, h)
-    checked_along after (inr k) =
-        let w = onward k.bytes s p asked frame m h k.next k.number after k.count k.pass in
-        rw k.taken (w.read, w.asked, w.checked)
+        × P q (hs ++ heard_along policy s t (record { frame = frame; machine = m }) g)
+    holding_along after (inl (is, same)) =
+        rw (is, same) (p, asked, h, subst (P p) (sym (append-nil hs)) held)
+    holding_along after (inr k) =
+        let w = onward k.bytes s p asked frame m h hs held k.next k.number after k.count k.hears
+        k.pass in
+        rw k.taken (w.read, w.asked, w.checked, w.holds)
 
-    -- an instruction at hand is refused
-    pub record Refused (after : View) (r : Refusal) : Type 0 where
+    -- an instruction at hand is reached behind others
+    pub record Reached (at : ℕ) (i : Instruction) (session : SessionView) (more : List Heard)
+        : Type 0 where
       pub read : List Instruction
       pub listed : List (Option Asked)
       pub between : ReaderState
-      pub session : SessionView
       pub checked : Checked setting policy limits old o read listed between session.frame
           session.machine
-      pub instruction : Instruction
-      pub took : Took old o.at limits read between r.at instruction t
-      pub why : IsRefused policy instruction session.frame session.machine after r.reason
+      pub took : Took old o.at limits read between at i t
+      pub holds : P read (hs ++ more)
 
-    pub refused_lent : (after : View) (r : Refusal)
-        → RefusesLent policy s t (record { frame = frame; machine = m }) after r → Refused after r
-    refused_lent after r k =
-        let d = k.down in
-        let w = onward k.bytes s p asked frame m h k.next d.number d.between k.turned.before d.pass
-        in
-        let i = d.refused in
-        let lent = subst (λ (l : Bounds). IsLent l (drop k.turned.before k.bytes) i) h.same_limits
-        d.lent in
-        let is = k.taken ∙ ap (λ n. beyond (k.turned.before + n) s) d.long in
+    pub reached : (bytes : List ℕ) (count : ℕ) → AreNext s bytes
+        → (here : StopsAt policy s.taken bytes (record { frame = frame; machine = m }) count)
+        → t ≡ beyond (count + length (spelling here.instruction)) s
+        → (at : ℕ) → at ≡ s.taken + count
+        → Reached at here.instruction here.between here.earlier
+    reached bytes count next here is at place =
+        let w = onward bytes s p asked frame m h hs held next here.number here.between count
+        here.earlier here.pass in
+        let lent = subst (λ (l : Bounds). IsLent l (drop count bytes) here.instruction)
+        h.same_limits here.lent in
         record {
           read = w.read;
           listed = w.asked;
-          between = beyond k.turned.before s;
-          session = d.between;
+          between = beyond count s;
           checked = w.checked;
-          instruction = i;
-          took = (onward_took k.bytes s k.turned.before d.between.frame d.between.machine w i lent t
-              is r.at k.place).0;
-          why = rw k.why d.why;
+          took = (onward_took bytes s count here.between.frame here.between.machine
+              (hs ++ here.earlier) w here.instruction lent t is at place).0;
+          holds = w.holds;
         }
+
+    -- and refused
+    pub reached_refused : (after : View) (r : Refusal)
+        (k : RefusesLent policy s t (record { frame = frame; machine = m }) after r)
+        → Reached r.at k.down.here.instruction k.down.here.between k.down.here.earlier
+        × IsRefused policy k.down.here.instruction k.down.here.between.frame
+        k.down.here.between.machine after r.reason
+    reached_refused after r k =
+        let is = k.taken ∙ ap (λ n. beyond (k.turned.before + n) s) k.down.long in (
+          reached k.bytes k.turned.before k.next k.down.here is r.at k.place,
+          rw k.why k.down.why,
+        )
+
+-- ---- what a check without a listener needs
+
+module _ (setting : OldStrings) (policy : Policy) (limits : Bounds) (old : Sight) (o : Origin)
+    (lends : LentIsRead) (twice : TakingTwice) (p : List Instruction) (asked : List (Option Asked))
+    (s t : ReaderState) (frame : ℕ) (m : View)
+    (h : Checked setting policy limits old o p asked s frame m) where
+  -- what is at hand is accepted
+  pub checked_along : (after : SessionView)
+      → GoesAlong policy s t (record { frame = frame; machine = m }) after
+      → (q : List Instruction) × (more : List (Option Asked))
+      × Checked setting policy limits old o q more t after.frame after.machine
+  checked_along after g =
+      let w = holding_along setting policy limits old o lends twice (λ q hs. ⊤)
+      (λ q a u f n k v at i took hs held. tt) p asked s t frame m h [] tt after g in
+      (w.0, w.1, w.2)
+
+  -- an instruction at hand is refused
+  pub record Refused (after : View) (r : Refusal) : Type 0 where
+    pub read : List Instruction
+    pub listed : List (Option Asked)
+    pub between : ReaderState
+    pub session : SessionView
+    pub checked : Checked setting policy limits old o read listed between session.frame
+        session.machine
+    pub instruction : Instruction
+    pub took : Took old o.at limits read between r.at instruction t
+    pub why : IsRefused policy instruction session.frame session.machine after r.reason
+
+  pub refused_lent : (after : View) (r : Refusal)
+      → RefusesLent policy s t (record { frame = frame; machine = m }) after r → Refused after r
+  refused_lent after r k =
+      let w = reached_refused setting policy limits old o lends twice (λ q hs. ⊤)
+      (λ q a u f n k v at i took hs held. tt) p asked s t frame m h [] tt after r k in
+      record {
+        read = w.0.read;
+        listed = w.0.listed;
+        between = w.0.between;
+        session = k.down.here.between;
+        checked = w.0.checked;
+        instruction = k.down.here.instruction;
+        took = w.0.took;
+        why = w.1;
+      }

@@ -1,8 +1,8 @@
-use Rattle.std.proofs.Common.{arith, length, refl, ap, subst, sym, ◌∙◌, ◌-◌}
+use Rattle.std.proofs.Common.{[], ◌∷◌, ◌++◌, ◌+◌, ◌-◌, arith, length, refl, ap, subst, sym, ◌∙◌}
 use Rattle.std.proofs.lemmas.List.{length-drop}
 use Rattle.pkops.specs.Inst.{instruction_of}
-use Rattle.pkread.specs.AtHand.{IsLent}
 use Rattle.pkcheck.specs.Import.{policy_of}
+use Rattle.pkcheck.specs.Private.Lent.{heard_before}
 use Rattle.pkcheck.proofs.Wholes.InTurn.{Along, IsInside, along_more, along_none, all_passed}
 use Rattle.pkcheck.proofs.Wholes.InTurn.{behind_slice, is_inside, shorter, turned_down}
 use Rattle.pkcheck.proofs.session.Session.judge_all_lent.Goals as goal
@@ -15,9 +15,10 @@ instructions-init c =
     let before = c.args.self.now in
     record {
       frame = refl;
-      along = subst (λ m. Along policy bytes inside before inside m)
+      hears = [];
+      along = subst (λ m. Along policy 0 bytes inside before inside m [])
           (ap (λ v. v.machine) (sym c.self.view_is))
-          (along_none policy bytes inside before c.requires.well c.requires.running);
+          (along_none policy 0 bytes inside before c.requires.well c.requires.running);
     }
 
 pub step_on-requires-clause-running : goal.step_on-requires-clause-running
@@ -48,7 +49,7 @@ returns-in-Err-clause-err c =
     let h = c.instructions.invariant.along in
     let rest = c.instructions.rest.now in
     let lent = (let l = rw c.limits.ensures at c.in-Some.ensures in l) in
-    turned_down _ bytes inside before whole rest m h (instruction_of c.in-Some.inst) lent
+    turned_down _ 0 bytes inside before whole rest m _ h (instruction_of c.in-Some.inst) lent
     _ _ refl c.len-length.ensures (c.in-Err.ensures.step.fails h.refused)
 
 pub instructions-smaller : goal.instructions-smaller
@@ -67,10 +68,13 @@ instructions-preserved c =
     let h = c.instructions.invariant.along in
     let rest = c.instructions.rest.now in
     let lent = (let l = rw c.limits.ensures at c.in-Some.ensures in l) in
-    let more = along_more _ bytes inside before whole rest m h (instruction_of c.in-Some.inst) lent
+    let i = instruction_of c.in-Some.inst in
+    let more = along_more _ 0 bytes inside before whole rest m _ h i lent
     c.step_on.new.self c.in_default-step_on.field-0 c.in_default-step_on.ensures.step.goes_on in
     record {
       frame = c.instructions.invariant.frame;
+      hears = c.instructions.invariant.hears
+          ++ heard_before (0 + h.count) (instruction_of c.in-Some.inst) m ∷ [];
       along = rw (behind_slice c.len-length.result rest, c.len-length.ensures) more;
     }
 
@@ -80,4 +84,4 @@ returns-clause-ok c =
     let frame = c.take_inside.ensures ∙ ap (λ n. n - (length c.inside-inside.result.now
     - length c.instructions.rest.now)) (c.instructions.invariant.frame
     ∙ ap (λ v. v.frame) c.self.view_is) in
-    (h.number, rw frame (all_passed _ _ _ _ _ _ h))
+    (h.number, c.instructions.invariant.hears, rw frame (all_passed _ _ _ _ _ _ _ _ h))
