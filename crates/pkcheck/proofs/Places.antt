@@ -10,11 +10,11 @@ use Rattle.pkcheck.specs.declared.effect.Takes.{Takes}
 use Rattle.pkcheck.specs.declared.effect.Takes.TheVariants.{Objects, Slice, SliceAndReceiver}
 use Rattle.pkcheck.specs.Shape.{Entry, Mark, Item, front, marks_of, operands}
 use Rattle.pkcheck.specs.declared.machine.value.Value.{Value}
-use Rattle.pkcheck.specs.Private.Places.{below, above, from_bottom}
+use Rattle.pkcheck.specs.Private.Places.{ItemsFrom, below, above, from_bottom}
 use Rattle.pkcheck.specs.Private.Slots.{AllObjects, FirstObject, StartsWell, bars, entry_of}
 use Rattle.pkcheck.specs.Private.Slots.{shown, values_of}
 use Rattle.pkcheck.specs.Private.Denials.{HasFirst}
-use Rattle.pkcheck.proofs.Shown.{shown_append}
+use Rattle.pkcheck.proofs.Shown.{shown_append, starts_well}
 use Rattle.pkcheck.proofs.Bars.{items_at, marks_kept, marks_shown}
 use Rattle.pkcheck.proofs.Limited.{length_shown}
 
@@ -133,19 +133,13 @@ front_marks (v ∷ vs) es = refl
 
 -- ---- the topmost objects
 
--- the topmost `count` entries are items, and the lowest one has this place
-pub record ItemsFrom (count n : ℕ) (es : List (Entry Value)) : Type 0 where
-  pub there : 0 < count → n < length es
-  pub marks : marks_of es ≡ marks_of (below n es)
-  pub found : operands (Objects count) es
-      ≡ Ok (record { operands = above n es; below = below n es })
-
 objects_shown : (count n : ℕ) (xs : List Slot) → n + count ≡ length xs → AllObjects (drop n xs)
     → ItemsFrom count n (shown xs [])
 objects_shown count n xs long all = record {
-  there = λ h. omega (arith, h, long, length_shown xs);
-  marks = sym (marks_shown xs) ∙ sym (marks_kept xs n all) ∙ below_marks n xs;
   found = found_at (Objects count) n xs (shown xs []) refl (items_at xs n count all long);
+  marks = sym (marks_shown xs) ∙ sym (marks_kept xs n all) ∙ below_marks n xs;
+  there = λ h. omega (arith, h, long, length_shown xs);
+  first = λ h. first_left (Objects count) n xs h (starts_well xs n count long, all);
 }
 
 pub objects_from : (count n : ℕ) (xs : List Slot) (es : List (Entry Value)) → shown xs [] ≡ es

@@ -1,5 +1,5 @@
 -- Weaker statements about a result.
-use Rattle.std.proofs.Common.{Result, Ok, Err, IfErr, IfOk, OnErr, OnOk}
+use Rattle.std.proofs.Common.{Option, Some, None, Result, Ok, Err, IfErr, IfOk, IfSome, OnErr, OnOk}
 
 pub err_on : {A E : Type 0} (P Q : E → Type 0) (x : Result A E) → ((r : E) → P r → Q r) → IfErr x P
     → IfErr x Q
@@ -14,6 +14,11 @@ pub ok_by : {A E : Type 0} (P Q : A → Type 0) (x : Result A E) → ((a : A) �
     → IfOk x Q
 ok_by P Q (Ok a) f h = f a h
 ok_by P Q (Err r) f h = h
+
+pub some_by : {A : Type 0} (P Q : A → Type 0) (x : Option A) → ((a : A) → P a → Q a) → IfSome x P
+    → IfSome x Q
+some_by P Q (Some a) f h = f a h
+some_by P Q None f h = h
 
 pub on_both : {A E : Type 0} (R P : Type 0) (Q : E → Type 0) (x : Result A E) → (P → R)
     → ((e : E) → Q e → R) → OnOk x P → IfErr x Q → R

@@ -1,10 +1,10 @@
 //! The stack: marks, and what is known about objects.
 ghost use Rattle.pkcheck.specs.Private.Denials.{HasFirst, IsLack, WantsRoom};
-ghost use Rattle.pkcheck.specs.Private.Places.{Replaced, above, below};
+ghost use Rattle.pkcheck.specs.Private.Places.{ItemsFrom, Replaced, above, below};
 ghost use Rattle.pkcheck.specs.Shape.{Entry, Mark, Item, NoMark, front, marks_of, operands, slice};
 ghost use Rattle.pkcheck.specs.Shape.{top};
 ghost use Rattle.std.specs.Prelude.{◌≡◌, true, List, [], ◌∷◌, ◌++◌, ◌+◌, ◌^◌, ◌<◌, ◌≤◌, length};
-ghost use Rattle.std.specs.Prelude.{drop, false, nat_lt, IfOk, IfErr, OnOk};
+ghost use Rattle.std.specs.Prelude.{drop, false, nat_lt, IfOk, IfErr, IfSome, OnOk};
 
 mod operands;
 mod slots;
@@ -16,7 +16,9 @@ pub use operands::Operands;
 use pkops::Limits;
 use pkread::Reason;
 pub use slots::Found;
-use slots::{Slot, mark_place, marks_below, one_object, place_of, put_on_top, top, two_objects};
+use slots::{
+    Slot, few_objects, mark_place, marks_below, one_object, place_of, put_on_top, top, two_objects,
+};
 use std::alloc::Global;
 use std::marker::Model;
 
@@ -111,6 +113,15 @@ impl Stack {
         ensures err { IfErr result (λ r. IsLack (operands takes self.now) r) }
     {
         place_of(self.slots.entries(), self.places.entries(), takes)
+    }
+
+    /// The place where the topmost two or three objects begin; `None` for any other count, or if
+    /// they are not there. It looks at its entries, which is faster than `find`.
+    #[inline(always)]
+    pub fn find_few(&self, count: usize) -> Option<usize>
+        ensures { IfSome result (λ n. ItemsFrom count n self.now) }
+    {
+        few_objects(self.slots.entries(), count)
     }
 
     /// The objects from a place on.

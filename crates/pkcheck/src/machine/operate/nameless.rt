@@ -1,14 +1,14 @@
 //! The operations that import nothing.
-ghost use Rattle.std.specs.Prelude.{◌≡◌, ◌≤◌, false, length, true, IfErr, OnErr, OnOk};
+ghost use Rattle.std.specs.Prelude.{◌≡◌, ◌<◌, ◌≤◌, false, length, true, IfErr, OnErr, OnOk};
 ghost use Rattle.pkcheck.specs.declared.effect.Names.{Names};
-ghost use Rattle.pkcheck.specs.Effects.{Operates, effect_of};
+ghost use Rattle.pkcheck.specs.Effects.{Operates, effect_of, fills};
 ghost use Rattle.pkcheck.specs.Private.Actions.{IsUnnamed};
 ghost use Rattle.pkcheck.specs.Private.Denials.{IgnoresArgument, WellGiven};
 ghost use Rattle.pkcheck.specs.Private.NamelessOperations.{HasOperated, HasReplaced};
 ghost use Rattle.pkcheck.specs.Private.NamelessOperations.{IsReplaceFault};
 ghost use Rattle.pkcheck.specs.Private.NamelessOperations.{Replaces, StaysSeen};
 
-use crate::effect::{Class, Gives, Takes};
+use crate::effect::{Class, Gives, Takes, Wanted};
 use crate::machine::effects::operation_of;
 use crate::machine::operate::given::give;
 use crate::machine::operate::receiver::receiver_fault;
@@ -56,6 +56,42 @@ fn make_quickly(stack: &mut Stack, op: Op) -> bool
     }
 }
 
+/// Applies the most frequent operations that leave their receiver, if their operands are there and
+/// the receiver is not known to have a wrong class. They look at two or three entries. Returns
+/// false and changes nothing at any other operation.
+#[inline]
+fn fill_quickly(stack: &mut Stack, op: Op) -> bool
+    ensures done { result ≡ true → HasReplaced (effect_of op) stack.old stack.new }
+    ensures kept { result ≡ false → stack.new ≡ stack.old }
+{
+    match op {
+        Op::Append => fill(stack, 2, Wanted::WantsList),
+        Op::SetItem => fill(stack, 3, Wanted::WantsDict),
+        Op::Build => fill(stack, 2, Wanted::WantsAny),
+        _ => false,
+    }
+}
+
+/// Removes the topmost `count` objects except the lowest one, the receiver. Returns false and
+/// changes nothing if they are not there, or if the receiver is known to have a wrong class.
+#[inline(always)]
+fn fill(stack: &mut Stack, count: usize, wanted: Wanted) -> bool
+    requires { 0 < count }
+    ensures done { result ≡ true
+        → HasReplaced (fills (Takes.Objects count) wanted) stack.old stack.new }
+    ensures kept { result ≡ false → stack.new ≡ stack.old }
+{
+    let Some(place) = stack.find_few(count) else {
+        return false;
+    };
+    if receiver_fault(Gives::Leaves(wanted), &stack.operands(place)) {
+        return false;
+    }
+    let marks = stack.marks();
+    stack.end_with(place, marks);
+    true
+}
+
 /// Applies the operation of an opcode that imports nothing.
 #[inline(always)]
 pub fn operate_unnamed(stack: &mut Stack, limits: &Limits, op: Op) -> Result<(), Reason>
@@ -64,6 +100,9 @@ pub fn operate_unnamed(stack: &mut Stack, limits: &Limits, op: Op) -> Result<(),
     ensures { HasOperated limits.now (effect_of op) stack.old stack.new result }
 {
     if make_quickly(stack, op) {
+        return Ok(());
+    }
+    if fill_quickly(stack, op) {
         return Ok(());
     }
     operate_any(stack, limits, op)

@@ -136,6 +136,37 @@ pub fn two_objects(slots: &[Slot]) -> Option<usize>
     Some(place - 1)
 }
 
+/// The place of the lowest one of the topmost three entries, if all are objects.
+#[inline(always)]
+fn three_objects(slots: &[Slot]) -> Option<usize>
+    ensures { IfSome result (λ n. (n + 3 ≡ length slots.now) × AllObjects (drop n slots.now)) }
+{
+    if slots.len() < 3 {
+        return None;
+    }
+    let Some(second) = two_objects(slots) else {
+        return None;
+    };
+    let Slot::Object(_) = slots[second - 1] else {
+        return None;
+    };
+    Some(second - 1)
+}
+
+/// The place of the lowest one of the topmost `count` entries, if `count` is 2 or 3 and all of them
+/// are objects.
+#[inline(always)]
+pub fn few_objects(slots: &[Slot], count: usize) -> Option<usize>
+    ensures { IfSome result (λ n. (n + count ≡ length slots.now)
+        × AllObjects (drop n slots.now)) }
+{
+    match count {
+        2 => two_objects(slots),
+        3 => three_objects(slots),
+        _ => None,
+    }
+}
+
 /// The number of objects among the entries.
 pub fn count_objects(slots: &[Slot]) -> usize
     ensures { result ≡ length (values_of slots.now) }
