@@ -58,18 +58,46 @@ fn make_quickly(stack: &mut Stack, op: Op) -> bool
 
 /// Applies the most frequent operations that leave their receiver, if their operands are there and
 /// the receiver is not known to have a wrong class. They look at two or three entries. Returns
-/// false and changes nothing at any other operation.
-#[inline]
+/// false and changes nothing at any other operation. It only chooses among functions, so that the
+/// compiler may keep those out of line where the loop would become too large.
+#[inline(always)]
 fn fill_quickly(stack: &mut Stack, op: Op) -> bool
     ensures done { result ≡ true → HasReplaced (effect_of op) stack.old stack.new }
     ensures kept { result ≡ false → stack.new ≡ stack.old }
 {
     match op {
-        Op::Append => fill(stack, 2, Wanted::WantsList),
-        Op::SetItem => fill(stack, 3, Wanted::WantsDict),
-        Op::Build => fill(stack, 2, Wanted::WantsAny),
+        Op::Append => append(stack),
+        Op::SetItem => set_item(stack),
+        Op::Build => build(stack),
         _ => false,
     }
+}
+
+/// APPEND, for `fill_quickly`.
+#[inline]
+fn append(stack: &mut Stack) -> bool
+    ensures done { result ≡ true → HasReplaced (effect_of Op.Append) stack.old stack.new }
+    ensures kept { result ≡ false → stack.new ≡ stack.old }
+{
+    fill(stack, 2, Wanted::WantsList)
+}
+
+/// SETITEM, for `fill_quickly`.
+#[inline]
+fn set_item(stack: &mut Stack) -> bool
+    ensures done { result ≡ true → HasReplaced (effect_of Op.SetItem) stack.old stack.new }
+    ensures kept { result ≡ false → stack.new ≡ stack.old }
+{
+    fill(stack, 3, Wanted::WantsDict)
+}
+
+/// BUILD, for `fill_quickly`.
+#[inline]
+fn build(stack: &mut Stack) -> bool
+    ensures done { result ≡ true → HasReplaced (effect_of Op.Build) stack.old stack.new }
+    ensures kept { result ≡ false → stack.new ≡ stack.old }
+{
+    fill(stack, 2, Wanted::WantsAny)
 }
 
 /// Removes the topmost `count` objects except the lowest one, the receiver. Returns false and
