@@ -6,3 +6,4 @@ pub mod Followed
 pub mod NewNumbers
 pub mod WritesKept
 pub mod Parts
+pub mod Lengths

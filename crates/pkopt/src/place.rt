@@ -80,12 +80,21 @@ fn is_frame(op: Op) -> bool
     matches!(op, Op::Frame)
 }
 
-/// The length in bytes of an instruction that may change. It fits, because the only possible line
-/// of such an instruction is a number.
+/// The length in bytes of an instruction with this opcode, which may change. It fits, because the
+/// only possible line of such an instruction is a number. For the most frequent opcodes of long
+/// pickles it is a constant.
 #[inline(always)]
-pub(crate) fn size_of(inst: &Inst<'_>) -> u16
-    requires { stays_as_is (instruction_of inst.now).op ≡ false }
+pub(crate) fn size_of(op: Op, inst: &Inst<'_>) -> u16
+    requires changes { stays_as_is op ≡ false }
+    requires has { (instruction_of inst.now).op ≡ op }
     ensures { result ≡ length (spelling (instruction_of inst.now)) }
 {
-    inst.len() as u16
+    // Its argument is one of the opcode's kind.
+    let _same = inst.op();
+    match op {
+        Op::BinGet => 2,
+        Op::LongBinPut => 5,
+        Op::Memoize => 1,
+        _ => inst.len() as u16,
+    }
 }

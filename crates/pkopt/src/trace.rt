@@ -248,7 +248,8 @@ impl Trace {
         ensures step { OnOk result (NotesStep (instruction_of inst.now).op
             (memo_number (instruction_of inst.now)) self.old self.new) }
     {
-        self.take_slowly(at, inst.op(), size_of(inst), number_of(inst))
+        let op = inst.op();
+        self.take_slowly(at, op, size_of(op, inst), number_of(inst))
     }
 
     /// Records a BINGET at this offset. It does what `take` does, without a jump table.
@@ -260,7 +261,7 @@ impl Trace {
         ensures step { OnOk result (NotesStep (instruction_of inst.now).op
             (memo_number (instruction_of inst.now)) self.old self.new) }
     {
-        self.place(at, Op::BinGet, size_of(inst))?;
+        self.place(at, Op::BinGet, size_of(Op::BinGet, inst))?;
         self.read(number_of(inst))
     }
 
@@ -273,7 +274,7 @@ impl Trace {
         ensures step { OnOk result (NotesStep (instruction_of inst.now).op
             (memo_number (instruction_of inst.now)) self.old self.new) }
     {
-        self.place(at, Op::Memoize, size_of(inst))?;
+        self.place(at, Op::Memoize, size_of(Op::Memoize, inst))?;
         self.write_next()
     }
 
@@ -286,7 +287,7 @@ impl Trace {
         ensures step { OnOk result (NotesStep (instruction_of inst.now).op
             (memo_number (instruction_of inst.now)) self.old self.new) }
     {
-        self.place(at, Op::LongBinPut, size_of(inst))?;
+        self.place(at, Op::LongBinPut, size_of(Op::LongBinPut, inst))?;
         self.write(number_of(inst))
     }
 }
