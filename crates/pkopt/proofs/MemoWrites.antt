@@ -7,3 +7,4 @@ pub mod NewNumbers
 pub mod WritesKept
 pub mod Parts
 pub mod Lengths
+pub mod EarlyReads

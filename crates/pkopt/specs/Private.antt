@@ -2,6 +2,7 @@
 -- `optimize` follows from them.
 pub mod Traces
 pub mod Entries
+pub mod Sourced
 pub mod Fronts
 pub mod Memories
 pub mod Places

@@ -5,6 +5,7 @@ ghost use Rattle.pkopt.specs.Private.Fates.{fetched_fate, kept_fate};
 ghost use Rattle.pkopt.specs.Private.Fates.{next_fate, passed_fate, stored_fate};
 
 use crate::entry::Entry;
+use crate::sources::Sources;
 use pkops::Op;
 
 /// What happens to an instruction.
@@ -23,7 +24,7 @@ pub(crate) enum Fate {
 /// What is known about the memo instructions of a pickle.
 pub(crate) struct Plan {
     /// For each read, the write that it reads.
-    pub sources: Vec<Entry>,
+    pub sources: Sources,
     /// For each write that is read, its new number. Those behind the list are not read.
     pub numbers: Vec<Entry>,
     /// The limit on the memo: no write may have it as its number.
@@ -47,18 +48,6 @@ pub(crate) fn number_of(numbers: &[Entry], write: usize) -> Option<u32>
 {
     if write < numbers.len() {
         numbers[write].number()
-    } else {
-        None
-    }
-}
-
-/// The write that a read reads, if there is one.
-#[inline(always)]
-pub(crate) fn source_of(sources: &[Entry], read: usize) -> Option<u32>
-    ensures { result ≡ slice_index_or sources.now read None }
-{
-    if read < sources.len() {
-        sources[read].number()
     } else {
         None
     }

@@ -16,6 +16,7 @@ mod renumbering;
 mod rest;
 mod sink;
 mod slim;
+mod sources;
 mod trace;
 mod writing;
 

@@ -5,6 +5,7 @@ ghost use Rattle.std.specs.Prelude.{slice_index_or, suc, ℕ};
 ghost use Rattle.pkopt.specs.Private.Passes.{AreKept, AreNumbers};
 
 use crate::entry::Entry;
+use crate::sources::Sources;
 use std::alloc::{AllocError, Global};
 
 /// Lengthens a list up to this write.
@@ -22,7 +23,7 @@ fn reach_slowly(kept: &mut Vec<bool>, write: usize) -> Result<(), AllocError>
 
 /// Makes sure that a list has this write.
 #[inline(always)]
-fn reach(kept: &mut Vec<bool>, write: usize) -> Result<(), AllocError>
+pub(crate) fn reach(kept: &mut Vec<bool>, write: usize) -> Result<(), AllocError>
     ensures there { OnOk result (write < length kept.new.items) }
     ensures same { (w : ℕ) → slice_index_or kept.new.items w false
         ≡ slice_index_or kept.old.items w false }
@@ -31,21 +32,6 @@ fn reach(kept: &mut Vec<bool>, write: usize) -> Result<(), AllocError>
         return Ok(());
     }
     reach_slowly(kept, write)
-}
-
-/// For each write up to the last one that some read reads, whether one does. In most long pickles
-/// only early writes are read, so the list is short.
-fn kept_among(alloc: Global, sources: &[Entry]) -> Result<Vec<bool>, AllocError>
-    ensures { IfOk result (λ kept. AreKept sources.now kept.items) }
-{
-    let mut kept = Vec::new(alloc);
-    for source in sources {
-        if let Some(write) = source.number() {
-            reach(&mut kept, write as usize)?;
-            kept[write as usize] = true;
-        }
-    }
-    Ok(kept)
 }
 
 /// The number after this one, at most the limit.
@@ -79,11 +65,11 @@ fn numbered(alloc: Global, kept: &[bool], limit: u32) -> Result<Vec<Entry>, Allo
 /// writes behind the list are not read.
 pub(crate) fn new_numbers(
     alloc: Global,
-    sources: &[Entry],
+    sources: &Sources,
     limit: u32,
 ) -> Result<Vec<Entry>, AllocError>
-    ensures { IfOk result (λ numbers. AreNumbers sources.now limit numbers.items) }
+    ensures { IfOk result (λ numbers. AreNumbers sources.now.items limit numbers.items) }
 {
-    let kept = kept_among(alloc, sources)?;
+    let kept = sources.kept_writes(alloc)?;
     numbered(alloc, &kept, limit)
 }

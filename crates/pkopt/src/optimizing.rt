@@ -11,11 +11,11 @@ ghost use Rattle.pkopt.specs.Private.Produced.{first_past};
 ghost use Rattle.pkopt.specs.Private.TracedCheck.{IsTraced};
 ghost use Rattle.pkopt.specs.Writers.{sources as sources_of};
 
-use crate::entry::Entry;
 use crate::fate::Plan;
 use crate::numbers::new_numbers;
 use crate::place::Part;
 use crate::slim::first_past;
+use crate::sources::Sources;
 use crate::trace::Trace;
 use crate::writing::Form;
 use pkcheck::laws::same_ends;
@@ -48,7 +48,7 @@ fn too_large(at: u64) -> Refusal
 }
 
 /// Plans what happens to the memo instructions of a pickle.
-fn plan_of(alloc: Global, sources: Vec<Entry>, limits: &Limits) -> Result<Plan, AllocError>
+fn plan_of(alloc: Global, sources: Sources, limits: &Limits) -> Result<Plan, AllocError>
     ensures plan { IfOk result (λ plan. (p : List Instruction) → sources.items ≡ sources_of [] p →
         IsPlanFor p plan) }
     ensures limit { IfOk result (λ plan. plan.limit ≡ limits.now.memo) }

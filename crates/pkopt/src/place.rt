@@ -80,11 +80,20 @@ fn is_frame(op: Op) -> bool
     matches!(op, Op::Frame)
 }
 
-/// The length in bytes of an instruction with this opcode, which may change. It fits, because the
-/// only possible line of such an instruction is a number. For the most frequent opcodes of long
-/// pickles it is a constant.
+/// The length in bytes of an instruction that may change. It fits, because the only possible line
+/// of such an instruction is a number.
 #[inline(always)]
-pub(crate) fn size_of(op: Op, inst: &Inst<'_>) -> u16
+pub(crate) fn size_of(inst: &Inst<'_>) -> u16
+    requires { stays_as_is (instruction_of inst.now).op ≡ false }
+    ensures { result ≡ length (spelling (instruction_of inst.now)) }
+{
+    inst.len() as u16
+}
+
+/// The length of an instruction with this opcode, which may change. For the most frequent opcodes
+/// of long pickles it is a constant.
+#[inline(always)]
+pub(crate) fn size_with(op: Op, inst: &Inst<'_>) -> u16
     requires changes { stays_as_is op ≡ false }
     requires has { (instruction_of inst.now).op ≡ op }
     ensures { result ≡ length (spelling (instruction_of inst.now)) }
@@ -95,6 +104,6 @@ pub(crate) fn size_of(op: Op, inst: &Inst<'_>) -> u16
         Op::BinGet => 2,
         Op::LongBinPut => 5,
         Op::Memoize => 1,
-        _ => inst.len() as u16,
+        _ => size_of(inst),
     }
 }

@@ -8,9 +8,7 @@ ghost use Rattle.pkopt.specs.Private.Places.{end_behind, places_behind};
 ghost use Rattle.pkopt.specs.Private.Produced.{at_start, emitted, fate_at, first_past, from_after};
 ghost use Rattle.pkopt.specs.Private.Produced.{between, passed, produced, respelled};
 
-use crate::fate::{
-    Fate, Plan, fetched_fate, next_fate, number_of, passed_fate, source_of, stored_fate,
-};
+use crate::fate::{Fate, Plan, fetched_fate, next_fate, number_of, passed_fate, stored_fate};
 use crate::memo::{MemoUse, memo_use};
 use crate::place::{Part, Place, is_plain};
 use crate::renumbering::{code, give_renumbered};
@@ -65,7 +63,7 @@ impl Pass {
                 next_fate(number, plan.limit)
             }
             MemoUse::Fetches => {
-                let source = source_of(&plan.sources, self.reads);
+                let source = plan.sources.get(self.reads);
                 self.reads += 1;
                 fetched_fate(&plan.numbers, source)
             }
@@ -188,7 +186,7 @@ impl Pass {
             (emitted (fate_at plan.now place self.old) place bytes.now self.old.from)) }
         ensures pass { OnOk result (self.new ≡ passed plan.now place self.old) }
     {
-        let source = source_of(&plan.sources, self.reads);
+        let source = plan.sources.get(self.reads);
         self.reads += 1;
         match fetched_fate(&plan.numbers, source) {
             Fate::Stays => Ok(()),

@@ -8,9 +8,9 @@ ghost use Rattle.pkopt.specs.Private.Memories.{Notes, last_held, numbers_held};
 ghost use Rattle.pkopt.specs.Private.Passes.{IsNewTrace, Marks, NotesStep, Skips};
 ghost use Rattle.pkopt.specs.Private.Places.{place, place_of, stays_as_is};
 
-use crate::entry::Entry;
 use crate::memo::{Memo, MemoUse, memo_use};
-use crate::place::{Part, is_plain, size_of};
+use crate::place::{Part, is_plain, size_of, size_with};
+use crate::sources::Sources;
 use pkcheck::Listener;
 use pkops::{Inst, Op};
 use std::alloc::{AllocError, Global};
@@ -49,7 +49,7 @@ pub(crate) struct Trace {
     /// The number of writes. It can't overflow: 2^32 writes would take 16 GB of parts alone.
     pub writes: u32,
     /// For each read, the write that it reads.
-    pub sources: Vec<Entry>,
+    pub sources: Sources,
     /// The parts up to the last instruction that may change.
     pub parts: Vec<Part>,
     /// The offset at which these parts end.
@@ -64,7 +64,7 @@ impl Trace {
         Trace {
             memo: Memo::new(alloc),
             writes: 0,
-            sources: Vec::new(alloc),
+            sources: Sources::new(alloc),
             parts: Vec::new(alloc),
             end: 0,
         }
@@ -116,8 +116,7 @@ impl Trace {
         ensures end { self.new.end ≡ self.old.end }
     {
         let source = self.memo.last_write(number)?;
-        self.sources.push(source)?;
-        Ok(())
+        self.sources.push(source)
     }
 
     /// Records a read of this number.
@@ -133,9 +132,7 @@ impl Trace {
         let Some(write) = self.memo.write_in_order(number) else {
             return self.read_slowly(number);
         };
-        let source = Entry::new(Some(write))?;
-        self.sources.push(source)?;
-        Ok(())
+        self.sources.push_write(write)
     }
 
     /// Records what an instruction with this opcode and memo number does to the memo.
@@ -248,8 +245,7 @@ impl Trace {
         ensures step { OnOk result (NotesStep (instruction_of inst.now).op
             (memo_number (instruction_of inst.now)) self.old self.new) }
     {
-        let op = inst.op();
-        self.take_slowly(at, op, size_of(op, inst), number_of(inst))
+        self.take_slowly(at, inst.op(), size_of(inst), number_of(inst))
     }
 
     /// Records a BINGET at this offset. It does what `take` does, without a jump table.
@@ -261,7 +257,7 @@ impl Trace {
         ensures step { OnOk result (NotesStep (instruction_of inst.now).op
             (memo_number (instruction_of inst.now)) self.old self.new) }
     {
-        self.place(at, Op::BinGet, size_of(Op::BinGet, inst))?;
+        self.place(at, Op::BinGet, size_with(Op::BinGet, inst))?;
         self.read(number_of(inst))
     }
 
@@ -274,7 +270,7 @@ impl Trace {
         ensures step { OnOk result (NotesStep (instruction_of inst.now).op
             (memo_number (instruction_of inst.now)) self.old self.new) }
     {
-        self.place(at, Op::Memoize, size_of(Op::Memoize, inst))?;
+        self.place(at, Op::Memoize, size_with(Op::Memoize, inst))?;
         self.write_next()
     }
 
@@ -287,7 +283,7 @@ impl Trace {
         ensures step { OnOk result (NotesStep (instruction_of inst.now).op
             (memo_number (instruction_of inst.now)) self.old self.new) }
     {
-        self.place(at, Op::LongBinPut, size_of(Op::LongBinPut, inst))?;
+        self.place(at, Op::LongBinPut, size_with(Op::LongBinPut, inst))?;
         self.write(number_of(inst))
     }
 }

@@ -1,13 +1,12 @@
 -- Which writes are read, and their new numbers, found read by read and write by write.
 use Rattle.std.proofs.Common.{◌≡◌, ℕ, zero, suc, ◌<◌, ◌≤◌, Bool, true, false, cond, ◌||◌, List, []}
 use Rattle.std.proofs.Common.{◌∷◌}
-use Rattle.std.proofs.Common.{◌++◌, length, take, get_or, set, Option, Some, None, Result, Ok, Err}
+use Rattle.std.proofs.Common.{◌++◌, length, get_or, set, Option, Some, None, Result, Ok, Err}
 use Rattle.std.proofs.Common.{inl, inr, refl, sym, ap, ◌∙◌, arith, ltb, replicate}
 use Rattle.std.specs.Prelude.{min, IfOk}
 use Rattle.std.proofs.lemmas.List.{get_or-set_other, get_or-set_same, get_or-replicate}
 use Rattle.std.proofs.lemmas.List.{get_or_past, length-replicate}
 use Rattle.std.proofs.lemmas.Bool.{ltb-true, ltb-false}
-use Rattle.std.proofs.Math.Seq.{take-suc}
 use Rattle.std.proofs.lemmas.Bool.Decides.{eqb_tells}
 use Rattle.pkopt.specs.Private.Passes.{AreKept, AreNumbers}
 use Rattle.pkopt.specs.Writers.{is_this, is_read, new_number}
@@ -28,31 +27,36 @@ is_read-append w [] us = refl
 is_read-append w (v ∷ vs) us = ap (λ b. is_this w v || b) (is_read-append w vs us)
     ∙ sym (or_assoc (is_this w v) (is_read w vs) (is_read w us))
 
-is_read-next : (w m i : ℕ) (vs : List (Option ℕ)) (d v : Option ℕ) → m ≡ suc i → i < length vs
-    → get_or vs i d ≡ v → is_read w (take m vs) ≡ is_read w (take i vs) || is_this w v
-is_read-next w m i vs d v is lt e = rw (is, take-suc vs i d, e)
-    (is_read-append w (take i vs) (v ∷ []) ∙ ap (λ b. is_read w (take i vs) || b)
-    (or_false (is_this w v)))
+is_read-one : (w : ℕ) (vs : List (Option ℕ)) (v : Option ℕ)
+    → is_read w (vs ++ v ∷ []) ≡ is_read w vs || is_this w v
+is_read-one w vs v = is_read-append w vs (v ∷ [])
+    ∙ ap (λ b. is_read w vs || b) (or_false (is_this w v))
 
-module _ (w m i : ℕ) (vs : List (Option ℕ)) (kept : List Bool) (d v : Option ℕ) (is : m ≡ suc i)
-    (lt : i < length vs) (e : get_or vs i d ≡ v)
-    (h : get_or kept w false ≡ is_read w (take i vs)) where
-  -- another write is read
-  pub unmarked : is_this w v ≡ false → get_or kept w false ≡ is_read w (take m vs)
-  unmarked none = h
-      ∙ sym (is_read-next w m i vs d v is lt e ∙ ap (λ b. is_read w (take i vs) || b) none
-      ∙ or_false (is_read w (take i vs)))
+-- one more read reads no write
+pub unmarked : (vs : List (Option ℕ)) (kept : List Bool) → AreKept vs kept
+    → AreKept (vs ++ None ∷ []) kept
+unmarked vs kept h = record {
+  each = λ w. h.each w ∙ sym (is_read-one w vs None ∙ or_false (is_read w vs));
+}
 
-  -- the write that is read is marked
-  pub marked : (j : ℕ) → v ≡ Some j → j < length kept
-      → get_or (set kept j true) w false ≡ is_read w (take m vs)
-  marked j g inside = elim (eqb_tells w j) [
+-- the write that it reads is marked
+pub marked : (vs : List (Option ℕ)) (kept : List Bool) (j : ℕ) → j < length kept → AreKept vs kept
+    → AreKept (vs ++ Some j ∷ []) (set kept j true)
+marked vs kept j inside h = record {
+  each = λ w. elim (eqb_tells w j) [
     | inl q ↦ ap (λ n. get_or (set kept j true) n false) q.1
         ∙ get_or-set_same kept j true false inside
-        ∙ sym (is_read-next w m i vs d v is lt e
-        ∙ or_right (is_read w (take i vs)) _ (ap (is_this w) g ∙ q.0))
-    | inr q ↦ get_or-set_other kept j w true false q.1 ∙ unmarked (ap (is_this w) g ∙ q.0)
-  ]
+        ∙ sym (is_read-one w vs (Some j) ∙ or_right (is_read w vs) _ q.0)
+    | inr q ↦ get_or-set_other kept j w true false q.1 ∙ h.each w
+        ∙ sym (is_read-one w vs (Some j) ∙ ap (λ b. is_read w vs || b) q.0
+        ∙ or_false (is_read w vs))
+  ];
+}
+
+-- a list with more room is the same
+pub reached : (vs : List (Option ℕ)) (old new : List Bool)
+    → ((w : ℕ) → get_or new w false ≡ get_or old w false) → AreKept vs old → AreKept vs new
+reached vs old new same h = record { each = λ w. same w ∙ h.each w }
 
 -- the new numbers of the first k writes, where the others have none yet
 pub record NumbersTo (vs : List (Option ℕ)) (k limit next : ℕ)

@@ -82,6 +82,10 @@ pub record Tracks (p : List Instruction) (t : Trace) : Type 0 where
 pub record AreKept (vs : List (Option ℕ)) (kept : List Bool) : Type 0 where
   pub each : (w : ℕ) → slice_index_or kept w false ≡ is_read w vs
 
+-- these reads were marked too
+abbrev pub KeepsMore : (old new : List Bool) → List (Option ℕ) → Type 0
+KeepsMore old new more = (vs : List (Option ℕ)) → AreKept vs old → AreKept (vs ++ more) new
+
 -- for each write that is read, its new number, or the limit if the number is greater; those behind
 -- the list are not read
 pub record AreNumbers (vs : List (Option ℕ)) (limit : ℕ) (numbers : List (Option ℕ)) : Type 0 where

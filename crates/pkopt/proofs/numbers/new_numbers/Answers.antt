@@ -5,5 +5,5 @@ use Rattle.pkopt.proofs.numbers.new_numbers.Goals as goal
 
 pub returns : goal.returns
 returns c = if_ok_map _ _ c.numbered.result
-    (λ numbers h. h c.args.sources.now (subst (AreKept c.args.sources.now)
+    (λ numbers h. h c.args.sources.now.items (subst (AreKept c.args.sources.now.items)
     (sym c.deref.ensures.value) c.in_ok-kept.ensures)) c.numbered.ensures

@@ -1,7 +1,7 @@
 use Rattle.std.proofs.Common.{sym, ◌∙◌}
 use Rattle.pkops.specs.Inst.{instruction_of}
 use Rattle.pkopt.proofs.MemoWrites.Lengths.{binget_length, long_binput_length, memoize_length}
-use Rattle.pkopt.proofs.place.size_of.Goals as goal
+use Rattle.pkopt.proofs.place.size_with.Goals as goal
 
 pub returns-in-BinGet : goal.returns-in-BinGet
 returns-in-BinGet c = sym (binget_length (instruction_of c.args.inst.now)

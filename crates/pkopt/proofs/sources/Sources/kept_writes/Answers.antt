@@ -1,0 +1,18 @@
+use Rattle.std.proofs.Common.{subst, List, Option, ℕ}
+use Rattle.pkopt.specs.Private.Passes.{AreKept, KeepsMore}
+use Rattle.pkopt.specs.Private.Sourced.{Sourced, in_bytes}
+use Rattle.pkopt.proofs.MemoWrites.EarlyReads.{keeps_all}
+use Rattle.pkopt.proofs.sources.Sources.kept_writes.Goals as goal
+
+pub returns : goal.returns
+returns c =
+    let none = c.new-kept.result.items in
+    let some = c.keep_early.new.kept.items in
+    let all = c.keep_late.new.kept.items in
+    subst (λ (s : Sourced). AreKept s.items all) c.self.view_is
+    (keeps_all none some all c.self.inside.early.items c.self.inside.late.items
+    c.new-kept.ensures.items
+    (subst (λ (l : List ℕ). KeepsMore none some (in_bytes l)) c.deref.ensures.value
+    c.in_ok-keep_early.ensures)
+    (subst (λ (l : List (Option ℕ)). KeepsMore some all l) c.deref-2.ensures.value
+    c.in_ok-keep_late.ensures))
