@@ -6,6 +6,7 @@ pub mod Sourced
 pub mod Fronts
 pub mod Memories
 pub mod Places
+pub mod Packing
 pub mod Passes
 pub mod Fates
 pub mod Sinks

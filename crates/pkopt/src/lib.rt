@@ -11,6 +11,7 @@ mod measure;
 mod memo;
 mod numbers;
 mod optimizing;
+mod packed;
 mod place;
 mod renumbering;
 mod rest;

@@ -7,6 +7,7 @@ ghost use Rattle.pkopt.specs.Private.Places.{end_of, place_behind, stays_as_is};
 ghost use Rattle.pkopt.specs.Slim.{is_frame};
 ghost use Rattle.std.specs.List.{list_any};
 
+use crate::packed::Packed;
 use pkops::{Inst, Op};
 
 /// The place of an instruction that may change.
@@ -20,9 +21,8 @@ pub(crate) struct Place {
     pub op: Op,
 }
 
-/// A part of a pickle: bytes that stay as they are, and then an instruction that may change. A
-/// pickle has millions of these, so a part has only four bytes. More bytes that stay are a part
-/// without such an instruction: its opcode is one that never changes.
+/// A part of a pickle: bytes that stay as they are, and then an instruction that may change. More
+/// bytes that stay are a part without such an instruction: its opcode is STOP.
 #[derive(Clone, Copy)]
 pub(crate) struct Part {
     /// The length of the instruction in bytes.
@@ -67,17 +67,10 @@ pub(crate) fn is_plain(op: Op) -> bool
 }
 
 /// Whether one of the parts has a FRAME.
-pub(crate) fn any_frame(parts: &[Part]) -> bool
+pub(crate) fn any_frame(parts: &[Packed]) -> bool
     ensures { result ≡ list_any (λ part. is_frame part.op) parts.now }
 {
-    parts.iter().any(|part| is_frame(part.op))
-}
-
-/// Whether the opcode is FRAME.
-fn is_frame(op: Op) -> bool
-    ensures { result ≡ is_frame op }
-{
-    matches!(op, Op::Frame)
+    parts.iter().any(|part| part.is_frame())
 }
 
 /// The length in bytes of an instruction that may change. It fits, because the only possible line

@@ -9,17 +9,18 @@ ghost use Rattle.pkopt.specs.Private.Passes.{IsNewTrace, Marks, NotesStep, Skips
 ghost use Rattle.pkopt.specs.Private.Places.{place, place_of, stays_as_is};
 
 use crate::memo::{Memo, MemoUse, memo_use};
+use crate::packed::{Packed, is_short};
 use crate::place::{Part, is_plain, size_of, size_with};
 use crate::sources::Sources;
 use pkcheck::Listener;
 use pkops::{Inst, Op};
 use std::alloc::{AllocError, Global};
 
-/// The most bytes that stay in a part with an instruction that may change.
+/// The most bytes that stay in a part with an instruction that may change, if it is short.
 const MOST_BEFORE: u64 = 255;
 
 /// The most bytes in a part without such an instruction.
-const MOST: u16 = 65_535;
+const MOST: u16 = 26_623;
 
 /// The memo number that an instruction names; 0 if it names none.
 #[inline(always)]
@@ -41,6 +42,14 @@ fn part_of(bytes: u64) -> u16
     }
 }
 
+/// The most bytes that stay in a part with an instruction of this length.
+#[inline(always)]
+fn most_before(size: u16) -> u64
+    ensures { result ≤ 255 }
+{
+    if is_short(size) { MOST_BEFORE } else { 0 }
+}
+
 /// What the first pass has learned about the memo and the frames of a pickle.
 #[derive(Drop)]
 pub(crate) struct Trace {
@@ -51,7 +60,7 @@ pub(crate) struct Trace {
     /// For each read, the write that it reads.
     pub sources: Sources,
     /// The parts up to the last instruction that may change.
-    pub parts: Vec<Part>,
+    pub parts: Vec<Packed>,
     /// The offset at which these parts end.
     pub end: u64,
 }
@@ -162,7 +171,10 @@ impl Trace {
             return Err(AllocError);
         };
         let (gap, op) = (0, Op::Stop);
-        self.parts.push(Part { size, gap, op })?;
+        let Some(part) = Packed::new(Part { size, gap, op }) else {
+            return Err(AllocError);
+        };
+        self.parts.push(part)?;
         self.end = end;
         Ok(())
     }
@@ -186,9 +198,10 @@ impl Trace {
     }
 
     /// Records the bytes before an instruction at this offset, except for the result: the gap
-    /// before it.
+    /// before it, which has at most so many bytes.
     #[inline(always)]
-    fn pass_to(&mut self, at: u64) -> Result<u8, AllocError>
+    fn pass_to(&mut self, at: u64, most: u64) -> Result<u8, AllocError>
+        requires { most ≤ 255 }
         ensures skips { OnOk result (Skips self.old self.new) }
         ensures gap { IfOk result (λ gap. self.new.end + gap ≡ at) }
         ensures writes { self.new.writes ≡ self.old.writes }
@@ -199,7 +212,7 @@ impl Trace {
             return Err(AllocError);
         }
         let count = at - self.end;
-        if count <= MOST_BEFORE {
+        if count <= most {
             return Ok(count as u8);
         }
         self.pass(count)?;
@@ -218,8 +231,11 @@ impl Trace {
         let Some(end) = at.checked_add(u64::from(size)) else {
             return Err(AllocError);
         };
-        let gap = self.pass_to(at)?;
-        self.parts.push(Part { size, gap, op })?;
+        let gap = self.pass_to(at, most_before(size))?;
+        let Some(part) = Packed::new(Part { size, gap, op }) else {
+            return Err(AllocError);
+        };
+        self.parts.push(part)?;
         self.end = end;
         Ok(())
     }
@@ -232,6 +248,14 @@ impl Trace {
         ensures places { OnOk result (Marks (place at size op) self.old self.new) }
         ensures step { OnOk result (NotesStep op number self.old self.new) }
     {
+        if let Op::Get = op {
+            self.place(at, Op::Get, size)?;
+            return self.read(number);
+        }
+        if let Op::Put = op {
+            self.place(at, Op::Put, size)?;
+            return self.write(number);
+        }
         self.place(at, op, size)?;
         self.follow(op, number)
     }

@@ -10,7 +10,8 @@ use crate::fate::Plan;
 use crate::frame::{Front, front_of};
 use crate::made::Made;
 use crate::measure::Measure;
-use crate::place::{Part, any_frame};
+use crate::packed::Packed;
+use crate::place::any_frame;
 use crate::rest::Rest;
 use crate::sink::Sink;
 use crate::slim::give_slim;
@@ -27,7 +28,7 @@ const LONG: usize = 256;
 fn made_of(
     alloc: Global,
     bytes: &[u8],
-    parts: &[Part],
+    parts: &[Packed],
     taken: usize,
     plan: &Plan,
 ) -> Result<Option<Made>, AllocError>
@@ -47,7 +48,7 @@ fn made_of(
 /// The measure of the slim form, which may have been made.
 fn measure_of(
     bytes: &[u8],
-    parts: &[Part],
+    parts: &[Packed],
     taken: usize,
     plan: &Plan,
     made: &Option<Made>,
@@ -75,7 +76,7 @@ pub struct Form<'a> {
     /// The length of the pickle.
     taken: usize,
     /// The parts up to its last instruction that may change.
-    parts: Vec<Part>,
+    parts: Vec<Packed>,
     plan: Plan,
     /// The slim form, if it is made.
     made: Option<Made>,
@@ -132,7 +133,7 @@ impl<'a> Form<'a> {
         alloc: Global,
         bytes: &'a [u8],
         taken: usize,
-        parts: Vec<Part>,
+        parts: Vec<Packed>,
         plan: Plan,
     ) -> Result<Form<'a>, AllocError>
         requires within { end_behind 0 parts.items ≤ taken }

@@ -1,40 +1,42 @@
-use Rattle.std.proofs.Common.{arith, sym, ap, ◌∙◌, ◌+◌, ◌++◌, ℕ, List, drop}
-use Rattle.pkops.specs.declared.Op.TheVariants as op
+use Rattle.std.proofs.Common.{arith, sym, subst, ap, ◌∙◌, ◌<◌, ◌+◌, ◌++◌, ℕ, List, drop}
 use Rattle.pkopt.specs.declared.place.Part.{Part}
 use Rattle.pkopt.specs.declared.place.Place.{Place}
 use Rattle.pkopt.specs.declared.slim.Pass.{Pass}
 use Rattle.pkopt.specs.Private.Passes.{memo_use}
-use Rattle.pkopt.specs.Private.Places.{places_behind}
+use Rattle.pkopt.specs.Private.Places.{end_of, place_behind, places_behind}
 use Rattle.pkopt.specs.Private.Produced.{emitted, fate_at}
 use Rattle.pkopt.proofs.MemoWrites.Parts.{ends_short, short_behind}
 use Rattle.pkopt.proofs.SlimForm.Steps.{few_reads, few_writes, from_least, produced_next, stepped}
 use Rattle.pkopt.proofs.slim.give_slim.Goals as goal
 
-abbrev none : Part
-none = record { size = 0; gap = 0; op = op.Int }
-
 pub place_behind-place-requires : goal.place_behind-place-requires
 place_behind-place-requires g c =
-    let short = ends_short (c.args.taken + 1) c.args.parts.now c.loop-part.end
-    c.loop-part.part-index none c.loop-part-test.true c.loop-part.invariant.short in
+    let short = subst (λ (x : Part). end_of c.loop-part.end x < c.args.taken + 1)
+    (sym c.part-item.is)
+    (ends_short (c.args.taken + 1) c.args.parts.now c.loop-part.end c.loop-part.part-index
+    c.part-item.result c.loop-part-test.true c.loop-part.invariant.short) in
     let fits = c.ranges.taken.fits in
     omega (arith, short, fits)
 
 pub overflow_add-end : goal.overflow_add-end
 overflow_add-end g c =
+    let is = c.place_behind-place.ensures
+    ∙ ap (place_behind c.loop-part.end) c.part-item.is in
     let short =
     (short_behind (c.args.taken + 1) c.args.parts.now c.loop-part.end c.loop-part.part-index
-    none c.place_behind-place.result c.from.result c.loop-part-test.true
-    c.place_behind-place.ensures c.from.ensures c.loop-part.invariant.short).0 in
+    c.part-item.result c.place_behind-place.result c.from.result c.loop-part-test.true is
+    c.from.ensures c.loop-part.invariant.short).0 in
     let fits = c.ranges.taken.fits in
     omega (arith, short, fits)
 
 pub give_by_opcode-requires-clause-high : goal.give_by_opcode-requires-clause-high
 give_by_opcode-requires-clause-high g c =
+    let is = c.place_behind-place.ensures
+    ∙ ap (place_behind c.loop-part.end) c.part-item.is in
     let short =
     (short_behind (c.args.taken + 1) c.args.parts.now c.loop-part.end c.loop-part.part-index
-    none c.place_behind-place.result c.from.result c.loop-part-test.true
-    c.place_behind-place.ensures c.from.ensures c.loop-part.invariant.short).0 in
+    c.part-item.result c.place_behind-place.result c.from.result c.loop-part-test.true is
+    c.from.ensures c.loop-part.invariant.short).0 in
     let there = c.requires.there in
     let size = c.from.ensures in
     omega (arith, short, there, size)
@@ -44,11 +46,13 @@ loop-part-preserved g c =
     let writes = c.loop-part.invariant.few_writes in
     let reads = c.loop-part.invariant.few_reads in
     let x = c.place_behind-place.result in
+    let is = c.place_behind-place.ensures
+    ∙ ap (place_behind c.loop-part.end) c.part-item.is in
     let pass = c.loop-part.pass in
     let so_far = c.loop-part.invariant.so_far in
     let next = produced_next c.args.plan.now c.args.bytes.now c.args.taken c.args.parts.now
-    c.loop-part.end c.loop-part.part-index none x c.from.result pass c.loop-part-test.true
-    c.place_behind-place.ensures c.from.ensures in
+    c.loop-part.end c.loop-part.part-index c.part-item.result x c.from.result pass
+    c.loop-part-test.true is c.from.ensures in
     let later = places_behind (x.at + c.from.result)
     (drop (c.loop-part.part-index + 1) c.args.parts.now) in
     let size = c.from.ensures in
@@ -68,7 +72,7 @@ loop-part-preserved g c =
       few_reads = omega (arith, reads, more_reads, new_reads);
       short =
           (short_behind (c.args.taken + 1) c.args.parts.now c.loop-part.end c.loop-part.part-index
-          none x c.from.result c.loop-part-test.true c.place_behind-place.ensures c.from.ensures
+          c.part-item.result x c.from.result c.loop-part-test.true is c.from.ensures
           c.loop-part.invariant.short).1;
       behind = omega (arith, least, now, size);
       so_far = (
