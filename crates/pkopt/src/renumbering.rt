@@ -1,6 +1,6 @@
 //! Spells memo instructions with new numbers.
 
-ghost use Rattle.std.specs.Prelude.{◌≡◌, ◌++◌, ◌∷◌, [], OnOk, cond, ltb, true};
+ghost use Rattle.std.specs.Prelude.{◌≡◌, ◌<◌, ◌+◌, ◌++◌, ◌∷◌, [], OnOk, cond, ltb, true};
 ghost use Rattle.std.specs.Fmt.{decimal};
 ghost use Rattle.pkops.specs.Operands.{names_memo_entry};
 ghost use Rattle.pkops.specs.Spelling.{Number, instruction, line_feed, spelling};
@@ -27,9 +27,34 @@ pub(crate) fn code(op: Op) -> u8
     }
 }
 
-/// Gives a sink an opcode and a number as a line of digits.
+/// The character of a digit.
+#[inline(always)]
+fn digit(value: u32) -> u8
+    requires { value < 10 }
+    ensures { result ≡ 48 + value }
+{
+    b'0' + value as u8
+}
+
+/// Gives a sink an opcode and a number as a line of digits. In most long pickles the numbers that
+/// stay have one or two.
 #[inline(never)]
 fn give_line<S: Sink>(sink: &mut S, op: Op, number: u32) -> Result<(), S::Error>
+    requires { names_memo_entry op ≡ true }
+    ensures { OnOk result (S.takes sink.old sink.new
+        (code_of op ∷ (decimal number ++ line_feed ∷ []))) }
+{
+    if number < 10 {
+        return sink.take(&[code(op), digit(number), b'\n']);
+    }
+    if number < 100 {
+        return sink.take(&[code(op), digit(number / 10), digit(number % 10), b'\n']);
+    }
+    give_long_line(sink, op, number)
+}
+
+/// Gives a sink an opcode and a number as a line of digits, however many.
+fn give_long_line<S: Sink>(sink: &mut S, op: Op, number: u32) -> Result<(), S::Error>
     requires { names_memo_entry op ≡ true }
     ensures { OnOk result (S.takes sink.old sink.new
         (code_of op ∷ (decimal number ++ line_feed ∷ []))) }

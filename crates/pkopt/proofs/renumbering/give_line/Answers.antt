@@ -1,17 +1,35 @@
-use Rattle.std.proofs.Common.{ℕ, List, [], ◌∷◌, ◌++◌, subst, ◌∙◌}
+use Rattle.std.proofs.Common.{◌≡◌, ℕ, List, [], ◌∷◌, ◌++◌, ◌∙◌, ◌/◌, ◌%◌, ◌+◌, ap, sym, subst, arith}
+use Rattle.std.specs.Fmt.{decimal}
+use Rattle.std.proofs.lemmas.Fmt.{decimal_digit, decimal_step}
 use Rattle.pkops.specs.Table.{code_of}
 use Rattle.pkopt.proofs.Pieces.{on_ok}
 use Rattle.pkopt.proofs.renumbering.give_line.Goals as goal
 
-pub returns : goal.returns
-returns g c = on_ok _ _ c.take-3.result c.take-3.ensures (λ h.
-    let line_end = 10 ∷ [] in
-    let text = c.as_bytes.result.now in
-    let both = g.met.S.Sink.takes_more _ _ _ text line_end c.in_ok-take-2.ensures h in
-    let all = g.met.S.Sink.takes_more _ _ _ (c.code.result ∷ [])
-    (text ++ line_end) c.in_ok-take.ensures both in
-    subst
-    (λ (l : List ℕ). g.S.Sink.takes c.args.sink.now c.take-3.new.self
-    (code_of c.args.op ∷ (l ++ line_end))) (c.as_bytes.ensures.value ∙ c.format.ensures.text)
-    (subst (λ n. g.S.Sink.takes c.args.sink.now c.take-3.new.self (n ∷ (text ++ line_end)))
-    c.code.ensures all))
+abbrev line : ℕ → List ℕ → List ℕ
+line code digits = code ∷ (digits ++ 10 ∷ [])
+
+pub returns-then-number-lt10 : goal.returns-then-number-lt10
+returns-then-number-lt10 g c = on_ok _ _ c.take.result c.take.ensures (λ h.
+    let n = c.args.number in
+    let text : c.digit.result ∷ [] ≡ decimal n = ap (λ (d : ℕ). d ∷ []) c.digit.ensures
+    ∙ sym (decimal_digit n c.if-number-lt10.true) in
+    subst (λ (l : List ℕ). g.S.Sink.takes c.args.sink.now c.take.new.self l)
+    (ap (λ (d : ℕ). line d (c.digit.result ∷ [])) c.code.ensures
+    ∙ ap (λ (l : List ℕ). line (code_of c.args.op) l) text) h)
+
+pub returns-then-number-lt100 : goal.returns-then-number-lt100
+returns-then-number-lt100 g c =
+    on_ok _ _ c.take-then-number-lt100.result c.take-then-number-lt100.ensures (λ h.
+    let n = c.args.number in
+    let first = c.digit-then-number-lt100.result in
+    let second = c.digit-then-number-lt100-2.result in
+    let low = c.if-number-lt10.false in
+    let high = c.if-number-lt100.true in
+    let text : first ∷ second ∷ [] ≡ decimal n =
+    ap (λ (d : ℕ). d ∷ second ∷ []) c.digit-then-number-lt100.ensures
+    ∙ ap (λ (d : ℕ). (48 + n / 10) ∷ d ∷ []) c.digit-then-number-lt100-2.ensures
+    ∙ sym (decimal_step n low (omega (arith, high))
+    ∙ ap (λ (l : List ℕ). l ++ (48 + n % 10) ∷ []) (decimal_digit (n / 10) (omega (arith, high)))) in
+    subst (λ (l : List ℕ). g.S.Sink.takes c.args.sink.now c.take-then-number-lt100.new.self l)
+    (ap (λ (d : ℕ). line d (first ∷ second ∷ [])) c.code-then-number-lt100.ensures
+    ∙ ap (λ (l : List ℕ). line (code_of c.args.op) l) text) h)
