@@ -1,6 +1,6 @@
 //! The slim form, as it is made in memory.
 
-ghost use Rattle.std.specs.Prelude.{◌≡◌, ◌≤◌, ◌+◌, ◌++◌, ℕ, [], IfOk, OnOk, drop, length, take};
+ghost use Rattle.std.specs.Prelude.{◌≡◌, ◌≤◌, ◌+◌, ◌++◌, ◌∷◌, ℕ, [], IfOk, OnOk, drop, length, take};
 ghost use Rattle.pkopt.specs.Private.Sinks.{appended_more, appended_none};
 
 use crate::sink::Sink;
@@ -57,6 +57,15 @@ impl Made {
         ensures { OnOk result (self.new ≡ self.old ++ piece.now) }
     {
         self.take(piece)
+    }
+
+    /// Takes a piece that isn't copied in one move, and two more bytes.
+    #[inline(never)]
+    fn take_two_slowly(&mut self, piece: &[u8], first: u8, second: u8) -> Result<(), AllocError>
+        ensures { OnOk result (self.new ≡ self.old ++ (piece.now ++ first ∷ second ∷ [])) }
+    {
+        self.take(piece)?;
+        self.take(&[first, second])
     }
 }
 
@@ -152,8 +161,7 @@ impl Sink for Made {
         let len = self.len;
         let count = here - from;
         if count > MOVE || from + MOVE > bytes.len() || len + MOVE + 2 > self.store.len() {
-            self.take_slowly(&bytes[from..here])?;
-            return self.take_slowly(&[first, second]);
+            return self.take_two_slowly(&bytes[from..here], first, second);
         }
         put_move(&mut self.store, len, bytes, from);
         put(&mut self.store, len + count, &[first, second]);

@@ -94,7 +94,7 @@ impl Packed {
 fn is_frame_code(code: u8) -> bool
     ensures { (gap : ℕ) → result ≡ is_frame (unpacked gap code).op }
 {
-    code >= FRAME && code < GET
+    code == FRAME
 }
 
 /// A part whose opcode has one length.
@@ -235,7 +235,8 @@ fn unpack_with_length(gap: u8, code: u8) -> Part
         2 => made(gap, 5, Op::LongBinPut),
         3 => made(gap, 2, Op::BinPut),
         4 => made(gap, 5, Op::LongBinGet),
-        _ => made(gap, 9, Op::Frame),
+        5 => made(gap, 9, Op::Frame),
+        _ => made(gap, 0, Op::Stop),
     }
 }
 

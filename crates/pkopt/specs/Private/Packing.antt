@@ -19,7 +19,8 @@ fixed gap code =
     (cond (nat_eq code 1) (part_with gap 2 op.BinGet)
     (cond (nat_eq code 2) (part_with gap 5 op.LongBinPut)
     (cond (nat_eq code 3) (part_with gap 2 op.BinPut)
-    (cond (nat_eq code 4) (part_with gap 5 op.LongBinGet) (part_with gap 9 op.Frame)))))
+    (cond (nat_eq code 4) (part_with gap 5 op.LongBinGet)
+    (cond (nat_eq code 5) (part_with gap 9 op.Frame) (part_with gap 0 op.Stop))))))
 
 -- the part that the two bytes stand for
 abbrev pub unpacked : (gap code : ℕ) → Part
