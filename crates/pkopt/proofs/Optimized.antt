@@ -29,7 +29,8 @@ use Rattle.pkopt.specs.Answer.{Checks, pickle, Optimizes, IsNotOptimized}
 use Rattle.pkread.specs.Rows.{in_memory}
 use Rattle.pkopt.specs.Private.Fates.{Aims, IsSlim, IsPlanFor}
 use Rattle.pkopt.specs.Private.FrameBytes.{framed_bytes}
-use Rattle.pkopt.specs.Private.Outputs.{has_frames, output, slim_bytes}
+use Rattle.pkopt.specs.Private.Outputs.{output, slim_bytes}
+use Rattle.pkopt.specs.Private.Places.{has_frames}
 use Rattle.pkopt.specs.Private.Places.{places_behind}
 use Rattle.pkopt.specs.Private.Produced.{first_past}
 use Rattle.pkopt.specs.Private.Fronts.{EndsInStop}

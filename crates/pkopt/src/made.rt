@@ -1,6 +1,7 @@
 //! The slim form, as it is made in memory.
 
-ghost use Rattle.std.specs.Prelude.{◌≡◌, ◌≤◌, ◌+◌, ◌++◌, ◌∷◌, ℕ, [], IfOk, OnOk, drop, length, take};
+ghost use Rattle.std.specs.Prelude.{◌≡◌, ◌≤◌, ◌+◌, ◌++◌, ◌∷◌, ℕ, [], IfOk, OnOk, drop, length};
+ghost use Rattle.std.specs.Prelude.{take};
 ghost use Rattle.pkopt.specs.Private.Sinks.{appended_more, appended_none};
 
 use crate::sink::Sink;

@@ -157,6 +157,7 @@ pub fn optimized_form<'a>(
         parts,
         writes,
         end,
+        framed,
     } = trace;
     drop(memo);
     let Ok(plan) = plan_of(alloc, sources, limits) else {
@@ -169,7 +170,7 @@ pub fn optimized_form<'a>(
     if end > taken {
         return Err(lacks_memory());
     }
-    let Ok(form) = Form::new(alloc, bytes, taken as usize, parts, plan) else {
+    let Ok(form) = Form::new(alloc, bytes, taken as usize, parts, framed, plan) else {
         return Err(lacks_memory());
     };
     Ok(form)

@@ -2,7 +2,6 @@
 
 ghost use Rattle.std.specs.Prelude.{◌≡◌, ◌<◌, ◌≤◌, ◌+◌, ◌^◌, IfSome, ltb, ℕ};
 ghost use Rattle.pkopt.specs.Private.Places.{end_of, place_behind};
-ghost use Rattle.pkopt.specs.Slim.{is_frame};
 ghost use Rattle.pkopt.specs.Private.Packing.{fixed, long_part, part_with, unpacked};
 
 use crate::place::{Part, Place};
@@ -21,24 +20,24 @@ const BINPUT: u8 = 3;
 const LONG_BINGET: u8 = 4;
 /// A FRAME.
 const FRAME: u8 = 5;
-/// The first code of a GET with a gap.
+/// A GET of no bytes, to which its length is added.
 const GET: u8 = 8;
-/// The first code of a PUT with a gap.
+/// A PUT of no bytes, to which its length is added.
 const PUT: u8 = 72;
-/// The first code of a long GET.
+/// A GET that is a long part.
 const LONG_GET: u8 = 136;
-/// The first code of a long PUT.
+/// A PUT that is a long part.
 const LONG_PUT: u8 = 144;
-/// The first code of bytes that stay as they are.
+/// Bytes that stay as they are, as a long part.
 const PLAIN: u8 = 152;
 
 /// A part of a pickle. A pickle has millions of these, so it has only two bytes.
 #[derive(Drop)]
 pub(crate) struct Packed {
-    /// The gap, or the lower bits of the length of a part without a gap.
+    /// The gap; in a long part, which has none, the lower byte of the length.
     gap: u8,
-    /// The opcode with its length, or with the upper bits of the length: for opcodes of one length
-    /// a small number, for others a number from the first for this opcode on.
+    /// The opcode. In a short line the length is added to it, in a long part the upper byte of the
+    /// length.
     code: u8,
 }
 
@@ -80,21 +79,6 @@ impl Packed {
     {
         place_of(from, self.gap, self.code)
     }
-
-    /// Whether its opcode is FRAME.
-    #[inline(always)]
-    pub(crate) fn is_frame(&self) -> bool
-        ensures { result ≡ is_frame self.now.op }
-    {
-        is_frame_code(self.code)
-    }
-}
-
-/// Whether this is the code of a FRAME.
-fn is_frame_code(code: u8) -> bool
-    ensures { (gap : ℕ) → result ≡ is_frame (unpacked gap code).op }
-{
-    code == FRAME
 }
 
 /// A part whose opcode has one length.

@@ -4,10 +4,7 @@ ghost use Rattle.std.specs.Prelude.{◌≡◌, ◌<◌, ◌^◌, false, length};
 ghost use Rattle.pkops.specs.Inst.{instruction_of};
 ghost use Rattle.pkops.specs.Spelling.{spelling};
 ghost use Rattle.pkopt.specs.Private.Places.{end_of, place_behind, stays_as_is};
-ghost use Rattle.pkopt.specs.Slim.{is_frame};
-ghost use Rattle.std.specs.List.{list_any};
 
-use crate::packed::Packed;
 use pkops::{Inst, Op};
 
 /// The place of an instruction that may change.
@@ -64,13 +61,6 @@ pub(crate) fn is_plain(op: Op) -> bool
         Op::Frame => false,
         _ => true,
     }
-}
-
-/// Whether one of the parts has a FRAME.
-pub(crate) fn any_frame(parts: &[Packed]) -> bool
-    ensures { result ≡ list_any (λ part. is_frame part.op) parts.now }
-{
-    parts.iter().any(|part| part.is_frame())
 }
 
 /// The length in bytes of an instruction that may change. It fits, because the only possible line

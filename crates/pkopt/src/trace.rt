@@ -1,12 +1,13 @@
 //! Records the memo and the frames of a pickle while it is checked.
 
-ghost use Rattle.std.specs.Prelude.{◌≡◌, ◌+◌, ◌++◌, ◌∷◌, ◌<◌, ◌≤◌, [], IfOk, OnOk, false};
+ghost use Rattle.std.specs.Prelude.{◌≡◌, ◌||◌, ◌+◌, ◌++◌, ◌∷◌, ◌<◌, ◌≤◌, [], IfOk, OnOk, false};
 ghost use Rattle.pkops.specs.declared.Op.TheVariants as op;
 ghost use Rattle.pkops.specs.Inst.{instruction_of};
 ghost use Rattle.pkops.specs.Operands.{memo_number};
 ghost use Rattle.pkopt.specs.Private.Memories.{Notes, last_held, numbers_held};
 ghost use Rattle.pkopt.specs.Private.Passes.{IsNewTrace, Marks, NotesStep, Skips};
 ghost use Rattle.pkopt.specs.Private.Places.{place, place_of, stays_as_is};
+ghost use Rattle.pkopt.specs.Slim.{is_frame};
 
 use crate::memo::{Memo, MemoUse, memo_use};
 use crate::packed::{Packed, is_short};
@@ -19,7 +20,7 @@ use std::alloc::{AllocError, Global};
 /// The most bytes that stay in a part with an instruction that may change, if it is short.
 const MOST_BEFORE: u64 = 255;
 
-/// The most bytes in a part without such an instruction.
+/// The most bytes in a part without such an instruction: what a long part can hold.
 const MOST: u16 = 26_623;
 
 /// The memo number that an instruction names; 0 if it names none.
@@ -50,12 +51,20 @@ fn most_before(size: u16) -> u64
     if is_short(size) { MOST_BEFORE } else { 0 }
 }
 
+/// Whether a part with this opcode or an earlier one has a FRAME.
+#[inline(always)]
+fn with_frame(framed: bool, op: Op) -> bool
+    ensures { result ≡ framed || is_frame op }
+{
+    framed || matches!(op, Op::Frame)
+}
+
 /// What the first pass has learned about the memo and the frames of a pickle.
 #[derive(Drop)]
 pub(crate) struct Trace {
     /// The last write of each number.
     pub memo: Memo,
-    /// The number of writes. It can't overflow: 2^32 writes would take 16 GB of parts alone.
+    /// The number of writes. It can't overflow: 2^32 writes would take 8 GB of parts alone.
     pub writes: u32,
     /// For each read, the write that it reads.
     pub sources: Sources,
@@ -63,6 +72,8 @@ pub(crate) struct Trace {
     pub parts: Vec<Packed>,
     /// The offset at which these parts end.
     pub end: u64,
+    /// Whether one of them has a FRAME.
+    pub framed: bool,
 }
 
 impl Trace {
@@ -76,6 +87,7 @@ impl Trace {
             sources: Sources::new(alloc),
             parts: Vec::new(alloc),
             end: 0,
+            framed: false,
         }
     }
 
@@ -87,6 +99,7 @@ impl Trace {
         ensures sources { self.new.sources.items ≡ self.old.sources.items }
         ensures parts { self.new.parts.items ≡ self.old.parts.items }
         ensures end { self.new.end ≡ self.old.end }
+        ensures framed { self.new.framed ≡ self.old.framed }
     {
         let Some(writes) = self.writes.checked_add(1) else {
             return Err(AllocError);
@@ -105,6 +118,7 @@ impl Trace {
         ensures sources { self.new.sources.items ≡ self.old.sources.items }
         ensures parts { self.new.parts.items ≡ self.old.parts.items }
         ensures end { self.new.end ≡ self.old.end }
+        ensures framed { self.new.framed ≡ self.old.framed }
     {
         let Some(writes) = self.writes.checked_add(1) else {
             return Err(AllocError);
@@ -123,6 +137,7 @@ impl Trace {
             ≡ self.old.sources.items ++ last_held self.old.memo number ∷ []) }
         ensures parts { self.new.parts.items ≡ self.old.parts.items }
         ensures end { self.new.end ≡ self.old.end }
+        ensures framed { self.new.framed ≡ self.old.framed }
     {
         let source = self.memo.last_write(number)?;
         self.sources.push(source)
@@ -137,6 +152,7 @@ impl Trace {
             ≡ self.old.sources.items ++ last_held self.old.memo number ∷ []) }
         ensures parts { self.new.parts.items ≡ self.old.parts.items }
         ensures end { self.new.end ≡ self.old.end }
+        ensures framed { self.new.framed ≡ self.old.framed }
     {
         let Some(write) = self.memo.write_in_order(number) else {
             return self.read_slowly(number);
@@ -150,6 +166,7 @@ impl Trace {
         ensures step { OnOk result (NotesStep op number self.old self.new) }
         ensures parts { self.new.parts.items ≡ self.old.parts.items }
         ensures end { self.new.end ≡ self.old.end }
+        ensures framed { self.new.framed ≡ self.old.framed }
     {
         match memo_use(op) {
             MemoUse::Stores => self.write(number),
@@ -236,6 +253,7 @@ impl Trace {
             return Err(AllocError);
         };
         self.parts.push(part)?;
+        self.framed = with_frame(self.framed, op);
         self.end = end;
         Ok(())
     }

@@ -3,7 +3,7 @@
 ghost use Rattle.std.specs.Prelude.{◌≡◌, ◌<◌, ◌≤◌, ◌^◌, IfOk, IfSome, OnOk, length};
 ghost use Rattle.std.specs.Io.KnownBytes.{Appends};
 ghost use Rattle.pkopt.specs.Private.Outputs.{output, slim_bytes};
-ghost use Rattle.pkopt.specs.Private.Places.{end_behind};
+ghost use Rattle.pkopt.specs.Private.Places.{end_behind, has_frames};
 ghost use Rattle.pkopt.specs.Private.Sinks.{Measures};
 
 use crate::fate::Plan;
@@ -11,7 +11,6 @@ use crate::frame::{Front, front_of};
 use crate::made::Made;
 use crate::measure::Measure;
 use crate::packed::Packed;
-use crate::place::any_frame;
 use crate::rest::Rest;
 use crate::sink::Sink;
 use crate::slim::give_slim;
@@ -124,7 +123,7 @@ impl<'a> Model for Form<'a> {
 }
 
 impl<'a> Form<'a> {
-    /// The form of the pickle that is the first `taken` bytes.
+    /// The form of the pickle that is the first `taken` bytes, which is inside a frame if `framed`.
     ///
     /// # Errors
     ///
@@ -134,10 +133,12 @@ impl<'a> Form<'a> {
         bytes: &'a [u8],
         taken: usize,
         parts: Vec<Packed>,
+        framed: bool,
         plan: Plan,
     ) -> Result<Form<'a>, AllocError>
         requires within { end_behind 0 parts.items ≤ taken }
         requires there { taken ≤ length bytes.now }
+        requires framed { framed ≡ has_frames parts.items }
         ensures taken { IfOk result (λ form. form.taken ≡ taken) }
         ensures bytes { IfOk result (λ form.
             form.bytes ≡ output plan bytes.now taken parts.items) }
@@ -146,7 +147,7 @@ impl<'a> Form<'a> {
     {
         let made = made_of(alloc, bytes, &parts, taken, &plan)?;
         let measure = measure_of(bytes, &parts, taken, &plan, &made)?;
-        let front = front_of(alloc, measure, any_frame(&parts))?;
+        let front = front_of(alloc, measure, framed)?;
         let rest = measure.len - front.head as u64;
         let Some(len) = rest.checked_add(front.bytes.len() as u64) else {
             return Err(AllocError);

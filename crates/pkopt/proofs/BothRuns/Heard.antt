@@ -12,7 +12,8 @@ use Rattle.pkopt.specs.declared.place.Place.{Place}
 use Rattle.pkopt.specs.declared.trace.Trace.{Trace}
 use Rattle.pkopt.specs.Private.Passes.{IsNewTrace, EndsSo, Hears, Marks, NotesStep}
 use Rattle.pkopt.specs.Private.Passes.{Tracks}
-use Rattle.pkopt.specs.Private.Places.{end_behind, stays_as_is, place_of, places_behind}
+use Rattle.pkopt.specs.Private.Places.{end_behind, has_frames, stays_as_is, place_of}
+use Rattle.pkopt.specs.Private.Places.{places_behind}
 use Rattle.pkopt.specs.Private.Places.{places_from, places_told, told}
 use Rattle.pkopt.specs.Writers.{read_by, sources, after_all}
 use Rattle.pkopt.proofs.MemoWrites.Rows.{holds_none}
@@ -65,7 +66,10 @@ heard_places before (i ∷ is) [] h = absurd h
 pub heard_tracks : (x y : Trace) (p : List Instruction) (hs : List Heard) → IsNewTrace x
     → AreHeardBehind [] p hs → Hears x y hs → Tracks p y
 heard_tracks x y p hs first each h =
-    let nothing : EndsSo x = first.end ∙ ap (end_behind 0) (sym first.parts) in
+    let nothing : EndsSo x = (
+      first.end ∙ ap (end_behind 0) (sym first.parts),
+      first.framed ∙ ap has_frames (sym first.parts),
+    ) in
     let s = h []
     (record {
       holds = holds_none x.memo first.row first.rest;
@@ -78,5 +82,6 @@ heard_tracks x y p hs first each h =
       writes = s.follows.count ∙ ap (λ q. length (after_all q [])) all;
       places = s.places_now ∙ ap (λ (l : List Part). places_behind 0 l ++ places_told hs)
           first.parts ∙ heard_places [] p hs each;
-      ends = sym s.ends;
+      ends = sym s.ends.0;
+      framed = s.ends.1;
     }

@@ -3,13 +3,14 @@ use Rattle.std.proofs.Common.{◌≡◌, ℕ, ◌+◌, ◌<◌, ◌≤◌, Bool,
 use Rattle.std.proofs.Common.{◌++◌, length, drop, get_or, refl, sym, ap, subst, ◌∙◌, arith}
 use Rattle.std.proofs.Common.{append-nil}
 use Rattle.std.proofs.lemmas.List.{drop_more}
+use Rattle.std.proofs.lemmas.List.Folds.{list_any-append}
 use Rattle.std.specs.List.{list_any}
 use Rattle.pkops.specs.declared.Op.{Op}
 use Rattle.pkops.specs.declared.Op.TheVariants as op
 use Rattle.pkopt.specs.declared.place.Part.{Part}
 use Rattle.pkopt.specs.declared.place.Place.{Place}
-use Rattle.pkopt.specs.Private.Places.{end_behind, end_of, place, place_behind, places_behind}
-use Rattle.pkopt.specs.Private.Places.{stays_as_is}
+use Rattle.pkopt.specs.Private.Places.{end_behind, end_of, has_frames, place, place_behind}
+use Rattle.pkopt.specs.Private.Places.{places_behind, stays_as_is}
 use Rattle.pkopt.specs.Slim.{is_frame}
 
 pub end_behind-more : (from : ℕ) (parts : List Part) (part : Part)
@@ -31,6 +32,10 @@ places_behind-more from (x ∷ xs) part =
     (places_behind-more (end_of from x) xs part)
     ∙ cond_more (stays_as_is x.op) (place_behind from x) (places_behind (end_of from x) xs)
     (places_behind (end_behind (end_of from x) xs) (part ∷ []))
+
+pub no_more : (b : Bool) → b || false ≡ b
+no_more true = refl
+no_more false = refl
 
 -- parts end behind where they begin
 pub behind_least : (parts : List Part) (from : ℕ) → from ≤ end_behind from parts
@@ -56,6 +61,13 @@ framed_parts [] from = refl
 framed_parts (x ∷ xs) from = framed_part (stays_as_is x.op) x from
     (places_behind (end_of from x) xs) (list_any (λ (x : Part). is_frame x.op) xs) refl
     (framed_parts xs (end_of from x))
+
+-- one part more may have a FRAME
+pub frames_more : (parts parts' : List Part) (part : Part) → parts' ≡ parts ++ part ∷ []
+    → has_frames parts' ≡ has_frames parts || is_frame part.op
+frames_more parts parts' part grown = ap has_frames grown
+    ∙ list_any-append (λ (x : Part). is_frame x.op) parts (part ∷ [])
+    ∙ ap (λ b. has_frames parts || b) (no_more (is_frame part.op))
 
 -- where parts end that have one part more
 end_more : (parts parts' : List Part) (part : Part) → parts' ≡ parts ++ part ∷ []

@@ -1,12 +1,10 @@
 -- The bytes of a form.
-use Rattle.std.specs.Prelude.{ℕ, Bool, cond, List, ◌++◌, drop}
-use Rattle.std.specs.List.{list_any}
+use Rattle.std.specs.Prelude.{ℕ, cond, List, ◌++◌, drop}
 use Rattle.pkopt.specs.declared.fate.Plan.{Plan}
 use Rattle.pkopt.specs.declared.place.Part.{Part}
 use Rattle.pkopt.specs.Private.FrameBytes.{framed_bytes}
-use Rattle.pkopt.specs.Private.Places.{places_behind}
+use Rattle.pkopt.specs.Private.Places.{has_frames, places_behind}
 use Rattle.pkopt.specs.Private.Produced.{at_start, produced}
-use Rattle.pkopt.specs.Slim.{is_frame}
 
 -- the bytes of the slim form
 abbrev pub slim_bytes : Plan → List ℕ → ℕ → List Part → List ℕ
@@ -15,10 +13,6 @@ slim_bytes plan bytes taken parts = produced plan bytes taken (places_behind 0 p
 -- the front, then the slim form behind its head
 abbrev pub written : Plan → List ℕ → ℕ → List Part → List ℕ → ℕ → List ℕ
 written plan bytes taken parts front head = front ++ drop head (slim_bytes plan bytes taken parts)
-
--- one of the parts has a FRAME
-abbrev pub has_frames : List Part → Bool
-has_frames parts = list_any (λ (x : Part). is_frame x.op) parts
 
 -- the slim form, inside one frame if one of the parts has a FRAME
 abbrev pub output : Plan → List ℕ → ℕ → List Part → List ℕ

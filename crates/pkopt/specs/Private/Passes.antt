@@ -11,7 +11,8 @@ use Rattle.pkopt.specs.declared.trace.Trace.{Trace}
 use Rattle.pkopt.specs.declared.memo.MemoUse.TheVariants.{Stores, StoresNext, Fetches, Neither}
 use Rattle.pkopt.specs.Private.Memories.{HoldsWrites, row_of}
 use Rattle.pkopt.specs.declared.place.Place.{Place}
-use Rattle.pkopt.specs.Private.Places.{end_behind, places_behind, places_from, places_told, told}
+use Rattle.pkopt.specs.Private.Places.{end_behind, has_frames, places_behind, places_from}
+use Rattle.pkopt.specs.Private.Places.{places_told, told}
 use Rattle.pkopt.specs.Writers.{Writes, read_by, wrote, sources, is_read, new_number, after_all}
 
 -- how an opcode uses the memo
@@ -33,6 +34,7 @@ pub record IsNewTrace (t : Trace) : Type 0 where
   pub sources : t.sources.items ≡ []
   pub parts : t.parts.items ≡ []
   pub end : t.end ≡ 0
+  pub framed : t.framed ≡ false
 
 -- the trace counts these writes, and its memo holds the last of each number
 pub record FollowsWrites (ws : Writes) (t : Trace) : Type 0 where
@@ -45,9 +47,9 @@ NotesStep o n old new = (ws : Writes) → FollowsWrites ws old →
     FollowsWrites (wrote (effect_of o) n ws) new
     × (new.sources.items ≡ old.sources.items ++ read_by (effect_of o) n ws)
 
--- the parts end where the trace says
+-- the parts end where the trace says, and have a FRAME where it says so
 abbrev pub EndsSo : Trace → Type 0
-EndsSo t = t.end ≡ end_behind 0 t.parts.items
+EndsSo t = (t.end ≡ end_behind 0 t.parts.items) × (t.framed ≡ has_frames t.parts.items)
 
 -- no instruction that may change was recorded
 abbrev pub Skips : Trace → Trace → Type 0
@@ -77,6 +79,7 @@ pub record Tracks (p : List Instruction) (t : Trace) : Type 0 where
   pub writes : t.writes ≡ length (after_all p [])
   pub places : places_behind 0 t.parts.items ≡ places_from 0 p
   pub ends : end_behind 0 t.parts.items ≡ t.end
+  pub framed : t.framed ≡ has_frames t.parts.items
 
 -- for each write, whether it is read; those behind the list are not
 pub record AreKept (vs : List (Option ℕ)) (kept : List Bool) : Type 0 where

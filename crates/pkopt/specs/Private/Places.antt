@@ -1,11 +1,13 @@
 -- The offsets of the instructions in a pickle that may change.
 use Rattle.std.specs.Prelude.{ℕ, ◌+◌, Bool, true, false, cond, List, [], ◌∷◌, length}
+use Rattle.std.specs.List.{list_any}
 use Rattle.pkops.specs.declared.Op.{Op}
 use Rattle.pkops.specs.declared.Op.TheVariants as op
 use Rattle.pkops.specs.Spelling.{Instruction, spelling}
 use Rattle.pkcheck.specs.Heard.{Heard}
 use Rattle.pkopt.specs.declared.place.Part.{Part}
 use Rattle.pkopt.specs.declared.place.Place.{Place}
+use Rattle.pkopt.specs.Slim.{is_frame}
 
 -- instructions with this opcode never change: they don't use the memo and aren't FRAME
 abbrev pub stays_as_is : Op → Bool
@@ -65,3 +67,7 @@ places_behind from [] = []
 places_behind from (part ∷ parts) =
     cond (stays_as_is part.op) (places_behind (end_of from part) parts)
     (place_behind from part ∷ places_behind (end_of from part) parts)
+
+-- one of the parts has a FRAME
+abbrev pub has_frames : List Part → Bool
+has_frames parts = list_any (λ (x : Part). is_frame x.op) parts

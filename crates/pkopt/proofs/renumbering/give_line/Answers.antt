@@ -1,4 +1,5 @@
-use Rattle.std.proofs.Common.{◌≡◌, ℕ, List, [], ◌∷◌, ◌++◌, ◌∙◌, ◌/◌, ◌%◌, ◌+◌, ap, sym, subst, arith}
+use Rattle.std.proofs.Common.{◌≡◌, ℕ, List, [], ◌∷◌, ◌++◌, ◌∙◌, ◌/◌, ◌%◌, ◌+◌, ap, sym, subst}
+use Rattle.std.proofs.Common.{arith}
 use Rattle.std.specs.Fmt.{decimal}
 use Rattle.std.proofs.lemmas.Fmt.{decimal_digit, decimal_step}
 use Rattle.pkops.specs.Table.{code_of}
@@ -29,7 +30,8 @@ returns-then-number-lt100 g c =
     ap (λ (d : ℕ). d ∷ second ∷ []) c.digit-then-number-lt100.ensures
     ∙ ap (λ (d : ℕ). (48 + n / 10) ∷ d ∷ []) c.digit-then-number-lt100-2.ensures
     ∙ sym (decimal_step n low (omega (arith, high))
-    ∙ ap (λ (l : List ℕ). l ++ (48 + n % 10) ∷ []) (decimal_digit (n / 10) (omega (arith, high)))) in
+    ∙ ap (λ (l : List ℕ). l ++ (48 + n % 10) ∷ [])
+    (decimal_digit (n / 10) (omega (arith, high)))) in
     subst (λ (l : List ℕ). g.S.Sink.takes c.args.sink.now c.take-then-number-lt100.new.self l)
     (ap (λ (d : ℕ). line d (first ∷ second ∷ [])) c.code-then-number-lt100.ensures
     ∙ ap (λ (l : List ℕ). line (code_of c.args.op) l) text) h)

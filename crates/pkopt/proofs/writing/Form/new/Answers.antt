@@ -1,11 +1,9 @@
 use Rattle.std.proofs.Common.{◌≡◌, ◌∙◌, ◌-◌, List, [], ap, arith, cond, refl, subst}
 use Rattle.std.specs.Prelude.{IfSome}
-use Rattle.std.specs.List.{list_any}
 use Rattle.pkopt.specs.declared.place.Part.{Part}
 use Rattle.pkopt.specs.Private.FrameBytes.{front_from, head_from}
 use Rattle.pkopt.specs.Private.Outputs.{slim_bytes}
 use Rattle.pkopt.specs.Private.Sinks.{Measures}
-use Rattle.pkopt.specs.Slim.{is_frame}
 use Rattle.pkopt.proofs.OneFrame.Fronts.{fronted, fronted_length}
 use Rattle.pkopt.proofs.writing.Form.new.Goals as goal
 
@@ -38,8 +36,7 @@ returns-clause-bytes c =
     let m = c.in_ok-measure.measure in
     let slim = subst (λ (l : List Part). Measures m (slim_bytes c.args.plan c.args.bytes.now
     c.args.taken l)) c.deref-2.ensures.value c.in_ok-measure.ensures in
-    let framed = c.any_frame.ensures
-    ∙ ap (list_any (λ (x : Part). is_frame x.op)) c.deref-3.ensures.value in
+    let framed = c.requires.framed in
     fronted _ m _ _ _ slim
     (c.in_ok-front.ensures.bytes ∙ ap (λ b. cond b (front_from m) []) framed)
     (c.in_ok-front.ensures.head ∙ ap (λ b. cond b (head_from m) 0) framed)
