@@ -7,8 +7,7 @@ use Rattle.pkread.specs.Rows.{all_bytes, sight}
 use Rattle.pkcheck.proofs.Wholes.Checked.{checked_again, checked_first, checked_took}
 use Rattle.pkcheck.proofs.Wholes.Checked.{refused_turned}
 use Rattle.pkcheck.proofs.Wholes.FramesSoFar.{FrameLaws}
-use Rattle.pkcheck.proofs.Wholes.Given.{not_ended, refused_head, seen_so, took_head}
-use Rattle.pkcheck.proofs.Wholes.Given.{took_passed}
+use Rattle.pkcheck.proofs.Wholes.Given.{not_ended, refused_head, seen_so, took_head, took_passed}
 use Rattle.pkcheck.proofs.StepParts.Longest.{longest}
 use Rattle.pkcheck.specs.Knowledge.{nothing_known}
 use Rattle.pkcheck.specs.Private.NextPickle.{listed_in, restarted}
@@ -16,11 +15,11 @@ use Rattle.pkcheck.specs.RowOfPickles.{begins}
 use Rattle.pkcheck.proofs.Wholes.Origins.{Origin}
 use Rattle.pkcheck.proofs.Wholes.LentInstructions.{checked_along, refused_lent, taken_along}
 use Rattle.pkcheck.proofs.Wholes.Payloads.{long_passed}
-use Rattle.pkcheck.proofs.Wholes.RowOfPickles.{all_listed, begins_first, count_on, next_ready}
-use Rattle.pkcheck.proofs.Wholes.RowOfPickles.{none_before, none_failed, pickle_more}
+use Rattle.pkcheck.proofs.Wholes.RowOfPickles.{all_listed, begins_first, count_on, count_told}
+use Rattle.pkcheck.proofs.Wholes.RowOfPickles.{next_ready, none_before, none_failed, pickle_more}
 use Rattle.pkcheck.proofs.Wholes.RowOfPickles.{refused_behind, row_accepted, row_begins}
 use Rattle.pkcheck.proofs.Wholes.RowOfPickles.{row_refused, row_took, some_byte, this, told}
-use Rattle.pkcheck.proofs.Wholes.RowOfPickles.{count_told, told_yes}
+use Rattle.pkcheck.proofs.Wholes.RowOfPickles.{told_yes}
 use Rattle.pkcheck.proofs.Wholes.WorkLeft.{less_to_do}
 use Rattle.pkcheck.proofs.Wholes.AnotherPickle.{again_false, again_true, behind_counts}
 use Rattle.pkcheck.proofs.Wholes.AnotherPickle.{behind_is_not_cut, refused_from, some_ahead}
@@ -56,12 +55,11 @@ returns-in-Err g c =
     let o = c.instructions.invariant.row in
     let x = refused_lent _ _ _ _ _ c.heads.ensures.lent c.heads.ensures.twice o.4 o.5 _ _ _ _ o.6 _
     c.in-Err.refusal c.in-Err.ensures.err in
-    let reader = c.judge_at_hand.new.reader in
-    let now = sight g.R.Source.left g.R.Source.failures reader.source.now in
+    let now = sight g.R.Source.left g.R.Source.failures c.judge_at_hand.new.reader.source.now in
     let e = c.refused.ensures in
     let took_one = row_took c.rows.ensures.taking _ _ _ _ _ _ _ _ _ o.3 x.read x.listed _ _ _
-    x.checked _ _ x.instruction now x.took (seen_so reader.core.ahead now now c.in-Err.ensures.none
-    refl) (longest c.args.policy.now) _ _ (λ is. o.7) x.why in
+    x.checked _ _ x.instruction now x.took (seen_so _ now now c.in-Err.ensures.none refl)
+    (longest c.args.policy.now) _ _ (λ is. o.7) x.why in
     record {
       answer = told _ _ _ _ _ _ _ _ _ _ _ _ _ _ (search rules) e.pickle e.no.place e.no.why
           e.no.pair took_one.0;
@@ -103,11 +101,10 @@ next-requires-clause-room g c =
     _ c.in_default.ensures.ok in
     let e = c.heads.ensures.ended _ _ _ r.0 _ _ c.next_head.result r.2.reads k.1
     (cc (c.in-Ok-Ended.is, c.in-Ok-Ended.field-0-is)) in
-    let some = some_byte r.0 e.0.stops in
     let reads = r.2.reads.count in
     let few = o.3.few in
-    let range = c.taken-taken.type_inv in
-    omega (arith, some, reads, few, range, c.taken-taken.ensures ∙ ap (λ s. s.taken) e.1)
+    let taken = c.taken-taken.ensures ∙ ap (λ s. s.taken) e.1 in
+    omega (arith, some_byte r.0 e.0.stops, reads, few, c.taken-taken.type_inv, taken)
 
 pub returns-in-Err-next-clause-answer : goal.returns-in-Err-next-clause-answer
 returns-in-Err-next-clause-answer g c =
@@ -141,14 +138,12 @@ returns-in-Err-next-clause-count g c =
     let e = c.heads.ensures.ended _ _ _ r.0 _ _ c.next_head.result r.2.reads k.1
     (cc (c.in-Ok-Ended.is, c.in-Ok-Ended.field-0-is)) in
     let x = c.in-Err-next.refusal in
-    let looks = c.next.ensures.reader in
-    let ahead = (let b = rw c.in-Err-next.is at looks.ahead in b) in
-    let h = refused_from _ _ _ c.next.result x e.1 looks.refused c.in-Err-next.is in
+    let ahead = (let b = rw c.in-Err-next.is at c.next.ensures.reader.ahead in b) in
+    let h = refused_from _ _ _ c.next.result x e.1 c.next.ensures.reader.refused c.in-Err-next.is in
     count_on _ _ _ _ _ _ _ _ _ (returns-in-Err-next-clause-answer g c) _ _ _
     c.refused-in-Err-next.ensures.no.why
-    (r.2.reads.bytes.count ∙ none_failed c.rows.ensures.taking _ _ _ _ _
-    _ _ _ _ o.3) (seen_so _ _ _ ahead (search rules))
-    (behind_counts _ _ x h c.rows.ensures.refused)
+    (r.2.reads.bytes.count ∙ none_failed c.rows.ensures.taking _ _ _ _ _ _ _ _ _ o.3)
+    (seen_so _ _ _ ahead (search rules)) (behind_counts _ _ x h c.rows.ensures.refused)
 
 pub instructions-preserved-in-Ok-true : goal.instructions-preserved-in-Ok-true
 instructions-preserved-in-Ok-true g c =
@@ -191,8 +186,7 @@ instructions-preserved-in-Ok-true g c =
         [],
         rw machine
             (checked_again _ _ _ s.source r.2.laws c.rows.ensures.begins s h.1
-            (h.3 ∙ r.2.read_limits)
-            _ _ ready),
+            (h.3 ∙ r.2.read_limits) _ _ ready),
         λ ne. some_ahead ahead.0 _ _ ahead.1,
       );
     }
@@ -210,8 +204,7 @@ returns-in-Ok-false-clause-answer g c =
     let looks = c.next.ensures.reader in
     let s = state g.R.Source.left g.R.Source.failures c.next.new.reader in
     let h = again_false _ _ _ c.next.result e.1 looks.steps
-    (cc (c.in-Ok-false.is, c.in-Ok-false.field-0-test))
-    in
+    (cc (c.in-Ok-false.is, c.in-Ok-false.field-0-test)) in
     let ahead = (let b = rw (c.in-Ok-false.is, c.in-Ok-false.field-0-test) at looks.ahead in b) in
     let kept = c.instructions.invariant.memo in
     let apart = (let b = rw (c.in-Ok-false.is, kept) at counted.apart in b) in
@@ -222,8 +215,7 @@ returns-in-Ok-false-clause-answer g c =
     let ready = next_ready taking _ _ _ _ _ _ _ _ _ o.3 r.0 r.1 _ _ _ r.2 e.0 in
     let f = c.accepted.ensures in
     told_yes _ _ _ _ _ _ _ _ _ _ _ _ (seen_so _ _ _ ahead (search rules)) f.taken
-    (f.pickles ∙ counted.number)
-    (f.imports ∙ ap (λ m. listed_in m c.next.new.self.apart.asked
+    (f.pickles ∙ counted.number) (f.imports ∙ ap (λ m. listed_in m c.next.new.self.apart.asked
     c.next.new.session.machine.imports) (counted.memo ∙ kept))
     (row_accepted taking _ _ _ _ _ _ _ _ _ more _ _ (omega arith) h.1
     is (subst (λ n. n < all_bytes) (sym is) h.2)
