@@ -65,7 +65,7 @@ def byte_strings(count: int = 16, size: int = 4 * 2**20) -> Iterator[bytes]:
     yield pickle.dumps([bytes([i]) * size for i in range(count)], 4)
 
 
-# Pickles like a user's. The target of `pktool check` is half the time of `pickle.loads` on each.
+# Pickles like a user's. The target of `pktool check` is a quarter of the time of `pickle.loads`.
 SHAPES: Dict[str, Make] = {
     "plain data, protocol 0": functools.partial(plain, 0),
     "plain data, protocol 2": functools.partial(plain, 2),
