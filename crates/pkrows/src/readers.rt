@@ -1,5 +1,7 @@
 //! A reader, `genops` and the frames, call by call.
 
+ghost use Rattle.std.specs.Prelude.{◌≤◌, length};
+
 use pkops::{Limits, Op};
 use pkread::{
     Frames, Head, Input, Memory, Next, Reader, Reason, Refusal, Source, frame_argument, genops,
@@ -54,13 +56,12 @@ fn a_reader_gives_refuses_and_ends(rt: HostRuntime) {
     assert_eq!(rt; read_on(&rt, &mut Memory::new(b"N\xffN"), &refuses), 1);
 }
 
-// The bytes of the instruction that is lent next, or 0.
-fn next_lent<R: Source>(reader: &Reader<'_, R>) -> usize {
-    match reader.at_hand() {
-        Some(bytes) => match lend(bytes, &Limits::STANDARD) {
-            Some(inst) => inst.len() as usize,
-            None => 0,
-        },
+// The length of the instruction that is lent from the front of these bytes, or 0.
+fn length_lent(bytes: &[u8]) -> usize
+    ensures { result ≤ length bytes.now }
+{
+    match lend(bytes, &Limits::STANDARD) {
+        Some(inst) => bytes.len().min(inst.len() as usize),
         None => 0,
     }
 }
@@ -71,7 +72,10 @@ fn lend_on<T: Abort + AllocGlobal, R: Source>(rt: &T, source: &mut R) -> (u64, u
     let mut reader = Reader::new(rt.alloc(), source, &Limits::STANDARD);
     let mut lent = 0u64;
     for _ in 0..9 {
-        let length = next_lent(&reader);
+        let Some(bytes) = reader.at_hand() else {
+            break;
+        };
+        let length = length_lent(bytes);
         if length == 0 {
             break;
         }
