@@ -8,6 +8,7 @@ mod moves;
 mod new_text;
 mod old_text;
 mod operate;
+mod packed;
 mod pile;
 pub(crate) mod stack;
 mod stepping;

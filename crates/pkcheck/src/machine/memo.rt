@@ -3,6 +3,7 @@ ghost use Rattle.pkcheck.specs.Private.Denials.{WantsMemo};
 ghost use Rattle.pkcheck.specs.Shape.{recalled, stored};
 ghost use Rattle.std.specs.Prelude.{◌≡◌, ◌⊎◌, ◌<◌, ◌≤◌, ◌+◌, [], length, IfErr, OnOk, None, false};
 
+use crate::machine::packed::Packed;
 use crate::machine::pile::Pile;
 use crate::machine::value::Value;
 use pkops::Limits;
@@ -15,13 +16,13 @@ use std::marker::Model;
 /// these are found by index. No instruction can spell a number of more than 32 bits.
 pub struct Memo {
     /// The entries of numbers below `first`.
-    low: BTreeMap<u32, Value>,
+    low: BTreeMap<u32, Packed>,
     /// The first number that was stored.
     first: u32,
     /// The entries from number `first` on that were stored in order.
     ordered: Pile<Value>,
     /// The entries of greater numbers.
-    rest: BTreeMap<u32, Value>,
+    rest: BTreeMap<u32, Packed>,
 }
 
 impl Drop for Memo {
@@ -184,11 +185,11 @@ impl Memo {
 
 /// The entry of a number in the tree.
 #[inline(never)]
-fn found(rest: &BTreeMap<u32, Value>, number: u32) -> Option<Value>
+fn found(rest: &BTreeMap<u32, Packed>, number: u32) -> Option<Value>
     ensures { result ≡ recalled number rest.now.entries }
 {
     match rest.get(&number) {
-        Some(value) => Some(*value),
+        Some(packed) => Some(packed.value()),
         None => None,
     }
 }
@@ -196,7 +197,7 @@ fn found(rest: &BTreeMap<u32, Value>, number: u32) -> Option<Value>
 /// Sets the entry of a number in the tree. A new entry needs room.
 #[inline(never)]
 fn put(
-    rest: &mut BTreeMap<u32, Value>,
+    rest: &mut BTreeMap<u32, Packed>,
     has_room: bool,
     number: u32,
     value: Value,
@@ -212,6 +213,9 @@ fn put(
     if !has_room && !rest.contains_key(&number) {
         return Err(Reason::TooLarge);
     }
-    rest.insert(number, value)?;
+    let Some(packed) = Packed::new(value) else {
+        return Err(Reason::OutOfMemory);
+    };
+    rest.insert(number, packed)?;
     Ok(())
 }
