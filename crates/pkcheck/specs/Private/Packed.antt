@@ -1,4 +1,4 @@
--- How the memo holds what is known about an object in a number of four bytes.
+-- How stack and memo hold what is known about an object in a number of four bytes.
 use Rattle.std.specs.Prelude.{◌≡◌, ⊤, ℕ, zero, suc, ◌+◌, ◌-◌, List, [], ◌∷◌, get_or, length}
 use Rattle.std.proofs.Common.{refl, arith}
 use Rattle.pkcheck.specs.declared.effect.Class.TheVariants as class

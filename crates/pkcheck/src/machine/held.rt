@@ -25,9 +25,9 @@ use crate::machine::memo::Memo;
 use crate::machine::moves::apply;
 use crate::machine::new_text::make_text;
 use crate::machine::operate::{Denial, Spelled, lines_of, operate_named, operate_unnamed};
+use crate::machine::packed::Packed;
 use crate::machine::stack::Stack;
 use crate::machine::terms::Terms;
-use crate::machine::value::Value;
 use crate::policy::Policy;
 use pkops::{Inst, Limits, Op};
 use pkread::Reason;
@@ -140,7 +140,7 @@ impl Held {
         ensures err { IfErr result (WantsRoom limits.now.stack
             (length self.old.knowledge.entries)) }
     {
-        self.stack.push(limits, Value::Made(class))
+        self.stack.push(limits, Packed::made(class))
     }
 
     /// Pushes an object about which nothing is known.
@@ -154,7 +154,7 @@ impl Held {
         ensures err { IfErr result (WantsRoom limits.now.stack
             (length self.old.knowledge.entries)) }
     {
-        self.stack.push(limits, Value::Unknown)
+        self.stack.push(limits, Packed::unknown())
     }
 
     /// Pushes the text that an instruction spells.

@@ -5,7 +5,6 @@ ghost use Rattle.std.specs.Prelude.{◌≡◌, ◌⊎◌, ◌<◌, ◌≤◌, �
 
 use crate::machine::packed::Packed;
 use crate::machine::pile::Pile;
-use crate::machine::value::Value;
 use pkops::Limits;
 use pkread::Reason;
 use std::alloc::Global;
@@ -20,7 +19,7 @@ pub struct Memo {
     /// The first number that was stored.
     first: u32,
     /// The entries from number `first` on that were stored in order.
-    ordered: Pile<Value>,
+    ordered: Pile<Packed>,
     /// The entries of greater numbers.
     rest: BTreeMap<u32, Packed>,
 }
@@ -57,7 +56,7 @@ impl Memo {
         Memo {
             low: BTreeMap::new(alloc),
             first: 0,
-            ordered: Pile::new(alloc, Value::Unknown),
+            ordered: Pile::new(alloc, Packed::unknown()),
             rest: BTreeMap::new(alloc),
         }
     }
@@ -81,7 +80,7 @@ impl Memo {
 
     /// What is known about the object stored under a number.
     #[inline(always)]
-    pub fn get(&self, number: u32) -> Option<Value>
+    pub fn get(&self, number: u32) -> Option<Packed>
         ensures { result ≡ recalled number self.now }
     {
         if number < self.first {
@@ -97,7 +96,7 @@ impl Memo {
     /// Stores what is known under a number, if the limit leaves room. Most numbers are the next in
     /// order.
     #[inline(always)]
-    pub fn store(&mut self, limits: &Limits, number: u64, value: Value) -> Result<(), Reason>
+    pub fn store(&mut self, limits: &Limits, number: u64, value: Packed) -> Result<(), Reason>
         requires { length self.old ≤ limits.now.memo }
         ensures ok { OnOk result (self.new ≡ stored number value self.old) }
         ensures room { OnOk result (length self.new ≤ limits.now.memo) }
@@ -120,7 +119,7 @@ impl Memo {
     /// Like `store`, for a number that is not the next in order. The separate call gives its result
     /// a stack slot only on this path.
     #[inline(always)]
-    fn store_other(&mut self, limits: &Limits, number: u64, value: Value) -> Result<(), Reason>
+    fn store_other(&mut self, limits: &Limits, number: u64, value: Packed) -> Result<(), Reason>
         requires { length self.old ≤ limits.now.memo }
         ensures ok { OnOk result (self.new ≡ stored number value self.old) }
         ensures room { OnOk result (length self.new ≤ limits.now.memo) }
@@ -137,7 +136,7 @@ impl Memo {
         &mut self,
         limits: &Limits,
         number: u64,
-        value: Value,
+        value: Packed,
     ) -> Result<(), Reason>
         requires { length self.old ≤ limits.now.memo }
         ensures ok { OnOk result (self.new ≡ stored number value self.old) }
@@ -165,7 +164,7 @@ impl Memo {
     }
 
     /// Stores the first entry of an empty memo.
-    fn begin(&mut self, limits: &Limits, number: u32, value: Value) -> Result<(), Reason>
+    fn begin(&mut self, limits: &Limits, number: u32, value: Packed) -> Result<(), Reason>
         requires { self.old ≡ [] }
         ensures ok { OnOk result (self.new ≡ stored number value self.old) }
         ensures room { OnOk result (length self.new ≤ limits.now.memo) }
@@ -185,11 +184,11 @@ impl Memo {
 
 /// The entry of a number in the tree.
 #[inline(never)]
-fn found(rest: &BTreeMap<u32, Packed>, number: u32) -> Option<Value>
+fn found(rest: &BTreeMap<u32, Packed>, number: u32) -> Option<Packed>
     ensures { result ≡ recalled number rest.now.entries }
 {
     match rest.get(&number) {
-        Some(packed) => Some(packed.value()),
+        Some(value) => Some(*value),
         None => None,
     }
 }
@@ -200,7 +199,7 @@ fn put(
     rest: &mut BTreeMap<u32, Packed>,
     has_room: bool,
     number: u32,
-    value: Value,
+    value: Packed,
 ) -> Result<(), Reason>
     ensures ok { OnOk result (rest.new.entries ≡ stored number value rest.old.entries) }
     ensures count { OnOk result (length rest.new.entries ≤ length rest.old.entries + 1) }
@@ -213,9 +212,6 @@ fn put(
     if !has_room && !rest.contains_key(&number) {
         return Err(Reason::TooLarge);
     }
-    let Some(packed) = Packed::new(value) else {
-        return Err(Reason::OutOfMemory);
-    };
-    rest.insert(number, packed)?;
+    rest.insert(number, value)?;
     Ok(())
 }

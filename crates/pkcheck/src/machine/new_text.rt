@@ -12,10 +12,10 @@ ghost use Rattle.pkcheck.specs.Runs.{text};
 
 use crate::machine::ledger::Ledger;
 use crate::machine::old_text::is_ascii;
+use crate::machine::packed::Packed;
 use crate::machine::stack::Stack;
 use crate::machine::terms::Terms;
 use crate::machine::texts::text_spelled;
-use crate::machine::value::Value;
 use pkops::laws::{plain_line_is_text, text_is_named};
 use pkops::{Arg, Inst, Limits, Op, spells_itself};
 use pkread::Reason;
@@ -35,10 +35,10 @@ fn name_text(
         (record { entries = stack.new; ledger = ledger.new }) result }
 {
     let place = stack.len();
-    let Ok(number) = u32::try_from(ledger.texts()) else {
+    let Some(value) = Packed::text(ledger.texts()) else {
         return Err(Reason::OutOfMemory);
     };
-    stack.push(limits, Value::Text(number))?;
+    stack.push(limits, value)?;
     let Ok(()) = ledger.add_text(text) else {
         stack.truncate(place);
         return Err(Reason::OutOfMemory);

@@ -6,8 +6,8 @@ use crate::effect::Class;
 use crate::machine::value::Value;
 use std::marker::Model;
 
-/// A `Value` in four bytes, for trees: smaller nodes mean fewer of the cache misses that a look-up
-/// consists of.
+/// A `Value` in four bytes. Stack and memo have an entry for each object of a pickle, so their size
+/// decides how many pages they touch.
 #[derive(Clone, Copy)]
 pub struct Packed {
     code: u32,
@@ -31,23 +31,36 @@ impl Model for Packed {
 const PLAIN: u32 = 12;
 
 impl Packed {
-    /// A value in four bytes; `None` if it is a text with one of the twelve greatest numbers.
+    /// An object about which nothing is known.
     #[inline(always)]
-    pub fn new(value: Value) -> Option<Packed>
-        ensures { IfSome result (λ packed. packed ≡ value) }
+    pub fn unknown() -> Packed
+        ensures { result ≡ Value.Unknown }
     {
-        match value {
-            Value::Unknown => Some(Packed { code: 0 }),
-            Value::Made(class) => Some(Packed {
-                code: code_of(class),
-            }),
-            Value::Text(number) => {
-                let Some(code) = number.checked_add(PLAIN) else {
-                    return None;
-                };
-                Some(Packed { code })
-            }
+        Packed { code: 0 }
+    }
+
+    /// An object of a class, which the machine made.
+    #[inline(always)]
+    pub fn made(class: Class) -> Packed
+        ensures { result ≡ Value.Made class }
+    {
+        Packed {
+            code: class as u32 + 1,
         }
+    }
+
+    /// The text with this number; `None` if it has no code.
+    #[inline(always)]
+    pub fn text(number: usize) -> Option<Packed>
+        ensures { IfSome result (λ packed. packed ≡ Value.Text number) }
+    {
+        let Ok(number) = u32::try_from(number) else {
+            return None;
+        };
+        let Some(code) = number.checked_add(PLAIN) else {
+            return None;
+        };
+        Some(Packed { code })
     }
 
     /// The value.
@@ -62,35 +75,24 @@ impl Packed {
     }
 }
 
-/// The code of an object that the machine made.
-#[inline(always)]
-fn code_of(class: Class) -> u32
-    ensures { unpacked result ≡ Value.Made class }
-{
-    class as u32 + 1
-}
-
 /// The value of a code below `PLAIN`.
 #[inline(always)]
 fn plain_of(code: u32) -> Value
     requires { code < 12 }
     ensures { result ≡ unpacked code }
 {
-    VALUES[code as usize]
+    match code {
+        0 => Value::Unknown,
+        1 => Value::Made(Class::None),
+        2 => Value::Made(Class::Bool),
+        3 => Value::Made(Class::Int),
+        4 => Value::Made(Class::Float),
+        5 => Value::Made(Class::Bytes),
+        6 => Value::Made(Class::ByteArray),
+        7 => Value::Made(Class::List),
+        8 => Value::Made(Class::Tuple),
+        9 => Value::Made(Class::Dict),
+        10 => Value::Made(Class::Set),
+        _ => Value::Made(Class::FrozenSet),
+    }
 }
-
-/// The values with the codes from 0 on.
-static VALUES: [Value; 12] = [
-    Value::Unknown,
-    Value::Made(Class::None),
-    Value::Made(Class::Bool),
-    Value::Made(Class::Int),
-    Value::Made(Class::Float),
-    Value::Made(Class::Bytes),
-    Value::Made(Class::ByteArray),
-    Value::Made(Class::List),
-    Value::Made(Class::Tuple),
-    Value::Made(Class::Dict),
-    Value::Made(Class::Set),
-    Value::Made(Class::FrozenSet),
-];

@@ -10,6 +10,7 @@ mod operands;
 mod slots;
 
 use crate::effect::Takes;
+use crate::machine::packed::Packed;
 use crate::machine::pile::Pile;
 use crate::machine::value::Value;
 pub use operands::Operands;
@@ -88,7 +89,7 @@ impl Stack {
 
     /// What is known about the top.
     #[inline(always)]
-    pub fn top(&self) -> Result<Value, Reason>
+    pub fn top(&self) -> Result<Packed, Reason>
         ensures ok { IfOk result (λ v. top self.now ≡ Ok (v, drop 1 self.now)) }
         ensures err { IfErr result (λ r. IsLack (top self.now) r) }
     {
@@ -171,7 +172,7 @@ impl Stack {
     /// Pushes an object, if the limit leaves room.
     #[inline(always)]
     #[tactic(auto, using(crate::proofs::Limited::length_shown, crate::proofs::Shown::shown_append))]
-    pub fn push(&mut self, limits: &Limits, value: Value) -> Result<(), Reason>
+    pub fn push(&mut self, limits: &Limits, value: Packed) -> Result<(), Reason>
         ensures ok { OnOk result (self.new ≡ Item value ∷ self.old) }
         ensures room { OnOk result (length self.new ≤ limits.now.stack) }
         ensures err { IfErr result (λ r. (self.new ≡ self.old)
@@ -190,7 +191,7 @@ impl Stack {
     /// limit.
     #[inline(always)]
     #[tactic(auto, using(crate::proofs::Limited::length_shown, crate::proofs::Shown::shown_append))]
-    fn push_object(&mut self, value: Value) -> Result<(), Reason>
+    fn push_object(&mut self, value: Packed) -> Result<(), Reason>
         ensures ok { OnOk result (self.new ≡ Item value ∷ self.old) }
         ensures err { IfErr result (λ r. (self.new ≡ self.old) × (r ≡ Reason.OutOfMemory)) }
     {
@@ -263,7 +264,7 @@ impl Stack {
         limits: &Limits,
         place: usize,
         marks: usize,
-        value: Value,
+        value: Packed,
     ) -> Result<(), Reason>
         requires at { place ≤ length self.old }
         requires marks { marks ≡ marks_of (below place self.old) }
@@ -286,7 +287,7 @@ impl Stack {
     /// Replaces the topmost object with another one. Returns false and changes nothing if there is
     /// none. It looks at its entry, which is faster than `find`.
     #[inline(always)]
-    pub fn replace_one(&mut self, value: Value) -> bool
+    pub fn replace_one(&mut self, value: Packed) -> bool
         ensures done { result ≡ true → Replaced 1 value self.old self.new }
         ensures kept { result ≡ false → self.new ≡ self.old }
     {
@@ -300,7 +301,7 @@ impl Stack {
 
     /// Like `replace_one`, for the topmost two objects.
     #[inline(always)]
-    pub fn replace_two(&mut self, value: Value) -> bool
+    pub fn replace_two(&mut self, value: Packed) -> bool
         ensures done { result ≡ true → Replaced 2 value self.old self.new }
         ensures kept { result ≡ false → self.new ≡ self.old }
     {
@@ -314,7 +315,7 @@ impl Stack {
 
     /// Replaces one or more entries, all those from a place on, with one object.
     #[inline(always)]
-    fn replace_all(&mut self, place: usize, marks: usize, value: Value)
+    fn replace_all(&mut self, place: usize, marks: usize, value: Packed)
         requires at { place < length self.old }
         requires marks { marks ≡ marks_of (below place self.old) }
         ensures { self.new ≡ Item value ∷ below place self.old }

@@ -8,6 +8,7 @@ ghost use Rattle.pkops.specs.Inst.{instruction_of};
 ghost use Rattle.pkops.specs.Spelling.{Instruction};
 
 use crate::effect::{Class, Gives};
+use crate::machine::packed::Packed;
 use pkops::Inst;
 
 /// What is known about an object.
@@ -35,15 +36,15 @@ pub fn int_or_bool(inst: &Inst) -> Class
 
 /// What is known about the result of an operation; `None` if it leaves the receiver.
 #[inline(always)]
-pub fn value_of(gives: Gives) -> Option<Value>
+pub fn value_of(gives: Gives) -> Option<Packed>
     requires { IgnoresArgument gives }
     ensures { (ts : List (List ℕ)) (i : Instruction) → StandsIf ts result (known_given gives i) }
 {
     match gives {
         Gives::Leaves(_) => None,
-        Gives::Makes(class) => Some(Value::Made(class)),
-        Gives::MayMake(class) => Some(Value::Made(class)),
-        Gives::Answers => Some(Value::Unknown),
+        Gives::Makes(class) => Some(Packed::made(class)),
+        Gives::MayMake(class) => Some(Packed::made(class)),
+        Gives::Answers => Some(Packed::unknown()),
         _ => unreachable!(),
     }
 }

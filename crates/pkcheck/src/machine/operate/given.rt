@@ -4,8 +4,8 @@ ghost use Rattle.pkcheck.specs.Private.Places.{above, below};
 ghost use Rattle.pkcheck.specs.Shape.{front, marks_of, put};
 ghost use Rattle.pkcheck.specs.Private.Denials.{WantsRoom};
 
+use crate::machine::packed::Packed;
 use crate::machine::stack::Stack;
-use crate::machine::value::Value;
 use pkops::Limits;
 use pkread::Reason;
 
@@ -17,7 +17,7 @@ pub fn give(
     limits: &Limits,
     place: usize,
     marks: usize,
-    value: Option<Value>,
+    value: Option<Packed>,
 ) -> Result<(), Reason>
     requires at { place ≤ length stack.old }
     requires marks { marks ≡ marks_of (below place stack.old) }

@@ -12,8 +12,9 @@ use crate::effect::{Class, Gives, Takes, Wanted};
 use crate::machine::effects::operation_of;
 use crate::machine::operate::given::give;
 use crate::machine::operate::receiver::receiver_fault;
+use crate::machine::packed::Packed;
 use crate::machine::stack::Stack;
-use crate::machine::value::{Value, value_of};
+use crate::machine::value::value_of;
 use pkops::{Limits, Op};
 use pkread::Reason;
 
@@ -49,9 +50,9 @@ fn make_quickly(stack: &mut Stack, op: Op) -> bool
     ensures kept { result ≡ false → stack.new ≡ stack.old }
 {
     match op {
-        Op::Tuple1 => stack.replace_one(Value::Made(Class::Tuple)),
-        Op::Tuple2 => stack.replace_two(Value::Made(Class::Tuple)),
-        Op::Reduce => stack.replace_two(Value::Unknown),
+        Op::Tuple1 => stack.replace_one(Packed::made(Class::Tuple)),
+        Op::Tuple2 => stack.replace_two(Packed::made(Class::Tuple)),
+        Op::Reduce => stack.replace_two(Packed::unknown()),
         _ => false,
     }
 }

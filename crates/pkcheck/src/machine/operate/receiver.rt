@@ -73,7 +73,7 @@ pub fn receiver_fault(gives: Gives, operands: &Operands<'_>) -> bool
         return false;
     };
     match operands.first() {
-        Some(value) => is_wrong(wanted, value),
+        Some(value) => is_wrong(wanted, value.value()),
         None => false,
     }
 }

@@ -10,6 +10,7 @@ ghost use Rattle.std.specs.Prelude.{IfOk};
 ghost use Rattle.std.specs.Prelude.{◌++◌, IfErr, IfSome, MatchOption, OnErr, OnOk};
 
 use crate::effect::{SliceRule, Takes};
+use crate::machine::packed::Packed;
 use crate::machine::pile::Pile;
 use crate::machine::value::Value;
 use pkread::Reason;
@@ -28,12 +29,12 @@ pub struct Found {
 #[derive(Clone, Copy)]
 pub enum Slot {
     Mark,
-    Object(Value),
+    Object(Packed),
 }
 
 /// What is known about the topmost entry; `None` if it is a mark or there is none.
 #[inline(always)]
-pub fn top(slots: &[Slot]) -> Option<Value>
+pub fn top(slots: &[Slot]) -> Option<Packed>
     ensures { MatchOption result (top (shown slots.now [])
         ≡ Err NoItem) (λ v. top (shown slots.now []) ≡ Ok (v, drop 1 (shown slots.now []))) }
 {
@@ -48,7 +49,7 @@ pub fn top(slots: &[Slot]) -> Option<Value>
 
 /// Pushes an object. Out of line, so other paths reserve no register for it.
 #[inline(never)]
-pub fn put_on_top(slots: &mut Pile<Slot>, value: Value) -> Result<(), AllocError>
+pub fn put_on_top(slots: &mut Pile<Slot>, value: Packed) -> Result<(), AllocError>
     ensures ok { OnOk result (slots.new ≡ slots.old ++ Slot.Object value ∷ []) }
     ensures err { OnErr result (slots.new ≡ slots.old) }
 {

@@ -7,9 +7,9 @@ returns c =
     let texts = c.args.ledger.now.texts in
     let text = c.args.text.now in
     rw (
-      c.in-Ok-add_text.ensures.ok,
+      c.in-Ok.ensures.ok,
       c.in_ok-push.ensures.ok,
-      c.in-Ok.ensures.1,
+      c.in-Some.ensures,
       c.texts.ensures,
     ) (record {
       ok = text_seen texts text c.args.stack.now c.requires.sees;

@@ -13,7 +13,7 @@ pub returns-then-place-len : goal.returns-then-place-len
 returns-then-place-len c =
     let m = c.self.inside in
     rw (← c.self.view_is)
-    (rw c.entries.ensures
+    (rw (c.index-entries-place.is, c.entries.ensures)
     (at_row m.low.entries m.first m.ordered m.rest.entries c.args.number
     (c.args.number - m.first) _ c.self.invariant.0 (omega arith) (omega arith)))
 

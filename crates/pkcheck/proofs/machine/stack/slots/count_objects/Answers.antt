@@ -1,4 +1,4 @@
-use Rattle.std.proofs.Common.{arith}
+use Rattle.std.proofs.Common.{◌∙◌, arith, sym}
 use Rattle.pkcheck.proofs.Settled.{count_bar, count_object}
 use Rattle.pkcheck.proofs.machine.stack.slots.count_objects.Goals as goal
 use Rattle.pkcheck.proofs.machine.stack.slots.count_objects.Goals.{in-Object, in_default}
@@ -7,9 +7,9 @@ pub loop-slot-preserved : goal.loop-slot-preserved
 loop-slot-preserved c =
     elim c.match-slot.branch [
       | in-Object w ↦ let e = count_object c.args.slots.now c.loop-slot.slot-index _ _
-          (omega arith) w.in-Object.is in
+          (omega arith) (sym c.slot-item.is ∙ w.in-Object.is) in
           (omega (arith, w.count-is), omega (arith, w.count-is, e))
       | in_default w ↦ let e = count_bar c.args.slots.now c.loop-slot.slot-index _
-          (omega arith) w.in_default.is in
+          (omega arith) (sym c.slot-item.is ∙ w.in_default.is) in
           (omega (arith, w.count-is), omega (arith, w.count-is, e))
     ]

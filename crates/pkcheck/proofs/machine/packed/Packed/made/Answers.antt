@@ -5,7 +5,7 @@ use Rattle.pkcheck.specs.contracts.effect.Class.{the_type}
 use Rattle.pkcheck.specs.declared.effect.Class.{Class}
 use Rattle.pkcheck.specs.declared.effect.Class.TheVariants as class
 use Rattle.pkcheck.specs.declared.machine.value.Value.TheVariants as value
-use Rattle.pkcheck.proofs.machine.packed.code_of.Goals as goal
+use Rattle.pkcheck.proofs.machine.packed.Packed.made.Goals as goal
 
 counted : (c : Class) → unpacked (tag_of the_type c + 1) ≡ value.Made c
 counted class.None = refl
