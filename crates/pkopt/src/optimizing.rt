@@ -17,7 +17,7 @@ use crate::packed::Packed;
 use crate::slim::first_past;
 use crate::sources::Sources;
 use crate::trace::Trace;
-use crate::writing::Form;
+use crate::writing::{Form, Parts};
 use pkcheck::laws::same_ends;
 use pkcheck::{Policy, check, check_heard};
 use pkops::Limits;
@@ -154,7 +154,7 @@ pub fn optimized_form<'a>(
     let Trace {
         memo,
         sources,
-        parts,
+        parts: list,
         writes,
         end,
         framed,
@@ -163,14 +163,15 @@ pub fn optimized_form<'a>(
     let Ok(plan) = plan_of(alloc, sources, limits) else {
         return Err(lacks_memory());
     };
-    if let Some(at) = past_limit(&parts, &plan, writes) {
+    if let Some(at) = past_limit(&list, &plan, writes) {
         return Err(too_large(at));
     }
     // The parts end at the end of an instruction.
     if end > taken {
         return Err(lacks_memory());
     }
-    let Ok(form) = Form::new(alloc, bytes, taken as usize, parts, framed, plan) else {
+    let parts = Parts { list, framed };
+    let Ok(form) = Form::new(alloc, bytes, taken as usize, parts, plan) else {
         return Err(lacks_memory());
     };
     Ok(form)

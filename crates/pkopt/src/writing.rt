@@ -67,6 +67,15 @@ fn measure_of(
     Ok(measure)
 }
 
+/// The parts of a pickle up to its last instruction that may change.
+#[derive(Drop)]
+pub(crate) struct Parts {
+    /// The parts, in order.
+    pub list: Vec<Packed>,
+    /// Whether one of them has a FRAME.
+    pub framed: bool,
+}
+
 /// The optimized form of a pickle. It borrows the pickle, and is complete only where it is written.
 pub struct Form<'a> {
     alloc: Global,
@@ -123,7 +132,8 @@ impl<'a> Model for Form<'a> {
 }
 
 impl<'a> Form<'a> {
-    /// The form of the pickle that is the first `taken` bytes, which is inside a frame if `framed`.
+    /// The form of the pickle that is the first `taken` bytes. It is inside a frame if a part has a
+    /// FRAME.
     ///
     /// # Errors
     ///
@@ -132,21 +142,21 @@ impl<'a> Form<'a> {
         alloc: Global,
         bytes: &'a [u8],
         taken: usize,
-        parts: Vec<Packed>,
-        framed: bool,
+        parts: Parts,
         plan: Plan,
     ) -> Result<Form<'a>, AllocError>
-        requires within { end_behind 0 parts.items ≤ taken }
+        requires within { end_behind 0 parts.list.items ≤ taken }
         requires there { taken ≤ length bytes.now }
-        requires framed { framed ≡ has_frames parts.items }
+        requires framed { parts.framed ≡ has_frames parts.list.items }
         ensures taken { IfOk result (λ form. form.taken ≡ taken) }
         ensures bytes { IfOk result (λ form.
-            form.bytes ≡ output plan bytes.now taken parts.items) }
+            form.bytes ≡ output plan bytes.now taken parts.list.items) }
         ensures short { IfOk result (λ _.
-            length (slim_bytes plan bytes.now taken parts.items) < 2 ^ 64) }
+            length (slim_bytes plan bytes.now taken parts.list.items) < 2 ^ 64) }
     {
-        let made = made_of(alloc, bytes, &parts, taken, &plan)?;
-        let measure = measure_of(bytes, &parts, taken, &plan, &made)?;
+        let Parts { list, framed } = parts;
+        let made = made_of(alloc, bytes, &list, taken, &plan)?;
+        let measure = measure_of(bytes, &list, taken, &plan, &made)?;
         let front = front_of(alloc, measure, framed)?;
         let rest = measure.len - front.head as u64;
         let Some(len) = rest.checked_add(front.bytes.len() as u64) else {
@@ -156,7 +166,7 @@ impl<'a> Form<'a> {
             alloc,
             bytes,
             taken,
-            parts,
+            parts: list,
             plan,
             made,
             front,

@@ -27,7 +27,7 @@ invariant_of-result c =
       c.requires.there,
       omega (arith, fits, count),
       made,
-      fronted_length m (slim_bytes plan bytes taken c.args.parts.items) front.bytes.items front.head
+      fronted_length m (slim_bytes plan bytes taken c.args.parts.list.items) front.bytes.items front.head
           (m.len - front.head) c.in-Some.len slim fits refl (omega (arith, size, len, sum)),
     )
 
