@@ -225,20 +225,22 @@ impl Session {
             (policy_of policy.now) at bytes.now self.old failed.before failed.length) }
     {
         let inside = self.frames.inside(bytes);
+        // Counted back from the end, an offset needs one value less in each turn.
+        let end = at + inside.len() as u64;
         let mut rest = inside;
         'instructions: while let Some(inst) = lend(rest, self.machine.limits()) {
-            let before = inside.len() - rest.len();
+            let here = end - rest.len() as u64;
             let length = inst.len() as usize;
-            if let Err(error) = listener.hear(at + before as u64, &inst, self.machine.marks()) {
+            if let Err(error) = listener.hear(here, &inst, self.machine.marks()) {
                 return Err(Failed {
-                    before,
+                    before: inside.len() - rest.len(),
                     length,
                     error,
                 });
             }
             if let Err(reason) = self.machine.step_on(&inst, policy) {
                 return Ok(Err(Turned {
-                    before,
+                    before: inside.len() - rest.len(),
                     length,
                     reason,
                 }));

@@ -1,5 +1,5 @@
 use Rattle.std.proofs.Common.{append-nil, arith, length, refl, ap, subst, sym, ◌∙◌, ◌-◌, ◌+◌, ◌++◌}
-use Rattle.std.proofs.Common.{[]}
+use Rattle.std.proofs.Common.{◌≡◌, ◌≤◌, ℕ, [], ◌∷◌}
 use Rattle.std.proofs.lemmas.List.{length-append, length-drop}
 use Rattle.pkops.specs.Inst.{instruction_of}
 use Rattle.pkcheck.specs.Heard.{heard}
@@ -31,8 +31,22 @@ step_on-requires-clause-running g c = c.instructions.invariant.along.stopped
 pub step_on-requires-clause-well : goal.step_on-requires-clause-well
 step_on-requires-clause-well g c = c.instructions.invariant.along.refused
 
-pub overflow_sub-before : goal.overflow_sub-before
-overflow_sub-before g c =
+-- an offset counted back from the end
+counted_back : (at whole left : ℕ) → left ≤ whole → (at + whole) - left ≡ at + (whole - left)
+counted_back at whole left within = omega (arith, within)
+
+pub overflow_sub-here : goal.overflow_sub-here
+overflow_sub-here g c =
+    let h = c.instructions.invariant.along in
+    omega (arith, ap length h.left, length-drop h.count c.inside-inside.result.now)
+
+pub overflow_sub-result : goal.overflow_sub-result
+overflow_sub-result g c =
+    let h = c.instructions.invariant.along in
+    omega (arith, ap length h.left, length-drop h.count c.inside-inside.result.now)
+
+pub overflow_sub-result-in-Err-step_on : goal.overflow_sub-result-in-Err-step_on
+overflow_sub-result-in-Err-step_on g c =
     let h = c.instructions.invariant.along in
     omega (arith, ap length h.left, length-drop h.count c.inside-inside.result.now)
 
@@ -41,8 +55,8 @@ overflow_sub-count g c =
     let h = c.instructions.invariant.along in
     omega (arith, ap length h.left, length-drop h.count c.inside-inside.result.now)
 
-pub overflow_add-at : goal.overflow_add-at
-overflow_add-at g c =
+pub overflow_add-end : goal.overflow_add-end
+overflow_add-end g c =
     let room = c.requires.room in
     let bytes = c.args.bytes.now in
     let e = c.inside-inside.ensures in
@@ -83,13 +97,18 @@ returns-in-Err-step_on-clause-no g c =
     let hs = c.instructions.invariant.hears in
     let i = instruction_of c.in-Some.inst in
     let lent = (let l = rw c.limits.ensures at c.in-Some.ensures in l) in
-    let place = c.args.at + (length inside - length rest) in (
+    let place = c.args.at + (length inside - length rest) in
+    let within : length rest ≤ length inside =
+    omega (arith, ap length h.left, length-drop h.count inside) in
+    let told = subst (λ n. g.L.Listener.hears c.instructions.listener c.hear.new.self
+    (heard n i c.marks.result ∷ []))
+    (counted_back c.args.at (length inside) (length rest) within) c.in_default-hear.ensures in (
       turned_down _ c.args.at bytes inside before whole rest m hs h i lent
           _ _ refl c.len-length.ensures (c.in-Err-step_on.ensures.step.fails h.refused),
       λ first earlier x. subst (g.L.Listener.hears first c.hear.new.self)
           (one_more (heard_as place c.marks.result i m c.marks.ensures.known) earlier hs)
           (g.met.L.Listener.hears_more first _ _ (earlier ++ hs) (heard place i c.marks.result)
-          (c.instructions.invariant.heard first earlier x) c.in_default-hear.ensures),
+          (c.instructions.invariant.heard first earlier x) told),
     )
 
 pub instructions-smaller : goal.instructions-smaller
@@ -111,6 +130,11 @@ instructions-preserved g c =
     let hs = c.instructions.invariant.hears in
     let i = instruction_of c.in-Some.inst in
     let place = c.args.at + (length inside - length rest) in
+    let within : length rest ≤ length inside =
+    omega (arith, ap length h.left, length-drop h.count inside) in
+    let told = subst (λ n. g.L.Listener.hears c.instructions.listener c.hear.new.self
+    (heard n i c.marks.result ∷ []))
+    (counted_back c.args.at (length inside) (length rest) within) c.in_default-hear.ensures in
     let more = along_more _ c.args.at bytes inside before whole rest m hs h i lent
     c.step_on.new.self c.in_default-step_on.field-0 c.in_default-step_on.ensures.step.goes_on in
     record {
@@ -121,7 +145,7 @@ instructions-preserved g c =
           (one_more (heard_now _ c.args.at bytes inside before whole rest m hs h i lent place
           c.marks.result refl c.marks.ensures.known) earlier hs)
           (g.met.L.Listener.hears_more first _ _ (earlier ++ hs) (heard place i c.marks.result)
-          (c.instructions.invariant.heard first earlier x) c.in_default-hear.ensures);
+          (c.instructions.invariant.heard first earlier x) told);
     }
 
 pub returns-clause-ok : goal.returns-clause-ok
