@@ -118,10 +118,12 @@ fn late_at(late: &[Entry], place: usize) -> Option<u32>
 fn keep_early(kept: &mut Vec<bool>, early: &[u8]) -> Result<(), AllocError>
     ensures { OnOk result (KeepsMore kept.old.items kept.new.items (in_bytes early.now)) }
 {
+    if early.is_empty() {
+        return Ok(());
+    }
+    reach(kept, usize::from(u8::MAX))?;
     for write in early {
-        let write = usize::from(*write);
-        reach(kept, write)?;
-        kept[write] = true;
+        kept[usize::from(*write)] = true;
     }
     Ok(())
 }

@@ -54,13 +54,12 @@ impl Packed {
     pub fn text(number: usize) -> Option<Packed>
         ensures { IfSome result (λ packed. packed ≡ Value.Text number) }
     {
-        let Ok(number) = u32::try_from(number) else {
+        if number > (u32::MAX - PLAIN) as usize {
             return None;
-        };
-        let Some(code) = number.checked_add(PLAIN) else {
-            return None;
-        };
-        Some(Packed { code })
+        }
+        Some(Packed {
+            code: number as u32 + PLAIN,
+        })
     }
 
     /// The value.

@@ -94,6 +94,12 @@ keeps_none first old late m k d is lt e h = λ vs first_so.
 pub keeps_nothing : (kept : List Bool) → KeepsMore kept kept []
 keeps_nothing kept = λ vs h. subst (λ (l : List (Option ℕ)). AreKept l kept) (sym (append-nil vs)) h
 
+-- the list was lengthened first
+pub keeps_longer : (old longer new : List Bool) (more : List (Option ℕ))
+    → ((w : ℕ) → get_or longer w false ≡ get_or old w false)
+    → KeepsMore longer new more → KeepsMore old new more
+keeps_longer old longer new more same f = λ vs h. f vs (reached vs old longer same h)
+
 -- first those that are kept as bytes are marked, then the others
 pub keeps_all : (none some all : List Bool) (early : List ℕ) (late : List (Option ℕ)) → none ≡ []
     → KeepsMore none some (in_bytes early) → KeepsMore some all late

@@ -1,4 +1,4 @@
-use Rattle.std.proofs.Common.{take}
+use Rattle.std.proofs.Common.{◌<◌, length, take}
 use Rattle.pkopt.specs.Private.Passes.{KeepsMore}
 use Rattle.pkopt.specs.Private.Sourced.{in_bytes}
 use Rattle.pkopt.proofs.sources.keep_early.Given as goal
@@ -6,4 +6,5 @@ use Rattle.pkopt.proofs.sources.keep_early.Given as goal
 abbrev pub invariant-loop-write : goal.invariant-loop-write
 invariant-loop-write l = record {
   marked : KeepsMore l.initial.kept.items l.kept.items (in_bytes (take l.write-index l.early));
+  there : 255 < length l.kept.items;
 }
