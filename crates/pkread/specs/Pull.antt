@@ -1,5 +1,5 @@
 -- What a source gives: what its calls do to the bytes left in it, and to its count of failures.
-use Rattle.std.specs.Prelude.{◌≡◌, ℕ, ◌+◌, ◌++◌, ◌%◌, ◌^◌, ◌<◌, ◌≤◌, List, length, take, ⊤}
+use Rattle.std.specs.Prelude.{◌≡◌, ℕ, ◌+◌, ◌++◌, ◌%◌, ◌^◌, ◌<◌, ◌≤◌, List, length, take, get_or, ⊤}
 use Rattle.std.specs.Prelude.{MatchResult, Result, Option, None, Some}
 use Rattle.std.specs.Io.KnownBytes.{Consumes, IsAtEnd}
 use Rattle.pkread.specs.declared.source.Memory.{Memory}
@@ -12,6 +12,18 @@ Pulled old new result to =
     MatchResult result
     (λ n. (n ≤ length to) × Consumes old new (take n to) × (n ≡ 0 → 0 < length to → IsAtEnd new))
     (λ _. ⊤)
+
+-- each number is a byte
+abbrev pub AreAllBytes : List ℕ → Type 0
+AreAllBytes bytes = (i : ℕ) → get_or bytes i 0 < 256
+
+-- the next n bytes, at most `wanted`, are gone, whatever they were
+pub record PassedOver (wanted : ℕ) (old new : Option (List ℕ)) (n : ℕ) : Type 0 where
+  pub bytes : List ℕ
+  pub fit : AreAllBytes bytes
+  pub gone : Consumes old new bytes
+  pub within : n ≤ wanted
+  pub count : length bytes ≡ n
 
 -- Err adds one to the count of failures, modulo 2^64; Ok leaves it
 abbrev pub Counted : {E : Type 0} → ℕ → ℕ → Result ℕ E → Type 0

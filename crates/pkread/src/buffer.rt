@@ -4,8 +4,8 @@ ghost use Rattle.std.specs.Prelude.{◌≡◌, ◌+◌, ◌++◌, ◌∷◌, ◌
 ghost use Rattle.std.specs.Prelude.{IfOk, IfErr, IfNone, IfSome, length, max, take};
 ghost use Rattle.pkread.specs.Held.{Held, most_held, none_held};
 ghost use Rattle.pkread.specs.Rows.{sight};
-ghost use Rattle.pkread.specs.Private.Reads.{AreAllBytes, PulledInto, ReadsByte, ReadsNone};
-ghost use Rattle.pkread.specs.Private.Reads.{ReadsSome};
+ghost use Rattle.pkread.specs.Pull.{AreAllBytes};
+ghost use Rattle.pkread.specs.Private.Reads.{PulledInto, ReadsByte, ReadsNone, ReadsSome};
 
 use crate::refusal::Reason;
 use crate::source::{ReadFailed, Source};

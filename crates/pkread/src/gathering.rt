@@ -7,6 +7,7 @@ ghost use Rattle.pkread.specs.Held.{most_held, none_held};
 ghost use Rattle.pkread.specs.Private.Progress.{KeepsRest, intake};
 ghost use Rattle.pkread.specs.Private.Reads.{ReadsByte, ReadsNone, TakesAll, TakesBlock};
 ghost use Rattle.pkread.specs.Private.Reads.{TakesByte};
+ghost use Rattle.pkread.specs.Private.SkippedBytes.{PassedSome};
 
 use crate::buffer::Buffer;
 use crate::refusal::Reason;
@@ -212,6 +213,20 @@ impl Gathering {
         let n = self.buffer.read(source, wanted)?;
         self.room = room - n as u64;
         Ok(n)
+    }
+
+    /// Passes over at most `left` bytes, as far as the source can. Returns how many.
+    pub(crate) fn pass<R: Source>(&mut self, source: &mut R, left: usize) -> usize
+        ensures buffer { self.new.buffer ≡ self.old.buffer }
+        ensures limits { self.new.limits ≡ self.old.limits }
+        ensures passed { PassedSome left result
+            (intake R.left R.failures source.old self.old)
+            (intake R.left R.failures source.new self.new) }
+    {
+        let room = self.room;
+        let n = source.pass(left.min(room as usize));
+        self.room = room - n as u64;
+        n
     }
 
     /// Takes a field of N bytes, usually in one read.

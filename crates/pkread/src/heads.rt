@@ -54,7 +54,8 @@ fn is_skipped(op: Op, layout: Layout) -> bool
 }
 
 impl Gathering {
-    /// Skips the rest of a payload. Rarely needed, so the loop is out of line.
+    /// Skips the rest of a payload, by reading it only where the source can't pass over it. Rarely
+    /// needed, so the loop is out of line.
     #[inline(always)]
     fn skip_rest<R: Source>(&mut self, source: &mut R, count: usize) -> Result<(), Reason>
         requires { length self.old.buffer.bytes ≤ 9 }
@@ -78,7 +79,7 @@ impl Gathering {
             (intake R.left R.failures source.new self.new) }
     {
         let head = self.bytes().len();
-        let mut left = count;
+        let mut left = count - self.pass(source, count);
         'blocks: loop {
             if left == 0 {
                 return Ok(());

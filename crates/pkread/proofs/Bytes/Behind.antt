@@ -17,7 +17,8 @@ use Rattle.pkread.proofs.Bytes.Taken.{took_none}
 use Rattle.pkread.specs.Private.Arms.{Counts, Grows, RowBehind, Stops}
 use Rattle.pkread.specs.Private.Progress.{Intake}
 use Rattle.pkread.specs.Rows.{FrontsBegin, Sight}
-use Rattle.pkread.specs.Private.Reads.{AreAllBytes, LackRow, LacksSome, Took, TookAll}
+use Rattle.pkread.specs.Private.Reads.{LackRow, LacksSome, Took, TookAll}
+use Rattle.pkread.specs.Pull.{AreAllBytes}
 use Rattle.pkread.specs.declared.arms.Count.{Count}
 use Rattle.pkread.specs.declared.refusal.Reason.{Reason}
 use Rattle.pkread.specs.declared.refusal.Reason.TheVariants.{Source, Truncated, BadArgument}

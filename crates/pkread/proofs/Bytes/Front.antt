@@ -28,7 +28,7 @@ use Rattle.pkread.specs.Framing.{other}
 use Rattle.pkread.specs.Pieces.{role_of}
 use Rattle.pkread.specs.Private.Arms.{HasFixedLength, IsFront, IsInFront}
 use Rattle.pkread.specs.Private.Judgement.{is_plain}
-use Rattle.pkread.specs.Private.Reads.{AreAllBytes}
+use Rattle.pkread.specs.Pull.{AreAllBytes}
 
 -- an opcode with an argument of fixed length, of which all are good
 pub fixed_front : FieldLaws → (limits : Bounds) (n : ℕ) (o : Op) (bytes : List ℕ) →

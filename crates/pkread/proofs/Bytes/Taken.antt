@@ -11,8 +11,9 @@ use Rattle.std.proofs.Math.Seq.{take-add}
 use Rattle.pkread.proofs.Bytes.Takes.{Consumes-more, Takes-more, Takes-none}
 use Rattle.pkread.specs.Rows.{Sight, Takes, all_bytes}
 use Rattle.pkread.specs.Private.Progress.{Intake}
-use Rattle.pkread.specs.Private.Reads.{AreAllBytes, LackRow, LacksSome, PulledInto, ReadsSome}
+use Rattle.pkread.specs.Private.Reads.{LackRow, LacksSome, PulledInto, ReadsSome}
 use Rattle.pkread.specs.Private.Reads.{ReadsByte, ReadsNone, TakesAll, Took, TookAll}
+use Rattle.pkread.specs.Pull.{AreAllBytes}
 use Rattle.pkread.specs.declared.refusal.Reason.{Reason}
 use Rattle.pkread.specs.declared.refusal.Reason.TheVariants.{Source, Truncated, TooLarge}
 use Rattle.pkread.specs.declared.refusal.Reason.TheVariants.{OutOfMemory}

@@ -20,7 +20,8 @@ use Rattle.pkread.specs.Framing.{other}
 use Rattle.pkread.specs.Pieces.{role_of}
 use Rattle.pkread.specs.Private.Judgement.{is_plain}
 use Rattle.pkread.specs.Private.Progress.{Intake}
-use Rattle.pkread.specs.Private.Reads.{AreAllBytes, LackRow, Took}
+use Rattle.pkread.specs.Private.Reads.{LackRow, Took}
+use Rattle.pkread.specs.Pull.{AreAllBytes}
 use Rattle.pkread.specs.Rows.{Sight, Fails, FrontsBegin, IsAmiss, Refuses, Takes, all_bytes}
 use Rattle.pkread.specs.declared.arms.Count.{Count}
 use Rattle.pkread.specs.declared.gather.Found.{Found}

@@ -1,16 +1,13 @@
 -- What reads do to the bytes held and to the source.
 use Rattle.std.specs.Prelude.{◌≡◌, ℕ, List, [], ◌∷◌, ◌++◌, ◌+◌, ◌%◌, ◌^◌, ◌<◌, ◌≤◌, length, take}
-use Rattle.std.specs.Prelude.{drop, get_or, Result, MatchResult}
+use Rattle.std.specs.Prelude.{drop, Result, MatchResult}
 use Rattle.std.specs.Io.KnownBytes.{IsAtEnd}
 use Rattle.pkread.specs.Private.Progress.{Intake}
+use Rattle.pkread.specs.Pull.{AreAllBytes}
 use Rattle.pkread.specs.Rows.{Sight, Takes, Fails, all_bytes}
 use Rattle.pkread.specs.declared.refusal.Reason.{Reason}
 use Rattle.pkread.specs.declared.refusal.Reason.TheVariants.{Source, Truncated, TooLarge}
 use Rattle.pkread.specs.declared.refusal.Reason.TheVariants.{OutOfMemory}
-
--- each number is a byte
-abbrev pub AreAllBytes : List ℕ → Type 0
-AreAllBytes bytes = (i : ℕ) → get_or bytes i 0 < 256
 
 -- n bytes, at least one, were read and appended
 pub record ReadsSome (wanted n : ℕ) (old : List ℕ) (before : Sight) (new : List ℕ)

@@ -1,5 +1,5 @@
 -- Bytes that are taken but not held. The contracts describe them as if the buffer held them.
-use Rattle.std.specs.Prelude.{◌≡◌, ◌≤◌, ℕ, List, length, max, Result, MatchResult, false}
+use Rattle.std.specs.Prelude.{◌≡◌, ◌≤◌, ◌++◌, ℕ, List, length, max, Result, MatchResult, false}
 use Rattle.pkops.specs.Limits.{Bounds}
 use Rattle.pkops.specs.KnownLayout.{Lies}
 use Rattle.pkops.specs.Payloads.{is_passed, payload_limit_at}
@@ -25,6 +25,13 @@ SkipsAll count result old new =
     MatchResult result
     (λ _. (bytes : List ℕ) × TookAll count old (holding bytes new))
     (λ reason. (bytes : List ℕ) × LacksSome count old (holding bytes new) reason)
+
+-- n of the `wanted` bytes were taken, and none of them is held
+pub record PassedSome (wanted n : ℕ) (old new : Intake) : Type 0 where
+  pub bytes : List ℕ
+  pub took : Took bytes old (holding (old.bytes ++ bytes) new)
+  pub within : n ≤ wanted
+  pub count : length bytes ≡ n
 
 -- bytes were taken that, together with those held, spell the opcode with a payload of `count` bytes
 pub record GrowsSkipping (limit : ℕ) (op : Op) (count : ℕ) (old new : Intake) : Type 0 where
