@@ -2,6 +2,7 @@
 
 ghost use Rattle.std.specs.Prelude.{◌≡◌, ◌≤◌, ◌++◌, [], IfOk, IfErr, length, take};
 ghost use Rattle.std.specs.Io.KnownBytes.{Consumes, IsAtEnd};
+ghost use Rattle.pkread.specs.Pull.{AreAllBytes};
 
 use std::alloc::{AllocError, Global};
 use std::io;
@@ -9,7 +10,7 @@ use std::io::Read;
 use std::marker::Model;
 
 /// How many bytes are requested from a reader at a time.
-const SIZE: usize = 65_536;
+pub const SIZE: usize = 65_536;
 
 /// The bytes that were read ahead.
 #[derive(Drop)]
@@ -29,6 +30,14 @@ impl Model for Block {
     ghost invariant = { λ b. (b.start ≤ b.end)
         × (b.end ≤ length b.bytes.items)
         × (0 < length b.bytes.items) };
+}
+
+/// How many bytes these are. The numbers in a slice are known to be bytes where it is passed.
+fn count_of(bytes: &[u8]) -> usize
+    ensures count { result ≡ length bytes.now }
+    ensures fit { AreAllBytes bytes.now }
+{
+    bytes.len()
 }
 
 impl Block {
@@ -68,6 +77,17 @@ impl Block {
         ensures { self.old ≡ take count self.old ++ self.new }
     {
         self.start += count;
+    }
+
+    /// Drops all bytes, and returns their number.
+    pub fn clear(&mut self) -> usize
+        ensures none { self.new ≡ [] }
+        ensures count { result ≡ length self.old }
+        ensures fit { AreAllBytes self.old }
+    {
+        let count = count_of(self.bytes());
+        self.start = self.end;
+        count
     }
 
     /// Moves the first bytes out of the block.

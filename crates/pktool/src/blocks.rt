@@ -4,7 +4,8 @@ ghost use Rattle.std.specs.Prelude.{◌≡◌, IfOk, length};
 ghost use Rattle.pkread.specs.Pull.{Counted, Pulled};
 ghost use Rattle.pktool.specs.Blocks.{failed_reads, unpulled};
 
-use crate::block::Block;
+use crate::block::{Block, SIZE};
+use crate::passing::PassOver;
 use pkread::{ReadFailed, Source};
 use std::alloc::{AllocError, Global};
 use std::io::Read;
@@ -52,7 +53,7 @@ impl<R: Read> Blocks<R> {
     }
 }
 
-impl<R: Read> Source for Blocks<R> {
+impl<R: PassOver> Source for Blocks<R> {
     ghost left = { unpulled R.remaining };
 
     ghost failures = { failed_reads };
@@ -78,5 +79,16 @@ impl<R: Read> Source for Blocks<R> {
     #[inline(always)]
     fn advance(&mut self, count: usize) {
         self.block.skip(count);
+    }
+
+    /// Passes over what is in the block too. Less than a block behind it is cheaper to read.
+    #[inline(never)]
+    fn pass(&mut self, wanted: usize) -> usize {
+        let held = self.block.len();
+        if wanted.saturating_sub(held) < SIZE {
+            return 0;
+        }
+        let behind = self.reader.pass_over(wanted - held);
+        self.block.clear() + behind
     }
 }

@@ -3,6 +3,7 @@ use crate::blocks::Blocks;
 use crate::fault::Fault;
 use pkcheck::{Allow, AllowError};
 use std::alloc::Global;
+use std::fs::File;
 use std::io::{ErrorKind, Read};
 use std::rt::Files;
 use std::{fs, io, str};
@@ -42,6 +43,10 @@ pub fn read_rest<'a, F: Read>(
 }
 
 /// A file as a source of bytes, read in blocks.
-pub fn open_source<R: Files>(rt: &R, alloc: Global, path: &str) -> io::Result<Blocks<R::File>> {
+pub fn open_source<R: Files<File = File>>(
+    rt: &R,
+    alloc: Global,
+    path: &str,
+) -> io::Result<Blocks<File>> {
     Ok(Blocks::new(alloc, fs::open(rt, path)?)?)
 }

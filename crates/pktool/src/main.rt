@@ -13,6 +13,7 @@ mod files;
 mod gathering;
 mod naming;
 mod optimizing;
+mod passing;
 mod replacing;
 mod run;
 #[cfg(test)]

@@ -94,7 +94,7 @@ struct Check<'a> {
 
 /// `check --allow LIST [--old-strings OBJECT] [--all [--one-unpickler]] FILE`, under the limits of
 /// the list.
-fn check_file<'a, R: Files, O: Write>(
+fn check_file<'a, R: Files<File = File>, O: Write>(
     rt: &R,
     alloc: Global,
     check: &Check<'a>,
@@ -125,7 +125,7 @@ fn check_file<'a, R: Files, O: Write>(
 }
 
 /// `dis FILE`.
-fn dis_file<'a, R: Files, O: Write>(
+fn dis_file<'a, R: Files<File = File>, O: Write>(
     rt: &R,
     alloc: Global,
     file: &'a str,
@@ -141,7 +141,7 @@ fn dis_file<'a, R: Files, O: Write>(
 }
 
 /// `imports FILE`.
-fn imports_file<'a, R: Files, O: Write>(
+fn imports_file<'a, R: Files<File = File>, O: Write>(
     rt: &R,
     alloc: Global,
     file: &'a str,
@@ -157,7 +157,7 @@ fn imports_file<'a, R: Files, O: Write>(
 }
 
 /// `json FILE`.
-fn json_file<'a, R: Files, O: Write>(
+fn json_file<'a, R: Files<File = File>, O: Write>(
     rt: &R,
     alloc: Global,
     file: &'a str,

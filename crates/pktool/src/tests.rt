@@ -3,6 +3,7 @@ mod checking;
 mod exporting;
 mod listing;
 mod optimizing;
+mod passing;
 mod placing;
 mod writing;
 
