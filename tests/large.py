@@ -2,13 +2,16 @@
 """Checks large data under the limits for large data, and under the standard ones, which refuse it.
 
 CPython makes the pickles. Each must be accepted completely under `large = true`, within the bounds
-on time and memory, and refused as TooLarge without it. The last line says how many pickles passed.
+on time and memory, and refused as TooLarge without it. A pipe, which can't pass over payloads, must
+give the answers of a file, also where the pickle is cut. The last line says how many passed.
 """
 import argparse
+import contextlib
 import dataclasses
 import os
 import pathlib
 import pickle
+import shutil
 import sys
 import tempfile
 from typing import Callable, Iterator, List
@@ -59,7 +62,7 @@ DATA = [
     *(Data("1,100,000 dicts", dicts, protocol) for protocol in (0, 2, 4, 5)),
     *(Data("1,200,000 texts", texts, protocol) for protocol in (2, 4, 5)),
     *(Data("a text of 20 MB", text, protocol) for protocol in (2, 4, 5)),
-    Data("an array of 24 MB", array, 2),
+    *(Data("an array of 24 MB", array, protocol) for protocol in (2, 4, 5)),
 ]
 
 
@@ -94,11 +97,35 @@ def write_apart(data: Data, path: pathlib.Path) -> int:
     return path.stat().st_size
 
 
+def check_piped(runner: "program.Runner") -> "program.Ran":
+    """Checks the pickle from a pipe, which a separate process writes."""
+    child = os.fork()
+    if child == 0:
+        with contextlib.suppress(BrokenPipeError), open("pickle", "rb") as file:
+            with open("pipe", "wb") as pipe:
+                shutil.copyfileobj(file, pipe)
+        os._exit(0)
+    ran = check(runner, LARGE, "pipe")
+    os.waitpid(child, 0)
+    return ran
+
+
+def differing(runner: "program.Runner", size: int) -> Iterator[str]:
+    """Where a pipe has another answer than the pickle's file, which is then cut."""
+    for kept in (size, size - 1, size // 2):
+        os.truncate("pickle", kept)
+        file, pipe = check(runner, LARGE, "pickle"), check_piped(runner)
+        if (file.status, file.out, file.err) != (pipe.status, pipe.out, pipe.err):
+            yield f"{kept} bytes: {file.out!r}, but {pipe.out!r} from a pipe"
+        if kept < size and not file.out.endswith(b": Truncated\n"):
+            yield f"{kept} bytes: {file.out!r}"
+
+
 def passes(runner: "program.Runner", data: Data) -> bool:
-    """Prints the line of a pickle, and returns whether both answers are right."""
+    """Prints the line of a pickle, and returns whether its answers are right."""
     size = write_apart(data, pathlib.Path("pickle"))
     without, large = (check(runner, allow, "pickle") for allow in (IMPORTS, LARGE))
-    wrong = list(faults(size, without, large))
+    wrong = [*faults(size, without, large), *differing(runner, size)]
     cost = f"{size / 1e6:.1f} MB, {large.seconds:.2f} s, {large.peak / 1e6:.0f} MB of memory"
     print(f"{data.name}, protocol {data.protocol}: {cost} {'; '.join(wrong)}".rstrip(), flush=True)
     return not wrong
@@ -110,6 +137,7 @@ def main() -> int:
     runner = program.Runner(program.PROGRAM, WALL)
     with tempfile.TemporaryDirectory(prefix="large-") as folder:
         os.chdir(folder)
+        os.mkfifo("pipe")
         passed: List[bool] = [passes(runner, data) for data in DATA]
         os.chdir("/")
     print(f"{passed.count(True)} passed, {passed.count(False)} failed")

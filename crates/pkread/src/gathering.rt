@@ -223,10 +223,9 @@ impl Gathering {
             (intake R.left R.failures source.old self.old)
             (intake R.left R.failures source.new self.new) }
     {
-        let room = self.room;
-        let n = source.pass(left.min(room as usize));
-        self.room = room - n as u64;
-        n
+        let passed = source.pass(left.min(self.room as usize));
+        self.room -= passed as u64;
+        passed
     }
 
     /// Takes a field of N bytes, usually in one read.

@@ -60,7 +60,7 @@ static PAYLOADS: [(&[u8], usize, &[u8], u8, &str); 9] = [
 fn around(alloc: Global, start: &[u8], count: usize, end: &[u8]) -> Result<Vec<u8>, AllocError> {
     let mut content = Vec::new(alloc);
     content.extend_from_slice(start)?;
-    content.resize(start.len() + count, b'.')?;
+    content.resize(start.len().saturating_add(count), b'.')?;
     content.extend_from_slice(end)?;
     Ok(content)
 }
