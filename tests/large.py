@@ -1,9 +1,10 @@
 #!/usr/bin/env python3
 """Checks large data under the limits for large data, and under the standard ones, which refuse it.
 
-CPython makes the pickles. Each must be accepted completely under `large = true`, within the bounds
-on time and memory, and refused as TooLarge without it. A pipe, which can't pass over payloads, must
-give the answers of a file, also where the pickle is cut. The last line says how many passed.
+CPython makes the pickles. Each must be accepted completely under the limits for large data, within
+the bounds on time and memory, and refused as TooLarge without them. A pipe, which can't pass over
+payloads, must give the answers of a file, also where the pickle is cut. The last line says how many
+passed.
 """
 import argparse
 import contextlib
@@ -29,7 +30,7 @@ version = 2
 [imports]
 _codecs = ["encode"]
 """
-LARGE = IMPORTS + "[limits]\nlarge = true\n"
+LARGE = IMPORTS + "[limits]\nlarge = true\npassed = 33_554_432\n"
 
 
 @dataclasses.dataclass(frozen=True)
