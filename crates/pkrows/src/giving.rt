@@ -73,9 +73,19 @@ impl Source for Filled<'_> {
     fn advance(&mut self, count: usize) {
         let _ = count;
     }
+
+    /// Passes over the repeated byte alone.
+    fn pass(&mut self, wanted: usize) -> usize {
+        if !self.head.is_empty() {
+            return 0;
+        }
+        let count = wanted.min(self.filling);
+        self.filling -= count;
+        count
+    }
 }
 
-/// A source that compares the requests with the expected ones.
+/// A source that compares the requests with the expected ones, and passes over nothing.
 #[derive(Drop)]
 pub struct Watched<'a, R> {
     source: R,

@@ -83,8 +83,11 @@ fn the_largest_payload_whole_and_cut(rt: HostRuntime) {
         (16_777_216, b"", Verdict::No(16_777_221, Reason::Truncated)),
         (16_777_215, b"", Verdict::No(0, Reason::Truncated)),
     ] {
-        let mut source = Filled::new(LARGEST, b'a', filling, tail);
-        let said = judge(&rt, &Policy::AnyImport, &Limits::STANDARD, &mut source);
+        let mut passed_over = Filled::new(LARGEST, b'a', filling, tail);
+        let said = judge(&rt, &Policy::AnyImport, &Limits::STANDARD, &mut passed_over);
+        assert_eq!(rt; said, verdict);
+        let mut read = Watched::new(Filled::new(LARGEST, b'a', filling, tail), &[]);
+        let said = judge(&rt, &Policy::AnyImport, &Limits::STANDARD, &mut read);
         assert_eq!(rt; said, verdict);
     }
 }

@@ -1,0 +1,8 @@
+use Rattle.std.proofs.Common.{arith}
+use Rattle.pkrows.proofs.Passed.{unseen_passed}
+use Rattle.pkrows.proofs.giving.FilledSource.pass.Goals as goal
+
+pub returns-clause-bytes : goal.returns-clause-bytes
+returns-clause-bytes c =
+    let least = c.min-count.ensures in
+    unseen_passed c.args.wanted _ (omega (arith, least))
