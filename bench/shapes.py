@@ -8,7 +8,7 @@ import functools
 import os
 import pathlib
 import pickle
-from typing import Callable, Dict, Iterable, Iterator
+from typing import Callable, Dict, Iterable, Iterator, List, Tuple
 
 RECORDS = 125_000
 
@@ -82,6 +82,39 @@ EXPORTED: Dict[str, Make] = {
     "records, protocol 4": functools.partial(exported, 4),
     "texts, protocol 4": texts,
     "integers, protocol 4": integers,
+}
+
+
+
+def blocks(count: int = 16, size: int = 4 * 2**20) -> List[bytes]:
+    """Byte strings."""
+    return [bytes([i]) * size for i in range(count)]
+
+
+# What costs a check most beside `pickle.loads`, because that makes little of it: texts that all
+# differ, objects of few instructions, and payloads behind a frame. By protocol and value.
+BESIDE_LOADS: Dict[str, Tuple[int, Callable[[], object]]] = {
+    "different texts of 40 bytes": (
+        4, lambda: [f"line {i} of a text, as long as lines are, {i}" for i in range(200_000)]
+    ),
+    "different short texts": (4, lambda: [f"text {i}" for i in range(400_000)]),
+    "different texts beyond ASCII": (4, lambda: [f"\u00e9t\u00e9 {i}" for i in range(400_000)]),
+    "one text again and again": (4, lambda: ["same"] * 400_000),
+    "a set of texts": (4, lambda: {f"k{i}" for i in range(400_000)}),
+    "a dict of texts and integers": (4, lambda: {f"key {i}": i for i in range(400_000)}),
+    "a dict of texts": (4, lambda: {f"key {i}": f"value {i}" for i in range(200_000)}),
+    "integers": (4, lambda: list(range(400_000))),
+    "floats": (4, lambda: [i / 7 for i in range(400_000)]),
+    "pairs of integers": (4, lambda: [(i, -i) for i in range(400_000)]),
+    "lists in a list": (4, lambda: [[i] for i in range(400_000)]),
+    "names and bytes, protocol 3": (3, lambda: [(f"n{i}", it) for i, it in enumerate(blocks())]),
+    "names and bytes in frames": (4, lambda: [(f"n{i}", it) for i, it in enumerate(blocks())]),
+    "names and bytes in frames, protocol 5": (
+        5, lambda: [(f"n{i}", it) for i, it in enumerate(blocks())]
+    ),
+    "a dict of bytes": (4, lambda: dict(enumerate(blocks()))),
+    "bytes behind a title": (4, lambda: ["title", *blocks()]),
+    "records, protocol 2": (2, lambda: [record(i) for i in range(40_000)]),
 }
 
 # The names that these import.

@@ -11,8 +11,9 @@ import sys
 import tempfile
 from typing import Any, Callable, Dict, List, Optional
 
-ROOT = pathlib.Path(__file__).resolve().parent.parent
-PROGRAM = ROOT / "crates" / "pktool" / "out" / "pktool"
+import tool
+
+TOOL = tool.program()
 
 # A spelling of each kind of argument.
 SPELLINGS = {
@@ -93,7 +94,7 @@ def listed(folder: pathlib.Path, data: bytes) -> List[str]:
     """The lines of `pktool dis` for these bytes."""
     path = folder / "file.pickle"
     path.write_bytes(data)
-    said = subprocess.run([PROGRAM, "dis", path], capture_output=True, text=True)
+    said = subprocess.run([TOOL, "dis", path], capture_output=True, text=True)
     return said.stdout.splitlines()
 
 
@@ -117,7 +118,6 @@ def is_right(opcode: pickletools.OpcodeInfo, folder: pathlib.Path) -> bool:
 
 
 def main() -> None:
-    subprocess.run([ROOT / "pktool", "--help"], stdout=subprocess.DEVNULL, check=True)
     with tempfile.TemporaryDirectory() as folder:
         wrong = [
             opcode.name

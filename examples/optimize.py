@@ -6,7 +6,6 @@ an equal object, that `pktool imports` accepts to its last byte, and that anothe
 unchanged. Each line has the sizes of the pickle, of that form, and of the result of
 `pickletools.optimize`; the last line counts.
 """
-import os
 import pathlib
 import pickle
 import pickletools
@@ -16,8 +15,9 @@ import tempfile
 from typing import Iterator, Optional, Tuple, Union
 
 import objects
+import tool
 
-TOOL = os.path.join(os.path.dirname(os.path.realpath(__file__)), "..", "pktool")
+TOOL = tool.program()
 
 
 def told(*words: Union[str, pathlib.Path]) -> Tuple[int, str]:

@@ -6,7 +6,6 @@ with sorted keys and without spaces. Anything else must be refused, at the instr
 `pickletools` shows. The last line counts.
 """
 import json
-import os
 import pathlib
 import pickle
 import pickletools
@@ -15,7 +14,9 @@ import sys
 import tempfile
 from typing import List, Optional, Set, Tuple
 
-TOOL = os.path.join(os.path.dirname(os.path.realpath(__file__)), "..", "pktool")
+import tool
+
+TOOL = tool.program()
 
 LEAST, GREATEST = -(2**63), 2**63 - 1
 SURROGATES = range(0xD800, 0xE000)

@@ -16,8 +16,9 @@ import tempfile
 from typing import Any, Dict, Iterable, List, Set, Tuple
 
 import objects
+import tool
 
-TOOL = os.path.join(os.path.dirname(os.path.realpath(__file__)), "..", "pktool")
+TOOL = tool.program()
 
 
 class Names(pickle.Unpickler):

@@ -1,8 +1,8 @@
 /* The extension module of the package storklocker, for Python's stable ABI. It passes arguments to
    the functions of storklocker.h and converts their answers. It decides nothing. */
-#define PY_SSIZE_T_CLEAN
-#define Py_LIMITED_API 0x03080000
-#include <Python.h>
+#include "loads.h"
+#include "walk.h"
+
 #include <structmember.h>
 
 #include "storklocker.h"
@@ -14,12 +14,13 @@
 enum { VERDICT, ROW_VERDICT, REASONS, ASKED };
 
 struct state {
-    PyObject *pairs; /* the type; its attribute `_held` is `HELD` */
+    PyObject *pairs, *loads; /* the types */
+    PyObject *held;          /* `HELD` */
 };
 
 typedef struct {
     PyObject_HEAD
-    PyObject *held;
+    PyObject *held; /* the module's */
     PyObject *kept; /* a tuple of pairs of bytes objects, which `pairs` points into */
     struct storklocker_pair *pairs;
     size_t count;
@@ -58,28 +59,41 @@ static void pairs_dealloc(PyObject *self) {
     Py_DECREF(type);
 }
 
-static PyObject *pairs_new(PyTypeObject *type, PyObject *args, PyObject *Py_UNUSED(kwargs)) {
-    PyObject *kept, *made, *module, *name;
+static PyObject *pairs_new(
+    PyTypeObject *Py_UNUSED(type), PyObject *Py_UNUSED(args), PyObject *Py_UNUSED(kwargs)) {
+    PyErr_SetString(PyExc_TypeError, "only pairs_of makes Pairs");
+    return NULL;
+}
+
+/* Pairs of a type that the module made, or of a subclass. */
+static PyObject *pairs_of(PyObject *module, PyObject *args) {
+    const struct state *state = PyModule_GetState(module);
+    PyObject *type, *kept, *made, *text, *name;
     struct storklocker_settings settings;
-    if (!PyArg_ParseTuple(args, "O!O", &PyTuple_Type, &kept, &made)
+    if (!PyArg_ParseTuple(args, "O!O!O", &PyType_Type, &type, &PyTuple_Type, &kept, &made)
         || !has_settings(made, &settings))
         return NULL;
-    Pairs *self = (Pairs *)PyType_GenericAlloc(type, 0);
+    if (!PyType_IsSubtype((PyTypeObject *)type, (PyTypeObject *)state->pairs)) {
+        PyErr_Format(PyExc_TypeError, "%R is not a subclass of Pairs", type);
+        return NULL;
+    }
+    Pairs *self = (Pairs *)PyType_GenericAlloc((PyTypeObject *)type, 0);
     if (self == NULL)
         return NULL;
     size_t count = (size_t)PyTuple_Size(kept);
     Py_INCREF(kept);
     self->kept = kept;
     self->settings = settings;
-    self->held = PyObject_GetAttrString((PyObject *)type, "_held");
+    Py_INCREF(state->held);
+    self->held = state->held;
     self->pairs = PyMem_New(struct storklocker_pair, count + 1);
     if (self->pairs == NULL)
         PyErr_NoMemory();
     for (; self->count < count && !PyErr_Occurred(); self->count++) {
         PyObject *pair = PyTuple_GetItem(kept, (Py_ssize_t)self->count);
-        if (PyArg_ParseTuple(pair, "SS", &module, &name))
+        if (PyArg_ParseTuple(pair, "SS", &text, &name))
             self->pairs[self->count] = (struct storklocker_pair){
-                (const uint8_t *)PyBytes_AsString(module), (size_t)PyBytes_Size(module),
+                (const uint8_t *)PyBytes_AsString(text), (size_t)PyBytes_Size(text),
                 (const uint8_t *)PyBytes_AsString(name), (size_t)PyBytes_Size(name)};
     }
     if (PyErr_Occurred())
@@ -205,10 +219,22 @@ static PyObject *row_verdict(PyObject *module, PyObject *args) {
     return is_taken(module, args, &r) ? answered(&r, storklocker_check_row, ROW_VERDICT, 0) : NULL;
 }
 
-static PyObject *pairs_refusal(PyObject *self, PyObject *data) {
+PyObject *pairs_refusal(PyObject *self, PyObject *data) {
     struct request r = {.data = data, .allow = self, .made = Py_None, .list = (const Pairs *)self};
     r.settings = &r.list->settings;
     return has_bytes(&r) ? answered(&r, storklocker_check_pairs, VERDICT, 1) : NULL;
+}
+
+static PyObject *begin_loads(PyObject *module, PyObject *args) {
+    const struct state *state = PyModule_GetState(module);
+    PyObject *guard, *list, *reader;
+    if (!PyArg_ParseTuple(args, "O!OO", state->loads, &guard, &list, &reader))
+        return NULL;
+    if (list != Py_None && !PyObject_TypeCheck(list, (PyTypeObject *)state->pairs)) {
+        is_wrong("the list must be a storklocker.AllowList or None", list);
+        return NULL;
+    }
+    return set_loads(guard, list, reader) == 0 ? Py_BuildValue("") : NULL;
 }
 
 static PyMemberDef pairs_members[] = {
@@ -265,6 +291,15 @@ static PyObject *read_list(PyObject *Py_UNUSED(module), PyObject *args) {
 }
 
 static PyMethodDef methods[] = {
+    {"begin_loads", begin_loads, METH_VARARGS,
+     "Says what `loads` of a guard checks with, or None, and loads with."},
+    {"pairs_of", pairs_of, METH_VARARGS, "Pairs of a subclass, from its pairs and settings."},
+    {"walked", walked, METH_VARARGS,
+     "Where the whole instructions from an offset on end, and whether the last is STOP."},
+    {"followed", followed, METH_VARARGS,
+     "Where the plain instructions end that the cutter of joblib's files follows, and a frame."},
+    {"respelled", respelled, METH_VARARGS,
+     "The instructions with BUILD as TUPLE2 BINPERSID, or None; and where they end."},
     {"verdict", verdict, METH_VARARGS, "The Verdict of the pickle at the front of the bytes."},
     {"row_verdict", row_verdict, METH_VARARGS, "The RowVerdict of all pickles in the bytes."},
     {"imports", imports, METH_VARARGS,
@@ -275,19 +310,23 @@ static PyMethodDef methods[] = {
 static int filled(PyObject *module) {
     struct state *state = PyModule_GetState(module);
     PyObject *package = PyImport_ImportModule("storklocker._answers");
-    PyObject *held = package != NULL ? PyObject_GetAttrString(package, "HELD") : NULL;
+    state->held = package != NULL ? PyObject_GetAttrString(package, "HELD") : NULL;
     Py_XDECREF(package);
-    state->pairs = held != NULL ? PyType_FromSpec(&pairs_spec) : NULL;
-    int is_made = state->pairs != NULL && PyObject_SetAttrString(state->pairs, "_held", held) == 0
-        && PyObject_SetAttrString(module, "Pairs", state->pairs) == 0;
-    Py_XDECREF(held);
+    state->pairs = state->held != NULL ? PyType_FromSpec(&pairs_spec) : NULL;
+    state->loads = state->pairs != NULL ? loads_type() : NULL;
+    int is_made = state->loads != NULL
+        && PyObject_SetAttrString(module, "Pairs", state->pairs) == 0
+        && PyObject_SetAttrString(module, "Loads", state->loads) == 0;
     return is_made ? PyModule_AddStringConstant(module, "version", storklocker_version()) : -1;
 }
 
 static void freed(void *module) {
     struct state *state = PyModule_GetState(module);
-    if (state != NULL)
-        Py_CLEAR(state->pairs);
+    if (state == NULL)
+        return;
+    Py_CLEAR(state->pairs);
+    Py_CLEAR(state->loads);
+    Py_CLEAR(state->held);
 }
 
 static PyModuleDef_Slot slots[] = {{Py_mod_exec, filled}, {0, NULL}};

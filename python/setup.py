@@ -4,7 +4,7 @@ import os
 import pathlib
 import shutil
 import subprocess
-import sysconfig
+import sys
 
 from setuptools import Extension, setup
 from setuptools.command.build_ext import build_ext
@@ -33,8 +33,8 @@ class Make(build_ext):
 
     def build_extension(self, ext):
         out = pathlib.Path(self.get_ext_fullpath(ext.name)).parent
-        include = sysconfig.get_path("include")
-        command = [str(HERE / "make"), *words(), "--include", include, "--out", str(out.resolve())]
+        command = [str(HERE / "make"), *words(), "--python", sys.executable]
+        command += ["--out", str(out.resolve())]
         if subprocess.run(command).returncode != 0:
             raise SystemExit("storklocker: the extension module could not be made")
 

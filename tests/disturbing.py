@@ -158,10 +158,11 @@ def failure(tried: Test) -> Optional[str]:
     return None
 
 
-def tally(only: str) -> Tuple[int, int]:
-    """Runs the tests with this word in their names. Returns how many passed, and how many failed.
+def tally(only: str) -> Tuple[int, int, int]:
+    """Runs the tests with this word in their names. Returns how many passed, failed, and were
+    skipped.
     """
-    passed = failed = 0
+    passed = failed = skipped = 0
     for tried in TESTS:
         name = tried.__name__.replace("_", " ")
         if only not in name:
@@ -169,8 +170,9 @@ def tally(only: str) -> Tuple[int, int]:
         try:
             wrong = failure(tried)
         except Untried as why:
-            print(f"{name}: skipped: {why}", flush=True)
+            print(f"skipped: {name}: {why}", flush=True)
+            skipped += 1
             continue
         print(f"{name}: {wrong or 'passed'}", flush=True)
         passed, failed = passed + (wrong is None), failed + (wrong is not None)
-    return passed, failed
+    return passed, failed, skipped

@@ -2,59 +2,30 @@
 """Checks the documents: lines, links, the files and counts that they name, and their examples.
 
 Every example runs: `console` blocks in a shell, `pycon` blocks in one session per document. Their
-output must match the document. `python` blocks are parsed. Lines of scripts are checked too. The
-last line counts.
+output must match the document. `python` blocks are parsed. Lines of scripts are checked too, and
+that nothing is said twice, in words or in other numbers. The last line counts.
 """
 
 import argparse
-import pickletools
 import re
 import sys
+from collections import defaultdict
 from pathlib import Path
-from typing import Callable, Dict, Iterator, List, NamedTuple, Tuple
+from typing import DefaultDict, Iterator, List, Set, Tuple
 
+import figures
 import worked
+from papers import FILES, ROOT, Document, Fault, documents, found_in, prose_of, text_of
 
-ROOT = Path(__file__).resolve().parent.parent
 LONGEST_LINE = 100
-MOST_WORDS = 12_000
-# The documents that a reader is meant to read to the end, which have a limit on words.
-PAPERS = re.compile(r"(README|docs/(?!THEOREM).*|bench/README|tests/README)\.md")
-# Folders that runs create.
-MADE = {"out", "target", "__pycache__"}
-
-
-class Document(NamedTuple):
-    name: str
-    text: str
-
-
-class Fault(NamedTuple):
-    document: str
-    line: int
-    what: str
-
-    def __str__(self) -> str:
-        return f"{self.document}:{self.line}: {self.what}"
-
-
-def is_kept(path: Path) -> bool:
-    """Whether this is a file of the repository, not the product of a run."""
-    parts = path.relative_to(ROOT).parts
-    return path.is_file() and not any(part in MADE or part.startswith(".") for part in parts)
-
-
-FILES = sorted(path for path in ROOT.rglob("*") if is_kept(path))
-
-
-def text_of(file: str) -> str:
-    return (ROOT / file).read_text(encoding="utf-8")
-
-
-def documents() -> List[Document]:
-    """Every document of the repository."""
-    names = (path.relative_to(ROOT).as_posix() for path in FILES if path.suffix == ".md")
-    return [Document(name, text_of(name)) for name in names]
+MOST_WORDS = 13_000
+MOST_CLICKS = 2
+# A sentence of so many words stands in one document only.
+LONG_SENTENCE = 9
+# What docs/PROMISES.md says, shown.
+SESSION = "examples/yes-and-no.txt"
+# The documents that don't count: a reader looks things up in them.
+NO_PAPERS = re.compile(r"docs/THEOREM\.md|CHANGELOG\.md|LICEN[CS]E.*")
 
 
 def long_lines_of_scripts() -> Iterator[Fault]:
@@ -64,19 +35,6 @@ def long_lines_of_scripts() -> Iterator[Fault]:
         if path.suffix == ".py" or front == b"#!":
             name = path.relative_to(ROOT).as_posix()
             yield from long_lines(Document(name, text_of(name)))
-
-
-def prose_of(document: Document) -> str:
-    """The text of a document with its code blocks blanked out."""
-    blocks = re.compile(r"(?ms)^ *```.*?^ *```$")
-    return blocks.sub(lambda block: "\n" * block[0].count("\n"), document.text)
-
-
-def found_in(document: Document, pattern: str) -> Iterator[Tuple[int, "re.Match[str]"]]:
-    """Where a pattern occurs in the prose of a document."""
-    prose = prose_of(document)
-    for match in re.finditer(pattern, prose):
-        yield prose.count("\n", 0, match.start()) + 1, match
 
 
 def long_lines(document: Document) -> Iterator[Fault]:
@@ -112,93 +70,86 @@ def missing_files(document: Document) -> Iterator[Fault]:
             yield Fault(document.name, line, f"there is no file {match[1]}")
 
 
-def lines_of(file: str, pattern: str) -> int:
-    """How many lines of a file match a pattern."""
-    return len(re.findall(pattern, text_of(file), re.MULTILINE))
-
-
-def files_like(pattern: str) -> int:
-    """How many files match a pattern."""
-    return len(list(ROOT.glob(pattern)))
-
-
-# What a document may count, and the actual counts.
-COUNTS: Dict[str, Callable[[], int]] = {
-    "opcodes": lambda: len(pickletools.opcodes),
-    "reasons": lambda: lines_of("crates/pkread/src/refusal.rt", r"^    [A-Z]\w*(?:\(u\d+\))?,$"),
-    "crates": lambda: lines_of("crates.txt", r"^\w.*:"),
-    "recipes": lambda: files_like("examples/recipes/*.stdout"),
-    "edits that must fail": lambda: files_like("crates/*/must-fail/*.edit"),
-    "rows of the program": lambda: lines_of("examples/cases.tsv", r"^[^#\n]"),
-}
-WORDS = "one two three four five six seven eight nine ten eleven twelve".split()
-
-
-def wrong_counts(document: Document) -> Iterator[Fault]:
-    """Counts that differ from the repository's. `more than 100` is right if there are more."""
-    number = "[0-9][0-9,]*|" + "|".join(WORDS)
-    pattern = rf"(?i)\b(more than )?\b({number})\s+({'|'.join(COUNTS)})\b"
-    for line, match in found_in(document, pattern):
-        word = match[2].lower()
-        told = WORDS.index(word) + 1 if word in WORDS else int(word.replace(",", ""))
-        actual = COUNTS[re.sub(r"\s+", " ", match[3].lower())]()
-        few = word in WORDS[:3]  # a part of them, as in "three reasons come last"
-        if not few and (told > actual if match[1] else told != actual):
-            yield Fault(document.name, line, f"{match[0]!r}, but there are {actual}")
-
-
-def wrong_crates(document: Document) -> Iterator[Fault]:
-    """Lists of ported crates that differ from the crates' own."""
-    rows = re.findall(r"(?m)^(\w+).*?: (.*)$", text_of("crates.txt"))
-    ported = {name for _, names in rows for name in names.split()} - {own for own, _ in rows}
-    for line, match in found_in(document, r"ported crates((?:[\s,]+(?:and\s+)?`\w+`)+)"):
-        told = set(re.findall(r"`(\w+)`", match[1]))
-        if told != ported:
-            yield Fault(document.name, line, f"ported crates: {sorted(told ^ ported)} are wrong")
-
-
-def wrong_rows(document: Document) -> Iterator[Fault]:
-    """Rows of a table of opcodes that differ from CPython's."""
-    rows = {}
-    for line, match in found_in(document, r"(?m)^\| (\w+) \| `(..)` \| (\w+) \| (\d) \|"):
-        rows[match[1]] = line, (match[2], match[3], int(match[4]))
-    for opcode in pickletools.opcodes if rows else []:
-        kind = opcode.arg.name if opcode.arg else "none"
-        wanted = (f"{ord(opcode.code):02x}", kind, opcode.proto)
-        line, told = rows.pop(opcode.name, (1, None))
-        if told != wanted:
-            yield Fault(document.name, line, f"{opcode.name} is {wanted} in CPython, not {told}")
-    for name, (line, _) in rows.items():
-        yield Fault(document.name, line, f"CPython has no opcode {name}")
-
-
 def wrong_versions(document: Document) -> Iterator[Fault]:
     """Versions of the project that differ from the file VERSION."""
     version = text_of("VERSION").strip()
-    for line, match in found_in(document, r"\b0\.\d+\.\d+\b"):
+    for line, match in found_in(document, r"\b0\.\d+\.\d+\b(?:\.dev\d+)?"):
         if document.name != "CHANGELOG.md" and match[0] != version:
             yield Fault(document.name, line, f"version {match[0]}, but the project's is {version}")
 
 
 def too_many_words(found: List[Document]) -> Iterator[Fault]:
-    """More words than a reader reads to the end, not counting code and tables."""
-    texts = [prose_of(document) for document in found if PAPERS.fullmatch(document.name)]
-    prose = re.sub(r"(?m)^\|.*$", "", "\n".join(texts))
-    words = len(re.findall(r"\S*\w\S*", prose))
+    """More words than a reader reads to the end, as `wc -w` counts them."""
+    texts = [document.text for document in found if not NO_PAPERS.fullmatch(document.name)]
+    words = sum(len(text.split()) for text in texts)
     print(f"{words} words in {len(texts)} papers")
     if words > MOST_WORDS:
         yield Fault("all papers", 0, f"{words} words, but at most {MOST_WORDS} are allowed")
+
+
+def links_of(document: Document) -> Set[Path]:
+    """The files that a document links to."""
+    here = (ROOT / document.name).parent
+    found = {match[1].partition("#")[0] for _, match in found_in(document, r"\]\(([^)\s:]+)\)")}
+    return {(here / file).resolve() for file in found if file}
+
+
+def far_answers(found: List[Document]) -> Iterator[Fault]:
+    """Questions of docs/README.md whose answer isn't where its path leads, click by click."""
+    links = {ROOT / document.name: links_of(document) for document in found}
+    index = next(document for document in found if document.name == "docs/README.md")
+    for line, match in found_in(index, r"(?m)^\| [^|]+\? \| (.+) \|$"):
+        steps = re.findall(r"\]\(([^)#]+)", match[1])
+        place = ROOT / "README.md"
+        for step in steps:
+            target = (ROOT / "docs" / step).resolve()
+            if target not in links[place]:
+                yield Fault(index.name, line, f"{place.name} has no link to {step}")
+            place = target
+        if not 1 <= len(steps) <= MOST_CLICKS:
+            yield Fault(index.name, line, f"{len(steps)} clicks")
+
+
+def sentences_of(document: Document) -> Iterator[Tuple[int, str]]:
+    """The sentences in the prose of a document, in lower case and without marks."""
+    prose = re.sub(r"(?m)^\|.*$|^    .*$", "", prose_of(document))
+    for match in re.finditer(r"(?s)\S.*?(?:[.:](?=\s)|\n\n|\Z)", prose):
+        words = re.findall(r"[\w'-]+", match[0].lower())
+        if len(words) >= LONG_SENTENCE:
+            yield prose.count("\n", 0, match.start()) + 1, " ".join(words)
+
+
+def sentences_twice(found: List[Document]) -> Iterator[Fault]:
+    """Sentences that stand twice. The package's own page, which an index shows, may repeat some."""
+    places: DefaultDict[str, List[Tuple[str, int]]] = defaultdict(list)
+    for document in found:
+        if document.name not in ("python/README.md", "CHANGELOG.md"):
+            for line, sentence in sentences_of(document):
+                places[sentence].append((document.name, line))
+    for sentence, where in places.items():
+        if len(where) > 1:
+            name, line = where[1]
+            yield Fault(name, line, f"{sentence!r} stands in {where[0][0]}:{where[0][1]} too")
 
 
 CHECKS = [
     long_lines,
     dead_links,
     missing_files,
-    wrong_counts,
-    wrong_crates,
-    wrong_rows,
+    figures.wrong_counts,
+    figures.wrong_crates,
     wrong_versions,
 ]
+
+
+def faults_of_all(found: List[Document]) -> Iterator[List[Fault]]:
+    """What each check finds that looks at more than one document."""
+    yield list(too_many_words(found))
+    yield list(long_lines_of_scripts())
+    yield list(far_answers(found))
+    yield list(sentences_twice(found))
+    for check in figures.OF_ALL:
+        yield list(check())
 
 
 def main() -> int:
@@ -208,8 +159,11 @@ def main() -> int:
     found = documents()
     faults = []
     passed = 0
-    for whole in (too_many_words(found), long_lines_of_scripts()):
-        wrong = list(whole)
+    with_package = worked.has_package()
+    skipped = not asked.text and not with_package
+    if skipped:
+        print("skipped: what needs the Python package, which is neither built nor installed")
+    for wrong in faults_of_all(found):
         passed += not wrong
         faults += wrong
     for document in found:
@@ -218,12 +172,16 @@ def main() -> int:
             passed += not wrong
             faults += wrong
         if not asked.text:
-            ran, mistaken = worked.examples(document.text)
+            ran, mistaken = worked.examples(document.text, with_package)
             passed += max(0, ran - len(mistaken))
             faults += [Fault(document.name, line, what) for line, what in mistaken]
+    if with_package and not asked.text:
+        mistaken = worked.faults_of_session(text_of(SESSION))
+        passed += not mistaken
+        faults += [Fault(SESSION, line, what) for line, what in mistaken]
     for fault in faults:
         print(fault)
-    print(f"{passed} passed, {len(faults)} failed")
+    print(f"{passed} passed, {len(faults)} failed, {int(skipped)} skipped")
     return 1 if faults else 0
 
 

@@ -18,6 +18,7 @@ from typing import Callable, Counter, List, Optional, Tuple
 
 import answers
 import program
+import progress
 import refusing
 import rows
 
@@ -124,7 +125,8 @@ def tries(library: pathlib.Path, wanted: List[rows.Row], jobs: int) -> Tuple[int
     """
     passed = 0
     with multiprocessing.Pool(jobs, begin, (library,)) as pool:
-        for row, counts, wrong in pool.imap(tried, wanted):
+        results = pool.imap(tried, wanted)
+        for row, counts, wrong in progress.said_of(results, len(wanted), "rows"):
             total = sum(counts.values())
             passed += total
             told = "; ".join(f"{count} {said}" for said, count in counts.most_common())

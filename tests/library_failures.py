@@ -18,6 +18,7 @@ import tempfile
 from typing import Counter, Optional, Tuple
 
 import program
+import progress
 import refusing
 
 SECONDS = 60
@@ -78,7 +79,8 @@ def tries(library: pathlib.Path, jobs: int) -> Tuple[int, int]:
     passed = 0
     tasks = [(library, test) for test in TESTS]
     with multiprocessing.Pool(jobs) as pool:
-        for test, counts, wrong in pool.imap(tried, tasks):
+        results = pool.imap(tried, tasks)
+        for test, counts, wrong in progress.said_of(results, len(tasks), "tests"):
             total = sum(counts.values())
             passed += total
             told = "; ".join(f"{count} {said}" for said, count in counts.most_common())

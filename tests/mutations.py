@@ -1,6 +1,7 @@
 """Pickles like a fuzzer's: each is made from its number and a seed, by a few changes to real
-pickles.
+pickles. As a script it writes a corpus of them for other fuzzers.
 """
+import argparse
 import collections
 import datetime
 import decimal
@@ -195,3 +196,18 @@ def mutated(seed: int, number: int) -> bytes:
     for _ in range(dice.choice((0, 0, 0, 1, 2))):
         made = dice.choice(OF_BYTES)(dice, made)
     return made[:MOST_BYTES]
+
+
+def main() -> None:
+    parser = argparse.ArgumentParser(description=__doc__)
+    parser.add_argument("folder", type=pathlib.Path, metavar="FOLDER")
+    parser.add_argument("--pickles", type=int, default=10_000)
+    parser.add_argument("--seed", type=int, default=1)
+    asked = parser.parse_args()
+    asked.folder.mkdir(parents=True, exist_ok=True)
+    for number in range(asked.pickles):
+        (asked.folder / f"{number:06}.pickle").write_bytes(mutated(asked.seed, number))
+
+
+if __name__ == "__main__":
+    main()

@@ -11,13 +11,15 @@ import sys
 from typing import Any, Mapping, Optional, Sequence
 
 ROOT = pathlib.Path(__file__).resolve().parent.parent
-PROGRAM = ROOT / "crates" / "pktool" / "out" / "pktool"
+# PKTOOL names the program; otherwise it is the one that was built here.
+BUILT = ROOT / "crates" / "pktool" / "out" / "pktool"
+PROGRAM = pathlib.Path(os.environ.get("PKTOOL", str(BUILT))).resolve()
 
 
 def require(path: pathlib.Path) -> None:
     """Ends the script if the gate has not built what it runs."""
     if not os.access(path, os.X_OK):
-        told = f"{path} is not built: rt ci builds it, and ./pktool builds the program"
+        told = f"there is no {path}: rt ci builds it, and ./pktool builds or unpacks the program"
         print(told, file=sys.stderr)
         print("0 passed, 1 failed")
         sys.exit(1)

@@ -466,8 +466,8 @@ def main() -> int:
         BENCH.program = folder / "pktool"
         shutil.copy(str(asked.program), str(BENCH.program))
         BENCH.program.chmod(0o755)
-        passed, failed = tally(asked.only)
-    print(f"{passed} passed, {failed} failed")
+        passed, failed, skipped = tally(asked.only)
+    print(f"{passed} passed, {failed} failed, {skipped} skipped")
     return 1 if failed else 0
 
 

@@ -25,6 +25,7 @@ from typing import Any, Callable, Counter, Dict, Iterator, List, NamedTuple, Opt
 
 import mutations
 import program
+import progress
 
 WALL = 20
 CHUNK = 250
@@ -321,9 +322,11 @@ def judged(task: Tuple[int, range]) -> Judged:
 def judge_all(asked: argparse.Namespace) -> Judged:
     """Judges all rows side by side, and keeps those that fail."""
     chunks = [range(at, min(at + CHUNK, asked.rows)) for at in range(0, asked.rows, CHUNK)]
+    tasks = [(asked.seed, chunk) for chunk in chunks]
     whole = Judged(collections.Counter(), [])
     with multiprocessing.Pool(asked.jobs, begin) as pool:
-        for found in pool.imap_unordered(judged, [(asked.seed, chunk) for chunk in chunks]):
+        results = pool.imap_unordered(judged, tasks)
+        for found in progress.said_of(results, len(tasks), "chunks"):
             whole.said.update(found.said)
             whole.failed.extend(found.failed)
             for number, word, wrong in found.failed:

@@ -20,6 +20,7 @@ from typing import Counter, Iterator, List, Optional, Set, Tuple
 
 import mutations
 import program
+import progress
 
 SECONDS = 1
 TRIES = 3
@@ -140,7 +141,8 @@ def soak(asked: argparse.Namespace) -> Tuple[Ended, int]:
     chunks = [range(at, min(at + CHUNK, asked.pickles)) for at in range(0, asked.pickles, CHUNK)]
     tasks = [(asked.seed, chunk) for chunk in chunks]
     with multiprocessing.Pool(asked.jobs, begin) as pool:
-        for counts, took, held, failed in pool.imap_unordered(soaked, tasks):
+        results = pool.imap_unordered(soaked, tasks)
+        for counts, took, held, failed in progress.said_of(results, len(tasks), "chunks"):
             ended.update(counts)
             slowest, peak, wrong = max(slowest, took), max(peak, held), wrong + len(failed)
             for number, command, why, pickle in failed:

@@ -1,16 +1,27 @@
-"""Runs the examples of a document, and compares their output with the document."""
+"""Runs the examples of a document, and compares their output with the document.
+
+They run in one folder, which is like the top of the repository: first the commands of all `console`
+blocks, in order, then all `pycon` blocks as one session. So what one writes, the next can read.
+PKTOOL names the program, otherwise it is the launcher; PYTHON an interpreter with the package. The
+package is the one that was built here, or else the one that is installed.
+"""
 
 import ast
+import contextlib
 import doctest
+import itertools
 import os
+import shlex
 import signal
 import subprocess
 import sys
+import tempfile
 from pathlib import Path
 from typing import Dict, Iterator, List, NamedTuple, Tuple
 
 ROOT = Path(__file__).resolve().parent.parent
 SECONDS = 120
+PYTHON = os.environ.get("PYTHON", sys.executable)
 
 
 class Block(NamedTuple):
@@ -50,16 +61,51 @@ def commands_of(block: Block) -> Iterator[Tuple[int, str, str]]:
 
 
 def environment() -> Dict[str, str]:
-    """The environment of an example: the package is on Python's path."""
-    return {**os.environ, "PYTHONPATH": str(ROOT / "python"), "PYTHONDONTWRITEBYTECODE": "1"}
+    """The environment of an example."""
+    found = {"PYTHONDONTWRITEBYTECODE": "1", **os.environ}
+    if "PYTHONPATH" not in found and list(ROOT.glob("python/storklocker/_storklocker*.so")):
+        found["PYTHONPATH"] = str(ROOT / "python")
+    return found
 
 
-def run(command: List[str], given: str = "") -> str:
-    """The output of a command at the top of the repository."""
+def has_package() -> bool:
+    """Whether the Python package is built or installed."""
+    words = [PYTHON, "-c", "import storklocker"]
+    return subprocess.run(words, env=environment(), stderr=subprocess.DEVNULL).returncode == 0
+
+
+def make_command(file: Path, *words: str) -> None:
+    """Makes a command that runs another."""
+    line = " ".join(shlex.quote(word) for word in words)
+    file.write_text(f'#!/bin/sh\nexec {line} "$@"\n')
+    file.chmod(0o755)
+
+
+@contextlib.contextmanager
+def top() -> Iterator[Path]:
+    """A folder like the top of the repository, whose `pktool` is the program that is named. Its
+    `bin` has the interpreter, and the package's command.
+    """
+    program = os.path.abspath(os.environ.get("PKTOOL", str(ROOT / "pktool")))
+    subprocess.run([program, "--help"], stdout=subprocess.DEVNULL)  # its first use says so
+    with tempfile.TemporaryDirectory(prefix="top-") as name:
+        folder = Path(name)
+        for path in ROOT.iterdir():
+            if path.name != "pktool":
+                (folder / path.name).symlink_to(path)
+        make_command(folder / "pktool", program)
+        (folder / "bin").mkdir()
+        make_command(folder / "bin" / "python3", PYTHON)
+        make_command(folder / "bin" / "storklocker", PYTHON, "-m", "storklocker")
+        yield folder
+
+
+def run(command: List[str], folder: Path, given: str = "") -> str:
+    """The output of a command in a folder."""
     started = subprocess.Popen(
         command,
-        cwd=ROOT,
-        env=environment(),
+        cwd=folder,
+        env={**environment(), "PATH": f"{folder / 'bin'}:{os.environ['PATH']}"},
         stdin=subprocess.PIPE,
         stdout=subprocess.PIPE,
         stderr=subprocess.STDOUT,
@@ -76,10 +122,10 @@ def run(command: List[str], given: str = "") -> str:
         return f"no answer within {SECONDS} seconds"
 
 
-def faults_of_shell(block: Block) -> Iterator[Tuple[int, str]]:
+def faults_of_shell(block: Block, folder: Path) -> Iterator[Tuple[int, str]]:
     """The commands with another output."""
     for line, command, printed in commands_of(block):
-        told = run(["sh", "-c", command])
+        told = run(["sh", "-c", command], folder)
         if told != printed:
             yield line, f"{command} prints\n{told}"
 
@@ -99,10 +145,10 @@ def run_session() -> int:
     return doctest.DocTestRunner(verbose=False, optionflags=flags).run(test).failed
 
 
-def faults_of_python(blocks: List[Block]) -> Iterator[Tuple[int, str]]:
+def faults_of_python(blocks: List[Block], folder: Path) -> Iterator[Tuple[int, str]]:
     """The report of a session of a document's examples."""
     if blocks:
-        told = run([sys.executable, __file__], session_of(blocks))
+        told = run([PYTHON, os.path.abspath(__file__)], folder, session_of(blocks))
         if told:
             yield blocks[0].line, told
 
@@ -115,18 +161,35 @@ def faults_of_program(block: Block) -> Iterator[Tuple[int, str]]:
         yield block.line - 1 + (error.lineno or 1), str(error)
 
 
-def examples(text: str) -> Tuple[int, List[Tuple[int, str]]]:
-    """How many blocks of a document ran, and what is wrong with them, each with its line."""
-    blocks = list(blocks_of(text))
-    sessions = [block for block in blocks if block.language == "pycon"]
-    shells = [block for block in blocks if block.language == "console"]
-    programs = [block for block in blocks if block.language == "python"]
-    faults = list(faults_of_python(sessions))
-    for block in shells:
-        faults += faults_of_shell(block)
-    for block in programs:
-        faults += faults_of_program(block)
-    return len(sessions) + len(shells) + len(programs), faults
+def faults_of_session(text: str) -> List[Tuple[int, str]]:
+    """What is wrong with a file that is one session of Python."""
+    with top() as folder:
+        return list(faults_of_python([Block("pycon", 1, text)], folder))
+
+
+def needs_package(block: Block) -> bool:
+    """Whether a block needs the Python package."""
+    commands = [command for _, command, _ in commands_of(block)]
+    return block.language == "pycon" or any("storklocker " in command for command in commands)
+
+
+def examples(text: str, with_package: bool) -> Tuple[int, List[Tuple[int, str]]]:
+    """How many blocks of a document ran, and what is wrong with them, each with its line. Some
+    need the package.
+    """
+    blocks = [it for it in blocks_of(text) if it.language in ("console", "pycon", "python")]
+    if not with_package:  # what comes after a block that needs it may need what that writes
+        blocks = list(itertools.takewhile(lambda it: not needs_package(it), blocks))
+    faults: List[Tuple[int, str]] = []
+    with top() as folder:
+        for block in blocks:
+            if block.language == "console":
+                faults += faults_of_shell(block, folder)
+            elif block.language == "python":
+                faults += faults_of_program(block)
+        sessions = [it for it in blocks if it.language == "pycon"]
+        faults += faults_of_python(sessions, folder)
+    return len(blocks), faults
 
 
 if __name__ == "__main__":

@@ -85,7 +85,7 @@ int main(int count, char **words) {
     if (status == STORKLOCKER_YES) {
         printf("yes: %" PRIu64 " bytes\n", verdict.taken);
     } else {
-        printf("no at %" PRIu64 ": reason %" PRIu32, verdict.at, verdict.reason);
+        printf("no at %" PRIu64 ": %s", verdict.at, storklocker_reason_text(verdict.reason));
         if (verdict.has_pair)
             print_pair(pickle, length, &verdict);
         printf("\n");

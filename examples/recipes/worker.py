@@ -1,4 +1,4 @@
-"""A queue's worker that loads jobs made by strangers. PYTHONPATH=../../python python3 worker.py"""
+"""A queue's worker that loads jobs made by strangers."""
 
 import logging
 import pickle

@@ -2,14 +2,17 @@
 
 import contextlib
 import datetime
+import logging
 import os
 import pickle
 import socket
 import subprocess
 import sys
+import tempfile
 import time
 from pathlib import Path
 
+import poison
 import storklocker
 from storklocker.metrics import CountingGuard
 
@@ -73,6 +76,63 @@ def raises(call, *kinds):
     except (pickle.UnpicklingError, *kinds) as error:
         return str(error)
     raise AssertionError("what is hostile was loaded")
+
+
+@contextlib.contextmanager
+def table():
+    """The poisoned pickles that leave their marks in a folder of their own, for a control."""
+    with tempfile.TemporaryDirectory() as folder:
+        yield Control(Path(folder))
+
+
+class Control:
+    """Pickles that a service without a guard would run, and the proof that it does."""
+
+    def __init__(self, folder):
+        self.folder = folder
+        self.shapes = poison.shapes(folder)
+
+    def runs_all(self, attempt):
+        """Tries each pickle in a process of its own, and asserts that it left its mark."""
+        for data in self.shapes.values():
+            child = os.fork()
+            if child == 0:
+                try:
+                    _silenced()
+                    attempt(data)
+                finally:
+                    os._exit(0)
+            os.waitpid(child, 0)
+        self.assert_all_ran(self.shapes)
+
+    def assert_all_ran(self, names, seconds=0):
+        """Asserts that each of these leaves its mark in time, so that the table is one."""
+        for _ in range(10 * seconds + 1):
+            left = [name for name in names if not os.path.lexists(self.folder / name)]
+            if not left:
+                break
+            time.sleep(0.1)
+        assert len(names) >= 40 and not left, f"the control doesn't run {left}"
+
+
+@contextlib.contextmanager
+def log():
+    """The lines at WARNING of the logger `storklocker`."""
+    lines = []
+    handler = logging.Handler(logging.WARNING)
+    handler.emit = lambda record: lines.append(record.getMessage())
+    logger = logging.getLogger("storklocker")
+    logger.addHandler(handler)
+    logger.propagate = False
+    yield lines
+    logger.removeHandler(handler)
+    logger.propagate = True
+
+
+def _silenced():
+    nothing = os.open(os.devnull, os.O_WRONLY)
+    os.dup2(nothing, 1)
+    os.dup2(nothing, 2)
 
 
 def nothing_ran():

@@ -1,5 +1,5 @@
 """Runs each test of an adapter in a process of its own. The last line counts them; an adapter whose
-service is not installed is named, and counts as neither passed nor failed.
+service is not installed is skipped.
 """
 
 import ast
@@ -36,29 +36,38 @@ def missing_for(name):
 
 def run(name):
     """Whether the test passes, with no mark left by a hostile pickle."""
-    with tempfile.TemporaryDirectory() as marks:
-        path = os.pathsep.join([str(HERE), str(HERE.parent)])
+    with tempfile.TemporaryDirectory() as marks, tempfile.TemporaryDirectory() as modules:
+        path = os.pathsep.join([str(HERE), modules, *filter(None, [os.environ.get("PYTHONPATH")])])
         # (its clients would ask a server that has gone when they are cleared away)
         words = [sys.executable, "-c", f"import os, {name}; {name}.run(); os._exit(0)"]
         environment = {**os.environ, "PYTHONPATH": path, "STORKLOCKER_MARKS": marks}
-        environment["PYTHONDONTWRITEBYTECODE"] = "1"
-        return subprocess.run(words, cwd=HERE, env=environment, timeout=SECONDS).returncode == 0
+        environment.update(PYTHONDONTWRITEBYTECODE="1", STORKLOCKER_MODULES=modules)
+        ran = subprocess.run(words, cwd=HERE, env=environment, timeout=SECONDS)
+        left = sorted(Path(marks).iterdir())
+        for mark in left:
+            print(f"{name}: a mark: {mark.name}", mark.read_text()[:2000] if mark.is_file() else "")
+        return ran.returncode == 0 and not left
 
 
 def main():
-    passed = failed = 0
+    passed = failed = skipped = 0
+    if is_missing("storklocker._storklocker"):
+        print(f"{sys.executable} doesn't find the package: python/make builds its module")
+        print("0 passed, 1 failed")
+        return 1
     for path in sorted(HERE.glob("test_*.py")):
         missing = missing_for(path.stem)
         if missing:
-            print(f"{path.stem}: skipped, not installed: {', '.join(missing)}", flush=True)
+            print(f"skipped: {path.stem}: not installed: {', '.join(missing)}", flush=True)
+            skipped += 1
             continue
         began = time.monotonic()
         good = run(path.stem)
         passed, failed = passed + good, failed + (not good)
         word = "passed" if good else "FAILED"
         print(f"{path.stem}: {word}, {time.monotonic() - began:.1f} s", flush=True)
-    print(f"{passed} passed, {failed} failed")
-    return 1 if failed or not passed else 0
+    print(f"{passed} passed, {failed} failed, {skipped} skipped")
+    return 1 if failed else 0
 
 
 if __name__ == "__main__":

@@ -3,9 +3,22 @@
 import pickle
 
 import common
+import poison
+import watching
 
 NEEDS = ("dask", "distributed")
 COUNT, EACH = 100_000, 2000
+
+
+class Watched(type(common.guard())):
+    """A guard that is watched, in whichever process it loads."""
+
+    __slots__ = ()
+
+    def loads(self, data, /, **named):
+        """`Guard.loads`, which marks what the list doesn't permit."""
+        with watching.during(self.allow):
+            return super().loads(data, **named)
 
 
 def entry(number):
@@ -23,7 +36,8 @@ def run():
     from storklocker.contrib.dask import check_bag, load_bag
 
     try_spark()
-    guard = common.guard()
+    try_table()
+    guard = Watched(common.guard().allow)
     with LocalCluster(
         n_workers=2, threads_per_worker=1, host="127.0.0.1", dashboard_address=None
     ) as cluster, Client(cluster):
@@ -41,10 +55,12 @@ def run():
 
 def judged(rows, each, shapes):
     """Just the hostile pickles of these shapes are refused, each by its reason."""
-    refused = {row.key: row.why for row in rows if not row.accepted}
+    refused = {row.key: row for row in rows if not row.accepted}
     wanted = {at * each: common.SAID[at % 5] for at in range(common.HOSTILE) if at % 5 in shapes}
     assert refused.keys() == wanted.keys(), (len(refused), len(wanted))
-    assert all(wanted[key] in why for key, why in refused.items()), refused
+    assert all(wanted[key] in row.why for key, row in refused.items()), refused
+    names = {0: (("posix", "system"),), each: (("tripwire", "Trip"),)}
+    assert all(refused[key].missing == missing for key, missing in names.items())
 
 
 def try_spark():
@@ -55,7 +71,27 @@ def try_spark():
     good = [it for it in range(21 * common.HOSTILE) if it % 21]
     pairs += [(it, pickle.dumps(common.good(it), 4)) for it in good]
     for make, shapes in ((check_rows, range(4)), (load_rows, range(5))):
-        rows = list(pickle.loads(pickle.dumps(make(common.guard())))(iter(pairs)))
+        rows = list(pickle.loads(pickle.dumps(make(Watched(common.guard().allow))))(iter(pairs)))
         assert [row.key for row in rows] == [key for key, _ in pairs]
         judged(rows, 21, shapes)
     assert [row.value for row in rows[common.HOSTILE :]] == [common.good(it) for it in good]
+
+
+def try_table():
+    """One round of rows names every import that a list lacks."""
+    import dask.bag
+
+    import storklocker
+    from storklocker.contrib.dask import check_bag, load_bag
+
+    with common.table() as table:
+        bag = dask.bag.from_sequence
+        table.runs_all(lambda data: bag([data]).map(pickle.loads).compute(scheduler="sync"))
+    pairs = list(poison.shapes(common.MARKS).items())
+    bag = dask.bag.from_sequence(pairs)
+    guard = Watched(common.guard().allow)
+    for make in (check_bag, load_bag):
+        rows = make(bag, guard).compute(scheduler="sync")
+        assert len(rows) == len(pairs) and not any(row.accepted for row in rows)
+        allow = storklocker.AllowList([it for row in rows for it in row.missing if it.module])
+        assert not any(storklocker.missing(data, allow) for _, data in pairs)

@@ -7,6 +7,10 @@ import time
 import zlib
 
 import common
+import poison
+import watching
+
+import storklocker
 
 NEEDS = ("django", "django_redis", "redis", "$redis-server")
 KINDS = {
@@ -15,17 +19,42 @@ KINDS = {
     "database": "DatabaseCache",
     "redis": "RedisCache",
 }
+PLAIN = {
+    "memory": "django.core.cache.backends.locmem.LocMemCache",
+    "files": "django.core.cache.backends.filebased.FileBasedCache",
+    "database": "django.core.cache.backends.db.DatabaseCache",
+    "redis": "django_redis.cache.RedisCache",
+}
 GUARDS = {kind: common.guard() for kind in KINDS}
 GUARD = common.guard()
+TOLD = []
+HEARD = common.guard(TOLD.append)
+REPORTING = storklocker.Guard(storklocker.AllowList(common.LISTED), enforce=False)
+TABLE = poison.shapes(common.MARKS)
 
 
 def run():
     """The test."""
     with tempfile.TemporaryDirectory() as folder, common.redis_server(folder) as port:
         caches = configured(folder, port)
-        for kind, guard in GUARDS.items():
-            try_cache(caches[kind], WRITERS[kind](caches[kind]), guard)
-        expiry_is_guarded(caches["files"])
+        for kind in KINDS:
+            with common.table() as table:
+                table.runs_all(reader(caches[f"plain {kind}"], kind))
+        with common.table() as table:
+            table.runs_all(lambda data: caches["plain files"].get(expiring(caches, data)))
+        with common.table() as table:
+            table.runs_all(read_session)
+        # (the one name that a guard reports and loads)
+        watching.watch([*common.LISTED, ("storklocker._limits", "limits_of")], [folder])
+        with common.log() as log:
+            for kind, guard in GUARDS.items():
+                try_cache(caches[kind], WRITERS[kind](caches[kind]), guard)
+                try_table(caches[kind], WRITERS[kind](caches[kind]), log)
+                try_told(caches[f"heard {kind}"], WRITERS[kind](caches[f"heard {kind}"]), log)
+            expiry_is_guarded(caches["files"])
+            try_report_only(caches["reporting"], log)
+            try_sessions(log)
+        try_check_on_set(caches["checking"])
         caches["default"].set("good", common.good(1))
         assert caches["default"].get("good") == common.good(1) and GUARD.counts.accepted == 1
         common.nothing_ran()
@@ -37,23 +66,137 @@ def configured(folder, port):
     from django.conf import settings
     from django.core.management import call_command
 
-    places = {"files": folder, "redis": f"redis://127.0.0.1:{port}/3"}
-    made = {
-        kind: {
-            "BACKEND": f"storklocker.contrib.django.{name}",
-            "LOCATION": places.get(kind, kind),
-            "OPTIONS": {"GUARD": GUARDS[kind], "FORGET": True, "MAX_ENTRIES": 10**6},
-        }
-        for kind, name in KINDS.items()
-    }
-    named = {**made["memory"], "OPTIONS": {"GUARD": "test_django.GUARD"}}
-    database = {"ENGINE": "django.db.backends.sqlite3", "NAME": ":memory:"}
-    settings.configure(CACHES={"default": named, **made}, DATABASES={"default": database})
+    made = caches_of("", "storklocker.contrib.django", GUARDS, folder, port)
+    heard = caches_of("heard ", "storklocker.contrib.django", dict.fromkeys(KINDS, HEARD), folder,
+                      port)
+    plain = caches_of("plain ", None, {}, folder, port)
+    memory = made["memory"]
+
+    def with_options(**options):
+        return {**memory, "LOCATION": str(options), "OPTIONS": options}
+
+    settings.configure(
+        CACHES={
+            "default": with_options(GUARD="test_django.GUARD"),
+            "reporting": with_options(GUARD=REPORTING),
+            "checking": with_options(GUARD=common.guard(), CHECK_ON_SET=True),
+            **made, **heard, **plain,
+        },
+        DATABASES={"default": {"ENGINE": "django.db.backends.sqlite3", "NAME": ":memory:"}},
+        SECRET_KEY="for the test",
+    )
     django.setup()
     from django.core.cache import caches
 
     call_command("createcachetable", verbosity=0)
     return caches
+
+
+def caches_of(front, module, guards, folder, port):
+    """The settings of a cache of each kind, with the guard or without."""
+    places = {"files": f"{folder}/{front}", "redis": f"redis://127.0.0.1:{port}/{3 + len(front)}"}
+    made = {}
+    for kind, name in KINDS.items():
+        backend = f"{module}.{name}" if module else PLAIN[kind]
+        options = {"GUARD": guards[kind], "FORGET": True} if module else {}
+        made[front + kind] = {
+            "BACKEND": backend,
+            "LOCATION": places.get(kind, f"{front}{kind}".replace(" ", "_")),
+            "OPTIONS": {**options, "MAX_ENTRIES": 10**6},
+        }
+    return made
+
+
+def reader(cache, kind):
+    """What a cache gives after a stranger wrote the bytes of an entry."""
+    write = WRITERS[kind](cache)
+
+    def read(data):
+        cache.set("bad", 1)
+        write("bad", data)
+        return cache.get("bad")
+
+    return read
+
+
+def expiring(caches, data):
+    """The key of a file whose expiry is this pickle."""
+    cache = caches["plain files"]
+    cache.set("x", 1)
+    with open(cache._key_to_file("x"), "wb") as file:
+        file.write(data + zlib.compress(pickle.dumps(1)))
+    return "x"
+
+
+def read_session(data, serializer=None):
+    """What Django gives for a session that a stranger wrote who knows the secret key."""
+    from django.contrib.sessions.serializers import PickleSerializer
+    from django.core import signing
+
+    class Raw:
+        def dumps(self, value):
+            return value
+
+    text = signing.dumps(data, serializer=Raw, salt="s")
+    return signing.loads(text, serializer=serializer or PickleSerializer, salt="s")
+
+
+def try_table(cache, write, log):
+    """Each pickle of the table is a miss, alone and among others; one line of log for a key."""
+    log.clear()
+    for name, data in TABLE.items():
+        for ask in (cache.get, cache.has_key, cache.touch, lambda key: cache.get_many([key])):
+            cache.set(name, 1)
+            write(name, data)
+            assert not ask(name)
+    for name in TABLE:
+        assert len([line for line in log if line.startswith(f"Cache entry {name!r} ")]) == 1, log
+
+
+def try_told(cache, write, log):
+    """The hook hears of each entry once, by its key, and the log is silent."""
+    log.clear()
+    TOLD.clear()
+    cache.set("good", 1)
+    for name, data in TABLE.items():
+        cache.set(name, [1])
+        write(name, data)
+    assert cache.get_many([*TABLE, "good"]) == {"good": 1}
+    assert sorted(refusal.context for refusal in TOLD) == sorted(TABLE)
+    for name, data in TABLE.items():
+        cache.set(name, [1])
+        write(name, data)
+        assert cache.get(name) is None and TOLD[-1].context == name
+    assert len(TOLD) == 2 * len(TABLE) and not log, log
+
+
+def try_report_only(cache, log):
+    """A guard without a hook that doesn't enforce is heard in the log."""
+    log.clear()
+    value = storklocker.Limits()
+    cache.set("k", value)
+    assert cache.get("k") == value and "'k'" in log[0] and len(log) == 1, log
+
+
+def try_check_on_set(cache):
+    """What wouldn't be loaded is told of when it is stored."""
+    cache.set("good", common.good(1))
+    for store in (cache.set, cache.add):
+        said = common.raises(lambda: store("bad", storklocker.Limits()))
+        assert "ImportOffList" in said and "bad" not in cache
+
+
+def try_sessions(log):
+    """A refused session is empty."""
+    from storklocker.contrib.django import session_serializer
+
+    serializer = session_serializer(common.guard())
+    log.clear()
+    for data in [*TABLE.values(), pickle.dumps([1])]:
+        assert read_session(data, serializer) == {}
+    assert len(log) == 1 and "session" in log[0], log
+    session = {"user": 1, "since": common.good(1)["when"]}
+    assert serializer().loads(serializer().dumps(session)) == session
 
 
 def write_memory(cache):
@@ -91,8 +234,9 @@ def write_database(cache):
         from django.db import connection
 
         words = [base64.b64encode(data).decode(), cache.make_key(key)]
+        table = cache._table
         with connection.cursor() as cursor:
-            cursor.execute("UPDATE database SET value = %s WHERE cache_key = %s", words)
+            cursor.execute(f"UPDATE {table} SET value = %s WHERE cache_key = %s", words)
 
     return write
 

@@ -96,7 +96,9 @@ class Verdict(namedtuple("Verdict", "accepted taken imports at reason number pai
     taken: int
     """If accepted: the number of bytes, up to and including STOP."""
     imports: int
-    """If accepted: the number of imports."""
+    """If accepted: the number of imports. If refused: 0, but in the Refused that `imports` raises
+    the number of those before `at`.
+    """
     at: int
     """If refused: the offset of the refused instruction."""
     reason: "Optional[Reason]"
@@ -112,6 +114,10 @@ class Verdict(namedtuple("Verdict", "accepted taken imports at reason number pai
     _asked: "Tuple[Any, ...]" = ()
     """The arguments of the check, if it refused an import; `missing` needs them."""
     _missing: "Optional[Tuple[Import, ...]]" = None
+    missing_is_cut: bool = False
+    """Whether `missing` leaves some out, because the names take more than 64 MiB. Known once
+    `missing` was accessed.
+    """
 
     def __new__(
         cls,
@@ -136,21 +142,25 @@ class Verdict(namedtuple("Verdict", "accepted taken imports at reason number pai
     def missing(self) -> "Tuple[Import, ...]":
         """Each import off the list, once, in order. Found on first access, in one pass.
 
-        It contains only `pair` if no list makes the pickle acceptable, for a row of pickles, and in
-        a copy that was made before the first access.
+        If no list makes the pickle acceptable, these are the imports before its fault. It contains
+        only `pair` for a row of pickles, and in a copy that was made before the first access. Of
+        names of more than 64 MiB it contains the first ones, and `missing_is_cut` is then true.
         """
         asked = self._asked
         if self._missing is None:
             from ._imports import Import, missing_of
 
-            found = tuple(missing_of(*asked)) if asked else ()
-            self._missing = found or (() if self.pair is None else (Import(*self.pair),))
+            found, self.missing_is_cut = missing_of(*asked) if asked else ([], False)
+            own = () if self.pair is None else (Import(*self.pair),)
+            self._missing = tuple(found) or own
             self._asked = ()
         return self._missing
 
     def __getstate__(self) -> "Optional[Dict[str, Any]]":
         # A copy keeps the imports that were found, but not the bytes.
-        return {"_missing": self._missing} if self._missing else None
+        if not self._missing:
+            return None
+        return {"_missing": self._missing, "missing_is_cut": self.missing_is_cut}
 
     def line(self, most: "Optional[int]" = None) -> str:
         """The program's line. With `most`, a longer name is cut after that many bytes, followed by
@@ -260,17 +270,29 @@ class MoreBytes(Refused):
         return self.verdict.taken
 
 
+class Misused(pickle.UnpicklingError):
+    """An accepted pickle uses a listed name as no pickler does, so its load was stopped."""
+
+    is_told = False
+    """Whether a guard's `on_refusal` has heard of it."""
+
+
 class ListFault(ValueError):
-    """A text is not a list file. `fault` is the program's name for the reason, such as
-    `Shape(Imports)`.
+    """A text is not a list file.
+
+    `fault` is the program's name for the reason, such as `Shape(Imports)`. `file` is the name of
+    the file, `line` the line of the fault, counted from 1, and `hint` says what to write there.
+    They are empty or 0 where they aren't known. `str` gives the program's line, and these.
     """
 
-    def __init__(self, fault: str) -> None:
-        super().__init__(fault)
-        self.fault = fault
+    def __init__(self, fault: str, file: str = "", line: int = 0, hint: str = "") -> None:
+        super().__init__(fault, file, line, hint)
+        self.fault, self.file, self.line, self.hint = fault, file, line, hint
 
     def __str__(self) -> str:
-        return f"list: {self.fault}"
+        where = [self.file] * bool(self.file) + [f"line {self.line}"] * bool(self.line)
+        more = ": ".join([", ".join(where)] * bool(where) + [self.hint] * bool(self.hint))
+        return f"list: {self.fault}" + (f" ({more})" if more else "")
 
 
 @functools.lru_cache(maxsize=None)

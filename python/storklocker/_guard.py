@@ -4,22 +4,24 @@ import functools
 import pickle
 
 from . import _names
-from ._answers import MoreBytes, Refused, Verdict
-from ._limits import Limits, flag
-from ._lists import AllowList, settings_of
-from ._storklocker import verdict
+from ._answers import Refused, Verdict
+from ._limits import Limits, flag, number
+from ._lists import AllowList, has_substitutes, settings_of
+from ._storklocker import Loads, begin_loads, verdict
 
 TYPE_CHECKING = False
 if TYPE_CHECKING:
-    from typing import Any, Callable, ContextManager, Iterable, Optional, Tuple, Type
+    import os
+    from typing import Any, Callable, ContextManager, Iterable, Optional, Tuple, Type, Union
 
     from ._refusal import Refusal
     from ._unpickler import GuardedUnpickler
 
+MAX_BYTES = 1 << 30
+"""The default of a guard's `max_bytes`."""
 ASYNC_FROM = 1 << 16
 """The least size in bytes for which `loads_async` uses a thread."""
 
-_FRONT = 4096
 _loads = pickle.loads
 
 
@@ -44,6 +46,8 @@ def loads(
         guard = _plain_guard(allow)
     else:
         guard = Guard(allow, limits=limits, old_strings=old_strings, fix_imports=fix_imports)
+    if encoding is None and errors is None and buffers is None:
+        return guard.loads(data)
     return guard.loads(data, encoding=encoding, errors=errors, buffers=buffers)
 
 
@@ -65,18 +69,6 @@ def _later(module: str) -> "Any":
     return import_module(f"{__package__}.{module}")
 
 
-def _hint(pair: "Optional[Tuple[str, str]]", allow: AllowList, fix_imports: bool) -> str:
-    """The hint for a pair that Python 3 has renamed."""
-    if pair is None or fix_imports or pair[0] not in _names.RENAMED:
-        return ""
-    new = _names.renamed(pair)
-    if new == pair or not (new in allow or pair in allow):
-        return ""
-    named = ".".join(new)
-    listed = "which is listed" if new in allow else "which is to be listed"
-    return f"Python 3 calls it {named}, {listed}: fix_imports=True"
-
-
 def _view_of(data: "Any") -> memoryview:
     try:
         return memoryview(data)
@@ -84,7 +76,7 @@ def _view_of(data: "Any") -> memoryview:
         raise TypeError(f"data must be bytes or another buffer, not {type(data)!r}") from None
 
 
-class Guard:
+class Guard(Loads):
     """A replacement for the module `pickle` that loads only what a proved checker has accepted.
 
         guard = storklocker.Guard(storklocker.AllowList({"collections": ["OrderedDict"]}))
@@ -108,6 +100,8 @@ class Guard:
         replaces Refused.
     enforce: False reports a refusal to `on_refusal` and LOADS THE PICKLE ANYWAY. Use it to find out
         what a list is missing.
+    max_bytes: the most bytes that a `load` reads of one pickle; a longer one is refused as
+        TooLarge. The default is 1 GiB.
     """
 
     PickleError = pickle.PickleError
@@ -129,11 +123,14 @@ class Guard:
         "_fix_imports",
         "_on_refusal",
         "_enforce",
+        "_max_bytes",
         "_is_plain",
+        "_has_substitutes",
         "_new",
         "_old",
         "_unpickler",
-        "__weakref__",
+        # (PyPy gives the base class one)
+        *(() if hasattr(Loads, "__weakref__") else ("__weakref__",)),
     )
 
     def __init__(
@@ -145,6 +142,7 @@ class Guard:
         fix_imports: bool = False,
         on_refusal: "Optional[Callable[[Refusal], Any]]" = None,
         enforce: bool = True,
+        max_bytes: int = MAX_BYTES,
     ) -> None:
         settings = settings_of(allow, limits, old_strings)
         if on_refusal is not None and not callable(on_refusal):
@@ -155,10 +153,41 @@ class Guard:
         self._fix_imports = flag("fix_imports", fix_imports)
         self._on_refusal = on_refusal
         self._enforce = flag("enforce", enforce)
-        self._is_plain = not fix_imports and old_strings != "bytes"
+        self._max_bytes = number("max_bytes", max_bytes)
+        _later("_meant").require(allow)
+        self._has_substitutes = has_substitutes(allow)
+        is_plain = not fix_imports and old_strings != "bytes"
+        self._is_plain = is_plain and not self._has_substitutes
         self._new = allow._for_loading()._under(settings)
         self._old = allow._for_old_names()._under(settings) if fix_imports else self._new
         self._unpickler: Optional[Type[GuardedUnpickler]] = None
+        begin_loads(self, self._new if self._is_plain else None, _loads)
+
+    @classmethod
+    def from_file(
+        cls,
+        file: "Union[str, os.PathLike[str]]",
+        *,
+        reload: "Optional[float]" = None,
+        **settings: "Any",
+    ) -> "Guard":
+        """The guard of a list file, with these settings. Raises what `AllowList.from_file` raises.
+
+        reload: a load that comes so many seconds after the last look, or later, looks whether the
+            file has changed, by its time, size and inode. A new list applies from that load on,
+            also if it lacks names. A broken file changes nothing, and is logged once.
+        """
+        made: Guard = _later("_reloading").guard_of(cls, file, reload, settings)
+        return made
+
+    def learning(self, file: "Union[str, os.PathLike[str]]", *, enforce: bool = False) -> "Guard":
+        """The same guard, which writes the names that its list lacks into a file, one JSON object a
+        line, for `storklocker learn --from-log`. Many processes may share the file.
+
+        Unless `enforce` is true, the guard LOADS WHAT IT REFUSES: use it where no stranger writes.
+        """
+        hook = _later("_learning").Learner(file, getattr(self, "_hook", self._on_refusal))
+        return self._like(on_refusal=hook, enforce=enforce)
 
     @property
     def allow(self) -> AllowList:
@@ -174,20 +203,10 @@ class Guard:
         return f"Guard({self._allow!r})"
 
     def __reduce__(self) -> "Tuple[Any, ...]":
-        return (
-            _guard_of,
-            (
-                type(self),
-                self._allow,
-                self._limits,
-                self._old_strings,
-                self._fix_imports,
-                self._on_refusal,
-                self._enforce,
-            ),
-        )
+        settings = [getattr(self, f"_{name}") for name in _SETTINGS]
+        return (_guard_of, (type(self), self._allow, *settings))
 
-    def loads(
+    def _loads(
         self,
         data: "Any",
         /,
@@ -197,23 +216,23 @@ class Guard:
         errors: "Optional[str]" = None,
         buffers: "Optional[Iterable[Any]]" = None,
     ) -> "Any":
-        """The object of the pickle in `data`, which must contain nothing else.
-
-        `data` is bytes or a buffer, which is copied first. Raises Refused, MoreBytes if more bytes
-        follow the pickle, and otherwise what `pickle.loads` raises.
-        """
+        """`loads` of what isn't bytes, or otherwise not plain."""
         if type(data) is not bytes:
             data = self._copied(data)
-        listed = self._listed_for(data) if self._fix_imports else self._new
-        no = listed._refusal(data)
+        no = self._listed_for(data)._refusal(data)
         if no is not None:
             if self._enforce:
                 raise self._told(no, data)  # a variable of it would make a cycle with this frame
             self._told(no, data)
-        if self._is_plain and encoding is None and errors is None and buffers is None:
-            return _loads(data, fix_imports=False)
         encoding, errors = self._decoding(encoding, errors)
         return self._loaded(data, encoding, errors, buffers)
+
+    def _loads_refused(self, data: bytes, no: Verdict) -> "Any":
+        """`loads` of a plain pickle that is refused."""
+        if self._enforce:
+            raise self._told(no, data)
+        self._told(no, data)
+        return _loads(data, fix_imports=False)
 
     def load(
         self,
@@ -243,7 +262,6 @@ class Guard:
             return self.loads(data, **named)
         import asyncio
         import contextvars
-        import functools
 
         call = functools.partial(contextvars.copy_context().run, self.loads, data, **named)
         return await asyncio.get_running_loop().run_in_executor(None, call)
@@ -256,10 +274,9 @@ class Guard:
     def Unpickler(self) -> "Type[GuardedUnpickler]":
         """The guarded replacement for `pickle.Unpickler`. It can be subclassed."""
         if self._unpickler is None:
-            from ._unpickler import GuardedUnpickler, OldUnpickler
+            from ._unpickler import kind_of
 
-            kind = OldUnpickler if self._fix_imports else GuardedUnpickler
-            self._unpickler = type("Unpickler", (kind,), {"guard": self, "__module__": __name__})
+            self._unpickler = kind_of(self, self._has_substitutes)
         return self._unpickler
 
     @staticmethod
@@ -269,8 +286,7 @@ class Guard:
         return held
 
     def _has_old_names(self, data: bytes) -> bool:
-        """Whether the pickle uses the names of Python 2, which follows from its first instruction.
-        """
+        """Whether the pickle uses names of Python 2, as its first instruction decides."""
         return self._fix_imports and _names.are_old(data)
 
     def _listed_for(self, data: bytes) -> AllowList:
@@ -295,21 +311,15 @@ class Guard:
             )
         return (held, "strict")
 
-    def _told(self, verdict: Verdict, data: bytes, length: int = 0) -> Refused:
-        """Reports a refusal to `on_refusal`, and returns its exception. `length` is the number of
-        bytes of the input if `data` is only its front.
-        """
-        if self._on_refusal is not None:
-            told = _later("_refusal")
-            self._on_refusal(told.Refusal(verdict, data, told.CONTEXT.get(), self._enforce))
-        if verdict.accepted:
-            return MoreBytes(verdict, length or len(data))
-        return Refused(verdict, _hint(verdict.pair, self._allow, self._fix_imports))
+    def _told(self, verdict: Verdict, data: bytes, length: int = 0, start: int = 0) -> Refused:
+        """Reports a refusal to `on_refusal`, and returns its exception."""
+        refused: Refused = _later("_telling").told(self, verdict, data, length, start)
+        return refused
 
-    def _refuse(self, verdict: Verdict, data: bytes) -> None:
+    def _refuse(self, verdict: Verdict, data: bytes, start: int = 0) -> None:
         """Reports a refusal, and raises it unless it isn't enforced."""
         if self._enforce:
-            raise self._told(verdict, data)
+            raise self._told(verdict, data, start=start)
         self._told(verdict, data)
 
     def _refusal_of(self, data: bytes) -> "Optional[Refused]":
@@ -319,56 +329,71 @@ class Guard:
         return None if verdict is None else self._told(verdict, data)
 
     def _copied(self, data: "Any") -> bytes:
-        """A copy of a buffer as bytes. Checks the front of a long buffer before copying all of it.
-        """
-        view = _view_of(data)
-        if view.nbytes > 2 * _FRONT and view.c_contiguous:
-            from ._reasons import Reason
+        """A copy of a buffer as bytes."""
+        copied: bytes = _later("_reading").copied(self, _view_of(data))
+        return copied
 
-            front = bytes(pickle.PickleBuffer(data).raw()[:_FRONT])
-            verdict = self._judge(front)
-            if verdict.reason is not Reason.Truncated and self._enforce:
-                raise self._told(verdict, front, view.nbytes)
-        return bytes(view)
+    def _like(self, **changed: "Any") -> "Guard":
+        """The same guard with other settings."""
+        settings = {name: getattr(self, f"_{name}") for name in ("allow", *_SETTINGS)}
+        return type(self)(**{**settings, **changed})
+
+    def _now(self) -> "Guard":
+        """The guard that has the list as it is now, for all that one load asks."""
+        return self
+
+    def _admitted(self, admit: "Callable[[], int]") -> int:
+        """Has an Unpickler check its next pickle."""
+        return admit()
+
+    def _loads_front(
+        self,
+        data: "Any",
+        encoding: "Optional[str]",
+        errors: "Optional[str]",
+        buffers: "Optional[Iterable[Any]]",
+    ) -> "Any":
+        """The object of the pickle at the front of `data`. What follows it is ignored, as `pickle`
+        does.
+        """
+        if type(data) is not bytes:
+            data = bytes(_view_of(data))
+        no = self._listed_for(data)._refusal(data)
+        if no is not None and not no.accepted:
+            self._refuse(no, data, 0)
+        encoding, errors = self._decoding(encoding, errors)
+        return self._loaded(data, encoding, errors, buffers)
+
+    def _for_children(self) -> "Guard":
+        """The guard for another process: without its hook if that can't be pickled."""
+        try:
+            pickle.dumps(self._on_refusal)
+        except Exception:
+            return self._like(on_refusal=None)
+        return self
 
     def _next_in(self, file: "Any") -> "Optional[bytes]":
-        """Bytes that begin with the next pickle of a file, which is accepted. None if only an
-        Unpickler can read it.
-        """
-        found: Optional[Tuple[bytes, Verdict]] = _later("_reading").next_pickle(file, self._judge)
-        if found is None:
-            return None
-        data, verdict = found
-        if not data:
-            raise EOFError("Ran out of input")
-        if not verdict:
-            raise self._told(verdict, data)
+        """Bytes that begin with the next, accepted pickle; None if an Unpickler has to read it."""
+        data: Optional[bytes] = _later("_reading").next_in(self, file)
         return data
 
     def _loaded(
         self, data: bytes, encoding: str, errors: str, buffers: "Optional[Iterable[Any]]"
     ) -> "Any":
         """The object of an accepted pickle, with its imports under the names that were checked."""
+        if self._has_substitutes:
+            loads: Any = _later("_substitutes").loads
+            is_old, own = self._has_old_names(data), self._allow
+            with _later("_telling").Misuses(self, data):
+                return loads(data, own, is_old, encoding=encoding, errors=errors, buffers=buffers)
         read: Any = _loads
         if self._has_old_names(data):
             from ._unpickler import loads_renaming as read
         return read(data, fix_imports=False, encoding=encoding, errors=errors, buffers=buffers)
 
 
-def _guard_of(
-    kind: "Type[Guard]",
-    allow: AllowList,
-    limits: "Optional[Limits]",
-    old_strings: str,
-    fix_imports: bool,
-    on_refusal: "Optional[Callable[[Refusal], Any]]",
-    enforce: bool,
-) -> Guard:
-    return kind(
-        allow,
-        limits=limits,
-        old_strings=old_strings,
-        fix_imports=fix_imports,
-        on_refusal=on_refusal,
-        enforce=enforce,
-    )
+_SETTINGS = ("limits", "old_strings", "fix_imports", "on_refusal", "enforce", "max_bytes")
+
+
+def _guard_of(kind: "Type[Guard]", allow: AllowList, *settings: "Any") -> Guard:
+    return kind(allow, **dict(zip(_SETTINGS, settings)))

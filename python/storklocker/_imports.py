@@ -3,13 +3,14 @@
 from __future__ import annotations
 
 from ._answers import Refused
-from ._lists import AllowList, records, settings_of, with_room
+from ._lists import STANDARD, AllowList, records, settings_of, with_room
 from ._storklocker import imports as _imports
+from ._storklocker import verdict
 
 TYPE_CHECKING = False
 if TYPE_CHECKING:
     from collections import namedtuple
-    from typing import Iterable, List, Optional, Tuple
+    from typing import Dict, Iterable, Iterator, List, Optional, Tuple
 
     from ._answers import Verdict
     from ._limits import Limits
@@ -17,6 +18,10 @@ if TYPE_CHECKING:
 else:
     from ._answers import namedtuple
 
+MOST_NAMES = 1 << 26
+"""The most bytes of names that are reported of a pickle."""
+
+_FEW = 10
 _NOTHING = AllowList([])
 
 
@@ -42,7 +47,10 @@ def imports(
     """
     verdict, room = imports_of(data, _NOTHING, limits, old_strings)
     if not verdict:
-        raise Refused(verdict)
+        from ._hints import hint_of
+
+        hint = hint_of(verdict, lambda at, count: data[at : at + count], limits or STANDARD)
+        raise Refused(verdict, hint)
     return imports_in(records(room))
 
 
@@ -54,38 +62,60 @@ def missing(
     old_strings: str = "unknown",
 ) -> List[Import]:
     """The imports of the pickle that the list doesn't permit, each once. The limits of the list
-    apply. Empty if no list makes the pickle acceptable.
+    apply. If no list makes the pickle acceptable, only those before its fault. If all names take
+    more than 64 MiB, these are only the first of them, as `Verdict.missing_is_cut` says of a
+    verdict.
     """
-    return missing_of(data, allow, settings_of(allow, limits, old_strings))
+    return missing_of(data, allow, settings_of(allow, limits, old_strings))[0]
 
 
 def imports_of(
     data: bytes, allow: AllowList, limits: Optional[Limits], old_strings: str
 ) -> Tuple[Verdict, bytes]:
     """Checks a pickle, permitting every import. The limits of the list apply. Returns the Verdict
-    and the encoded imports.
+    and the encoded imports; of a refused pickle, those of the instructions before `at`.
     """
-    return _imports_under(data, allow, settings_of(allow, limits, old_strings))
-
-
-def _imports_under(
-    data: bytes, allow: AllowList, settings: Optional[bytes]
-) -> Tuple[Verdict, bytes]:
+    settings = settings_of(allow, limits, old_strings)
     (verdict,), room = with_room(lambda size: _imports(data, allow, settings, size))
     return verdict, room
 
 
-def missing_of(data: bytes, allow: AllowList, settings: Optional[bytes]) -> List[Import]:
-    """The imports that the list doesn't permit, each once."""
-    _, room = _imports_under(data, allow, settings)
-    return imports_in(it for it in dict.fromkeys(records(room)) if not allow._has(it))
+def missing_of(
+    data: bytes, allow: AllowList, settings: Optional[bytes]
+) -> Tuple[List[Import], bool]:
+    """The imports that the list doesn't permit, each once, and whether some are left out."""
+    try:
+        _, room = with_room(lambda size: _imports(data, allow, settings, size), MOST_NAMES)
+    except MemoryError:
+        return imports_in(_first_missing(data, allow, settings)), True
+    found = dict.fromkeys(it for it in records(room) if not allow._has(it))
+    return imports_in(found), False
+
+
+def _first_missing(data: bytes, allow: AllowList, settings: Optional[bytes]) -> Iterator[Names]:
+    """The first few imports that the list doesn't permit, within `MOST_NAMES` bytes of names. Each
+    takes a check under a longer list.
+    """
+    listed, room = allow, MOST_NAMES
+    own = settings if settings is not None else settings_of(allow, None, "unknown")
+    for _ in range(_FEW):
+        pair = verdict(data, listed, own).pair
+        room -= 0 if pair is None else len(pair[0]) + len(pair[1])
+        if pair is None or room < 0:
+            return
+        names = (pair[0].encode(), pair[1].encode())
+        listed = listed._of((*listed._pairs, names), listed.limits)
+        yield names
 
 
 def imports_in(names: Iterable[Names]) -> List[Import]:
-    """The imports with these names."""
+    """The imports with these names. A text that comes again is kept once."""
+    texts: Dict[bytes, str] = {}
+
+    def text(name: bytes) -> str:
+        return texts.get(name) or texts.setdefault(name, name.decode())
+
     return [
-        Import(None, None)
-        if module is None or name is None
-        else Import(module.decode(), name.decode())
+        Import(None, None) if module is None or name is None else Import(text(module), text(name))
         for module, name in names
     ]

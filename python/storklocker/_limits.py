@@ -12,7 +12,10 @@ else:
     from ._answers import namedtuple
 
 UNBOUND = (1 << 32) - 1
-"""The greatest memo number."""
+"""The greatest memo number, and the greatest limit for large data."""
+
+_USUAL: "Any" = ...
+"""In place of a limit: its default, which depends on `large`."""
 
 OLD_STRINGS = ("unknown", "ascii", "bytes")
 """How Python 2 strings may be decoded; the index is the number in storklocker.h."""
@@ -33,7 +36,8 @@ class Limits(namedtuple("Limits", "counted stack memo passed numbers large")):
     numbers: the greatest memo number; default 1,000,000, greatest 4,294,967,295. CPython allocates
         16 bytes for each number up to the greatest one used, so 7 bytes of a pickle could make the
         loading process allocate 64 GB.
-    large: raises the greatest value of counted, stack and memo to 4,294,967,295.
+    large: as `large = true` in a list file, makes 4,294,967,295 the default and the greatest value
+        of counted, stack and memo.
     """
 
     __slots__ = ()
@@ -48,21 +52,22 @@ class Limits(namedtuple("Limits", "counted stack memo passed numbers large")):
     def __new__(
         cls,
         *,
-        counted: int = 16_777_216,
-        stack: int = 1_000_000,
-        memo: int = 1_000_000,
+        counted: int = _USUAL,
+        stack: int = _USUAL,
+        memo: int = _USUAL,
         passed: int = 16_777_216,
         numbers: int = 1_000_000,
         large: bool = False,
     ) -> "Limits":
+        many, few = (UNBOUND, UNBOUND) if flag("large", large) else (16_777_216, 1_000_000)
         return super().__new__(
             cls,
-            _limit("counted", counted),
-            _limit("stack", stack),
-            _limit("memo", memo),
-            _limit("passed", passed),
-            _limit("numbers", numbers),
-            flag("large", large),
+            number("counted", many if counted is _USUAL else counted),
+            number("stack", few if stack is _USUAL else stack),
+            number("memo", few if memo is _USUAL else memo),
+            number("passed", passed),
+            number("numbers", numbers),
+            large,
         )
 
     def __reduce__(self) -> "Tuple[Any, ...]":
@@ -76,12 +81,13 @@ def flag(name: str, given: bool) -> bool:
     return given
 
 
-def _limit(name: str, number: int) -> int:
-    if not hasattr(number, "__index__"):
-        raise TypeError(f"{name} must be a whole number, not {number!r:.80}")
-    if not 0 <= operator.index(number) < 1 << 64:
-        raise ValueError(f"{name} must be a number from 0 to 2 ** 64 - 1, not {number!r:.80}")
-    return int(number)
+def number(name: str, given: int) -> int:
+    """An argument that must be a number of 64 bits."""
+    if not hasattr(given, "__index__"):
+        raise TypeError(f"{name} must be a whole number, not {given!r:.80}")
+    if not 0 <= operator.index(given) < 1 << 64:
+        raise ValueError(f"{name} must be a number from 0 to 2 ** 64 - 1, not {given!r:.80}")
+    return int(given)
 
 
 def limits_of(counted: int, stack: int, memo: int, passed: int, numbers: int, large: int) -> Limits:

@@ -2,21 +2,31 @@
 
 import functools
 import os
+from types import MappingProxyType
 
 from . import _names
 from ._answers import LIST_FAULTS, ListFault
-from ._limits import OLD_STRINGS, UNBOUND, Limits, limits_of, packed
+from ._limits import OLD_STRINGS, Limits, limits_of, packed
 from ._storklocker import Pairs as _Pairs
-from ._storklocker import read_list
+from ._storklocker import pairs_of, read_list
 
 TYPE_CHECKING = False
 if TYPE_CHECKING:
     from typing import Any, Callable, Iterable, Iterator, List, Mapping, Optional, Tuple
     from typing import Type, Union
 
+    from ._meant import Meant
+    from ._substitute import Substitute
+
     Pair = Tuple[str, str]
+    Item = Union[Pair, type, Callable[..., Any]]
     Names = Tuple[Optional[bytes], Optional[bytes]]
 
+SUBSTITUTED = (
+    *(("builtins", "bytes"), ("builtins", "bytearray")),
+    *(("copyreg", "_reconstructor"), ("_codecs", "encode")),
+)
+"""The pairs of the standard library that are always loaded through substitutes."""
 _MOST = 1 << 30
 """The most bytes for the names in a list or in the imports of a pickle."""
 
@@ -27,24 +37,53 @@ class AllowList(_Pairs):
     """The pairs of a module and a name that a pickle may import. Immutable.
 
         AllowList([("collections", "OrderedDict"), ("a.b", "C")])
+        AllowList([Order, Color, resize])
         AllowList({"collections": ["OrderedDict", "deque"], "datetime": ["datetime"]})
         AllowList.from_file("list.toml")
 
     It supports iteration in order, `in`, `len`, `|`, `==` and `hash`. It can be copied, pickled and
     shared by threads. Lookup takes logarithmic time, so a long list costs little. `limits` are
-    those of its list file, which apply to every check under it; None for a list made from pairs.
+    those of its list file, which apply to every check under it; None if that names none, and for a
+    list made from pairs.
 
-    A pair permits only itself: `("os", "path")` doesn't permit `("os", "path.join")`.
+    A pair permits only itself: `("os", "path")` doesn't permit `("os", "path.join")`. A class or a
+    function stands for the pair by which a pickle names it. The pair of one in a class, such as
+    `Shop.Color`, has a name with dots, which pickles of protocol 4 and later use. What else their
+    objects need, `storklocker.imports` of a pickle says.
+
+    substitutes: what a guard loads in place of some of the pairs: see `storklocker.substitutes`.
+    dangerous: pairs or dotted names that permit everything, such as "builtins.getattr", and are
+        meant. A guard accepts no list with one that has no substitute and isn't named here.
     """
 
-    __slots__ = ("_limits", "_loaded", "_fixed", "_guard", "__weakref__")
+    # (PyPy gives the base class a `__weakref__`)
+    __slots__ = (
+        *("_limits", "_loaded", "_fixed", "_guard", "_meant"),
+        *(() if hasattr(_Pairs, "__weakref__") else ("__weakref__",)),
+    )
     _limits: "Optional[Limits]"
     _loaded: "Optional[AllowList]"
     _fixed: "Optional[AllowList]"
     _guard: "Any"
+    _meant: "Optional[Meant]"
 
-    def __new__(cls, pairs: "Union[Iterable[Pair], Mapping[str, Iterable[str]]]") -> "AllowList":
-        return cls._of(_encoded(pairs), None)
+    def __new__(
+        cls,
+        pairs: "Union[Iterable[Item], Mapping[str, Iterable[str]]]",
+        *,
+        substitutes: "Mapping[Any, Substitute]" = MappingProxyType({}),
+        dangerous: "Iterable[Union[str, Pair]]" = (),
+    ) -> "AllowList":
+        return cls._saying(cls._of(_encoded(pairs), None), substitutes, dangerous)
+
+    @classmethod
+    def _saying(cls, made: "AllowList", substitutes: "Any", dangerous: "Any") -> "AllowList":
+        """The list, which also says this of its names."""
+        if substitutes or dangerous:
+            from ._meant import meant_of
+
+            made._meant = meant_of(made, substitutes, dangerous)
+        return made
 
     @classmethod
     def _of(
@@ -54,38 +93,62 @@ class AllowList(_Pairs):
         settings: "Optional[bytes]" = None,
     ) -> "AllowList":
         own = packed(STANDARD if limits is None else limits, "unknown", False)
-        made = super().__new__(cls, tuple(sorted(set(pairs))), settings or own)
+        made = pairs_of(cls, tuple(sorted(set(pairs))), settings or own)
         made._limits = limits
-        made._loaded = made._fixed = made._guard = None
+        made._loaded = made._fixed = made._guard = made._meant = None
         return made
 
     @classmethod
     def from_text(cls, text: "Union[str, bytes]") -> "AllowList":
-        """Parses the text of a list file. Raises ListFault if it is not one.
+        """Parses the text of a list file. Raises ListFault if it is not one, and ValueError if its
+        section `[substitutes]` has a name that isn't listed.
 
         If its limits leave out `numbers`, the limit of `STANDARD` applies.
         """
         if not isinstance(text, (str, bytes, bytearray)):
             raise TypeError(f"the text of a list file must be str or bytes, not {type(text)!r}")
         data = _bytes_of(text) if isinstance(text, str) else bytes(text)
+        said: "Tuple[Any, Any]" = ({}, ())
+        if b"substitutes" in data:
+            from ._sections import split
+
+            data, said = split(data)
         (fault, numbers), room = with_room(lambda size: read_list(data, size))
         if fault != 0:
-            words = LIST_FAULTS[fault]
-            raise MemoryError() if words == "OutOfMemory" else ListFault(words)
-        limits = limits_of(*numbers)
-        if limits.numbers == UNBOUND:
-            limits = limits._replace(numbers=STANDARD.numbers)
-        return cls._of(((module or b"", name or b"") for module, name in records(room)), limits)
+            raise _fault_of(data, LIST_FAULTS[fault])
+        pairs = ((module or b"", name or b"") for module, name in records(room))
+        limits = limits_of(*numbers) if _has_limits(data) else None
+        return cls._saying(cls._of(pairs, limits), *said)
 
     @classmethod
     def from_file(cls, file: "Union[str, os.PathLike[str]]") -> "AllowList":
         """Reads a list file. Raises ListFault if it is not one, and OSError if reading fails."""
-        with open(os.fspath(file), "rb") as opened:
-            return cls.from_text(opened.read())
+        name = os.fspath(file)
+        with open(name, "rb") as opened:
+            text = opened.read()
+        try:
+            return cls.from_text(text)
+        except ListFault as fault:
+            raise ListFault(fault.fault, os.fsdecode(name), fault.line, fault.hint) from None
+
+    def to_text(self) -> str:
+        """The text of a list file that reads back as this list: sorted, and always the same.
+
+        Raises ValueError if it has a substitute that no list file can name.
+        """
+        from ._writing import text_of
+
+        return text_of(self)
+
+    def to_file(self, file: "Union[str, os.PathLike[str]]") -> None:
+        """Writes the list file, whole or not at all. A file that is there keeps its mode."""
+        from ._writing import replace, text_of
+
+        replace(file, text_of(self))
 
     @property
     def limits(self) -> "Optional[Limits]":
-        """The limits of its list file; None for a list made from pairs."""
+        """The limits of its list file; None if there are none."""
         return self._limits
 
     def __iter__(self) -> "Iterator[Pair]":
@@ -115,12 +178,18 @@ class AllowList(_Pairs):
         """The union of the pairs, under the limits of both."""
         if not isinstance(other, AllowList):
             return NotImplemented
-        return type(self)._of(self._pairs + other._pairs, _within(self._limits, other._limits))
+        made = type(self)._of(self._pairs + other._pairs, within(self._limits, other._limits))
+        if self._meant or other._meant:
+            from ._meant import both
+
+            made._meant = both(self, other)
+        return made
 
     def __eq__(self, other: object) -> bool:
         if not isinstance(other, AllowList):
             return NotImplemented
-        return self._pairs == other._pairs and self._limits == other._limits
+        mine, its = (self._limits, self._meant), (other._limits, other._meant)
+        return self._pairs == other._pairs and mine == its
 
     def __hash__(self) -> int:
         return hash((self._pairs, self._limits))
@@ -133,7 +202,8 @@ class AllowList(_Pairs):
         return f"AllowList([{', '.join(shown)}]){limits}"
 
     def __reduce__(self) -> "Tuple[Any, ...]":
-        return (_list_of, (type(self), self._pairs, self._limits))
+        said = () if self._meant is None else tuple(self._meant)
+        return (_list_of, (type(self), self._pairs, self._limits, *said))
 
     def _under(self, settings: bytes) -> "AllowList":
         """The list with these settings for the calls that name none."""
@@ -161,14 +231,49 @@ class AllowList(_Pairs):
         return self._of(left, self._limits)
 
 
+def _fault_of(text: bytes, fault: str) -> Exception:
+    """The error for a text that is no list file."""
+    if fault == "OutOfMemory":
+        return MemoryError()
+    from ._places import place_of
+
+    return ListFault(fault, "", *place_of(text, fault))
+
+
+def _has_limits(text: bytes) -> bool:
+    """Whether a list file has the table `limits`: TOML permits no second one."""
+    (fault, _), _ = with_room(lambda size: read_list(text + b"\n[limits]\n", size))
+    return bool(LIST_FAULTS.get(fault) == "Syntax")
+
+
+def has_substitutes(allow: AllowList) -> bool:
+    """Whether a list has a name that is loaded through a substitute, which any of NumPy may be."""
+    from bisect import bisect_left
+
+    pairs = allow._pairs
+    if allow._meant is not None and allow._meant.substitutes:
+        return True
+    if any(pair in allow for pair in SUBSTITUTED):
+        return True
+    for front in (b"numpy", b"numpy."):
+        at = bisect_left(pairs, (front, b""))
+        if at < len(pairs) and (pairs[at][0] == b"numpy" or pairs[at][0][:6] == b"numpy."):
+            return True
+    return False
+
+
 def _list_of(
-    kind: "Type[AllowList]", pairs: "Tuple[Tuple[bytes, bytes], ...]", limits: "Optional[Limits]"
+    kind: "Type[AllowList]",
+    pairs: "Tuple[Tuple[bytes, bytes], ...]",
+    limits: "Optional[Limits]",
+    *said: "Any",
 ) -> AllowList:
-    return kind._of(pairs, limits)
+    return kind._saying(kind._of(pairs, limits), *(said or ({}, ())))
 
 
 @functools.lru_cache(maxsize=64)
-def _within(one: "Optional[Limits]", other: "Optional[Limits]") -> "Optional[Limits]":
+def within(one: "Optional[Limits]", other: "Optional[Limits]") -> "Optional[Limits]":
+    """The limits that apply where both do, each of them or None."""
     if one is None or other is None:
         return one or other
     return limits_of(*(min(mine, its) for mine, its in zip(one, other)))
@@ -208,28 +313,38 @@ def _pairs_in(given: "Any") -> "Iterator[Any]":
 
 
 def _encoded(given: "Any") -> "Iterator[Tuple[bytes, bytes]]":
-    if isinstance(given, (str, bytes)) or not hasattr(given, "__iter__"):
+    if isinstance(given, (str, bytes, type)) or not hasattr(given, "__iter__"):
         raise TypeError(
             f"an AllowList takes pairs, or a mapping of modules to names, not {given!r:.80}"
         )
     for words, pair in _pairs_in(given):
         if not _is_pair(pair):
-            raise TypeError(f"{words} must be two strings, a module and a name, not {pair!r:.80}")
+            from ._objects import KINDS, pair_of
+
+            if not isinstance(pair, KINDS):
+                raise TypeError(
+                    f"{words} must be two strings, a module and a name, or a class or a function,"
+                    f" not {pair!r:.80}"
+                )
+            pair = pair_of(pair)
         if not (pair[0] and pair[1]):
             raise ValueError(f"{words} has an empty module or name: {pair!r:.80}")
         yield (pair[0].encode(), pair[1].encode())
 
 
-def with_room(call: "Callable[[int], Tuple[Any, ...]]") -> "Tuple[Any, bytes]":
+def with_room(
+    call: "Callable[[int], Tuple[Any, ...]]", most: int = _MOST
+) -> "Tuple[Any, bytes]":
     """Calls with growing room until the answer fits. Returns the answer and the bytes in the room.
+    Raises MemoryError if it doesn't fit into `most` bytes.
     """
     size = 4096
     while True:
         *said, wanted, room = call(size)
         if wanted <= size:
             return said, room[:wanted]
-        if wanted > _MOST:
-            raise MemoryError(f"the names take {wanted} bytes, which is more than 2 ** 30")
+        if wanted > most:
+            raise MemoryError(f"the names take {wanted} bytes, which is more than {most}")
         size = wanted
 
 
@@ -243,7 +358,7 @@ def settings_of(
         raise TypeError(f"limits must be a storklocker.Limits or None, not {type(limits)!r}")
     if old_strings not in OLD_STRINGS:
         raise ValueError(f"old_strings must be 'unknown', 'ascii' or 'bytes', not {old_strings!r}")
-    return packed(_within(limits, allow._limits) or STANDARD, old_strings, keeps_memo)
+    return packed(within(limits, allow._limits) or STANDARD, old_strings, keeps_memo)
 
 
 def records(room: bytes) -> "Iterator[Names]":

@@ -6,7 +6,7 @@ import sys
 
 TYPE_CHECKING = False
 if TYPE_CHECKING:
-    from typing import Dict, Iterator, List, Tuple
+    from typing import Container, Dict, Iterator, List, Tuple
 
     Pair = Tuple[str, str]
 
@@ -48,6 +48,16 @@ def old_names(pair: "Pair") -> "Iterator[Pair]":
     for module in (pair[0], *modules.get(pair[0], ())):
         if renamed((module, pair[1])) == pair and (module, pair[1]) not in tables.NAME_MAPPING:
             yield (module, pair[1])
+
+
+def hint_of(pair: "Pair", allow: "Container[Pair]") -> str:
+    """The hint for a refused pair that Python 3 has renamed."""
+    new = renamed(pair) if pair[0] in RENAMED else pair
+    if new == pair or not (new in allow or pair in allow):
+        return ""
+    named = ".".join(new)
+    listed = "which is listed" if new in allow else "which is to be listed"
+    return f"Python 3 calls it {named}, {listed}: fix_imports=True"
 
 
 def is_lost(pair: "Pair") -> bool:

@@ -3,6 +3,7 @@
 from __future__ import annotations
 
 import io
+import pickle
 
 from ._reasons import Reason
 
@@ -11,9 +12,11 @@ if TYPE_CHECKING:
     from typing import Any, Callable, Optional, Tuple
 
     from ._answers import Verdict
+    from ._guard import Guard
 
 FIRST_BLOCK = 1 << 14
 """The size of the first block."""
+_FRONT = 4096
 
 
 def block_of(read: Callable[..., Any], count: int) -> bytes:
@@ -27,6 +30,16 @@ def block_of(read: Callable[..., Any], count: int) -> bytes:
     if isinstance(given, (bytes, bytearray, memoryview)):
         return bytes(given)
     raise TypeError(f"the file must be open in binary mode: it returned {type(given)!r}")
+
+
+def copied(guard: Guard, view: memoryview) -> bytes:
+    """A copy of a buffer as bytes. Checks the front of a long buffer before copying all of it."""
+    if view.nbytes > 2 * _FRONT and view.c_contiguous and view.ndim == 1:
+        front = bytes(pickle.PickleBuffer(view).raw()[:_FRONT])
+        verdict = guard._judge(front)
+        if verdict.reason is not Reason.Truncated and guard._enforce:
+            raise guard._told(verdict, front, view.nbytes)
+    return bytes(view)
 
 
 def can_step_back(file: Any) -> bool:
@@ -43,17 +56,33 @@ def can_step_back(file: Any) -> bool:
         return False
 
 
+def next_in(guard: Guard, file: Any) -> Optional[bytes]:
+    """Bytes that begin with the next pickle of a file, which the guard accepts. None if the file
+    can't step back.
+    """
+    found = next_pickle(file, guard._max_bytes, guard._judge)
+    if found is None:
+        return None
+    data, verdict = found
+    if not data:
+        raise EOFError("Ran out of input")
+    if not verdict:
+        raise guard._told(verdict, data)
+    return data
+
+
 def next_pickle(
-    file: Any, judged: Callable[[bytes], Verdict]
+    file: Any, most: int, judged: Callable[[bytes], Verdict]
 ) -> Optional[Tuple[bytes, Verdict]]:
     """The bytes of a file that begin with its next pickle, and the verdict on them. Leaves the file
-    right after the pickle, or where it was if the pickle is refused. None if it can't step back.
+    right after the pickle, or where it was if the pickle is refused. Reads no more than `most`
+    bytes of it. None if the file can't step back.
     """
     seen = b""
     if type(file) is io.BufferedReader:
         seen = file.peek()
         verdict = judged(seen)
-        if verdict:
+        if verdict and verdict.taken <= most:
             file.read(verdict.taken)  # all of it is in the buffer
             return seen, verdict
     if not can_step_back(file):
@@ -61,14 +90,23 @@ def next_pickle(
     place, data = file.tell(), b""
     size = len(seen) + _size_after(len(seen))
     while True:
-        more = block_of(file.read, size)
+        more = block_of(file.read, max(0, min(size, most - len(data))))
         data += more
         verdict = judged(data)
         if verdict.reason is not Reason.Truncated or not more:
             break
         size = _size_after(len(data))
     file.seek(place + verdict.taken)
-    return data, verdict
+    return data, too_long(verdict, len(data), most)
+
+
+def too_long(verdict: Verdict, length: int, most: int) -> Verdict:
+    """The verdict, if the pickle has `length` bytes or more and no more than `most` are permitted.
+    """
+    if length > most or length == most and verdict.reason is Reason.Truncated:
+        refused: Verdict = verdict._replace(accepted=False, reason=Reason.TooLarge)
+        return refused
+    return verdict
 
 
 def _size_after(length: int) -> int:

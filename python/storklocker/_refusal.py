@@ -23,15 +23,20 @@ class Refusal:
     missing: `missing` of the verdict.
     context: the value of `context` around the call.
     enforced: False if the pickle is loaded in spite of the refusal.
+    misused: what the pickle does with a listed name as no pickler does, if the load of an accepted
+        pickle was stopped for that, by `Misused`; otherwise an empty text.
     """
 
-    __slots__ = ("verdict", "size", "context", "enforced", "_data", "_sha256")
+    __slots__ = ("verdict", "size", "context", "enforced", "misused", "_data", "_sha256")
 
-    def __init__(self, verdict: Verdict, data: bytes, context: Any, enforced: bool) -> None:
+    def __init__(
+        self, verdict: Verdict, data: bytes, context: Any, enforced: bool, misused: str = ""
+    ) -> None:
         self.verdict = verdict
         self.size = len(data)
         self.context = context
         self.enforced = enforced
+        self.misused = misused
         self._data, self._sha256 = data, ""
 
     @property
@@ -45,23 +50,24 @@ class Refusal:
 
     @property
     def missing(self) -> Tuple[Import, ...]:
-        """The imports off the list."""
+        """The imports off the list; `verdict.missing_is_cut` says whether some are left out."""
         return self.verdict.missing
 
     def __repr__(self) -> str:
-        return f"Refusal({self.verdict.line(64)!r}, size={self.size}, context={self.context!r})"
+        why = self.misused or self.verdict.line(64)
+        return f"Refusal({why!r}, size={self.size}, context={self.context!r})"
 
     def __reduce__(self) -> Tuple[Any, ...]:
         self.missing  # makes the verdict keep it
-        words = (self.verdict, self.size, self.sha256, self.context, self.enforced)
-        return (_refusal_of, words)
+        words = (self.verdict, self.context, self.enforced, self.misused)
+        return (_refusal_of, (*words, self.size, self.sha256))
 
 
 def _refusal_of(
-    verdict: Verdict, size: int, sha256: str, context: Any, enforced: bool
+    verdict: Verdict, context: Any, enforced: bool, misused: str, *sums: Any
 ) -> Refusal:
-    made = Refusal(verdict, b"", context, enforced)
-    made.size, made._sha256 = size, sha256
+    made = Refusal(verdict, b"", context, enforced, misused)
+    made.size, made._sha256 = sums
     return made
 
 

@@ -1,4 +1,4 @@
-from typing import Optional, Tuple, Type, TypeVar
+from typing import Any, Callable, Dict, Iterable, List, Optional, Tuple, Type, TypeVar
 
 from ._answers import RowVerdict, Verdict
 
@@ -8,9 +8,36 @@ version: str
 
 class Pairs:
     _pairs: Tuple[Tuple[bytes, bytes], ...]
-    def __new__(cls: Type[_P], pairs: Tuple[Tuple[bytes, bytes], ...], settings: bytes) -> _P: ...
     def _refusal(self, data: bytes, /) -> Optional[Verdict]: ...
 
+class Loads:
+    def loads(
+        self,
+        data: Any,
+        /,
+        *,
+        fix_imports: Optional[bool] = None,
+        encoding: Optional[str] = None,
+        errors: Optional[str] = None,
+        buffers: Optional[Iterable[Any]] = None,
+    ) -> Any: ...
+
+def begin_loads(guard: Loads, allow: Optional[Pairs], loads: Callable[..., Any], /) -> None: ...
+def pairs_of(
+    kind: Type[_P], pairs: Tuple[Tuple[bytes, bytes], ...], settings: bytes, /
+) -> _P: ...
+def walked(data: bytes, start: int, /) -> Tuple[int, bool]: ...
+def followed(
+    data: bytes,
+    start: int,
+    stack: List[Any],
+    memo: Dict[int, Any],
+    other: Any,
+    mark: Any,
+    dicts: Type[Any],
+    /,
+) -> Tuple[int, int]: ...
+def respelled(data: bytes, start: int, /) -> Tuple[Optional[bytes], int, int]: ...
 def verdict(data: bytes, allow: Pairs, settings: Optional[bytes]) -> Verdict: ...
 def row_verdict(data: bytes, allow: Pairs, settings: Optional[bytes]) -> RowVerdict: ...
 def imports(

@@ -4,15 +4,19 @@ from __future__ import annotations
 
 import io
 import pickle
+import sys
 import threading
-from typing import TYPE_CHECKING, Any, Dict, Iterable, Optional, Set
+import weakref
+from typing import TYPE_CHECKING, Any, Dict, Iterable, Optional, Set, Type
 
 from . import _names
 from ._answers import Verdict
 from ._checking import check_row
-from ._reading import FIRST_BLOCK, block_of, can_step_back
+from ._reading import FIRST_BLOCK, block_of, can_step_back, too_long
 from ._reasons import Reason
-from ._storklocker import verdict
+from ._storklocker import verdict, walked
+from ._substitutes import Feed, Reader
+from ._telling import Misuses
 from ._walking import Walk
 
 if TYPE_CHECKING:
@@ -35,20 +39,19 @@ def loads_renaming(data: bytes, **named: Any) -> Any:
     return _Renaming(io.BytesIO(data), **named).load()
 
 
-PEEKED = 4096  # the bytes that are shown ahead where the end of the pickle isn't known
+PEEKED = 1 << 17
+_IS_PYTHON = not hasattr(pickle.Unpickler, "memo")
+"""Whether the superclass is written in Python, as under PyPy, where its memo is an attribute."""
 
 
 class _Feed(io.BytesIO):
-    """The file of the superclass: bytes that were accepted. `end` is the end of the pickle, if
-    known. The superclass takes nothing after its STOP, however much it is shown.
-    """
+    """The file of the superclass: bytes that were accepted. It is shown none after `end`."""
 
     end = 0
 
     def peek(self, count: int = 0, /) -> bytes:
         at = self.tell()
-        end = self.end if at < self.end else at + PEEKED
-        return self.getvalue()[at : min(at + count, end)]
+        return self.getvalue()[at : min(at + PEEKED, self.end)]
 
 
 class GuardedUnpickler(pickle.Unpickler):
@@ -80,6 +83,7 @@ class GuardedUnpickler(pickle.Unpickler):
         super().__init__(feed, fix_imports=False, encoding=encoding, errors=errors, buffers=buffers)
         self._feed, self._file = feed, file
         self._steps_back = steps_back
+        self._most = self.guard._max_bytes if self.guard._enforce else sys.maxsize
         self._lock = threading.Lock()
         self._is_spent = False
         self._bytes = b""  # all pickles loaded so far, and what was read ahead
@@ -102,32 +106,61 @@ class GuardedUnpickler(pickle.Unpickler):
         finally:
             self._lock.release()
 
-    def _load(self, feed: _Feed) -> Any:
+    if not _IS_PYTHON:
+
+        @property
+        def memo(self) -> Dict[int, Any]:
+            """A copy of the memo. The memo itself can't be changed: the check is of what it holds.
+            """
+            own: Any = super()
+            copied: Dict[int, Any] = own.memo.copy()
+            return copied
+
+    def admit(self) -> bytes:
+        """The next pickle in the file, for another reader. The file is left behind it."""
+        end = self._admitted_end()
+        data = self._bytes[self._taken : end]
+        self._taken = end
+        self._pickles += 1
+        self._put_back()
+        return data
+
+    def _admitted_end(self) -> int:
+        """The offset of the end of the next pickle, which is accepted."""
         if self._is_spent:
             raise pickle.UnpicklingError("a load of this Unpickler failed: create a new one")
         self._find_place()
         try:
-            end = self._admitted()
+            return self.guard._admitted(self._admitted)
         except BaseException:  # also an interrupt: the next `load` starts from the same byte
             self._put_back()
             raise
-        feed.__init__(self._bytes)  # type: ignore[misc]
-        feed.seek(self._taken)
-        feed.end = end
+
+    def _load(self, feed: _Feed) -> Any:
+        end = self._admitted_end()
         self._is_spent = True
         try:
-            loaded = super().load()
+            loaded = self._loaded(feed, end)
             self._is_spent = False
         finally:
-            self._taken = max(end, feed.tell())
+            self._taken = end
             self._pickles += 1
             self._put_back()
         return loaded
 
+    def _loaded(self, feed: _Feed, end: int) -> Any:
+        """The object of the accepted pickle that ends there."""
+        self._show(feed, end)
+        return super().load()
+
+    def _show(self, feed: _Feed, end: int) -> None:
+        """Has the feed give the bytes of the accepted pickle that ends there."""
+        feed.__init__(self._bytes)  # type: ignore[misc]
+        feed.seek(self._taken)
+        feed.end = end
+
     def _admitted(self) -> int:
-        """Reads until the next pickle is accepted. Returns the offset of its end, or of its start
-        if the end isn't known.
-        """
+        """Reads until the next pickle is accepted. Returns the offset of its end."""
         if self._steps_back and len(self._bytes) == self._taken:
             self._read_on()
         elif not self._steps_back:
@@ -136,18 +169,20 @@ class GuardedUnpickler(pickle.Unpickler):
             raise EOFError("Ran out of input")
         self._kinds.add(self.guard._has_old_names(self._bytes[self._taken : self._taken + 2]))
         verdict = self._judged()
-        while not verdict and verdict.reason is Reason.Truncated and self._read_on():
+        while verdict.reason is Reason.Truncated and self._read_on():
             verdict = self._judged()
+        end, _ = walked(self._bytes, self._taken)
+        verdict = too_long(verdict, end - self._taken, self.guard._max_bytes)
         if verdict:
-            return verdict.taken if self._pickles == 0 else self._taken
+            return end
         self._put_back()
         guard, data = self.guard, self._bytes[self._taken :]
         if self._pickles:  # lets `missing` check the pickle on its own, not as part of the row
             verdict._asked = (data, guard._listed_for(data), None)
-        guard._refuse(verdict, data)
+        guard._refuse(verdict, data, self._taken)
         while self._read_on():  # not enforced: everything is loaded
             pass
-        return self._taken
+        return walked(self._bytes, self._taken)[0]
 
     def _judged(self) -> Verdict:
         """Checks the next pickle under each list that applies, up to the first refusal."""
@@ -188,14 +223,15 @@ class GuardedUnpickler(pickle.Unpickler):
         """Reads a block, doubling what was read. Returns False at the end of the file."""
         if not self._steps_back or self._shift is None:
             return False
+        room = self._most - (len(self._bytes) - self._taken)
         self._file.seek(self._shift + len(self._bytes))
-        block = block_of(self._file.read, max(FIRST_BLOCK, len(self._bytes)))
+        block = block_of(self._file.read, min(room, max(FIRST_BLOCK, len(self._bytes))))
         self._bytes += block
         return bool(block)
 
     def _walk(self) -> None:
         """Reads exactly the next pickle from a file that can't seek back."""
-        walk = Walk(self._file, self._is_hopeless)
+        walk = Walk(self._file, self._most, self._is_hopeless)
         self._bytes += walk.taken()
 
     def _is_hopeless(self, data: bytes) -> bool:
@@ -205,6 +241,49 @@ class GuardedUnpickler(pickle.Unpickler):
         return not verdict and verdict.reason is not Reason.Truncated
 
 
+class _Inner(Reader):
+    """Reads what another Unpickler has admitted, and asks it for classes and persistent objects."""
+
+    def __init__(self, outer: SubstitutingUnpickler, **named: Any) -> None:
+        self.feed = Feed()
+        super().__init__(self.feed, outer.guard._allow, **named)
+        self._outer = weakref.ref(outer)
+
+    def find_class(self, module: str, name: str, /) -> Any:
+        outer: Any = self._outer()
+        return outer.find_class(module, name)
+
+    def persistent(self, number: Any) -> Any:
+        load = getattr(self._outer(), "persistent_load", None)
+        return super().persistent(number) if load is None else load(number)
+
+
+class SubstitutingUnpickler(GuardedUnpickler):
+    """`GuardedUnpickler` for a list with names that have substitutes."""
+
+    def __init__(self, file: Any, *, buffers: Optional[Iterable[Any]] = None, **named: Any) -> None:
+        super().__init__(file, buffers=buffers, **named)
+        named.pop("fix_imports", None)
+        words = ("encoding", "errors")
+        encoding, errors = self.guard._decoding(*(named.get(word) for word in words))
+        self._reader = _Inner(self, encoding=encoding, errors=errors, buffers=buffers)
+
+    if not _IS_PYTHON:
+
+        @property
+        def memo(self) -> Dict[int, Any]:
+            """A copy of the memo."""
+            return self._reader.copied_memo()
+
+    def find_class(self, module: str, name: str, /) -> Any:
+        return Reader.find_class(self._reader, module, name)
+
+    def _loaded(self, feed: _Feed, end: int) -> Any:
+        self._reader.feed.fill(self._bytes, self._taken)
+        with Misuses(self.guard, self._bytes[self._taken : end]):
+            return self._reader.load()
+
+
 class OldUnpickler(GuardedUnpickler):
     """`GuardedUnpickler` with `fix_imports`."""
 
@@ -212,3 +291,11 @@ class OldUnpickler(GuardedUnpickler):
         if _names.are_old(self._bytes[self._taken : self._taken + 2]):
             module, name = _names.renamed((module, name))
         return super().find_class(module, name)
+
+
+def kind_of(guard: Guard, is_substituting: bool) -> Type[GuardedUnpickler]:
+    """The Unpickler of a guard."""
+    kind = SubstitutingUnpickler if is_substituting else GuardedUnpickler
+    kinds = (OldUnpickler, kind) if guard._fix_imports else (kind,)
+    words = {"guard": guard, "__module__": "storklocker._guard"}
+    return type("Unpickler", kinds, words)

@@ -11,14 +11,11 @@ from __future__ import annotations
 import os
 import threading
 import weakref
-from typing import TYPE_CHECKING, Any, Callable, Dict, Optional, Tuple, Type, cast
+from typing import Any, Callable, Dict, Optional, Tuple, cast
 
 from ._answers import Refused
 from ._guard import Guard
 from ._refusal import Refusal
-
-if TYPE_CHECKING:
-    from ._unpickler import GuardedUnpickler
 
 
 _all: "weakref.WeakSet[Counts]" = weakref.WeakSet()
@@ -50,7 +47,7 @@ class Counts:
     @property
     def refused(self) -> Dict[str, int]:
         """The number of refused pickles by the name of the reason; `MoreBytes` if more bytes
-        followed.
+        followed; `Misused` if the load of an accepted one was stopped.
         """
         with self._lock:
             return dict(self._refused)
@@ -61,9 +58,13 @@ class Counts:
             self._accepted += 1
 
     def refuse(self, refusal: Refusal) -> None:
-        """Counts a refused pickle. Can be the `on_refusal` of any guard."""
+        """Counts a refused pickle, or the misuse of an accepted one. Can be the `on_refusal` of any
+        guard.
+        """
         reason = refusal.verdict.reason
         name = "MoreBytes" if reason is None else reason.name
+        if refusal.misused:
+            name = "Misused"
         with self._lock:
             self._refused[name] = self._refused.get(name, 0) + 1
 
@@ -117,21 +118,16 @@ class CountingGuard(Guard):
             self.counts.accept()
         return data
 
-    @property
-    def Unpickler(self) -> "Type[GuardedUnpickler]":
-        """`Guard.Unpickler`, with each `load` counted."""
-        if self._unpickler is None:
-            plain: Any = super().Unpickler
+    def _like(self, **changed: Any) -> Guard:
+        made: Any = super()._like(**{"on_refusal": self._hook, **changed})
+        made.counts = self.counts
+        return cast(Guard, made)
 
-            class Counting(plain):  # type: ignore[misc]
-                def _admitted(self) -> int:
-                    self.guard._here.refused = False
-                    end: int = super()._admitted()
-                    self.guard._count()
-                    return end
-
-            self._unpickler = cast("Type[GuardedUnpickler]", Counting)
-        return self._unpickler
+    def _admitted(self, admit: Callable[[], int]) -> int:
+        self._here.refused = False
+        end = admit()
+        self._count()
+        return end
 
     def _count(self) -> None:
         """Counts a load as accepted unless it was refused, as enforce=False loads refused ones."""
@@ -139,7 +135,7 @@ class CountingGuard(Guard):
             self.counts.accept()
 
     def _hear(self, refusal: Refusal) -> None:
-        self._here.refused = True
+        self._here.refused = not refusal.misused
         self.counts.refuse(refusal)
         if self._hook is not None:
             self._hook(refusal)

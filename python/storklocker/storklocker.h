@@ -31,7 +31,7 @@
 extern "C" {
 #endif
 
-#define STORKLOCKER_VERSION "0.2.0"
+#define STORKLOCKER_VERSION "0.3.0.dev2"
 
 /* The version of the running library; STORKLOCKER_VERSION is the version of this header. */
 const char *storklocker_version(void);
@@ -59,8 +59,9 @@ enum storklocker_row_memo {
 };
 
 /* The settings of a check, with the standard value of each. A limit above its greatest value means
-   that value. The greatest value is the standard one, except 1,099,511,627,776 for `passed`, and
-   4,294,967,295 for `counted`, `stack` and `memo` if `large` is 1. */
+   that value. The greatest value is the standard one, except 1,099,511,627,776 for `passed`,
+   4,294,967,295 for `numbers`, and 4,294,967,295 for `counted`, `stack` and `memo` if `large` is
+   1. */
 struct storklocker_settings {
     uint64_t size;        /* sizeof(struct storklocker_settings), which tells the library what
                              fields the caller's header has. Later versions add fields at the end,
@@ -70,7 +71,7 @@ struct storklocker_settings {
     uint64_t memo;        /* memo entries; 1,000,000 */
     uint64_t passed;      /* bytes in a byte payload, which is skipped; 16,777,216 */
     uint64_t numbers;     /* the greatest memo number of PUT, BINPUT or LONG_BINPUT; CPython
-                             allocates a table up to it; 4,294,967,295 */
+                             allocates 16 bytes for each number up to it; 1,000,000 */
     uint32_t old_strings; /* one of enum storklocker_old_strings */
     uint32_t row_memo;    /* one of enum storklocker_row_memo; ignored for a single pickle */
     uint32_t large;       /* 1: limits may be those for large data; 0 */
@@ -83,7 +84,7 @@ struct storklocker_settings {
 };
 
 #define STORKLOCKER_STANDARD \
-    {sizeof(struct storklocker_settings), 16777216, 1000000, 1000000, 16777216, 4294967295, \
+    {sizeof(struct storklocker_settings), 16777216, 1000000, 1000000, 16777216, 1000000, \
      STORKLOCKER_OLD_UNKNOWN, STORKLOCKER_MEMO_FRESH, 0, 0}
 
 /* The answer of the checker. Fields that do not apply to its status are 0. */
@@ -94,7 +95,8 @@ struct storklocker_verdict {
     uint32_t has_pair;      /* 1 if the reason is ImportOffList, which has a pair */
     uint64_t at;            /* status 1: the offset of the refused instruction */
     uint64_t taken;         /* status 0: the number of accepted bytes, STOP included */
-    uint64_t imports;       /* status 0: the number of imports in them */
+    uint64_t imports;       /* status 0: the number of imports in them; status 1, if it is the
+                               answer of storklocker_imports: the number of those before `at` */
     uint64_t module_length; /* the lengths of the pair's module and name in bytes; both are at */
     uint64_t name_length;   /* the front of `room`, one after the other, if both fit */
     uint64_t pickles;       /* the number of accepted pickles; 1 for a single accepted pickle */
@@ -146,7 +148,13 @@ enum storklocker_fault {
     STORKLOCKER_LIST_SHAPE_LIMIT = 11
 };
 
-/* Each call returns the status, which is also in the verdict. */
+/* The name of a reason, such as "ImportOffList", or of a fault, such as "Shape(Imports)": static
+   text, as the program prints it, without the number or the pair that follows some reasons. Empty
+   for any other number. */
+const char *storklocker_reason_text(uint32_t reason);
+const char *storklocker_fault_text(uint32_t fault);
+
+/* Each call below returns the status, which is also in the verdict. */
 
 /* Checks the pickle at the front of the bytes under pairs. Bytes after its STOP are ignored. If the
    pairs are sorted by module and then by name, byte for byte, a listed pair is found in logarithmic
@@ -189,8 +197,9 @@ uint32_t storklocker_check_row(
 
 /* Reads the text of a list file, and returns STORKLOCKER_YES, or STORKLOCKER_NO_LIST with the
    fault. The pairs are in the byte order of their modules, and within a module in the order of its
-   array, repetitions included. `limits` receives the limits of the list; set its `size` before the
-   call. Its other fields receive their standard values. */
+   array, repetitions included. `limits` receives the limits of the list, and the standard value of
+   each that the list leaves out; set its `size` before the call. Its other fields receive their
+   standard values. */
 uint32_t storklocker_read_list(
     const uint8_t *list, size_t list_length,
     uint8_t *room, size_t room_length,
@@ -198,12 +207,14 @@ uint32_t storklocker_read_list(
     uint64_t *wanted,
     struct storklocker_verdict *verdict);
 
-/* Checks the pickle at the front of the bytes, permitting every import. If it is accepted, writes
-   its imports in order, each as often as it occurs. An import whose pair the pickle doesn't reveal
-   has UINT64_MAX for both lengths, and no bytes. Check `wanted` against a bound before you
-   allocate: a pickle of a megabyte may need gigabytes, because a text that it names a thousand
-   times is copied a thousand times. At any other status, `wanted` is 0. Never returns
-   STORKLOCKER_NO_LIST. */
+/* Checks the pickle at the front of the bytes, permitting every import, and writes its imports in
+   order, each as often as it occurs. If it is refused, they are those of the instructions before
+   `at`, which a reader may run before it fails: some run gets there, and each run that does has made
+   exactly these imports. EXT1, EXT2 and EXT4 import what the reader's registry says, so they are
+   refused, and only the reason tells of them. An import whose pair the pickle doesn't reveal has
+   UINT64_MAX for both lengths, and no bytes. Check `wanted` against a bound before you allocate: a
+   pickle of a megabyte may need gigabytes, because a text that it names a thousand times is copied a
+   thousand times. At STORKLOCKER_USAGE, `wanted` is 0. Never returns STORKLOCKER_NO_LIST. */
 uint32_t storklocker_imports(
     const struct storklocker_settings *settings,
     const uint8_t *pickle, size_t pickle_length,

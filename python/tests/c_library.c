@@ -111,6 +111,9 @@ static void settings(void) {
     IS(verdict.reason == STORKLOCKER_TRUNCATED && verdict.at == many);
     free(marks);
 
+    IS(CHECK(listed, NULL, "Nr\x40\x42\x0f\0.") == STORKLOCKER_YES);
+    IS(CHECK(listed, NULL, "Nr\x41\x42\x0f\0.") == STORKLOCKER_NO);
+    IS(verdict.reason == STORKLOCKER_TOO_LARGE && verdict.at == 1);
     given = standard;
     given.numbers = 999999;
     IS(CHECK(listed, &given, "Nr\x3f\x42\x0f\0.") == STORKLOCKER_YES);
@@ -147,6 +150,41 @@ static void rows(void) {
     IS(verdict.taken == 7 && verdict.pickles == 2);
 }
 
+/* The limit on memo numbers of a list file: the standard one unless the list names another. */
+static void numbers_of_lists(void) {
+    static const struct {
+        const char *text;
+        uint64_t numbers;
+    } lists[] = {
+        {"version = 1\n[imports]\n", 1000000},
+        {"version = 2\n[imports]\n", 1000000},
+        {"version = 2\n[imports]\nnumbers = ['Number']\n", 1000000},
+        {"version = 2\n[imports]\n-umbers = ['a']\nnumbers = ['b']\n[limits]\n", 1000000},
+        {"version = 2\n[imports]\n[limits]\n# numbers\nlarge = true\n", 1000000},
+        {"version = 2\n[imports]\n[limits]\nnumbers = 7\n", 7},
+        {"version = 2\n[imports]\n[limits]\nnumbers = 4_294_967_295\n", 4294967295},
+        {"version = 2\nlimits = {'numbers' = 0xffffffff}\nimports.numbers = []", 4294967295},
+        {"version = 2\nlimits.numbers = 4294967294\nimports.a = []", 4294967294},
+    };
+    for (size_t k = 0; k < sizeof lists / sizeof *lists; k++) {
+        struct storklocker_settings limits = {.size = sizeof limits};
+        const uint8_t *text = (const uint8_t *)lists[k].text;
+        size_t length = strlen(lists[k].text);
+        IS(storklocker_read_list(text, length, NULL, 0, &limits, NULL, NULL) == STORKLOCKER_YES);
+        if (limits.numbers != lists[k].numbers)
+            wrong((int)k, lists[k].text);
+    }
+}
+
+/* The texts of numbers. */
+static void texts(void) {
+    IS(strcmp(storklocker_reason_text(STORKLOCKER_IMPORT_OFF_LIST), "ImportOffList") == 0);
+    IS(strcmp(storklocker_reason_text(STORKLOCKER_NOT_ASCII), "NotAscii") == 0);
+    IS(strcmp(storklocker_fault_text(STORKLOCKER_LIST_SHAPE_LIMIT), "Shape(Limit)") == 0);
+    IS(storklocker_reason_text(0)[0] == 0 && storklocker_reason_text(20)[0] == 0);
+    IS(storklocker_fault_text(0)[0] == 0 && storklocker_fault_text(UINT32_MAX)[0] == 0);
+}
+
 /* What goes to the room fits to the byte, or the room stays as it was. */
 static void lists(size_t less) {
     static const char list[] = "version = 2\n[imports]\nos = ['path', 'fork']\na = ['b']\n"
@@ -180,7 +218,11 @@ static void imports(size_t less) {
     if (room == NULL)
         exit(2);
     IS(storklocker_imports(NULL, BYTES("ca\nb\nN2\x93."), room, length, &wanted, &verdict) == 1);
-    IS(verdict.reason == STORKLOCKER_NOT_TEXT && verdict.at == 7 && wanted == 0 && room[0] == 0);
+    IS(verdict.reason == STORKLOCKER_NOT_TEXT && verdict.at == 7 && verdict.has_pair == 0);
+    IS(wanted == 18 && verdict.imports == 1 && is_same(room, made, 18) && room[18] == 0);
+    memset(room, 0, length);
+    IS(storklocker_imports(NULL, BYTES("ca\nb\n\xff"), room, 17, &wanted, &verdict) == 1);
+    IS(wanted == 18 && verdict.imports == 1 && verdict.at == 5 && room[0] == 0);
     IS(storklocker_imports(NULL, BYTES("ca\nb\n)R2\x93."), room, length, &wanted, &verdict) == 0);
     IS(wanted == 34 && verdict.imports == 2 && verdict.taken == 10 && verdict.pickles == 1);
     IS(is_same(room, less ? "\0\0\0\0\0\0\0\0\0" : made, less ? 9 : length));
@@ -194,7 +236,7 @@ static uint32_t call(int number, struct storklocker_verdict *verdict) {
             listed, 2, NULL, BYTES("ca\nb\n.]q\1.(ca\nb\nt."), room, 64, verdict);
     if (number == 1)
         return storklocker_read_list(
-            BYTES("version = 1\n[imports]\na = ['b']\n"), room, 64, NULL, NULL, verdict);
+            BYTES("version = 1\n[imports]\nnumbers = ['b']\n"), room, 64, NULL, NULL, verdict);
     return storklocker_imports(NULL, BYTES("\x8c\1a\x8c\1b\x93."), room, 64, NULL, verdict);
 }
 
@@ -248,6 +290,8 @@ int main(void) {
     sizes();
     numbers();
     settings();
+    numbers_of_lists();
+    texts();
     rows();
     for (size_t less = 0; less < 2; less++) {
         lists(less);

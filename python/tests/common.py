@@ -2,11 +2,16 @@
 
 import collections
 import datetime
+import importlib.util
+import multiprocessing
 import os
 import pathlib
 import pickle
+import shutil
 import subprocess
 import sys
+import sysconfig
+import unittest
 
 import storklocker
 
@@ -14,9 +19,11 @@ ROOT = pathlib.Path(__file__).resolve().parents[2]
 PYTHON = ROOT / "python"
 PACKAGE = PYTHON / "storklocker"
 GUARD = ROOT / "crates" / "pkguard"
+INCLUDE = os.path.join(sysconfig.get_path("include"), "Python.h")
 ARCHIVE = os.environ.get("STORKLOCKER_ARCHIVE", str(GUARD / "out" / "libpkguard.a"))
 PROGRAM = os.environ.get("PKTOOL", str(ROOT / "pktool"))
 COMPILER = os.environ.get("CC", "cc")
+IMPORTED_FROM = pathlib.Path(storklocker.__file__).resolve().parents[1]
 
 LIST_TEXT = (
     b"version = 1\n[imports]\n" b'collections = ["OrderedDict", "deque"]\ndatetime = ["datetime"]\n'
@@ -37,6 +44,32 @@ OBJECTS = [
 SEEDS = [pickle.dumps(value, protocol) for value in OBJECTS for protocol in range(6)]
 
 
+def needs(*things):
+    """Skips a test where a program, a file, a module (`module:NAME`) or what several processes
+    share (`semaphores`) is missing.
+
+    The gate (STORKLOCKER_STRICT) has just built the archive: there it must not be missing.
+    """
+    wanted = [it for it in things if it != ARCHIVE or "STORKLOCKER_STRICT" not in os.environ]
+    missing = [it.rpartition(":")[2].rpartition("/")[2] for it in wanted if not _has(it)]
+    return unittest.skipIf(missing, f"there is no {', '.join(missing)}")
+
+
+def _has(thing):
+    if thing == "semaphores":
+        try:
+            return bool(multiprocessing.Semaphore())
+        except OSError:  # (/dev/shm isn't mounted)
+            return False
+    kind, _, name = thing.rpartition(":")
+    if kind == "module":
+        try:
+            return importlib.util.find_spec(name) is not None
+        except ModuleNotFoundError:
+            return False
+    return os.path.exists(thing) or shutil.which(thing.split()[0]) is not None
+
+
 def compiled(folder, source, *more):
     """A C program, built in a folder."""
     made = pathlib.Path(folder) / pathlib.Path(source).stem
@@ -47,7 +80,7 @@ def compiled(folder, source, *more):
 
 def python(code, *words, **environment):
     """What a fresh interpreter prints that runs some code."""
-    path = os.pathsep.join([str(PYTHON), str(pathlib.Path(__file__).parent)])
+    path = os.pathsep.join([str(IMPORTED_FROM), str(pathlib.Path(__file__).parent)])
     ran = subprocess.run(
         [sys.executable, *words, "-c", code],
         capture_output=True,

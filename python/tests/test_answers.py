@@ -30,7 +30,7 @@ def said_of(call, data, file, old_strings):
     try:
         return str(call(data, storklocker.AllowList.from_file(file), old_strings=old_strings))
     except storklocker.ListFault as fault:
-        return str(fault)
+        return f"list: {fault.fault}"
 
 
 class Cases(unittest.TestCase):

@@ -1,19 +1,21 @@
 """The C library: a C program that calls it, under sanitizers, and what the shared library shows."""
 
+import os
 import re
 import subprocess
 import tempfile
 import unittest
 from pathlib import Path
 
-from common import ARCHIVE, COMPILER, PACKAGE, PYTHON, compiled
+from common import ARCHIVE, COMPILER, PACKAGE, PYTHON, compiled, needs
 
 TESTS = PYTHON / "tests"
 SOURCES = [str(PYTHON / "storklocker.c"), str(PYTHON / "heap.c")]
 SANITIZED = "-O1 -g -fno-omit-frame-pointer -fsanitize=address,undefined -fno-sanitize-recover=all"
 WRAPPED = "-Wl,--wrap=malloc,--wrap=realloc,--wrap=free"
 STRICT = "-Wall -Wextra -Wpedantic -Wconversion -Wshadow -Wmissing-prototypes -Werror"
-CALLS = ["check_list", "check_pairs", "check_row", "imports", "read_list", "version"]
+CALLS = ["check_list", "check_pairs", "check_row", "fault_text", "imports", "read_list",
+         "reason_text", "version"]
 
 
 class Library(unittest.TestCase):
@@ -25,12 +27,14 @@ class Library(unittest.TestCase):
     def said(self, *words):
         return subprocess.run(words, check=True, capture_output=True, text=True).stdout
 
+    @needs(COMPILER, ARCHIVE)
     def test_a_program_under_sanitizers(self):
         words = [*SANITIZED.split(), WRAPPED, "-pthread", *SOURCES, ARCHIVE]
         program = compiled(self.folder, TESTS / "c_library.c", str(TESTS / "refusing.c"), *words)
         ran = subprocess.run([program], capture_output=True, text=True)
         self.assertEqual((ran.returncode, ran.stdout, ran.stderr), (0, "", ""))
 
+    @needs(COMPILER, ARCHIVE, "nm", "objdump")
     def test_the_shared_library(self):
         library, visible = self.folder / "libstorklocker.so.0", self.folder / "visible"
         visible.write_text("{ global: storklocker_*; local: *; };\n")
@@ -45,6 +49,7 @@ class Library(unittest.TestCase):
         self.assertEqual(re.findall(r" T (\w+)", names), [f"storklocker_{call}" for call in CALLS])
         self.assertRegex(head, r"SONAME +libstorklocker\.so\.0\n")
 
+    @needs(COMPILER)
     def test_header_and_code_without_warnings(self):
         for standard in ("c99", "c11", "c17"):
             subprocess.run(
@@ -58,8 +63,11 @@ class Library(unittest.TestCase):
             "static_assert(sizeof(storklocker_settings) == 64, \"\");\n"
             "const storklocker_settings standard = STORKLOCKER_STANDARD;\n"
         )
-        words = ["-x", "c++", "-std=c++11", "-Wall", "-Wextra", "-Werror", f"-I{PACKAGE}", "-c"]
-        subprocess.run([COMPILER, *words, str(user), "-o", str(self.folder / "user.o")], check=True)
+        words = [COMPILER, "-x", "c++", "-std=c++11", "-c", "-o", str(self.folder / "user.o")]
+        if subprocess.run([*words, os.devnull], stderr=subprocess.DEVNULL).returncode != 0:
+            self.skipTest("the C compiler compiles no C++")
+        strict = ["-Wall", "-Wextra", "-Werror", f"-I{PACKAGE}"]
+        subprocess.run([*words, *strict, str(user)], check=True)
 
 
 if __name__ == "__main__":

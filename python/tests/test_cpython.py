@@ -5,8 +5,11 @@ import sys
 import unittest
 from pathlib import Path
 
+from common import needs
+
 
 class CPython(unittest.TestCase):
+    @needs("module:test.pickletester")  # (Debian: libpython3.11-testsuite)
     def test_a_guard_does_what_pickle_does(self):
         program = Path(__file__).with_name("cpython.py")
         ran = subprocess.run([sys.executable, str(program)], capture_output=True, text=True)

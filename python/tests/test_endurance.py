@@ -6,7 +6,7 @@ import unittest
 from pathlib import Path
 
 import storklocker
-from common import BY_PAIRS, BY_TEXT, SEEDS
+from common import BY_PAIRS, BY_TEXT, SEEDS, needs
 
 CASES = [
     *((data, BY_PAIRS) for data in SEEDS[::5]),
@@ -42,6 +42,7 @@ def call(count):
 
 
 class Endurance(unittest.TestCase):
+    @needs("/proc/self/statm")
     def test_memory_stays_flat(self):
         call(10_000)
         gc.collect()

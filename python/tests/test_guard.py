@@ -161,7 +161,7 @@ class Loads(unittest.TestCase):
             except Refused:
                 pass
             with self.subTest(number=number):
-                self.assertEqual(gc.collect(), 0)
+                self.assertIn(gc.collect(), (0, None))  # PyPy doesn't say
             gc.enable()
 
     def test_what_is_missing_under_limits_of_the_guard(self):
@@ -171,8 +171,7 @@ class Loads(unittest.TestCase):
                 with self.subTest(guard=guard), self.assertRaises(Refused) as raised:
                     guard.loads(data)
                 found = raised.exception.verdict.missing
-                fits = guard is NOTHING or b"N" not in data
-                self.assertEqual([it.name for it in found], ["a", "b"] if fits else ["a"])
+                self.assertEqual([it.name for it in found], ["a", "b"])
 
     def test_bad_input(self):
         for given in (None, "N.", 5, [78, 46], object()):
@@ -728,7 +727,7 @@ class Told(unittest.TestCase):
         unknown = storklocker.check(b"(Px\nVy\n\x93ca\nb\nl.", BY_PAIRS)
         self.assertEqual((unknown.pair, unknown.missing), (None, ((None, None), ("a", "b"))))
         for refused, missing in (
-            (b"ca\nb\ncc\nd\n.", (("a", "b"),)),  # no good under any list
+            (b"ca\nb\ncc\nd\n.", (("a", "b"), ("c", "d"))),  # no good under any list
             (b"N0.", ()),
             (b"N.", ()),
         ):

@@ -1,23 +1,32 @@
 """`storklocker scan` on files that are made to stop it, to blind it, or to be passed over."""
 
 import bz2
+import contextlib
 import gzip
 import hashlib
+import io
+import itertools
 import json
 import lzma
 import os
+import pathlib
 import pickle
 import random
 import signal
+import socket
 import subprocess
 import sys
+import threading
 import time
 import unittest
+import unittest.mock
 import zlib
 
 import test_scanning
-from common import PYTHON
-from storklocker.scanning import judging
+from common import IMPORTED_FROM, needs
+from storklocker.scanning import budget, scan
+from storklocker.scanning.files import File
+from storklocker.scanning.judging import Question
 from test_scanning import BAD, GOOD, LIST, npy, tarred, zipped
 
 LARGE = pickle.dumps([random.Random(1).getrandbits(8 * 300_000).to_bytes(300_000, "little")], 4)
@@ -28,7 +37,7 @@ SECONDS = 180
 
 def command(*words, **named):
     """The command in a process of its own."""
-    environment = {**os.environ, "PYTHONPATH": str(PYTHON), **named.pop("more", {})}
+    environment = {**os.environ, "PYTHONPATH": str(IMPORTED_FROM), **named.pop("more", {})}
     words = [sys.executable, "-m", "storklocker.scanning.command", *map(str, words)]
     return subprocess.Popen(
         words, env=environment, stdout=subprocess.PIPE, stderr=subprocess.PIPE, **named
@@ -119,22 +128,22 @@ class HostileFiles(unittest.TestCase):
         for data, words, status, verdict in (
             (name + BAD, (), 1, "refused"), (name + b"N.", (), 1, "refused"),
             (name + BAD[2:], ("--allow", both), 1, "refused"),
-            (name + b"N.", ("--allow", both), 2, "unvouched"),
+            (name + b"N.", ("--allow", both), 0, "accepted"),
         ):
             found, reports = self.scanned("file", data, *words)
             self.assertEqual((found, reports[""]["status"]), (status, verdict), data)
             self.assertEqual(reports[""]["kind"], "joblib")
 
     def test_a_row_of_very_many(self):
-        kept, judging.PICKLES = judging.PICKLES, 50
+        kept, budget.PICKLES = budget.PICKLES, 50
         try:
-            for data, status in ((b"N." * 50, 0), (b"N." * 51, 2), (BAD + b"N." * 50, 1)):
+            for data, status in ((b"N." * 49, 0), (b"N." * 51, 2), (BAD + b"N." * 50, 1)):
                 for wrap in (bytes, gzip.compress, lambda data: zipped(("a", data), ("b", GOOD))):
                     found, reports = self.scanned("file", wrap(data))
                     self.assertEqual(found, status, reports)
                     self.assertEqual("more than 50 pickles" in str(reports), status > 0)
         finally:
-            judging.PICKLES = kept
+            budget.PICKLES = kept
 
     def test_tar_files(self):
         broken = bytearray(tarred(("a", GOOD), ("b", BAD)))
@@ -159,8 +168,8 @@ class HostileFiles(unittest.TestCase):
         hidden = zipped(("a", BAD))
         hidden = hidden[: hidden.index(b"PK\x01\x02")] + zipped(("b", GOOD))
         status, reports = self.scanned("file", hidden)
-        self.assertEqual(status, 2)
-        self.assertIn("first bytes are of no member", reports[""]["why"])
+        self.assertEqual(status, 1)
+        self.assertIn("readers differ", reports[""]["why"])
         archive = zipped(("m/data.pkl", BAD))
         self.assertEqual(told("scan", "-", "--allow", self.list, given=archive)[0], 1)
         endless = subprocess.Popen(["sh", "-c", "printf 'PK\\3\\4'; cat /dev/zero"], stdout=-1)
@@ -171,8 +180,10 @@ class HostileFiles(unittest.TestCase):
     def test_other_packers(self):
         packed = lzma.compress(BAD, format=lzma.FORMAT_ALONE)
         self.assertEqual(self.scanned("file", packed)[0], 1)
-        magics = (b"7z\xbc\xaf\x27\x1c", b"Rar!\x1a\x07", b"\x28\xb5\x2f\xfd", b"\x04\x22\x4d\x18")
-        for magic in magics:
+        for magic in (
+            b"7z\xbc\xaf\x27\x1c", b"Rar!\x1a\x07", b"\x28\xb5\x2f\xfd", b"\x25\xb5\x2f\xfd",
+            b"\x04\x22\x4d\x18", b"\x02\x21\x4c\x18", b"\x5a\x2a\x4d\x18", b"LZIP\1",
+        ):
             status, reports = self.scanned("file", magic + bytes(40))
             self.assertEqual((status, reports[""]["status"]), (2, "unreadable"))
 
@@ -182,29 +193,82 @@ class HostileFiles(unittest.TestCase):
         os.symlink(".", self.folder / "inside")
         os.symlink("/dev", self.folder / "outside")
         os.mkfifo(self.folder / "pipe")
+        with socket.socket(socket.AF_UNIX) as bound:
+            bound.bind(str(self.folder / "socket"))
         self.put("z", BAD)
         words = ("scan", self.folder, "--allow", self.list, "--format", "json", "--recursive")
         status, out, _ = told(*words)
         self.assertEqual(status, 1)
         found = {os.path.basename(it["path"]): it for it in json.loads(out)}
         self.assertEqual(found["z"]["status"], "refused")
-        for name in ("loop", "dangling", "outside", "pipe"):
+        for name in ("outside", "pipe", "socket"):
             self.assertEqual(found.pop(name)["status"], "unreadable")
+        for name in ("loop", "dangling"):  # no reader reads anything there
+            self.assertEqual([it["kind"] for it in found[name]["findings"]], ["dangling-link"])
         self.assertNotIn("inside", found)
+        for name in ("z", "outside", "pipe", "socket"):
+            (self.folder / name).unlink()
+        self.assertEqual(told(*words)[0], 0)
+        self.assertEqual(told("scan", self.folder / "dangling")[0], 2)
+
+    def test_links_to_elsewhere_are_followed(self):
+        for name in ("files", "folders", "around", "other"):
+            (self.folder / name).mkdir()
+        os.symlink(self.put("other/bad", BAD), self.folder / "files" / "link")
+        os.symlink("../other", self.folder / "folders" / "link")
+        os.symlink("../folders", self.folder / "other" / "back")
+        os.symlink("..", self.folder / "around" / "link")
+        for name, wanted, files in (("files", 1, 1), ("folders", 1, 1), ("around", 2, 1)):
+            words = (self.folder / name, "--recursive", "--allow", self.list, "--format", "json")
+            status, out, _ = told("scan", *words)
+            self.assertEqual((status, len(json.loads(out))), (wanted, files), out)
+
+    def test_a_file_that_changes(self):
+        """It grows and shrinks while it is read."""
+        path = pathlib.Path(self.put("file", zipped(("a", LARGE), ("b", BAD))))
+        whole, ends = path.read_bytes(), threading.Event()
+
+        def change():
+            sizes = itertools.cycle((0, 100, len(whole) // 2, len(whole) - 30, len(whole)))
+            while not ends.is_set():
+                path.write_bytes(whole[: next(sizes)])
+
+        changing = threading.Thread(target=change)
+        changing.start()
+        try:
+            for _ in range(100):
+                found = scan.scan_file(File(str(path)), Question())
+                self.assertTrue(found)
+        finally:
+            ends.set()
+            changing.join()
 
     def test_folders_left_out_are_told(self):
         (self.folder / "below").mkdir()
         _, _, errors = told("scan", self.folder)
         self.assertIn("1 folder left out", errors)
 
+    @needs("semaphores")
     def test_standard_input_beside_several_processes(self):
         status, out, _ = told("scan", "-", "--jobs", "3", "--allow", self.list, given=BAD)
         self.assertEqual(status, 1, out)
 
+    def test_where_no_process_can_begin(self):
+        errors, path = io.StringIO(), self.put("file", GOOD)
+        fault = unittest.mock.patch("concurrent.futures.ProcessPoolExecutor", side_effect=OSError)
+        with fault, contextlib.redirect_stderr(errors):
+            status, _ = self.run_command("scan", path, "--jobs", "2")
+        self.assertEqual(status, 2)
+        self.assertIn("scan with one", errors.getvalue())
+
+    @needs("semaphores")
     def test_a_process_that_is_killed(self):
         pipe = self.folder / "pipe"
         os.mkfifo(pipe)
         ends = ((signal.SIGINT, 130), (signal.SIGTERM, -15), (signal.SIGKILL, -9))
+        # A background job of a shell ignores interrupts, and so would what it starts.
+        before = signal.signal(signal.SIGINT, signal.default_int_handler)
+        self.addCleanup(signal.signal, signal.SIGINT, before)
         for sent, status in ends:
             with self.subTest(sent.name):
                 began = command("scan", pipe, "--jobs", "2", start_new_session=True)
@@ -226,7 +290,7 @@ class HostileFiles(unittest.TestCase):
         self.assertIn("off the list: posix.system", out)
         _, out = self.run_command("scan", path)
         self.assertIn("imports: posix.system", out)
-        self.assertIn("unjudged", out)
+        self.assertIn("dangerous  ", out)
         self.assertNotIn("accepted", out)
 
     def test_places_in_sarif(self):
@@ -255,7 +319,9 @@ class HostileFiles(unittest.TestCase):
         with open("/dev/full", "wb") as full:
             began = subprocess.run(
                 [sys.executable, "-m", "storklocker.scanning.command", "scan", path],
-                env={**os.environ, "PYTHONPATH": str(PYTHON)}, stdout=full, stderr=subprocess.PIPE,
+                env={**os.environ, "PYTHONPATH": str(IMPORTED_FROM)},
+                stdout=full,
+                stderr=subprocess.PIPE,
             )
         self.assertEqual(began.returncode, 2)
         self.assertNotIn(b"Traceback", began.stderr)

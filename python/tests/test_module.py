@@ -4,6 +4,7 @@ and its memory.
 
 import os
 import re
+import shutil
 import struct
 import subprocess
 import sys
@@ -11,8 +12,9 @@ import tempfile
 import unittest
 from pathlib import Path
 
-from common import ARCHIVE, BY_PAIRS, COMPILER, GUARD, PACKAGE, PYTHON, ROOT, python
-from storklocker import Limits, Reason, __version__, _storklocker
+from common import ARCHIVE, BY_PAIRS, COMPILER, GUARD, INCLUDE, PACKAGE, PYTHON, ROOT
+from common import needs, python
+from storklocker import AllowList, Limits, Reason, _storklocker
 from storklocker._answers import LIST_FAULTS
 from storklocker._limits import packed
 
@@ -71,6 +73,12 @@ class Numbers(unittest.TestCase):
         self.assertEqual(numbers_in("old_strings"), old_strings)
         self.assertEqual(numbers_in("status"), {"YES": 0, "NO": 1, "NO_LIST": 2, "USAGE": 3})
 
+    def test_library_prints_them(self):
+        code = (PYTHON / "storklocker.c").read_text()
+        for kind, names in (("reason", REASONS), ("fault", FAULTS)):
+            body = re.search(rf"storklocker_{kind}_text.*?= {{(.*?)}};", code, re.S)[1]
+            self.assertEqual(re.findall(r'"(.*?)"', body), ["", *names])
+
     def test_crate_has_them(self):
         code = (GUARD / "src" / "codes.rt").read_text()
         reasons = re.findall(r"Reason::(\w+)(?:\(_\))? => (\d+),", code)
@@ -107,13 +115,9 @@ class Numbers(unittest.TestCase):
         wanted.update(row_memo=numbers_in("row_memo")["MEMO_KEPT"])
         self.assertEqual(dict(zip((name for name, _ in fields), given)), wanted)
 
-    def test_one_version(self):
-        project = (PYTHON / "pyproject.toml").read_text()
-        self.assertIn(f'version = "{__version__}"', project)
-        self.assertIn(f'STORKLOCKER_VERSION "{__version__}"', HEADER)
-
 
 class Module(unittest.TestCase):
+    @needs("nm")
     def test_nothing_else_is_visible(self):
         said = subprocess.run(
             ["nm", "-D", "--defined-only", str(MODULE)], check=True, capture_output=True, text=True
@@ -122,18 +126,25 @@ class Module(unittest.TestCase):
             [line.split()[-1] for line in said.stdout.splitlines()], ["PyInit__storklocker"]
         )
 
-    def test_an_old_c_library_suffices(self):
+    @needs("readelf")
+    def test_any_c_library_suffices(self):
         said = subprocess.run(
-            ["objdump", "-T", str(MODULE)], check=True, capture_output=True, text=True
+            ["readelf", "-W", "-d", "--dyn-syms", str(MODULE)],
+            check=True, capture_output=True, text=True,
         ).stdout
-        versions = {tuple(map(int, it.split("."))) for it in re.findall(r"GLIBC_([\d.]+)", said)}
-        self.assertLessEqual(max(versions), (2, 17))
+        self.assertNotIn("(NEEDED)", said)
+        wanted = set(re.findall(r" UND (\S+)", said))
+        others = {name for name in wanted if not re.match("_?Py", name)}
+        given = "malloc realloc free memchr memcpy memmove memset".split()
+        self.assertLessEqual(others, set(given))
         self.assertNotIn("PyUnstable", said)
 
     def test_it_is_as_short_as_it_was_promised(self):
-        lines = (PYTHON / "_storklocker.c").read_text().splitlines()
-        self.assertLessEqual(len(lines), 300)
-        self.assertLessEqual(max(map(len, lines)), 100)
+        promised = {"_storklocker.c": 340, "loads.c": 155, "walk.c": 135, "cutting.c": 215}
+        for name, most in promised.items():
+            lines = (PYTHON / name).read_text().splitlines()
+            self.assertLessEqual(len(lines), most)
+            self.assertLessEqual(max(map(len, lines)), 100)
 
     def test_what_it_does_not_take(self):
         settings = packed(Limits(), "unknown", False)
@@ -141,14 +152,15 @@ class Module(unittest.TestCase):
             for call in (
                 lambda: _storklocker.verdict(b"N.", BY_PAIRS, given),
                 lambda: _storklocker.imports(b"N.", BY_PAIRS, given, 5),
-                lambda: _storklocker.Pairs((), given),
+                lambda: _storklocker.pairs_of(AllowList, (), given),
             ):
                 with self.subTest(given=given), self.assertRaises(TypeError):
                     call()
         for pairs in ([], ("a",), ((b"a",),), (("a", "b"),), ((b"a", b"b"), None)):
             with self.subTest(pairs=pairs), self.assertRaises((TypeError, SystemError)):
-                _storklocker.Pairs(pairs, settings)
+                _storklocker.pairs_of(AllowList, pairs, settings)
 
+    @needs(COMPILER, ARCHIVE, INCLUDE)
     def test_the_same_bytes_in_another_folder(self):
         with tempfile.TemporaryDirectory() as folder:
             made = []
@@ -166,6 +178,7 @@ class Module(unittest.TestCase):
                 made.append((place / "out" / "_storklocker.abi3.so").read_bytes())
         self.assertEqual(made[0], made[1])
 
+    @needs(COMPILER, INCLUDE)
     def test_what_make_says_of_bad_words(self):
         for words, said in (
             (["--archive"], "needs a value"),
@@ -212,20 +225,15 @@ class Module(unittest.TestCase):
         reasons = [repr(it) for it in (Reason.Truncated, None, Reason.Truncated, Reason.Truncated)]
         self.assertEqual(said.splitlines(), ["False", *reasons])
 
+    @needs("mypy")
     def test_types(self):
-        found = (
-            subprocess.run(["mypy", "--version"], capture_output=True).returncode
-            if _has("mypy")
-            else 1
+        ran = subprocess.run(
+            ["mypy", "--strict", "--cache-dir", os.devnull, str(PACKAGE)],
+            capture_output=True,
+            text=True,
+            cwd=PYTHON,
         )
-        if found == 0:
-            ran = subprocess.run(
-                ["mypy", "--strict", "--cache-dir", os.devnull, str(PACKAGE)],
-                capture_output=True,
-                text=True,
-                cwd=PYTHON,
-            )
-            self.assertEqual(ran.returncode, 0, ran.stdout)
+        self.assertEqual(ran.returncode, 0, ran.stdout)
 
     def test_help_is_a_page(self):
         page = python(
@@ -242,10 +250,6 @@ class Module(unittest.TestCase):
             "loads(",
         ):
             self.assertIn(word, page)
-
-
-def _has(program):
-    return any(Path(folder, program).exists() for folder in os.environ["PATH"].split(os.pathsep))
 
 
 SANITIZED = r"""
@@ -312,14 +316,14 @@ else:
 """
 
 
+@needs(COMPILER, ARCHIVE, INCLUDE)
 class Sanitized(unittest.TestCase):
     @classmethod
     def setUpClass(cls):
         cls.folder = tempfile.TemporaryDirectory()
         cls.package = Path(cls.folder.name, "storklocker")
-        cls.package.mkdir()
-        for file in PACKAGE.glob("*.py"):
-            (cls.package / file.name).write_bytes(file.read_bytes())
+        without = shutil.ignore_patterns("*.so", "__pycache__")
+        shutil.copytree(PACKAGE, cls.package, ignore=without)
         words = [str(PYTHON / "make"), "--debug", "--archive", ARCHIVE, "--out", str(cls.package)]
         subprocess.run(words, check=True)
         found = [
@@ -365,6 +369,8 @@ class Sanitized(unittest.TestCase):
             "test_values.Copies",
             "test_guard.Loads",
             "test_guard.Files",
+            "test_loads.Memory",
+            "test_joblib_files.Hastened",
         )
 
 

@@ -22,7 +22,8 @@ FRONTS = (
 
 NUMBERS = (
     b"1", b"01", b" 1", b"1 ", b"1_0", b"0x1f", b"0o7", b"", b"-1", b"+1", b"1L", b"9" * 20, b"1.5",
-    b"1e5", b"nan", b"-inf", b"infinity", b"1\0x", b"\t3", b"1\r", b"abc", b"\xff", b".5", b"_1",
+    b"1e5", b"nan", b"-inf", b"infinity", b" " * 40 + b"-Infinity",
+    b"1\0x", b"\t3", b"1\r", b"abc", b"\xff", b".5", b"_1",
 )
 TEXTS = (b"'a'", b'"a"', b"'a' ", b"'\\x41'", b"'\\x4'", b"''", b"'", b"a", b"'a\"", b"'\xff'")
 UNICODE = (b"a", b"\\u0041", b"\\ud800", b"\\u12", b"\xff", b"", b"\\U00010000", b"\\U00110000")
@@ -35,7 +36,10 @@ PLAIN = (
     *b"(012N\x88]})aesutld\x85\x86\x87\x8f\x90\x91bRoQ\x81\x92\x97\x98\x94", b"q\x01", b"h\x01",
     b"q\xff", b"\x80\x02",
 )
-ENDS = (b"cos\nsystem\n.", b"\x8c\x02os\x8c\x06system\x93.", b"(S'a'\nios\nsystem\n.")
+ENDS = (
+    b"cos\nsystem\n.", b"\x8c\x02os\x8c\x06system\x93.", b"(S'a'\nios\nsystem\n.", b"ios\nsystem\n",
+    b"cos\nsystemX", b"cos\n", b"cosX", b"iosX", b"ios\nsystemX",
+)
 
 
 class Reached(BaseException):
@@ -88,7 +92,7 @@ def is_reached(data):
 
 
 def status(data):
-    (report,) = reports_of("x", io.BytesIO(data), Question(NOTHING))
+    report, *_ = reports_of("x", io.BytesIO(data), Question(NOTHING))
     return report.status
 
 

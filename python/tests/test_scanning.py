@@ -20,9 +20,9 @@ import zlib
 from collections import OrderedDict
 
 import storklocker
-from storklocker.scanning import containers
+from common import needs
+from storklocker.scanning import budget
 from storklocker.scanning.command import main
-from storklocker.scanning.dangers import danger_of
 
 LIST = 'version = 1\n[imports]\ncollections = ["OrderedDict"]\ndatetime = ["datetime"]\n'
 GOOD = pickle.dumps(OrderedDict(when=datetime.datetime(2026, 1, 2)), 4)
@@ -110,7 +110,8 @@ class Scanning(unittest.TestCase):
         self.assertEqual(reports[""]["missing"], [["posix", "system"]])
         self.assertEqual(reports[""]["why"], 'no at 28: ImportOffList("posix","system")')
         self.assertIn("28: 93 STACK_GLOBAL", [it["line"] for it in reports[""]["listing"]])
-        self.assertTrue(reports[""]["dangers"])
+        kinds = [it["kind"] for it in reports[""]["findings"]]
+        self.assertEqual(kinds, ["refused", "dangerous-import"])
 
     def test_rows(self):
         status, reports = self.scanned("row", GOOD + PLAIN + GOOD)
@@ -176,12 +177,12 @@ class Scanning(unittest.TestCase):
         self.assertIn("deep in one another", str(self.scanned("nested.tar", nested)[1]))
 
     def test_many_members(self):
-        kept, containers.MEMBERS = containers.MEMBERS, 50
+        kept, budget.MEMBERS = budget.MEMBERS, 50
         try:
             made = zipped(*((f"{number}", b"x") for number in range(100)))
             status, reports = self.scanned("many.zip", made)
         finally:
-            containers.MEMBERS = kept
+            budget.MEMBERS = kept
         self.assertEqual(status, 2)
         self.assertIn("more than 50 members", str(reports))
 
@@ -200,13 +201,15 @@ class Scanning(unittest.TestCase):
         path = self.put("bad", BAD)
         _, out = self.run_command("scan", path, "--format", "sarif", "--allow", self.list)
         run = json.loads(out)["runs"][0]
-        self.assertEqual({it["ruleId"] for it in run["results"]}, {"refused", "danger"})
+        self.assertEqual({it["ruleId"] for it in run["results"]}, {"refused", "dangerous-import"})
         status, out = self.run_command("scan", path, "--fail-on", "never", "--allow", self.list)
         self.assertEqual(status, 0)
         self.assertIn("off the list: posix.system", out)
-        self.assertEqual(self.run_command("scan", path)[0], 0)
-        self.assertEqual(self.run_command("scan", path, "--fail-on", "danger")[0], 1)
+        for words, status in (((), 1), (("danger",), 1), (("refused",), 0), (("never",), 0)):
+            words = words and ("--fail-on", *words)
+            self.assertEqual(self.run_command("scan", path, *words)[0], status, words)
 
+    @needs("semaphores")
     def test_folders_and_processes(self):
         (self.folder / "below").mkdir()
         self.put("below/bad", BAD)
@@ -241,23 +244,6 @@ class Scanning(unittest.TestCase):
         self.assertEqual(status, 2)
         self.assertIn("# left out", out)
 
-    def test_lint(self):
-        status, out = self.run_command("lint", self.list)
-        self.assertEqual(status, 0)
-        harmful = self.put("l.toml", b'version = 1\n[imports]\nbuiltins = ["getattr", "set"]\n')
-        status, out = self.run_command("lint", harmful)
-        self.assertEqual(status, 1)
-        self.assertIn("builtins.getattr", out)
-        for name in ("builtins.eval", "os.system", "subprocess.Popen", "operator.methodcaller",
-                     "functools.partial", "torch.storage._load_from_bytes", "pickle.loads",
-                     "importlib.import_module", "numpy.testing._private.utils.runstring"):
-            self.assertIsNotNone(danger_of(*name.rsplit(".", 1)), name)
-        for pair in (("random", "_os.system"), ("collections", "abc.sys.modules")):
-            self.assertIsNotNone(danger_of(*pair), pair)
-        for pair in (("collections", "OrderedDict"), ("collections", "OrderedDict.fromkeys")):
-            self.assertIsNone(danger_of(*pair), pair)
-        self.assertIsNone(danger_of("a", "b." * 1_000_000))
-
     def test_usage(self):
         for words in (("scan",), ("scan", "x", "--jobs", "0"), ("fly",), ()):
             with self.assertRaises(SystemExit) as caught, contextlib.redirect_stderr(io.StringIO()):
@@ -273,7 +259,7 @@ class Scanning(unittest.TestCase):
     def test_pipes(self):
         words = [sys.executable, "-m", "storklocker.scanning.command", "scan", "-"]
         ran = subprocess.run(words, input=BAD, capture_output=True, check=False)
-        self.assertEqual(ran.returncode, 0)
+        self.assertEqual(ran.returncode, 1)
         self.assertIn(b"posix.system", ran.stdout)
 
 

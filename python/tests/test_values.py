@@ -12,7 +12,7 @@ import time
 import unittest
 
 import storklocker
-from common import BY_PAIRS, BY_TEXT, LISTED
+from common import BY_PAIRS, BY_TEXT, LISTED, needs
 from storklocker import AllowList, Limits, Reason
 
 FEW = Limits(stack=1)
@@ -61,7 +61,7 @@ class Lists(unittest.TestCase):
         self.assertEqual(by_dict, BY_PAIRS)
         self.assertEqual([*BY_TEXT], sorted(LISTED))
         self.assertIsNone(BY_PAIRS.limits)
-        self.assertEqual(BY_TEXT.limits, storklocker.STANDARD)
+        self.assertIsNone(BY_TEXT.limits)
         self.assertEqual([*AllowList(BY_TEXT)], [*BY_TEXT])
 
     def test_the_limits_of_a_file(self):
@@ -74,6 +74,26 @@ class Lists(unittest.TestCase):
         )
         self.assertEqual((listed | other).limits, Limits(stack=7, memo=3, passed=5))
         self.assertEqual((listed | BY_PAIRS).limits, listed.limits)
+
+    def test_a_file_without_limits_sets_none(self):
+        table = "version = 2\n[imports]\n"
+        for text, limits in (
+            (table, None),
+            ("version = 1\nimports = {}", None),
+            (table + "# [limits]", None),
+            (table + "limits = ['a']", None),
+            (table + "[limits]", storklocker.STANDARD),
+            (table + '["l\\u0069mits"]', storklocker.STANDARD),
+            ("version = 2\nlimits = {}\n[imports]", storklocker.STANDARD),
+            ("version = 2\nlimits.stack = 3\n[imports]", Limits(stack=3)),
+        ):
+            self.assertEqual(AllowList.from_text(text).limits, limits, text)
+        data = b"\x8e" + (1 << 25).to_bytes(8, "little") + bytes(1 << 25) + b"."
+        wide = Limits(passed=1 << 26)
+        self.assertFalse(storklocker.check(data, BY_TEXT))
+        self.assertTrue(storklocker.check(data, BY_TEXT, limits=wide))
+        bound = AllowList.from_text(table + "[limits]")
+        self.assertFalse(storklocker.check(data, bound, limits=wide))
 
     def test_both_of_two_lists(self):
         one, other = AllowList(LISTED[:2]), AllowList(LISTED[1:])
@@ -151,6 +171,7 @@ class Copies(unittest.TestCase):
             storklocker.Refused(refused, "a hint"),
             storklocker.MoreBytes(storklocker.check(b"N.", BY_PAIRS), 7),
             storklocker.ListFault("Syntax"),
+            storklocker.ListFault("Syntax", "list.toml", 3, "write it otherwise"),
         ]
         for again in copies(refused):
             self.assertEqual(again, refused)
@@ -181,6 +202,7 @@ class Copies(unittest.TestCase):
                 value._replace(other=7)
         self.assertEqual(storklocker.Verdict.__match_args__, storklocker.Verdict._fields)
 
+    @needs("semaphores")
     def test_another_process(self):
         for way in ("spawn", "fork"):
             with multiprocessing.get_context(way).Pool(1) as pool:
@@ -224,6 +246,16 @@ class LimitsOfAll(unittest.TestCase):
     def test_what_is_written(self):
         self.assertEqual(eval(repr(FEW)), FEW)
 
+    def test_large_is_what_a_list_file_says(self):
+        said = b"version = 2\n[imports]\n[limits]\nlarge = true\n"
+        self.assertEqual(Limits(large=True), storklocker.AllowList.from_text(said).limits)
+        said += b"stack = 5\n"
+        self.assertEqual(Limits(large=True, stack=5), storklocker.AllowList.from_text(said).limits)
+        marks = b"(" * 1_000_001
+        self.assertIs(storklocker.check(marks, BY_PAIRS).reason, Reason.TooLarge)
+        verdict = storklocker.check(marks, BY_PAIRS, limits=Limits(large=True))
+        self.assertIs(verdict.reason, Reason.Truncated)
+
     def test_memo_numbers(self):
         data = b"Nr\xff\xff\xff\xff."
         self.assertIs(storklocker.check(data, BY_PAIRS).reason, Reason.TooLarge)
@@ -231,6 +263,11 @@ class LimitsOfAll(unittest.TestCase):
         self.assertTrue(storklocker.check(b"Nr\x40\x42\x0f\0.", BY_PAIRS))
         self.assertFalse(storklocker.check(b"Nr\x41\x42\x0f\0.", BY_PAIRS))
         self.assertFalse(storklocker.check(data, BY_TEXT))
+        for said, numbers in (("", 1_000_000), ("numbers = 4294967295", 0xFFFFFFFF)):
+            text = f"version = 2\n[imports]\nnumbers = ['Number']\n[limits]\n{said}\n"
+            listed = storklocker.AllowList.from_text(text)
+            self.assertEqual(listed.limits.numbers, numbers)
+            self.assertEqual(bool(storklocker.check(data, listed)), bool(said))
 
 
 class Texts(unittest.TestCase):

@@ -10,7 +10,7 @@ import unittest
 from unittest import mock
 
 import storklocker
-from common import BY_PAIRS, PYTHON, python
+from common import BY_PAIRS, IMPORTED_FROM, needs, python
 from storklocker._checking import INTERRUPTIBLE_FROM
 from storklocker._waiting import interruptible
 
@@ -107,6 +107,7 @@ class Answers(unittest.TestCase):
                 interruptible(mock.Mock(side_effect=error))
             self.assertIs(raised.exception, error)
 
+    @needs("/proc/self/statm")
     def test_memory_that_is_refused(self):
         said = python(
             f"{BEGIN}import resource\n"
@@ -128,7 +129,7 @@ def started(code):
         stdout=subprocess.PIPE,
         stderr=subprocess.PIPE,
         text=True,
-        env={**os.environ, "PYTHONPATH": str(PYTHON)},
+        env={**os.environ, "PYTHONPATH": str(IMPORTED_FROM)},
     )
 
 

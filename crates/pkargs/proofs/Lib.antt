@@ -1,2 +1,3 @@
 pub mod MoreArguments
-pub mod Requirements
+pub mod Free
+pub mod NoJob

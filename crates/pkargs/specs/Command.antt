@@ -1,7 +1,8 @@
 -- The command line of the program, as `clap` defines a simple command.
-use Rattle.std.specs.Prelude.{◌≡◌, Bool, List, [], ◌∷◌, map, Option, Some, true, false}
+use Rattle.std.specs.Prelude.{◌≡◌, ◌⊎◌, Bool, List, [], ◌∷◌, map, Option, Some, true, false}
 use Rattle.std.specs.Prelude.{codes, string_bytes}
-use Rattle.clap.specs.Words.{App, Row, Rule, Text, app_of, first_of, new_rule, subcommand_of}
+use Rattle.clap.specs.Words.{App, Row, Rule, Text, app_of, fault_of, first_of, new_rule}
+use Rattle.clap.specs.Words.{subcommand_of}
 use Rattle.clap.specs.Simple.{new_shape}
 use Rattle.clap.specs.declared.Command.{Command}
 use Rattle.clap.specs.declared.Command.TheViews.{out-Command as fields_of}
@@ -44,12 +45,11 @@ TakesOldWords _ = ⊥
 abbrev pub all_rule : Rule
 all_rule = record (new_rule (codes "all")) { long = Some (codes "all"); action = Some SetTrue }
 
--- the flag `--one-unpickler`, which requires `--all`
+-- the flag `--one-unpickler`, which only a row of pickles may have
 abbrev pub one_rule : Rule
 one_rule = record (new_rule (codes "one-unpickler")) {
   long = Some (codes "one-unpickler");
   action = Some SetTrue;
-  is_free = false;
 }
 
 -- the required FILE
@@ -162,7 +162,21 @@ name_of (Json file) = codes "json"
 abbrev pub IsJob : Option (Text × List Row) → Job → Type 0
 IsJob met job = (rows : List Row) × (met ≡ Some (name_of job, rows)) × Carries rows job
 
--- the job is the one that `clap` finds in the words
+-- `clap` finds no fault in the words, and the job is the one that it finds there
 abbrev pub AsksForJob : List Text → Job → Type 0
 AsksForJob words job =
-    (app : App) × IsProgram app × IsJob (subcommand_of app words) job
+    (app : App) × IsProgram app × IsJob (subcommand_of app words) job × (fault_of app words ≡ [])
+
+-- the rows lack a value that each job of this subcommand has
+abbrev pub AreForNone : Text → List Row → Type 0
+AreForNone name rows = (job : Job) → name_of job ≡ name → Carries rows job → ⊥
+
+-- no job is the subcommand that was found, with its values
+abbrev pub IsForNone : Option (Text × List Row) → Type 0
+IsForNone met = (job : Job) → IsJob met job → ⊥
+
+-- `clap` finds a fault in the words, or what it finds there is no job
+abbrev pub AsksForNone : List Text → Type 0
+AsksForNone words =
+    (app : App) × IsProgram app
+    × ((fault_of app words ≡ [] → ⊥) ⊎ IsForNone (subcommand_of app words))

@@ -69,13 +69,12 @@ fn file_command<'a>(
 fn check_command<'a>(alloc: Global) -> Result<Command<'a>, AllocError>
     ensures { IfOk result IsCheck }
 {
-    let one = one_flag(alloc)?;
     let command = Command::new(alloc, "check")
         .about("Says whether a pickle imports listed names alone, and cannot go wrong")
         .arg(allow_option(alloc));
     let command = with_argument(command, old_option(alloc));
     let command = with_argument(command, all_flag(alloc));
-    let command = with_argument(command, one);
+    let command = with_argument(command, one_flag(alloc));
     with_argument(command, file_argument(alloc))
 }
 
@@ -123,16 +122,15 @@ fn all_flag<'a>(alloc: Global) -> Arg<'a>
         .action(ArgAction::SetTrue)
 }
 
-/// `--one-unpickler`, which requires `--all`.
-fn one_flag<'a>(alloc: Global) -> Result<Arg<'a>, AllocError>
-    ensures rule { IfOk result (λ flag. rule_of flag ≡ one_rule) }
-    ensures local { IfOk result (λ flag. flag.global ≡ false) }
+/// `--one-unpickler`, which is of use with `--all` alone.
+fn one_flag<'a>(alloc: Global) -> Arg<'a>
+    ensures rule { rule_of result ≡ one_rule }
+    ensures local { result.global ≡ false }
 {
     Arg::new(alloc, "one-unpickler")
         .long("one-unpickler")
         .help("Checks them as one pickle.Unpickler loads them, which keeps its memo")
         .action(ArgAction::SetTrue)
-        .requires_arg("all")
 }
 
 /// `FILE`.

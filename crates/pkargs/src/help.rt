@@ -1,7 +1,7 @@
 //! The program's help texts.
 
 /// The version of the program.
-pub const VERSION: &str = "0.2.0";
+pub const VERSION: &str = "0.3.0.dev2";
 
 /// The end of the help.
 pub const STATUSES: &str = "\
@@ -10,7 +10,9 @@ FILE may be /dev/stdin, which reads a pipe.
 Status:
   0  yes, or done
   1  refused
-  2  a fault of usage, of the list or of a file";
+  2  a fault of usage, of the list or of a file
+
+`storklocker lint LIST`, of the Python package, says where a list file has its fault.";
 
 /// What the help of `dis` says about its lines.
 pub const LINES: &str = "\

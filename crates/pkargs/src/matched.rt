@@ -1,8 +1,11 @@
 //! The job in what `clap` matched.
-ghost use Rattle.std.specs.Prelude.{◌≡◌, IfOk, IfSome, Some, codes, option_map, string_bytes};
-ghost use Rattle.clap.specs.Words.{first_of, found_of, rows_of, subcommand_rows_of};
-ghost use Rattle.pkargs.specs.Command.{Carries, IsJob, all_text, flag_text, name_of, old_word};
-ghost use Rattle.pkargs.specs.Command.{one_text};
+ghost use Rattle.std.specs.Prelude.{◌≡◌, Bool, IfNone, IfOk, IfSome, List, Some, codes};
+ghost use Rattle.std.specs.Prelude.{option_map, string_bytes};
+ghost use Rattle.clap.specs.Words.{Row, first_of, found_of, rows_of, subcommand_rows_of};
+ghost use Rattle.pkargs.specs.Command.{AreForNone, Carries, IsForNone, IsJob, all_text};
+ghost use Rattle.pkargs.specs.Command.{flag_text, name_of, old_word, one_text};
+ghost use Rattle.pkargs.specs.declared.job.Pickles.{Pickles as SpecPickles};
+ghost use Rattle.pkcheck.specs.declared.OldStrings.{OldStrings as SpecStrings};
 
 use crate::job::{Job, Pickles};
 use clap::ArgMatches;
@@ -11,30 +14,44 @@ use std::alloc::{AllocError, Global};
 
 /// The job of the subcommand that was found.
 pub fn job_of(alloc: Global, matches: &ArgMatches) -> Result<Option<Job>, AllocError>
-    ensures { IfOk result (λ found. IfSome found (IsJob (subcommand_rows_of matches.now))) }
+    ensures job { IfOk result (λ found. IfSome found (IsJob (subcommand_rows_of matches.now))) }
+    ensures none { IfOk result (λ found.
+        IfNone found (IsForNone (subcommand_rows_of matches.now))) }
 {
-    if let Some(values) = matches.subcommand_matches("dis") {
+    if let Some(values) = values_in(matches, "dis") {
         return dis_job(alloc, values);
     }
-    if let Some(values) = matches.subcommand_matches("check") {
+    if let Some(values) = values_in(matches, "check") {
         return check_job(alloc, values);
     }
-    if let Some(values) = matches.subcommand_matches("imports") {
+    if let Some(values) = values_in(matches, "imports") {
         return imports_job(alloc, values);
     }
-    if let Some(values) = matches.subcommand_matches("optimize") {
+    if let Some(values) = values_in(matches, "optimize") {
         return optimize_job(alloc, values);
     }
-    if let Some(values) = matches.subcommand_matches("json") {
+    if let Some(values) = values_in(matches, "json") {
         return json_job(alloc, values);
     }
     Ok(None)
+}
+
+/// What was matched behind a subcommand, if that is the one found.
+fn values_in<'m, 'a>(matches: &'m ArgMatches<'a>, name: &str) -> Option<&'m ArgMatches<'a>>
+    ensures some { IfSome result (λ values.
+        subcommand_rows_of matches.now ≡ Some (name.now, rows_of (found_of values.now))) }
+    ensures none { IfNone result ((rows : List Row)
+        → subcommand_rows_of matches.now ≡ Some (name.now, rows) → ⊥) }
+{
+    matches.subcommand_matches(name)
 }
 
 /// The job of `dis`, if its value is there.
 fn dis_job(alloc: Global, values: &ArgMatches) -> Result<Option<Job>, AllocError>
     ensures name { IfOk result (λ found. IfSome found (λ job. name_of job ≡ codes "dis")) }
     ensures values { IfOk result (λ found. IfSome found (Carries (rows_of (found_of values.now)))) }
+    ensures none { IfOk result (λ found.
+        IfNone found (AreForNone (codes "dis") (rows_of (found_of values.now)))) }
 {
     let Some(file) = value_of(alloc, values, "FILE")? else {
         return Ok(None);
@@ -46,6 +63,8 @@ fn dis_job(alloc: Global, values: &ArgMatches) -> Result<Option<Job>, AllocError
 fn imports_job(alloc: Global, values: &ArgMatches) -> Result<Option<Job>, AllocError>
     ensures name { IfOk result (λ found. IfSome found (λ job. name_of job ≡ codes "imports")) }
     ensures values { IfOk result (λ found. IfSome found (Carries (rows_of (found_of values.now)))) }
+    ensures none { IfOk result (λ found.
+        IfNone found (AreForNone (codes "imports") (rows_of (found_of values.now)))) }
 {
     let Some(file) = value_of(alloc, values, "FILE")? else {
         return Ok(None);
@@ -57,6 +76,8 @@ fn imports_job(alloc: Global, values: &ArgMatches) -> Result<Option<Job>, AllocE
 fn optimize_job(alloc: Global, values: &ArgMatches) -> Result<Option<Job>, AllocError>
     ensures name { IfOk result (λ found. IfSome found (λ job. name_of job ≡ codes "optimize")) }
     ensures values { IfOk result (λ found. IfSome found (Carries (rows_of (found_of values.now)))) }
+    ensures none { IfOk result (λ found.
+        IfNone found (AreForNone (codes "optimize") (rows_of (found_of values.now)))) }
 {
     let Some(file) = value_of(alloc, values, "FILE")? else {
         return Ok(None);
@@ -71,6 +92,8 @@ fn optimize_job(alloc: Global, values: &ArgMatches) -> Result<Option<Job>, Alloc
 fn json_job(alloc: Global, values: &ArgMatches) -> Result<Option<Job>, AllocError>
     ensures name { IfOk result (λ found. IfSome found (λ job. name_of job ≡ codes "json")) }
     ensures values { IfOk result (λ found. IfSome found (Carries (rows_of (found_of values.now)))) }
+    ensures none { IfOk result (λ found.
+        IfNone found (AreForNone (codes "json") (rows_of (found_of values.now)))) }
 {
     let Some(file) = value_of(alloc, values, "FILE")? else {
         return Ok(None);
@@ -82,6 +105,8 @@ fn json_job(alloc: Global, values: &ArgMatches) -> Result<Option<Job>, AllocErro
 fn check_job(alloc: Global, values: &ArgMatches) -> Result<Option<Job>, AllocError>
     ensures name { IfOk result (λ found. IfSome found (λ job. name_of job ≡ codes "check")) }
     ensures values { IfOk result (λ found. IfSome found (Carries (rows_of (found_of values.now)))) }
+    ensures none { IfOk result (λ found.
+        IfNone found (AreForNone (codes "check") (rows_of (found_of values.now)))) }
 {
     let Some(allow) = value_of(alloc, values, "LIST")? else {
         return Ok(None);
@@ -105,14 +130,17 @@ fn check_job(alloc: Global, values: &ArgMatches) -> Result<Option<Job>, AllocErr
 
 /// How Python 2 strings are decoded.
 fn old_of(values: &ArgMatches) -> Option<OldStrings>
-    ensures { IfSome result (λ old.
+    ensures some { IfSome result (λ old.
         first_of (codes "OBJECT") (rows_of (found_of values.now)) ≡ Some (old_word old)) }
+    ensures none { (old : SpecStrings) → IfNone result
+        (first_of (codes "OBJECT") (rows_of (found_of values.now)) ≡ Some (old_word old) → ⊥) }
 {
     old_named(text_of(values, "OBJECT")?)
 }
 
 fn old_named(word: &str) -> Option<OldStrings>
-    ensures { IfSome result (λ old. word.now ≡ old_word old) }
+    ensures some { IfSome result (λ old. word.now ≡ old_word old) }
+    ensures none { (old : SpecStrings) → IfNone result (word.now ≡ old_word old → ⊥) }
 {
     if word == "unknown" {
         return Some(OldStrings::Unknown);
@@ -133,6 +161,10 @@ fn pickles_of(values: &ArgMatches) -> Option<Pickles>
     ensures one { IfSome result (λ pickles.
         first_of (codes "one-unpickler") (rows_of (found_of values.now))
         ≡ Some (one_text pickles)) }
+    ensures none { (pickles : SpecPickles) → IfNone result
+        (first_of (codes "all") (rows_of (found_of values.now)) ≡ Some (all_text pickles)
+        → first_of (codes "one-unpickler") (rows_of (found_of values.now))
+        ≡ Some (one_text pickles) → ⊥) }
 {
     let all = flag_of(values, "all")?;
     let one = flag_of(values, "one-unpickler")?;
@@ -140,21 +172,24 @@ fn pickles_of(values: &ArgMatches) -> Option<Pickles>
         (false, false) => Some(Pickles::First),
         (true, false) => Some(Pickles::Row(Memo::Fresh)),
         (true, true) => Some(Pickles::Row(Memo::Kept)),
-        // clap refuses it
+        // one Unpickler for a single pickle is no choice
         (false, true) => None,
     }
 }
 
 /// The value of a flag.
 fn flag_of(values: &ArgMatches, id: &str) -> Option<bool>
-    ensures { IfSome result (λ flag.
+    ensures some { IfSome result (λ flag.
         first_of id.now (rows_of (found_of values.now)) ≡ Some (flag_text flag)) }
+    ensures none { (flag : Bool) → IfNone result
+        (first_of id.now (rows_of (found_of values.now)) ≡ Some (flag_text flag) → ⊥) }
 {
     flag_named(text_of(values, id)?)
 }
 
 fn flag_named(text: &str) -> Option<bool>
-    ensures { IfSome result (λ flag. text.now ≡ flag_text flag) }
+    ensures some { IfSome result (λ flag. text.now ≡ flag_text flag) }
+    ensures none { (flag : Bool) → IfNone result (text.now ≡ flag_text flag → ⊥) }
 {
     if text == "true" {
         return Some(true);

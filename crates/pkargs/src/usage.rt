@@ -1,4 +1,8 @@
 //! Why a command line has no job.
+ghost use Rattle.std.specs.Prelude.{◌≡◌};
+ghost use Rattle.clap.specs.Words.{kind_of};
+ghost use Rattle.clap.specs.declared.error.kind.ErrorKind.TheVariants as kind;
+
 use clap::error::ErrorKind;
 use std::alloc::Global;
 
@@ -14,7 +18,9 @@ pub enum Usage {
 }
 
 /// What an error or message of `clap` tells the user.
-pub fn usage_of(alloc: Global, error: &clap::Error) -> Usage {
+pub fn usage_of(alloc: Global, error: &clap::Error) -> Usage
+    ensures { kind_of error.now ≡ kind.OutOfMemory → result ≡ Usage.OutOfMemory }
+{
     let Ok(text) = format!(in alloc; "{error}") else {
         return Usage::OutOfMemory;
     };

@@ -11,12 +11,17 @@ pub mod Given
 pub mod Payloads
 pub mod Refusals
 pub mod Checked
+pub mod ImportsBefore
 pub mod InTurn
 pub mod LentInstructions
 pub mod HeardInstructions
+pub mod WholeReports
 pub mod AnotherPickle
 pub mod WorkLeft
 pub mod RowOfPickles
+pub mod ThreeEnds
+pub mod Going
+pub mod BehindStop
 pub mod Exclusive
 pub mod EachSetting
 mod AnswerExamples

@@ -9,10 +9,13 @@ pub mod Denials
 pub mod Spelled
 pub mod Actions
 pub mod Judgement
+pub mod WholeReports
 pub mod Lent
 pub mod ListIndex
 pub mod NewTexts
 pub mod NextPickle
+pub mod Turns
+pub mod ThreeEnds
 pub mod NamelessOperations
 pub mod Steps
 pub mod NamedOperations

@@ -1,4 +1,5 @@
--- What the answer of `check_all` means for pickles that follow each other in a source.
+-- What the answers of `check_all` and `check_all_loaded` mean for pickles that follow each other in
+-- a source.
 use Rattle.std.specs.Prelude.{◌≡◌, ◌≢◌, ◌<◌, ℕ, List, [], ◌∷◌, ◌++◌, length, flat_map, All, Option}
 use Rattle.std.specs.Prelude.{Some, Result, MatchResult, option_map}
 use Rattle.std.specs.Io.KnownBytes.{IsAtEnd}
@@ -13,6 +14,7 @@ use Rattle.pkread.specs.declared.Reason.TheVariants.{Truncated}
 use Rattle.pkcheck.specs.declared.loading.Loading.{Loading}
 use Rattle.pkcheck.specs.declared.loading.Memo.{Memo}
 use Rattle.pkcheck.specs.declared.loading.Memo.TheVariants.{Fresh, Kept}
+use Rattle.pkcheck.specs.declared.old_strings.OldStrings.{OldStrings}
 use Rattle.pkcheck.specs.Accepted.{AcceptedFrom}
 use Rattle.pkcheck.specs.Import.{asked_shown}
 use Rattle.pkcheck.specs.Knowledge.{Policy, Asked}
@@ -31,6 +33,10 @@ pub record IsRow (limit : Op → ℕ) (sequences : List (List Instruction)) (byt
 -- the bytes of all pickles
 abbrev pub bytes_of_all : List Pickle → List ℕ
 bytes_of_all pickles = flat_map spellings (sequences_of pickles)
+
+-- how `check_all` loads each pickle: with a fresh memo
+abbrev pub each_afresh : OldStrings → Loading
+each_afresh setting = record { memo = Fresh; old_strings = setting }
 
 -- where the runs of the next pickle begin
 abbrev pub begins : Memo → List Pickle → Beginning

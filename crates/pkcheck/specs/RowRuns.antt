@@ -1,6 +1,6 @@
 -- Where the runs of a pickle begin: with nothing, or after other pickles of a row, under one
 -- Unpickler that keeps its memo.
-use Rattle.std.specs.Prelude.{◌≡◌, All, List, [], ◌∷◌, map, flat_map, Option, Some, None}
+use Rattle.std.specs.Prelude.{◌≡◌, All, List, [], ◌∷◌, ◌++◌, map, flat_map, Option, Some, None}
 use Rattle.pkops.specs.Spelling.{Instruction}
 use Rattle.pkcheck.specs.declared.old_strings.OldStrings.{OldStrings}
 use Rattle.pkcheck.specs.Knowledge.{Asked}
@@ -65,6 +65,13 @@ abbrev pub CanArrive : OldStrings → Beginning → List Instruction → State �
 CanArrive setting Afresh before state = CanGetTo setting before start state
 CanArrive setting (Behind pickles) before state =
     (first : State) × CanComeTo setting pickles first × CanGetTo setting before first state
+
+-- some run gets to each of these instructions, with only possible outcomes before it
+abbrev pub EachIsReached : OldStrings → Beginning → List Instruction → Type 0
+EachIsReached setting beginning instructions =
+    (before : List Instruction) (instruction : Instruction) (after : List Instruction)
+    → instructions ≡ before ++ instruction ∷ after
+    → (state : State) × CanArrive setting beginning before state
 
 -- every run of these instructions that begins like this has this property
 abbrev pub InEachRunFrom : OldStrings → Beginning → List Instruction → (Ended → Type 0) → Type 0

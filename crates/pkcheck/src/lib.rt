@@ -3,6 +3,8 @@
 #![tactic(auto)]
 
 mod allow;
+mod audience;
+mod check_loop;
 mod checking;
 pub mod effect;
 mod import;
@@ -19,6 +21,8 @@ mod quoted;
 mod row_of_pickles;
 mod same;
 mod session;
+mod turned;
+mod with_imports;
 
 pub use allow::{Allow, AllowError, Where};
 pub use checking::{No, Yes, check, check_as};
@@ -32,4 +36,5 @@ pub use old_strings::OldStrings;
 pub use pairs::Pair;
 pub use policy::Policy;
 pub use quoted::Quoted;
-pub use row_of_pickles::{NoAll, YesAll, check_all};
+pub use row_of_pickles::{NoAll, YesAll, check_all, check_all_loaded};
+pub use with_imports::{NoWithImports, check_with_imports};

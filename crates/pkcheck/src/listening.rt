@@ -9,13 +9,13 @@ ghost use Rattle.pkcheck.specs.Answered.{CountsFailures};
 ghost use Rattle.pkcheck.specs.Heard.{Heard, IsCutShort, IsRightAndHeard, heard};
 ghost use Rattle.pkcheck.specs.Import.{policy_of};
 
+use crate::check_loop::{Extent, Terms, check_pickles};
 use crate::checking::{No, Yes};
+use crate::loading::{Loading, Memo};
 use crate::old_strings::OldStrings;
 use crate::policy::Policy;
-use crate::session::Session;
 use pkops::{Inst, Limits};
-use pkread::laws::{frames, nexts};
-use pkread::{Next, Reader, Source};
+use pkread::Source;
 use std::alloc::Global;
 
 /// Hears the instructions of a pickle while it is checked.
@@ -71,24 +71,19 @@ pub fn check_heard<R: Source, L: Listener>(
         (CountsFailures (R.failures source.old) (R.failures source.new))
         (λ _. R.failures source.new ≡ R.failures source.old) }
 {
-    nexts();
-    frames();
-    let limits = limits.holding_all();
-    let mut reader = Reader::new(alloc, source, &limits);
-    let mut session = Session::new(alloc, &limits, OldStrings::Unknown);
-    'instructions: loop {
-        if let Err(refusal) = session.hear_at_hand(&mut reader, policy, listener)? {
-            return Ok(Err(session.refuse(refusal.at, refusal.reason)));
-        }
-        match reader.next() {
-            Err(refusal) => return Ok(Err(session.refuse(refusal.at, refusal.reason))),
-            Ok(Next::Ended) => return Ok(Ok(session.accept(reader.taken()))),
-            Ok(Next::Inst { at, inst }) => {
-                listener.hear(at, &inst, session.marks())?;
-                if let Err(reason) = session.judge(&inst, policy) {
-                    return Ok(Err(session.refuse(at, reason)));
-                }
-            }
-        }
+    let terms = Terms {
+        limits: limits.holding_all(),
+        loading: Loading {
+            memo: Memo::Fresh,
+            old_strings: OldStrings::Unknown,
+        },
+        extent: Extent::OnePickle,
+    };
+    match check_pickles(alloc, source, policy, &terms, listener)? {
+        Ok(yes) => Ok(Ok(Yes {
+            taken: yes.taken,
+            imports: yes.imports,
+        })),
+        Err(refused) => Ok(Err(refused.no)),
     }
 }

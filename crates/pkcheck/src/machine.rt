@@ -284,9 +284,10 @@ impl Machine {
         Ok(())
     }
 
-    /// Moves the imports out. Nothing is known afterwards.
+    /// Moves the imports out. Of the stack and the memo nothing is known afterwards.
     pub(crate) fn take_imports(&mut self) -> Imports
-        ensures { result ≡ self.old.imports }
+        ensures imports { result ≡ self.old.imports }
+        ensures off { self.new.off ≡ self.old.off }
     {
         self.held.take_imports(self.terms.alloc)
     }

@@ -1,4 +1,7 @@
 //! A list as an array of pairs, which the caller owns.
+//!
+//! A hit by binary search is valid whatever the order. A miss falls back to a scan, at most once in
+//! a check, since a miss ends it, and never if the caller vouches for the order.
 
 ghost use Rattle.std.specs.Prelude.{◌≡◌};
 ghost use Rattle.pkcheck.specs.Pairs.{found, have};

@@ -6,17 +6,20 @@ ghost use Rattle.pkread.specs.Rows.{all_bytes, sight};
 ghost use Rattle.pkcheck.specs.Import.{policy_of};
 ghost use Rattle.pkcheck.specs.Private.Judgement.{IsNoAt};
 ghost use Rattle.pkcheck.specs.Private.NextPickle.{IsCounted, IsRestarted, LooksBehind, listed_in};
-ghost use Rattle.pkcheck.specs.RowOfPickles.{CountsInRow, IsRightOfRow};
+ghost use Rattle.pkcheck.specs.RowOfPickles.{CountsInRow, IsRightOfRow, each_afresh};
 
+use crate::audience::Silent;
+use crate::check_loop::{Extent, RefusedPickle, Terms, check_pickles};
 use crate::checking::No;
 use crate::imports::Imports;
 use crate::loading::{Loading, Memo};
 use crate::machine::ledger::Ledger;
+use crate::old_strings::OldStrings;
 use crate::policy::Policy;
 use crate::session::Session;
+use crate::with_imports::NoWithImports;
 use pkops::Limits;
-use pkread::laws::{frames, heads, rows};
-use pkread::{Head, Reader, Reason, Refusal, Source};
+use pkread::{Reader, Reason, Refusal, Source};
 use std::alloc::Global;
 use std::error::Error;
 use std::fmt;
@@ -57,6 +60,27 @@ impl fmt::Display for NoAll {
 impl Error for NoAll {}
 
 /// Reads one pickle after another, up to the end of the source, and checks each as
+/// [`check_as`](crate::check_as) does, with a fresh memo: this is [`check_all_loaded`] with
+/// [`Memo::Fresh`].
+pub fn check_all<R: Source>(
+    alloc: Global,
+    source: &mut R,
+    policy: &Policy<'_>,
+    limits: &Limits,
+    old_strings: OldStrings,
+) -> Result<YesAll, NoAll>
+    ensures answer { IsRightOfRow (each_afresh old_strings) (policy_of policy.now) limits.now
+        (sight R.left R.failures source.old) (sight R.left R.failures source.new) result }
+    ensures count { CountsInRow (R.failures source.old) (R.failures source.new) result }
+{
+    let loading = Loading {
+        memo: Memo::Fresh,
+        old_strings,
+    };
+    check_all_loaded(alloc, source, policy, limits, loading)
+}
+
+/// Reads one pickle after another, up to the end of the source, and checks each as
 /// [`check_as`](crate::check_as) does. The time is linear in the number of bytes, however many
 /// pickles there are.
 ///
@@ -70,7 +94,7 @@ impl Error for NoAll {}
 /// A `YesAll` covers at least one pickle. A `NoAll` names the first refused pickle; if it is
 /// unknown whether another pickle begins, because the source failed or 2^64 - 1 bytes were taken,
 /// it names that one.
-pub fn check_all<R: Source>(
+pub fn check_all_loaded<R: Source>(
     alloc: Global,
     source: &mut R,
     policy: &Policy<'_>,
@@ -81,47 +105,24 @@ pub fn check_all<R: Source>(
         (sight R.left R.failures source.old) (sight R.left R.failures source.new) result }
     ensures count { CountsInRow (R.failures source.old) (R.failures source.new) result }
 {
-    heads();
-    frames();
-    rows();
-    let mut reader = Reader::new(alloc, source, limits);
-    let mut session = Session::new(alloc, limits, loading.old_strings);
-    let mut row = Row::new(alloc, loading.memo);
-    'instructions: loop {
-        if let Err(refusal) = session.judge_at_hand(&mut reader, policy) {
-            return Err(row.refused(&mut session, refusal.at, refusal.reason));
-        }
-        match reader.next_head() {
-            Err(refusal) => return Err(row.refused(&mut session, refusal.at, refusal.reason)),
-            Ok(Head::Ended) => {
-                let taken = reader.taken();
-                match row.next(&mut reader, &mut session) {
-                    Err(refusal) => return Err(row.refused(
-                        &mut session,
-                        refusal.at,
-                        refusal.reason,
-                    )),
-                    Ok(true) => {}
-                    Ok(false) => return Ok(row.accepted(taken, &mut session)),
-                }
-            }
-            Ok(Head::Passed { at, op, .. }) => {
-                if let Err(reason) = session.judge_passed(op, reader.taken() - at, policy) {
-                    return Err(row.refused(&mut session, at, reason));
-                }
-            }
-            Ok(Head::Inst { at, inst }) => {
-                if let Err(reason) = session.judge(&inst, policy) {
-                    return Err(row.refused(&mut session, at, reason));
-                }
-            }
-        }
+    let terms = Terms {
+        limits: *limits,
+        loading,
+        extent: Extent::ToTheEnd,
+    };
+    match check_pickles(alloc, source, policy, &terms, &mut Silent) {
+        Ok(Ok(yes)) => Ok(yes),
+        Ok(Err(refused)) => Err(NoAll {
+            pickle: refused.pickle,
+            no: refused.no,
+        }),
+        Err(never) => match never {},
     }
 }
 
 /// The pickles of a row so far.
 #[derive(Drop)]
-struct Row {
+pub(crate) struct Row {
     memo: Memo,
     pickles: u64,
     /// The imports of pickles that the machine forgot.
@@ -130,7 +131,7 @@ struct Row {
 
 impl Row {
     /// A row without a pickle.
-    fn new(alloc: Global, memo: Memo) -> Row
+    pub fn new(alloc: Global, memo: Memo) -> Row
         ensures { result ≡ record {
           memo = memo;
           pickles = 0;
@@ -146,7 +147,7 @@ impl Row {
 
     /// Counts a pickle that has ended. Returns whether another one begins, for which the session is
     /// then ready.
-    fn next<R: Source>(
+    pub fn next<R: Source>(
         &mut self,
         reader: &mut Reader<'_, R>,
         session: &mut Session,
@@ -171,7 +172,7 @@ impl Row {
     }
 
     /// The accepted row, in which this many bytes were taken.
-    fn accepted(self, taken: u64, session: &mut Session) -> YesAll
+    pub fn accepted(self, taken: u64, session: &mut Session) -> YesAll
         ensures taken { result.taken ≡ taken }
         ensures pickles { result.pickles ≡ self.pickles }
         ensures imports { result.imports
@@ -193,14 +194,32 @@ impl Row {
         }
     }
 
-    /// The refusal of the pickle behind those so far, at this offset, for this reason.
-    fn refused(self, session: &mut Session, at: u64, reason: Reason) -> NoAll
-        ensures pickle { result.pickle ≡ self.pickles }
-        ensures no { IsNoAt at reason session.old.machine.off result.no }
+    /// The acceptance of a pickle that is alone and was not counted, of so many bytes.
+    pub fn alone(self, taken: u64, session: &mut Session) -> YesAll
+        ensures taken { result.taken ≡ taken }
+        ensures pickles { result.pickles ≡ 1 }
+        ensures imports { result.imports ≡ session.old.machine.imports }
     {
-        NoAll {
+        let Row { apart, .. } = self;
+        drop(apart);
+        YesAll {
+            taken,
+            pickles: 1,
+            imports: session.take_imports(),
+        }
+    }
+
+    /// The refusal of the pickle behind those so far.
+    pub fn refused(self, session: &mut Session, refusal: Refusal) -> RefusedPickle
+        ensures pickle { result.pickle ≡ self.pickles }
+        ensures no { IsNoAt refusal.at refusal.reason session.old.machine.off result.no }
+        ensures imports { result.imports ≡ session.old.machine.imports }
+    {
+        let NoWithImports { no, imports } = session.refuse_with_imports(refusal.at, refusal.reason);
+        RefusedPickle {
             pickle: self.pickles,
-            no: session.refuse(at, reason),
+            no,
+            imports,
         }
     }
 }

@@ -1,55 +1,40 @@
 //! The frames and the machine of one check, which judge one instruction at a time.
 
-ghost use Rattle.std.specs.Prelude.{◌≡◌, ◌+◌, ◌<◌, ◌≤◌, ℕ, List, IfOk, IfErr, IsTrue, MatchResult};
-ghost use Rattle.std.specs.Prelude.{None, OnErr, OnOk, false, length};
+ghost use Rattle.std.specs.Prelude.{◌≡◌, ◌+◌, ◌<◌, ◌≤◌, IfErr, IfOk, IsTrue, MatchResult, None};
+ghost use Rattle.std.specs.Prelude.{OnErr, OnOk, false, length, true};
 ghost use Rattle.pkops.specs.Admitted.{is_admitted};
 ghost use Rattle.pkops.specs.Inst.{instruction_of};
 ghost use Rattle.pkops.specs.Payloads.{is_passed};
 ghost use Rattle.pkops.specs.Spelling.{Instruction};
+ghost use Rattle.pkread.specs.Core.{Open};
 ghost use Rattle.pkread.specs.Pieces.{number_of, role_of};
 ghost use Rattle.pkread.specs.ReaderCalls.{KeepsSource, TakesNoneAhead, has_ended, state};
 ghost use Rattle.pkread.specs.Rows.{all_bytes};
 ghost use Rattle.pkcheck.specs.Covers.{Covers};
-ghost use Rattle.pkcheck.specs.Heard.{Heard};
 ghost use Rattle.pkcheck.specs.Import.{policy_of};
 ghost use Rattle.pkcheck.specs.Private.Judgement.{BothGoOn, HasLength, IsNoAt, IsRefused};
-ghost use Rattle.pkcheck.specs.Private.Lent.{FailsAtHand, FailsInTurn, GoesAlong, HearsAlong};
-ghost use Rattle.pkcheck.specs.Private.Lent.{HearsInTurn, HearsRefused, HearsTurned, PassInTurn};
-ghost use Rattle.pkcheck.specs.Private.Lent.{RefusesLent, TurnsDown};
+ghost use Rattle.pkcheck.specs.Private.Lent.{FailsAtHand, FailsInTurn, HearsAlong, HearsInTurn};
+ghost use Rattle.pkcheck.specs.Private.Lent.{HearsRefused, HearsTurned};
 ghost use Rattle.pkcheck.specs.Private.NextPickle.{moved_apart, restarted};
+ghost use Rattle.pkcheck.specs.Private.Turns.{FailsNext, HearsNext, RefusesNext};
 ghost use Rattle.pkcheck.specs.Runs.{State};
 ghost use Rattle.pkcheck.specs.Shape.{marks_of};
 ghost use Rattle.pkcheck.specs.View.{fresh};
 
-use crate::checking::{No, Yes};
+use crate::audience::{Audience, tell_lent};
+use crate::checking::No;
 use crate::imports::Imports;
-use crate::listening::Listener;
 use crate::loading::Memo;
 use crate::machine::Machine;
 use crate::machine::ledger::Ledger;
 use crate::old_strings::OldStrings;
 use crate::policy::Policy;
+use crate::turned::{Failed, Turned};
+use crate::with_imports::NoWithImports;
 use pkops::{Inst, Limits, Op};
-use pkread::{Frames, Reader, Reason, Refusal, Source, frame_argument, lend};
+use pkread::{Frames, Head, Next, Reader, Reason, Refusal, Source, frame_argument, lend};
 use std::alloc::{AllocError, Global};
 use std::marker::Model;
-
-/// The first instruction that a session refuses among some bytes.
-#[derive(Clone, Copy, Debug, Drop)]
-pub(crate) struct Turned {
-    /// The number of bytes in front of it.
-    pub before: usize,
-    /// The number of its bytes.
-    pub length: usize,
-    pub reason: Reason,
-}
-
-/// The first instruction among some bytes at which a listener fails. See `Turned`.
-pub(crate) struct Failed<E> {
-    pub before: usize,
-    pub length: usize,
-    pub error: E,
-}
 
 /// The frame rules and the machine of a check. If the frame rules refuse an instruction, the
 /// machine stays unchanged.
@@ -87,93 +72,28 @@ impl Session {
         }
     }
 
-    /// Judges instructions that are at hand, and takes the bytes of those accepted and of the first
-    /// one refused.
+    /// Tells of the instructions that are at hand and judges each, and takes the bytes of those
+    /// accepted and of the first one refused. If the audience fails, the bytes up to the end of the
+    /// instruction at which it did are taken.
     #[inline(always)]
-    pub fn judge_at_hand<R: Source>(
+    pub fn hear_at_hand<R: Source, A: Audience>(
         &mut self,
         reader: &mut Reader<'_, R>,
         policy: &Policy<'_>,
-    ) -> Result<(), Refusal>
+        audience: &mut A,
+    ) -> Result<Result<(), Refusal>, A::Error>
         requires ends { self.old.machine.stopped ≡ has_ended (state R.left R.failures reader.old) }
         requires well { self.old.machine.refused ≡ None }
         ensures source { KeepsSource reader.old reader.new }
-        ensures ok { OnOk result (GoesAlong (policy_of policy.now)
-            (state R.left R.failures reader.old) (state R.left R.failures reader.new) self.old
-            self.new) }
-        ensures none { OnErr result (TakesNoneAhead reader.new) }
-        ensures err { IfErr result (RefusesLent (policy_of policy.now)
-            (state R.left R.failures reader.old) (state R.left R.failures reader.new) self.old
-            self.new.machine) }
-    {
-        let Some(bytes) = reader.at_hand() else {
-            return Ok(());
-        };
-        match self.judge_all_lent(bytes, policy) {
-            Ok(count) => {
-                reader.advance(count);
-                return Ok(());
-            }
-            Err(turned) => {
-                let at = reader.taken() + turned.before as u64;
-                reader.advance(turned.before + turned.length);
-                return Err(Refusal {
-                    at,
-                    reason: turned.reason,
-                });
-            }
-        }
-    }
-
-    /// Judges the instructions at the front of some bytes, as far as they can be lent and lie in
-    /// the open frame. Returns the number of their bytes.
-    #[inline(always)]
-    fn judge_all_lent(&mut self, bytes: &[u8], policy: &Policy<'_>) -> Result<usize, Turned>
-        requires running { self.old.machine.stopped ≡ false }
-        requires well { self.old.machine.refused ≡ None }
-        ensures ok { IfOk result (λ count. (n : ℕ) × (hs : List Heard) × PassInTurn
-            (policy_of policy.now) 0 bytes.now self.old n self.new count hs) }
-        ensures err { IfErr result (TurnsDown (policy_of policy.now) 0 bytes.now self.old
-            self.new.machine) }
-    {
-        let inside = self.frames.inside(bytes);
-        let mut rest = inside;
-        'instructions: while let Some(inst) = lend(rest, self.machine.limits()) {
-            let length = inst.len() as usize;
-            if let Err(reason) = self.machine.step_on(&inst, policy) {
-                return Err(Turned {
-                    before: inside.len() - rest.len(),
-                    length,
-                    reason,
-                });
-            }
-            rest = &rest[length..];
-        }
-        let count = inside.len() - rest.len();
-        self.frames.take_inside(count);
-        Ok(count)
-    }
-
-    /// As `judge_at_hand`, with a listener that hears each instruction before it is judged. If it
-    /// fails, the bytes up to the end of the instruction at which it did are taken.
-    #[inline(always)]
-    pub fn hear_at_hand<R: Source, L: Listener>(
-        &mut self,
-        reader: &mut Reader<'_, R>,
-        policy: &Policy<'_>,
-        listener: &mut L,
-    ) -> Result<Result<(), Refusal>, L::Error>
-        requires ends { self.old.machine.stopped ≡ has_ended (state R.left R.failures reader.old) }
-        requires well { self.old.machine.refused ≡ None }
-        ensures source { KeepsSource reader.old reader.new }
-        ensures ok { IfOk result (λ judged. OnOk judged (HearsAlong L.hears listener.old
-            listener.new (policy_of policy.now) (state R.left R.failures reader.old)
+        ensures ok { IfOk result (λ judged. OnOk judged (HearsAlong A.hears audience.old
+            audience.new A.holding (policy_of policy.now) (state R.left R.failures reader.old)
             (state R.left R.failures reader.new) self.old self.new)) }
-        ensures no { IfOk result (λ judged. IfErr judged (HearsRefused L.hears listener.old
-            listener.new (policy_of policy.now) (state R.left R.failures reader.old)
+        ensures no { IfOk result (λ judged. IfErr judged (HearsRefused A.hears audience.old
+            audience.new A.holding (policy_of policy.now) (state R.left R.failures reader.old)
             (state R.left R.failures reader.new) self.old self.new.machine)) }
-        ensures err { OnErr result (FailsAtHand L.hears listener.old (policy_of policy.now)
-            (state R.left R.failures reader.old) (state R.left R.failures reader.new) self.old) }
+        ensures err { OnErr result (FailsAtHand A.hears audience.old A.holding
+            (policy_of policy.now) (state R.left R.failures reader.old)
+            (state R.left R.failures reader.new) self.old) }
         ensures none { MatchResult result (λ judged. OnErr judged (TakesNoneAhead reader.new))
             (λ _. TakesNoneAhead reader.new) }
     {
@@ -181,7 +101,7 @@ impl Session {
             return Ok(Ok(()));
         };
         let taken = reader.taken();
-        match self.hear_all_lent(taken, bytes, policy, listener) {
+        match self.hear_all_lent(taken, bytes, policy, audience) {
             Ok(Ok(passed)) => {
                 reader.advance(passed);
                 return Ok(Ok(()));
@@ -205,23 +125,26 @@ impl Session {
         }
     }
 
-    /// As `judge_all_lent`, with a listener. The first byte has the offset `at`.
+    /// Tells of the instructions at the front of some bytes and judges each, as far as they can be
+    /// lent and lie in the open frame. The first byte has the offset `at`. Returns the number of
+    /// their bytes.
     #[inline(always)]
-    fn hear_all_lent<L: Listener>(
+    fn hear_all_lent<A: Audience>(
         &mut self,
         at: u64,
         bytes: &[u8],
         policy: &Policy<'_>,
-        listener: &mut L,
-    ) -> Result<Result<usize, Turned>, Failed<L::Error>>
+        audience: &mut A,
+    ) -> Result<Result<usize, Turned>, Failed<A::Error>>
         requires running { self.old.machine.stopped ≡ false }
         requires well { self.old.machine.refused ≡ None }
         requires room { at + length bytes.now ≤ all_bytes }
-        ensures ok { IfOk result (λ judged. IfOk judged (HearsInTurn L.hears listener.old
-            listener.new (policy_of policy.now) at bytes.now self.old self.new)) }
-        ensures no { IfOk result (λ judged. IfErr judged (HearsTurned L.hears listener.old
-            listener.new (policy_of policy.now) at bytes.now self.old self.new.machine)) }
-        ensures err { IfErr result (λ failed. FailsInTurn L.hears listener.old
+        ensures ok { IfOk result (λ judged. IfOk judged (HearsInTurn A.hears audience.old
+            audience.new A.holding (policy_of policy.now) at bytes.now self.old self.new)) }
+        ensures no { IfOk result (λ judged. IfErr judged (HearsTurned A.hears audience.old
+            audience.new A.holding (policy_of policy.now) at bytes.now self.old
+            self.new.machine)) }
+        ensures err { IfErr result (λ failed. FailsInTurn A.hears audience.old A.holding
             (policy_of policy.now) at bytes.now self.old failed.before failed.length) }
     {
         let inside = self.frames.inside(bytes);
@@ -231,7 +154,7 @@ impl Session {
         'instructions: while let Some(inst) = lend(rest, self.machine.limits()) {
             let here = end - rest.len() as u64;
             let length = inst.len() as usize;
-            if let Err(error) = listener.hear(here, &inst, self.machine.marks()) {
+            if let Err(error) = tell_lent(audience, here, &inst, self.machine.marks()) {
                 return Err(Failed {
                     before: inside.len() - rest.len(),
                     length,
@@ -250,6 +173,119 @@ impl Session {
         let count = inside.len() - rest.len();
         self.frames.take_inside(count);
         Ok(Ok(count))
+    }
+
+    /// Takes the next instruction of a reader, tells of it, and judges it.
+    #[inline(always)]
+    pub fn hear_next<R: Source, A: Audience>(
+        &mut self,
+        reader: &mut Reader<'_, R>,
+        policy: &Policy<'_>,
+        audience: &mut A,
+    ) -> Result<Result<(), Refusal>, A::Error>
+        requires ready { (state R.left R.failures reader.old).phase ≡ Open }
+        requires running { self.old.machine.stopped ≡ false }
+        requires well { self.old.machine.refused ≡ None }
+        ensures source { KeepsSource reader.old reader.new }
+        ensures none { TakesNoneAhead reader.new }
+        ensures ok { IfOk result (λ judged. OnOk judged (HearsNext A.holding A.hears audience.old
+            audience.new (policy_of policy.now) (state R.left R.failures reader.old)
+            (state R.left R.failures reader.new) self.old self.new)) }
+        ensures no { IfOk result (λ judged. IfErr judged (RefusesNext A.holding A.hears
+            audience.old audience.new (policy_of policy.now) (state R.left R.failures reader.old)
+            (state R.left R.failures reader.new) self.old self.new.machine)) }
+        ensures err { OnErr result (FailsNext (state R.left R.failures reader.old)
+            (state R.left R.failures reader.new) A.holding) }
+    {
+        if A::holds() {
+            return self.hear_held(reader, policy, audience);
+        }
+        self.hear_head(reader, policy, audience)
+    }
+
+    /// As `hear_next`, for an instruction with its payload.
+    #[inline(always)]
+    fn hear_held<R: Source, A: Audience>(
+        &mut self,
+        reader: &mut Reader<'_, R>,
+        policy: &Policy<'_>,
+        audience: &mut A,
+    ) -> Result<Result<(), Refusal>, A::Error>
+        requires ready { (state R.left R.failures reader.old).phase ≡ Open }
+        requires running { self.old.machine.stopped ≡ false }
+        requires well { self.old.machine.refused ≡ None }
+        ensures source { KeepsSource reader.old reader.new }
+        ensures none { TakesNoneAhead reader.new }
+        ensures ok { IfOk result (λ judged. OnOk judged (HearsNext true A.hears audience.old
+            audience.new (policy_of policy.now) (state R.left R.failures reader.old)
+            (state R.left R.failures reader.new) self.old self.new)) }
+        ensures no { IfOk result (λ judged. IfErr judged (RefusesNext true A.hears audience.old
+            audience.new (policy_of policy.now) (state R.left R.failures reader.old)
+            (state R.left R.failures reader.new) self.old self.new.machine)) }
+        ensures err { OnErr result (FailsNext (state R.left R.failures reader.old)
+            (state R.left R.failures reader.new) true) }
+    {
+        match reader.next() {
+            Err(refusal) => return Ok(Err(refusal)),
+            Ok(Next::Ended) => unreachable!(),
+            Ok(Next::Inst { at, inst }) => {
+                if let Err(error) = audience.tell(at, &inst, self.marks()) {
+                    return Err(error);
+                }
+                if let Err(reason) = self.judge(&inst, policy) {
+                    return Ok(Err(Refusal { at, reason }));
+                }
+                return Ok(Ok(()));
+            }
+        }
+    }
+
+    /// As `hear_next`, for an instruction whose payload is skipped if it has one of plain bytes.
+    #[inline(always)]
+    fn hear_head<R: Source, A: Audience>(
+        &mut self,
+        reader: &mut Reader<'_, R>,
+        policy: &Policy<'_>,
+        audience: &mut A,
+    ) -> Result<Result<(), Refusal>, A::Error>
+        requires skips { A.holding ≡ false }
+        requires ready { (state R.left R.failures reader.old).phase ≡ Open }
+        requires running { self.old.machine.stopped ≡ false }
+        requires well { self.old.machine.refused ≡ None }
+        ensures source { KeepsSource reader.old reader.new }
+        ensures none { TakesNoneAhead reader.new }
+        ensures ok { IfOk result (λ judged. OnOk judged (HearsNext false A.hears audience.old
+            audience.new (policy_of policy.now) (state R.left R.failures reader.old)
+            (state R.left R.failures reader.new) self.old self.new)) }
+        ensures no { IfOk result (λ judged. IfErr judged (RefusesNext false A.hears audience.old
+            audience.new (policy_of policy.now) (state R.left R.failures reader.old)
+            (state R.left R.failures reader.new) self.old self.new.machine)) }
+        ensures err { OnErr result (FailsNext (state R.left R.failures reader.old)
+            (state R.left R.failures reader.new) false) }
+    {
+        match reader.next_head() {
+            Err(refusal) => return Ok(Err(refusal)),
+            Ok(Head::Ended) => unreachable!(),
+            Ok(Head::Passed { at, op, .. }) => {
+                let length = reader.taken() - at;
+                if let Err(error) = audience.tell_skipped(at, op, length, self.marks()) {
+                    return Err(error);
+                }
+                if let Err(reason) = self.judge_passed(op, length, policy) {
+                    return Ok(Err(Refusal { at, reason }));
+                }
+                return Ok(Ok(()));
+            }
+            Ok(Head::Inst { at, inst }) => {
+                if let Err(error) = audience.tell(at, &inst, self.marks()) {
+                    return Err(error);
+                }
+                if let Err(reason) = self.judge(&inst, policy) {
+                    return Ok(Err(Refusal { at, reason }));
+                }
+                return Ok(Ok(()));
+            }
+        }
     }
 
     /// Judges an instruction that a loop seldom meets: any one that is not lent.
@@ -324,15 +360,15 @@ impl Session {
         }
     }
 
-    /// The acceptance of a pickle of so many bytes. This ends the session. See `refuse`.
-    pub fn accept(&mut self, taken: u64) -> Yes
-        ensures taken { result.taken ≡ taken }
+    /// As `refuse`, with the imports before the offset.
+    #[inline(never)]
+    pub fn refuse_with_imports(&mut self, at: u64, reason: Reason) -> NoWithImports
+        ensures no { IsNoAt at reason self.old.machine.off result.no }
         ensures imports { result.imports ≡ self.old.machine.imports }
     {
-        Yes {
-            taken,
-            imports: self.take_imports(),
-        }
+        let imports = self.machine.take_imports();
+        let no = self.refuse(at, reason);
+        NoWithImports { no, imports }
     }
 
     /// The imports. This ends the session. See `refuse`.

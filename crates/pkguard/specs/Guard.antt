@@ -12,6 +12,8 @@ use Rattle.pkcheck.specs.ListFile.{limits_in, list_of, lists_in}
 use Rattle.pkcheck.specs.Accepted.{Accepted}
 use Rattle.pkcheck.specs.Refused.{Refused}
 use Rattle.pkcheck.specs.RowOfPickles.{AcceptedRow, RefusedInRow}
+use Rattle.pkcheck.specs.RowRuns.{Afresh}
+use Rattle.pkcheck.specs.WithImports.{RefusedWithImports}
 use Rattle.pkcheck.specs.declared.AllowError.{AllowError}
 use Rattle.pkcheck.specs.declared.AllowError.TheVariants.{Syntax, OutOfMemory}
 use Rattle.pkcheck.specs.declared.Loading.{Loading}
@@ -69,6 +71,10 @@ verdict_of_no at reason (Some (AskedPair module_name name)) pickles =
       name_length = length name;
     }
 verdict_of_no at reason _ pickles = no_alone at reason pickles
+
+-- the verdict for a refusal behind this many imports, if every import is permitted
+abbrev pub verdict_behind : ℕ → Reason → ℕ → Verdict
+verdict_behind at reason imports = record (no_alone at reason 0) { imports = imports }
 
 -- the verdict for a list file that cannot be read
 abbrev pub verdict_of_fault : AllowError → Verdict
@@ -160,6 +166,20 @@ pub record IsImports (old : OldStrings) (limits : Bounds) (pickle before after :
   pub imports : List Asked
   pub accepted : Accepted old None limits (memory pickle) (memory rest) verdict.taken imports
   pub told : verdict ≡ verdict_of_yes verdict.taken (length imports) 1
+  pub asks : wanted ≡ wanted_by imports
+  pub room : after ≡ placed (encoded_all imports) before
+
+-- the pickle at the front of the bytes is refused with every import permitted, at an offset and for
+-- a reason; the imports of the instructions before that offset are in the buffer if it has room for
+-- all of them
+pub record IsImportsBefore (old : OldStrings) (limits : Bounds) (pickle before after : List ℕ)
+    (wanted : ℕ) (verdict : Verdict) : Type 0 where
+  pub rest : List ℕ
+  pub why : Reason
+  pub imports : List Asked
+  pub refused : RefusedWithImports 0 old Afresh None limits (memory pickle) (memory rest)
+      verdict.at why None imports
+  pub told : verdict ≡ verdict_behind verdict.at why (length imports)
   pub asks : wanted ≡ wanted_by imports
   pub room : after ≡ placed (encoded_all imports) before
 

@@ -1,5 +1,10 @@
 //! The checker for C: a static library whose functions check pickles in memory.
 //!
+//! A list is an array of pairs that the caller owns, so nothing is created, shared or freed.
+//! Settings that are not supported have a status of their own: to read an undefined number as the
+//! default would answer another question. The buffer for names stays unchanged unless both names
+//! fit, since half a name would be another name.
+//!
 //! `python/storklocker/storklocker.h` declares the C API. `python/storklocker.c` implements it with
 //! these functions, and never passes a null pointer. They need nothing from their arguments beyond
 //! their C types, so none has a `requires`. They keep no state and leave nothing to free, so any
@@ -14,13 +19,14 @@ mod verdict;
 
 ghost use Rattle.std.specs.Prelude.{◌≡◌, ◌≢◌, ◌≤◌, None, Some};
 ghost use Rattle.pkcheck.specs.Import.{policy_of};
-ghost use Rattle.pkguard.specs.Guard.{IsListFault, IsImports, IsListRead, IsOfAnotherSize};
-ghost use Rattle.pkguard.specs.Guard.{IsNo, IsNoOfRow, IsUsage, IsYes, IsYesOfRow, Under};
+ghost use Rattle.pkguard.specs.Guard.{IsListFault, IsImports, IsImportsBefore, IsListRead};
+ghost use Rattle.pkguard.specs.Guard.{IsNo, IsNoOfRow, IsOfAnotherSize, IsUsage, IsYes, IsYesOfRow};
+ghost use Rattle.pkguard.specs.Guard.{Under};
 ghost use Rattle.pkguard.specs.Settings.{PermitsPairs, Sets, limits_by, limits_within};
 ghost use Rattle.pkguard.specs.Settings.{listed_by, loading_by};
 
 use pkcheck::laws::halving;
-use pkcheck::{Loading, OldStrings, Pair, Policy, check_all, check_as};
+use pkcheck::{Loading, OldStrings, Pair, Policy, check_all_loaded, check_as, check_with_imports};
 use pkops::Limits;
 use pkread::Memory;
 pub use settings::Settings;
@@ -176,7 +182,8 @@ pub extern "C" fn pkguard_read_list(
 }
 
 /// Checks the pickle at the front of `pickle`, permitting every import. Its imports are written to
-/// `room`, in order, if all of them fit.
+/// `room`, in order, if all of them fit; if it is refused, those of the instructions before the
+/// refused one.
 #[unsafe(no_mangle)]
 pub extern "C" fn pkguard_imports(
     alloc: Global,
@@ -191,10 +198,10 @@ pub extern "C" fn pkguard_imports(
     ensures list { out.new.status ≢ 2 }
     ensures yes { out.new.status ≡ 0 → Sets settings.now (λ old. IsImports old
         (limits_by settings.now) pickle.now room.old room.new wanted.new out.new) }
-    ensures no { out.new.status ≡ 1 → Sets settings.now (λ old. IsNo old None
-        (limits_by settings.now) pickle.now room.old room.new out.new) }
+    ensures no { out.new.status ≡ 1 → Sets settings.now (λ old. IsImportsBefore old
+        (limits_by settings.now) pickle.now room.old room.new wanted.new out.new) }
     ensures usage { out.new.status ≡ 3 → IsUsage settings.now room.old room.new out.new }
-    ensures nothing { out.new.status ≢ 0 → wanted.new ≡ 0 }
+    ensures nothing { out.new.status ≡ 3 → wanted.new ≡ 0 }
 {
     *wanted = 0;
     *out = match settings::old_strings_in(settings) {
@@ -245,7 +252,7 @@ struct Terms<'a> {
     loading: Loading,
 }
 
-/// The verdict of `check` with every import permitted, and the imports if it accepts.
+/// The verdict of `check_with_imports` with every import permitted, and the imports.
 fn imported(
     alloc: Global,
     terms: &Terms<'_>,
@@ -257,18 +264,20 @@ fn imported(
     ensures bound { result.status ≤ 1 }
     ensures yes { result.status ≡ 0 → IsImports terms.now.loading.old_strings terms.now.limits
         pickle.now room.old room.new wanted.new result }
-    ensures no { result.status ≡ 1 → IsNo terms.now.loading.old_strings None terms.now.limits
-        pickle.now room.old room.new result }
-    ensures nothing { result.status ≢ 0 → wanted.new ≡ wanted.old }
+    ensures no { result.status ≡ 1 → IsImportsBefore terms.now.loading.old_strings
+        terms.now.limits pickle.now room.old room.new wanted.new result }
 {
     let mut source = Memory::new(pickle);
     let old = terms.loading.old_strings;
-    match check_as(alloc, &mut source, &terms.policy, &terms.limits, old) {
+    match check_with_imports(alloc, &mut source, &terms.policy, &terms.limits, old) {
         Ok(yes) => {
             *wanted = encoding::give_imports(&yes.imports, room);
             verdict::of_yes(yes.taken, &yes.imports, 1)
         }
-        Err(no) => verdict::of_no(&no, 0, room),
+        Err(refused) => {
+            *wanted = encoding::give_imports(&refused.imports, room);
+            verdict::of_no_with_imports(&refused.no, &refused.imports)
+        }
     }
 }
 
@@ -331,7 +340,7 @@ fn answered(alloc: Global, terms: &Terms<'_>, pickle: &[u8], room: &mut [u8]) ->
     }
 }
 
-/// The verdict of `check_all`.
+/// The verdict of `check_all_loaded`.
 fn answered_row(alloc: Global, terms: &Terms<'_>, pickles: &[u8], room: &mut [u8]) -> Verdict
     ensures bound { result.status ≤ 1 }
     ensures yes { result.status ≡ 0 → IsYesOfRow terms.now.loading (policy_of terms.now.policy)
@@ -340,7 +349,7 @@ fn answered_row(alloc: Global, terms: &Terms<'_>, pickles: &[u8], room: &mut [u8
         terms.now.limits pickles.now room.old room.new result }
 {
     let mut source = Memory::new(pickles);
-    match check_all(
+    match check_all_loaded(
         alloc,
         &mut source,
         &terms.policy,

@@ -2,7 +2,7 @@
 ghost use Rattle.std.specs.Prelude.{◌≡◌, ◌++◌, length, option_map};
 ghost use Rattle.pkcheck.specs.Import.{asked_shown};
 ghost use Rattle.pkguard.specs.Guard.{placed, verdict_of_fault, verdict_of_no, verdict_of_yes};
-ghost use Rattle.pkguard.specs.Guard.{names_placed, nothing_told, verdict_of_usage};
+ghost use Rattle.pkguard.specs.Guard.{names_placed, nothing_told, verdict_behind, verdict_of_usage};
 
 use crate::codes::{fault_code, reason_code, reason_number};
 use pkcheck::{AllowError, Asked, Imports, No};
@@ -24,7 +24,8 @@ pub struct Verdict {
     pub at: u64,
     /// At status 0, the number of accepted bytes.
     pub taken: u64,
-    /// At status 0, the number of imports in those bytes.
+    /// At status 0, the number of imports in those bytes. At status 1, that of the imports before
+    /// the refused instruction, if they were asked for.
     pub imports: u64,
     /// The length of the pair's module in bytes.
     pub module_length: u64,
@@ -105,15 +106,35 @@ pub fn of_no(no: &No, pickles: u64, room: &mut [u8]) -> Verdict
         _ => (0, 0, 0),
     };
     Verdict {
-        status: 1,
-        reason: reason_code(no.reason),
-        number: reason_number(no.reason),
         has_pair,
-        at: no.at,
         module_length,
         name_length,
         pickles,
+        ..of_no_alone(no)
+    }
+}
+
+/// The verdict for a refusal, without its pair.
+fn of_no_alone(no: &No) -> Verdict
+    ensures { result ≡ verdict_behind no.now.at no.now.reason 0 }
+{
+    Verdict {
+        status: 1,
+        reason: reason_code(no.reason),
+        number: reason_number(no.reason),
+        at: no.at,
         ..NOTHING
+    }
+}
+
+/// The verdict for a refusal behind these imports, if every import is permitted.
+pub fn of_no_with_imports(no: &No, imports: &Imports) -> Verdict
+    ensures told { result ≡ verdict_behind no.now.at no.now.reason (length imports.now) }
+    ensures place { result.at ≡ no.now.at }
+{
+    Verdict {
+        imports: imports.len() as u64,
+        ..of_no_alone(no)
     }
 }
 

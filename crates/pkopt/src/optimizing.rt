@@ -1,4 +1,8 @@
 //! Optimizes a pickle.
+//!
+//! A listener records 4 bytes for each memo instruction and FRAME; what lies between two of them is
+//! copied in one piece. If there is no memory for a record, the pickle is checked again without a
+//! listener, since a refusal of the check comes before `OutOfMemory`.
 
 ghost use Rattle.std.specs.Prelude.{◌≡◌, ◌<◌, ◌≤◌, ◌^◌, ◌⊎◌, IfErr, IfNone, IfOk, IfSome, OnOk};
 ghost use Rattle.std.specs.Prelude.{List, None, Some, []};

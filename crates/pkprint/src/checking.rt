@@ -27,15 +27,8 @@ pub enum Outcome {
     Unread,
 }
 
-/// What a pickle may import, and how large it may be.
-#[derive(Clone, Copy)]
-pub struct Permitted<'a> {
-    pub policy: &'a Policy<'a>,
-    pub limits: &'a Limits,
-}
-
-/// Checks the pickle at the front of a source, decoding Python 2 strings as `old` says, and writes
-/// the line of the answer.
+/// Checks the pickle at the front of a source, decoding Python 2 strings as `old_strings` says, and
+/// writes the line of the answer.
 ///
 /// # Errors
 ///
@@ -43,18 +36,19 @@ pub struct Permitted<'a> {
 pub fn check_to<R: Source, W: Write>(
     alloc: Global,
     source: &mut R,
-    permitted: &Permitted<'_>,
-    old: OldStrings,
+    policy: &Policy<'_>,
+    limits: &Limits,
     out: &mut W,
+    old_strings: OldStrings,
 ) -> Result<Outcome, io::Error>
     ensures { IfOk result (λ outcome. (answer : Result Yes No)
-        × IsRightAnswer old (policy_of permitted.now.policy.now) permitted.now.limits.now
+        × IsRightAnswer old_strings (policy_of policy.now) limits.now
         (sight R.left R.failures source.old) (sight R.left R.failures source.new) answer
         × CountsFailures (R.failures source.old) (R.failures source.new) answer
         × Appends (W.contents out.old) (W.contents out.new) (verdict_line answer)
         × (outcome ≡ outcome_of answer)) }
 {
-    let answer = check_as(alloc, source, permitted.policy, permitted.limits, old);
+    let answer = check_as(alloc, source, policy, limits, old_strings);
     write_verdict(&answer, out)?;
     match answer {
         Ok(_) => Ok(Outcome::Done),

@@ -179,8 +179,9 @@ impl<'r, R: Source> Reader<'r, R> {
 
     /// The next bytes of the source, as far as they are at hand and can be taken. [`lend`] finds
     /// the instruction that they begin with. Nothing is taken: call `advance` with the length of
-    /// the instructions that were used, or a call that returns every instruction. `None` after
-    /// STOP, after a refusal, and where an instruction has begun.
+    /// the instructions that were used, or a call that returns every instruction. `None` says
+    /// nothing about the reader: it comes after STOP, after a refusal, and where an instruction has
+    /// begun, but no clause says that it comes only there.
     ///
     /// [`lend`]: crate::lend
     #[inline(always)]

@@ -50,10 +50,10 @@ pub enum Reason {
     ImportOffList,
     /// Something besides the result is left at STOP.
     LeftOver,
-    /// A Python 2 string has a byte above 7f, and such strings are decoded as ASCII.
-    NotAscii,
     /// An allocation was refused.
     OutOfMemory,
+    /// A Python 2 string has a byte above 7f, and such strings are decoded as ASCII.
+    NotAscii,
 }
 
 /// A reason is printed by its name, with its number in parentheses if it has one.
@@ -95,8 +95,8 @@ fn name_of(reason: Reason) -> &'static str
         Reason::UnknownImport => "UnknownImport",
         Reason::ImportOffList => "ImportOffList",
         Reason::LeftOver => "LeftOver",
-        Reason::NotAscii => "NotAscii",
         Reason::OutOfMemory => "OutOfMemory",
+        Reason::NotAscii => "NotAscii",
     }
 }
 

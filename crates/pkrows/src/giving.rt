@@ -24,10 +24,6 @@ impl Source for Pieces<'_> {
         self.rest = &self.rest[count..];
         Ok(count)
     }
-
-    fn advance(&mut self, count: usize) {
-        let _ = count;
-    }
 }
 
 /// A head, one byte repeated, and a tail.
@@ -68,10 +64,6 @@ impl Source for Filled<'_> {
         to[..count].copy_from_slice(&self.head[..count]);
         self.head = &self.head[count..];
         Ok(count)
-    }
-
-    fn advance(&mut self, count: usize) {
-        let _ = count;
     }
 
     /// Passes over the repeated byte alone.
@@ -119,9 +111,5 @@ impl<R: Source> Source for Watched<'_, R> {
             _ => self.other = true,
         }
         self.source.pull(to)
-    }
-
-    fn advance(&mut self, count: usize) {
-        let _ = count;
     }
 }

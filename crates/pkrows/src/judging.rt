@@ -3,7 +3,7 @@
 use crate::giving::Pieces;
 use pkcheck::{No, OldStrings, Policy, Yes, check, check_as};
 use pkops::Limits;
-use pkread::{Reason, Source};
+use pkread::{Memory, Reason, Source};
 use std::process::Abort;
 
 /// The verdict of `check`.
@@ -52,6 +52,13 @@ pub fn judge_each<T: Abort + AllocGlobal>(
     rows: &[(&[u8], Verdict)],
 ) {
     for (pickle, wanted) in rows {
+        // the bytes at hand: the path of the program and of the library
+        let mut memory = Memory::new(pickle);
+        assert_eq!(rt;
+            judge(rt, policy, limits, &mut memory),
+            *wanted,
+            "{pickle:?}"
+        );
         for most in [1, 2, usize::MAX] {
             let mut source = Pieces::new(pickle, most);
             assert_eq!(rt;

@@ -64,13 +64,14 @@ fn the_numbers_of_large_limits(rt: HostRuntime) -> Result<(), Fail> {
     Ok(())
 }
 
-const FIRST_ERRORS: [(&str, Where); 10] = [
+const FIRST_ERRORS: [(&str, Where); 11] = [
     ("large = false", Where::Limit),
     ("large = 1", Where::Limit),
     ("large = \"true\"", Where::Limit),
-    // `large` is checked first, then the keys in the order of their bytes
-    ("heap = 1, large = false", Where::Limit),
+    // the keys are checked in the order of their bytes, `large` among them
+    ("heap = 1, large = false", Where::LimitKey),
     ("heap = 1, large = true", Where::LimitKey),
+    ("large = false, values = -1, zero = 1", Where::Limit),
     ("counted = -1, heap = 1, large = true", Where::Limit),
     ("large = true, stack = 4294967296", Where::Limit),
     ("large = true, depth = 101", Where::Limit),

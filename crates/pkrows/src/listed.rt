@@ -1,8 +1,10 @@
 //! The imports that a machine and an answer list, and comparisons of two answers.
 
-use pkcheck::{Asked, Import, Machine, Policy, Yes, check};
+use pkcheck::{
+    Asked, Import, Machine, NoWithImports, OldStrings, Policy, Yes, check, check_with_imports,
+};
 use pkops::{Arg, Inst, Limits, Op, Scan, scan};
-use pkread::Memory;
+use pkread::{Memory, Reason};
 use std::test::Fail;
 
 const PAIR: Import<'_> = Import::Pair {
@@ -53,6 +55,62 @@ fn imports_are_copied_in_order(rt: HostRuntime) -> Result<(), Fail> {
     let copies = yes.imports.to_vec(rt.alloc())?;
     let pair = PAIR.to_asked(rt.alloc())?;
     assert_eq!(rt; copies.as_slice(), [pair, Asked::Unknown].as_slice());
+    Ok(())
+}
+
+fn refused<T: AllocGlobal>(rt: &T, pickle: &[u8]) -> Result<NoWithImports, Fail> {
+    let mut source = Memory::new(pickle);
+    match check_with_imports(
+        rt.alloc(),
+        &mut source,
+        &Policy::AnyImport,
+        &Limits::STANDARD,
+        OldStrings::Unknown,
+    ) {
+        Ok(_) => Err(Fail::from("a no")),
+        Err(refused) => Ok(refused),
+    }
+}
+
+#[test]
+fn a_refusal_has_the_imports_before_it(rt: HostRuntime) -> Result<(), Fail> {
+    // No opcode, a pickle that is cut, a module that is no text, an object too many, EXT1.
+    let rows = [
+        (
+            b"cm\nf\n0cm\nf\n)R\x8c\x01b\x93\xff.".as_slice(),
+            17,
+            Reason::UnknownOpcode(255),
+        ),
+        (
+            b"cm\nf\n0cm\nf\n)R\x8c\x01b\x93cm\nf".as_slice(),
+            17,
+            Reason::Truncated,
+        ),
+        (
+            b"cm\nf\n0cm\nf\n)R\x8c\x01b\x93N\x93".as_slice(),
+            18,
+            Reason::NotText,
+        ),
+        (
+            b"cm\nf\n0cm\nf\n)R\x8c\x01b\x93N.".as_slice(),
+            18,
+            Reason::LeftOver,
+        ),
+        (
+            b"cm\nf\n0cm\nf\n)R\x8c\x01b\x93\x82\x01.".as_slice(),
+            17,
+            Reason::ExtensionCode,
+        ),
+    ];
+    for (pickle, at, reason) in rows {
+        let NoWithImports { no, imports } = refused(&rt, pickle)?;
+        assert_eq!(rt; (no.at, no.reason, no.pair.is_none()), (at, reason, true));
+        assert_eq!(rt; imports.len(), 3);
+        assert_eq!(rt; imports.get(0), Some(PAIR));
+        assert_eq!(rt; imports.get(1), Some(PAIR));
+        assert_eq!(rt; imports.get(2), Some(Import::Unknown));
+    }
+    assert_eq!(rt; refused(&rt, b"0cm\nf\n.")?.imports.is_empty(), true);
     Ok(())
 }
 

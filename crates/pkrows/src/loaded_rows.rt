@@ -1,8 +1,8 @@
-//! Answers of `check_all` on rows of pickles, with a fresh memo for each pickle and with one kept
-//! memo. CPython 3.11 agrees: with one `pickle.load` per pickle, and with one `Unpickler`.
+//! Answers of `check_all_loaded` on rows of pickles, with a fresh memo for each pickle and with one
+//! kept memo. CPython 3.11 agrees: with one `pickle.load` per pickle, and with one `Unpickler`.
 
 use crate::giving::Pieces;
-use pkcheck::{Allow, Loading, Memo, NoAll, OldStrings, Policy, YesAll, check_all};
+use pkcheck::{Allow, Loading, Memo, NoAll, OldStrings, Policy, YesAll, check_all_loaded};
 use pkops::Limits;
 use pkread::Reason;
 use std::process::Abort;
@@ -10,7 +10,7 @@ use std::test::Fail;
 
 const LEN_ALONE: &str = "version = 1\n[imports]\nbuiltins = [\"len\"]\n";
 
-/// The verdict of `check_all`.
+/// The verdict of `check_all_loaded`.
 #[derive(Clone, Copy, Debug, PartialEq, Eq)]
 enum Verdict {
     /// The number of bytes and pickles taken, and of imports listed.
@@ -92,7 +92,7 @@ fn said<T: AllocGlobal>(rt: &T, policy: &Policy<'_>, memo: Memo, row: &[u8]) -> 
         memo,
         old_strings: OldStrings::Unknown,
     };
-    verdict_of(check_all(rt.alloc(), &mut source, policy, &Limits::STANDARD, loading))
+    verdict_of(check_all_loaded(rt.alloc(), &mut source, policy, &Limits::STANDARD, loading))
 }
 
 fn hold<T: Abort + AllocGlobal>(

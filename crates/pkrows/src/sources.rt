@@ -99,10 +99,6 @@ impl Source for Empty {
         let _ = to;
         Ok(0)
     }
-
-    fn advance(&mut self, count: usize) {
-        let _ = count;
-    }
 }
 
 #[test]

@@ -21,8 +21,6 @@ pub enum Fault<'a> {
     Unwritten,
     /// The file at this path cannot be created or written.
     Unmade(&'a str),
-    /// The reader of the answer has closed the pipe. Nothing is reported.
-    Closed,
 }
 
 impl From<AllocError> for Fault<'_> {
@@ -34,7 +32,6 @@ impl From<AllocError> for Fault<'_> {
 /// The fault for an answer that cannot be written, or has no memory while it is written.
 pub fn unwritten<'a>(error: &io::Error) -> Fault<'a> {
     match error.kind() {
-        ErrorKind::BrokenPipe => Fault::Closed,
         ErrorKind::OutOfMemory => Fault::OutOfMemory,
         _ => Fault::Unwritten,
     }
@@ -50,7 +47,6 @@ pub fn write_fault<W: Write>(fault: &Fault<'_>, out: &mut W) -> io::Result<()> {
         Fault::List(error) => write_list_fault(*error, out),
         Fault::Unwritten => writeln!(out, "cannot write standard output"),
         Fault::Unmade(name) => writeln!(out, "cannot write {name}"),
-        Fault::Closed => Ok(()),
     }
 }
 

@@ -1,5 +1,6 @@
 //! The optimized form of a pickle: where it is written, and the line that reports it.
-ghost use Rattle.std.specs.Prelude.{IfOk, List, None, OnOk, Option, ℕ};
+ghost use Rattle.std.specs.Prelude.{◌≡◌, ◌⊎◌, IfOk, List, None, OnErr, OnOk, Option, ℕ};
+ghost use Rattle.pkopt.specs.Answer.{Checks};
 ghost use Rattle.std.specs.Io.KnownBytes.{Appends};
 ghost use Rattle.pktool.specs.Optimized.{EndsIn, HoldsBytes, sizes_line};
 
@@ -54,8 +55,9 @@ pub fn optimize_to<P: Place, W: Write>(
     place: &mut P,
     out: &mut W,
 ) -> Result<Outcome, Unoptimized>
-    ensures { IfOk result (EndsIn limits.now bytes.now P.holds place.old place.new
+    ensures ends { IfOk result (EndsIn limits.now bytes.now P.holds place.old place.new
         (W.contents out.old) (W.contents out.new)) }
+    ensures fails { OnErr result ((Checks limits.now bytes.now) ⊎ (place.new ≡ place.old)) }
 {
     match optimized_form(alloc, bytes, limits) {
         Ok(form) => {

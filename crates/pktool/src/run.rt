@@ -9,7 +9,7 @@ use crate::replacing::NewFile;
 use pkargs::{Job, Pickles, Usage, command_of};
 use pkcheck::{Loading, OldStrings, Policy};
 use pkops::Limits;
-use pkprint::{Outcome, Permitted, check_all_to, check_to, dis_to, imports_to, write_no};
+use pkprint::{Outcome, check_all_loaded_to, check_to, dis_to, imports_to, write_no};
 use pkread::{Reason, Refusal};
 use std::alloc::Global;
 use std::fs;
@@ -35,8 +35,8 @@ const NO_MEMORY: Refusal = Refusal {
 ///
 /// The answer goes to `out`, which is flushed, and faults go to `err`. Faults are detected in this
 /// order: the command line, the list, the file that is read, the answer, the file that is written.
-/// Failing to write the answer is a fault; it is not reported if `out` is a closed pipe. Failing to
-/// write to `err` changes nothing.
+/// Failing to write the answer is a fault, also if `out` is a closed pipe. Failing to write to
+/// `err` changes nothing.
 pub fn run<R: Files<File = File>, O: Write, E: Write>(
     rt: &R,
     alloc: Global,
@@ -104,18 +104,16 @@ fn check_file<'a, R: Files<File = File>, O: Write>(
     let Ok(mut source) = open_source(rt, alloc, check.file) else {
         return Err(Fault::Unread(check.file));
     };
-    let permitted = Permitted {
-        policy: &Policy::Listed(&list),
-        limits: &list.limits(),
-    };
+    let policy = Policy::Listed(&list);
+    let limits = list.limits();
     let written = match check.pickles {
-        Pickles::First => check_to(alloc, &mut source, &permitted, check.old, out),
+        Pickles::First => check_to(alloc, &mut source, &policy, &limits, out, check.old),
         Pickles::Row(memo) => {
             let loading = Loading {
                 memo,
                 old_strings: check.old,
             };
-            check_all_to(alloc, &mut source, &permitted, loading, out)
+            check_all_loaded_to(alloc, &mut source, &policy, &limits, out, loading)
         }
     };
     match written {

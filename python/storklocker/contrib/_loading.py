@@ -37,7 +37,7 @@ class Loader:
         """`pickle.loads` through the guard."""
         try:
             return self._loads(data, **words)
-        except _KEPT:
+        except (pickle.UnpicklingError, MemoryError):
             raise
         except Exception as error:
             raise _unloadable(error) from error

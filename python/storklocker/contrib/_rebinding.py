@@ -3,7 +3,7 @@
 from __future__ import annotations
 
 import types
-from typing import Any, Callable, Dict, Iterator, Mapping, Optional, Set, Type, TypeVar, cast
+from typing import Any, Dict, Iterator, List, Mapping, Set, Type, TypeVar, cast
 
 T = TypeVar("T")
 
@@ -11,23 +11,20 @@ T = TypeVar("T")
 def rebound(cls: Type[T], names: Mapping[str, object]) -> Type[T]:
     """A subclass of `cls` whose methods see these objects under these global names.
 
-    Every method of `cls` or of a base class that reads one of the names as a global is copied, with
-    a changed copy of its module's globals. Nothing else in the library changes, and other users of
-    `cls` are unaffected. Raises TypeError if no method reads one of the names, because the library
-    has then changed and nothing would be guarded.
+    Every method or property of `cls` or of a base class that reads one of the names as a global is
+    copied, with a changed copy of its module's globals. Nothing else in the library changes, and
+    other users of `cls` are unaffected. Raises TypeError if no method reads one of the names,
+    because the library has then changed and nothing would be guarded.
     """
     methods: Dict[str, object] = {}
     read: Set[str] = set()
     for owner in reversed(cls.__mro__[:-1]):
         for word, member in vars(owner).items():
             methods.pop(word, None)
-            function = _function_of(member)
-            if function is None:
-                continue
-            found = names.keys() & set(_names_read(function.__code__))
+            found = names.keys() & names_read_by(member)
             if found:
                 read |= found
-                methods[word] = _like(member, _over(function, names))
+                methods[word] = _copied(member, names)
     if read != names.keys():
         missing = ", ".join(sorted(names.keys() - read))
         raise TypeError(f"{cls.__module__}.{cls.__qualname__} no longer uses {missing}")
@@ -35,20 +32,39 @@ def rebound(cls: Type[T], names: Mapping[str, object]) -> Type[T]:
     return cast(Type[T], type(cls.__name__, (cls,), made))
 
 
-def _function_of(member: object) -> Optional[types.FunctionType]:
-    inner = member.__func__ if isinstance(member, (staticmethod, classmethod)) else member
-    return inner if isinstance(inner, types.FunctionType) else None
+def names_read_by(member: object) -> Set[str]:
+    """The global names and attributes that a method or a property reads."""
+    return {name for function in _functions_of(member) for name in _names_in(function.__code__)}
 
 
-def _names_read(code: types.CodeType) -> Iterator[str]:
+def _functions_of(member: object) -> Iterator[types.FunctionType]:
+    inner: List[object] = [getattr(member, "__func__", member)]
+    if isinstance(member, property):
+        inner = [member.fget, member.fset, member.fdel]
+    return (it for it in inner if isinstance(it, types.FunctionType))
+
+
+def _names_in(code: types.CodeType) -> Iterator[str]:
     """The names that a function reads, including those of nested functions."""
     yield from code.co_names
     for constant in code.co_consts:
         if isinstance(constant, types.CodeType):
-            yield from _names_read(constant)
+            yield from _names_in(constant)
 
 
-def _over(function: types.FunctionType, names: Mapping[str, object]) -> types.FunctionType:
+def _copied(member: Any, names: Mapping[str, object]) -> object:
+    if isinstance(member, property):
+        get, put, drop = (_over(it, names) for it in (member.fget, member.fset, member.fdel))
+        return property(get, put, drop, member.__doc__)
+    if isinstance(member, (staticmethod, classmethod)):
+        return type(member)(_over(member.__func__, names))
+    return _over(member, names)
+
+
+def _over(function: Any, names: Mapping[str, object]) -> Any:
+    """A copy of a function that sees these objects; anything else as it is."""
+    if not isinstance(function, types.FunctionType):
+        return function
     made = types.FunctionType(
         function.__code__,
         {**function.__globals__, **names},
@@ -61,9 +77,3 @@ def _over(function: types.FunctionType, names: Mapping[str, object]) -> types.Fu
     made.__doc__ = function.__doc__
     made.__qualname__ = function.__qualname__
     return made
-
-
-def _like(member: object, function: Callable[..., Any]) -> object:
-    if isinstance(member, (staticmethod, classmethod)):
-        return type(member)(function)
-    return function

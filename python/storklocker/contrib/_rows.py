@@ -5,6 +5,8 @@ from __future__ import annotations
 from typing import Any, Iterable, List, NamedTuple, Optional, Tuple
 
 from .. import Guard
+from .._answers import Refused
+from .._imports import Import
 from ._loading import Loader
 
 
@@ -18,6 +20,8 @@ class Row(NamedTuple):
     """The text of the error, if there was one."""
     value: Any = None
     """The value, if it was loaded."""
+    missing: Tuple[Import, ...] = ()
+    """Every import that the list lacks, each once, in order."""
 
 
 def checked(pairs: Iterable[Tuple[Any, Any]], guard: Guard) -> List[Row]:
@@ -37,11 +41,16 @@ def _checked(key: Any, data: Any, guard: Guard) -> Row:
         refused: Optional[Exception] = guard._refusal_of(whole)
     except TypeError as error:
         refused = error
-    return Row(key, True) if refused is None else Row(key, False, str(refused))
+    return Row(key, True) if refused is None else _refused(key, refused)
 
 
 def _loaded(key: Any, data: Any, loader: Loader) -> Row:
     try:
         return Row(key, True, None, loader.loads(data))
-    except (loader.UnpicklingError, EOFError, TypeError) as error:
-        return Row(key, False, str(error))
+    except (loader.UnpicklingError, TypeError) as error:
+        return _refused(key, error)
+
+
+def _refused(key: Any, error: Exception) -> Row:
+    missing = error.verdict.missing if isinstance(error, Refused) else ()
+    return Row(key, False, str(error), None, missing)

@@ -5,15 +5,18 @@
     region = make_region(**guarded.serialization(guard))
     region.configure("dogpile.cache.redis", wrap=[guarded.proxy(guard)])
 
-A refused entry is a miss: `get` returns NO_VALUE, and `get_or_create` creates the value again.
+A refused entry is a miss: `get` returns NO_VALUE, and `get_or_create` creates the value again. It
+is logged with its key, or told to the guard's `on_refusal`, where the key is the context.
 """
 
 from __future__ import annotations
 
+import functools
 from typing import Any, Callable, Dict, Sequence, Type
 
 from .. import Guard
 from ._loading import Loader
+from ._misses import REFUSED, CacheLoader, about
 
 
 def serialization(guard: Guard) -> Dict[str, Callable[[Any], Any]]:
@@ -22,27 +25,63 @@ def serialization(guard: Guard) -> Dict[str, Callable[[Any], Any]]:
 
 
 def proxy(guard: Guard) -> Type[Any]:
-    """The class for the argument `wrap` of `configure`, which drops what the guard refuses."""
-    from dogpile.cache.api import NO_VALUE
+    """The class for the argument `wrap` of `configure`, which drops what the guard refuses.
+
+    `configure` raises TypeError for a backend that hands over objects and no bytes, as those of
+    memcached do: their client unpickles by itself what the server marks as a pickle.
+    """
     from dogpile.cache.proxy import ProxyBackend
 
-    loader = Loader(guard)
-
-    def kept(stored: Any) -> Any:
-        # A region stores its metadata as JSON, a vertical bar, and the pickle of the value.
-        if not isinstance(stored, bytes):
-            return stored
-        try:
-            loader.loads(stored.partition(b"|")[2])
-        except (guard.UnpicklingError, EOFError):
-            return NO_VALUE
-        return stored
+    kept = functools.partial(_kept, CacheLoader(guard))
 
     class GuardedProxy(ProxyBackend):  # type: ignore[misc]
+        def wrap(self, backend: Any) -> Any:
+            _require_bytes(backend)
+            return super().wrap(backend)
+
+        def get(self, key: Any) -> Any:
+            raise TypeError("make_region needs the deserializer of `serialization`")
+
+        def get_multi(self, keys: Sequence[Any]) -> Any:
+            return [self.get(key) for key in keys]
+
         def get_serialized(self, key: Any) -> Any:
-            return kept(self.proxied.get_serialized(key))
+            return kept(key, self.proxied.get_serialized(key))
 
         def get_serialized_multi(self, keys: Sequence[Any]) -> Any:
-            return [kept(stored) for stored in self.proxied.get_serialized_multi(keys)]
+            stored = self.proxied.get_serialized_multi(keys)
+            return [kept(key, each) for key, each in zip(keys, stored)]
 
     return GuardedProxy
+
+
+def _kept(loader: CacheLoader, key: Any, stored: Any) -> Any:
+    """What is stored, or NO_VALUE if the guard refuses it. A region stores its metadata as JSON, a
+    vertical bar, and the pickle of the value.
+    """
+    from dogpile.cache.api import NO_VALUE
+
+    if not isinstance(stored, bytes):
+        return stored
+    try:
+        with about(key):
+            loader.loads(stored.partition(b"|")[2])
+    except REFUSED as error:
+        loader.misses.tell(key, error)
+        return NO_VALUE
+    return stored
+
+
+def _require_bytes(backend: Any) -> None:
+    """Raises TypeError unless the backend hands over the bytes that are stored."""
+    from dogpile.cache.api import BytesBackend
+    from dogpile.cache.backends.memory import MemoryBackend
+    from dogpile.cache.backends.null import NullBackend
+
+    while hasattr(backend, "proxied"):
+        backend = backend.proxied
+    if not isinstance(backend, (BytesBackend, MemoryBackend, NullBackend)):
+        raise TypeError(
+            f"{type(backend).__name__} hands over objects, which its client unpickles by itself:"
+            " use a backend that hands over bytes, such as dogpile.cache.redis"
+        )

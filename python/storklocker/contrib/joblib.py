@@ -1,29 +1,107 @@
-"""A replacement for joblib's files.
+"""joblib's files, such as scikit-learn's models, behind a guard.
 
-joblib writes the bytes of arrays raw between the instructions of a pickle. Such a file is not a
-pickle, so a check of it says nothing about what joblib's reader does.
+    from storklocker.contrib.joblib import load_joblib
 
-    from storklocker.contrib.joblib import dump_joblib_as_pickle, load_joblib
+    model = load_joblib("model.joblib", guard)
 
-    dump_joblib_as_pickle(model, "model.pickle")    # on the trusted side, which makes the file
-    model = guard.load(open("model.pickle", "rb"))  # on the side that uses it
+joblib writes the bytes of arrays raw between the instructions of a pickle. They are cut out here,
+without running anything, and a pickle is left in which joblib's wrapper of arrays is called with a
+buffer. That pickle, and those of arrays of objects, are checked before any of them is loaded, and
+exactly they are loaded. joblib isn't needed, and its wrapper needn't be listed.
 """
 
 from __future__ import annotations
 
 import pickle
+import weakref
 from pathlib import Path
-from typing import Any, Union
+from typing import Any, List, Optional, Tuple, Union
 
-from .. import Guard
+from .. import AllowList, Guard
+from .._storklocker import walked
+from ..scanning.joblib_cutting import WRAPPERS, Cut, Cutter
+from ..scanning.joblib_types import NotJoblib
+from ..scanning.source import Source
+from ._joblib_arrays import MODES, Place, loaded
+from ._joblib_files import File, opened
+
+_FIRST = 1 << 16
 
 
-def load_joblib(path: Union[str, Path], guard: Guard) -> Any:
-    """Always raises UnpicklingError, which says why and what to do instead."""
-    raise guard.UnpicklingError(
-        f"{path}: a joblib file can't be checked, because it has raw arrays between instructions;"
-        " write it with dump_joblib_as_pickle, and load that with the guard"
-    )
+def load_joblib(file: File, guard: Guard, *, mmap_mode: Optional[str] = None) -> Any:
+    """The object of a file that `joblib.dump` wrote, or of a plain pickle.
+
+    file: its name, its bytes, or an open file, which is left right behind what was loaded.
+    guard: checks the pickle, whose arrays are cut out, and those of arrays of objects. Each has at
+        most the guard's `max_bytes`; so has what a packed file (zlib, gzip, bzip2, xz, LZMA; LZ4 if
+        its module is there) unpacks to.
+    mmap_mode: as for `joblib.load`: None, "r", "r+", "w+" or "c". It has no effect on packed files
+        and on what isn't given by name.
+
+    Raises Refused if a pickle is refused; UnpicklingError if the file isn't as joblib has written
+    it since 0.10; and otherwise what `pickle.load` raises.
+    """
+    if mmap_mode not in MODES:
+        raise ValueError(f"mmap_mode must be one of {MODES}, not {mmap_mode!r}")
+    guard = guard._now()
+    with opened(file, guard) as found:
+        source = found.source
+        cut, nested = _cut(source, guard)
+        if cut.end < source.size and found.finish is None:
+            raise guard.UnpicklingError(f"{source.size - cut.end:,} bytes follow the pickle")
+        _check(cut.pickle, guard)
+        for pickled in filter(None, nested):
+            refused = guard._refusal_of(pickled)
+            if refused is not None and guard.enforce:
+                raise refused
+        gaps = list(zip(cut.gaps, nested))
+        made = loaded(guard, cut.pickle, gaps, Place(source, found.path, mmap_mode))
+        if found.finish is not None:
+            found.finish(cut.end)
+        return made
+
+
+def _cut(source: Source, guard: Guard) -> Tuple[Cut, List[bytes]]:
+    """What is left of a file, and for each gap the pickle in it, or nothing."""
+    pickles: List[bytes] = []
+
+    def length_of(at: int) -> int:
+        pickles.append(_pickle_at(source, at, guard._max_bytes))
+        return len(pickles[-1])
+
+    try:
+        cut = Cutter(source, length_of, lambda: None).cut()
+    except NotJoblib as error:
+        raise guard.UnpicklingError(f"this is not a file of joblib: {error}") from None
+    held = iter(pickles)
+    return cut, [next(held) if gap.is_pickle else b"" for gap in cut.gaps]
+
+
+def _pickle_at(source: Source, at: int, most: int) -> bytes:
+    """The pickle that begins at an offset, for a check; nothing if it has no end."""
+    size = _FIRST
+    while True:
+        data = source.read(at, min(size, most))
+        end, is_stopped = walked(data, 0)
+        if is_stopped:
+            return data[:end]
+        if len(data) < size:
+            return data[:0]
+        size *= 4
+
+
+_LISTING: "weakref.WeakKeyDictionary[Guard, Guard]" = weakref.WeakKeyDictionary()
+
+
+def _check(pickled: bytes, guard: Guard) -> None:
+    """Checks a pickle whose arrays were cut out, in which joblib's wrapper is a class of ours."""
+    if guard not in _LISTING:
+        allow = guard.allow | AllowList(WRAPPERS)
+        words = {name: getattr(guard, f"_{name}") for name in ("limits", "old_strings")}
+        _LISTING[guard] = Guard(allow, fix_imports=guard._fix_imports, **words)
+    verdict = _LISTING[guard]._listed_for(pickled)._refusal(pickled)
+    if verdict is not None:
+        guard._refuse(verdict, pickled)
 
 
 def dump_joblib_as_pickle(value: Any, path: Union[str, Path]) -> None:

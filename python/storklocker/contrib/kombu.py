@@ -7,13 +7,17 @@
     register(guard, app)
 
 From then on the guard loads messages and results of type `application/x-python-serialize` in
-workers, clients and result backends. With a Celery application a refused message is rejected
-without requeueing, its body isn't logged, and the guard's hook gets the task's name and id.
+workers, clients and result backends. With a Celery application
+
+- a refused message is rejected without requeueing, stores a failure for its task's id, and its body
+  isn't logged;
+- a refused result is a failure of its own task;
+- the context of each `Refusal` is `{"task": .., "id": ..}`.
 """
 
 from __future__ import annotations
 
-from typing import Any, Callable, Optional
+from typing import Any, Optional
 
 from .. import Guard
 from ._loading import Loader
@@ -22,7 +26,9 @@ CONTENT_TYPE = "application/x-python-serialize"
 
 
 def register(guard: Guard, app: Optional[Any] = None) -> None:
-    """Replaces kombu's pickle codec by the guard, and rejects refused messages to tasks of `app`.
+    """Replaces kombu's pickle codec by the guard. With a Celery application, also guards how its
+    workers and clients take refused messages and results. Raises RuntimeError for Celery before
+    5.2.2, which calls whatever function a stored exception names.
     """
     from kombu import serialization
 
@@ -33,11 +39,16 @@ def register(guard: Guard, app: Optional[Any] = None) -> None:
 
     serialization.register("pickle", guard.dumps, decode, CONTENT_TYPE, "binary")
     if app is not None:
-        app.Task.Strategy = staticmethod(_strategy)
+        from . import _celery_results, _celery_worker
+
+        _celery_worker.guard_workers(app)
+        _celery_results.guard_results(app, guard)
 
 
 def register_database(guard: Guard) -> None:
-    """Guards the columns of Celery's result backend `db+`, which SQLAlchemy itself unpickles."""
+    """Guards the columns of Celery's result backend `db+`, which SQLAlchemy itself unpickles.
+    `register` with an application does so by itself.
+    """
     from celery.backends.database import models
     from sqlalchemy.types import PickleType
 
@@ -45,28 +56,3 @@ def register_database(guard: Guard) -> None:
         for column in model.__table__.columns:
             if isinstance(column.type, PickleType):
                 column.type.pickler = Loader(guard)
-
-
-def _strategy(task: Any, app: Any, consumer: Any, **named: Any) -> Callable[..., Any]:
-    """Celery's default strategy for a task, which also rejects messages that the guard refuses."""
-    from celery.exceptions import InvalidTaskError
-    from celery.worker.strategy import default
-    from kombu.exceptions import DecodeError
-
-    from .._refusal import CONTEXT  # for each message, `guard.context` would take much longer
-
-    handle = default(task, app, consumer, **named)
-
-    def handle_guarded(message: Any, *given: Any, **named: Any) -> Any:
-        headers = message.headers or {}
-        token = CONTEXT.set({"task": headers.get("task"), "id": headers.get("id")})
-        try:
-            return handle(message, *given, **named)
-        except DecodeError as error:
-            # Celery logs the body of a rejected message.
-            message.body = b""
-            raise InvalidTaskError(f"the message was refused: {error}") from None
-        finally:
-            CONTEXT.reset(token)
-
-    return handle_guarded

@@ -9,11 +9,14 @@
     Manager(address, authkey=key, serializer="guarded").connect()
 
 `recv` raises Refused if the guard refuses a message; the connection stays usable. A manager sends
-its own `multiprocessing.managers.Token`, which must be on the list.
+its own `multiprocessing.managers.Token`, which must be on the list. It also names the methods of
+its objects, which Python compiles in the client: one that isn't an identifier raises
+UnpicklingError.
 """
 
 from __future__ import annotations
 
+import keyword
 from multiprocessing import connection, managers
 from typing import Any
 
@@ -28,12 +31,12 @@ class Listener(connection.Listener):
         self._guard = guard
 
     def accept(self) -> Any:
-        return _guarded(super().accept(), self._guard)
+        return _Connection(super().accept(), self._guard.dumps, self._guard.loads)
 
 
 def Client(address: Any, guard: Guard, **named: Any) -> Any:
     """`multiprocessing.connection.Client` with a connection that loads through the guard."""
-    return _guarded(connection.Client(address, **named), guard)
+    return _Connection(connection.Client(address, **named), guard.dumps, guard.loads)
 
 
 def register(guard: Guard, name: str) -> None:
@@ -43,7 +46,8 @@ def register(guard: Guard, name: str) -> None:
         return Listener(address, guard, backlog=backlog, authkey=authkey)
 
     def client(address: Any, authkey: Any = None) -> Any:
-        return Client(address, guard, authkey=authkey)
+        plain = connection.Client(address, authkey=authkey)
+        return _ManagerConnection(plain, guard.dumps, guard.loads)
 
     managers.listener_client[name] = (listener, client)  # type: ignore[attr-defined]
 
@@ -66,5 +70,35 @@ class _Connection(_Wrapper):  # type: ignore[misc]
         self.close()
 
 
-def _guarded(plain: Any, guard: Guard) -> Any:
-    return _Connection(plain, guard.dumps, guard.loads)
+class _ManagerConnection(_Connection):
+    """A client's connection to a manager."""
+
+    _asked: object = None
+
+    def send(self, message: Any) -> None:
+        self._asked = message[1] if type(message) is tuple and len(message) > 1 else None
+        super().send(message)
+
+    def recv(self) -> Any:
+        answer = super().recv()
+        if type(answer) is not tuple or len(answer) != 2:
+            return answer
+        kind, result = answer
+        if kind == "#RETURN" and self._asked == "get_methods":
+            return (kind, _identifiers(result))
+        if kind == "#RETURN" and self._asked == "create":
+            name, methods = result
+            return (kind, (name, _identifiers(methods)))
+        if kind == "#PROXY":
+            methods, token = result
+            return (kind, (_identifiers(methods), token))
+        return answer
+
+
+def _identifiers(methods: Any) -> Any:
+    """The names of methods, which the client compiles."""
+    names = tuple(methods)
+    for name in names:
+        if type(name) is not str or not name.isidentifier() or keyword.iskeyword(name):
+            raise Guard.UnpicklingError(f"the manager names a method {name!r:.80}")
+    return names

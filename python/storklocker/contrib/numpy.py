@@ -11,12 +11,14 @@ bytes are loaded. Arrays of numbers contain no pickle.
 
 from __future__ import annotations
 
+import functools
 import io
-import zipfile
+import operator
 from pathlib import Path
 from typing import Any, BinaryIO, Dict, Union
 
 from .. import Guard
+from ._zip import Archive
 
 Source = Union[str, Path, bytes, BinaryIO]
 
@@ -27,12 +29,11 @@ def load_npy(source: Source, guard: Guard) -> Any:
 
 
 def load_npz(source: Source, guard: Guard) -> Dict[str, Any]:
-    """The arrays in an `.npz` file, by name. Raises Refused if the pickle of any is refused."""
-    with zipfile.ZipFile(io.BytesIO(bytes_of(source))) as archive:
-        names = archive.namelist()
-        if len(set(names)) != len(names):
-            raise guard.UnpicklingError("two members of the file have the same name")
-        return {name[:-4]: _array_of(archive.read(name), guard) for name in names}
+    """The arrays in an `.npz` file, by name. Raises Refused if the pickle of any is refused, and
+    UnpicklingError if the file unpacks to more than the bounds of `storklocker scan`.
+    """
+    archive = Archive(bytes_of(source), guard)
+    return {name[:-4]: _array_of(archive.read(name), guard) for name in archive.sizes}
 
 
 def bytes_of(source: Source) -> bytes:
@@ -50,10 +51,13 @@ def _array_of(data: bytes, guard: Guard) -> Any:
     stream = io.BytesIO(data)
     version = layout.read_magic(stream)
     read = layout.read_array_header_1_0 if version == (1, 0) else layout.read_array_header_2_0
-    _, _, kind = read(stream)
+    shape, _, kind = read(stream)
+    rest = len(data) - stream.tell()
     if kind.hasobject:
         array = guard.loads(data[stream.tell() :])
         if not isinstance(array, numpy.ndarray):
             raise guard.UnpicklingError(f"the pickle is no array: {type(array).__name__}")
         return array
+    if functools.reduce(operator.mul, shape, kind.itemsize) > rest:  # NumPy takes the memory first
+        raise guard.UnpicklingError("the header announces more bytes than follow")
     return numpy.load(io.BytesIO(data), allow_pickle=False)

@@ -4,6 +4,8 @@
 
     with shelve.open("jobs", guard) as shelf:
         shelf["a"]                  # raises Refused if the guard refuses it
+
+The context of a `Refusal` is the key.
 """
 
 from __future__ import annotations
@@ -13,6 +15,7 @@ import shelve as plain
 from typing import Any, Optional, Union
 
 from .. import Guard
+from ._misses import about
 from ._rebinding import rebound
 
 
@@ -35,5 +38,11 @@ def open(
         def load(self) -> Any:
             return guard.load(self._file)
 
-    shelf = rebound(plain.DbfilenameShelf, {"Unpickler": Unpickler})
-    return shelf(os.fspath(path), flag, protocol, writeback)
+    bound = rebound(plain.DbfilenameShelf, {"Unpickler": Unpickler})
+
+    class Shelf(bound):  # type: ignore[misc, valid-type]
+        def __getitem__(self, key: str) -> Any:
+            with about(key):
+                return super().__getitem__(key)
+
+    return Shelf(os.fspath(path), flag, protocol, writeback)

@@ -3,6 +3,12 @@
     STANDARD_TYPES   values of builtins, array, decimal, fractions, ipaddress and uuid
     DATETIME         datetimes, dates, times and fixed time zones
     COLLECTIONS      the containers of collections
+    EXCEPTIONS       exceptions of builtins and of modules that services use
+    ENUM             members of enums of Python's library
+    PATHLIB          paths
+    DECIMAL, UUID    numbers of decimal, UUIDs
+    DJANGO           responses, model instances and values, as Django caches them
+    CELERY           signatures and exceptions, as Celery sends them
     NUMPY            arrays, scalars and types of NumPy
     PANDAS           frames, series, indexes, arrays and scalars of pandas
     SCIKIT_LEARN     fitted estimators of scikit-learn
@@ -20,22 +26,36 @@ from typing import List
 from .._lists import AllowList
 
 __all__ = [
+    "CELERY",
     "COLLECTIONS",
     "DATETIME",
+    "DECIMAL",
+    "DJANGO",
+    "ENUM",
+    "EXCEPTIONS",
     "NUMPY",
     "PANDAS",
+    "PATHLIB",
     "SCIKIT_LEARN",
     "STANDARD_TYPES",
     "TORCH_TENSORS",
+    "UUID",
 ]
 
+CELERY: AllowList
 COLLECTIONS: AllowList
 DATETIME: AllowList
+DECIMAL: AllowList
+DJANGO: AllowList
+ENUM: AllowList
+EXCEPTIONS: AllowList
 NUMPY: AllowList
 PANDAS: AllowList
+PATHLIB: AllowList
 SCIKIT_LEARN: AllowList
 STANDARD_TYPES: AllowList
 TORCH_TENSORS: AllowList
+UUID: AllowList
 
 
 def __getattr__(name: str) -> AllowList:

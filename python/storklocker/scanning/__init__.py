@@ -1,13 +1,27 @@
 """Finds the pickles in files, lists what they would import, and points out what is dangerous.
 
     report.py       the report on a file or a member
-    containers.py   the type of a file, from its content, and its members
-    judging.py      makes the report on each member
+    readings.py     what the readers that people use would get to; all_readings.py lists them
+    pickles.py, npys.py, tars.py, packed.py, zips.py, zip_layout.py and stores.py
+                    the rule of each reader
+    source.py       bytes that several readers look at
+    budget.py       how much is read of one file
+    judging.py      makes the report on each pickle
+    rows.py         reads pickles that follow one another
+    names.py        the imports of a pickle, within bounds
+    joblib_files.py, joblib_cutting.py and joblib_types.py
+                    files of joblib without their arrays
     reaching.py     whether a reader gets further than the checker
+    listing.py      the instructions around a refusal
+    condensing.py   keeps the reports on one file within bounds
     scan.py         many files, in several processes
-    formats.py      reports as a table, as JSON and as SARIF
-    html.py         reports as one page
-    dangers.py      names that give an attacker control
+    choosing.py     which files of a folder are scanned
+    severity.py     the kinds of findings, how bad each is, and what to do about it
+    dangers.py      what is known of names; known.py reads the table known.txt
+    formats.py      reports as a table and as JSON
+    sarif.py, junit.py, html.py and page.py
+                    reports in other formats
+    summary.py      what a whole scan found
     learning.py     writes list files from trusted files
     command.py      the command line
 """

@@ -6,34 +6,51 @@ import argparse
 import contextlib
 import io
 import os
+import shlex
 import sys
-from typing import Iterable, Iterator, Optional, Sequence, Tuple
+from collections import Counter
+from typing import Iterator, Optional, Sequence
 
 from .. import __version__
-from .._answers import ListFault
-from .._lists import AllowList
-from .dangers import dangers_in
+from .._lists import has_substitutes
+from .._writing import quoted
+from . import formats
+from .choosing import Choice
+from .dangers import import_findings, list_findings
+from .files import Files, is_url
 from .judging import Question
-from .learning import Learned, quoted
-from .report import NO_PICKLE, REFUSED, UNREADABLE, UNVOUCHED, Report, shown
-from .scan import Files, scan
+from .learning import Learned
+from .lists import add_commands, list_of
+from .report import NO_PICKLE, Finding, Report, shown
+from .scan import Means, scan
+from .severity import DANGER, NOTE, REFUSED, WARNING
+from .summary import FAIL_ON, Summary, counted
 
 YES, NO, FAULT = 0, 1, 2
 
-_STATUSES = """status:
-  0  nothing is refused
-  1  something is refused, or dangerous with --fail-on danger
-  2  a file can't be read or judged, or the command line, the list or the output has an error
+_STATUSES = """exit status:
+  0    everything was read to its end, and nothing was found that counts
+  1    something was found that counts, also if something else couldn't be read. It counts from
+       this --fail-on of `scan` on:
+         refused  the list refuses it: the default with --allow, and what `check` goes by
+         danger   it imports a name that runs code or writes files: the default without --allow
+         warning  it imports a name that reads files, reaches the network or changes the process
+         note     it imports a name that nobody has judged
+         never    nothing counts
+  2    something couldn't be read to its end, is packed in an unknown way, or readers differ about
+       it; or the command line, the list or the output is wrong
+  130  interrupted
 """
 
 
 _PATH = "a file, a folder, or - for standard input"
+_URL = f"{_PATH}; or a URL of either that fsspec opens"
 _LIST = "the list file of permitted names"
 
 
 def main(words: Optional[Sequence[str]] = None) -> int:
     """Runs the command with these arguments, and returns its status."""
-    asked = _parser().parse_args(words)
+    asked = command_parser().parse_args(words)
     if isinstance(sys.stdout, io.TextIOWrapper):
         # files and pipes get UTF-8; a terminal keeps its encoding
         encoding = None if sys.stdout.isatty() else "utf-8"
@@ -42,17 +59,27 @@ def main(words: Optional[Sequence[str]] = None) -> int:
         status: int = asked.run(asked)
         sys.stdout.flush()
         return status
-    except BrokenPipeError:
-        os.dup2(os.open(os.devnull, os.O_WRONLY), sys.stdout.fileno())
-        return FAULT
     except KeyboardInterrupt:
         return 130
     except OSError as error:
-        print(f"storklocker: {shown(str(error))}", file=sys.stderr)
+        if not isinstance(error, BrokenPipeError):
+            print(f"storklocker: {shown(str(error))}", file=sys.stderr)
+        _end_output()
         return FAULT
 
 
-def _parser() -> argparse.ArgumentParser:
+def _end_output() -> None:
+    """Writes what is still buffered, or drops it: Python would write it again at exit, and turn a
+    second failure into status 120.
+    """
+    try:
+        sys.stdout.flush()
+    except OSError:
+        os.dup2(os.open(os.devnull, os.O_WRONLY), sys.stdout.fileno())
+
+
+def command_parser() -> argparse.ArgumentParser:
+    """The parser of the command line, from which `storklocker.pages` is made too."""
     parser = argparse.ArgumentParser(
         "storklocker",
         description="Lists what pickles would import, before anything loads them.",
@@ -66,23 +93,51 @@ def _parser() -> argparse.ArgumentParser:
     _add_imports(commands)
     _add_learn(commands)
     _add_lint(commands)
+    add_commands(commands)
     return parser
 
 
 def _add_scan(commands: "argparse._SubParsersAction[argparse.ArgumentParser]") -> None:
-    it = commands.add_parser("scan", help="lists the pickles in files, and what they would import")
-    it.add_argument("paths", nargs="+", metavar="PATH", help=_PATH)
+    it = commands.add_parser(
+        "scan",
+        help="lists the pickles in files, and what they would import",
+        epilog=_STATUSES,
+        formatter_class=argparse.RawDescriptionHelpFormatter,
+    )
+    it.add_argument("paths", nargs="+", metavar="PATH", help=_URL)
     it.add_argument("--allow", metavar="LIST", help=_LIST)
     it.add_argument("--recursive", action="store_true", help="descend into subfolders")
+    for option, what in (("--include", "scan only"), ("--exclude", "leave out")):
+        it.add_argument(
+            option,
+            action="append",
+            default=[],
+            metavar="PATTERN",
+            help=f"{what} files of a folder with such a name, or such a path if it has a slash",
+        )
     it.add_argument(
         "--jobs", type=_jobs, default=1, metavar="N", help="number of processes; 1 by default"
     )
-    it.add_argument("--format", choices=("table", "json", "sarif", "html"), default="table")
+    it.add_argument(
+        "--cluster",
+        metavar="ADDRESS",
+        help="scan on the workers of a dask.distributed cluster, by the address of its scheduler",
+    )
+    it.add_argument(
+        "--resume",
+        metavar="FILE",
+        help="keep the reports in this file, and don't scan again what it has from another run",
+    )
+    it.add_argument(
+        "--format",
+        choices=("table", "json", "sarif", "html", "junit"),
+        default="table",
+        help="how the reports are written; a table by default",
+    )
     it.add_argument(
         "--fail-on",
-        choices=("refused", "danger", "never"),
-        default="refused",
-        help="what causes status 1; danger: refused files and dangerous names",
+        choices=FAIL_ON,
+        help="the least that causes status 1; refused by default with --allow, else danger",
     )
     it.set_defaults(run=_scan)
 
@@ -101,8 +156,15 @@ def _add_imports(commands: "argparse._SubParsersAction[argparse.ArgumentParser]"
 
 
 def _add_learn(commands: "argparse._SubParsersAction[argparse.ArgumentParser]") -> None:
-    it = commands.add_parser("learn", help="writes a list file from trusted files")
-    it.add_argument("paths", nargs="+", metavar="PATH", help=_PATH)
+    it = commands.add_parser("learn", help="writes a list file from trusted files or from logs")
+    it.add_argument("paths", nargs="*", metavar="PATH", help=_PATH)
+    it.add_argument(
+        "--from-log",
+        action="append",
+        default=[],
+        metavar="FILE",
+        help="also take the names that the guard's `learning` has written",
+    )
     it.add_argument("--recursive", action="store_true", help="descend into subfolders")
     it.set_defaults(run=_learn)
 
@@ -119,72 +181,76 @@ def _jobs(word: str) -> int:
     return int(word)
 
 
-def _list_of(path: str) -> AllowList:
-    try:
-        return AllowList.from_file(path)
-    except (ListFault, UnicodeDecodeError) as error:
-        raise OSError(f"{path} is no list file: {error}") from None
-
-
 @contextlib.contextmanager
 def _files_of(asked: argparse.Namespace) -> Iterator[Files]:
-    """The files to scan. When they are exhausted, reports how many folders were left out."""
-    files = Files(asked.paths, getattr(asked, "recursive", False))
+    """The files to scan. When they are exhausted, reports how many were left out."""
+    choice = Choice(getattr(asked, "include", ()), getattr(asked, "exclude", ()))
+    files = Files(asked.paths, getattr(asked, "recursive", False), choice)
     yield files
     if files.left_out:
         count = f"{files.left_out} folder{'s' * (files.left_out > 1)}"
         print(f"storklocker: {count} left out: scan descends with --recursive", file=sys.stderr)
+    if choice.left_out:
+        print(
+            f"storklocker: {choice.left_out} files and folders left out by --include and --exclude",
+            file=sys.stderr,
+        )
 
 
 def _scan(asked: argparse.Namespace) -> int:
-    allow = None if asked.allow is None else _list_of(asked.allow)
-    told, question = _Told(asked.fail_on), Question(allow, with_sha256=asked.format == "json")
+    allow = None if asked.allow is None else list_of(asked.allow)
+    asked.fail_on = asked.fail_on or (DANGER if allow is None else REFUSED)
+    told, question = Summary(asked.fail_on), Question(allow, with_sha256=asked.format == "json")
     with _files_of(asked) as files:
-        _print_reports(asked.format, told.heard(scan(files, question, asked.jobs, sys.stderr)))
-    return told.status()
+        means = Means(asked.jobs, asked.cluster or "", asked.resume or "")
+        for line in _lines(asked, told.heard(scan(files, question, means, sys.stderr))):
+            print(line)
+    if sys.stderr.isatty():
+        print(shown(told.line(_more(asked)), 2000), file=sys.stderr)
+    return _status(told)
 
 
-def _print_reports(form: str, reports: Iterator[Report]) -> None:
-    from . import formats
+def _lines(asked: argparse.Namespace, reports: Iterator[Report]) -> Iterator[str]:
+    """The lines of the output."""
+    if asked.format == "table":
+        path = asked.paths[0]
+        is_lone = len(asked.paths) == 1 and not (is_url(path) or os.path.isdir(path))
+        return formats.table(reports, is_lone)
+    if asked.format == "json":
+        return formats.as_json(reports)
+    if asked.format == "sarif":
+        from . import sarif
 
-    if form == "table":
-        lines = formats.table(reports)
-    elif form == "json":
-        lines = formats.as_json(reports)
-    elif form == "sarif":
-        lines = formats.as_sarif(reports, __version__)
-    else:
-        from . import html
+        return sarif.as_sarif(reports, __version__)
+    if asked.format == "junit":
+        from . import junit
 
-        lines = html.page(reports, __version__)
-    for line in lines:
-        print(line)
+        return junit.as_junit(reports, counted(asked.fail_on))
+    from . import html
+
+    return html.page(reports, __version__)
 
 
-class _Told:
-    """Collects what the status of a scan depends on."""
+def _more(asked: argparse.Namespace) -> str:
+    """The command that writes the page with everything that was found."""
+    words = ["storklocker", "scan", *asked.paths]
+    for option in ("allow", "include", "exclude"):
+        given = getattr(asked, option)
+        for value in [given] if isinstance(given, str) else given or ():
+            words += (f"--{option}", value)
+    words += ["--recursive"] if asked.recursive else []
+    return " ".join(map(shlex.quote, [*words, "--format", "html"])) + " >report.html"
 
-    def __init__(self, fail_on: str) -> None:
-        self._fail_on = fail_on
-        self._refused = self._unreadable = False
 
-    def heard(self, reports: Iterable[Report]) -> Iterator[Report]:
-        """Passes on the reports, and notes what they say."""
-        for report in reports:
-            self._unreadable |= report.status in (UNREADABLE, UNVOUCHED)
-            self._refused |= report.status == REFUSED
-            self._refused |= self._fail_on == "danger" and bool(report.dangers)
-            yield report
-
-    def status(self) -> int:
-        """The status, after the last report."""
-        if self._refused and self._fail_on != "never":
-            return NO
-        return FAULT if self._unreadable else YES
+def _status(told: Summary) -> int:
+    """The status, after the last report."""
+    if told.is_found:
+        return NO
+    return FAULT if told.is_unread else YES
 
 
 def _check(asked: argparse.Namespace) -> int:
-    told, allow, status = _Told("refused"), _list_of(asked.allow), YES
+    told, allow, status = Summary(REFUSED), list_of(asked.allow), YES
     for path in asked.paths:
         is_pickle = False
         with _files_of(argparse.Namespace(paths=[path])) as files:
@@ -194,11 +260,11 @@ def _check(asked: argparse.Namespace) -> int:
                 print(front + (shown(report.why, 1000) or report.status))
                 is_pickle |= report.status != NO_PICKLE
         status = status if is_pickle else NO
-    return told.status() or status
+    return _status(told) or status
 
 
 def _imports(asked: argparse.Namespace) -> int:
-    told = _Told("refused")
+    told = Summary(REFUSED)
     with _files_of(asked) as files:
         for report in told.heard(scan(files, Question())):
             for module, name in report.imports:
@@ -207,34 +273,59 @@ def _imports(asked: argparse.Namespace) -> int:
                 else:
                     print(quoted(module), quoted(name))
             print(f"{shown(report.path)}: {shown(report.why, 1000) or report.status}")
-    return told.status()
+    return _status(told)
 
 
 def _learn(asked: argparse.Namespace) -> int:
+    if not (asked.paths or asked.from_log):
+        raise OSError("learn takes files, or --from-log with a file")
     learned = Learned()
-    with _files_of(asked) as files:
-        learned.add(scan(files, Question(), progress=sys.stderr))
+    for path in asked.from_log:
+        learned.add_log(path)
+    if asked.paths:
+        with _files_of(asked) as files:
+            learned.add(scan(files, Question(), progress=sys.stderr))
     for line in learned.lines():
         print(line)
     for report in learned.left_out:
         print(f"# left out: {shown(report.path)}: {shown(report.why)}")
-    for line in _lint_lines(learned.pairs):
+    found = import_findings(learned.pairs)
+    for line in _lint_lines([finding for finding in found if finding.severity != NOTE]):
         print(f"# {line}")
+    if GETATTR in learned.pairs:
+        print(f"# {_GETATTR}")
     return FAULT if learned.left_out else YES
 
 
+GETATTR = ("builtins", "getattr")
+_GETATTR = (
+    "builtins.getattr is what enum members of Python 3.11.0 to 3.11.3, and bound methods, are"
+    " pickled with: storklocker.classes.ByValue, a base class for enums, avoids it, and"
+    " storklocker.substitutes.getattr permits some of it."
+)
+_SUBSTITUTED = """\
+A Guard loads some of these names through substitutes, which judge what a pickle does with them.
+Under this list a pickle may crash other readers, or run code in them, also after pktool check."""
+
+
 def _lint(asked: argparse.Namespace) -> int:
-    lines = list(_lint_lines(_list_of(asked.list)))
-    for line in lines:
+    allow = list_of(asked.list)
+    found = list_findings(allow)
+    if has_substitutes(allow):
+        print(_SUBSTITUTED)
+    for line in _lint_lines(found):
         print(line)
-    return NO if len(lines) > 1 else YES
+    if GETATTR in allow and not (allow._meant and GETATTR in allow._meant.substitutes):
+        print(_GETATTR)
+    return NO if any(finding.severity == DANGER for finding in found) else YES
 
 
-def _lint_lines(pairs: Iterable[Tuple[str, str]]) -> Iterator[str]:
-    dangers = dangers_in(pairs)
-    for danger in dangers:
-        yield f"{shown(danger.name)}: {danger.why} Example: {danger.example}"
-    yield f"{len(dangers)} names are known to be dangerous; the others may be dangerous too"
+def _lint_lines(found: Sequence[Finding]) -> Iterator[str]:
+    counts = Counter(finding.severity for finding in found)
+    for finding in found:
+        example = f" Example: {finding.example}" if finding.example else ""
+        yield f"{formats.told(finding)}{example}"
+    yield f"{counts[DANGER]} dangerous, {counts[WARNING]} warnings, {counts[NOTE]} not judged"
 
 
 if __name__ == "__main__":

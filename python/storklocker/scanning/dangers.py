@@ -1,197 +1,133 @@
-"""Names that let a pickle run any command or change what other code does.
+"""What is known of the names that a pickle imports.
 
-The table is not complete: a name that isn't in it may be just as harmful.
+The table `known.txt` is made by `python/dangers/make`. It isn't complete: a name that isn't in it
+may be just as harmful, so it is a finding too.
 """
 
 from __future__ import annotations
 
-import fnmatch
 import functools
-from typing import Dict, Iterable, List, NamedTuple, Optional, Tuple
+from pathlib import Path
+from typing import Container, Dict, FrozenSet, Iterable, Iterator, List, Optional, Tuple
 
+from .. import lists
+from .._lists import AllowList
+from .._names import renamed
+from .known import HARMLESS, Known, Row
+from .report import LONGEST, Finding, Pair, shown
+from .severity import DANGER, WARNING
 
-class Danger(NamedTuple):
-    """A name, what is wrong with it, and an example."""
+MOST = 100
+"""The most findings of each kind on the names of one pickle. A further one counts the rest."""
 
-    name: str
-    why: str
-    example: str
-
-
-_CALLS = "It calls whatever it is given, so it makes every other name reachable."
-_REACHES = "It reaches any attribute of a listed object, and so everything."
-_RUNS = "It runs a command."
-_CODE = "It runs code that the pickle contains."
-_LOADS = "It loads another pickle, which is not checked."
-_IMPORTS = "It imports a module named by a string, which a check of imports does not see."
-_FILES = "It writes, moves or deletes files."
-_NETWORK = "It opens a connection."
-_MEMORY = "It reads or writes memory by address."
-
-# A pattern for `module.name`, why it is dangerous, an example. The first match counts.
-_TABLE: Tuple[Tuple[str, str, str], ...] = (
-    ("builtins.getattr", _REACHES, "getattr(datetime, 'sys').modules['os'].system('id')"),
-    ("builtins.setattr", "It replaces attributes of a listed object.", "setattr(json, 'loads', f)"),
-    ("builtins.delattr", "It deletes attributes of a listed object.", "delattr(json, 'loads')"),
-    ("builtins.eval", _CODE, "eval('__import__(\"os\").system(\"id\")')"),
-    ("builtins.exec", _CODE, "exec('import os; os.system(\"id\")')"),
-    ("builtins.compile", _CODE, "compile('import os', '', 'exec')"),
-    ("builtins.__import__", _IMPORTS, "__import__('os')"),
-    ("builtins.open", _FILES, "open('.bashrc', 'w')"),
-    ("builtins.map", _CALLS, "list(map(os.system, ['id']))"),
-    ("builtins.filter", _CALLS, "list(filter(os.system, ['id']))"),
-    ("builtins.vars", _REACHES, "vars(datetime)['sys']"),
-    ("builtins.globals", _REACHES, "globals()['__builtins__']"),
-    ("builtins.breakpoint", _CODE, "breakpoint()"),
-    ("builtins.input", "It waits for the terminal.", "input()"),
-    ("builtins.help", _IMPORTS, "help('antigravity')"),
-    ("__builtin__.*", "Python 2's builtins have the same names.", "__builtin__.eval('..')"),
-    ("operator.attrgetter", _REACHES, "attrgetter('sys.modules')(datetime)"),
-    ("operator.methodcaller", _REACHES, "methodcaller('system', 'id')(os)"),
-    ("operator.itemgetter", "It reaches any item of a mapping.", "itemgetter('os')(modules)"),
-    ("operator.call", _CALLS, "operator.call(os.system, 'id')"),
-    ("_operator.*", "It is the module operator.", "_operator.attrgetter('..')"),
-    ("functools.partial", _CALLS, "partial(os.system, 'id')()"),
-    ("functools.reduce", _CALLS, "reduce(os.system, ['id', ''])"),
-    ("functools.*", _CALLS, "cached_property(f)"),
-    ("itertools.starmap", _CALLS, "list(starmap(os.system, [('id',)]))"),
-    ("itertools.accumulate", _CALLS, "list(accumulate(['id', ''], os.system))"),
-    ("os.*", _RUNS, "os.system('id')"),
-    ("posix.*", _RUNS, "posix.system('id')"),
-    ("nt.*", _RUNS, "nt.system('dir')"),
-    ("subprocess.*", _RUNS, "subprocess.Popen(['id'])"),
-    ("_posixsubprocess.*", _RUNS, "fork_exec(..)"),
-    ("pty.*", _RUNS, "pty.spawn('sh')"),
-    ("commands.*", _RUNS, "commands.getoutput('id')"),
-    ("platform.popen", _RUNS, "platform.popen('id')"),
-    ("asyncio.*subprocess*", _RUNS, "create_subprocess_shell('id')"),
-    ("multiprocessing.*", _RUNS, "multiprocessing.Process(target=f).start()"),
-    ("concurrent.futures.*", _CALLS, "ThreadPoolExecutor().submit(f)"),
-    ("threading.*", _CALLS, "threading.Timer(0, f).start()"),
-    ("_thread.*", _CALLS, "start_new_thread(f, ())"),
-    ("sched.*", _CALLS, "scheduler().enter(0, 0, f)"),
-    ("atexit.register", _CALLS, "atexit.register(f)"),
-    ("signal.*", _CALLS, "signal.signal(14, f)"),
-    ("sys.*", _REACHES, "sys.modules['os']"),
-    ("importlib.*", _IMPORTS, "importlib.import_module('os')"),
-    ("imp.*", _IMPORTS, "imp.load_source('m', 'file.py')"),
-    ("runpy.*", _CODE, "runpy.run_path('file.py')"),
-    ("pkgutil.*", _IMPORTS, "pkgutil.resolve_name('os:system')"),
-    ("pydoc.*", _IMPORTS, "pydoc.locate('os.system')"),
-    ("code.*", _CODE, "code.InteractiveInterpreter().runcode(..)"),
-    ("codeop.*", _CODE, "codeop.compile_command('..')"),
-    ("types.FunctionType", _CODE, "FunctionType(code, {})()"),
-    ("types.CodeType", _CODE, "CodeType(..)"),
-    ("marshal.*", _CODE, "marshal.loads(..)"),
-    ("timeit.*", _CODE, "timeit.timeit('import os; os.system(\"id\")')"),
-    ("trace.*", _CODE, "Trace().run('..')"),
-    ("profile.*", _CODE, "profile.run('..')"),
-    ("cProfile.*", _CODE, "cProfile.run('..')"),
-    ("pdb.*", _CODE, "pdb.run('..')"),
-    ("bdb.*", _CODE, "bdb.Bdb().run('..')"),
-    ("doctest.*", _CODE, "doctest.debug_script('..')"),
-    ("test.*", _CODE, "test.support.script_helper.run_python('..')"),
-    ("unittest.*", _IMPORTS, "unittest.mock._importer('os')"),
-    ("pickle.*", _LOADS, "pickle.loads(b'cos\\nsystem\\n..')"),
-    ("_pickle.*", _LOADS, "_pickle.loads(..)"),
-    ("cPickle.*", _LOADS, "cPickle.loads(..)"),
-    ("dill.*", _LOADS, "dill.loads(..)"),
-    ("cloudpickle.*", _CODE, "cloudpickle.loads(..)"),
-    ("joblib.*", _LOADS, "joblib.load('file')"),
-    ("shelve.*", _LOADS, "shelve.open('file')['key']"),
-    ("pandas.read_pickle", _LOADS, "pandas.read_pickle('file')"),
-    ("pandas.io.pickle.*", _LOADS, "read_pickle('file')"),
-    ("pandas.core.computation.eval.*", _CODE, "pandas.eval('@os.system(..)')"),
-    ("numpy.load", _LOADS, "numpy.load('file', allow_pickle=True)"),
-    ("numpy.testing._private.utils.runstring", _CODE, "runstring('import os', {})"),
-    ("numpy.testing.*", _CODE, "numpy.testing.rundocs('file')"),
-    ("numpy.f2py.*", _RUNS, "numpy.f2py.compile('..')"),
-    ("numpy.distutils.*", _RUNS, "exec_command('id')"),
-    ("torch.storage._load_from_bytes", _LOADS, "_load_from_bytes(b'..')"),
-    ("torch.load", _LOADS, "torch.load('file')"),
-    ("torch.serialization.*", _LOADS, "torch.serialization.load('file')"),
-    ("torch.hub.*", _CODE, "torch.hub.load('repository', 'model')"),
-    ("torch.utils.*", _CODE, "torch.utils.cpp_extension.load(..)"),
-    ("torch.jit.*", _CODE, "torch.jit.load('file')"),
-    ("sympy.*.sympify*", _CODE, "sympify('..')"),
-    ("sqlalchemy.util.*", _CODE, "portable_instancemethod(..)"),
-    ("django.utils.module_loading.*", _IMPORTS, "import_string('os.system')"),
-    ("werkzeug.utils.import_string", _IMPORTS, "import_string('os.system')"),
-    ("shutil.*", _FILES, "shutil.rmtree('/')"),
-    ("pathlib.*", "Its methods write and delete files.", "Path('.bashrc').write_text('..')"),
-    ("tempfile.*", _FILES, "NamedTemporaryFile()"),
-    ("zipfile.*", _FILES, "ZipFile('x').extractall('/')"),
-    ("tarfile.*", _FILES, "TarFile.open('x').extractall('/')"),
-    ("logging.*", _IMPORTS, "logging.config.dictConfig({'()': 'os.system'})"),
-    ("socket.*", _NETWORK, "socket.create_connection(..)"),
-    ("http.*", _NETWORK, "http.client.HTTPConnection(..)"),
-    ("urllib.*", _NETWORK, "urllib.request.urlopen('..')"),
-    ("requests.*", _NETWORK, "requests.get('..')"),
-    ("aiohttp.*", _NETWORK, "aiohttp.ClientSession()"),
-    ("smtplib.*", _NETWORK, "smtplib.SMTP(..)"),
-    ("ftplib.*", _NETWORK, "ftplib.FTP(..)"),
-    ("webbrowser.*", _RUNS, "webbrowser.open('..')"),
-    ("ctypes.*", _MEMORY, "ctypes.CDLL(None).system(b'id')"),
-    ("_ctypes.*", _MEMORY, "_ctypes.dlopen('..')"),
-    ("mmap.*", _MEMORY, "mmap.mmap(..)"),
-    ("gc.*", _REACHES, "gc.get_objects()"),
-    ("inspect.*", _REACHES, "inspect.currentframe()"),
-    ("idlelib.*", _CODE, "idlelib.run.Executive(..)"),
-    ("lib2to3.*", _LOADS, "lib2to3.pgen2.grammar.Grammar().loads(..)"),
+_WORDS = 8
+"""The most words of a dotted name: no class lies so deep, but a way from module to module may."""
+_HIDDEN = "The pickle computes the name that it imports."
+_UNKNOWN = "Nobody has judged what a pickle can do with it."
+_MORE = "{} more names like these."
+_MAKING = (".__init__", ".__new__", ".__call__")
+"""What does as much as its class."""
+_KINDS = {DANGER: "dangerous-import", WARNING: "risky-import"}
+_INNER = Row(DANGER, "It reaches into an object, and from there any object of the interpreter.")
+_MAIN = Row(WARNING, "The import of this module runs it as a command.")
+_INWARDS = frozenset(
+    "__base__ __bases__ __builtins__ __class__ __closure__ __code__ __dict__ __func__"
+    " __getattribute__ __globals__ __import__ __loader__ __mro__ __self__ __spec__ __subclasses__"
+    " __wrapped__ ag_frame cr_frame f_back f_builtins f_globals f_locals func_globals gi_frame mro"
+    " tb_frame".split()
 )
-
-# Modules that other code uses, and whose objects a pickle may change with BUILD.
-_CHANGED = ("os.path", "posixpath", "ntpath", "site", "linecache", "copyreg", "json", "ssl")
+"""Attributes through which a dotted name gets to everything."""
 
 
-def _by_top() -> Dict[str, List[Tuple[str, str, str]]]:
-    """The rows by the top-level name of their module, so that a lookup tries few of them."""
-    rows: Dict[str, List[Tuple[str, str, str]]] = {}
-    for row in _TABLE:
-        rows.setdefault(row[0].partition(".")[0], []).append(row)
-    return rows
+@functools.lru_cache(maxsize=None)
+def known() -> Known:
+    """The table of judged names."""
+    return Known(Path(__file__).with_name("known.txt").read_text(encoding="utf-8"))
 
 
-_ROWS = _by_top()
+@functools.lru_cache(maxsize=None)
+def _listed() -> FrozenSet[Tuple[str, str]]:
+    """The names in the shipped lists, but for those that a guard loads otherwise."""
+    held = [getattr(lists, name) for name in lists.__all__]
+    return frozenset(pair for allow in held for pair in allow if pair not in _substituted(allow))
 
 
-def danger_of(module: Optional[str], name: Optional[str]) -> Optional[Danger]:
-    """The danger of a name, if it is known."""
-    if module is None or name is None:
-        return None
-    # long names would fill the cache
-    if len(module) + len(name) > _LONG:
-        return _looked_up(module, name)
-    return _kept(module, name)
+def _substituted(allow: AllowList) -> Container[Tuple[str, str]]:
+    """The names of a list for which it has substitutes."""
+    return () if allow._meant is None else allow._meant.substitutes
 
 
-_LONG, _WORDS = 1000, 32
-
-
-def _looked_up(module: str, name: str) -> Optional[Danger]:
-    word = f"{module}.{name}"
-    found = _known(module, word)
-    words = name.split(".", _WORDS)
-    for at in range(len(words) - 1):
-        # a dotted name may reach into a module that the first one imports
-        inner = ".".join(words[at:]).lstrip("_")
-        found = found or _known(inner, inner)
-    return found and found._replace(name=word)
-
-
-_kept = functools.lru_cache(maxsize=4096)(_looked_up)
-
-
-def _known(module: str, word: str) -> Optional[Danger]:
-    for pattern, why, example in _ROWS.get(module.partition(".")[0], ()):
-        if fnmatch.fnmatchcase(word, pattern):
-            return Danger(word, why, example)
-    if module in _CHANGED:
-        return Danger(word, "BUILD may replace what other code uses of it.", f"{word}.x = ..")
+def judged(module: str, name: str) -> Optional[Row]:
+    """What is known of a name; None if nobody has judged it."""
+    found = [row for row in _rows(module, name) if row is not None]
+    for severity in (DANGER, WARNING, HARMLESS):
+        for row in found:
+            if row.severity == severity:
+                return row
     return None
 
 
-def dangers_in(pairs: Iterable[Tuple[Optional[str], Optional[str]]]) -> List[Danger]:
-    """The known dangers among these names."""
-    found = (danger_of(module, name) for module, name in pairs)
-    return [danger for danger in found if danger is not None]
+def _rows(module: str, name: str) -> Iterator[Optional[Row]]:
+    table, module = known(), module.partition("\0")[0]  # as Python finds frozen modules
+    row = table.judged(f"{module}.{name}")
+    if (module, name) in _listed() and (row is None or row.severity != DANGER):
+        yield Row(HARMLESS)
+        return
+    yield row
+    # a pickle of protocols 0 to 2 may mean another name
+    new = renamed((module, name))
+    if new != (module, name):
+        yield table.judged(".".join(new))
+    if name in _INWARDS:
+        yield _INNER
+    if module.endswith(".__main__"):
+        yield _MAIN
+    if name.endswith(_MAKING):
+        yield table.judged(f"{module}.{name}"[: name.rfind(".") - len(name)])
+    if "." in name:
+        yield from _rows_inside(name)
+
+
+def _rows_inside(name: str) -> Iterator[Optional[Row]]:
+    """A dotted name may reach into a module that the first one imports, or into an object."""
+    words = name.split(".", _WORDS)
+    if len(words) > _WORDS or not _INWARDS.isdisjoint(words):
+        yield _INNER
+        return
+    for at in range(len(words) - 1):
+        yield known().judged(".".join(words[at:]).lstrip("_"))
+
+
+def import_findings(pairs: Iterable[Pair], allow: Optional[AllowList] = None) -> List[Finding]:
+    """What is to be said of these imports, each of which is met once. Of a name on the list, only
+    that it is dangerous.
+    """
+    found: Dict[str, List[Finding]] = {}
+    counts: Dict[str, int] = {}
+    for module, name in pairs:
+        row = Row(DANGER, _HIDDEN)
+        kind = "hidden-import"
+        if module is not None and name is not None:
+            row = judged(module, name) or Row("", _UNKNOWN)
+            kind = _KINDS.get(row.severity, "unknown-import")
+            if row.severity == HARMLESS:
+                continue
+            if allow is not None and row.severity != DANGER and (module, name) in allow:
+                continue
+        counts[kind] = counts.get(kind, 0) + 1
+        if counts[kind] <= MOST:
+            dotted = "" if module is None else shown(f"{module}.{name}", LONGEST)
+            found.setdefault(kind, []).append(Finding(kind, row.why, dotted, row.example))
+    for kind, count in counts.items():
+        if count > MOST:
+            found[kind].append(Finding(kind, _MORE.format(f"{count - MOST:,}")))
+    return [it for kind in found for it in found[kind]]
+
+
+def list_findings(allow: AllowList) -> List[Finding]:
+    """What is to be said of a list, but for names that a guard loads through its substitutes."""
+    wild = {pair: None for pair in allow if "*" in "".join(pair)}
+    why = "a list has no wildcards: write each name"
+    found = [Finding("wildcard", why, ".".join(pair)) for pair in wild]
+    judged = _substituted(allow)
+    return found + import_findings(it for it in allow if it not in wild and it not in judged)

@@ -1,44 +1,62 @@
-"""Reports as a table, as JSON and as SARIF."""
+"""Reports as a table and as JSON."""
 
 from __future__ import annotations
 
 import json
-import re
-from typing import Any, Dict, Iterable, Iterator
+from typing import Dict, Iterable, Iterator
 
-from .report import (
-    NO_PICKLE, REFUSED, UNREADABLE, UNVOUCHED, Pair, Report, dotted, shown
-)
+from .report import NO_PICKLE, UNJUDGED, Finding, Pair, Report, dotted, shown
+from .severity import DANGER, UNREADABLE, WARNING
 
-_RULES = {
-    "refused": "The pickle is refused",
-    "unvouched": "No check can vouch for the file",
-    "unreadable": "The file or member can't be read",
-    "danger": "The pickle imports a dangerous name",
-}
+_INDENT = " " * 12
+_QUIET = 20
+"""The most members without a pickle that the table names, where it names them at all."""
 
 
-def table(reports: Iterable[Report]) -> Iterator[str]:
-    """Lines for each file or member that is a pickle or a finding, then a line of totals."""
+def table(reports: Iterable[Report], names_all: bool = False) -> Iterator[str]:
+    """Lines for each file or member that is a pickle or a finding, then a line of totals.
+
+    names_all: also a line for what has no pickle, and what that is.
+    """
     found: Dict[str, int] = {}
     for report in reports:
-        found[report.status] = found.get(report.status, 0) + 1
-        if report.status == NO_PICKLE:
-            continue
-        yield f"{report.status:10}  {shown(report.path)}  {report.kind}  {shown(report.why)}"
-        missing = set(report.missing)
-        for pair in report.imports:
-            yield f"{_INDENT}{'off the list' if pair in missing else 'imports'}: {_named(pair)}"
-        for danger in report.dangers:
-            yield f"{_INDENT}dangerous: {shown(danger.name)}: {danger.why}"
+        word = _word(report)
+        count = found[word] = found.get(word, 0) + 1
+        if report.status != NO_PICKLE or report.findings or names_all and count <= _QUIET:
+            yield from _lines(report)
+    if names_all and found.get(NO_PICKLE, 0) > _QUIET:
+        yield f"{_INDENT}{found[NO_PICKLE] - _QUIET} more without a pickle"
     yield ", ".join(f"{count} {status}" for status, count in sorted(found.items())) or "no files"
 
 
-_INDENT = " " * 12
+def _word(report: Report) -> str:
+    """The status; without a list, how bad the worst finding is."""
+    worst = report.findings[0].severity if report.findings else ""
+    if report.status == UNJUDGED and worst in (DANGER, UNREADABLE, WARNING):
+        return "dangerous" if worst == DANGER else worst
+    return report.status
+
+
+def _lines(report: Report) -> Iterator[str]:
+    line = f"{_word(report):10}  {shown(report.path)}  {report.kind}  {shown(report.why)}"
+    yield line.rstrip()
+    missing = set(report.missing)
+    for pair in report.imports:
+        yield f"{_INDENT}{'off the list' if pair in missing else 'imports'}: {_named(pair)}"
+    for finding in report.findings:
+        if finding.why != report.why:
+            yield f"{_INDENT}{told(finding)}"
+
+
+def told(finding: Finding) -> str:
+    """A finding in a line."""
+    word = "dangerous" if finding.severity == DANGER else finding.severity
+    name = f"{shown(finding.name, 256)}: " if finding.name else ""
+    return f"{word}: {name}{shown(finding.why)}"
 
 
 def _named(pair: Pair) -> str:
-    return shown(dotted(pair))
+    return shown(dotted(pair), 256)
 
 
 def as_json(reports: Iterable[Report]) -> Iterator[str]:
@@ -48,49 +66,3 @@ def as_json(reports: Iterable[Report]) -> Iterator[str]:
         yield front + json.dumps(report.as_dict())
         front = ","
     yield "[]" if front == "[" else "]"
-
-
-def as_sarif(reports: Iterable[Report], version: str) -> Iterator[str]:
-    """A SARIF 2.1.0 log with a result for each finding."""
-    results = [result for report in reports for result in _results(report)]
-    rules = [{"id": name, "shortDescription": {"text": text}} for name, text in _RULES.items()]
-    driver = {"name": "storklocker", "version": version, "rules": rules}
-    run = {"tool": {"driver": driver}, "results": results, "columnKind": "unicodeCodePoints"}
-    log = {"version": "2.1.0", "$schema": _SCHEMA, "runs": [run]}
-    yield json.dumps(log, indent=1)
-
-
-_SCHEMA = "https://json.schemastore.org/sarif-2.1.0.json"
-
-
-def _results(report: Report) -> Iterator[Dict[str, Any]]:
-    if report.status in (REFUSED, UNVOUCHED, UNREADABLE):
-        missing = ", ".join(dotted(pair) for pair in report.missing)
-        text = f"{report.why}; off the list: {missing}" if missing else report.why
-        level = "error" if report.status == REFUSED else "warning"
-        yield _result(report, report.status, level, text)
-    for danger in report.dangers:
-        yield _result(report, "danger", "warning", f"{danger.name}: {danger.why}")
-
-
-def _result(report: Report, rule: str, level: str, text: str) -> Dict[str, Any]:
-    file: Dict[str, Any] = {"artifactLocation": {"uri": _uri(report.file)}}
-    place: Dict[str, Any] = {"physicalLocation": file}
-    if report.path != report.file:
-        member = report.path[len(report.file) + 1 :]
-        place["logicalLocations"] = [{"fullyQualifiedName": member, "kind": "member"}]
-    elif report.kind in ("pickle", "row of pickles"):  # others are unpacked, so have no such offset
-        file["region"] = {"byteOffset": report.at, "byteLength": 1}
-    return {
-        "ruleId": rule,
-        "level": level,
-        # brackets would become links
-        "message": {"text": re.sub(r"([\\\[\]])", r"\\\1", shown(text, 1000))},
-        "locations": [place],
-    }
-
-
-def _uri(path: str) -> str:
-    from urllib.parse import quote
-
-    return quote(path, safe="/", errors="surrogateescape")

@@ -2,108 +2,175 @@
 
 from __future__ import annotations
 
+import re
+from collections import Counter
 from html import escape
-from typing import Iterable, Iterator, List
+from typing import Dict, Iterable, Iterator, List
 
-from .report import Report, counts, dotted, shown
+from .page import SCRIPT, STYLE
+from .report import NO_PICKLE, Finding, Report, dotted, shown
+from .severity import DANGER, KINDS, NOTE, REFUSED, SEVERITIES, UNREADABLE, WARNING
 
-_STYLE = """
-body{font:15px/1.5 system-ui,sans-serif;margin:2rem auto;max-width:72rem;padding:0 1rem;color:#222}
-h1{font-size:1.5rem}table{border-collapse:collapse;width:100%}td,th{padding:.4rem .6rem;
-text-align:left;vertical-align:top;border-bottom:1px solid #ddd;overflow-wrap:anywhere}
-th{cursor:pointer;background:#f4f4f4;position:sticky;top:0}code,pre{font:13px/1.4 ui-monospace,
-monospace}pre{background:#f7f7f7;padding:.6rem;overflow:auto}.refused{color:#a40000;font-weight:600}
-.accepted{color:#04641c}.unvouched,.unreadable{color:#8a5a00;font-weight:600}.off{color:#a40000}
-.here{background:#ffd9d9}button,input{font:inherit;margin-right:.4rem;padding:.2rem .6rem}
-button[aria-pressed=true]{background:#222;color:#fff}
-@media(prefers-color-scheme:dark){body{background:#181818;color:#ddd}th,pre{background:#262626}
-td,th{border-color:#444}.refused,.off{color:#ff8080}.accepted{color:#7fd18b}
-.unvouched,.unreadable{color:#e8b04a}.here{background:#5a2020}}
-"""
-
-_SCRIPT = """
-const rows = [...document.querySelectorAll('tbody tr')], body = document.querySelector('tbody');
-const word = document.querySelector('#word'), chosen = {status: ''};
-function show() {
-  const text = word.value.toLowerCase();
-  for (const row of rows)
-    row.hidden = (chosen.status && row.dataset.status !== chosen.status)
-      || (text && !row.textContent.toLowerCase().includes(text));
+FOUND, OTHERS = 5000, 2000
+"""The most rows of files and members with findings, and of others."""
+_NONE = "none"
+_WORDS = {
+    REFUSED: "refused", DANGER: "dangerous", UNREADABLE: "unreadable", WARNING: "warnings",
+    NOTE: "notes", _NONE: "nothing found",
 }
-for (const button of document.querySelectorAll('button'))
-  button.onclick = () => {
-    chosen.status = button.dataset.status;
-    for (const other of document.querySelectorAll('button'))
-      other.setAttribute('aria-pressed', other === button);
-    show();
-  };
-word.oninput = show;
-document.querySelectorAll('th').forEach((head, at) => head.onclick = () => {
-  const way = head.dataset.way = head.dataset.way === '1' ? '-1' : '1';
-  rows.sort((a, b) => way * a.children[at].textContent.localeCompare(
-    b.children[at].textContent, undefined, {numeric: true}));
-  body.append(...rows);
-});
-"""
+_TITLES = {
+    REFUSED: "Don't load these files: the list refuses them",
+    DANGER: "Don't load these files: they run code",
+    UNREADABLE: "Don't load these files: they can't be read to their end",
+    WARNING: "Nothing is known to run code, but some names do more than hold data",
+    NOTE: "Nothing is known to run code, but some names have not been judged",
+    _NONE: "Nothing was found",
+}
 
 
 def page(reports: Iterable[Report], version: str) -> Iterator[str]:
     """The page, in pieces."""
-    found = list(reports)
+    found = _Found()
+    for report in reports:
+        found.add(report)
+    worst = next((it for it in SEVERITIES if found.counts[it]), _NONE)
     yield "<!DOCTYPE html><html lang=en><meta charset=utf-8><title>Storklocker</title>"
-    yield "<meta name=viewport content='width=device-width'>"
+    yield "<meta name=viewport content='width=device-width,initial-scale=1'>"
     yield "<meta http-equiv=Content-Security-Policy"
     yield " content=\"default-src 'none'; style-src 'unsafe-inline'; script-src 'unsafe-inline'\">"
-    yield f"<style>{_STYLE}</style><h1>What the pickles would import</h1>"
-    yield f"<p>{_summary(found)} Storklocker {escape(version)}.</p><p>"
+    yield f"<style>{STYLE}</style><main><header class={worst}>"
+    yield f"<h1>{_TITLES[worst]}</h1><p>{found.line()} Storklocker {escape(version)}.</p></header>"
+    yield from _advice(found.kinds)
     yield from _buttons(found)
-    yield "<input id=word placeholder=Search></p>"
-    yield "<table><thead><tr><th>Verdict<th>File<th>Kind<th>Bytes<th>What</thead><tbody>"
-    for report in found:
+    yield "<table><thead><tr><th>Found<th>File<th>Type<th class=number>Bytes<th>What</thead><tbody>"
+    for report in sorted(found.rows, key=_rank):
         yield _row(report)
-    yield f"</tbody></table><script>{_SCRIPT}</script></html>"
+    yield "</tbody></table>"
+    if found.left_out:
+        yield f"<p>{found.left_out:,} more are left out: --format json has them.</p>"
+    yield f"</main><script>{SCRIPT}</script></html>"
 
 
-def _summary(reports: List[Report]) -> str:
-    size = sum(report.size for report in reports)
-    return f"{len(reports)} files and members, {size:,} bytes."
+class _Found:
+    """The rows of the page, and how many there are of each severity and kind."""
+
+    def __init__(self) -> None:
+        self.rows: List[Report] = []
+        self.counts: "Counter[str]" = Counter()
+        self.kinds: "Counter[str]" = Counter()
+        self.files = self.left_out = 0
+        self._file, self._room = "", {True: FOUND, False: OTHERS}
+
+    def add(self, report: Report) -> None:
+        """Counts a report, and keeps it if there is room."""
+        self.counts[_worst(report)] += 1
+        self.kinds.update({finding.kind for finding in report.findings})
+        self.files += report.file != self._file
+        self._file = report.file
+        self._room[report.is_finding] -= 1
+        if self._room[report.is_finding] < 0:
+            self.left_out += 1
+        else:
+            self.rows.append(report)
+
+    def line(self) -> str:
+        """What was looked at."""
+        return f"{self.files:,} files, {sum(self.counts.values()):,} pickles and members."
 
 
-def _buttons(reports: List[Report]) -> Iterator[str]:
-    yield f"<button data-status='' aria-pressed=true>all {len(reports)}</button>"
-    for status, count in sorted(counts(reports).items()):
-        yield f"<button data-status='{status}' aria-pressed=false>{status} {count}</button>"
+def _worst(report: Report) -> str:
+    severities = {report.status, *(finding.severity for finding in report.findings)}
+    return next((it for it in SEVERITIES if it in severities), _NONE)
+
+
+def _rank(report: Report) -> int:
+    worst = _worst(report)
+    return SEVERITIES.index(worst) if worst != _NONE else len(SEVERITIES)
+
+
+def _advice(kinds: "Counter[str]") -> Iterator[str]:
+    """What to do about each kind of finding, the worst first."""
+    if kinds:
+        yield "<h2>What to do</h2><ul class=advice>"
+    for name, kind in sorted(KINDS.items(), key=lambda it: SEVERITIES.index(it[1].severity)):
+        if kinds[name]:
+            yield (
+                f"<li><b class={kind.severity}>{kinds[name]:,} \u00d7 {_text(kind.title)}.</b>"
+                f" {_marked(kind.advice)}"
+            )
+    if kinds:
+        yield "</ul>"
+
+
+def _buttons(found: _Found) -> Iterator[str]:
+    yield "<div class=filter role=group aria-label='Which to show'>"
+    yield f"<button data-worst='' aria-pressed=true>all {sum(found.counts.values()):,}</button>"
+    for worst in (*SEVERITIES, _NONE):
+        if found.counts[worst]:
+            text = f"{_WORDS[worst]} {found.counts[worst]:,}"
+            yield f"<button data-worst={worst} aria-pressed=false>{text}</button>"
+    yield "<input id=word type=search placeholder='Search names and files' aria-label=Search>"
+    yield "<span id=count role=status></span></div>"
 
 
 def _row(report: Report) -> str:
+    worst = _worst(report)
+    word = report.status if worst in (_NONE, REFUSED, UNREADABLE) else _WORDS[worst]
     return (
-        f"<tr data-status='{report.status}'><td class='{report.status}'>{report.status}"
-        f"<td>{_text(report.path)}<td>{_text(report.kind)}<td>{report.size}<td>{_what(report)}"
+        f"<tr data-worst={worst}><td class='verdict {worst}'>{word}"
+        f"<td class=path>{_text(report.path)}<td class=kind>{_text(report.kind)}"
+        f"<td class=number data-value={report.size}>{report.size:,}<td>{_what(report)}"
     )
 
 
 def _what(report: Report) -> str:
-    parts = [f"<div>{_text(report.why)}</div>"]
+    parts = [f"<p>{_text(report.why)}</p>"] if report.why else []
+    kinds: Dict[str, List[Finding]] = {}
+    for finding in report.findings:
+        kinds.setdefault(finding.kind, []).append(finding)
+    for kind, findings in kinds.items():
+        parts.append(_told(kind, findings, report.why))
     missing = set(report.missing)
-    if report.imports:
-        names = [
-            f"<code class={'off' if pair in missing else 'on'}>{_text(dotted(pair))}</code>"
-            for pair in report.imports
-        ]
-        parts.append(f"<div>{', '.join(names)}</div>")
-    for danger in report.dangers:
-        parts.append(
-            f"<div class=off><code>{_text(danger.name)}</code>: {_text(danger.why)}"
-            f" Example: <code>{_text(danger.example)}</code></div>"
-        )
+    names = [
+        f"<code class={'refused' if pair in missing else 'name'}>{_text(dotted(pair))}</code>"
+        for pair in report.imports
+    ]
+    if names and report.status != NO_PICKLE:
+        is_open = " open" if len(names) < 9 else ""
+        parts.append(f"<details{is_open}><summary>{_imports(len(names))}</summary>")
+        parts.append(f"{', '.join(names)}</details>")
     if report.listing:
         lines = [
             f"<span class={'here' if line.at == report.at else 'line'}>{_text(line.line)}</span>"
             for line in report.listing
         ]
-        parts.append("<details><summary>Listing</summary><pre>" + "\n".join(lines))
-        parts.append("</pre></details>")
+        parts.append("<details><summary>Instructions</summary><pre tabindex=0>")
+        parts.append("\n".join(lines) + "</pre></details>")
     return "".join(parts)
+
+
+def _told(name: str, findings: List[Finding], why: str) -> str:
+    """The findings of a kind, and what to do about them."""
+    kind = KINDS[name]
+    lines = []
+    for finding in findings:
+        said = "" if finding.why == why else _text(finding.why)
+        code = f"<code>{_text(finding.name)}</code> " if finding.name else ""
+        example = f" Example: <code>{_text(finding.example)}</code>" if finding.example else ""
+        if code or said:
+            lines.append(f"<li>{code}{said}{example}")
+    listed = f"<ul>{''.join(lines)}</ul>" if lines else ""
+    title = f"<b class={kind.severity}>{_text(kind.title)}.</b>"
+    return f"<div class=finding>{title}{listed}<p class=do>{_marked(kind.advice)}</p></div>"
+
+
+def _imports(count: int) -> str:
+    return "1 import" if count == 1 else f"{count:,} imports"
+
+
+def _marked(text: str) -> str:
+    """A text of ours, with code between backticks."""
+    return re.sub("`([^`]*)`", r"<code>\1</code>", _text(text))
 
 
 def _text(text: str) -> str:

@@ -1,39 +1,27 @@
-"""Makes the report on a member: whether it is a pickle, what it would import, and the verdict."""
+"""Makes the reports on a file: whether it is a pickle, what it would import, and the verdict."""
 
 from __future__ import annotations
 
-import itertools
-import pickletools
-from typing import Any, BinaryIO, Deque, Dict, Iterator, List, NamedTuple, Optional, Tuple
+import re
+from typing import BinaryIO, Dict, Iterator, List, NamedTuple, Optional, Tuple
 
-from .._answers import Verdict
-from .._checking import check
-from .._imports import imports_in, imports_of
-from .._limits import Limits
-from .._lists import AllowList, records
-from .._reasons import Reason
-from .containers import UNPACKED, Finding, Piece, Stream, pieces_of
-from .dangers import dangers_in
-from .reaching import READERS_STOP, reaches
+from .._hints import hint_of
+from .._lists import AllowList, within
+from .budget import UNPACKED, Budget, TooMuch
+from .dangers import import_findings
+from .joblib_files import WRAPPER_NAMES, without_arrays
+from .listing import listing
+from .names import WIDE
+from .readings import Nothing, Piece, Place, Unread, examine, is_text
 from .report import (
-    ACCEPTED, NO_PICKLE, REFUSED, UNJUDGED, UNREADABLE, UNVOUCHED, Listed, Pair, Report
+    ACCEPTED, LONGEST, NO_PICKLE, UNJUDGED, Finding, Pair, Report, sorted_findings, unreadable
 )
+from .rows import Row, row_of
+from .severity import KINDS, REFUSED, UNREADABLE
+from .source import Source, source_of
 
-AROUND = 10
-"""The number of instructions that a listing shows before a refusal, and from there on."""
 
-PICKLES = 1_000_000
-"""The most pickles in a row that are checked."""
-
-_NOTHING = AllowList(())
-_FIRST = 4096
-"""The size of the first window; it grows sixteenfold until it contains the whole pickle."""
-_WHOLE = 1 << 26
-"""The most bytes of a file that the third window of its first pickle contains at once."""
-_LISTED = 1 << 22
-_IMPORTING = (Reason.ImportOffList, Reason.UnknownImport, Reason.ExtensionCode)
-_JOBLIB = "joblib.numpy_pickle"
-_LARGE = Limits(passed=1 << 40)
+_IMPORTS = re.compile(rb"([ci][^\n]*\n[^\n]*\n)*")
 
 
 class Question(NamedTuple):
@@ -46,223 +34,158 @@ class Question(NamedTuple):
 
 
 def reports_of(path: str, file: BinaryIO, question: Question) -> Iterator[Report]:
-    """The reports on a file: one for each piece that may be a pickle, and one for each finding."""
-    pieces = pieces_of(path, file)
-    broken: Optional[Exception] = None
+    """The reports on a file: one for each piece that is a pickle, and one for each finding."""
+    try:
+        source = source_of(file)
+        place = Place(path, source, Budget(source.size))
+        yield from _reports_at(place, question)
+    except TooMuch as error:
+        yield unreadable(path, "file", Finding("too-much", str(error)), path)
+
+
+def _reports_at(place: Place, question: Question) -> Iterator[Report]:
+    found, answer, budget = examine(place), None, place.budget
     while True:
         try:
-            # the container of a piece reports what is wrong with it
-            found = next(pieces) if broken is None else pieces.throw(broken)
+            it = found.send(answer)
         except StopIteration:
             return
-        broken = None
-        if isinstance(found, Finding):
-            yield Report(found.path, found.kind, UNREADABLE, found.why, file=path)
-            continue
-        try:
-            row = _row_of(found, question)
-        except Exception as error:
-            broken = error
+        answer = None
+        if isinstance(it, Nothing):
+            yield Report(it.path, it.kind, NO_PICKLE, it.why, it.size, file=place.path)
+        elif isinstance(it, Unread):
+            yield unreadable(it.path, it.kind, it.finding, place.path)
         else:
-            broken = None if row is None else row.broken
-            yield _judged(found, row, question.allow, path)
+            row = row_of(it, question.allow, budget)
+            if row is None:
+                continue
+            if WRAPPER_NAMES.intersection(row.names):
+                it, row = without_arrays(it, row, question.allow, budget)
+            answer = row.taken
+            yield _judged(it, row, question, place)
+            if row.too_much is not None:
+                raise row.too_much
+        budget.reports += 1
 
 
-def _judged(
-    piece: Piece, row: "Optional[Row]", allow: Optional[AllowList], file: str
-) -> Report:
-    if row is None or not row.is_reached:
-        size = len(piece.stream.front()) if row is None else row.size
-        return Report(piece.path, piece.kind, NO_PICKLE, size=size, file=file)
-    verdict, why = row.refusal, f"{row.taken} bytes, {len(row.imports)} names"
-    if verdict is not None:
-        why = verdict.line(64)
+def _judged(piece: Piece, row: Row, question: Question, place: Place) -> Report:
+    imports, missing = _shown_names(row, question.allow, place.budget)
+    findings = import_findings(map(_pair_of, row.names), question.allow)
+    status, why = ACCEPTED, f"yes: {row.taken} bytes, {len(row.names)} names"
+    if question.allow is None:
+        status, why = UNJUDGED, f"{row.taken} bytes, {len(row.names)} names"
+    if row.refusal is not None:
+        why = row.refusal.line(64)
         if row.number:
             why = why.replace("no at", f"no in pickle {row.number} at", 1)
-    elif allow is not None:
-        why = f"yes: {why}"
-    accepted = UNJUDGED if allow is None else ACCEPTED
-    missing: Tuple[Pair, ...] = ()
-    if allow is not None and verdict is not None:  # else every import is listed
-        missing = tuple(pair for pair in row.imports if pair not in allow)
+        limits = within(WIDE, question.allow.limits if question.allow is not None else None)
+        hint = hint_of(row.refusal, piece.source.read, limits or WIDE)
+        why += f" ({hint})" if hint else ""
+        if question.allow is not None or not _is_text(piece, row):
+            is_refused = question.allow is not None and not (piece.is_cut and not missing)
+            kind = "refused" if is_refused else "broken-pickle"
+            status = KINDS[kind].severity
+            findings.append(Finding(kind, why))
+    findings += _cut_findings(row, imports)
     report = Report(
         piece.path,
         _kind_of(piece, row),
-        accepted if verdict is None else REFUSED,
+        status,
         why,
-        row.size,
-        row.sha256,
+        piece.source.size,
+        _sha256(piece.source) if question.with_sha256 else "",
         row.pickles,
-        tuple(row.imports),
+        imports,
         missing,
-        tuple(dangers_in(row.imports)),
-        tuple(row.listing),
-        0 if verdict is None else verdict.at,
-        file,
+        sorted_findings(findings),
+        listing(row),
+        0 if row.refusal is None else row.refusal.at,
+        place.path,
     )
-    if any((pair[0] or "").endswith(_JOBLIB) for pair in row.imports):
-        raw = "joblib writes arrays raw between instructions: no check vouches for them"
-        status = REFUSED if report.missing else UNVOUCHED
-        return report._replace(kind="joblib", status=status, why=f"{raw}; what was read: {why}")
-    return report
+    return _raw(report, row.raw) if row.raw else report
 
 
-def _kind_of(piece: Piece, row: "Row") -> str:
-    if row.pickles < 2:
+def _raw(report: Report, why: str) -> Report:
+    """The report on a file with arrays that could not be left out."""
+    return report._replace(
+        kind="joblib",
+        status=REFUSED if report.missing else UNREADABLE,
+        why=f"{why}; what was read: {report.why}",
+        findings=sorted_findings((*report.findings, Finding("raw-arrays", why))),
+    )
+
+
+def _kind_of(piece: Piece, row: Row) -> str:
+    if _is_text(piece, row):
+        return "text"
+    if row.pickles < 2 or piece.most:
         return piece.kind
     return "row of pickles" if piece.kind == "pickle" else f"{piece.kind}, row of pickles"
 
 
-def _row_of(piece: Piece, question: Question) -> "Optional[Row]":
-    """The row, if the bytes claim to be a pickle, or a reader may get as far as an import."""
-    front = piece.stream.front()
-    is_claimed = piece.kind == "npy" or len(front) > 1 and front[0] == 0x80 and front[1] <= 5
-    if not is_claimed:
-        reason = check(front, _NOTHING).reason
-        if reason is not Reason.Truncated and reason in READERS_STOP:
-            return None
-    return Row(piece.stream, question, is_claimed)
+def _shown_names(
+    row: Row, allow: Optional[AllowList], budget: Budget
+) -> Tuple[Tuple[Pair, ...], Tuple[Pair, ...]]:
+    """The imports, and those off the list, as far as there is room for them: the latter first."""
+    names = list(row.names)
+    off = [] if allow is None or row.refusal is None else [it for it in names if not allow._has(it)]
+    kept: Dict[Tuple[Optional[bytes], Optional[bytes]], Pair] = {}
+    for both in (*off, *names):
+        pair = _text_of(both[0]), _text_of(both[1])
+        if both not in kept and budget.spend_name(sum(len(text or "") for text in pair)):
+            kept[both] = pair
+    imports = tuple(kept[both] for both in names if both in kept)
+    return imports, tuple(kept[both] for both in off if both in kept)
 
 
-class Row:
-    """The pickles that follow one another in a stream, up to the first that is refused.
+def _pair_of(both: Tuple[Optional[bytes], Optional[bytes]]) -> Pair:
+    module, name = both
+    if module is None or name is None:
+        return (None, None)
+    return (module.decode("utf-8", "replace"), name.decode("utf-8", "replace"))
 
-    imports: what they would import, each pair once; for the refused one, the imports before it is
-        refused.
-    refusal: the verdict on the first that is refused, with its offset in the stream.
-    number: the index of that one, counted from 0.
-    pickles, taken: the number of accepted pickles, and their length in bytes.
-    is_reached: whether it claims to be a pickle, or a reader may get to an import or to its end.
-    size, sha256: of all bytes that were read; no SHA-256 if it isn't asked for, or if very many
-        follow a refusal.
-    broken: why the rest was not read: an exception behind a refusal, or too many pickles.
+
+def _text_of(name: Optional[bytes]) -> Optional[str]:
+    """A name, cut if it is very long."""
+    if name is None:
+        return None
+    text = name.decode("utf-8", "replace")
+    return text if len(text) <= LONGEST else f"{text[:LONGEST]}... and {len(text) - LONGEST} more"
+
+
+def _cut_findings(row: Row, imports: Tuple[Pair, ...]) -> List[Finding]:
+    """What is to be said of imports that the report lacks."""
+    if not row.is_complete:
+        return [Finding("too-much", "its imports take more bytes than are read of one file")]
+    if len(imports) < len(row.names):
+        more = len(row.names) - len(imports)
+        return [Finding("too-much", f"it imports {more:,} names more than a report has room for")]
+    return []
+
+
+def _is_text(piece: Piece, row: Row) -> bool:
+    """Whether it is a text whose first characters look like instructions, and all readers stop in
+    it. If its end stops them, these are imports alone.
     """
-
-    def __init__(self, stream: Stream, question: Question, is_claimed: bool) -> None:
-        self._stream, self._allow = stream, question.allow
-        self._digest: Any = None
-        if question.with_sha256:
-            import hashlib
-
-            self._digest = hashlib.sha256()
-        self._listed = _NOTHING if question.allow is None else question.allow
-        self.imports: Dict[Pair, None] = {}
-        self.refusal: Optional[Verdict] = None
-        self._is_read, self.is_reached = False, is_claimed
-        self.listing: List[Listed] = []
-        self.number = self.pickles = self.taken = self.size = 0
-        self.broken: Optional[Exception] = None
-        self._read_all()
-        is_whole = self._is_read_on()
-        self.sha256 = self._digest.hexdigest() if is_whole and self._digest is not None else ""
-
-    def _read_all(self) -> None:
-        data, at, window = b"", 0, _FIRST
-        while True:
-            if len(data) - at < window and not self._is_read:
-                data, at = self._grown(data[at:], window), 0
-            piece: bytes = data[at : at + window]
-            if not piece and self.pickles:
-                return
-            if self.pickles == PICKLES:
-                self.broken = OSError(f"more than {PICKLES:,} pickles: the rest was not read")
-                return
-            within, room = imports_of(piece, self._listed, _LARGE, "unknown")
-            found = within
-            if not within and within.reason is not Reason.Truncated and self._allow is not None:
-                # If only the limits of the list refuse it, report its imports anyway.
-                found, room = imports_of(piece, _NOTHING, _LARGE, "unknown")
-            if found.reason is Reason.Truncated and len(piece) == window:
-                window = self._wider(window)
-                continue
-            names = dict.fromkeys(records(room))
-            self._judge(piece, found, bool(within) and all(map(self._listed._has, names)))
-            if not found:
-                self._reach(found, data[at:])
-                return
-            self.imports.update((it, None) for it in imports_in(names))
-            self.pickles, self.is_reached = self.pickles + 1, True
-            at, self.taken, window = at + found.taken, self.taken + found.taken, _FIRST
-
-    def _reach(self, found: Verdict, data: bytes) -> None:
-        """Finds out whether a reader may get further than the checker."""
-        if self.imports or found.reason in _IMPORTING:
-            self.is_reached = True
-        elif not self.is_reached and found.reason not in READERS_STOP:
-            self.is_reached = reaches(data, lambda: self._grown(b"", 1 << 20))
-
-    def _wider(self, window: int) -> int:
-        """The next window. For the first pickle of a file, the third one is the whole file, because
-        most files contain one pickle, and each window costs a check.
-        """
-        whole = self._stream.size if self.pickles == 0 and window > _FIRST else 0
-        return max(16 * window, whole if whole <= _WHOLE else 0)
-
-    def _is_read_on(self) -> bool:
-        """Reads the bytes behind a refusal, which may be damaged, unless there are too many."""
-        try:
-            while not self._is_read and self.is_reached and self.size < UNPACKED:
-                self._grown(b"", 1 << 20)
-        except Exception as error:
-            self.broken = error
-        return self._is_read
-
-    def _grown(self, data: bytes, wanted: int) -> bytes:
-        count = max(wanted - len(data), _FIRST)
-        more = self._stream.read(count)
-        self._is_read = len(more) < count
-        if self._digest is not None:
-            self._digest.update(more)
-        self.size += len(more)
-        return data + more
-
-    def _judge(self, piece: bytes, found: Verdict, is_listed: bool) -> None:
-        """Keeps the first refusal. A pickle that is accepted with every import permitted, and whose
-        imports are all listed, needs no second check under the list.
-        """
-        if not found:
-            # An unpickler runs the instructions before a fault, so report the first import.
-            first = check(piece, _NOTHING, limits=_LARGE)
-            if first.pair is not None:
-                self.imports[first.pair] = None
-        if self.refusal is not None or is_listed:
-            return
-        under = found if self._allow is None else check(piece, self._allow, limits=_LARGE)
-        if not under:
-            self.number = self.pickles
-            self.refusal = under._replace(at=self.taken + under.at)
-            self.listing = list(_listing(piece, under.at, self.taken))
+    front = piece.source.front()
+    if piece.is_claimed or row.pickles or row.stop < 0 or front[:1] == b"\x80":
+        return False
+    if row.is_cut and _IMPORTS.fullmatch(front[: row.stop]) is None:
+        return False
+    return is_text(front)
 
 
-def _listing(data: bytes, at: int, offset: int) -> Iterator[Listed]:
-    """The instructions around an offset, read by `pickletools` and printed like `pktool dis`."""
-    if at > _LISTED:
-        return
-    before: Deque[Listed] = Deque(maxlen=AROUND)
-    found = _lines(data, offset)
-    for line in found:
-        if line.at >= offset + at:
-            yield from before
-            yield line
-            yield from itertools.islice(found, AROUND - 1)
-            return
-        before.append(line)
-    yield from before
+def _sha256(source: Source) -> str:
+    """The digest of all bytes, unless there are very many."""
+    import hashlib
 
-
-def _lines(data: bytes, offset: int) -> Iterator[Listed]:
-    try:
-        for opcode, argument, place in pickletools.genops(data):
-            at = (place or 0) + offset
-            code = ord(opcode.code)
-            yield Listed(at, f"{at}: {code:02x} {opcode.name}{_shown(argument)}")
-    except Exception:
-        # pickletools raises at the fault, which the verdict has already reported.
-        return
-
-
-def _shown(argument: Any) -> str:
-    if argument is None:
+    if source.size > UNPACKED:
         return ""
-    text = repr(argument)
-    return f" {text}" if len(text) <= 80 else f" {text[:80]}..."
+    made, at = hashlib.sha256(), 0
+    while at < source.size:
+        data = source.read(at, 1 << 20)
+        if not data:
+            break
+        made.update(data)
+        at += len(data)
+    return made.hexdigest()

@@ -1,19 +1,29 @@
-"""Writes list files from the imports of trusted files."""
+"""Writes list files from the imports of trusted files, and from what guards were asked for."""
 
 from __future__ import annotations
 
+import time
 from typing import Dict, Iterable, Iterator, List, Tuple
 
-from .report import ACCEPTED, REFUSED, UNJUDGED, UNREADABLE, UNVOUCHED, Report, shown
+from .._learning import LARGEST, Seen, read_log
+from .._meant import EVERYTHING
+from .._writing import quoted
+from .dangers import judged
+from .report import ACCEPTED, UNJUDGED, Report, shown
+from .severity import DANGER, REFUSED, UNREADABLE
 
 _SHOWN = 5
+Pair = Tuple[str, str]
 
 
 class Learned:
-    """The pairs that trusted files import, each with the files that need it."""
+    """The pairs that trusted files import or that a log has, each with what needs it."""
 
     def __init__(self) -> None:
-        self.pairs: Dict[Tuple[str, str], List[str]] = {}
+        self.pairs: Dict[Pair, List[str]] = {}
+        """Each pair with the files that need it."""
+        self.seen: Dict[Pair, Seen] = {}
+        """Each pair of a log with how often it was asked for."""
         self.left_out: List[Report] = []
 
     def add(self, reports: Iterable[Report]) -> None:
@@ -23,13 +33,23 @@ class Learned:
                 for module, name in report.imports:
                     if module is not None and name is not None:
                         self.pairs.setdefault((module, name), []).append(report.path)
-            if report.status in (REFUSED, UNREADABLE, UNVOUCHED) or (None, None) in report.imports:
+            if report.status in (REFUSED, UNREADABLE) or (None, None) in report.imports:
                 self.left_out.append(report)
 
+    def add_log(self, path: str) -> None:
+        """Adds the names of a file that a guard's `learning` has written."""
+        with open(path, "rb") as opened:
+            text = opened.read(2 * LARGEST).decode("utf-8", "replace")
+        for pair, seen in read_log(text).items():
+            self.seen[pair] = self.seen[pair].and_(seen) if pair in self.seen else seen
+            self.pairs.setdefault(pair, [])
+
     def lines(self) -> Iterator[str]:
-        """The list file: sorted, each pair with the files that need it."""
-        yield "# Learned from trusted files: review it before use."
-        yield "version = 1"
+        """The list file: sorted, each pair with what needs it. What is known to be dangerous is in
+        a comment, with the reason: the names may be a stranger's.
+        """
+        yield "# Learned: review it before use. Dangerous names are in comments."
+        yield "version = 2"
         yield ""
         yield "[imports]"
         modules: Dict[str, List[str]] = {}
@@ -38,24 +58,35 @@ class Learned:
         for module, names in modules.items():
             yield f"{quoted(module)} = ["
             for name in names:
-                yield f"  {quoted(name)},  # {_wanted_by(self.pairs[module, name])}"
+                why = danger_of((module, name))
+                if why:
+                    yield f"  # {quoted(name)},  # {self._needed_by((module, name))}. {why}"
+                else:
+                    yield f"  {quoted(name)},  # {self._needed_by((module, name))}"
             yield "]"
 
-
-def quoted(text: str) -> str:
-    """A TOML string. Characters that aren't printable are escaped."""
-    return '"' + "".join(map(_quoted_character, text)) + '"'
-
-
-def _quoted_character(character: str) -> str:
-    if character in '"\\':
-        return "\\" + character
-    if character.isprintable():
-        return character
-    number = ord(character)
-    return f"\\u{number:04x}" if number < 0x10000 else f"\\U{number:08x}"
+    def _needed_by(self, pair: Pair) -> str:
+        files, seen = self.pairs[pair], self.seen.get(pair)
+        words = [shown(file, 80) for file in files[:_SHOWN]]
+        if len(files) > _SHOWN:
+            words[-1] += f" and {len(files) - _SHOWN} more"
+        if seen is not None:
+            key = f" for {shown(seen.key, 80)}" if seen.key else ""
+            times = "once" if seen.times == 1 else f"{seen.times:,} times"
+            words.append(f"asked {times}, {_day(seen.first)}{key} to {_day(seen.last)}")
+        return ", ".join(words)
 
 
-def _wanted_by(files: List[str]) -> str:
-    named = ", ".join(shown(file, 80) for file in files[:_SHOWN])
-    return named if len(files) <= _SHOWN else f"{named} and {len(files) - _SHOWN} more"
+def danger_of(pair: Pair) -> str:
+    """Why a name is dangerous, or an empty text if it isn't known to be."""
+    row = judged(*pair)
+    if row is not None and row.severity == DANGER:
+        return f"Dangerous: {shown(row.why)}"
+    return "Dangerous: it permits everything." if pair in EVERYTHING else ""
+
+
+def _day(seconds: int) -> str:
+    try:
+        return time.strftime("%Y-%m-%d", time.gmtime(seconds))
+    except (OverflowError, ValueError, OSError):
+        return "?"

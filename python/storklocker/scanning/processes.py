@@ -4,17 +4,17 @@ from __future__ import annotations
 
 import concurrent.futures
 import concurrent.futures.process
-import contextlib
 import multiprocessing
 import multiprocessing.connection
 import os
 import signal
 import threading
-from typing import Deque, Iterable, Iterator, List
+from typing import Deque, Iterable, Iterator, List, Tuple
 
+from .files import File
 from .judging import Question
 from .report import Report
-from .scan import File, scan_file
+from .scan import reports_on
 
 _FILES, _BYTES = 32, 1 << 18
 """The most files and bytes in the batch of a process. The latter spreads a few large files."""
@@ -31,19 +31,18 @@ Batch = List[File]
 
 def scan_in_processes(
     files: Iterable[File], question: Question, jobs: int
-) -> Iterator[List[Report]]:
-    """Yields the reports on each file, in the order of the files."""
-    with concurrent.futures.ProcessPoolExecutor(
-        jobs, initializer=_begin, initargs=(question,)
-    ) as pool:
-        waiting: Deque["concurrent.futures.Future[List[List[Report]]]"] = Deque()
+) -> Iterator[Tuple[File, List[Report]]]:
+    """Yields each file and the reports on it, in the order of the files."""
+    with _pool_of(question, jobs) as pool:
+        waiting: Deque[Tuple[Batch, "concurrent.futures.Future[List[List[Report]]]"]] = Deque()
         try:
             for batch in _batches(files):
-                waiting.append(_submitted(pool, batch, question))
+                waiting.append((batch, _submitted(pool, batch, question)))
                 if len(waiting) >= _AHEAD * jobs:
-                    yield from waiting.popleft().result()
-            for future in waiting:
-                yield from future.result()
+                    done, future = waiting.popleft()
+                    yield from zip(done, future.result())
+            for done, future in waiting:
+                yield from zip(done, future.result())
         except BaseException as error:
             for child in multiprocessing.active_children():
                 child.terminate()
@@ -53,13 +52,22 @@ def scan_in_processes(
             raise
 
 
+def _pool_of(question: Question, jobs: int) -> concurrent.futures.ProcessPoolExecutor:
+    try:
+        return concurrent.futures.ProcessPoolExecutor(
+            jobs, initializer=_begin, initargs=(question,)
+        )
+    except (OSError, NotImplementedError):
+        why = "no semaphores for several processes (is /dev/shm mounted?): scan with one"
+        raise OSError(why) from None
+
+
 def _batches(files: Iterable[File]) -> Iterator[Batch]:
     batch: Batch = []
     size = 0
     for file in files:
         batch.append(file)
-        with contextlib.suppress(OSError):
-            size += os.stat(file.path).st_size
+        size += file.size
         if len(batch) >= _FILES or size >= _BYTES:
             yield batch
             batch, size = [], 0
@@ -74,12 +82,12 @@ def _submitted(
         return pool.submit(_scan_batch, batch)
     # worker processes have no standard input
     done: "concurrent.futures.Future[List[List[Report]]]" = concurrent.futures.Future()
-    done.set_result([scan_file(file, question) for file in batch])
+    done.set_result([reports_on(file, question) for file in batch])
     return done
 
 
 def _scan_batch(batch: Batch) -> List[List[Report]]:
-    return [scan_file(file, _question) for file in batch]
+    return [reports_on(file, _question) for file in batch]
 
 
 def _begin(question: Question) -> None:

@@ -1,17 +1,23 @@
-"""Whether a reader may get to an import or to the end of a pickle that the checker refuses.
+"""Whether a reader gets to an import, or to the end, of a pickle that the checker refuses.
 
 The checker is stricter than CPython's readers, which accept a number such as `1_0`, a text of 20 MB
 or a BUILD of nothing. Bytes that begin that way may still be a pickle, although the checker stops
-there. So this module follows the instructions by their layout alone. If it cannot follow them to
-the end, the bytes count as a possible pickle.
+there. So this module follows the instructions from there on, by their layout alone. If it cannot
+follow them to the end, the bytes count as a possible pickle.
+
+The reader that is written in Python, which joblib uses, goes further than the one in C: it takes a
+last line without a line feed, and imports for an INST before it looks for its mark.
 """
 
 from __future__ import annotations
 
 import pickletools
-from typing import Callable, Dict
+import re
+from typing import Dict, List, NamedTuple, Optional
 
 from .._reasons import Reason
+from .report import Pair
+from .source import BLOCK, Source
 
 READERS_STOP = frozenset(
     (
@@ -25,18 +31,29 @@ READERS_STOP = frozenset(
         Reason.NotText,
     )
 )
-"""Reasons of the checker at which CPython's readers raise an error too."""
+"""Reasons of the checker at which CPython's readers raise an error too, but for an INST without a
+mark, and a line without a line feed.
+"""
 
 _INSTRUCTIONS = 100_000
-_LINE = 1 << 26
-_FOUND = frozenset(b"ci\x93\x82\x83\x84.")
-"""The codes of the instructions that import, and of STOP."""
+_LINE = 1 << 25
+_ENDS = (b".", b"\x82", b"\x83", b"\x84", b"\x95")
+"""STOP, the instructions that import what is registered, and FRAME: the reader in C drops the front
+of a line that crosses a frame's end, so it reads other lines than the layout shows.
+"""
+_TEXTS = frozenset(b"X\x8c")
+_KEPT = frozenset(b"\x94qrp")
+"""The codes of the instructions that push a text, and that leave the stack as it is."""
+_LONGEST = 1000
 
 _NUMBERS = frozenset(b"IFLpg")
 _NUMERALS = b" \t\r\f\v0123456789abcdefoxlABCDEFOXL_.+-"
+_ASCII = bytes(range(128))
 _WORDS = frozenset((b"nan", b"inf", b"infinity"))
 _SIZES = {-2: 1, -3: 4, -4: 4, -5: 8}
 """The length of a count, by the constant that `pickletools` uses for it."""
+_MODULE = re.compile(r"[\w-]+(\.[\w-]+)*")
+"""What can be the name of a module. No reader gets beyond an import of anything else."""
 
 
 def _lengths() -> Dict[int, int]:
@@ -47,76 +64,139 @@ def _lengths() -> Dict[int, int]:
 _LENGTHS = _lengths()
 
 
-def reaches(data: bytes, more: Callable[[], bytes]) -> bool:
-    """Whether a reader may get to an import or to STOP. `more` returns the bytes after `data` in
-    pieces, and none at the end.
+def is_module(name: Optional[str]) -> bool:
+    """Whether a module may have this name, as a text's first line hardly ever can. Python 3.11 and
+    later find modules such as `os` by what stands in front of a NUL.
     """
-    walk = _Walk(data, more)
+    return name is None or _MODULE.fullmatch(name.partition("\0")[0]) is not None
+
+
+class Reached(NamedTuple):
+    """Whether a reader may get to an import or to STOP, and what it imports first."""
+
+    is_reached: bool
+    pair: Optional[Pair] = None
+    """The names, if an import is reached whose place shows them."""
+
+    def __bool__(self) -> bool:
+        return self.is_reached
+
+
+_STOPPED, _UNKNOWN = Reached(False), Reached(True)
+
+
+def reached(source: Source, at: int, reason: Optional[Reason]) -> Reached:
+    """What a reader may get to from an instruction on, at which the checker stopped for this
+    reason.
+    """
+    walk = _Walk(source, at)
+    if reason is Reason.BrokenFrame:
+        return _UNKNOWN
+    if reason in READERS_STOP:
+        code = walk.take(1)
+        may_go_on = code == b"i" or (code == b"c" and reason is Reason.Truncated)
+        return walk.imported() if may_go_on else _STOPPED
     for _ in range(_INSTRUCTIONS):
         code = walk.take(1)
         if not code or code[0] not in _LENGTHS:
-            return False
-        if code[0] in _FOUND:
-            return True
+            return _STOPPED
+        if code == b"\x93":
+            return walk.imported_from_stack()
+        if code in _ENDS:
+            return _UNKNOWN
+        if code in (b"c", b"i"):
+            return walk.imported()
         if not walk.is_passed(code[0]):
-            return False
-    return True
+            return _STOPPED
+    return _UNKNOWN
 
 
 class _Walk:
-    def __init__(self, data: bytes, more: Callable[[], bytes]) -> None:
-        self._data, self._more, self._at = data, more, 0
-
-    def _grow(self) -> bool:
-        more = self._more()
-        self._data, self._at = self._data[self._at :] + more, 0
-        return bool(more)
+    def __init__(self, source: Source, at: int) -> None:
+        self._source, self._at = source, at
+        self._data, self._base = b"", at
+        self._texts: List[bytes] = []
+        """The last texts, if nothing was pushed behind them."""
 
     def take(self, count: int) -> bytes:
         """Takes the next `count` bytes, or fewer at the end."""
-        while len(self._data) - self._at < count and self._grow():
-            pass
+        start = self._at - self._base
+        if not 0 <= start <= len(self._data) - count:
+            self._data, self._base, start = self._source.read(self._at, BLOCK), self._at, 0
         self._at += count
-        return self._data[self._at - count : self._at]
+        return self._data[start : start + count]
 
     def is_passed(self, code: int) -> bool:
         """Skips the argument of an instruction. Returns whether a reader may get past it."""
         length = _LENGTHS[code]
+        if code not in _KEPT and code not in _TEXTS:
+            self._texts.clear()
         if length >= 0:
             return self._is_skipped(length)
         if length == -1:
             return self._is_line_passed(code)
         size = _SIZES[length]
         count = int.from_bytes(self.take(size), "little", signed=length == -3)
+        if code in _TEXTS:
+            text = self._source.read(self._at, count) if 0 <= count <= _LONGEST else b"\xff"
+            self._texts = [*self._texts[-1:], text]
         return count >= 0 and self._is_skipped(count)
 
+    def imported(self) -> Reached:
+        """What a reader imports by the next two lines. The second may be missing, and either may be
+        the last one of the file.
+        """
+        module, name = self._line(), self._line()
+        if module is None or name is None:
+            return _UNKNOWN
+        pair = _pair_of(module, name)
+        return Reached(True, pair) if pair and is_module(pair[0]) else _STOPPED
+
+    def imported_from_stack(self) -> Reached:
+        """What a reader imports by the texts on the stack."""
+        return Reached(True, _pair_of(*self._texts) if len(self._texts) == 2 else None)
+
     def _is_skipped(self, count: int) -> bool:
-        while count > len(self._data) - self._at:
-            count -= len(self._data) - self._at
-            self._at = len(self._data)
-            if not self._grow():
-                return False
         self._at += count
-        return True
+        return self._at <= self._source.size
+
+    def _line(self) -> Optional[bytes]:
+        """The next line without its end, which the reader in Python takes off whatever it is; None
+        if it is too long to be looked for.
+        """
+        length = 0
+        while length <= _LINE:
+            block = self._source.read(self._at + length, BLOCK)
+            end = block.find(b"\n")
+            if end >= 0 or not block:
+                line = self._source.read(self._at, length + max(end, 0))
+                self._at += len(line) + 1
+                return line if end >= 0 else line[:-1]
+            length += len(block)
+        return None
 
     def _is_line_passed(self, code: int) -> bool:
-        end = self._data.find(b"\n", self._at)
-        while end < 0:
-            if len(self._data) - self._at > _LINE:
-                return True
-            if not self._grow():
-                return False
-            end = self._data.find(b"\n", self._at)
-        line = self._data[self._at : end]
-        self._at = end + 1
+        line = self._line()
+        if line is None:
+            return True
+        if self._at > self._source.size:
+            return False
         if code in _NUMBERS:
             return _is_number(line.partition(b"\0")[0])
+        if code == ord("P"):
+            return not line.translate(None, _ASCII)
         text = line.strip()
         return code != ord("S") or (len(text) > 1 and text[0] == text[-1] and text[:1] in b"'\"")
 
 
+def _pair_of(module: bytes, name: bytes) -> Optional[Pair]:
+    """The names of an import, unless they are no text."""
+    try:
+        return module.decode("utf-8"), name.decode("utf-8")
+    except UnicodeDecodeError:
+        return None
+
+
 def _is_number(text: bytes) -> bool:
     """Whether a reader may accept the text as a number."""
-    if not text.translate(None, _NUMERALS):
-        return True
-    return len(text) < 32 and text.strip().lower().lstrip(b"+-") in _WORDS
+    return not text.translate(None, _NUMERALS) or text.strip().lower().lstrip(b"+-") in _WORDS

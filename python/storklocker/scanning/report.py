@@ -2,18 +2,45 @@
 
 from __future__ import annotations
 
-from typing import Any, Dict, List, NamedTuple, Optional, Tuple
+from typing import Any, Dict, Iterable, List, NamedTuple, Optional, Tuple
 
-from .dangers import Danger
+from .severity import KINDS, REFUSED, SEVERITIES, UNREADABLE
 
 Pair = Tuple[Optional[str], Optional[str]]
 
 ACCEPTED = "accepted"
 UNJUDGED = "unjudged"
-REFUSED = "refused"
-UNVOUCHED = "unvouched"
-UNREADABLE = "unreadable"
 NO_PICKLE = "no pickle"
+
+LONGEST = 256
+"""The most characters of a name that a report has."""
+
+
+class Finding(NamedTuple):
+    """Something that somebody should look into."""
+
+    kind: str
+    """One of `KINDS`, which says how bad it is and what to do."""
+    why: str
+    """What was found, in one sentence."""
+    name: str = ""
+    """The dotted name, of an import."""
+    example: str = ""
+    """How an attacker uses this name."""
+
+    @property
+    def severity(self) -> str:
+        """How bad it is: one of `SEVERITIES`."""
+        return KINDS[self.kind].severity
+
+    @property
+    def advice(self) -> str:
+        """What to do about it."""
+        return KINDS[self.kind].advice
+
+    def as_dict(self) -> Dict[str, str]:
+        """The finding for JSON."""
+        return {"severity": self.severity, **self._asdict()}
 
 
 class Listed(NamedTuple):
@@ -31,8 +58,8 @@ class Report(NamedTuple):
     kind: str
     """The type, from the content, such as `pickle`."""
     status: str
-    """`accepted`, `refused`, `unjudged` (without a list), `unvouched` (no check can vouch for it),
-    `unreadable` or `no pickle`.
+    """`accepted` or `refused` by the list, `unjudged` (without a list), `unreadable` (nothing is
+    known of it, or of its rest) or `no pickle`.
     """
     why: str = ""
     """The line of the verdict, or what went wrong."""
@@ -46,8 +73,8 @@ class Report(NamedTuple):
     """What they would import, each pair once; (None, None) is a name that isn't revealed."""
     missing: Tuple[Pair, ...] = ()
     """The imports off the list."""
-    dangers: Tuple[Danger, ...] = ()
-    """The imports that are known to be dangerous."""
+    findings: Tuple[Finding, ...] = ()
+    """What somebody should look into, the worst first."""
     listing: Tuple[Listed, ...] = ()
     """The instructions around a refusal."""
     at: int = 0
@@ -58,16 +85,38 @@ class Report(NamedTuple):
     @property
     def is_finding(self) -> bool:
         """Whether somebody should look into it."""
-        return self.status not in (ACCEPTED, UNJUDGED, NO_PICKLE) or bool(self.dangers)
+        return self.status in (REFUSED, UNREADABLE) or bool(self.findings)
 
     def as_dict(self) -> Dict[str, Any]:
         """The report for JSON."""
         made = self._asdict()
         made["imports"] = [list(pair) for pair in self.imports]
         made["missing"] = [list(pair) for pair in self.missing]
-        made["dangers"] = [danger._asdict() for danger in self.dangers]
+        made["findings"] = [finding.as_dict() for finding in self.findings]
         made["listing"] = [line._asdict() for line in self.listing]
         return made
+
+
+def report_of(made: Dict[str, Any]) -> Report:
+    """The report that `as_dict` has made this of."""
+    fields: Dict[str, Any] = dict(made)
+    for name in ("imports", "missing"):
+        fields[name] = tuple((pair[0], pair[1]) for pair in made[name])
+    fields["findings"] = tuple(
+        Finding(it["kind"], it["why"], it["name"], it["example"]) for it in made["findings"]
+    )
+    fields["listing"] = tuple(Listed(**it) for it in made["listing"])
+    return Report(**fields)
+
+
+def unreadable(path: str, kind: str, finding: Finding, file: str) -> Report:
+    """The report on a file, or on a member of one, of which nothing more is known."""
+    return Report(path, kind, UNREADABLE, finding.why, findings=(finding,), file=file)
+
+
+def sorted_findings(findings: Iterable[Finding]) -> Tuple[Finding, ...]:
+    """The findings, the worst first."""
+    return tuple(sorted(findings, key=lambda finding: SEVERITIES.index(finding.severity)))
 
 
 def dotted(pair: Pair) -> str:

@@ -3,87 +3,34 @@
 from __future__ import annotations
 
 import contextlib
+import errno
 import io
 import os
 import stat
 import sys
-import time
 from typing import (
-    BinaryIO, Callable, ContextManager, Iterable, Iterator, List, NamedTuple, Optional, TextIO
+    BinaryIO, ContextManager, Iterable, Iterator, List, NamedTuple, Optional, TextIO, Tuple
 )
 
+from .condensing import condensed
+from .files import File, is_url
 from .judging import Question, reports_of
-from .report import NO_PICKLE, UNREADABLE, Report
+from .report import NO_PICKLE, Finding, Report, unreadable
+from .summary import Progress
 
-
-class File(NamedTuple):
-    """A file to scan."""
-
-    path: str
-    is_opened: bool = True
-    """Whether to open it: it is a regular file, or it was named on the command line."""
-
-
-class Files:
-    """The files among the paths, and those in the folders; with `recursive`, in subfolders too.
-
-    left_out: the number of subfolders skipped without `recursive`.
-    """
-
-    def __init__(self, paths: Iterable[str], recursive: bool = False) -> None:
-        self._paths, self._recursive = list(paths), recursive
-        self._roots = [os.path.realpath(path) for path in self._paths if os.path.isdir(path)]
-        self.left_out = 0
-
-    def __iter__(self) -> Iterator[File]:
-        for path in self._paths:
-            if path != "-" and os.path.isdir(path):
-                yield from self._files_of(path)
-            else:
-                yield File(path)
-
-    def _files_of(self, folder: str) -> Iterator[File]:
-        try:
-            with os.scandir(folder) as found:
-                entries = sorted(found, key=lambda entry: entry.name)
-        except OSError:
-            yield File(folder)  # reported as unreadable, like a file
-            return
-        below = []
-        for entry in entries:
-            if _is(entry.is_file):
-                yield File(entry.path)
-            elif not _is(entry.is_dir):
-                yield File(entry.path, False)
-            elif not self._recursive:
-                self.left_out += 1
-            elif not entry.is_symlink():
-                below.append(entry.path)
-            elif not self._has(entry.path):
-                yield File(entry.path, False)
-        for path in below:
-            yield from self._files_of(path)
-
-    def _has(self, link: str) -> bool:
-        """Whether the target of a link is scanned anyway."""
-        target = os.path.realpath(link)
-        return any(os.path.commonpath((root, target)) == root for root in self._roots)
-
-
-def _is(question: Callable[[], bool]) -> bool:
-    try:
-        return question()
-    except OSError:  # a link to itself
-        return False
+_NOTHING = (errno.ENOENT, errno.ENOTDIR, errno.ELOOP)
 
 
 def scan_file(file: File, question: Question) -> List[Report]:
     """The reports on a file; `-` is standard input."""
     name = "standard input" if file.path == "-" else file.path
+    if not file.is_opened and _is_dangling(name):
+        finding = Finding("dangling-link", "a link to nothing")
+        return [Report(name, "link", NO_PICKLE, finding.why, findings=(finding,), file=name)]
     reports: List[Report] = []
     try:
         with _opened(file) as opened:
-            for report in reports_of(name, opened, question):
+            for report in condensed(reports_of(name, opened, question)):
                 reports.append(report)
         return reports
     except MemoryError:
@@ -92,77 +39,83 @@ def scan_file(file: File, question: Question) -> List[Report]:
         why = error.strerror or str(error)
     except Exception as error:  # one file must not stop the scan of the others
         why = f"cannot read it: {type(error).__name__}: {error}"
-    return [*reports, Report(name, "file", UNREADABLE, why, file=name)]
+    return [*reports, unreadable(name, "file", Finding("unreadable", why), name)]
+
+
+def reports_on(file: File, question: Question) -> List[Report]:
+    """The reports on a file, or those of an earlier scan."""
+    return scan_file(file, question) if file.known is None else list(file.known)
+
+
+def _is_dangling(path: str) -> bool:
+    """Whether it is a link to nothing, where no reader reads anything."""
+    try:
+        os.stat(path)
+    except OSError as error:
+        return error.errno in _NOTHING and os.path.islink(path)
+    return False
 
 
 def _opened(file: File) -> ContextManager[BinaryIO]:
     if file.path == "-":
         return contextlib.nullcontext(sys.stdin.buffer)
+    if is_url(file.path) and not file.held:
+        from .remote import opened
+
+        return opened(file.path)
     if file.is_opened:
-        return open(file.path, "rb", io.DEFAULT_BUFFER_SIZE)  # or else it asks for a terminal
+        # or else it asks for a terminal
+        return open(file.held or file.path, "rb", io.DEFAULT_BUFFER_SIZE)
     if stat.S_ISDIR(os.stat(file.path).st_mode):
-        raise OSError("a link to a folder, which is not followed")
+        raise OSError("a folder of devices, or a link to one or to a folder around it: not entered")
     raise OSError("not a regular file")  # a pipe could block forever
+
+
+class Means(NamedTuple):
+    """Where files are scanned, and what is kept of it."""
+
+    jobs: int = 1
+    """The number of processes."""
+    cluster: str = ""
+    """The address of the scheduler of a cluster whose workers scan, if any."""
+    resume: str = ""
+    """The file that keeps the reports for another run, if any."""
 
 
 def scan(
     files: Iterable[File],
     question: Question,
-    jobs: int = 1,
+    means: Means = Means(),
     progress: Optional[TextIO] = None,
 ) -> Iterator[Report]:
-    """Yields the reports on all files, in the order of their names."""
-    told = _Progress(progress)
-    found: Iterator[List[Report]] = (scan_file(file, question) for file in files)
-    if jobs > 1:
-        from .processes import scan_in_processes
+    """Yields the reports on all files, in the order in which they are listed."""
+    told, store = Progress(progress), None
+    if means.resume:
+        from .store import Store
 
-        found = scan_in_processes(files, question, jobs)
+        store = Store(means.resume, question)
+        files = store.marked(files)
     try:
-        for reports in found:
+        for file, reports in _scanned(files, question, means):
+            if store is not None:
+                store.put(file, reports)
             told.add(reports)
             yield from reports
     finally:
         told.end()
+        if store is not None:
+            store.close()
 
 
-class _Progress:
-    """A progress line on a terminal: files, bytes, files a second."""
+def _scanned(
+    files: Iterable[File], question: Question, means: Means
+) -> Iterator[Tuple[File, List[Report]]]:
+    if means.cluster:
+        from .cluster import scan_in_cluster
 
-    def __init__(self, out: Optional[TextIO]) -> None:
-        self._out = out if out is not None and out.isatty() else None
-        self._is_shared = sys.stdout.isatty()
-        self._files = self._bytes = self._width = 0
-        self._began = self._told = time.monotonic()
+        return scan_in_cluster(files, question, means.cluster)
+    if means.jobs > 1:
+        from .processes import scan_in_processes
 
-    def add(self, reports: List[Report]) -> None:
-        """Counts a file, and clears the progress line for its report."""
-        self._files += 1
-        self._bytes += sum(report.size for report in reports)
-        if self._out is None:
-            return
-        if self._is_shared and any(report.status != NO_PICKLE for report in reports):
-            self._clear()
-        elif time.monotonic() - self._told > 0.2:
-            self._told = time.monotonic()
-            self._write()
-
-    def end(self) -> None:
-        """Ends the line."""
-        if self._out is not None:
-            self._write()
-            self._out.write("\n")
-
-    def _clear(self) -> None:
-        if self._out is not None and self._width:
-            self._out.write("\r" + " " * self._width + "\r")
-            self._out.flush()
-            self._width = 0
-
-    def _write(self) -> None:
-        if self._out is not None:
-            pace = self._files / max(time.monotonic() - self._began, 0.001)
-            told = f"{self._files} files, {self._bytes:,} bytes, {pace:.0f} a second "
-            self._width = max(self._width, len(told))
-            self._out.write("\r" + told)
-            self._out.flush()
+        return scan_in_processes(files, question, means.jobs)
+    return ((file, reports_on(file, question)) for file in files)

@@ -76,13 +76,18 @@ limit_is : (most : Option ℕ) (value : Data) → IsOfRule (limit_fault most val
 limit_is (Some most) value = kept_or_is (is_limit most value) (Shape part.Limit) (λ h. cc)
 limit_is None value = λ h. cc
 
-none_or : (is : Bool) (fault : Option AllowError) → IsOfRule fault → IsOfRule (cond is None fault)
-none_or true fault h = λ e. cc
-none_or false fault h = h
+large_is : (value : Data) → IsOfRule (large_fault value)
+large_is value = kept_or_is (is_true_value value) (Shape part.Limit) (λ h. cc)
+
+either : (is : Bool) (one other : Option AllowError) → IsOfRule one → IsOfRule other
+    → IsOfRule (cond is one other)
+either true one other h g = h
+either false one other h g = g
 
 key_is : (most : Bounds) (key : Text) (value : Data) → IsOfRule (key_fault most key value)
-key_is most key value = none_or (bytes_eq key (codes "large"))
-    (limit_fault (greatest_at most key) value) (limit_is (greatest_at most key) value)
+key_is most key value = either (bytes_eq key (codes "large")) (large_fault value)
+    (limit_fault (greatest_at most key) value) (large_is value)
+    (limit_is (greatest_at most key) value)
 
 each_limit_is : (most : Bounds) (limits : Members) → IsOfRule (each_limit_fault most limits)
 each_limit_is most no_members = λ h. cc
@@ -90,15 +95,9 @@ each_limit_is most (member key value rest) =
     or_else_is (key_fault most key value) (each_limit_fault most rest) (key_is most key value)
     (each_limit_is most rest)
 
-large_is : (value : Option Data) → IsOfRule (large_fault value)
-large_is (Some value) = kept_or_is (is_true_value value) (Shape part.Limit) (λ h. cc)
-large_is None = λ h. cc
-
 table_is : (limits : Members) → IsOfRule (table_fault limits)
 table_is limits =
-    let is = get_member (codes "large") limits in
-    or_else_is (large_fault is) (each_limit_fault (greatest_where (is_large is)) limits)
-    (large_is is) (each_limit_is (greatest_where (is_large is)) limits)
+    each_limit_is (greatest_where (is_large (get_member (codes "large") limits))) limits
 
 limits_is : (value : Option Data) → IsOfRule (limits_fault value)
 limits_is None = λ h. cc

@@ -81,11 +81,18 @@ other_limit : list_of (codes "version = 2\nimports = {}\nlimits = { heap = 1 }")
 unfolding toml_on_literals
 other_limit = refl
 
--- `large` is judged before the other keys, and must be `true`
-large_first : list_of (codes "version = 2\nimports = {}\nlimits = { heap = 1, large = false }")
+-- the keys are judged in the order of their bytes, `large` among them, which must be `true`
+heap_before_large : list_of
+    (codes "version = 2\nimports = {}\nlimits = { large = false, heap = 1 }")
+    ≡ Err (Shape part.LimitKey)
+unfolding toml_on_literals
+heap_before_large = refl
+
+large_before_most : list_of
+    (codes "version = 2\nimports = {}\nlimits = { most = 1, large = false }")
     ≡ Err (Shape part.Limit)
 unfolding toml_on_literals
-large_first = refl
+large_before_most = refl
 
 above_large : list_of
     (codes "version = 2\nimports = {}\nlimits = { large = true, stack = 4294967296 }")

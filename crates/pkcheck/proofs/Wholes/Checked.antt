@@ -36,6 +36,7 @@ use Rattle.pkcheck.specs.View.{View, fresh, stopped_by, off_pair}
 use Rattle.pkcheck.specs.WholeRuns.{EndsWell, run_as}
 use Rattle.pkcheck.proofs.Wholes.FramesSoFar.{FrameLaws}
 use Rattle.pkcheck.proofs.Wholes.Faultless.{machine_fault, length-asked, each_asks, faultless}
+use Rattle.pkcheck.proofs.Wholes.Faultless.{each_reached}
 use Rattle.pkcheck.proofs.Wholes.Faultless.{unknown_is_open}
 use Rattle.pkcheck.proofs.Wholes.Given.{Took, Turned}
 use Rattle.pkcheck.proofs.Wholes.Listed.{among_more, listed_from, sound_from}
@@ -177,6 +178,8 @@ module _ (setting : OldStrings) (policy : Policy) (limits : Bounds) (old : Sight
             sound = in_each setting b p (EndsWell (permitted_by policy))
                 (λ st os c. sound_from setting policy limits p origin.known m.knowledge asked st os
                 h.accepts (h.begins.each st c) (h.begins.permitted st c));
+            reached = each_reached setting policy limits b origin.known h.begins p m.knowledge
+                asked last h.accepts;
             asked = asked;
             each = length-asked setting policy limits p origin.known m.knowledge asked h.accepts;
             listed = lists;
@@ -208,12 +211,13 @@ module _ (setting : OldStrings) (policy : Policy) (limits : Bounds) (old : Sight
         m.knowledge asked (nowhere_last p (stops_nowhere p none)) h.accepts h.laws.more still_open
         h.frames
 
-    -- a refusal after these instructions: they come before the offset, and q has the refused one
+    -- a refusal after these instructions, which come before the offset; q has the refused one
     -- too if it was read
     abbrev pub RefusedAfter : ℕ → Reason → Option Asked → Sight → List Instruction → Type 0
     RefusedAfter at reason pair new q =
         (r : RefusedFrom origin.at setting origin.beginning policy limits old new at reason pair)
         × (r.instructions ++ refused_instruction r.why ≡ q)
+        × (r.instructions ≡ p)
 
     -- a No that states this refusal
     pub refusal_of : (at : ℕ) (reason : Reason) (off pair : Option Asked) (answer : No)
@@ -242,6 +246,7 @@ module _ (setting : OldStrings) (policy : Policy) (limits : Bounds) (old : Sight
         faultless = faultless_here none;
         why = why;
       },
+      refl,
       refl,
     )
 

@@ -14,12 +14,13 @@ use Rattle.pkread.specs.Framing.{IsFramed, counted_all}
 use Rattle.pkread.specs.declared.Reason.{Reason}
 use Rattle.pkread.specs.declared.Reason.TheVariants as reason
 use Rattle.pkcheck.specs.Faults.{Arrivals, HasFaultHere, everyone}
-use Rattle.pkcheck.specs.RowRuns.{Beginning}
+use Rattle.pkcheck.specs.RowRuns.{Beginning, EachIsReached}
 use Rattle.pkcheck.specs.RunFaults.{HasRunFault, IsFaultless, RunsFrom}
 use Rattle.pkcheck.specs.Runs.{State, Stepped, WentOn, Raised, Stopped, Stuck, step_as}
 use Rattle.pkcheck.proofs.Coverage.Verdicts.{Yes, verdict}
 use Rattle.pkcheck.proofs.Coverage.AcceptedSteps.{step_follows}
 use Rattle.pkcheck.proofs.Coverage.FirstFault.{no_fault, unknown_exactly}
+use Rattle.pkcheck.proofs.Coverage.Words.{empty}
 use Rattle.pkcheck.proofs.Wholes.FramesSoFar.{framed_in}
 use Rattle.pkcheck.proofs.Wholes.Origins.{Begins, arrived, stands_from}
 use Rattle.pkcheck.proofs.StepParts.Stops.{nowhere_before}
@@ -92,6 +93,16 @@ module _ (setting : OldStrings) (policy : Policy) (limits : Bounds) where
         (stands_from setting policy limits b before first s.known begins a) s.passed s.passes
         reason
         (machine_fault policy limits before i w (everyone (RunsFrom setting b before)) reason h)
+
+    pub each_reached : EachIsReached setting b p
+    each_reached before i after e =
+        let s = verdict_split setting policy limits before i after first known asked
+        (ap (λ x. verdict setting policy limits x first) (sym e) ∙ accepts) in
+        let a = along setting policy limits before first s.known s.earlier
+        (nowhere_before before i after (subst StopsLast e last)) s.accepts in
+        let stands = stands_from setting policy limits b before first s.known begins a in
+        let some = stands.some empty in
+        (some.0, some.1)
 
     pub unknown_is_open : UnknownIsOpen setting b p asked
     unknown_is_open before i after earlier later e g n =

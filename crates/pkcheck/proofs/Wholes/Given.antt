@@ -1,6 +1,6 @@
 -- What a reader returned after the earlier instructions, by any of its calls.
 use Rattle.std.proofs.Common.{◌≡◌, ◌≢◌, ℕ, suc, ◌+◌, true, false, List, [], ◌∷◌, ◌++◌, length}
-use Rattle.std.proofs.Common.{refl, sym}
+use Rattle.std.proofs.Common.{inl, inr, refl, sym}
 use Rattle.std.proofs.Common.{ap, subst, ◌∙◌, arith, Result, Ok, Err}
 use Rattle.std.specs.Prelude.{All, Bool, IsTrue, drop, if◌then◌else◌}
 use Rattle.pkops.specs.Inst.{instruction_of}
@@ -18,12 +18,13 @@ use Rattle.pkread.specs.ReaderCalls.{Gives, ReaderState, Steps, is_ended}
 use Rattle.pkread.specs.Rows.{Refuses, Sight, Takes, unread}
 use Rattle.pkread.specs.Run.{HeadIsRead, HoldsTo, LentIsRead, NextIsRead, PassedIsRead, PassesTo}
 use Rattle.pkread.specs.Run.{Reads, ReadsMore, RefusalIsRead, RefusalOfHeads, SoFar}
-use Rattle.pkread.specs.Sequence.{NoStop}
+use Rattle.pkread.specs.Sequence.{CountsAt, NoStop}
 use Rattle.pkread.specs.declared.Head.{Head}
 use Rattle.pkread.specs.declared.Head.TheVariants as head
 use Rattle.pkread.specs.declared.Next.{Next}
 use Rattle.pkread.specs.declared.Next.TheVariants as next
 use Rattle.pkread.specs.declared.Refusal.{Refusal}
+use Rattle.pkcheck.specs.Private.Turns.{Gave, TurnedDown}
 
 last_of : {X : Type 0} (P : X → Type 0) (xs : List X) (x : X) → All P (xs ++ x ∷ []) → P x
 last_of P [] x h = h 0 x (omega arith)
@@ -175,6 +176,49 @@ module _ (start : Sight) (from : ℕ) (limits : Bounds) (p : List Instruction) (
               (λ l. Refuses (payload_limit_at l b) s.source t.source b s.taken t.taken x.reason)
               same w.1.why.1;
         }
+
+    -- for either, if all payloads have one limit where they are held
+    module _ (holding : Bool) (one : holding ≡ true → limits.passed ≡ limits.counted) where
+      pub took_gave : NextIsRead → HeadIsRead → PassedIsRead → (at : ℕ) (P : Instruction → Type 0)
+          → Gave s t holding at P → (i : Instruction) × Took at i t × P i
+      took_gave nexts heads passed at P = took holding one
+        where
+          took : (b : Bool) → (b ≡ true → limits.passed ≡ limits.counted) → Gave s t b at P
+              → (i : Instruction) × Took at i t × P i
+          took true one (inst, k, holds) = (
+            instruction_of inst,
+            took_next (one refl) nexts (Ok (next.Inst at inst)) at inst k refl,
+            holds,
+          )
+          took false one (inl (inst, k, holds)) = (
+            instruction_of inst,
+            took_head heads (Ok (head.Inst at inst)) at inst k refl,
+            holds,
+          )
+          took false one (inr (o, count, k, holds)) =
+              let w = took_passed passed (Ok (head.Passed at o count)) at o count k refl in (
+                instruction o (Counted w.payload),
+                w.took,
+                holds (instruction o (Counted w.payload)) (record {
+                  op_is = refl;
+                  long = omega (arith, w.took.place, w.took.taken);
+                }),
+              )
+
+      pub turned_down : RefusalIsRead → RefusalOfHeads → (x : Refusal) → TurnedDown s t holding x
+          → Turned x t × CountsAt x.reason s.source.failures t.source.failures
+      turned_down nexts heads x = turned holding one
+        where
+          turned : (b : Bool) → (b ≡ true → limits.passed ≡ limits.counted) → TurnedDown s t b x
+              → Turned x t × CountsAt x.reason s.source.failures t.source.failures
+          turned true one k = (
+            refused_next (one refl) nexts (Err x) x k refl,
+            (nexts start from (payload_limit limits) p s t (Err x) x reads k refl).1.failures,
+          )
+          turned false one k = (
+            refused_head heads (Err x) x k refl,
+            (heads start from (payload_limit limits) p s t (Err x) x reads k refl).1.failures,
+          )
 
 -- if no byte was read ahead, the view of the source is unchanged
 pub seen_so : (ahead : List ℕ) (now here : Sight) → ahead ≡ [] → now ≡ here

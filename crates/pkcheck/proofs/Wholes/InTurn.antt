@@ -1,5 +1,6 @@
 -- The loop over lent instructions, which counts the bytes of the open frame once.
 use Rattle.std.proofs.Common.{◌≡◌, ◌≢◌, ℕ, zero, suc, ◌+◌, ◌-◌, ◌<◌, ◌≤◌, List, [], ◌∷◌, ◌++◌}
+use Rattle.std.specs.Prelude.{Bool}
 use Rattle.std.proofs.Common.{length, take, drop, None, Some, false, inr, refl, sym, ap, subst}
 use Rattle.std.proofs.Common.{◌∙◌, arith}
 use Rattle.std.proofs.Common.{append-nil, append_assoc}
@@ -13,15 +14,15 @@ use Rattle.pkread.specs.AtHand.{IsLent}
 use Rattle.pkread.specs.Framing.{Role, counted, other}
 use Rattle.pkread.specs.Pieces.{piece_of}
 use Rattle.pkread.specs.ReaderCalls.{is_ended}
-use Rattle.pkcheck.specs.Heard.{Heard, heard}
 use Rattle.pkcheck.specs.Knowledge.{Policy}
 use Rattle.pkcheck.specs.Private.Judgement.{SessionView}
 use Rattle.pkcheck.specs.Private.Lent.{PassInTurn, StopsAt, TurnsDown, heard_before}
+use Rattle.pkcheck.specs.Reports.{Report, report, told_of}
 use Rattle.pkcheck.specs.Shape.{marks_of}
 use Rattle.pkcheck.specs.Step.{FailsStep, GoesOn}
 use Rattle.pkcheck.specs.View.{View, stopped_by}
 use Rattle.pkcheck.specs.declared.machine.stepping.Moved.{Moved}
-use Rattle.pkcheck.specs.declared.session.Turned.{Turned}
+use Rattle.pkcheck.specs.declared.turned.Turned.{Turned}
 use Rattle.pkcheck.proofs.StepParts.Settings.{same_end}
 
 -- some bytes, and as many of them as lie in the open frame
@@ -79,23 +80,25 @@ counted_inside frame count size role is some within =
     is_open left e = left (omega (arith, e))
 
 -- what is heard of an instruction
-pub heard_as : (at marks : ℕ) (i : Instruction) (m : View) → marks ≡ marks_of m.knowledge.entries
-    → heard at i marks ≡ heard_before at i m
-heard_as at marks i m is = ap (heard at i) is
+pub heard_as : (holding : Bool) (at marks : ℕ) (i : Instruction) (m : View)
+    → marks ≡ marks_of m.knowledge.entries
+    → report at (told_of holding i) marks ≡ heard_before holding at i m
+heard_as holding at marks i m is = ap (report at (told_of holding i)) is
 
 -- and is heard behind others
-pub one_more : {x y : Heard} → x ≡ y → (earlier hs : List Heard)
+pub one_more : {x y : Report} → x ≡ y → (earlier hs : List Report)
     → (earlier ++ hs) ++ x ∷ [] ≡ earlier ++ (hs ++ y ∷ [])
 one_more {x = x} is earlier hs =
     append_assoc earlier hs (x ∷ []) ∙ ap (λ z. earlier ++ (hs ++ z ∷ [])) is
 
-module _ (policy : Policy) (at : ℕ) (bytes inside : List ℕ) (before : SessionView) where
+module _ (holding : Bool) (policy : Policy) (at : ℕ) (bytes inside : List ℕ)
+    (before : SessionView) where
   -- some instructions were accepted, this was heard of them, and these bytes are left of those
   -- inside the frame
-  pub record Along (rest : List ℕ) (m : View) (hs : List Heard) : Type 0 where
+  pub record Along (rest : List ℕ) (m : View) (hs : List Report) : Type 0 where
     pub number : ℕ
     pub count : ℕ
-    pub pass : PassInTurn policy at bytes before number
+    pub pass : PassInTurn holding policy at bytes before number
         (record { frame = before.frame - count; machine = m }) count hs
     pub left : rest ≡ drop count inside
     pub within : count ≤ length inside
@@ -119,7 +122,7 @@ module _ (policy : Policy) (at : ℕ) (bytes inside : List ℕ) (before : Sessio
       }
 
   module _ (whole : IsInside before.frame bytes inside) (rest : List ℕ) (m : View)
-      (hs : List Heard) (h : Along rest m hs) (i : Instruction) (lent : IsLent m.limits rest i)
+      (hs : List Report) (h : Along rest m hs) (i : Instruction) (lent : IsLent m.limits rest i)
     where
       -- how many bytes were passed over
       pub passed : h.count ≡ length inside - length rest
@@ -158,14 +161,15 @@ module _ (policy : Policy) (at : ℕ) (bytes inside : List ℕ) (before : Sessio
       -- what is heard of it
       pub heard_now : (place marks : ℕ) → place ≡ at + (length inside - length rest)
           → marks ≡ marks_of m.knowledge.entries
-          → heard place i marks ≡ heard_before (at + h.count) i m
+          → report place (told_of holding i) marks ≡ heard_before holding (at + h.count) i m
       heard_now place marks is open_ones =
           let count = passed in
           rw (is, open_ones, count) refl
 
       -- one more is accepted
       pub along_more : (n : View) (moved : Moved) → GoesOn policy i m n moved
-          → Along (drop (length (spelling i)) rest) n (hs ++ heard_before (at + h.count) i m ∷ [])
+          → Along (drop (length (spelling i)) rest) n
+          (hs ++ heard_before holding (at + h.count) i m ∷ [])
       along_more n moved (progress, e, becomes, is) = record {
         number = suc h.number;
         count = h.count + length (spelling i);
@@ -191,7 +195,7 @@ module _ (policy : Policy) (at : ℕ) (bytes inside : List ℕ) (before : Sessio
 
       -- the instruction stands behind those
       abbrev pub stop_here : (count : ℕ) → count ≡ length inside - length rest
-          → StopsAt policy at bytes before count
+          → StopsAt holding policy at bytes before count
       stop_here count place =
           let is : h.count ≡ count = passed ∙ sym place in
           record {
@@ -199,7 +203,7 @@ module _ (policy : Policy) (at : ℕ) (bytes inside : List ℕ) (before : Sessio
             between = record { frame = before.frame - h.count; machine = m };
             earlier = hs;
             instruction = i;
-            pass = subst (λ c. PassInTurn policy at bytes before h.number
+            pass = subst (λ c. PassInTurn holding policy at bytes before h.number
                 (record { frame = before.frame - h.count; machine = m }) c hs) is h.pass;
             lent = subst (λ c. IsLent before.machine.limits (drop c bytes) i) is lent_here;
           }
@@ -207,7 +211,7 @@ module _ (policy : Policy) (at : ℕ) (bytes inside : List ℕ) (before : Sessio
       -- and is refused
       abbrev pub turned_down : (n : View) (t : Turned) → t.before ≡ length inside - length rest
           → t.length ≡ length (spelling i) → FailsStep policy i m n t.reason
-          → TurnsDown policy at bytes before n t
+          → TurnsDown holding policy at bytes before n t
       turned_down n t place long fails = record {
         here = stop_here t.before place;
         long = long;
@@ -215,15 +219,15 @@ module _ (policy : Policy) (at : ℕ) (bytes inside : List ℕ) (before : Sessio
       }
 
   -- where no more is lent
-  pub all_passed : (rest : List ℕ) (m : View) (hs : List Heard) (h : Along rest m hs)
-      → PassInTurn policy at bytes before h.number
+  pub all_passed : (rest : List ℕ) (m : View) (hs : List Report) (h : Along rest m hs)
+      → PassInTurn holding policy at bytes before h.number
       (record { frame = before.frame - (length inside - length rest); machine = m })
       (length inside - length rest) hs
   all_passed rest m hs h =
       let within = h.within in
       let is : h.count ≡ length inside - length rest =
       omega (arith, within, ap length h.left, length-drop h.count inside) in
-      subst (λ c. PassInTurn policy at bytes before h.number
+      subst (λ c. PassInTurn holding policy at bytes before h.number
       (record { frame = before.frame - c; machine = m }) c hs) is h.pass
 
 -- the bytes behind the first ones, as a slice of them shows
@@ -245,46 +249,54 @@ lent_within limits bytes i lent =
     omega (arith, ap length lent.spelled, length-append (spelling i) lent.rest)
 
 -- and so do all of them
-pub pass_within : (policy : Policy) (at : ℕ) (bytes : List ℕ) (before : SessionView) (n : ℕ)
-    (after : SessionView) (count : ℕ) (hs : List Heard)
-    → PassInTurn policy at bytes before n after count hs → count ≤ length bytes
-pass_within policy at bytes before zero after count hs (is, none, same) = omega (arith, none)
-pass_within policy at bytes before (suc n) after count hs
+pub pass_within : (holding : Bool) (policy : Policy) (at : ℕ) (bytes : List ℕ)
+    (before : SessionView) (n : ℕ)
+    (after : SessionView) (count : ℕ) (hs : List Report)
+    → PassInTurn holding policy at bytes before n after count hs → count ≤ length bytes
+pass_within holding policy at bytes before zero after count hs (is, none, same) =
+    omega (arith, none)
+pass_within holding policy at bytes before (suc n) after count hs
     (between, so_far, i, earlier, pass, lent, both, is, same) =
-    let front = pass_within policy at bytes before n between so_far earlier pass in
+    let front = pass_within holding policy at bytes before n between so_far earlier pass in
     let long = lent_within before.machine.limits (drop so_far bytes) i lent in
     omega (arith, is, front, long, length-drop so_far bytes)
 
 -- the one behind them lies in the bytes too
-pub stops_within : (policy : Policy) (at : ℕ) (bytes : List ℕ) (before : SessionView) (count : ℕ)
-    (here : StopsAt policy at bytes before count)
+pub stops_within : (holding : Bool) (policy : Policy) (at : ℕ) (bytes : List ℕ)
+    (before : SessionView) (count : ℕ)
+    (here : StopsAt holding policy at bytes before count)
     → count + length (spelling here.instruction) ≤ length bytes
-stops_within policy at bytes before count here =
-    let front = pass_within policy at bytes before here.number here.between count here.earlier
+stops_within holding policy at bytes before count here =
+    let front = pass_within holding policy at bytes before here.number here.between count
+    here.earlier
     here.pass in
     let long = lent_within before.machine.limits (drop count bytes) here.instruction here.lent in
     omega (arith, front, long, length-drop count bytes)
 
 -- instructions are accepted alike whatever offset the first byte has
-pub pass_at : (policy : Policy) (at from : ℕ) (bytes : List ℕ) (before : SessionView) (n : ℕ)
-    (after : SessionView) (count : ℕ) (hs : List Heard)
-    → PassInTurn policy at bytes before n after count hs
-    → (more : List Heard) × PassInTurn policy from bytes before n after count more
-pass_at policy at from bytes before zero after count hs (is, none, same) = ([], (is, none, refl))
-pass_at policy at from bytes before (suc n) after count hs
+pub pass_at : (holding : Bool) (policy : Policy) (at from : ℕ) (bytes : List ℕ)
+    (before : SessionView) (n : ℕ)
+    (after : SessionView) (count : ℕ) (hs : List Report)
+    → PassInTurn holding policy at bytes before n after count hs
+    → (more : List Report) × PassInTurn holding policy from bytes before n after count more
+pass_at holding policy at from bytes before zero after count hs (is, none, same) =
+    ([], (is, none, refl))
+pass_at holding policy at from bytes before (suc n) after count hs
     (between, so_far, i, earlier, pass, lent, both, is, same) =
-    let front = pass_at policy at from bytes before n between so_far earlier pass in (
-      front.0 ++ heard_before (from + so_far) i between.machine ∷ [],
+    let front = pass_at holding policy at from bytes before n between so_far earlier pass in (
+      front.0 ++ heard_before holding (from + so_far) i between.machine ∷ [],
       (between, so_far, i, front.0, front.1, lent, both, is, refl),
     )
 
 -- and refused alike
-pub turned_at : (policy : Policy) (at from : ℕ) (bytes : List ℕ) (before : SessionView)
-    (after : View) (t : Turned) → TurnsDown policy at bytes before after t
-    → TurnsDown policy from bytes before after t
-turned_at policy at from bytes before after t down =
+pub turned_at : (holding : Bool) (policy : Policy) (at from : ℕ) (bytes : List ℕ)
+    (before : SessionView)
+    (after : View) (t : Turned) → TurnsDown holding policy at bytes before after t
+    → TurnsDown holding policy from bytes before after t
+turned_at holding policy at from bytes before after t down =
     let here = down.here in
-    let moved = pass_at policy at from bytes before here.number here.between t.before here.earlier
+    let moved = pass_at holding policy at from bytes before here.number here.between t.before
+    here.earlier
     here.pass in
     record {
       here = record {

@@ -1,5 +1,5 @@
 -- Instructions that are lent from the bytes at hand and accepted in turn.
-use Rattle.std.specs.Prelude.{⊤}
+use Rattle.std.specs.Prelude.{Bool}
 use Rattle.std.proofs.Common.{◌≡◌, ℕ, zero, suc, ◌+◌, ◌≤◌, List, [], ◌∷◌, ◌++◌}
 use Rattle.std.proofs.Common.{length, drop, Option, None, Some, inl, inr, refl, sym, ap, subst, ◌∙◌}
 use Rattle.std.proofs.Common.{arith, append-nil, append_assoc}
@@ -12,11 +12,11 @@ use Rattle.pkread.specs.ReaderCalls.{ReaderState}
 use Rattle.pkread.specs.Rows.{Sight}
 use Rattle.pkread.specs.declared.Refusal.{Refusal}
 use Rattle.pkread.specs.Run.{LentIsRead, TakingTwice}
-use Rattle.pkcheck.specs.Heard.{Heard}
 use Rattle.pkcheck.specs.Knowledge.{Asked, Policy}
 use Rattle.pkcheck.specs.Private.Judgement.{IsRefused, SessionView}
 use Rattle.pkcheck.specs.Private.Lent.{GoesAlong, PassInTurn, RefusesLent, StopsAt}
 use Rattle.pkcheck.specs.Private.Lent.{heard_along, heard_before}
+use Rattle.pkcheck.specs.Reports.{Report}
 use Rattle.pkcheck.specs.View.{View}
 use Rattle.pkcheck.specs.declared.old_strings.OldStrings.{OldStrings}
 use Rattle.pkcheck.proofs.Wholes.Checked.{Checked, checked_took}
@@ -25,10 +25,11 @@ use Rattle.pkcheck.proofs.Wholes.InTurn.{lent_within}
 use Rattle.pkcheck.proofs.Wholes.Origins.{Origin}
 
 -- a reader only goes forwards
-pub taken_along : (policy : Policy) (s t : ReaderState) (before after : SessionView)
-    → GoesAlong policy s t before after → s.taken ≤ t.taken
-taken_along policy s t before after (inl (is, same)) = omega (arith, ap (λ u. u.taken) same)
-taken_along policy s t before after (inr k) = omega (arith, ap (λ u. u.taken) k.taken)
+pub taken_along : (holding : Bool) (policy : Policy) (s t : ReaderState)
+    (before after : SessionView)
+    → GoesAlong holding policy s t before after → s.taken ≤ t.taken
+taken_along holding policy s t before after (inl (is, same)) = omega (arith, ap (λ u. u.taken) same)
+taken_along holding policy s t before after (inr k) = omega (arith, ap (λ u. u.taken) k.taken)
 
 drop_none : (left : Option (List ℕ)) → option_map (drop 0) left ≡ left
 drop_none None = refl
@@ -42,20 +43,22 @@ beyond_none s =
     rw (left, count) refl
 
 -- a property of the instructions read and of what is heard of them holds of one more
-abbrev pub GoesOnToHold : OldStrings → Policy → Bounds → Sight → Origin
-    → (List Instruction → List Heard → Type 0) → Type 0
-GoesOnToHold setting policy limits old o P = (p : List Instruction) (asked : List (Option Asked))
+abbrev pub GoesOnToHold : (holding : Bool) → OldStrings → Policy → Bounds → Sight → Origin
+    → (List Instruction → List Report → Type 0) → Type 0
+GoesOnToHold holding setting policy limits old o P =
+    (p : List Instruction) (asked : List (Option Asked))
     (s : ReaderState) (frame : ℕ) (m : View)
     → Checked setting policy limits old o p asked s frame m → (t : ReaderState) (at : ℕ)
-    (i : Instruction) → Took old o.at limits p s at i t → (hs : List Heard) → P p hs
-    → P (p ++ i ∷ []) (hs ++ heard_before at i m ∷ [])
+    (i : Instruction) → Took old o.at limits p s at i t → (hs : List Report) → P p hs
+    → P (p ++ i ∷ []) (hs ++ heard_before holding at i m ∷ [])
 
-module _ (setting : OldStrings) (policy : Policy) (limits : Bounds) (old : Sight) (o : Origin)
-    (lends : LentIsRead) (twice : TakingTwice) (P : List Instruction → List Heard → Type 0)
-    (holds_on : GoesOnToHold setting policy limits old o P) where
+module _ (holding : Bool) (setting : OldStrings) (policy : Policy) (limits : Bounds) (old : Sight)
+    (o : Origin) (lends : LentIsRead) (twice : TakingTwice)
+    (P : List Instruction → List Report → Type 0)
+    (holds_on : GoesOnToHold holding setting policy limits old o P) where
   -- where some instructions were accepted in turn
   pub record Onward (bytes : List ℕ) (s : ReaderState) (count frame : ℕ) (m : View)
-      (hs : List Heard) : Type 0 where
+      (hs : List Report) : Type 0 where
     pub read : List Instruction
     pub asked : List (Option Asked)
     pub checked : Checked setting policy limits old o read asked (beyond count s) frame m
@@ -65,7 +68,7 @@ module _ (setting : OldStrings) (policy : Policy) (limits : Bounds) (old : Sight
 
   -- one more
   pub onward_took : (bytes : List ℕ) (s : ReaderState) (count frame : ℕ) (m : View)
-      (hs : List Heard) (h : Onward bytes s count frame m hs) (i : Instruction)
+      (hs : List Report) (h : Onward bytes s count frame m hs) (i : Instruction)
       → IsLent limits (drop count bytes) i
       → (t : ReaderState) → t ≡ beyond (count + length (spelling i)) s
       → (at : ℕ) → at ≡ s.taken + count
@@ -78,9 +81,10 @@ module _ (setting : OldStrings) (policy : Policy) (limits : Bounds) (old : Sight
   -- any number of them
   pub onward : (bytes : List ℕ) (s : ReaderState) (p : List Instruction)
       (asked : List (Option Asked)) (frame : ℕ) (m : View)
-      → Checked setting policy limits old o p asked s frame m → (hs : List Heard) → P p hs
-      → AreNext s bytes → (n : ℕ) (after : SessionView) (count : ℕ) (more : List Heard)
-      → PassInTurn policy s.taken bytes (record { frame = frame; machine = m }) n after count more
+      → Checked setting policy limits old o p asked s frame m → (hs : List Report) → P p hs
+      → AreNext s bytes → (n : ℕ) (after : SessionView) (count : ℕ) (more : List Report)
+      → PassInTurn holding policy s.taken bytes
+      (record { frame = frame; machine = m }) n after count more
       → Onward bytes s count after.frame after.machine (hs ++ more)
   onward bytes s p asked frame m h hs held next zero after count more (is, none, nothing) =
       let same = beyond_none s in
@@ -101,7 +105,7 @@ module _ (setting : OldStrings) (policy : Policy) (limits : Bounds) (old : Sight
       (beyond (so_far + size) s) refl (s.taken + so_far) refl in
       let long = lent_within limits (drop so_far bytes) i lent' in
       let before = w.within in
-      let item = heard_before (s.taken + so_far) i between.machine in
+      let item = heard_before holding (s.taken + so_far) i between.machine in
       rw (is, all) (record {
         read = w.read ++ i ∷ [];
         asked = w.asked ++ both.1.1.0.import ∷ [];
@@ -117,14 +121,14 @@ module _ (setting : OldStrings) (policy : Policy) (limits : Bounds) (old : Sight
       })
 
   module _ (p : List Instruction) (asked : List (Option Asked)) (s t : ReaderState) (frame : ℕ)
-      (m : View) (h : Checked setting policy limits old o p asked s frame m) (hs : List Heard)
+      (m : View) (h : Checked setting policy limits old o p asked s frame m) (hs : List Report)
       (held : P p hs) where
     -- what is at hand is accepted
     pub holding_along : (after : SessionView)
-        (g : GoesAlong policy s t (record { frame = frame; machine = m }) after)
+        (g : GoesAlong holding policy s t (record { frame = frame; machine = m }) after)
         → (q : List Instruction) × (more : List (Option Asked))
         × Checked setting policy limits old o q more t after.frame after.machine
-        × P q (hs ++ heard_along policy s t (record { frame = frame; machine = m }) g)
+        × P q (hs ++ heard_along holding policy s t (record { frame = frame; machine = m }) g)
     holding_along after (inl (is, same)) =
         rw (is, same) (p, asked, h, subst (P p) (sym (append-nil hs)) held)
     holding_along after (inr k) =
@@ -133,7 +137,7 @@ module _ (setting : OldStrings) (policy : Policy) (limits : Bounds) (old : Sight
         rw k.taken (w.read, w.asked, w.checked, w.holds)
 
     -- an instruction at hand is reached behind others
-    pub record Reached (at : ℕ) (i : Instruction) (session : SessionView) (more : List Heard)
+    pub record Reached (at : ℕ) (i : Instruction) (session : SessionView) (more : List Report)
         : Type 0 where
       pub read : List Instruction
       pub listed : List (Option Asked)
@@ -144,7 +148,8 @@ module _ (setting : OldStrings) (policy : Policy) (limits : Bounds) (old : Sight
       pub holds : P read (hs ++ more)
 
     pub reached : (bytes : List ℕ) (count : ℕ) → AreNext s bytes
-        → (here : StopsAt policy s.taken bytes (record { frame = frame; machine = m }) count)
+        → (here : StopsAt holding policy s.taken bytes
+        (record { frame = frame; machine = m }) count)
         → t ≡ beyond (count + length (spelling here.instruction)) s
         → (at : ℕ) → at ≡ s.taken + count
         → Reached at here.instruction here.between here.earlier
@@ -165,7 +170,7 @@ module _ (setting : OldStrings) (policy : Policy) (limits : Bounds) (old : Sight
 
     -- and refused
     pub reached_refused : (after : View) (r : Refusal)
-        (k : RefusesLent policy s t (record { frame = frame; machine = m }) after r)
+        (k : RefusesLent holding policy s t (record { frame = frame; machine = m }) after r)
         → Reached r.at k.down.here.instruction k.down.here.between k.down.here.earlier
         × IsRefused policy k.down.here.instruction k.down.here.between.frame
         k.down.here.between.machine after r.reason
@@ -174,47 +179,3 @@ module _ (setting : OldStrings) (policy : Policy) (limits : Bounds) (old : Sight
           reached k.bytes k.turned.before k.next k.down.here is r.at k.place,
           rw k.why k.down.why,
         )
-
--- ---- what a check without a listener needs
-
-module _ (setting : OldStrings) (policy : Policy) (limits : Bounds) (old : Sight) (o : Origin)
-    (lends : LentIsRead) (twice : TakingTwice) (p : List Instruction) (asked : List (Option Asked))
-    (s t : ReaderState) (frame : ℕ) (m : View)
-    (h : Checked setting policy limits old o p asked s frame m) where
-  -- what is at hand is accepted
-  pub checked_along : (after : SessionView)
-      → GoesAlong policy s t (record { frame = frame; machine = m }) after
-      → (q : List Instruction) × (more : List (Option Asked))
-      × Checked setting policy limits old o q more t after.frame after.machine
-  checked_along after g =
-      let w = holding_along setting policy limits old o lends twice (λ q hs. ⊤)
-      (λ q a u f n k v at i took hs held. tt) p asked s t frame m h [] tt after g in
-      (w.0, w.1, w.2)
-
-  -- an instruction at hand is refused
-  pub record Refused (after : View) (r : Refusal) : Type 0 where
-    pub read : List Instruction
-    pub listed : List (Option Asked)
-    pub between : ReaderState
-    pub session : SessionView
-    pub checked : Checked setting policy limits old o read listed between session.frame
-        session.machine
-    pub instruction : Instruction
-    pub took : Took old o.at limits read between r.at instruction t
-    pub why : IsRefused policy instruction session.frame session.machine after r.reason
-
-  pub refused_lent : (after : View) (r : Refusal)
-      → RefusesLent policy s t (record { frame = frame; machine = m }) after r → Refused after r
-  refused_lent after r k =
-      let w = reached_refused setting policy limits old o lends twice (λ q hs. ⊤)
-      (λ q a u f n k v at i took hs held. tt) p asked s t frame m h [] tt after r k in
-      record {
-        read = w.0.read;
-        listed = w.0.listed;
-        between = w.0.between;
-        session = k.down.here.between;
-        checked = w.0.checked;
-        instruction = k.down.here.instruction;
-        took = w.0.took;
-        why = w.1;
-      }

@@ -89,7 +89,7 @@ asked_stands (Some AskedUnknown) as' ps qs h e = Pointwise-append StandsFor as' 
     (AskedUnknown ∷ []) qs h (subst (Pointwise StandsFor (AskedUnknown ∷ [])) (sym e.2) (tt, tt))
 
 -- the imports of the events after a step, if those before are all listed
-adds_stands : (a : Option Asked) (as' : List Asked) (before after : List Event)
+pub adds_stands : (a : Option Asked) (as' : List Asked) (before after : List Event)
     → Pointwise StandsFor as' (imports_of before) → Adds a before after
     → Pointwise StandsFor (asks_more a as') (imports_of after)
 adds_stands a as' before after h g =
@@ -97,7 +97,7 @@ adds_stands a as' before after h g =
     (subst (Pointwise StandsFor (asks_more a as')) (sym (imports_of-append before g.added))
     (asked_stands a as' (imports_of before) (imports_of g.added) h g.asked))
 
-more_among : (a : Option Asked) (as' : List Asked) (asked : List (Option Asked))
+pub more_among : (a : Option Asked) (as' : List Asked) (asked : List (Option Asked))
     → asks_more a as' ++ imports_among asked ≡ as' ++ imports_among (a ∷ asked)
 more_among None as' asked = refl
 more_among (Some a) as' asked = append_assoc as' (a ∷ []) (imports_among asked)

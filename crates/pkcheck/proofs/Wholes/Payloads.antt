@@ -1,16 +1,13 @@
 -- An instruction whose payload was skipped, as the frame rules see it.
-use Rattle.std.proofs.Common.{◌≡◌, ℕ, ◌-◌, List, refl, arith}
+use Rattle.std.proofs.Common.{◌≡◌, ◌∙◌, ℕ, ap, false, length, refl, true}
 use Rattle.std.specs.Prelude.{IsTrue}
-use Rattle.pkops.specs.Limits.{Bounds}
 use Rattle.pkops.specs.Payloads.{is_passed}
-use Rattle.pkops.specs.Spelling.{Counted, Instruction, instruction}
+use Rattle.pkops.specs.Spelling.{Instruction, spelling}
 use Rattle.pkops.specs.declared.Op.{Op}
 use Rattle.pkops.specs.declared.Op.TheVariants as op
 use Rattle.pkread.specs.Pieces.{number_of, piece_of, role_of}
-use Rattle.pkread.specs.ReaderCalls.{ReaderState}
-use Rattle.pkread.specs.Rows.{Sight}
 use Rattle.pkcheck.specs.Private.Judgement.{HasLength}
-use Rattle.pkcheck.proofs.Wholes.Given.{Passed}
+use Rattle.pkcheck.specs.Reports.{Skipped, Whole, told_of}
 
 no_frame : (o : Op) (m n : ℕ) → IsTrue (is_passed o) → role_of o m ≡ role_of o n
 no_frame op.Frame m n h = cc
@@ -24,9 +21,14 @@ piece_passed i o n h l =
     rw l.op_is (no_frame o (number_of i.arg) 0 h) in
     λ j. record { length = l.long j; role = role j }
 
-module _ (start : Sight) (from : ℕ) (limits : Bounds) (p : List Instruction) (s : ReaderState)
-    (at : ℕ) (o : Op) (count : ℕ) (t : ReaderState) (w : Passed start from limits p s at o count t)
-    (taken : ℕ) (e : taken ≡ t.taken) where
-  -- its length is the number of bytes taken since its offset
-  pub long_passed : HasLength (instruction o (Counted w.payload)) o (taken - at)
-  long_passed = record { op_is = refl; long = omega (arith, e, w.took.place, w.took.taken) }
+-- what is told of an instruction whose payload was skipped
+pub told_skipped : (i : Instruction) (o : Op) (n : ℕ) → IsTrue (is_passed o) → HasLength i o n
+    → told_of false i ≡ Skipped o n
+told_skipped i o n h l =
+    let passed : is_passed i.op ≡ true = ap is_passed l.op_is ∙ h in
+    let told : told_of false i ≡ Skipped i.op (length (spelling i)) = rw passed refl in
+    told ∙ (ap (Skipped i.op) l.long ∙ ap (λ p. Skipped p n) l.op_is)
+
+-- and of one that has none to skip
+pub told_whole : (i : Instruction) → is_passed i.op ≡ false → told_of false i ≡ Whole i
+told_whole i h = rw h refl

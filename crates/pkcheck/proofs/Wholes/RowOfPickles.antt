@@ -15,17 +15,11 @@ use Rattle.pkread.specs.Run.{ReadingGoesOn}
 use Rattle.pkread.specs.ReaderCalls.{ReaderState}
 use Rattle.pkread.specs.Core.{Open}
 use Rattle.pkread.specs.Rows.{Refuses, Sight, Takes, TakingLaws, all_bytes}
-use Rattle.pkread.specs.Sequence.{CountsAt, IsSequence, StopIsLast, spellings}
+use Rattle.pkread.specs.Sequence.{IsSequence, StopIsLast, spellings}
 use Rattle.pkread.specs.declared.Refusal.{Refusal as ReadRefusal}
-use Rattle.pkread.specs.declared.Reason.{Reason}
-use Rattle.pkread.specs.declared.Reason.TheVariants.{Truncated}
 use Rattle.pkops.specs.declared.Op.TheVariants.{Stop}
-use Rattle.pkcheck.proofs.Wholes.Checked.{Checked, IsReady, accepted, checked_again, count_took}
-use Rattle.pkcheck.proofs.Wholes.Checked.{refused_took, refused_turned}
-use Rattle.pkcheck.proofs.Wholes.Given.{Took}
-use Rattle.pkcheck.proofs.Coverage.OneTextStates.{Word}
-use Rattle.pkcheck.proofs.Coverage.ShownFaults.{IsLonger}
-use Rattle.pkcheck.specs.Private.Judgement.{IsRefused}
+use Rattle.pkcheck.proofs.Wholes.Checked.{Checked, IsReady, accepted, checked_again}
+use Rattle.pkcheck.proofs.Wholes.Checked.{refused_turned}
 use Rattle.pkcheck.proofs.Wholes.NextPickle.{begins_next, imports_more}
 use Rattle.pkcheck.proofs.Wholes.Origins.{Begins, Origin, begins_afresh, begins_row}
 use Rattle.pkcheck.proofs.Wholes.FramesSoFar.{FrameLaws}
@@ -39,9 +33,10 @@ use Rattle.pkcheck.specs.Knowledge.{Knowledge, Policy, Asked, nothing_known}
 use Rattle.pkcheck.specs.Listing.{imports_among}
 use Rattle.pkcheck.specs.Private.NextPickle.{IsRefusedBehind, listed_apart, listed_in, moved_apart}
 use Rattle.pkcheck.specs.Private.NextPickle.{restarted}
+use Rattle.pkcheck.specs.Heard.{refused_instruction}
 use Rattle.pkcheck.specs.Refused.{RefusedFrom}
-use Rattle.pkcheck.specs.RowOfPickles.{AcceptedRow, AreAccepted, HasMore, IsAcceptedBehind}
-use Rattle.pkcheck.specs.RowOfPickles.{RefusedInRow, begins, bytes_of_all}
+use Rattle.pkcheck.specs.RowOfPickles.{AcceptedRow, AreAccepted, IsAcceptedBehind}
+use Rattle.pkcheck.specs.RowOfPickles.{begins, bytes_of_all}
 use Rattle.pkcheck.specs.RowRuns.{Beginning, Pickle, imports_of_all, listed_before, sequences_of}
 use Rattle.pkcheck.proofs.Wholes.AnotherPickle.{refuses_again}
 
@@ -109,6 +104,7 @@ module _ (taking : TakingLaws) (loading : Loading) (policy : Policy) (limits : B
     count = h.count;
     framed = h.framed;
     sound = h.sound;
+    reached = h.reached;
     asked = h.asked;
     each = h.each;
     listed = h.listed;
@@ -288,107 +284,57 @@ module _ (taking : TakingLaws) (loading : Loading) (policy : Policy) (limits : B
     -- the source is at its end
     pub row_accepted : (taken : ℕ) (imports : List Asked) → 0 < pickles → IsAtEnd here.left
         → taken ≡ origin.at → taken < all_bytes → imports ≡ imports_of_all before
-        → AcceptedRow loading policy limits old here taken pickles imports
-    row_accepted taken imports some ends is within listed = record {
-      row = before;
-      ends = ends;
-      is_row = record {
-        some = not_none some;
-        each = accepted_sequences old here [] before h.each;
-        spelled = refl;
-      };
-      bytes = accepted_bytes old here [] before h.each;
-      count = is ∙ h.from_is;
-      within = within;
-      number = h.number;
-      each = h.each;
-      listed = listed;
-    }
-
-    -- the pickle that begins here is refused
-    pub row_refused : (new : Sight) (at : ℕ) (why : Reason) (pair : Option Asked)
-        → RefusedFrom origin.at loading.old_strings origin.beginning policy limits here new at why
-        pair → (why ≡ Truncated → before ≢ [] → HasMore here)
-        → RefusedInRow loading policy limits old new pickles at why pair
-    row_refused new at why pair r more = record {
-      before = before;
-      number = h.number;
-      here = here;
-      each = h.each;
-      refused = subst
-          (λ b. RefusedFrom (length (bytes_of_all before)) loading.old_strings b policy limits here
-          new at why pair) h.begins
-          (subst
-          (λ n. RefusedFrom n loading.old_strings origin.beginning policy limits here new at why
-          pair) h.from_is r);
-      more = more;
-    }
+        → (right : AcceptedRow loading policy limits old here taken pickles imports)
+        × (right.row ≡ before)
+    row_accepted taken imports some ends is within listed = (
+      record {
+        row = before;
+        ends = ends;
+        is_row = record {
+          some = not_none some;
+          each = accepted_sequences old here [] before h.each;
+          spelled = refl;
+        };
+        bytes = accepted_bytes old here [] before h.each;
+        count = is ∙ h.from_is;
+        within = within;
+        number = h.number;
+        each = h.each;
+        listed = listed;
+      },
+      refl,
+    )
 
     -- no read has failed so far
     pub none_failed : here.failures ≡ old.failures
     none_failed = (accepted_bytes old here [] before h.each).count
 
-    -- an instruction that was read is refused
-    module _ (p : List Instruction) (asked : List (Option Asked)) (s : ReaderState) (still_open : ℕ)
-        (m : View)
-        (checked : Checked loading.old_strings policy limits here origin p asked s still_open m)
-        (t : ReaderState) (at : ℕ) (i : Instruction) (new : Sight)
-        (took : Took here origin.at limits p s at i t) (same : new ≡ t.source) where
-      pub row_took : (v : Word) × IsLonger policy v.text → (n : View) (why : Reason)
-          → (why ≡ Truncated → before ≢ [] → HasMore here) → IsRefused policy i still_open m n why
-          → RefusedInRow loading policy limits old new pickles at why n.off
-          × CountsAt why old.failures new.failures
-      row_took long n why more g =
-          let refused = (refused_took loading.old_strings policy limits here origin p asked s
-          still_open m checked t at i new took same long n why n.off g refl).0 in (
-            row_refused new at why n.off refused more,
-            subst (λ f. CountsAt why f new.failures) none_failed
-                (count_took loading.old_strings policy limits here origin p asked s still_open m
-                checked t at i new at why why n.off refused refl took same n g),
-          )
-
   module _ (laws : FrameLaws) (begins : ReadingGoesOn) (s : ReaderState) (same : s.limits ≡ limits)
       (b : Beginning) (m : View) (ready : IsReady loading.old_strings policy limits b m) where
     -- no byte was taken of the pickle that would begin
+    abbrev RefusedFirst : ReadRefusal → Sight → Type 0
+    RefusedFirst x new =
+        (r : RefusedFrom s.taken loading.old_strings b policy limits s.source new x.at x.reason
+        None)
+        × (r.instructions ++ refused_instruction r.why ≡ [])
+
     turned : (x : ReadRefusal) (new : Sight) → x.at ≡ s.taken
         → Refuses (payload_limit_at limits []) s.source new [] s.taken s.taken x.reason
-        → RefusedFrom s.taken loading.old_strings b policy limits s.source new x.at x.reason None
+        → RefusedFirst x new
     turned x new place why =
         let open' : ReaderState = record s { phase = Open } in
         let origin : Origin = record { at = s.taken; beginning = b; known = m.knowledge } in
         let here = checked_again loading.old_strings policy limits s.source laws begins open' refl
         same b m ready in
-        (refused_turned loading.old_strings policy limits s.source origin [] [] open' 0 m here
+        let r = refused_turned loading.old_strings policy limits s.source origin [] [] open' 0 m
+        here
         (record s { source = new }) x new
         (record { no_stop = All-nil (λ i. i.op ≢ Stop); place = place; bytes = []; why = why })
-        refl).0
+        refl in
+        (r.0, r.1)
 
     -- the reader refused after STOP, or an allocation for the imports was refused
     pub refused_behind : NoByteIsRefused → (t : ReaderState) (x : ReadRefusal)
-        → IsRefusedBehind s t x → RefusedFrom s.taken loading.old_strings b policy limits s.source
-        t.source x.at x.reason None
+        → IsRefusedBehind s t x → RefusedFirst x t.source
     refused_behind law t x h = turned x t.source h.place
         (law (payload_limit_at limits []) s _ x (refuses_again s t x h)).0
-
--- the answer about a row, with equal parts replaced
-pub told : (loading : Loading) (policy : Policy) (limits : Bounds) (old new mid : Sight)
-    (n m a b : ℕ) (x y : Reason) (u v : Option Asked) → new ≡ mid → n ≡ m → a ≡ b → x ≡ y → u ≡ v
-    → RefusedInRow loading policy limits old mid m b y v
-    → RefusedInRow loading policy limits old new n a x u
-told loading policy limits old new mid n m a b x y u v d e f g h r = rw (d, e, f, g, h) r
-
-pub told_yes : (loading : Loading) (policy : Policy) (limits : Bounds) (old new mid : Sight)
-    (n m a b : ℕ) (u v : List Asked) → new ≡ mid → n ≡ m → a ≡ b → u ≡ v
-    → AcceptedRow loading policy limits old mid m b v
-    → AcceptedRow loading policy limits old new n a u
-told_yes loading policy limits old new mid n m a b u v d e f h r = rw (d, e, f, h) r
-
-pub count_on : (loading : Loading) (policy : Policy) (limits : Bounds) (old new : Sight) (n a : ℕ)
-    (x : Reason) (u : Option Asked) → RefusedInRow loading policy limits old new n a x u
-    → (y : Reason) (b : ℕ) (here : Sight) → x ≡ y → b ≡ old.failures → new ≡ here
-    → CountsAt y b here.failures → CountsAt x old.failures new.failures
-count_on loading policy limits old new n a x u r y b here e f g h = rw (e, ← f, g) h
-
-pub count_told : (x y : Reason) (before n m : ℕ) → x ≡ y → n ≡ m → CountsAt y before m
-    → CountsAt x before n
-count_told x y before n m e f h = rw (e, f) h

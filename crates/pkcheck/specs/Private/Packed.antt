@@ -47,6 +47,11 @@ coded first (v ∷ vs) h all (suc n) m is =
 
 -- unpacking forgets nothing
 pub packed_unpacked : (code : ℕ) → packed (unpacked code) ≡ code
-packed_unpacked code = coded 0 plain_values
-    (refl, (refl, (refl, (refl, (refl, (refl, (refl, (refl, (refl, (refl, (refl, (refl, tt))))))))))))
+packed_unpacked code = coded 0 plain_values (
+  refl,
+  (
+    refl,
+    (refl, (refl, (refl, (refl, (refl, (refl, (refl, (refl, (refl, (refl, tt)))))))))),
+  ),
+)
     refl code code (omega arith)

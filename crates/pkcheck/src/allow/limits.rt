@@ -25,29 +25,20 @@ pub fn limits_fault(limits: Option<&Value>) -> Option<AllowError>
     }
 }
 
-/// The first error among the keys; `large` is checked before the others.
+/// The first error among the keys, in the order of their bytes.
 fn table_fault(limits: &Table) -> Option<AllowError>
     ensures { result ≡ table_fault (table_view limits.now) }
 {
-    let fault = large_fault(value_at(limits, "large"));
-    if fault.is_some() {
-        return fault;
-    }
     each_limit_fault(limits, &greatest_where(is_large(value_at(limits, "large"))))
 }
 
-fn large_fault(value: Option<&Value>) -> Option<AllowError>
-    ensures { result ≡ large_fault (option_map (λ v. view v.now) value.entry) }
+fn large_fault(value: &Value) -> Option<AllowError>
+    ensures { result ≡ large_fault (view value.now) }
 {
-    match value {
-        Some(value) => {
-            if is_true(value) {
-                None
-            } else {
-                Some(AllowError::Shape(Where::Limit))
-            }
-        }
-        None => None,
+    if is_true(value) {
+        None
+    } else {
+        Some(AllowError::Shape(Where::Limit))
     }
 }
 
@@ -97,7 +88,7 @@ fn key_fault(most: &Limits, key: &str, value: &Value) -> Option<AllowError>
     ensures { result ≡ key_fault most.now key.now (view value.now) }
 {
     if key == "large" {
-        None
+        large_fault(value)
     } else {
         limit_fault(greatest_at(most, key), value)
     }

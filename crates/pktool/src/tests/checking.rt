@@ -2,7 +2,7 @@
 use crate::tests::{NOTHING, enter_folder, expect};
 use pkcheck::{Loading, Memo, OldStrings, Policy};
 use pkops::Limits;
-use pkprint::{Outcome, Permitted, check_all_to};
+use pkprint::{Outcome, check_all_to};
 use pkread::Input;
 use std::io::{ErrorKind, Read};
 use std::test::Fail;
@@ -184,15 +184,10 @@ fn names_the_pickle_that_could_not_be_read(rt: HostRuntime) -> Result<(), Fail> 
     let ended = check_all_to(
         rt.alloc(),
         &mut source,
-        &Permitted {
-            policy: &Policy::AnyImport,
-            limits: &Limits::STANDARD,
-        },
-        Loading {
-            memo: Memo::Fresh,
-            old_strings: OldStrings::Unknown,
-        },
+        &Policy::AnyImport,
+        &Limits::STANDARD,
         &mut out,
+        OldStrings::Unknown,
     )?;
     assert_eq!(rt; ended, Outcome::Refused);
     assert_eq!(rt; out.as_slice(), b"no in pickle 1 at 2: Source\n".as_slice());

@@ -117,7 +117,7 @@ impl Write for Closed {
 }
 
 #[test]
-fn ends_quietly_at_a_closed_pipe(rt: HostRuntime) -> Result<(), Fail> {
+fn tells_a_closed_pipe(rt: HostRuntime) -> Result<(), Fail> {
     enter_folder(&rt)?;
     fs::write(&rt, "file.pickle", b"N.".as_slice())?;
     for words in [
@@ -131,7 +131,11 @@ fn ends_quietly_at_a_closed_pipe(rt: HostRuntime) -> Result<(), Fail> {
             2,
             "{words:?}"
         );
-        assert_eq!(rt; told.as_slice(), b"".as_slice(), "{words:?}");
+        assert_eq!(rt;
+            told.as_slice(),
+            b"cannot write standard output\n".as_slice(),
+            "{words:?}"
+        );
     }
     Ok(())
 }

@@ -3,7 +3,7 @@ use crate::exporting::json_to;
 use pkcheck::{Loading, Memo, OldStrings, Policy};
 use pkops::Limits;
 use pkopt::optimized_form;
-use pkprint::{Outcome, Permitted, check_all_to, check_to, dis_to, imports_to};
+use pkprint::{Outcome, check_all_loaded_to, check_all_to, check_to, dis_to, imports_to};
 use pkread::Memory;
 use std::alloc::Global;
 use std::io;
@@ -34,17 +34,19 @@ impl Write for Tiring {
 enum Call {
     Check,
     CheckAll,
+    CheckKept,
     Dis,
     Imports,
     Json,
 }
 
 /// A call that writes, a pickle, and how the call ends.
-static ENDS: [(Call, &[u8], Outcome); 10] = [
+static ENDS: [(Call, &[u8], Outcome); 11] = [
     (Call::Check, b"cm\nf\n.", Outcome::Done),
     (Call::Check, b"\xff", Outcome::Refused),
     (Call::CheckAll, b"cm\nf\n.N.", Outcome::Done),
     (Call::CheckAll, b"N.\xff", Outcome::Refused),
+    (Call::CheckKept, b"N\x94.h\0.", Outcome::Done),
     (Call::Dis, b"(\x8c\x01\"K\x01d.", Outcome::Done),
     (Call::Dis, b"(.", Outcome::Refused),
     (Call::Imports, b"cm\nf\n)R\x8c\x01b\x93.", Outcome::Done),
@@ -61,18 +63,16 @@ fn answer(
 ) -> Result<Outcome, io::Error> {
     let source = &mut Memory::new(pickle);
     let limits = &Limits::STANDARD;
-    let permitted = Permitted {
-        policy: &Policy::AnyImport,
-        limits,
-    };
-    let old = OldStrings::Unknown;
+    let policy = &Policy::AnyImport;
+    let old_strings = OldStrings::Unknown;
     let loading = Loading {
         memo: Memo::Kept,
-        old_strings: old,
+        old_strings,
     };
     match call {
-        Call::Check => check_to(alloc, source, &permitted, old, out),
-        Call::CheckAll => check_all_to(alloc, source, &permitted, loading, out),
+        Call::Check => check_to(alloc, source, policy, limits, out, old_strings),
+        Call::CheckAll => check_all_to(alloc, source, policy, limits, out, old_strings),
+        Call::CheckKept => check_all_loaded_to(alloc, source, policy, limits, out, loading),
         Call::Dis => dis_to(alloc, source, limits, out),
         Call::Imports => imports_to(alloc, source, limits, out),
         Call::Json => json_to(alloc, source, limits, out),

@@ -38,8 +38,8 @@ returns c =
     c.all_flag.result (second parser) all_rule old c.all_flag.ensures.rule c.all_flag.ensures.local
     c.with_argument-command-2.ensures in
     let one = argued_if c.with_argument-command-3.result c.with_argument-command-2.result
-    c.in_ok-one.one (third parser) one_rule all c.in_ok-one.ensures.rule
-    c.in_ok-one.ensures.local c.with_argument-command-3.ensures in
+    c.one_flag.result (third parser) one_rule all c.one_flag.ensures.rule
+    c.one_flag.ensures.local c.with_argument-command-3.ensures in
     let file = argued_if c.with_argument.result c.with_argument-command-3.result
     c.file_argument.result (fourth parser) file_rule one c.file_argument.ensures.rule
     c.file_argument.ensures.local c.with_argument.ensures in

@@ -14,8 +14,9 @@ loop-write-init c = record {
 pub loop-write-preserved : goal.loop-write-preserved
 loop-write-preserved c = let there = c.loop-write.invariant.there in record {
   marked = keeps_early c.reach.new.kept.items c.loop-write.kept.items c.loop-write.kept.items
-      c.args.early.now (c.loop-write.write-index + 1) c.loop-write.write-index c.from-in-loop-write.result
-      0 (omega arith) c.loop-write-test.true (sym c.from-in-loop-write.ensures)
+      c.args.early.now (c.loop-write.write-index + 1) c.loop-write.write-index
+      c.from-in-loop-write.result 0 (omega arith) c.loop-write-test.true
+      (sym c.from-in-loop-write.ensures)
       (λ w. refl) (omega (arith, there)) c.loop-write.invariant.marked;
   there = omega (arith, there, length-set c.loop-write.kept.items c.from-in-loop-write.result true);
 }

@@ -3,8 +3,8 @@ use Rattle.std.specs.Io.KnownBytes.{Appends}
 use Rattle.pktool.specs.Optimized.{sizes_line}
 use Rattle.pktool.proofs.optimizing.optimize_to.Goals as goal
 
-pub returns-in_ok-write_sizes-in-Ok : goal.returns-in_ok-write_sizes-in-Ok
-returns-in_ok-write_sizes-in-Ok g c =
+pub returns-in_ok-write_sizes-in-Ok-clause-ends : goal.returns-in_ok-write_sizes-in-Ok-clause-ends
+returns-in_ok-write_sizes-in-Ok-clause-ends g c =
     let form = c.in-Ok.form in
     let before = g.W.Write.contents c.args.out.now in
     let after = g.W.Write.contents c.write_sizes.new.out in

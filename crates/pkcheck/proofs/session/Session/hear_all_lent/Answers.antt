@@ -2,8 +2,8 @@ use Rattle.std.proofs.Common.{append-nil, arith, length, refl, ap, subst, sym, �
 use Rattle.std.proofs.Common.{◌≡◌, ◌≤◌, ℕ, [], ◌∷◌}
 use Rattle.std.proofs.lemmas.List.{length-append, length-drop}
 use Rattle.pkops.specs.Inst.{instruction_of}
-use Rattle.pkcheck.specs.Heard.{heard}
 use Rattle.pkcheck.specs.Import.{policy_of}
+use Rattle.pkcheck.specs.Reports.{report, told_of}
 use Rattle.pkcheck.proofs.Wholes.InTurn.{Along, IsInside, along_more, along_none, all_passed}
 use Rattle.pkcheck.proofs.Wholes.InTurn.{behind_slice, heard_as, heard_now, is_inside, one_more}
 use Rattle.pkcheck.proofs.Wholes.InTurn.{shorter, stop_here, turned_down}
@@ -18,10 +18,12 @@ instructions-init g c =
     record {
       frame = refl;
       hears = [];
-      along = subst (λ m. Along policy c.args.at bytes inside before inside m [])
+      along = subst
+          (λ m. Along g.A.Audience.holding policy c.args.at bytes inside before inside m [])
           (ap (λ v. v.machine) (sym c.self.view_is))
-          (along_none policy c.args.at bytes inside before c.requires.well c.requires.running);
-      heard = λ first hs h. subst (g.L.Listener.hears first c.args.listener.now)
+          (along_none g.A.Audience.holding policy c.args.at bytes inside before c.requires.well
+          c.requires.running);
+      heard = λ first hs h. subst (g.A.Audience.hears first c.args.audience.now)
           (sym (append-nil hs)) h;
     }
 
@@ -77,10 +79,11 @@ returns-in-Err-clause-err g c =
     let h = c.instructions.invariant.along in
     let rest = c.instructions.rest.now in
     let lent = (let l = rw c.limits.ensures at c.in-Some.ensures in l) in (
-      stop_here _ c.args.at bytes inside before whole rest m _ h (instruction_of c.in-Some.inst)
+      stop_here g.A.Audience.holding _ c.args.at bytes inside before whole rest m _ h
+          (instruction_of c.in-Some.inst)
           lent _ refl,
       c.len-length.ensures,
-      (c.instructions.listener, c.instructions.invariant.heard),
+      (c.instructions.audience, c.instructions.invariant.heard),
     )
 
 pub returns-in-Err-step_on-clause-no : goal.returns-in-Err-step_on-clause-no
@@ -100,14 +103,17 @@ returns-in-Err-step_on-clause-no g c =
     let place = c.args.at + (length inside - length rest) in
     let within : length rest ≤ length inside =
     omega (arith, ap length h.left, length-drop h.count inside) in
-    let told = subst (λ n. g.L.Listener.hears c.instructions.listener c.hear.new.self
-    (heard n i c.marks.result ∷ []))
-    (counted_back c.args.at (length inside) (length rest) within) c.in_default-hear.ensures in (
-      turned_down _ c.args.at bytes inside before whole rest m hs h i lent
+    let now = c.in_default-tell_lent.ensures in
+    let told = subst (λ n. g.A.Audience.hears c.instructions.audience c.tell_lent.new.audience
+    (report n (told_of g.A.Audience.holding i) c.marks.result ∷ []))
+    (counted_back c.args.at (length inside) (length rest) within) now in (
+      turned_down g.A.Audience.holding _ c.args.at bytes inside before whole rest m hs h i lent
           _ _ refl c.len-length.ensures (c.in-Err-step_on.ensures.step.fails h.refused),
-      λ first earlier x. subst (g.L.Listener.hears first c.hear.new.self)
-          (one_more (heard_as place c.marks.result i m c.marks.ensures.known) earlier hs)
-          (g.met.L.Listener.hears_more first _ _ (earlier ++ hs) (heard place i c.marks.result)
+      λ first earlier x. subst (g.A.Audience.hears first c.tell_lent.new.audience)
+          (one_more
+          (heard_as g.A.Audience.holding place c.marks.result i m c.marks.ensures.known) earlier hs)
+          (g.met.A.Audience.hears_more first _ _ (earlier ++ hs)
+          (report place (told_of g.A.Audience.holding i) c.marks.result)
           (c.instructions.invariant.heard first earlier x) told),
     )
 
@@ -132,19 +138,23 @@ instructions-preserved g c =
     let place = c.args.at + (length inside - length rest) in
     let within : length rest ≤ length inside =
     omega (arith, ap length h.left, length-drop h.count inside) in
-    let told = subst (λ n. g.L.Listener.hears c.instructions.listener c.hear.new.self
-    (heard n i c.marks.result ∷ []))
-    (counted_back c.args.at (length inside) (length rest) within) c.in_default-hear.ensures in
-    let more = along_more _ c.args.at bytes inside before whole rest m hs h i lent
+    let told = subst (λ n. g.A.Audience.hears c.instructions.audience c.tell_lent.new.audience
+    (report n (told_of g.A.Audience.holding i) c.marks.result ∷ []))
+    (counted_back c.args.at (length inside) (length rest) within) c.in_default-tell_lent.ensures in
+    let more = along_more g.A.Audience.holding _ c.args.at bytes inside before whole rest m hs h i
+    lent
     c.step_on.new.self c.in_default-step_on.field-0 c.in_default-step_on.ensures.step.goes_on in
     record {
       frame = c.instructions.invariant.frame;
       hears = _;
       along = rw (behind_slice c.len-length.result rest, c.len-length.ensures) more;
-      heard = λ first earlier x. subst (g.L.Listener.hears first c.hear.new.self)
-          (one_more (heard_now _ c.args.at bytes inside before whole rest m hs h i lent place
+      heard = λ first earlier x. subst (g.A.Audience.hears first c.tell_lent.new.audience)
+          (one_more
+          (heard_now g.A.Audience.holding _ c.args.at bytes inside before whole rest m hs h i lent
+          place
           c.marks.result refl c.marks.ensures.known) earlier hs)
-          (g.met.L.Listener.hears_more first _ _ (earlier ++ hs) (heard place i c.marks.result)
+          (g.met.A.Audience.hears_more first _ _ (earlier ++ hs)
+          (report place (told_of g.A.Audience.holding i) c.marks.result)
           (c.instructions.invariant.heard first earlier x) told);
     }
 
@@ -156,6 +166,6 @@ returns-clause-ok g c =
     ∙ ap (λ v. v.frame) c.self.view_is) in (
       h.number,
       c.instructions.invariant.hears,
-      rw frame (all_passed _ _ _ _ _ _ _ _ h),
+      rw frame (all_passed g.A.Audience.holding _ _ _ _ _ _ _ _ h),
       c.instructions.invariant.heard,
     )

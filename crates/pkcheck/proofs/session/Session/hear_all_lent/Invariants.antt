@@ -1,17 +1,18 @@
 use Rattle.std.proofs.Common.{◌≡◌, List, length}
-use Rattle.pkcheck.specs.Heard.{Heard}
 use Rattle.pkcheck.specs.Import.{policy_of}
 use Rattle.pkcheck.specs.Private.Lent.{HearsMore}
+use Rattle.pkcheck.specs.Reports.{Report}
 use Rattle.pkcheck.proofs.Wholes.InTurn.{Along}
 use Rattle.pkcheck.proofs.session.Session.hear_all_lent.Given as goal
 
 abbrev pub invariant-instructions : goal.invariant-instructions
 invariant-instructions g l = record {
   frame : l.self-inside.frames ≡ l.initial.self-inside.frames;
-  hears : List Heard;
-  along : Along (policy_of l.fn.policy) l.fn.at l.fn.bytes l.inside l.fn.self l.rest
+  hears : List Report;
+  along : Along g.A.Audience.holding
+      (policy_of l.fn.policy) l.fn.at l.fn.bytes l.inside l.fn.self l.rest
       l.self-inside.machine hears;
-  heard : HearsMore g.L.Listener.hears l.initial.listener l.listener hears;
+  heard : HearsMore g.A.Audience.hears l.initial.audience l.audience hears;
 }
 
 abbrev pub decreases-instructions : goal.decreases-instructions

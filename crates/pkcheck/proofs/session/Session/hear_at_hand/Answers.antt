@@ -8,7 +8,7 @@ use Rattle.pkcheck.proofs.session.Session.hear_at_hand.Goals as goal
 pub returns-in_default-clause-ok : goal.returns-in_default-clause-ok
 returns-in_default-clause-ok g c = (
   inl (refl, refl),
-  λ first hs h. subst (g.L.Listener.hears first c.args.listener.now) (sym (append-nil hs)) h,
+  λ first hs h. subst (g.A.Audience.hears first c.args.audience.now) (sym (append-nil hs)) h,
 )
 
 pub hear_all_lent-requires-clause-room : goal.hear_all_lent-requires-clause-room
@@ -22,7 +22,7 @@ hear_all_lent-requires-clause-room g c =
 pub advance-requires-clause-within : goal.advance-requires-clause-within
 advance-requires-clause-within g c =
     let ok = (let h = rw c.in-Ok-Ok.field-0-is at c.in-Ok-Ok.ensures.ok in h) in
-    let few = pass_within (policy_of c.args.policy.now) _ c.in-Some.bytes.now
+    let few = pass_within g.A.Audience.holding (policy_of c.args.policy.now) _ c.in-Some.bytes.now
     c.args.self.now ok.0 c.hear_all_lent.new.self c.in-Ok-Ok.passed ok.1 ok.2 in
     let hand = c.in-Some.ensures.within in
     omega (arith, few, hand)
@@ -30,7 +30,7 @@ advance-requires-clause-within g c =
 pub advance-requires-clause-room : goal.advance-requires-clause-room
 advance-requires-clause-room g c =
     let ok = (let h = rw c.in-Ok-Ok.field-0-is at c.in-Ok-Ok.ensures.ok in h) in
-    let few = pass_within (policy_of c.args.policy.now) _ c.in-Some.bytes.now
+    let few = pass_within g.A.Audience.holding (policy_of c.args.policy.now) _ c.in-Some.bytes.now
     c.args.self.now ok.0 c.hear_all_lent.new.self c.in-Ok-Ok.passed ok.1 ok.2 in
     let room = c.in-Some.ensures.next.within in
     omega (arith, few, room)
@@ -57,7 +57,7 @@ overflow_add-turned g c =
     let no = (let h = rw c.in-Ok-Err.field-0-is at c.in-Ok-Err.ensures.no in h) in
     let down = no.0 in
     let long = down.long in
-    let few = stops_within _ _ _ _ _ down.here in
+    let few = stops_within g.A.Audience.holding _ _ _ _ _ down.here in
     let room = c.in-Some.ensures.next.within in
     omega (arith, few, room, long)
 
@@ -66,7 +66,7 @@ advance-requires-in-Ok-Err-clause-within g c =
     let no = (let h = rw c.in-Ok-Err.field-0-is at c.in-Ok-Err.ensures.no in h) in
     let down = no.0 in
     let long = down.long in
-    let few = stops_within _ _ _ _ _ down.here in
+    let few = stops_within g.A.Audience.holding _ _ _ _ _ down.here in
     let hand = c.in-Some.ensures.within in
     omega (arith, few, hand, long)
 
@@ -75,7 +75,7 @@ advance-requires-in-Ok-Err-clause-room g c =
     let no = (let h = rw c.in-Ok-Err.field-0-is at c.in-Ok-Err.ensures.no in h) in
     let down = no.0 in
     let long = down.long in
-    let few = stops_within _ _ _ _ _ down.here in
+    let few = stops_within g.A.Audience.holding _ _ _ _ _ down.here in
     let room = c.in-Some.ensures.next.within in
     omega (arith, few, room, long)
 
@@ -101,7 +101,7 @@ pub overflow_add-before : goal.overflow_add-before
 overflow_add-before g c =
     let err = c.in-Err.ensures.err in
     let long = err.1 in
-    let few = stops_within _ _ _ _ _ err.0 in
+    let few = stops_within g.A.Audience.holding _ _ _ _ _ err.0 in
     let room = c.in-Some.ensures.next.within in
     omega (arith, few, room, long)
 
@@ -109,7 +109,7 @@ pub advance-requires-in-Err-clause-within : goal.advance-requires-in-Err-clause-
 advance-requires-in-Err-clause-within g c =
     let err = c.in-Err.ensures.err in
     let long = err.1 in
-    let few = stops_within _ _ _ _ _ err.0 in
+    let few = stops_within g.A.Audience.holding _ _ _ _ _ err.0 in
     let hand = c.in-Some.ensures.within in
     omega (arith, few, hand, long)
 
@@ -117,7 +117,7 @@ pub advance-requires-in-Err-clause-room : goal.advance-requires-in-Err-clause-ro
 advance-requires-in-Err-clause-room g c =
     let err = c.in-Err.ensures.err in
     let long = err.1 in
-    let few = stops_within _ _ _ _ _ err.0 in
+    let few = stops_within g.A.Audience.holding _ _ _ _ _ err.0 in
     let room = c.in-Some.ensures.next.within in
     omega (arith, few, room, long)
 

@@ -27,8 +27,9 @@ invariant_of-result c =
       c.requires.there,
       omega (arith, fits, count),
       made,
-      fronted_length m (slim_bytes plan bytes taken c.args.parts.list.items) front.bytes.items front.head
-          (m.len - front.head) c.in-Some.len slim fits refl (omega (arith, size, len, sum)),
+      fronted_length m (slim_bytes plan bytes taken c.args.parts.list.items) front.bytes.items
+          front.head (m.len - front.head) c.in-Some.len slim fits refl
+          (omega (arith, size, len, sum)),
     )
 
 pub returns-clause-bytes : goal.returns-clause-bytes

@@ -11,16 +11,19 @@ pub returns-in-Tuple1-clause-done : goal.returns-in-Tuple1-clause-done
 returns-in-Tuple1-clause-done c done = rw c.in-Tuple1.is
     (has_replaced 1 (Made class.Tuple) (Makes class.Tuple) c.args.stack.now _
     (λ ts i. record { is = refl; numbered = tt }) (λ ks. refl) (omega arith)
-    (let l = rw c.made.ensures at c.replace_one.ensures.done done in l) (instruction op.None Nothing))
+    (let l = rw c.made.ensures at c.replace_one.ensures.done done in l)
+    (instruction op.None Nothing))
 
 pub returns-in-Tuple2-clause-done : goal.returns-in-Tuple2-clause-done
 returns-in-Tuple2-clause-done c done = rw c.in-Tuple2.is
     (has_replaced 2 (Made class.Tuple) (Makes class.Tuple) c.args.stack.now _
     (λ ts i. record { is = refl; numbered = tt }) (λ ks. refl) (omega arith)
-    (let l = rw c.made-in-Tuple2.ensures at c.replace_two.ensures.done done in l) (instruction op.None Nothing))
+    (let l = rw c.made-in-Tuple2.ensures at c.replace_two.ensures.done done in l)
+    (instruction op.None Nothing))
 
 pub returns-in-Reduce-clause-done : goal.returns-in-Reduce-clause-done
 returns-in-Reduce-clause-done c done = rw c.in-Reduce.is
     (has_replaced 2 Unknown Answers c.args.stack.now _
     (λ ts i. record { is = refl; numbered = tt }) (λ ks. refl) (omega arith)
-    (let l = rw c.unknown.ensures at c.replace_two-in-Reduce.ensures.done done in l) (instruction op.None Nothing))
+    (let l = rw c.unknown.ensures at c.replace_two-in-Reduce.ensures.done done in l)
+    (instruction op.None Nothing))

@@ -4,7 +4,8 @@ use Rattle.pkcheck.proofs.machine.operate.receiver.receiver_fault.Goals as goal
 
 pub returns-in-Some : goal.returns-in-Some
 returns-in-Some c ts = rw c.in-Leaves.is
-    ((let l = rw c.value.ensures at c.is_wrong.ensures ts in l) ∙ wrong_head ts c.in-Leaves.wanted c.args.operands.now c.in-Some.value
+    ((let l = rw c.value.ensures at c.is_wrong.ensures ts in l)
+    ∙ wrong_head ts c.in-Leaves.wanted c.args.operands.now c.in-Some.value
     c.in-Some.ensures)
 
 pub returns-in-None : goal.returns-in-None

@@ -4,7 +4,8 @@ use Rattle.pkcheck.proofs.machine.stack.operands.Operands.pair.Goals as goal
 
 pub returns : goal.returns
 returns c =
-    rw (c.value.ensures, c.value-2.ensures) (both c.args.self.now c.in-Some.first c.in-Some-get.second
+    rw (c.value.ensures, c.value-2.ensures)
+    (both c.args.self.now c.in-Some.first c.in-Some-get.second
     (subst (λ ks. length ks ≡ 2) c.self.view_is
     (sym c.count_objects.ensures ∙ c.if-count_objects-ne2.false)) (sym c.in-Some.ensures)
     (sym c.in-Some-get.ensures))

@@ -1,0 +1,142 @@
+//! Whoever is told of the instructions of a check.
+
+ghost use Rattle.std.specs.Prelude.{◌≡◌, ◌∷◌, ◌++◌, [], Bool, List, OnOk, false, true};
+ghost use Rattle.pkops.specs.Inst.{instruction_of};
+ghost use Rattle.pkcheck.specs.Reports.{Report, Skipped, Whole, report, told_of};
+
+use crate::listening::Listener;
+use pkops::{Inst, Op};
+use std::convert::Infallible;
+
+/// Whoever is told of the instructions of a check.
+pub(crate) trait Audience {
+    /// Why the audience stops the check.
+    type Error;
+
+    // Whether all payloads are held for it.
+    ghost holding: { Bool };
+
+    // What it was told between two of its states, in order.
+    ghost hears: { Self → Self → List Report → Type 0 };
+
+    /// Whether all payloads are held for it. Otherwise those of plain bytes are skipped, and so are
+    /// those that lie at hand.
+    fn holds() -> bool
+        ensures { result ≡ holding };
+
+    /// Tells of an admitted instruction before it is judged, as in `Listener::hear`.
+    fn tell(&mut self, at: u64, inst: &Inst<'_>, marks: usize) -> Result<(), Self::Error>
+        ensures { OnOk result (hears self.old self.new
+            (report at (Whole (instruction_of inst.now)) marks ∷ [])) };
+
+    /// Tells of an admitted instruction with this opcode and length, whose payload is skipped. It
+    /// isn't called where all payloads are held.
+    fn tell_skipped(
+        &mut self,
+        at: u64,
+        op: Op,
+        length: u64,
+        marks: usize,
+    ) -> Result<(), Self::Error>
+        ensures { OnOk result (holding ≡ false → hears self.old self.new
+            (report at (Skipped op length) marks ∷ [])) };
+
+    ghost hears_none: { (x : Self) → hears x x [] };
+
+    ghost hears_more: { (x y z : Self) (rs : List Report) (r : Report)
+        → hears x y rs → hears y z (r ∷ []) → hears x z (rs ++ r ∷ []) };
+}
+
+/// A listener hears each instruction whole.
+impl<L: Listener> Audience for L {
+    ghost use Rattle.pkcheck.specs.Private.WholeReports.{HearsWhole, hears_whole_more};
+
+    type Error = L::Error;
+
+    ghost holding = { true };
+
+    ghost hears = { HearsWhole L.hears };
+
+    #[inline(always)]
+    fn holds() -> bool {
+        true
+    }
+
+    #[inline(always)]
+    fn tell(&mut self, at: u64, inst: &Inst<'_>, marks: usize) -> Result<(), L::Error> {
+        self.hear(at, inst, marks)
+    }
+
+    fn tell_skipped(
+        &mut self,
+        _at: u64,
+        _op: Op,
+        _length: u64,
+        _marks: usize,
+    ) -> Result<(), L::Error> {
+        Ok(())
+    }
+
+    ghost hears_none = { λ x. (tt, L.hears_none x) };
+
+    ghost hears_more = { hears_whole_more L.hears L.hears_more };
+}
+
+/// Is told nothing, and costs nothing.
+#[derive(Drop)]
+pub(crate) struct Silent;
+
+impl Audience for Silent {
+    ghost use Rattle.std.specs.Prelude.{⊤};
+
+    type Error = Infallible;
+
+    ghost holding = { false };
+
+    ghost hears = { λ x y rs. ⊤ };
+
+    #[inline(always)]
+    fn holds() -> bool {
+        false
+    }
+
+    #[inline(always)]
+    fn tell(&mut self, _at: u64, _inst: &Inst<'_>, _marks: usize) -> Result<(), Infallible> {
+        Ok(())
+    }
+
+    #[inline(always)]
+    fn tell_skipped(
+        &mut self,
+        _at: u64,
+        _op: Op,
+        _length: u64,
+        _marks: usize,
+    ) -> Result<(), Infallible> {
+        Ok(())
+    }
+
+    ghost hears_none = { λ x. tt };
+
+    ghost hears_more = { λ x y z rs r a b. tt };
+}
+
+/// Tells of an instruction that lies whole at hand.
+#[inline(always)]
+pub(crate) fn tell_lent<A: Audience>(
+    audience: &mut A,
+    at: u64,
+    inst: &Inst<'_>,
+    marks: usize,
+) -> Result<(), A::Error>
+    ensures { OnOk result (A.hears audience.old audience.new
+        (report at (told_of A.holding (instruction_of inst.now)) marks ∷ [])) }
+{
+    if A::holds() {
+        return audience.tell(at, inst, marks);
+    }
+    if inst.op().passed() {
+        return audience.tell_skipped(at, inst.op(), inst.len(), marks);
+    }
+    audience.tell(at, inst, marks)
+}

@@ -1,0 +1,150 @@
+-- Facts about accounts, bills and tallies.
+use Rattle.std.proofs.Common.{◌≡◌, ℕ, ◌+◌, ◌<◌, ◌≤◌, Bool, true, false, cond, ◌||◌, List, []}
+use Rattle.std.proofs.Common.{◌∷◌, ◌++◌, length, map, Some, refl, ap, ◌∙◌}
+use Rattle.std.proofs.Common.{arith, length-append, le-ltb}
+use Rattle.std.specs.Prelude.{slice_get, unwrap_or}
+use Rattle.std.proofs.lemmas.Option.{slice_get_within, slice_get-get_or, get_or_from_slice_get}
+use Rattle.std.proofs.Math.ListN.{get_or-append}
+use Rattle.std.proofs.Math.Seq.{get_or-append_seam}
+use Rattle.pkops.specs.declared.Op.{Op}
+use Rattle.pkops.specs.declared.Op.TheVariants as op
+use Rattle.pkops.specs.Spelling.{Instruction}
+use Rattle.pkcheck.specs.Covers.{Pointwise}
+use Rattle.pkcheck.specs.Runs.{Event}
+use Rattle.pkload.specs.Heft.{Heft, heft_of}
+use Rattle.pkload.specs.Keys.{keys_of}
+use Rattle.pkload.specs.Laws.{Costs}
+use Rattle.pkload.specs.declared.tally.Tally.{Tally}
+use Rattle.pkload.specs.Tally.{Implies, IsAtMost, builds_import, with_key, with_keys}
+use Rattle.pkload.specs.Tally.{with_operation}
+use Rattle.pkload.specs.Weighed.{Account, account_along, account_with, answered_again, heft_at}
+use Rattle.pkload.specs.Weighed.{hefts_with, no_heft}
+
+pub along_end : (a : Account) (es : List Event) (e : Event)
+    → account_along a (es ++ e ∷ []) ≡ account_with (account_along a es) e
+along_end a [] e = refl
+along_end a (x ∷ es) e = along_end (account_with a x) es e
+
+-- the costs of objects that the bill knows
+pub costs_are : (hefts hs : List Heft) (ns : List ℕ) → Pointwise (Costs hefts) hs ns
+    → map (heft_at hefts) ns ≡ hs
+costs_are hefts [] [] h = refl
+costs_are hefts (x ∷ hs) (n ∷ ns) h =
+    ap (λ o. unwrap_or o no_heft ∷ map (heft_at hefts) ns) h.0
+    ∙ ap (λ l. x ∷ l) (costs_are hefts hs ns h.1)
+costs_are hefts [] (n ∷ ns) h = absurd h
+costs_are hefts (x ∷ hs) [] h = absurd h
+
+pub kept_at : (hefts : List Heft) (r x : Heft) (n : ℕ) → slice_get hefts n ≡ Some x
+    → slice_get (hefts ++ r ∷ []) n ≡ Some x
+kept_at hefts r x n h =
+    let lt = slice_get_within hefts n x h in
+    let lt' : n < length (hefts ++ r ∷ []) = omega (arith, length-append hefts (r ∷ [])) in
+    slice_get-get_or (hefts ++ r ∷ []) n x lt'
+    ∙ ap Some (get_or-append hefts (r ∷ []) x n lt ∙ get_or_from_slice_get hefts n x x h)
+
+pub new_at : (hefts : List Heft) (r : Heft)
+    → slice_get (hefts ++ r ∷ []) (length hefts) ≡ Some r
+new_at hefts r =
+    let lt' : length hefts < length (hefts ++ r ∷ []) =
+    omega (arith, length-append hefts (r ∷ [])) in
+    slice_get-get_or (hefts ++ r ∷ []) (length hefts) r lt'
+    ∙ ap Some (get_or-append_seam hefts r [] r)
+
+-- a result with the next number is a new object
+pub next_is_new : (i : Instruction) (ns : List ℕ) (hefts : List Heft)
+    → hefts_with i ns (Some (length hefts)) hefts
+    ≡ hefts ++ heft_of i (map (heft_at hefts) ns) ∷ []
+next_is_new i ns hefts = ap (λ b. cond b (answered_again i (length hefts) hefts)
+    (hefts ++ heft_of i (map (heft_at hefts) ns) ∷ []))
+    (le-ltb (length hefts) (length hefts) (omega arith))
+
+-- ---- tallies only grow
+
+implies_itself : (b : Bool) → Implies b b
+implies_itself true = refl
+implies_itself false = tt
+
+pub implies_across : (a b c : Bool) → Implies a b → Implies b c → Implies a c
+implies_across true true c h g = g
+implies_across true false c h g = cc
+implies_across false b c h g = tt
+
+implies_or : (a b : Bool) → Implies a (a || b)
+implies_or true b = refl
+implies_or false b = tt
+
+pub at_most_itself : (t : Tally) → IsAtMost t t
+at_most_itself t = record {
+  levels = omega arith;
+  weight = omega arith;
+  work = omega arith;
+  clash = omega arith;
+  builds = implies_itself t.builds;
+}
+
+pub at_most_across : (a b c : Tally) → IsAtMost a b → IsAtMost b c → IsAtMost a c
+at_most_across a b c h g = record {
+  levels = omega (arith, h.levels, g.levels);
+  weight = omega (arith, h.weight, g.weight);
+  work = omega (arith, h.work, g.work);
+  clash = omega (arith, h.clash, g.clash);
+  builds = implies_across a.builds b.builds c.builds h.builds g.builds;
+}
+
+clash_grows : (b : Bool) (n m : ℕ) → n ≤ cond b n (n + m)
+clash_grows true n m = omega arith
+clash_grows false n m = omega arith
+
+key_grows : (t : Tally) (h : Heft) → IsAtMost t (with_key t h)
+key_grows t h = record {
+  levels = omega arith;
+  weight = omega arith;
+  work = omega arith;
+  clash = clash_grows h.salted t.clash h.weight;
+  builds = implies_itself t.builds;
+}
+
+keys_grow : (t : Tally) (hs : List Heft) → IsAtMost t (with_keys t hs)
+keys_grow t [] = at_most_itself t
+keys_grow t (h ∷ hs) = at_most_across t (with_keys t hs) (with_key (with_keys t hs) h)
+    (keys_grow t hs) (key_grows (with_keys t hs) h)
+
+pub operation_grows : (o : Op) (hs : List Heft) (t : Tally) → IsAtMost t (with_operation o hs t)
+operation_grows o hs t =
+    let g = keys_grow t (keys_of o hs) in
+    record {
+      levels = g.levels;
+      weight = g.weight;
+      work = g.work;
+      clash = g.clash;
+      builds = implies_across t.builds (with_keys t (keys_of o hs)).builds
+          (with_operation o hs t).builds g.builds
+          (implies_or (with_keys t (keys_of o hs)).builds (builds_import o hs));
+    }
+
+-- ---- an instruction without operands counts nothing
+
+no_keys : (o : Op) → keys_of {A = Heft} o [] ≡ []
+no_keys op.SetItem = refl
+no_keys op.SetItems = refl
+no_keys op.Dict = refl
+no_keys op.AddItems = refl
+no_keys op.FrozenSet = refl
+no_keys _ = refl
+
+no_receiver : (o : Op) → builds_import o [] ≡ false
+no_receiver op.Build = refl
+no_receiver _ = refl
+
+or_false : (b : Bool) → (b || false) ≡ b
+or_false true = refl
+or_false false = refl
+
+pub nothing_counted : (o : Op) (t : Tally) → with_operation o [] t ≡ t
+nothing_counted o t =
+    ap (λ keys. record (with_keys t keys) {
+      builds = (with_keys t keys).builds || builds_import o [];
+    }) (no_keys o)
+    ∙ ap (λ b. record t { builds = t.builds || b }) (no_receiver o)
+    ∙ ap (λ b. record t { builds = b }) (or_false t.builds)

@@ -1,0 +1,206 @@
+-- Worked rows, by computation: what the bill counts of some pickles.
+use Rattle.std.proofs.Common.{◌≡◌, ℕ, List, [], ◌∷◌, Result, Ok, Err, refl}
+use Rattle.std.proofs.Common.{Bool, ◌++◌, false, replicate, true}
+use Rattle.pkops.specs.declared.Op.{Op}
+use Rattle.pkops.specs.declared.Op.TheVariants as op
+use Rattle.pkops.specs.Spelling.{Counted, Instruction, Line, Nothing, Number, Pair, instruction}
+use Rattle.pkcheck.specs.declared.old_strings.OldStrings.TheVariants.{Unknown}
+use Rattle.pkcheck.specs.Runs.{Foreign, Go, Raise, Stopped, WentOn, Raised, Stuck, start}
+use Rattle.pkcheck.specs.Shape.{Breach}
+use Rattle.pkcheck.specs.WholeRuns.{Ended, EndedBy, Reached, run}
+use Rattle.pkload.specs.Bill.{Bill, all_billed, no_bill}
+use Rattle.pkload.specs.declared.tally.Tally.{Tally}
+use Rattle.pkload.specs.Tally.{no_tally}
+use Rattle.pkload.specs.Weighed.{account_of}
+
+abbrev bare : Op → Instruction
+bare o = instruction o Nothing
+
+abbrev int : ℕ → Instruction
+int n = instruction op.BinInt1 (Number 1 n)
+
+abbrev text : ℕ → Instruction
+text size = instruction op.ShortBinUnicode (Counted (replicate size 97))
+
+abbrev global : Instruction
+global = instruction op.Global (Pair (109 ∷ []) (102 ∷ []))
+
+abbrev tally_in : Result Bill Breach → Tally
+tally_in (Ok bill) = bill.tally
+tally_in (Err breach) = no_tally
+
+-- what the bill counts: levels, weight, work, clash
+abbrev counts : List Instruction → ℕ × ℕ × ℕ × ℕ
+counts is =
+    let t = tally_in (all_billed Unknown is no_bill) in (t.levels, t.weight, t.work, t.clash)
+
+-- BUILD takes an imported object
+abbrev builds : List Instruction → Bool
+builds is = (tally_in (all_billed Unknown is no_bill)).builds
+
+-- SETITEM with this key, and then STOP
+abbrev as_key : List Instruction → List Instruction
+as_key key = bare op.EmptyDict ∷ key ++ bare op.None ∷ bare op.SetItem ∷ bare op.Stop ∷ []
+
+an_empty_tuple : counts (as_key (bare op.EmptyTuple ∷ [])) ≡ (1, 1, 1, 1)
+an_empty_tuple = refl
+
+three_levels : counts (as_key (bare op.EmptyTuple ∷ bare op.Tuple1 ∷ bare op.Tuple1 ∷ []))
+    ≡ (3, 3, 3, 3)
+three_levels = refl
+
+-- a deep result is no key
+a_deep_result : counts (bare op.EmptyTuple ∷ bare op.Tuple1 ∷ bare op.Tuple1 ∷ bare op.Stop ∷ [])
+    ≡ (0, 0, 0, 0)
+a_deep_result = refl
+
+-- a frozenset has depth 0; its items are keys too
+through_a_frozenset : counts
+    (as_key
+    (bare op.Mark ∷ bare op.EmptyTuple ∷ bare op.Tuple1 ∷ bare op.FrozenSet ∷ bare op.Tuple1 ∷ []))
+    ≡ (2, 4, 6, 6)
+through_a_frozenset = refl
+
+-- DUP doubles the weight: 1 + 2 (1 + 2)
+doubled : counts
+    (as_key (bare op.EmptyTuple ∷ bare op.Dup ∷ bare op.Tuple2 ∷ bare op.Dup ∷ bare op.Tuple2 ∷ []))
+    ≡ (3, 7, 7, 7)
+doubled = refl
+
+-- and so does the memo
+doubled_by_memo : counts
+    (as_key
+    (bare op.EmptyTuple ∷ bare op.Memoize ∷ instruction op.BinGet (Number 1 0) ∷ bare op.Tuple2
+    ∷ []))
+    ≡ (2, 3, 3, 3)
+doubled_by_memo = refl
+
+-- ADDITEMS hashes each item, however often it comes
+one_item_thrice : counts
+    (bare op.EmptySet ∷ bare op.Mark ∷ int 1 ∷ bare op.Dup ∷ bare op.Dup ∷ bare op.AddItems
+    ∷ bare op.Stop ∷ [])
+    ≡ (0, 1, 3, 3)
+one_item_thrice = refl
+
+-- an int of 8 bytes weighs 2, one of 7 bytes 1
+an_int_of_eight_bytes : counts (as_key (instruction op.Long1 (Counted (replicate 8 1)) ∷ []))
+    ≡ (0, 2, 2, 2)
+an_int_of_eight_bytes = refl
+
+an_int_of_seven_bytes : counts (as_key (instruction op.Long1 (Counted (replicate 7 1)) ∷ []))
+    ≡ (0, 1, 1, 1)
+an_int_of_seven_bytes = refl
+
+an_int_of_a_line : counts (as_key (instruction op.Int (Line (replicate 16 49)) ∷ []))
+    ≡ (0, 3, 3, 3)
+an_int_of_a_line = refl
+
+-- a text of 63 bytes weighs 1, one of 64 bytes 2; its hash is salted
+a_short_text : counts (as_key (text 63 ∷ [])) ≡ (0, 1, 1, 0)
+a_short_text = refl
+
+a_longer_text : counts (as_key (text 64 ∷ [])) ≡ (0, 2, 2, 0)
+a_longer_text = refl
+
+an_old_string : counts
+    (as_key (instruction op.ShortBinString (Counted (replicate 65 97)) ∷ [])) ≡ (0, 2, 2, 0)
+an_old_string = refl
+
+a_bytearray : counts (as_key (instruction op.ByteArray8 (Counted (replicate 64 97)) ∷ []))
+    ≡ (0, 1, 1, 1)
+a_bytearray = refl
+
+-- FROZENSET hashes its items
+two_items : counts (bare op.Mark ∷ int 1 ∷ int 2 ∷ bare op.FrozenSet ∷ bare op.Stop ∷ [])
+    ≡ (0, 1, 2, 2)
+two_items = refl
+
+-- DICT and SETITEMS hash keys, not values
+two_keys : counts
+    (bare op.Mark ∷ int 1 ∷ bare op.EmptyTuple ∷ int 2 ∷ bare op.EmptyTuple ∷ bare op.Dict
+    ∷ bare op.Stop ∷ [])
+    ≡ (0, 1, 2, 2)
+two_keys = refl
+
+a_deep_key_and_a_deep_value : counts
+    (bare op.EmptyDict ∷ bare op.Mark ∷ bare op.EmptyTuple ∷ bare op.Tuple1 ∷ int 1 ∷ int 2
+    ∷ bare op.EmptyTuple ∷ bare op.Tuple1 ∷ bare op.SetItems ∷ bare op.Stop ∷ [])
+    ≡ (2, 2, 3, 3)
+a_deep_key_and_a_deep_value = refl
+
+a_deep_value : counts
+    (bare op.EmptyDict ∷ int 2 ∷ bare op.EmptyTuple ∷ bare op.SetItem ∷ bare op.Stop ∷ [])
+    ≡ (0, 1, 1, 1)
+a_deep_value = refl
+
+-- an answer weighs 1, whatever it was called with, and its hash isn't known
+an_answer : counts
+    (as_key (global ∷ bare op.EmptyTuple ∷ bare op.Tuple1 ∷ bare op.Reduce ∷ [])) ≡ (0, 1, 1, 0)
+an_answer = refl
+
+-- ---- BUILD
+
+build_of_an_import : builds (global ∷ bare op.EmptyDict ∷ bare op.Build ∷ bare op.Stop ∷ []) ≡ true
+build_of_an_import = refl
+
+through_the_memo : builds
+    (global ∷ bare op.Memoize ∷ bare op.Pop ∷ instruction op.BinGet (Number 1 0) ∷ bare op.EmptyDict
+    ∷ bare op.Build ∷ bare op.Stop ∷ [])
+    ≡ true
+through_the_memo = refl
+
+through_dup : builds
+    (global ∷ bare op.Dup ∷ bare op.EmptyDict ∷ bare op.Build ∷ bare op.Pop ∷ bare op.Stop ∷ [])
+    ≡ true
+through_dup = refl
+
+build_of_a_result : builds
+    (global ∷ bare op.EmptyTuple ∷ bare op.Reduce ∷ bare op.EmptyDict ∷ bare op.Build ∷ bare op.Stop
+    ∷ [])
+    ≡ false
+build_of_a_result = refl
+
+build_of_a_stack_global : builds
+    (text 1 ∷ text 1 ∷ bare op.StackGlobal ∷ bare op.EmptyDict ∷ bare op.Build ∷ bare op.Stop ∷ [])
+    ≡ true
+build_of_a_stack_global = refl
+
+-- an imported object as the state of BUILD, not its receiver
+an_import_as_state : builds (bare op.EmptyDict ∷ global ∷ bare op.Build ∷ bare op.Stop ∷ []) ≡ false
+an_import_as_state = refl
+
+-- ---- a run counts the same
+
+abbrev tally_of : Ended → Tally
+tally_of (Reached s) = (account_of s.events).tally
+tally_of (EndedBy (WentOn s)) = (account_of s.events).tally
+tally_of (EndedBy (Raised s)) = (account_of s.events).tally
+tally_of (EndedBy (Stopped r s)) = (account_of s.events).tally
+tally_of (EndedBy (Stuck b)) = no_tally
+
+abbrev doubled_key : List Instruction
+doubled_key =
+    as_key (bare op.EmptyTuple ∷ bare op.Dup ∷ bare op.Tuple2 ∷ bare op.Dup ∷ bare op.Tuple2 ∷ [])
+
+the_run_of_doubled : tally_of (run doubled_key (Go 0 Foreign ∷ []) start)
+    ≡ tally_in (all_billed Unknown doubled_key no_bill)
+the_run_of_doubled = refl
+
+-- a key that can't be hashed raises, and was counted
+a_raising_key : tally_of (run doubled_key (Raise ∷ []) start)
+    ≡ tally_in (all_billed Unknown doubled_key no_bill)
+a_raising_key = refl
+
+-- with an answer that is a tuple of the pickle, a key weighs more than the bill says
+abbrev returned : List Instruction
+returned =
+    as_key
+    (bare op.EmptyTuple ∷ bare op.Tuple1 ∷ bare op.Memoize ∷ bare op.Pop ∷ global
+    ∷ bare op.EmptyTuple ∷ bare op.Reduce ∷ [])
+
+the_bill_of_returned : counts returned ≡ (0, 1, 1, 0)
+the_bill_of_returned = refl
+
+the_run_of_returned : (tally_of
+    (run returned (Go 9 Foreign ∷ Go 2 Foreign ∷ Go 0 Foreign ∷ []) start)).weight ≡ 2
+the_run_of_returned = refl

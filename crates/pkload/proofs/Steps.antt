@@ -1,0 +1,270 @@
+-- Each step of a run whose answers are new costs what the step of the bill says.
+use Rattle.std.proofs.Common.{◌≡◌, ℕ, ◌≤◌, Bool, true, false, cond, List, [], ◌∷◌, ◌++◌, length}
+use Rattle.std.proofs.Common.{map, Option, Some, None, Result, Ok, Err, sym, ap, subst, ◌∙◌}
+use Rattle.std.proofs.Common.{arith, length-append, le-ltb}
+use Rattle.std.specs.Prelude.{⊤}
+use Rattle.pkops.specs.Operands.{memo_number}
+use Rattle.pkops.specs.Spelling.{Instruction}
+use Rattle.pkcheck.specs.declared.effect.Names.{Names}
+use Rattle.pkcheck.specs.declared.effect.Gives.{Gives}
+use Rattle.pkcheck.specs.declared.effect.Gives.TheVariants.{Makes, MakesIntOrBool, MakesText}
+use Rattle.pkcheck.specs.declared.effect.Gives.TheVariants.{MayMake, Answers, Leaves}
+use Rattle.pkcheck.specs.declared.old_strings.OldStrings.{OldStrings}
+use Rattle.pkcheck.specs.Covers.{Alike, AlikeCell, AlikeEntry, Pointwise}
+use Rattle.pkcheck.specs.Effects.{Effect, Operates, Moves, Stops, Raises, effect_as}
+use Rattle.pkcheck.specs.Runs.{Did, Foreign, Go, Import, Named, NoImport, NotTexts, Object}
+use Rattle.pkcheck.specs.Runs.{ObjectClass, Outcome, Pair, Raise, Raised, State, Stepped, Stopped}
+use Rattle.pkcheck.specs.Runs.{Stuck, WentOn, answered, asks, class_at, come_of, effect_asks}
+use Rattle.pkcheck.specs.Runs.{gone_on, move_step, named, operate_step, operated, perform, step_as}
+use Rattle.pkcheck.specs.Runs.{stop_step, with_answer, with_event}
+use Rattle.pkcheck.specs.Shape.{Breach, Entry, Item, Shape, Taken, front, moved, operands, put, top}
+use Rattle.pkload.proofs.Accounts.{along_end, costs_are, kept_at, new_at, next_is_new}
+use Rattle.pkload.proofs.Accounts.{nothing_counted}
+use Rattle.pkload.proofs.Alike.{Alike-map, AlikeTaken, AlikeTop, Pointwise-append, SameResult}
+use Rattle.pkload.proofs.Alike.{front_alike, moved_alike, operands_alike, top_alike}
+use Rattle.pkload.specs.Bill.{Bill, billed, billed_by, heft_given, move_billed, operation_billed}
+use Rattle.pkload.specs.Bill.{stop_billed}
+use Rattle.pkload.specs.Heft.{Heft, heft_of}
+use Rattle.pkload.specs.Laws.{Costs}
+use Rattle.pkload.specs.Tally.{with_operation}
+use Rattle.pkload.specs.Weighed.{If, IsNew, account_of, heft_at, hefts_with, no_account}
+
+-- the bill is that of the run, and the account has each object of the run
+pub record Billed (b : Bill) (s : State) : Type 0 where
+  pub shape : Alike (Costs (account_of s.events).hefts) b.shape s.shape
+  pub tally : (account_of s.events).tally ≡ b.tally
+  pub count : length (account_of s.events).hefts ≡ length s.objects
+
+abbrev pub StepBilled : Bill → Stepped → Type 0
+StepBilled b (WentOn t) = Billed b t
+StepBilled b (Raised t) = (account_of t.events).tally ≡ b.tally
+StepBilled b (Stopped r t) = (account_of t.events).tally ≡ b.tally
+StepBilled b (Stuck r) = ⊥
+
+abbrev pub IfBilled : Result Bill Breach → Stepped → Type 0
+IfBilled (Ok b) st = StepBilled b st
+IfBilled (Err r) st = ⊤
+
+-- the bill after an operation on these operands
+abbrev after : Gives → Instruction → Taken Heft → Bill → Bill
+after gives i t b = record {
+  shape = record {
+    entries = put (heft_given gives i t.operands) t.operands ++ t.below;
+    memo = b.shape.memo;
+  };
+  tally = with_operation i.op t.operands b.tally;
+}
+
+-- pushes one more object, of this cost
+pushed : (hefts : List Heft) (h : Heft) (objects : List Object) (es : List (Entry Heft))
+    (fs : List (Entry ℕ)) (ms : List (ℕ × Heft)) (ns : List (ℕ × ℕ))
+    → length hefts ≡ length objects → Pointwise (AlikeEntry (Costs hefts)) es fs
+    → Pointwise (AlikeCell (Costs hefts)) ms ns
+    → Alike (Costs (hefts ++ h ∷ [])) (record { entries = Item h ∷ es; memo = ms })
+    (record { entries = Item (length objects) ∷ fs; memo = ns })
+pushed hefts h objects es fs ms ns e p q =
+    let old = Alike-map (Costs hefts) (Costs (hefts ++ h ∷ [])) (λ x n g. kept_at hefts h x n g)
+    (record { entries = es; memo = ms }) (record { entries = fs; memo = ns })
+    (record { entries = p; memo = q }) in
+    record {
+      entries = (
+        subst (λ n. Costs (hefts ++ h ∷ []) h n) e (new_at hefts h),
+        old.entries,
+      );
+      memo = old.memo;
+    }
+
+answered_new : (n : ℕ) (c : ObjectClass) (objects : List Object) → length objects ≤ n
+    → answered n c objects ≡ (Some (length objects), with_answer c objects)
+answered_new n c objects h = ap (λ b. cond b (Some n, objects)
+    (Some (length objects), with_answer c objects)) (le-ltb n (length objects) h)
+
+-- an answer is new, if there is one
+abbrev NewIfAnswer : Gives → State → ℕ → Type 0
+NewIfAnswer Answers s n = length s.objects ≤ n
+NewIfAnswer gives s n = ⊤
+
+module _ (i : Instruction) (t : Taken Heft) (u : Taken ℕ) (b : Bill) (s : State) (h : Billed b s)
+    (a : AlikeTaken (Costs (account_of s.events).hefts) t u) where
+  abbrev hefts : List Heft
+  hefts = (account_of s.events).hefts
+
+  account_then : (d : Option ℕ) → account_of (s.events ++ Did i u.operands d ∷ []) ≡ record {
+    hefts = hefts_with i u.operands d hefts;
+    tally = with_operation i.op (map (heft_at hefts) u.operands) (account_of s.events).tally;
+  }
+  account_then d = along_end no_account s.events (Did i u.operands d)
+
+  tally_then : (d : Option ℕ)
+      → (account_of (s.events ++ Did i u.operands d ∷ [])).tally
+      ≡ with_operation i.op t.operands b.tally
+  tally_then d = ap (λ x. x.tally) (account_then d)
+      ∙ ap (λ hs. with_operation i.op hs (account_of s.events).tally)
+      (costs_are hefts t.operands u.operands a.operands)
+      ∙ ap (λ x. with_operation i.op t.operands x) h.tally
+
+  hefts_then : (account_of (s.events ++ Did i u.operands (Some (length s.objects)) ∷ [])).hefts
+      ≡ hefts ++ heft_of i t.operands ∷ []
+  hefts_then = ap (λ x. x.hefts) (account_then (Some (length s.objects)))
+      ∙ subst (λ n. hefts_with i u.operands (Some n) hefts
+      ≡ hefts ++ heft_of i (map (heft_at hefts) u.operands) ∷ []) h.count
+      (next_is_new i u.operands hefts)
+      ∙ ap (λ hs. hefts ++ heft_of i hs ∷ []) (costs_are hefts t.operands u.operands a.operands)
+
+  -- an operation that gives a new object
+  new_result : (o : Object)
+      → Billed (record {
+        shape = record {
+          entries = Item (heft_of i t.operands) ∷ t.below;
+          memo = b.shape.memo;
+        };
+        tally = with_operation i.op t.operands b.tally;
+      }) (record {
+        shape = record { entries = Item (length s.objects) ∷ u.below; memo = s.shape.memo };
+        objects = s.objects ++ o ∷ [];
+        events = s.events ++ Did i u.operands (Some (length s.objects)) ∷ [];
+      })
+  new_result o = record {
+    shape = subst (λ hs. Alike (Costs hs) (record {
+      entries = Item (heft_of i t.operands) ∷ t.below;
+      memo = b.shape.memo;
+    }) (record { entries = Item (length s.objects) ∷ u.below; memo = s.shape.memo }))
+        (sym hefts_then)
+        (pushed hefts (heft_of i t.operands) s.objects t.below u.below b.shape.memo s.shape.memo
+        h.count a.below h.shape.memo);
+    tally = tally_then (Some (length s.objects));
+    count = ap length hefts_then ∙ omega (
+      arith,
+      h.count,
+      length-append hefts (heft_of i t.operands ∷ []),
+      length-append s.objects (o ∷ []),
+    );
+  }
+
+  -- an operation that leaves its receiver
+  leaves : Billed (record {
+    shape = record { entries = front t.operands ++ t.below; memo = b.shape.memo };
+    tally = with_operation i.op t.operands b.tally;
+  }) (record {
+    shape = record { entries = front u.operands ++ u.below; memo = s.shape.memo };
+    objects = s.objects;
+    events = s.events ++ Did i u.operands None ∷ [];
+  })
+  leaves = record {
+    shape = subst (λ hs. Alike (Costs hs)
+        (record { entries = front t.operands ++ t.below; memo = b.shape.memo })
+        (record { entries = front u.operands ++ u.below; memo = s.shape.memo }))
+        (sym (ap (λ x. x.hefts) (account_then None)))
+        (record {
+          entries = Pointwise-append (AlikeEntry (Costs hefts)) (front t.operands)
+              (front u.operands) t.below u.below
+              (front_alike (Costs hefts) t.operands u.operands a.operands) a.below;
+          memo = h.shape.memo;
+        });
+    tally = tally_then None;
+    count = ap (λ x. length x.hefts) (account_then None) ∙ h.count;
+  }
+
+  went_on : (gives : Gives) (n : ℕ) (c : ObjectClass) → NewIfAnswer gives s n
+      → StepBilled (after gives i t b) (gone_on gives i u n c s)
+  went_on (Makes k) n c w = new_result _
+  went_on MakesIntOrBool n c w = new_result _
+  went_on MakesText n c w = new_result _
+  went_on (MayMake k) n c w = new_result _
+  went_on (Leaves k) n c w = leaves
+  went_on Answers n c w = subst (λ x. StepBilled (after Answers i t b) (WentOn (record {
+    shape = record { entries = put x.0 u.operands ++ u.below; memo = s.shape.memo };
+    objects = x.1;
+    events = s.events ++ Did i u.operands x.0 ∷ [];
+  }))) (sym (answered_new n c s.objects w)) (new_result _)
+
+  comes : (gives : Gives) (o : Outcome) → If (asks gives) (IsNew s o)
+      → StepBilled (after gives i t b) (come_of (asks gives) gives i u o s)
+  comes (Makes k) o w = went_on (Makes k) 0 Foreign tt
+  comes MakesIntOrBool o w = went_on MakesIntOrBool 0 Foreign tt
+  comes MakesText o w = went_on MakesText 0 Foreign tt
+  comes (MayMake k) Raise w = tally_then None
+  comes (MayMake k) (Go n c) w = went_on (MayMake k) n c tt
+  comes (Leaves k) Raise w = tally_then None
+  comes (Leaves k) (Go n c) w = went_on (Leaves k) n c tt
+  comes Answers Raise w = tally_then None
+  comes Answers (Go n c) w = went_on Answers n c w
+
+-- an import counts nothing
+account_imports : (s : State) (m n : List ℕ)
+    → account_of s.events ≡ account_of (s.events ++ Import m n ∷ [])
+account_imports s m n = sym (along_end no_account s.events (Import m n))
+
+imports : (b : Bill) (s : State) (m n : List ℕ) → Billed b s
+    → Billed b (with_event (Import m n) s)
+imports b s m n h = record {
+  shape = subst (λ x. Alike (Costs x.hefts) b.shape s.shape) (account_imports s m n) h.shape;
+  tally = subst (λ x. x.tally ≡ b.tally) (account_imports s m n) h.tally;
+  count = subst (λ x. length x.hefts ≡ length s.objects) (account_imports s m n) h.count;
+}
+
+operates : (nm : Named) (gives : Gives) (i : Instruction) (t : Taken Heft) (u : Taken ℕ) (b : Bill)
+    (s : State) (o : Outcome) → Billed b s
+    → AlikeTaken (Costs (account_of s.events).hefts) t u → If (asks gives) (IsNew s o)
+    → StepBilled (after gives i t b) (operated nm gives i u o s)
+operates NoImport gives i t u b s o h a w = comes i t u b s h a gives o w
+operates (Pair m n) gives i t u b s o h a w =
+    comes i t u b (with_event (Import m n) s) (imports b s m n h)
+    (subst (λ x. AlikeTaken (Costs x.hefts) t u) (account_imports s m n) a) gives o
+    (same_new (asks gives) o w)
+  where
+    same_new : (q : Bool) (o : Outcome) → If q (IsNew s o)
+        → If q (IsNew (with_event (Import m n) s) o)
+    same_new true Raise w = w
+    same_new true (Go k c) w = w
+    same_new false o w = w
+operates NotTexts gives i t u b s o h a w = tally_then i t u b s h a None
+
+operate_billed : (names : Names) (gives : Gives) (i : Instruction) (b : Bill) (s : State)
+    (o : Outcome) (x : Result (Taken Heft) Breach) (y : Result (Taken ℕ) Breach) → Billed b s
+    → SameResult (AlikeTaken (Costs (account_of s.events).hefts)) x y
+    → If (asks gives) (IsNew s o)
+    → IfBilled (operation_billed gives i b x) (operate_step names gives i o s y)
+operate_billed names gives i b s o (Ok t) (Ok u) h a w =
+    operates (named names i (map (class_at s.objects) u.operands)) gives i t u b s o h a w
+operate_billed names gives i b s o (Err r) y h a w = tt
+operate_billed names gives i b s o (Ok t) (Err r) h a w = absurd a
+
+shape_billed : (b : Bill) (s : State) (x : Result (Shape Heft) Breach)
+    (y : Result (Shape ℕ) Breach) → Billed b s
+    → SameResult (Alike (Costs (account_of s.events).hefts)) x y
+    → IfBilled (move_billed b x) (move_step s y)
+shape_billed b s (Ok p) (Ok q) h a = record { shape = a; tally = h.tally; count = h.count }
+shape_billed b s (Err r) y h a = tt
+shape_billed b s (Ok p) (Err r) h a = absurd a
+
+result_billed : (b : Bill) (s : State) (x : Result (Heft × List (Entry Heft)) Breach)
+    (y : Result (ℕ × List (Entry ℕ)) Breach) → Billed b s
+    → SameResult (AlikeTop (Costs (account_of s.events).hefts)) x y
+    → IfBilled (stop_billed b x) (stop_step s y)
+result_billed b s (Ok p) (Ok q) h a = h.tally
+result_billed b s (Err r) y h a = tt
+result_billed b s (Ok p) (Err r) h a = absurd a
+
+performed_billed : (e : Effect) (i : Instruction) (b : Bill) (s : State) (o : Outcome)
+    → Billed b s → If (effect_asks e) (IsNew s o) → IfBilled (billed_by e i b) (perform e i s o)
+performed_billed (Operates takes names gives) i b s o h w =
+    operate_billed names gives i b s o (operands takes b.shape.entries)
+    (operands takes s.shape.entries) h
+    (operands_alike (Costs (account_of s.events).hefts) takes b.shape.entries s.shape.entries
+    h.shape.entries) w
+performed_billed (Moves m) i b s o h w =
+    shape_billed b s (moved m (memo_number i) b.shape) (moved m (memo_number i) s.shape) h
+    (moved_alike (Costs (account_of s.events).hefts) m (memo_number i) b.shape s.shape h.shape)
+performed_billed Stops i b s o h w =
+    result_billed b s (top b.shape.entries) (top s.shape.entries) h
+    (top_alike (Costs (account_of s.events).hefts) b.shape.entries s.shape.entries h.shape.entries)
+performed_billed Raises i b s o h w =
+    ap (λ x. x.tally) (along_end no_account s.events (Did i [] None))
+    ∙ nothing_counted i.op (account_of s.events).tally ∙ h.tally
+
+-- a step from a state with this bill leads to one with the next bill
+pub step_billed : (setting : OldStrings) (i : Instruction) (b : Bill) (s : State) (o : Outcome)
+    → Billed b s → If (effect_asks (effect_as setting i)) (IsNew s o)
+    → IfBilled (billed setting i b) (step_as setting i s o)
+step_billed setting i b s o h w = performed_billed (effect_as setting i) i b s o h w

@@ -1,0 +1,69 @@
+-- The bill: what is known about the cost of every object in all runs at once, and how an
+-- instruction changes it. It uses the machine's own definition of what an instruction takes and
+-- moves.
+use Rattle.std.specs.Prelude.{List, [], ◌∷◌, ◌++◌, Option, Some, None, Result, Ok}
+use Rattle.pkops.specs.Spelling.{Instruction}
+use Rattle.pkops.specs.Operands.{memo_number}
+use Rattle.pkcheck.specs.declared.effect.Gives.{Gives}
+use Rattle.pkcheck.specs.declared.effect.Gives.TheVariants.{Leaves}
+use Rattle.pkcheck.specs.declared.old_strings.OldStrings.{OldStrings}
+use Rattle.pkcheck.specs.Effects.{Effect, Operates, Moves, Stops, Raises, effect_as}
+use Rattle.pkcheck.specs.Shape.{Breach, Entry, Shape, Taken, and_then, operands, put, moved, top}
+use Rattle.pkload.specs.Heft.{Heft, heft_of}
+use Rattle.pkload.specs.declared.tally.Tally.{Tally}
+use Rattle.pkload.specs.Tally.{no_tally, with_operation}
+
+-- the cost of each object on the stack and in the memo, and what was counted
+pub record Bill : Type 0 where
+  pub shape : Shape Heft
+  pub tally : Tally
+
+-- the cost of the object that an operation gives; None if it leaves its receiver
+abbrev pub heft_given : Gives → Instruction → List Heft → Option Heft
+heft_given (Leaves wanted) instruction operands = None
+heft_given gives instruction operands = Some (heft_of instruction operands)
+
+-- the bill after an operation
+abbrev pub operation_billed : Gives → Instruction → Bill → Result (Taken Heft) Breach
+    → Result Bill Breach
+operation_billed gives instruction bill found =
+    and_then found (λ taken. Ok (record {
+      shape = record {
+        entries = put (heft_given gives instruction taken.operands) taken.operands ++ taken.below;
+        memo = bill.shape.memo;
+      };
+      tally = with_operation instruction.op taken.operands bill.tally;
+    }))
+
+-- the bill after a move
+abbrev pub move_billed : Bill → Result (Shape Heft) Breach → Result Bill Breach
+move_billed bill found = and_then found (λ shape. Ok (record bill { shape = shape }))
+
+-- the bill after STOP, which takes the result
+abbrev pub stop_billed : Bill → Result (Heft × List (Entry Heft)) Breach → Result Bill Breach
+stop_billed bill found =
+    and_then found (λ taken.
+    Ok (record bill { shape = record bill.shape { entries = taken.1 } }))
+
+-- the bill after an instruction with this effect
+abbrev pub billed_by : Effect → Instruction → Bill → Result Bill Breach
+billed_by (Operates takes names gives) instruction bill =
+    operation_billed gives instruction bill (operands takes bill.shape.entries)
+billed_by (Moves move) instruction bill =
+    move_billed bill (moved move (memo_number instruction) bill.shape)
+billed_by Stops instruction bill = stop_billed bill (top bill.shape.entries)
+billed_by Raises instruction bill = Ok bill
+
+-- the bill after one more instruction, given the decoding of old strings
+abbrev pub billed : OldStrings → Instruction → Bill → Result Bill Breach
+billed setting instruction bill = billed_by (effect_as setting instruction) instruction bill
+
+-- the bill after these instructions
+abbrev pub all_billed : OldStrings → List Instruction → Bill → Result Bill Breach
+all_billed setting [] bill = Ok bill
+all_billed setting (instruction ∷ instructions) bill =
+    and_then (billed setting instruction bill) (all_billed setting instructions)
+
+-- the bill at the start
+abbrev pub no_bill : Bill
+no_bill = record { shape = record { entries = []; memo = [] }; tally = no_tally }

@@ -1,0 +1,14 @@
+-- what an object costs, and what an instruction hashes
+pub mod Heft
+pub mod Keys
+pub mod Tally
+-- the bill, and the account of a run
+pub mod Bill
+pub mod Weighed
+-- limits, and what an answer says about them
+pub mod Tolls
+pub mod Loading
+-- what the bill says about runs
+pub mod Laws
+-- what need not be trusted
+pub mod Private

@@ -1,0 +1,6 @@
+-- Internal definitions, which need not be trusted.
+pub mod Packed
+pub mod Shown
+pub mod Gathered
+pub mod Billing
+pub mod Meter

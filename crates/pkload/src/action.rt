@@ -1,0 +1,57 @@
+//! What the bill does at each opcode.
+
+ghost use Rattle.std.specs.Prelude.{◌≡◌};
+ghost use Rattle.pkcheck.specs.Effects.{effect_of};
+ghost use Rattle.pkload.specs.Private.Billing.{action_in};
+
+use pkcheck::effect::{Move, SliceRule, Takes};
+use pkops::Op;
+
+/// What the bill does at an opcode.
+#[derive(Clone, Copy)]
+pub enum Action {
+    /// Takes objects and pushes a new one.
+    Gives(Takes),
+    /// Takes objects and leaves the first.
+    Leaves(Takes),
+    /// Looks at no object.
+    Moves(Move),
+    /// Takes the result.
+    Stops,
+}
+
+/// The action of an opcode.
+#[inline]
+pub fn action_of(op: Op) -> Action
+    ensures { result ≡ action_in (effect_of op) }
+{
+    match op {
+        Op::Tuple1 | Op::BinPersid | Op::ReadonlyBuffer => Action::Gives(Takes::Objects(1)),
+        Op::Tuple2 | Op::Reduce | Op::NewObj | Op::StackGlobal => {
+            Action::Gives(Takes::Objects(2))
+        }
+        Op::Tuple3 | Op::NewObjEx => Action::Gives(Takes::Objects(3)),
+        Op::Tuple | Op::List | Op::FrozenSet | Op::Inst => {
+            Action::Gives(Takes::Slice(SliceRule::AnySlice))
+        }
+        Op::Dict => Action::Gives(Takes::Slice(SliceRule::EvenSlice)),
+        Op::Obj => Action::Gives(Takes::Slice(SliceRule::FullSlice)),
+        Op::Append | Op::Build => Action::Leaves(Takes::Objects(2)),
+        Op::SetItem => Action::Leaves(Takes::Objects(3)),
+        Op::Appends | Op::AddItems => {
+            Action::Leaves(Takes::SliceAndReceiver(SliceRule::AnySlice))
+        }
+        Op::SetItems => Action::Leaves(Takes::SliceAndReceiver(SliceRule::EvenSlice)),
+        Op::Pop => Action::Moves(Move::Pops),
+        Op::Dup => Action::Moves(Move::Duplicates),
+        Op::Mark => Action::Moves(Move::PushesMark),
+        Op::PopMark => Action::Moves(Move::PopsMark),
+        Op::Get | Op::BinGet | Op::LongBinGet => Action::Moves(Move::Fetches),
+        Op::Put | Op::BinPut | Op::LongBinPut => Action::Moves(Move::Stores),
+        Op::Memoize => Action::Moves(Move::StoresNext),
+        Op::Ext1 | Op::Ext2 | Op::Ext4 => Action::Moves(Move::Extends),
+        Op::Proto | Op::Frame => Action::Moves(Move::Passes),
+        Op::Stop => Action::Stops,
+        _ => Action::Gives(Takes::Objects(0)),
+    }
+}

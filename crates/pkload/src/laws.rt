@@ -1,0 +1,9 @@
+//! Laws of the definitions. Each is the contract of a function that does nothing.
+
+ghost use Rattle.pkload.specs.Laws.{BillBoundsRuns};
+
+/// In every run whose answers are new objects, the keys cost what the bill says, and at most that
+/// if the run raises.
+pub fn bill_bounds_runs()
+    ensures { BillBoundsRuns }
+{}

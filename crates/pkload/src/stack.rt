@@ -1,0 +1,96 @@
+//! The stack: marks, and what objects cost.
+
+ghost use Rattle.std.specs.Prelude.{◌≡◌, [], ◌∷◌, IfSome, MatchOption, OnOk};
+ghost use Rattle.pkcheck.specs.Shape.{Item, Mark};
+ghost use Rattle.pkload.specs.Private.Shown.{entry_of};
+
+use crate::halt::Halt;
+use crate::packed::Packed;
+use std::alloc::Global;
+use std::marker::Model;
+
+/// The stack, with four bytes for each entry. The last one is on top.
+pub struct Stack {
+    codes: Vec<u32>,
+}
+
+/// The code of a mark: that of an imported object whose hash isn't salted, which doesn't exist.
+pub const MARK: u32 = 2;
+
+impl Drop for Stack {
+    fn drop(self) {
+        let Stack { codes: _codes } = self;
+    }
+}
+
+impl Model for Stack {
+    ghost use Rattle.std.specs.Prelude.{List, []};
+    ghost use Rattle.pkcheck.specs.Shape.{Entry};
+    ghost use Rattle.pkload.specs.Heft.{Heft};
+    ghost use Rattle.pkload.specs.Private.Shown.{shown};
+
+    ghost Value = { List (Entry Heft) };
+
+    ghost view = { λ s. shown s.codes.items [] };
+}
+
+impl Stack {
+    /// An empty stack. Allocates nothing.
+    pub fn new(alloc: Global) -> Stack
+        ensures { result ≡ [] }
+    {
+        Stack {
+            codes: Vec::new(alloc),
+        }
+    }
+
+    /// Pushes a code.
+    #[tactic(auto, using(crate::proofs::Slots::shown_append))]
+    fn push_code(&mut self, code: u32) -> Result<(), Halt>
+        ensures { OnOk result (self.new ≡ entry_of code ∷ self.old) }
+    {
+        match self.codes.push(code) {
+            Ok(()) => Ok(()),
+            Err(_) => Err(Halt::OutOfMemory),
+        }
+    }
+
+    /// Pushes a mark.
+    pub fn push_mark(&mut self) -> Result<(), Halt>
+        ensures { OnOk result (self.new ≡ Mark ∷ self.old) }
+    {
+        self.push_code(MARK)
+    }
+
+    /// Pushes an object.
+    pub fn push(&mut self, heft: Packed) -> Result<(), Halt>
+        ensures { OnOk result (self.new ≡ Item heft ∷ self.old) }
+    {
+        let code = heft.code();
+        if code == MARK {
+            return Err(Halt::Lost);
+        }
+        self.push_code(code)
+    }
+
+    /// Removes the topmost entry, and returns its code.
+    #[tactic(auto, using(crate::proofs::Slots::shown_append))]
+    pub fn pop(&mut self) -> Option<u32>
+        ensures { MatchOption result (self.old ≡ []) (λ code. self.old ≡ entry_of code ∷ self.new) }
+    {
+        self.codes.pop()
+    }
+
+    /// Removes the topmost entry, which must be an object.
+    pub fn pop_object(&mut self) -> Option<Packed>
+        ensures { IfSome result (λ heft. self.old ≡ Item heft ∷ self.new) }
+    {
+        let Some(code) = self.pop() else {
+            return None;
+        };
+        if code == MARK {
+            return None;
+        }
+        Some(Packed::from_code(code))
+    }
+}

@@ -1,0 +1,73 @@
+//! Limits on what loading a pickle may cost.
+
+ghost use Rattle.std.specs.Prelude.{◌≡◌, MatchOption};
+ghost use Rattle.pkload.specs.Tolls.{Exceeds, IsWithin, standard};
+
+use crate::tally::Tally;
+
+/// Limits on what the keys of a pickle may cost. Depths are counted up to 1,023 and weights up to
+/// 1,048,575, so a limit of at least that many is none.
+#[derive(Clone, Copy, Debug, PartialEq, Eq)]
+pub struct Tolls {
+    /// The depth of a key: levels of tuples.
+    pub levels: u32,
+    /// The weight of a key.
+    pub weight: u32,
+    /// The weights of all keys together.
+    pub work: u64,
+    /// The weights of all keys whose hash isn't salted.
+    pub clash: u64,
+    /// Whether BUILD may take an object that an import answered.
+    pub builds: bool,
+}
+
+/// Why loading would cost too much, in the order in which the reasons are tried.
+#[derive(Clone, Copy, Debug, PartialEq, Eq)]
+pub enum Excess {
+    /// A key is deeper than `levels`.
+    DeepKey,
+    /// A key is heavier than `weight`, or all of them together than `work`.
+    HeavyKeys,
+    /// The keys whose hash isn't salted are heavier than `clash`.
+    ManyKeys,
+    /// BUILD takes an object that an import answered.
+    BuildsImport,
+    /// An allocation for the bill was refused, or a sum of weights doesn't fit 64 bits.
+    OutOfMemory,
+}
+
+impl Tolls {
+    /// The default limits: 1,000 levels, a weight of 1,000,000 for a key and of 100,000,000 for all
+    /// keys, no limit on collisions, and no BUILD of an imported object.
+    pub fn standard() -> Tolls
+        ensures { result ≡ standard }
+    {
+        Tolls {
+            levels: 1_000,
+            weight: 1_000_000,
+            work: 100_000_000,
+            clash: u64::MAX,
+            builds: false,
+        }
+    }
+
+    /// The first limit that a tally exceeds.
+    pub(crate) fn excess_of(&self, tally: &Tally) -> Option<Excess>
+        ensures { MatchOption result (IsWithin self.now tally.now)
+            (λ excess. Exceeds excess self.now tally.now) }
+    {
+        if tally.levels > self.levels {
+            return Some(Excess::DeepKey);
+        }
+        if tally.weight > self.weight || tally.work > self.work {
+            return Some(Excess::HeavyKeys);
+        }
+        if tally.clash > self.clash {
+            return Some(Excess::ManyKeys);
+        }
+        if tally.builds && !self.builds {
+            return Some(Excess::BuildsImport);
+        }
+        None
+    }
+}

@@ -1,0 +1,149 @@
+#!/usr/bin/env python3
+"""Draws the pictures of docs/ARCHITECTURE.md: crates.svg from crates.txt, and pickle.svg.
+
+tests/documents.py compares them with what this draws.
+"""
+
+from pathlib import Path
+from typing import Dict, Iterator, List, NamedTuple, Sequence, Set, Tuple
+from xml.sax import saxutils
+
+DOCS = Path(__file__).resolve().parent
+STYLE = """text { font: 13px sans-serif; fill: #333 }
+.title { font-weight: bold }
+.small { font-size: 11px; fill: #666 }
+rect { fill: #f4f6f8; stroke: #9aa5b1 }
+.proved { fill: #e3f1ea; stroke: #2a7f62 }
+path { stroke: #667; fill: none; marker-end: url(#tip) }"""
+TIP = """<marker id="tip" viewBox="0 0 8 8" refX="8" refY="4" markerWidth="7" markerHeight="7"
+ orient="auto"><polygon points="0,0 8,4 0,8" fill="#667"/></marker>"""
+WIDE, HIGH, ACROSS, DOWN = 132, 58, 150, 96
+ANSWERS = ["yes: the bytes taken, the imports in order", "no: the offset, the reason, the pair"]
+
+
+class Box(NamedTuple):
+    left: int
+    top: int
+    title: str
+    lines: Sequence[str] = ()
+    is_proved: bool = True
+    width: int = WIDE
+
+    @property
+    def height(self) -> int:
+        return max(HIGH - 16, 28 + 15 * len(self.lines))
+
+    @property
+    def middle(self) -> int:
+        return self.left + self.width // 2
+
+    def drawn(self) -> Iterator[str]:
+        kind = ' class="proved"' if self.is_proved else ""
+        size = f'width="{self.width}" height="{self.height}"'
+        yield f'<rect{kind} x="{self.left}" y="{self.top}" {size} rx="5"/>'
+        yield text(self.left + 9, self.top + 19, self.title, "title")
+        for number, line in enumerate(self.lines, 1):
+            yield text(self.left + 9, self.top + 20 + 15 * number, line, "small")
+
+
+def text(left: int, top: int, words: str, kind: str = "small") -> str:
+    return f'<text class="{kind}" x="{left}" y="{top}">{saxutils.escape(words)}</text>'
+
+
+def arrow(*places: Tuple[int, int]) -> str:
+    return f'<path d="M{" L".join(f"{left},{top}" for left, top in places)}"/>'
+
+
+def picture(title: str, width: int, height: int, parts: Sequence[str]) -> str:
+    lines = [
+        f'<svg xmlns="http://www.w3.org/2000/svg" role="img" width="{width}" height="{height}">',
+        f"<title>{title}</title>",
+        f"<style>{STYLE}</style>",
+        f"<defs>{TIP}</defs>",
+        f'<rect width="{width}" height="{height}" style="fill: white; stroke: none"/>',
+    ]
+    return "\n".join([*lines, *parts, "</svg>", ""])
+
+
+def uses() -> Dict[str, List[str]]:
+    """What each crate uses, by crates.txt."""
+    lines = (DOCS.parent / "crates.txt").read_text(encoding="utf-8").splitlines()
+    rows = (line.partition(":") for line in lines if not line.startswith("#"))
+    return {name.split()[0]: used.split() for name, _, used in rows}
+
+
+def reached(crates: Dict[str, List[str]], name: str) -> Set[str]:
+    """The crates below a crate, not itself."""
+    own = [it for it in crates[name] if it in crates]
+    return {below for it in own for below in (it, *reached(crates, it))}
+
+
+def crates_picture() -> str:
+    """The crates, each above those that it uses; an arrow leads to the ones nearest to it."""
+    crates = uses()
+    levels: Dict[str, int] = {}
+    for name in sorted(crates, key=lambda it: len(reached(crates, it))):
+        levels[name] = 1 + max((levels[it] for it in reached(crates, name)), default=-1)
+    most = max(levels.values())
+    rows = [[it for it in crates if levels[it] == level] for level in range(most + 1)]
+    width = 20 + ACROSS * max(len(row) for row in rows)
+    boxes: Dict[str, Box] = {}
+    for level, row in enumerate(rows):
+        margin = (width - ACROSS * len(row) + ACROSS - WIDE) // 2
+        top = 14 + DOWN * (len(rows) - 1 - level)
+        for place, name in enumerate(row):
+            ported = [it for it in crates[name] if it not in crates and it != "staticlib"]
+            lines = [" ".join(ported[:2]), " ".join(ported[2:])][: (len(ported) + 1) // 2]
+            boxes[name] = Box(margin + ACROSS * place, top, name, lines)
+    parts: List[str] = []
+    for name, box in boxes.items():
+        below = reached(crates, name)
+        for other in sorted(below - {far for it in below for far in reached(crates, it)}):
+            parts.append(
+                arrow((box.middle, box.top + box.height), (boxes[other].middle, boxes[other].top))
+            )
+        parts += box.drawn()
+    title = "The crates, each above those that it uses; in small letters the ported ones"
+    return picture(title, width, DOWN * len(rows), parts)
+
+
+def pickle_picture() -> str:
+    """The way of the bytes of a pickle to an answer."""
+    boxes = [
+        Box(14, 30, "Source", ["a file, a pipe, a slice", "at_hand, pull, pass"], width=150),
+        Box(204, 30, "Reader", ["layout, contents, limits", "lend, next_head"], width=150),
+        Box(394, 30, "Frames", ["counts the bytes of", "the open frame"], width=150),
+        Box(584, 30, "Machine", ["what is known of stack", "and memo in every run"], width=150),
+        Box(204, 128, "The answer", ANSWERS, width=340),
+        Box(584, 128, "Policy", ["the listed pairs, or any"], width=150),
+        Box(14, 226, "pktool", ["check, dis, imports,", "optimize, json"], width=150),
+        Box(204, 226, "libstorklocker", ["a status for C,", "a verdict for Python"], width=150),
+        Box(394, 226, "Guard", ["pickle.loads, of the", "very bytes checked"], False, 150),
+        Box(584, 226, "scan, adapters", ["files and services", "that hold pickles"], False, 150),
+    ]
+    arrows = [
+        arrow((164, 60), (204, 60)),
+        arrow((354, 60), (394, 60)),
+        arrow((544, 60), (584, 60)),
+        arrow((659, 128), (659, 88)),
+        arrow((279, 88), (279, 128)),
+        arrow((469, 88), (469, 128)),
+        arrow((610, 88), (610, 106), (520, 106), (520, 128)),
+        arrow((204, 158), (89, 158), (89, 226)),
+        arrow((279, 186), (279, 226)),
+        arrow((354, 256), (394, 256)),
+        arrow((584, 256), (544, 256)),
+    ]
+    labels = [text(14, 20, "Green: proved. Each instruction is judged before the next is read.")]
+    drawn = [line for box in boxes for line in box.drawn()]
+    return picture("A pickle on its way through the checker", 750, 298, labels + arrows + drawn)
+
+
+def pictures() -> Dict[Path, str]:
+    """The files, and what is in them."""
+    return {DOCS / "crates.svg": crates_picture(), DOCS / "pickle.svg": pickle_picture()}
+
+
+if __name__ == "__main__":
+    for file, drawing in pictures().items():
+        file.write_text(drawing, encoding="utf-8")

@@ -1,0 +1,141 @@
+// What a file holds, as far as a page can unpack it: the bytes of each piece, or what can't be
+// read.
+
+import { inflated } from "./inflating.js";
+import { readZip } from "./zip.js";
+
+const DEEPEST = 4;
+const MEMBERS = 20_000;
+const UNPACKED = 2 ** 30;
+const BLOCK = 512;
+
+const PACKED = [
+  [[0x1f, 0x8b], "gzip", "gzip"],
+  [[0x42, 0x5a, 0x68], "", "bzip2"],
+  [[0xfd, 0x37, 0x7a, 0x58, 0x5a], "", "xz"],
+  [[0x28, 0xb5, 0x2f, 0xfd], "", "Zstandard"],
+  [[0x04, 0x22, 0x4d, 0x18], "", "LZ4"],
+  [[0x37, 0x7a, 0xbc, 0xaf], "", "7z"],
+  [[0x52, 0x61, 0x72, 0x21], "", "RAR"],
+  [[0x5a, 0x46], "", "joblib's compression"],
+  [[0x89, 0x48, 0x44, 0x46], "", "HDF5"],
+];
+const NUMPY = [0x93, 0x4e, 0x55, 0x4d, 0x50, 0x59];
+
+export class Budget {
+  constructor() {
+    this.bytes = UNPACKED;
+    this.members = MEMBERS;
+  }
+
+  // Takes bytes, and returns whether that many were left.
+  spend(bytes) {
+    this.bytes -= bytes;
+    return this.bytes >= 0;
+  }
+}
+
+function begins(bytes, with_) {
+  return with_.every((byte, at) => bytes[at] === byte);
+}
+
+// The pieces of a file: `{ path, blob }`, or `{ path, problem }` where something can't be read.
+export async function* piecesOf(path, blob, budget, depth = 0) {
+  const front = new Uint8Array(await blob.slice(0, 2 * BLOCK).arrayBuffer());
+  const packed = PACKED.find(([magic]) => begins(front, magic));
+  const zip = await readZip(blob, budget);
+  const isZlib = front[0] === 0x78 && (front[0] * 256 + front[1]) % 31 === 0;
+  if (depth === DEEPEST && (zip || packed || isZlib || isTar(front))) {
+    yield { path, problem: "It lies deeper than this page looks." };
+    return;
+  }
+  if (zip) yield* insideZip(path, zip, budget, depth);
+  if (zip && begins(front, [0x50, 0x4b])) return;
+  if (packed && !packed[1]) {
+    yield { path, problem: `This page can't unpack ${packed[2]}. \`storklocker scan\` may.` };
+  } else if (packed || isZlib) {
+    yield* unpack(path, blob, packed?.[1] ?? "deflate", budget, depth);
+  } else if (isTar(front)) {
+    yield* insideTar(path, blob, budget, depth);
+  } else if (begins(front, NUMPY)) {
+    yield* insideArray(path, blob, front);
+  } else {
+    yield { path, blob, isWhole: depth === 0 };
+  }
+}
+
+async function* insideZip(path, zip, budget, depth) {
+  for (const problem of zip.problems) yield { path, problem };
+  for (const member of zip.members) {
+    const inner = `${path} › ${member.name}`;
+    if (!member.isFolder) yield* opened(inner, await member.open(), budget, depth);
+  }
+}
+
+async function* opened(path, { blob, problem }, budget, depth) {
+  if (problem) yield { path, problem };
+  if (blob) yield* piecesOf(path, blob, budget, depth + 1);
+}
+
+async function* unpack(path, blob, format, budget, depth) {
+  yield* opened(`${path} › unpacked`, await inflated(blob, format, budget), budget, depth);
+}
+
+// Whether a block is a header of tar: its checksum counts itself as blanks.
+function isTar(block) {
+  if (block.length < BLOCK || block[0] === 0) return false;
+  let sum = 8 * 0x20;
+  for (let at = 0; at < BLOCK; at += 1) if (at < 148 || at >= 156) sum += block[at];
+  return sum === octal(block, 148, 8);
+}
+
+function octal(block, at, size) {
+  const digits = String.fromCharCode(...block.subarray(at, at + size)).replace(/[\0 ]+$/, "");
+  return /^ *[0-7]+$/.test(digits) ? parseInt(digits, 8) : NaN;
+}
+
+function name(block, at, size) {
+  const end = block.indexOf(0, at);
+  const most = at + size;
+  return new TextDecoder().decode(block.subarray(at, end < 0 || end > most ? most : end));
+}
+
+async function* insideTar(path, blob, budget, depth) {
+  let at = 0;
+  while (at + BLOCK <= blob.size) {
+    const block = new Uint8Array(await blob.slice(at, at + BLOCK).arrayBuffer());
+    if (!isTar(block)) break;
+    const size = octal(block, 124, 12);
+    budget.members -= 1;
+    if (!(at + BLOCK + size <= blob.size) || budget.members < 0) {
+      yield { path, problem: "This tar file is damaged, or has too many members." };
+      return;
+    }
+    const inner = `${path} › ${name(block, 0, 100)}`;
+    const body = blob.slice(at + BLOCK, at + BLOCK + size);
+    if (size > 0) yield* piecesOf(inner, body, budget, depth + 1);
+    at += BLOCK + Math.ceil(size / BLOCK) * BLOCK;
+  }
+  const rest = blob.slice(at);
+  if (!(await isZero(rest))) yield { path, problem: "Bytes follow the end of this tar file." };
+}
+
+async function isZero(blob) {
+  if (blob.size > UNPACKED) return false;
+  return new Uint8Array(await blob.arrayBuffer()).every((byte) => byte === 0);
+}
+
+// An array of NumPy is a pickle behind its header if its type has objects.
+async function* insideArray(path, blob, front) {
+  const isShort = front[6] === 1;
+  const length = isShort
+    ? front[8] + 256 * front[9]
+    : new DataView(front.buffer).getUint32(8, true);
+  const start = (isShort ? 10 : 12) + length;
+  const header = await blob.slice(0, Math.min(start, 1 << 16)).text();
+  if (header.includes("O")) {
+    yield { path: `${path} › objects`, blob: blob.slice(start), isWhole: true };
+  } else {
+    yield { path, problem: "An array of numbers: this page doesn't read what may follow it." };
+  }
+}

@@ -1,0 +1,262 @@
+// The page: it hands files and the list to the worker, and shows what that found.
+
+import { Known } from "./dangers.js";
+import { showImports } from "./imports.js";
+import { Listing } from "./listing.js";
+import { EMPTY, keepInAddress, listInAddress, withPairs } from "./list.js";
+import { counted, dotted, sentence, shown, verdictLine } from "./words.js";
+
+const MOST_PARTS = 500;
+const PAUSE = 250; // milliseconds after the last key, before the list is read
+
+const get = (id) => document.getElementById(id);
+const listing = new Listing(get("listing"));
+let packed = null;
+let code = null;
+let known = null;
+let worker = null;
+let pairs = [];
+let isReadable = true;
+let parts = [];
+let chosen = -1;
+let wantedListing = -1;
+let fileName = "";
+let isReading = false;
+let isPermitted = false;
+
+async function unpack(id) {
+  const bytes = Uint8Array.from(atob(get(id).textContent.trim()), (it) => it.charCodeAt(0));
+  const stream = new Blob([bytes]).stream().pipeThrough(new DecompressionStream("gzip"));
+  return new Uint8Array(await new Response(stream).arrayBuffer());
+}
+
+// Starts another worker, which ends what the last one does.
+function begin() {
+  worker?.terminate();
+  const place = URL.createObjectURL(new Blob([packed.worker], { type: "text/javascript" }));
+  worker = new Worker(place);
+  worker.onmessage = ({ data }) => handlers[data.kind](data);
+  worker.onerror = (event) => handlers.failed({ why: event.message || "it can't start" });
+  worker.postMessage({ kind: "begin", code, source: get("list").value });
+}
+
+const handlers = {
+  ready: () => {
+    if (!isReading) get("state").textContent = "No file has been read yet.";
+  },
+  failed: ({ why }) => {
+    get("state").textContent = `The checker has failed: ${why}. Nothing is known of these files.`;
+  },
+  reading: ({ name }) => {
+    get("state").textContent = `Reading ${shown(name)}…`;
+  },
+  list: ({ fault, pairs: found }) => {
+    pairs = fault ? [] : found ?? [];
+    isReadable = !fault;
+    get("fault").textContent = fault ? `The list can't be read: ${fault}.` : tellDangers();
+    get("listed").textContent = fault ? "" : `(${counted(pairs.length, "name")})`;
+  },
+  part: ({ part }) => {
+    parts.push(part);
+    if (parts.length <= MOST_PARTS) get("parts").append(partButton(part));
+    get("state").textContent = `${counted(parts.length, "part")} read so far…`;
+  },
+  verdict: ({ id, verdict }) => {
+    parts[id].verdict = verdict;
+    get("parts").children[id]?.replaceWith(partButton(parts[id]));
+  },
+  done: () => {
+    if (parts.length > 0) showAnswer();
+    else get("state").textContent = "These files are empty: there is nothing to read.";
+  },
+  listing: ({ id, bytes, problem }) => {
+    if (id === chosen) showListing(bytes, problem);
+  },
+};
+
+// A list that came with a link may permit what it shouldn't.
+function tellDangers() {
+  const found = pairs.filter(({ module, name }) => known.of(module, name).severity === "danger");
+  if (found.length === 0) return "";
+  const names = found.slice(0, 3).map(({ module, name }) => dotted(module, name)).join(", ");
+  const rest = found.length > 3 ? ", …" : ".";
+  return `It permits ${counted(found.length, "danger")}: ${names}${rest}`;
+}
+
+function kindOf(part) {
+  if (part.problem) return "unread";
+  if (part.isOther) return "other";
+  return part.verdict.status === 0 ? "yes" : "no";
+}
+
+function partButton(part) {
+  const button = document.createElement("button");
+  const told = document.createElement("span");
+  button.type = "button";
+  button.className = kindOf(part);
+  button.textContent = `${shortPath(part)}${part.number > 1 ? `, pickle ${part.number}` : ""}`;
+  told.textContent = tellShortly(part);
+  button.append(told);
+  button.setAttribute("aria-current", part.id === chosen);
+  button.onclick = () => choose(part.id);
+  return button;
+}
+
+// Where a part lies; the name of the file is said once if there is just one.
+function shortPath({ path }) {
+  const inner = path.slice(fileName.length + 3);
+  return shown(fileName !== "" && path.startsWith(`${fileName} › `) ? inner : path);
+}
+
+function tellShortly(part) {
+  if (part.problem) return "not read";
+  if (part.isOther) return "no pickle that imports";
+  return verdictLine(part.verdict);
+}
+
+function of(kind) {
+  return parts.filter((part) => kindOf(part) === kind);
+}
+
+function showAnswer() {
+  get("answer").hidden = false;
+  get("columns").classList.toggle("single", parts.length === 1);
+  const [no, yes, unread, other] = ["no", "yes", "unread", "other"].map(of);
+  get("summary").textContent = summary(no, yes, unread);
+  const cautions = [];
+  if (unread.length) cautions.push(`${counted(unread.length, "part")} can't be read here.`);
+  if (other.length) {
+    cautions.push(`In ${counted(other.length, "part")} the checker finds no pickle that imports.`);
+  }
+  if (parts.length > MOST_PARTS) {
+    cautions.push(`The first ${MOST_PARTS} of ${parts.length} are shown.`);
+  }
+  get("caution").textContent = cautions.join(" ");
+  const isKept = chosen >= 0 && chosen < parts.length;
+  choose(isKept ? chosen : (no[0] ?? unread[0] ?? yes[0] ?? other[0]).id);
+  get("state").textContent = "";
+  if (isReading || isPermitted) get("summary").focus(); // what had the focus is gone
+  isReading = isPermitted = false;
+}
+
+function summary(no, yes, unread) {
+  if (no.length) return `Refused: ${counted(no.length, "pickle")} of ${no.length + yes.length}`;
+  if (unread.length) return "Not known: not everything could be read";
+  if (yes.length > 1) return `The list permits all ${yes.length} pickles`;
+  if (yes.length === 1) return "The list permits it";
+  return "No pickle was found here";
+}
+
+function choose(id) {
+  chosen = id;
+  const part = parts[id];
+  for (const [at, button] of [...get("parts").children].entries()) {
+    button.setAttribute("aria-current", at === id);
+  }
+  const behind = part.offset > 0 ? `, pickle ${part.number}, from byte ${part.offset}` : "";
+  get("path").textContent = `${shown(part.path)}${behind}`;
+  get("verdict").className = kindOf(part);
+  get("line").textContent = part.problem ? "not read" : verdictLine(part.verdict);
+  get("words").textContent = part.problem ? shown(part.problem) : told(part);
+  get("names").hidden = get("instructions").hidden = Boolean(part.problem);
+  if (part.problem) return;
+  showNames();
+  if (wantedListing !== id) askForListing(id);
+  else listing.mark(placeOf(part));
+}
+
+function told(part) {
+  const words = sentence(part.verdict);
+  return part.isOther ? `${words} Nothing is imported before that.` : words;
+}
+
+function placeOf(part) {
+  return part.verdict.status === 1 ? part.verdict.at : null;
+}
+
+function askForListing(id) {
+  wantedListing = id;
+  get("listed-lines").textContent = "The instructions are being listed…";
+  listing.show(new Uint8Array(), null);
+  worker.postMessage({ kind: "listing", id });
+}
+
+function showListing(bytes, problem) {
+  listing.show(bytes ?? new Uint8Array(), placeOf(parts[chosen]));
+  const none = problem ? `They can't be listed: ${problem}.` : "They are too long for this page.";
+  get("listed-lines").textContent = bytes ? `${counted(listing.count, "line")}.` : none;
+}
+
+function showNames() {
+  showImports({ part: parts[chosen], known, pairs, filter: get("filter").value, permit });
+}
+
+function permit(more) {
+  const source = isReadable ? get("list").value : EMPTY;
+  get("list").value = withPairs(source, pairs, more);
+  isPermitted = true;
+  changeList();
+}
+
+let timer = 0;
+function changeList() {
+  clearTimeout(timer);
+  const source = get("list").value;
+  keepInAddress(source);
+  worker.postMessage({ kind: "list", source });
+}
+
+function readFiles(files) {
+  if (files.length === 0 || !worker) return;
+  parts = [];
+  fileName = files.length === 1 ? files[0].name : "";
+  chosen = wantedListing = -1;
+  get("parts").replaceChildren();
+  get("answer").hidden = true;
+  get("state").textContent = "Reading…";
+  isReading = true;
+  begin();
+  worker.postMessage({ kind: "files", files: [...files] });
+}
+
+function listen() {
+  const drop = get("drop");
+  get("files").onchange = (event) => readFiles(event.target.files);
+  get("filter").oninput = showNames;
+  get("list").oninput = () => {
+    clearTimeout(timer);
+    timer = setTimeout(changeList, PAUSE);
+  };
+  get("shipped").onchange = (event) => {
+    if (event.target.value) get("list").value = packed.lists[event.target.value];
+    changeList();
+  };
+  document.ondragover = (event) => {
+    event.preventDefault();
+    drop.classList.add("over");
+  };
+  document.ondragleave = () => drop.classList.remove("over");
+  document.ondrop = (event) => {
+    event.preventDefault();
+    drop.classList.remove("over");
+    readFiles(event.dataTransfer.files);
+  };
+  window.onhashchange = () => {
+    const source = listInAddress();
+    if (source === null || source === get("list").value) return;
+    get("list").value = source;
+    changeList();
+  };
+}
+
+async function start() {
+  get("list").value = listInAddress() ?? EMPTY;
+  packed = JSON.parse(new TextDecoder().decode(await unpack("packed")));
+  code = await unpack("module");
+  known = new Known(packed.known);
+  for (const name of Object.keys(packed.lists)) get("shipped").append(new Option(name, name));
+  begin();
+  listen();
+}
+
+start().catch((error) => handlers.failed({ why: `${error}` }));

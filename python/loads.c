@@ -1,0 +1,151 @@
+#include "loads.h"
+
+#include <stddef.h>
+
+#ifndef METH_FASTCALL /* part of the stable ABI from 3.10 on, and the same before */
+#define METH_FASTCALL 0x0080
+#endif
+
+typedef PyObject *fast_function(
+    PyObject *self, PyObject *const *given, Py_ssize_t count, PyObject *names);
+
+typedef struct {
+    PyObject_HEAD
+    PyObject *list;   /* Pairs: a yes under them is enough to load a pickle as it is; or null */
+    PyObject *reader; /* `pickle.loads` */
+    PyObject *names;  /* ("fix_imports",) */
+    fast_function *function; /* what the reader calls, if it is such a function of C */
+    PyObject *receiver;      /* its first argument, borrowed from the reader */
+} Loads;
+
+/* Whether instances say that they refer to their type. Before 3.9 their subclass says it. */
+static int is_type_visited(void) {
+    static int known = -1;
+    if (known < 0) {
+        const char *version = Py_GetVersion();
+        known = version[0] != '3' || version[1] != '.' || version[2] != '8';
+    }
+    return known;
+}
+
+static int loads_traverse(PyObject *self, visitproc visit, void *arg) {
+    const Loads *own = (const Loads *)self;
+    if (is_type_visited())
+        Py_VISIT(Py_TYPE(self));
+    Py_VISIT(own->list);
+    return 0; /* the reader refers to no guard */
+}
+
+static int loads_clear(PyObject *self) {
+    Py_CLEAR(((Loads *)self)->list);
+    return 0;
+}
+
+static void loads_dealloc(PyObject *self) {
+    Loads *own = (Loads *)self;
+    PyTypeObject *type = Py_TYPE(self);
+    PyObject_GC_UnTrack(self);
+    Py_CLEAR(own->list);
+    Py_CLEAR(own->reader);
+    Py_CLEAR(own->names);
+    ((freefunc)PyType_GetSlot(type, Py_tp_free))(self);
+    Py_DECREF(type);
+}
+
+static void find_function(Loads *own) {
+#ifdef PYPY_VERSION /* whose `pickle` is written in Python */
+    (void)own;
+#else
+    PyObject *reader = own->reader;
+    if (PyCFunction_Check(reader)
+        && PyCFunction_GetFlags(reader) == (METH_FASTCALL | METH_KEYWORDS)) {
+        own->function = (fast_function *)(void (*)(void))PyCFunction_GetFunction(reader);
+        own->receiver = PyCFunction_GetSelf(reader);
+    }
+#endif
+}
+
+int set_loads(PyObject *guard, PyObject *list, PyObject *reader) {
+    Loads *own = (Loads *)guard;
+    PyObject *names = Py_BuildValue("(s)", "fix_imports"), *before = own->list;
+    if (names == NULL)
+        return -1;
+    if (own->reader == NULL) { /* one that is loading in another thread goes on with it */
+        Py_INCREF(reader);
+        own->reader = reader;
+        own->names = names;
+        find_function(own);
+    } else
+        Py_DECREF(names);
+    Py_XINCREF(list == Py_None ? NULL : list);
+    own->list = list == Py_None ? NULL : list;
+    Py_XDECREF(before);
+    return 0;
+}
+
+/* A call with these arguments; the values of the names follow the others. */
+static PyObject *called(
+    PyObject *function, PyObject *const *given, Py_ssize_t count, PyObject *names) {
+    PyObject *made = NULL, *words = PyTuple_New(count), *named = names ? PyDict_New() : NULL;
+    int is_wrong = function == NULL || words == NULL || (names != NULL && named == NULL);
+    for (Py_ssize_t k = 0; k < count && !is_wrong; k++) {
+        Py_INCREF(given[k]);
+        is_wrong = PyTuple_SetItem(words, k, given[k]) < 0;
+    }
+    for (Py_ssize_t k = 0; names != NULL && k < PyTuple_Size(names) && !is_wrong; k++)
+        is_wrong = PyDict_SetItem(named, PyTuple_GetItem(names, k), given[count + k]) < 0;
+    if (!is_wrong)
+        made = PyObject_Call(function, words, named);
+    Py_XDECREF(words);
+    Py_XDECREF(named);
+    return made;
+}
+
+/* The object of a pickle that was accepted, with the names that were checked. */
+static PyObject *loaded(const Loads *own, PyObject *data) {
+    PyObject *given[] = {data, Py_False};
+    return own->function != NULL
+        ? own->function(own->receiver, given, 1, own->names)
+        : called(own->reader, given, 1, own->names);
+}
+
+static PyObject *loads(PyObject *self, PyObject *const *given, Py_ssize_t count, PyObject *names) {
+    const Loads *own = (const Loads *)self;
+    PyObject *list = own->list;
+    if (list == NULL || count != 1 || names != NULL || !PyBytes_CheckExact(given[0])) {
+        PyObject *method = PyObject_GetAttrString(self, "_loads");
+        PyObject *made = called(method, given, count, names);
+        Py_XDECREF(method);
+        return made;
+    }
+    Py_INCREF(list); /* the guard may get another one while a long check runs without the GIL */
+    PyObject *no = pairs_refusal(list, given[0]), *made = NULL;
+    Py_DECREF(list);
+    if (no == Py_None)
+        made = loaded(own, given[0]);
+    else if (no != NULL)
+        made = PyObject_CallMethod(self, "_loads_refused", "OO", given[0], no);
+    Py_XDECREF(no);
+    return made;
+}
+
+static PyMethodDef loads_methods[] = {
+    {"loads", (PyCFunction)(void (*)(void))loads, METH_FASTCALL | METH_KEYWORDS,
+     "loads($self, data, /, *, fix_imports=None, encoding=None, errors=None, buffers=None)\n--\n\n"
+     "The object of the pickle in `data`, which must contain nothing else.\n\n"
+     "`data` is bytes or a buffer, which is copied first. Raises Refused, MoreBytes if more bytes\n"
+     "follow the pickle, and otherwise what `pickle.loads` raises."},
+    {NULL, NULL, 0, NULL}};
+
+PyObject *loads_type(void) {
+    static PyType_Slot slots[] = {
+        {Py_tp_traverse, loads_traverse},
+        {Py_tp_clear, loads_clear},
+        {Py_tp_dealloc, loads_dealloc},
+        {Py_tp_methods, loads_methods},
+        {0, NULL}};
+    static PyType_Spec spec = {
+        "storklocker._storklocker.Loads", sizeof(Loads), 0,
+        Py_TPFLAGS_DEFAULT | Py_TPFLAGS_BASETYPE | Py_TPFLAGS_HAVE_GC, slots};
+    return PyType_FromSpec(&spec);
+}

@@ -1,0 +1,59 @@
+"""Substitutes for names of the standard library that picklers call in one way only."""
+
+from __future__ import annotations
+
+import copyreg
+from typing import Any, Dict, Tuple
+
+from ._answers import Misused
+from ._substitute import Substitute
+
+_CODECS = ("latin1", "latin-1", "ascii", "utf-8")
+
+
+def _bytes(*given: Any) -> bytes:
+    """`bytes` of bytes or of nothing, not of a length."""
+    if given and (len(given) > 1 or not isinstance(given[0], (bytes, bytearray))):
+        raise Misused("bytes is called with other arguments")
+    return bytes(*given)
+
+
+def _bytearray(*given: Any) -> bytearray:
+    """`bytearray` of bytes, of a text or of nothing, not of a length."""
+    is_text = len(given) == 2 and type(given[0]) is str and given[1] in _CODECS
+    is_data = len(given) == 1 and isinstance(given[0], (bytes, bytearray))
+    if given and not (is_text or is_data):
+        raise Misused("bytearray is called with other arguments")
+    return bytearray(*given)
+
+
+def _encode(*given: Any) -> bytes:
+    """`_codecs.encode` of a text by a codec that takes linear time."""
+    if len(given) != 2 or type(given[0]) is not str or given[1] not in _CODECS:
+        raise Misused("_codecs.encode is called with other arguments")
+    return given[0].encode(given[1])
+
+
+BYTES = Substitute("builtins.bytes", _bytes)
+BYTEARRAY = Substitute("builtins.bytearray", _bytearray)
+_REAL: Dict[Any, Any] = {BYTES: bytes, BYTEARRAY: bytearray}
+
+
+def _reconstructor(*given: Any) -> Any:
+    """`copyreg._reconstructor`: an object of a class, made of a value of its base class."""
+    if len(given) != 3:
+        raise Misused("_reconstructor is called with other arguments")
+    kind, base, value = (_REAL.get(it, it) if isinstance(it, Substitute) else it for it in given)
+    is_class = isinstance(kind, type) and isinstance(base, type) and issubclass(kind, base)
+    if not is_class or not (value is None if base is object else type(value) is base):
+        raise Misused("_reconstructor is called with other arguments")
+    reconstructor: Any = getattr(copyreg, "_reconstructor")
+    return reconstructor(kind, base, value)
+
+
+TABLE: Dict[Tuple[str, str], Substitute] = {
+    ("builtins", "bytes"): BYTES,
+    ("builtins", "bytearray"): BYTEARRAY,
+    ("_codecs", "encode"): Substitute("_codecs.encode", _encode),
+    ("copyreg", "_reconstructor"): Substitute("copyreg._reconstructor", _reconstructor),
+}

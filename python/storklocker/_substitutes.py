@@ -1,0 +1,191 @@
+"""Loads accepted pickles with substitutes for some listed names, and judges each state that is set.
+
+An allow list is about names. Some listed names do harm if a pickle calls them as no pickler does:
+`numpy.dtype` with a state of its choice makes NumPy follow a pointer out of the pickle. Such a
+name is imported as a substitute of ours, which checks its arguments, the very objects, when it is
+called. BUILD isn't a call of a name. The reader that this module feeds gets each BUILD as the
+persistent id (receiver, state), in otherwise unchanged instructions, so that the state is judged
+before it is set.
+"""
+
+from __future__ import annotations
+
+import functools
+import pickle
+import sys
+import types
+from typing import Any, Callable, Dict, Iterator, List, Tuple, cast
+
+from . import _arrays, _builtins, _names
+from ._answers import Misused
+from ._lists import AllowList
+from ._storklocker import respelled
+from ._substitute import Substitute
+
+Piece = Tuple[bytes, int, int]
+
+
+_IS_LENT = pickle.Unpickler is not getattr(pickle, "_Unpickler", None)
+"""Whether the reader takes bytes that are lent: that in C does, that in Python doesn't."""
+
+
+class Feed:
+    """The file of a `Reader`: an accepted pickle, respelled. It lends its bytes and copies none."""
+
+    def __init__(self) -> None:
+        self._pieces: List[Piece] = []
+        self._data, self._at, self._end = b"", 0, 0
+
+    def fill(self, data: bytes, at: int) -> None:
+        """Gives it the pickle at an offset."""
+        self._pieces = list(_pieces_of(data, at))[::-1]
+        self._data, self._at, self._end = self._pieces.pop()
+
+    def peek(self, count: int, /) -> memoryview:
+        """All that is left of a piece."""
+        while self._at == self._end and self._pieces:
+            self._data, self._at, self._end = self._pieces.pop()
+        return memoryview(self._data)[self._at : self._end]
+
+    def read(self, count: int, /) -> Any:
+        taken = self.peek(count)[:count]
+        self._at += len(taken)
+        if len(taken) == count or not self._pieces:
+            return taken if _IS_LENT else bytes(taken)
+        return bytes(taken) + bytes(self.read(count - len(taken)))
+
+    def readline(self) -> bytes:
+        """A line, which ends within its piece."""
+        self.peek(0)
+        begin, end = self._at, self._data.find(b"\n", self._at, self._end)
+        self._at = self._end if end < 0 else end + 1
+        return self._data[begin : self._at]
+
+
+def _pieces_of(data: bytes, at: int) -> Iterator[Piece]:
+    """The pieces of a respelled pickle: bytes, and the part of them that counts."""
+    end = -1
+    while at != end:
+        spelled, end, past = respelled(data, at)
+        yield (data, at, end) if spelled is None else (spelled, 0, len(spelled))
+        if past > end:
+            yield (data, end, past)
+        at = past
+
+
+class Reader(pickle.Unpickler):
+    """Loads pickles that are accepted and respelled."""
+
+    def __init__(self, feed: Feed, allow: AllowList, **named: Any) -> None:
+        super().__init__(feed, fix_imports=False, **named)
+        meant = allow._meant
+        self.own: Dict[Tuple[str, str], Substitute] = {} if meant is None else meant.substitutes
+        """The substitutes that the list declares."""
+        self.unbuilt: Dict[int, Any] = {}
+        """Objects that a substitute made, by id, and whose state the pickle has yet to set."""
+        self.types: Dict[int, Any] = {}
+        """Types of NumPy's arrays whose state was set, by id, each with its size as a tree."""
+        self.states: Dict[int, Callable[[Any], Any]] = {}
+        """What judges the state of an object in `unbuilt`, and gives the one to be set."""
+        self.looked = 0
+        """The number of memo entries that were searched."""
+
+    def find_class(self, module: str, name: str, /) -> Any:
+        substitute = self.own.get((module, name)) or TABLE.get((module, name))
+        if substitute is None:
+            found = super().find_class(module, name)
+            substitute = _by_object().get(id(found))
+            if substitute is None:
+                return found
+        return substitute.within(self)
+
+    def persistent_load(self, asked: Any, /) -> Any:
+        if type(asked) is tuple and len(asked) == 2:
+            _build(self, cast(Tuple[Any, Any], asked))
+            return asked[0]
+        return self.persistent(asked[0] if type(asked) is tuple else asked)
+
+    def copied_memo(self) -> Dict[int, Any]:
+        """A copy of the memo."""
+        own: Any = self
+        copied: Dict[int, Any] = own.memo.copy()
+        return copied
+
+    def persistent(self, number: Any) -> Any:
+        """The object of a persistent id of the pickle."""
+        raise pickle.UnpicklingError(
+            "A load persistent id instruction was encountered, "
+            "but no persistent_load function was specified."
+        )
+
+
+class _Renaming(Reader):
+    """Imports each pair under its Python 3 name."""
+
+    def find_class(self, module: str, name: str, /) -> Any:
+        return super().find_class(*_names.renamed((module, name)))
+
+
+def loads(data: bytes, allow: AllowList, is_old: bool, **named: Any) -> Any:
+    """The object of a pickle that is accepted under the list. `is_old`: whether its names are those
+    of Python 2.
+    """
+    feed = Feed()
+    feed.fill(data, 0)
+    return (_Renaming if is_old else Reader)(feed, allow, **named).load()
+
+
+TABLE = {**_arrays.TABLE, **_builtins.TABLE}
+"""The substitutes, by the pair that imports them."""
+_found: Dict[int, Substitute] = {}
+
+
+def _by_object() -> Dict[int, Substitute]:
+    """The substitutes by the id of what they stand for, which other pairs may name too."""
+    if not _found and "numpy" in sys.modules:
+        _found.update(_arrays.by_object())
+    return _found
+
+
+_ABSENT = object()
+_IMPORTED = (
+    type,
+    types.ModuleType,
+    types.FunctionType,
+    types.BuiltinFunctionType,
+    types.MethodType,
+    Substitute,
+)
+
+
+def _build(reader: Reader, asked: Tuple[Any, Any]) -> None:
+    """Sets the state of an object as BUILD does, unless it is known to do harm."""
+    if "numpy" in sys.modules and _arrays.is_built(reader, asked):
+        return
+    receiver, state = asked
+    if isinstance(receiver, functools.partial) and ("functools", "partial") in reader.own:
+        if reader.unbuilt.pop(id(receiver), None) is not receiver:
+            raise Misused("the state of a partial is set a second time")
+        state = reader.states[id(receiver)](state)
+    if isinstance(receiver, _IMPORTED):
+        raise Misused(f"BUILD on {receiver!r:.80}, which is imported")
+    set_state: Any = getattr(receiver, "__setstate__", _ABSENT)
+    if set_state is not _ABSENT:
+        set_state(state)
+        return
+    slots: Any = _ABSENT
+    if isinstance(state, tuple) and len(state) == 2:
+        state, slots = state
+    if state is not None:
+        attributes = receiver.__dict__
+        for name, value in _items_of(state, "state"):
+            attributes[sys.intern(name) if type(name) is str else name] = value
+    if slots is not _ABSENT:
+        for name, value in _items_of(slots, "slot state"):
+            setattr(receiver, name, value)
+
+
+def _items_of(state: Any, name: str) -> List[Tuple[Any, Any]]:
+    if not isinstance(state, dict):
+        raise pickle.UnpicklingError(f"{name} is not a dictionary")
+    return list(dict.items(state))

@@ -1,0 +1,54 @@
+"""Tells `on_refusal` of what a guard refuses, and makes the exception for it."""
+
+from __future__ import annotations
+
+from typing import TYPE_CHECKING, Any
+
+from . import _names
+from ._answers import Misused, MoreBytes, Refused, Verdict
+from ._hints import hint_of
+from ._lists import STANDARD, within
+from ._refusal import CONTEXT, Refusal
+
+if TYPE_CHECKING:
+    from ._guard import Guard
+
+
+def told(guard: Guard, verdict: Verdict, data: bytes, length: int, start: int) -> Refused:
+    """Reports a refusal, and returns its exception. `length` is the number of bytes of the input if
+    `data` is only its front, `start` what the verdict counts its first byte as.
+    """
+    if guard._on_refusal is not None:
+        guard._on_refusal(Refusal(verdict, data, CONTEXT.get(), guard._enforce))
+    if verdict.accepted:
+        return MoreBytes(verdict, length or len(data))
+    if verdict.pair is not None:
+        hint = "" if guard._fix_imports else _names.hint_of(verdict.pair, guard._allow)
+        return Refused(verdict, hint)
+    return Refused(verdict, _hint_for(guard, verdict, data, start))
+
+
+def _hint_for(guard: Guard, verdict: Verdict, data: bytes, start: int) -> str:
+    """What to do about a refusal that isn't about a name."""
+    if verdict.taken or len(data) >= guard._max_bytes:
+        return f"it is longer than the guard's max_bytes, {guard._max_bytes:,}"
+    limits = within(guard._limits, guard._allow.limits) or STANDARD
+    return hint_of(verdict, lambda at, count: data[at : at + count], limits, start)
+
+
+class Misuses:
+    """A block that loads an accepted pickle. Reports if that is stopped."""
+
+    def __init__(self, guard: Guard, data: bytes) -> None:
+        self._guard, self._data = guard, data
+
+    def __enter__(self) -> None:
+        pass
+
+    def __exit__(self, kind: Any, error: Any, trace: Any) -> None:
+        hook = self._guard._on_refusal
+        if hook is None or not isinstance(error, Misused) or error.is_told:
+            return
+        error.is_told = True  # (the block may be in another one)
+        verdict = self._guard._judge(self._data)
+        hook(Refusal(verdict, self._data, CONTEXT.get(), True, str(error)))

@@ -1,0 +1,55 @@
+"""joblib's reader of files behind a guard: it loads what `load_joblib` does.
+
+joblib reads instructions and arrays in turn, so no check can go in front of its own reader.
+`joblib.load` and the caches of `joblib.Memory` come here.
+"""
+
+from __future__ import annotations
+
+import sys
+from typing import TYPE_CHECKING, Any, Callable, List
+
+from .holders import Change
+from .trust import is_own, is_trusted
+
+if TYPE_CHECKING:
+    from .installing import State
+
+_MODULE, _CLASS = "joblib.numpy_pickle", "NumpyUnpickler"
+
+
+def is_joblib(kind: Any) -> bool:
+    """Whether a subclass of `pickle._Unpickler` is the reader of joblib."""
+    return (kind.__module__, kind.__qualname__) == (_MODULE, _CLASS)
+
+
+def replace_joblib(state: State, changes: List[Change]) -> List[Change]:
+    """Gives joblib's reader, if joblib is imported, a guarded `load`. Its module keeps the class
+    that it derives from, because it calls that by its name. Returns all changes.
+    """
+    module = sys.modules.get(_MODULE)
+    kind = getattr(module, _CLASS, None)
+    if not isinstance(kind, type):
+        return changes
+    bases = [it for it in changes if it.owner is module and it.before in kind.__mro__]
+    for change in bases:
+        change.undo()
+    own = Change(kind, "load", getattr(kind, "load"))
+    setattr(kind, "load", load_of(state, own.before))
+    return [*(it for it in changes if it not in bases), own]
+
+
+def load_of(state: State, plain: Callable[[Any], Any]) -> Callable[[Any], Any]:
+    """The `load` of joblib's reader, which loads files of trusted code as before."""
+
+    def load(reader: Any) -> Any:
+        """Loads a file of joblib through the guard that is installed."""
+        if not state.is_active or is_trusted() or is_own(sys._getframe(1), state.own):
+            return plain(reader)
+        from ..contrib.joblib import load_joblib
+
+        if reader.mmap_mode is None:
+            return load_joblib(reader.file_handle, state.guard)
+        return load_joblib(reader.filename, state.guard, mmap_mode=reader.mmap_mode)
+
+    return load

@@ -1,0 +1,84 @@
+"""Keeps the reports on one file within bounds, however many members and names it has."""
+
+from __future__ import annotations
+
+import re
+from collections import Counter
+from typing import Iterable, Iterator
+
+from .report import ACCEPTED, NO_PICKLE, UNJUDGED, Finding, Report, sorted_findings
+from .severity import REFUSED, UNREADABLE
+
+ROOM, QUIET = 500_000, 250_000
+"""About the most bytes of the reports on a file, in any format: of those with findings, and of the
+others.
+"""
+_REPORT, _FINDING, _LINE = 450, 600, 60
+"""The bytes that each format puts around a report, a finding, and a name or a line."""
+_MARKUP = re.compile(r"""["&'<>\\]""")
+_OTHER = re.compile("[^ -~]")
+_ORDER = (REFUSED, UNREADABLE, UNJUDGED, ACCEPTED, NO_PICKLE)
+
+
+def condensed(reports: Iterable[Report]) -> Iterator[Report]:
+    """The reports on a file. What there is no room for is counted in a last one, also where the
+    reports end in an exception.
+    """
+    rest = _Rest()
+    try:
+        yield from rest.left_of(reports)
+    except Exception:
+        yield from rest.counted()
+        raise
+    yield from rest.counted()
+
+
+class _Rest:
+    """What there is no room for."""
+
+    def __init__(self) -> None:
+        self._room = {True: ROOM, False: QUIET}
+        self._statuses: "Counter[str]" = Counter()
+        self._kinds: "Counter[str]" = Counter()
+        self._file = ""
+
+    def left_of(self, reports: Iterable[Report]) -> Iterator[Report]:
+        """The reports that there is room for."""
+        for report in reports:
+            self._room[report.is_finding] -= _weight(report)
+            if self._room[report.is_finding] > 0:
+                yield report
+                continue
+            self._file = report.file
+            self._statuses[report.status] += 1
+            self._kinds.update(finding.kind for finding in report.findings)
+
+    def counted(self) -> Iterator[Report]:
+        """A report on the others, if there are any."""
+        rest = {it: self._statuses[it] for it in _ORDER if self._statuses[it]}
+        if not rest:
+            return
+        counts = ", ".join(f"{count:,} {status}" for status, count in rest.items())
+        found = [Finding(it, f"{count:,} more of these") for it, count in self._kinds.items()]
+        yield Report(
+            self._file,
+            "the rest",
+            next(iter(rest)),
+            f"{sum(rest.values()):,} more than a report has room for: {counts}",
+            findings=sorted_findings(found),
+            file=self._file,
+        )
+
+
+def _weight(report: Report) -> int:
+    """About the most bytes that a format takes for the report."""
+    names = [text or "" for pair in (*report.imports, *report.missing) for text in pair]
+    texts = [report.path, report.path, report.file, report.kind, report.why, *names]
+    for finding in report.findings:
+        texts += (finding.name, finding.name, finding.why, finding.why, finding.example)
+    texts += (line.line for line in report.listing)
+    text = "".join(texts)
+    # a character takes up to 12 bytes in JSON, 6 in HTML
+    size = len(text) + 11 * len(_OTHER.findall(text)) + 5 * len(_MARKUP.findall(text))
+    around = _LINE * (len(names) // 2 + len(report.listing))
+    return size + around + _REPORT + _FINDING * len(report.findings)

@@ -1,0 +1,140 @@
+"""The files to scan, one after another: a million names never stand in one list."""
+
+from __future__ import annotations
+
+import itertools
+import os
+from typing import Callable, Iterable, Iterator, NamedTuple, Optional, Tuple
+
+from .choosing import Choice
+from .report import Report
+
+_BLOCK = 100_000
+"""How many entries of a folder are sorted at once."""
+
+
+_SYSTEM = frozenset(("/dev", "/proc", "/sys"))
+"""Folders of devices, and of what looks like files."""
+
+
+class File(NamedTuple):
+    """A file to scan."""
+
+    path: str
+    is_opened: bool = True
+    """Whether to open it: it is a regular file, or it was named on the command line."""
+    size: int = 0
+    """Its size in bytes, where that is known."""
+    stamp: str = ""
+    """What changes whenever the file does, where that is known."""
+    known: Optional[Tuple[Report, ...]] = None
+    """The reports on it, of an earlier scan."""
+    held: str = ""
+    """Where its bytes are, if not in `path`."""
+
+
+class Files:
+    """The files among the paths, and those in the folders that are chosen; with `recursive`, in
+    subfolders too.
+
+    left_out: the number of subfolders skipped without `recursive`.
+    """
+
+    def __init__(
+        self, paths: Iterable[str], recursive: bool = False, choice: Optional[Choice] = None
+    ) -> None:
+        self._paths, self.recursive, self.choice = list(paths), recursive, choice or Choice()
+        self._roots = {os.path.realpath(path) for path in self._paths if os.path.isdir(path)}
+        self._left = {above for root in self._roots for above in _parents(root)} | _SYSTEM
+        self.left_out = 0
+
+    def __iter__(self) -> Iterator[File]:
+        for path in self._paths:
+            if is_url(path):
+                from .remote import files_at
+
+                yield from files_at(path, self)
+            elif path != "-" and os.path.isdir(path):
+                yield from self._files_of(path)
+            else:
+                yield _file(path)
+
+    def _files_of(self, folder: str) -> Iterator[File]:
+        try:
+            with os.scandir(folder) as found:
+                yield from self._entered(found)
+        except OSError:
+            yield File(folder)  # reported as unreadable, like a file
+
+    def _entered(self, found: Iterator["os.DirEntry[str]"]) -> Iterator[File]:
+        below = []
+        for entry in _sorted(found):
+            if not self.choice.takes(entry.path, _is(entry.is_dir)):
+                continue
+            if _is(entry.is_file):
+                yield _file(entry.path)
+            elif not _is(entry.is_dir):
+                yield File(entry.path, False)
+            elif not self.recursive:
+                self.left_out += 1
+            elif not entry.is_symlink() and not _is_system(entry):
+                below.append(entry.path)
+            elif self._is_followed(entry.path):
+                below.append(entry.path)
+            elif not self._has(os.path.realpath(entry.path)):
+                yield File(entry.path, False)
+        for path in below:
+            yield from self._files_of(path)
+
+    def _is_followed(self, link: str) -> bool:
+        """Whether to enter the folder that a link leads to: once, but not one that holds this one,
+        nor one of devices.
+        """
+        target = os.path.realpath(link)
+        if self._has(target) or target in self._left or not _SYSTEM.isdisjoint(_parents(target)):
+            return False
+        self._roots.add(target)
+        return True
+
+    def _has(self, folder: str) -> bool:
+        """Whether a folder is scanned anyway."""
+        return not self._roots.isdisjoint((folder, *_parents(folder)))
+
+
+def _is_system(entry: "os.DirEntry[str]") -> bool:
+    return f"/{entry.name}" in _SYSTEM and os.path.realpath(entry.path) in _SYSTEM
+
+
+def _parents(path: str) -> Iterator[str]:
+    while os.path.dirname(path) != path:
+        path = os.path.dirname(path)
+        yield path
+
+
+def is_url(path: str) -> bool:
+    """Whether a path is one for fsspec, such as `s3://bucket/folder`."""
+    return "://" in path
+
+
+def _file(path: str) -> File:
+    try:
+        found = os.stat(path)
+    except OSError:
+        return File(path)
+    return File(path, True, found.st_size, f"{found.st_size} {found.st_mtime_ns}")
+
+
+def _sorted(found: Iterator["os.DirEntry[str]"]) -> Iterator["os.DirEntry[str]"]:
+    """The entries in the order of their names, in blocks: a folder may hold a million."""
+    while True:
+        block = sorted(itertools.islice(found, _BLOCK), key=lambda entry: entry.name)
+        if not block:
+            return
+        yield from block
+
+
+def _is(question: Callable[[], bool]) -> bool:
+    try:
+        return question()
+    except OSError:  # a link to itself
+        return False

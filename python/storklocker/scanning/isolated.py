@@ -1,0 +1,102 @@
+"""Scans files in a process of its own, so that a file that ends the process ends nothing else.
+
+The process reads lines of JSON, each a file, and answers each with a line, its reports.
+"""
+
+from __future__ import annotations
+
+import base64
+import json
+import os
+import pickle
+import subprocess
+import sys
+from pathlib import Path
+from typing import List, Optional
+
+from .files import File, is_url
+from .judging import Question
+from .report import Finding, Report, report_of, unreadable
+from .scan import scan_file
+
+TRIES = 2
+"""How often a file is read, if each time the process ends."""
+_PACKAGE = str(Path(__file__).resolve().parents[2])
+
+
+class Isolated:
+    """Scans files in a process of its own, which is started again when it ends."""
+
+    def __init__(self, question: Question) -> None:
+        self._question = base64.b64encode(pickle.dumps(question))
+        self._process: Optional["subprocess.Popen[bytes]"] = None
+
+    def scan(self, file: File) -> List[Report]:
+        """The reports on a file."""
+        if not is_url(file.path):
+            return self._tried(file)
+        from .remote import held
+
+        try:
+            with held(file) as copied:
+                return self._tried(copied)
+        except Exception as error:  # file systems may raise anything
+            why = f"cannot read it: {type(error).__name__}: {error}"
+            return [unreadable(file.path, "file", Finding("unreadable", why), file.path)]
+
+    def _tried(self, file: File) -> List[Report]:
+        for _ in range(TRIES):
+            answer = self._asked(file)
+            if answer:
+                return [report_of(it) for it in json.loads(answer)]
+        why = f"the process that read it ended, {TRIES} times"
+        return [unreadable(file.path, "file", Finding("unreadable", why), file.path)]
+
+    def _asked(self, file: File) -> bytes:
+        """The answer of the process; none if it has ended."""
+        process = self._process or self._started()
+        assert process.stdin is not None and process.stdout is not None
+        line = json.dumps([os.fsencode(it).hex() for it in (file.path, file.held)])
+        try:
+            process.stdin.write(f"{line} {int(file.is_opened)}\n".encode())
+            process.stdin.flush()
+            answer = process.stdout.readline()
+        except BrokenPipeError:
+            answer = b""
+        if not answer.endswith(b"\n"):
+            self.end()
+            return b""
+        return answer
+
+    def _started(self) -> "subprocess.Popen[bytes]":
+        path = os.pathsep.join(filter(None, [_PACKAGE, os.environ.get("PYTHONPATH", "")]))
+        self._process = subprocess.Popen(
+            [sys.executable, "-m", __name__],
+            stdin=subprocess.PIPE,
+            stdout=subprocess.PIPE,
+            env={**os.environ, "PYTHONPATH": path},
+        )
+        assert self._process.stdin is not None
+        self._process.stdin.write(self._question + b"\n")
+        return self._process
+
+    def end(self) -> None:
+        """Ends the process."""
+        process, self._process = self._process, None
+        if process is not None:
+            process.kill()
+            process.communicate()
+
+
+def _main() -> None:
+    """Answers the lines of standard input."""
+    question: Question = pickle.loads(base64.b64decode(sys.stdin.buffer.readline()))
+    for line in sys.stdin.buffer:
+        names, _, is_opened = line.decode().rpartition(" ")
+        path, held = (os.fsdecode(bytes.fromhex(it)) for it in json.loads(names))
+        reports = scan_file(File(path, bool(int(is_opened)), held=held), question)
+        print(json.dumps([report.as_dict() for report in reports]), flush=True)
+
+
+if __name__ == "__main__":
+    _main()

@@ -1,0 +1,57 @@
+"""Files of joblib: the pickle that is left without their arrays, and those of arrays of objects."""
+
+from __future__ import annotations
+
+import io
+from typing import Optional, Tuple
+
+from .._lists import AllowList
+from .budget import Budget
+from .joblib_cutting import WRAPPERS, Cutter
+from .joblib_types import NotJoblib
+from .names import NOTHING, imports_within
+from .readings import Piece
+from .rows import Row
+from .source import Source, in_memory
+
+WRAPPER_NAMES = frozenset((module.encode(), name.encode()) for module, name in WRAPPERS)
+_FIRST = 1 << 16
+
+
+def without_arrays(
+    piece: Piece, row: Row, allow: Optional[AllowList], budget: Budget
+) -> Tuple[Piece, Row]:
+    """The pickle without its arrays, and what is found in it and in those of arrays of objects. If
+    it isn't as joblib writes it, the same piece and row, which says why.
+    """
+    source = piece.source
+    try:
+        cut = Cutter(source, lambda at: _length(source, at, budget), budget.spend_time).cut()
+        if cut.end < source.size:
+            raise NotJoblib("bytes follow it")
+    except NotJoblib as error:
+        row.raw = f"joblib writes arrays between the instructions, but not like this: {error}"
+        return piece, row
+    piece = piece._replace(kind="joblib", is_claimed=True, most=1)
+    left = in_memory(io.BytesIO(cut.pickle))
+    first = Row(piece._replace(source=left), allow, budget)
+    for gap in filter(lambda gap: gap.is_pickle, cut.gaps):
+        nested = source.part(gap.start, gap.size)
+        other = Row(piece._replace(source=nested), allow, budget)
+        first.names.update(other.names)
+        first.is_complete &= other.is_complete
+        first.refusal = first.refusal or other.refusal
+        first.too_much = first.too_much or other.too_much
+    first.taken = cut.end
+    return piece, first
+
+
+def _length(source: Source, at: int, budget: Budget) -> int:
+    """The length of the pickle at an offset; 0 if no list makes it acceptable."""
+    size = _FIRST
+    while True:
+        verdict = imports_within(source.read(at, size), NOTHING).verdict
+        budget.spend_time()
+        if verdict or size >= source.size - at:
+            return verdict.taken
+        size *= 16

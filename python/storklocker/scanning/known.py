@@ -1,0 +1,107 @@
+"""The table of names that have been judged, as `known.txt` has it."""
+
+from __future__ import annotations
+
+from typing import Dict, Iterator, List, NamedTuple, Optional, Tuple
+
+HARMLESS = "harmless"
+_SAME, _ALIAS, _LEADS = "same", "alias", "leads"
+_HEAD, _WORDS = 1000, 32
+"""The most characters and words of a name in which a pattern is looked for."""
+
+
+class Row(NamedTuple):
+    """What is known of a name."""
+
+    severity: str
+    """`danger`, `warning` or `harmless`."""
+    why: str = ""
+    example: str = ""
+    """An expression that does harm through a dangerous name."""
+
+
+class Known:
+    """The judged names. A look-up takes time linear in the length of the name.
+
+    rows: the judgement of each name, and of each pattern such as `os.*`.
+    """
+
+    def __init__(self, text: str) -> None:
+        self.rows: Dict[str, Row] = {}
+        self._same: Dict[str, str] = {}
+        self._under: Dict[str, Row] = {}
+        self._begun: List[Tuple[str, Row]] = []
+        for header, lines in _sections(text):
+            self._add(header, lines)
+
+    def _add(self, header: str, lines: List[str]) -> None:
+        kind, _, why = header[1:].partition("] ")
+        kind = kind.rstrip("]")
+        if kind in (_SAME, _ALIAS):
+            self._same.update((line.split()[0], line.split()[1]) for line in lines)
+        elif kind == "danger":
+            for name, example in _examples(lines):
+                self._put(name, Row(kind, why, example))
+        else:
+            severity = kind
+            if kind == _LEADS:
+                sink = self.judged(why)
+                severity, why = "warning", f"It leads to {why}. {sink.why if sink else ''}".rstrip()
+            for name in " ".join(lines).split():
+                self._put(name, Row(severity, why))
+
+    def _put(self, name: str, row: Row) -> None:
+        self.rows.setdefault(name, row)
+        if name.endswith(".*"):
+            self._under.setdefault(name[:-2], row)
+        elif name.endswith("*"):
+            self._begun.append((name[:-1], row))
+
+    def judged(self, name: str) -> Optional[Row]:
+        """What is known of a dotted name."""
+        row = self.rows.get(name)
+        if row is not None or not name:
+            return row
+        head = name[:_HEAD]
+        for begun, row in self._begun:
+            if head.startswith(begun):
+                return row
+        end = len(head)
+        for _ in range(min(_WORDS, head.count(".") + 1)):
+            front = head[:end]
+            if front in self._same:
+                return self.judged(self._same[front] + name[end:])
+            if front in self._under:
+                return self._under[front]
+            end = max(front.rfind("."), 0)
+        return None
+
+
+def _sections(text: str) -> Iterator[Tuple[str, List[str]]]:
+    """The headers of the table, each with the lines under it."""
+    header = ""
+    lines: List[str] = []
+    for line in text.splitlines():
+        if line.startswith("["):
+            if header:
+                yield header, lines
+            header, lines = line, []
+        elif line and not line.startswith("#"):
+            lines.append(line)
+    if header:
+        yield header, lines
+
+
+def _examples(lines: List[str]) -> Iterator[Tuple[str, str]]:
+    """The names of a section, each with its example, which may go on in indented lines."""
+    name, example = "", ""
+    for line in lines:
+        if line.startswith(" "):
+            example = f"{example} {line.strip()}".strip()
+            continue
+        if name:
+            yield name, example
+        name, _, example = line.partition("  ")
+        example = example.strip()
+    if name:
+        yield name, example

@@ -1,0 +1,169 @@
+"""The commands `storklocker list`: what differs between two lists, and names for a list."""
+
+from __future__ import annotations
+
+import argparse
+import re
+import sys
+from pathlib import Path
+from typing import Any, Dict, Iterator, List, Tuple
+
+from .._answers import ListFault
+from .._lists import AllowList
+from .._meant import EVERYTHING, Meant
+from .._meant import of as meant_in
+from .._writing import dotted, quoted, replace, row_of
+from .learning import danger_of
+from .report import shown
+
+Pair = Tuple[str, str]
+SAME, DIFFERENT = 0, 1
+ADDED, DANGEROUS = 0, 1
+
+_NEW = "version = 2\n\n[imports]\n"
+_IMPORTS = re.compile(r"(?m)^[ \t]*\[[ \t]*imports[ \t]*\][^\n]*\n")
+
+
+def add_commands(commands: "argparse._SubParsersAction[argparse.ArgumentParser]") -> None:
+    """Adds the commands to a parser."""
+    within = commands.add_parser("list", help="compares lists, and adds names to one")
+    its = within.add_subparsers(required=True, metavar="COMMAND")
+    diff = its.add_parser("diff", help="shows what differs between two lists; status 1 if they do")
+    diff.add_argument("old", metavar="OLD", help="a list file")
+    diff.add_argument("new", metavar="NEW", help="a list file")
+    diff.set_defaults(run=_diff)
+    add = its.add_parser("add", help="adds names to a list file, whose comments stay")
+    add.add_argument("list", metavar="LIST", help="the list file; a new one if there is none")
+    add.add_argument(
+        "names", nargs="+", metavar="NAME", help="module.name, or module:name if the name has dots"
+    )
+    add.add_argument(
+        "--dangerous", action="store_true", help="also add names that are known to be dangerous"
+    )
+    add.set_defaults(run=_add)
+
+
+def list_of(path: str) -> AllowList:
+    """The list of a file. Raises OSError with the place of a fault."""
+    try:
+        return AllowList.from_file(path)
+    except ListFault as error:
+        raise OSError(str(error)) from None
+    except ValueError as error:
+        raise OSError(f"{path}: {error}") from None
+
+
+def _diff(asked: argparse.Namespace) -> int:
+    lines = list(differences(list_of(asked.old), list_of(asked.new)))
+    for line in lines:
+        print(line)
+    return DIFFERENT if lines else SAME
+
+
+def differences(old: AllowList, new: AllowList) -> Iterator[str]:
+    """The lines that say what a list has lost and what it has gained, with dangers."""
+    before, after = dict.fromkeys(old), dict.fromkeys(new)
+    for pair in sorted({**before, **after}):
+        if pair not in after:
+            yield f"- {_shown(pair)}"
+        elif pair not in before:
+            yield f"+ {_shown(pair)}  {danger_of(pair)}".rstrip()
+    yield from _rows("limit", _limits_of(old), _limits_of(new))
+    yield from _rows("substitute", _said_by(meant_in(old)), _said_by(meant_in(new)))
+
+
+def _shown(pair: Pair) -> str:
+    return shown(dotted(pair), 512)
+
+
+def _rows(what: str, old: Dict[str, str], new: Dict[str, str]) -> Iterator[str]:
+    for key in sorted({**old, **new}):
+        if old.get(key) != new.get(key):
+            yield from (f"- {what} {key} = {shown(old[key])}" for _ in range(key in old))
+            yield from (f"+ {what} {key} = {shown(new[key])}" for _ in range(key in new))
+
+
+def _limits_of(allow: AllowList) -> Dict[str, str]:
+    held: Any = allow.limits or ()
+    return {name: str(value) for name, value in zip(getattr(held, "_fields", ()), held)}
+
+
+def _said_by(meant: Meant) -> Dict[str, str]:
+    from .._sections import said_of
+
+    said = {shown(dotted(pair)): "dangerous" for pair in meant.dangerous}
+    return {**said, **{dotted(it): said_of(it, its) for it, its in meant.substitutes.items()}}
+
+
+def _add(asked: argparse.Namespace) -> int:
+    path, pairs, refused = Path(asked.list), [], False
+    for name in asked.names:
+        pair = pair_of(name)
+        why = danger_of(pair)
+        if why and not asked.dangerous:
+            print(f"storklocker: {shown(name)} isn't added. {why} (--dangerous)", file=sys.stderr)
+            refused = True
+        else:
+            pairs.append(pair)
+    if pairs:
+        text = path.read_bytes().decode("utf-8", "surrogateescape") if path.exists() else _NEW
+        try:
+            made = with_names(text, pairs)
+        except ValueError as error:
+            raise OSError(f"{asked.list}: {error}") from None
+        if made != text:
+            replace(path, made)
+    return DANGEROUS if refused else ADDED
+
+
+def pair_of(name: str) -> Pair:
+    """The pair of a dotted name. Raises OSError if it is none."""
+    module, _, own = name.partition(":") if ":" in name else name.rpartition(".")
+    if not module or not own:
+        raise OSError(f"{name!r} is no name: write module.name, or module:name")
+    return (module, own)
+
+
+def with_names(text: str, pairs: List[Pair]) -> str:
+    """A list file with more names, in which all else stays. Raises ValueError if the names must be
+    added by hand.
+    """
+    before = AllowList.from_text(text.encode("utf-8", "surrogateescape"))
+    added = [pair for pair in dict.fromkeys(pairs) if pair not in before]
+    made = text
+    for module, name in sorted(added, reverse=True):
+        made = _with(made, module, name)
+    meant = [pair for pair in added if pair in EVERYTHING]
+    if meant:
+        made = _meaning(made, meant)
+    wanted = before | AllowList(added, dangerous=meant)
+    try:
+        is_right = AllowList.from_text(made.encode("utf-8", "surrogateescape")) == wanted
+    except ValueError:
+        is_right = False
+    if not is_right:
+        raise ValueError("its layout is none that is known here: add the names by hand")
+    return made
+
+
+def _with(text: str, module: str, name: str) -> str:
+    """The text with a name more: at the front of the module's row, or in a new one."""
+    header = _IMPORTS.search(text)
+    if header is None:
+        raise ValueError("it has no line [imports]: add the names by hand")
+    keys = "|".join(re.escape(key) for key in (quoted(module), f"'{module}'", module))
+    row = re.compile(rf"(?m)^[ \t]*(?:{keys})[ \t]*=[ \t]*\[([ \t]*\n)?").search(text, header.end())
+    if row is None:
+        line = "".join(f"{line}\n" for line in row_of(module, [name]))
+        return text[: header.end()] + line + text[header.end() :]
+    more = f"    {quoted(name)},\n" if row[1] else f"{quoted(name)}, "
+    return text[: row.end()] + more + text[row.end() :]
+
+
+def _meaning(text: str, pairs: List[Pair]) -> str:
+    """The text in which these names are said to be meant."""
+    rows = "".join(f'"{dotted(pair)}" = "dangerous"\n' for pair in pairs)
+    header = re.search(r"(?m)^\s*\[\s*substitutes\s*\].*\n", text)
+    if header is None:
+        return text.rstrip("\n") + f"\n\n[substitutes]\n{rows}"
+    return text[: header.end()] + rows + text[header.end() :]

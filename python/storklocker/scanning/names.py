@@ -1,0 +1,48 @@
+"""The imports of a pickle, also of one that is refused, within bounds."""
+
+from __future__ import annotations
+
+from typing import TYPE_CHECKING, Dict, NamedTuple, Optional, Tuple
+
+from .._answers import Verdict
+from .._limits import Limits
+from .._lists import AllowList, records, settings_of
+from .._reasons import Reason
+from .._storklocker import imports as _imports
+
+if TYPE_CHECKING:
+    from .._lists import Names
+
+NOTHING = AllowList(())
+WIDE = Limits(passed=1 << 40)
+"""The limits of a scan: of payloads that are passed over, any length."""
+_ROOM = 1 << 22
+"""The least bytes of names that are taken from a pickle; for a larger pickle, its size."""
+_FIRST = 4096
+
+
+class Imports(NamedTuple):
+    """The verdict on a pickle with every import permitted, and its imports, each once; of a refused
+    one, those of the instructions in front of the place where it is refused.
+    """
+
+    verdict: Verdict
+    names: Dict[Names, None]
+    is_complete: bool = True
+    """Whether these are all; otherwise they would take more bytes than are taken."""
+
+
+def imports_within(data: bytes, allow: AllowList, limits: Limits = WIDE) -> Imports:
+    """The imports of the pickle at the front of the bytes. The limits of the list apply."""
+    settings, size = settings_of(allow, limits, "unknown"), _FIRST
+    verdict, wanted, room = _imports(data, allow, settings, size)
+    if wanted > max(_ROOM, len(data)):
+        return Imports(verdict, {}, False)
+    if wanted > size:
+        verdict, wanted, room = _imports(data, allow, settings, wanted)
+    return Imports(verdict, dict.fromkeys(records(room[:wanted])))
+
+
+def refused_with(reason: Optional[Reason]) -> Tuple[Names, ...]:
+    """The import of an instruction that is refused for this reason: of one that is registered."""
+    return ((None, None),) if reason is Reason.ExtensionCode else ()

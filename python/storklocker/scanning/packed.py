@@ -1,0 +1,288 @@
+"""Streams that are packed: gzip, bzip2, xz, LZMA alone, zlib, and joblib's `ZF`.
+
+Readers go on behind the end of a stream, if another one follows. They differ about other bytes
+there, which are a finding.
+"""
+
+from __future__ import annotations
+
+import io
+import re
+import sys
+import zlib
+from typing import Any, Callable, NamedTuple, Optional, Tuple, Type
+
+from .readings import Answer, Found, Nothing, Place, Reading, examine
+from .source import BLOCK, Source, in_memory
+
+MEMORY = 1 << 28
+"""The most memory for the window of an xz or LZMA stream."""
+NO_MODULE = "this Python can't unpack it"
+_STEP = 1 << 12
+"""What goes in and comes out at once. A step that meets a fault loses its bytes, and readers take
+steps of 8 KiB: none may get further.
+"""
+_MEANT = 1 << 12
+"""So many bytes never come of what isn't packed, unless the first is zero."""
+
+
+class Unpacked(NamedTuple):
+    """What a stream unpacks to, where it ends, and what is wrong with it."""
+
+    data: io.BytesIO
+    end: int
+    fault: str
+
+
+def unpack(
+    source: Source, at: int, begin: Callable[[], Any], spend: Callable[[int], object]
+) -> Unpacked:
+    """Unpacks a stream that begins at an offset, up to its end or to a fault. `spend` is called
+    with the number of bytes of each piece.
+    """
+    out, packed = io.BytesIO(), b""
+    try:
+        made = begin()
+    except _faults() as error:  # of properties that can't be
+        return Unpacked(out, at, str(error) or type(error).__name__)
+    is_zlib = hasattr(made, "unconsumed_tail")
+    while not made.eof:
+        if is_zlib:
+            packed = made.unconsumed_tail
+        if not packed and (is_zlib or made.needs_input):
+            packed = source.read(at, _STEP)
+            at += len(packed)
+            if not packed:
+                return Unpacked(out, at, "it is truncated")
+        try:
+            data = made.decompress(packed, _STEP)
+        except _faults() as error:
+            return Unpacked(out, at, str(error) or type(error).__name__)
+        packed = b""
+        out.write(data)
+        spend(len(data))
+    # (that of LZ4 is None where nothing follows)
+    return Unpacked(out, at - len(made.unused_data or b""), "")
+
+
+def _faults() -> Tuple[Type[Exception], ...]:
+    """What decompressors raise."""
+    lzma = sys.modules.get("lzma")
+    more = () if lzma is None else (lzma.LZMAError,)
+    return (OSError, ValueError, EOFError, zlib.error, MemoryError, *more)
+
+
+class _Format(NamedTuple):
+    """A way of packing."""
+
+    name: str
+    is_at: Callable[[bytes], bool]
+    """Whether the first bytes are those of a stream."""
+    begin: Callable[[bytes], "_Begun"]
+    """For the first bytes of a stream."""
+    is_certain: bool = True
+    """Whether a file that begins like this is one; otherwise a fault at its front says nothing."""
+    goes_on_at: Optional[Callable[[bytes], bool]] = None
+    """Whether these bytes behind a stream are those of another, if these may be others."""
+
+
+class _Begun(NamedTuple):
+    """What makes a decompressor, and how many of the first bytes that one has taken."""
+
+    make: Callable[[], Any]
+    taken: int = 0
+
+
+def _reading(form: _Format, start: Callable[[bytes], int] = lambda front: 0) -> Reading:
+    """What a reader of this format gets to, where its streams begin behind a header."""
+
+    def reading(place: Place) -> Found:
+        front = place.source.front()
+        at = start(front)
+        if at < 0 or not form.is_at(front[at : at + 32]):
+            return False
+        try:
+            unpacked, fault, gap = _unpacked(place, at, form)
+        except ImportError as error:
+            if form.is_certain:
+                yield place.unread(form.name, "unknown-container", f"{NO_MODULE}: {error}")
+            return form.is_certain
+        if unpacked.size == 0 and not form.is_certain and gap < 0:
+            return False
+        found = examine(place.inside("", unpacked, form.name, bool(fault)))
+        if not form.is_certain and (fault or unpacked.read(0, 1) == b"\0"):
+            found = _without_nothing(found)
+        is_taken = yield from found
+        if gap > 0:  # where some readers stop
+            first = place.inside("", unpacked.part(0, gap), form.name)
+            is_taken |= yield from _without_nothing(examine(first))
+        is_meant = _is_meant(unpacked) or gap >= 0 and _is_usual(front)
+        is_taken |= form.is_certain or bool(fault) and is_meant
+        if fault and is_taken:
+            yield place.unread(form.name, "broken-container", fault)
+        return is_taken
+
+    return reading
+
+
+def _without_nothing(found: Found) -> Found:
+    """What is found, but for bytes without a pickle, which may come of anything."""
+    answer: Answer = None
+    while True:
+        try:
+            it = found.send(answer)
+        except StopIteration as end:
+            return bool(end.value)
+        answer = None if isinstance(it, Nothing) else (yield it)
+
+
+def _is_meant(unpacked: Source) -> bool:
+    """Whether this comes of what is packed, although a fault follows. LZMA makes zeros of zeros."""
+    return unpacked.size >= _MEANT and unpacked.read(0, 1) != b"\0"
+
+
+def _is_usual(front: bytes) -> bool:
+    """Whether a stream begins as packers of zlib or LZMA begin it: it is one if it also ends."""
+    window = int.from_bytes(front[1:5], "little")
+    is_window = window >= 1 << 12 and window & (window - 1) == 0
+    return _is_zlib(front) or front[5:13] == b"\xff" * 8 or is_window
+
+
+def _unpacked(place: Place, at: int, form: _Format) -> Tuple[Source, str, int]:
+    """All streams of a file, one behind another; what is wrong with them; and where some readers
+    stop, or -1 if they stop at the end.
+    """
+    source, out, fault, gap = place.source, io.BytesIO(), "", -1
+    is_at = form.goes_on_at or form.is_at
+    while True:
+        make, taken = form.begin(source.read(at, 32))
+        found = unpack(source, at + taken, make, place.budget.spend_bytes)
+        out.write(found.data.getbuffer())
+        if found.fault:
+            return in_memory(out), f"{form.name}: {found.fault}", gap
+        at = behind_zeros(source, found.end)
+        if at >= source.size:
+            return in_memory(out), fault, gap
+        if not is_at(source.read(at, 32)):
+            return in_memory(out), f"{source.size - at:,} bytes follow what is packed", gap
+        if at > found.end:
+            fault = "zeros stand between what is packed: readers differ"
+        if at > found.end or not form.is_certain:
+            gap = out.tell() if gap <= 0 else gap
+
+
+def behind_zeros(source: Source, at: int) -> int:
+    """The first place from there on that isn't zero."""
+    while at < source.size:
+        block = source.read(at, BLOCK)
+        left = block.lstrip(b"\0")
+        at += len(block) - len(left)
+        if left or not block:
+            break
+    return at
+
+
+def _is_zlib(front: bytes) -> bool:
+    return (
+        len(front) > 2
+        and front[0] & 15 == 8
+        and front[0] >> 4 <= 7
+        and int.from_bytes(front[:2], "big") % 31 == 0
+    )
+
+
+def _is_xz(front: bytes) -> bool:
+    return front[:6] == b"\xfd7zXZ\0"
+
+
+def _is_lzma(front: bytes) -> bool:
+    """Whether it may be LZMA alone: its properties, and the size that it announces."""
+    if len(front) < _LZMA_HEADER or front[0] >= 225:
+        return False
+    return front[5:13] == b"\xff" * 8 or front[12] == 0
+
+
+def bzip2() -> Any:
+    """A decompressor, of a module that some Pythons lack."""
+    import bz2
+
+    return bz2.BZ2Decompressor()
+
+
+def xz() -> Any:
+    import lzma
+
+    return lzma.LZMADecompressor(lzma.FORMAT_XZ, MEMORY)
+
+
+def lzma_alone(header: bytes = b"") -> Any:
+    """A decompressor that has taken a header. Readers take a window of any size, which here is as
+    large as may be; and liblzma before 5.4 takes any byte behind the header.
+    """
+    import lzma
+
+    made = lzma.LZMADecompressor(lzma.FORMAT_ALONE, MEMORY)
+    if header:
+        window = min(int.from_bytes(header[1:5], "little"), MEMORY >> 1)
+        made.decompress(header[:1] + window.to_bytes(4, "little") + header[5:13] + b"\0")
+    return made
+
+
+def _lzma(front: bytes) -> _Begun:
+    """For xz, or for LZMA alone: either may follow either."""
+    return _Begun(xz) if _is_xz(front) else _Begun(lambda: lzma_alone(front), _LZMA_HEADER)
+
+
+def _zlib(kind: int) -> Callable[[bytes], _Begun]:
+    return lambda front: _Begun(lambda: zlib.decompressobj(kind))
+
+
+_LZMA_HEADER = 14
+_BZIP2 = re.compile(rb"BZh[1-9](1AY&SY|\x17rE8P\x90)")
+GZIP, ZLIB = 31, 15
+"""What zlib calls its formats."""
+_ZF = re.compile(rb"ZF.{19} ?", re.DOTALL)
+
+gzip_reading = _reading(
+    _Format("gzip", lambda front: front[:3] == b"\x1f\x8b\x08", _zlib(GZIP))
+)
+bzip2_reading = _reading(
+    _Format("bzip2", lambda front: _BZIP2.match(front) is not None, lambda _: _Begun(bzip2))
+)
+_XZ = _Format("xz", _is_xz, _lzma, True, lambda front: _is_xz(front) or _is_lzma(front))
+xz_reading = _reading(_XZ)
+lzma_reading = _reading(_XZ._replace(name="lzma", is_at=_is_lzma, is_certain=False))
+_ZLIB_FORMAT = _Format("zlib", _is_zlib, _zlib(ZLIB), False)
+zlib_reading = _reading(_ZLIB_FORMAT)
+
+
+def _behind_header(front: bytes) -> int:
+    found: Optional["re.Match[bytes]"] = _ZF.match(front)
+    return -1 if found is None else found.end()
+
+
+zf_reading = _reading(_ZLIB_FORMAT._replace(name="ZF"), _behind_header)
+"""What joblib before 0.10 wrote, and joblib still reads."""
+
+_UNKNOWN = tuple(
+    (name, re.compile(magic, re.DOTALL))
+    for name, magic in (
+        ("7z", rb"7z\xbc\xaf\x27\x1c"),
+        ("rar", rb"Rar!\x1a\x07"),
+        ("zstd", rb"[\x1e\x22-\x28]\xb5\x2f\xfd"),
+        ("lz4", rb"(\x04\x22\x4d|\x02\x21\x4c)\x18"),
+        ("zstd or lz4, behind a frame that is skipped", rb"[\x50-\x5f]\x2a\x4d\x18"),
+        ("lzip", rb"LZIP\x01"),
+    )
+)
+
+
+def unknown_reading(place: Place) -> Found:
+    """What is packed in a way that the standard library doesn't unpack."""
+    front = place.source.front()
+    for name, magic in _UNKNOWN:
+        if magic.match(front):
+            why = "it is packed in a way that is not unpacked here"
+            yield place.unread(name, "unknown-container", why)
+            return True
+    return False

@@ -1,0 +1,21 @@
+"""Pickles at the first byte, one or a row of them; torch's files of before its zip files."""
+
+from __future__ import annotations
+
+from .readings import Found, Place
+
+_TORCH = b"\x80\x02\x8a\nl\xfc\x9cF\xf9 j\xa8P\x19."
+"""The pickle in front of torch's older files, as `torch.save` writes it."""
+_TORCH_PICKLES = 5
+"""A number, the version, the machine, the object, the keys of its storages, which follow raw."""
+
+
+def pickle_reading(place: Place) -> Found:
+    """What `pickle.load` gets to, once or again and again."""
+    if not place.source.front().startswith(_TORCH):
+        taken = yield place.piece(place.around)
+        return taken is not None
+    taken = yield place.piece("torch", 0, True, _TORCH_PICKLES)
+    if taken:  # a reader that goes on gets to the numbers
+        yield place.piece("behind a torch file", taken)
+    return True

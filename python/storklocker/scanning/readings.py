@@ -1,0 +1,124 @@
+"""What the readers that people use would get to in a file.
+
+A file is a set of readings. Each reader's rule is a module of its own, which says whether that
+reader would get to a pickle in these bytes, and where. All of them are asked about every file and
+every member: that nothing is a pickle is the conclusion of all, never of the first that knows the
+file's first bytes. Two that differ about one file are a finding of their own.
+
+A reading is a generator. It yields a `Piece` for bytes that its reader would load as a pickle, and
+gets back how many of them form an accepted pickle; an `Unread` for what it can't say; and `Nothing`
+for bytes without a pickle. It returns whether its reader takes the file at all.
+"""
+
+from __future__ import annotations
+
+from typing import Callable, Generator, List, NamedTuple, Optional, Union
+
+from .budget import DEPTH, Budget, TooMuch
+from .report import LONGEST, Finding
+from .source import Source
+
+
+class Piece(NamedTuple):
+    """Bytes that a reader would load: a pickle, or a row of them."""
+
+    path: str
+    kind: str
+    source: Source
+    is_claimed: bool = False
+    """Whether a reader loads it whatever its first bytes are."""
+    most: int = 0
+    """How many pickles the reader loads of the row; 0: all."""
+    is_cut: bool = False
+    """Whether bytes are missing at its end, which is reported."""
+
+
+class Unread(NamedTuple):
+    """Something that a reading can't say, and why."""
+
+    path: str
+    kind: str
+    finding: Finding
+
+
+class Nothing(NamedTuple):
+    """Bytes without a pickle, and what they are."""
+
+    path: str
+    kind: str
+    size: int
+    why: str = ""
+
+
+Answer = Optional[int]
+"""The length of the pickles that were accepted in a piece; None if it isn't a pickle."""
+Found = Generator[Union[Piece, Unread, Nothing], Answer, bool]
+
+
+class Place(NamedTuple):
+    """What is read: bytes, where they are from, and what may be spent on them."""
+
+    path: str
+    source: Source
+    budget: Budget
+    depth: int = DEPTH
+    """How many containers may still be opened inside one another."""
+    around: str = "pickle"
+    """What a pickle is called here."""
+    is_cut: bool = False
+    """Whether bytes are missing at its end, which is reported."""
+
+    def piece(self, kind: str, at: int = 0, is_claimed: bool = False, most: int = 0) -> Piece:
+        """The bytes from an offset on, as a pickle of this kind."""
+        source = self.source.part(at, self.source.size) if at else self.source
+        return Piece(self.path, kind, source, is_claimed, most, self.is_cut)
+
+    def inside(self, name: str, source: Source, around: str, is_cut: bool = False) -> "Place":
+        """A member of this place, or what it unpacks to if there is no name."""
+        path = f"{self.path}!{name[:LONGEST]}" if name else self.path
+        return Place(path, source, self.budget, self.depth - 1, around, is_cut)
+
+    def unread(self, container: str, kind: str, why: str) -> Unread:
+        """A finding about this place."""
+        return Unread(self.path, container, Finding(kind, why))
+
+
+Reading = Callable[[Place], Found]
+_SEARCHED = "looked through for pickles, not read as its programs read it"
+_ONLY = {
+    "npy": "numbers only",
+    **dict.fromkeys(
+        ("HDF5", "SQLite", "GDBM", "Berkeley DB", "LMDB", "Arrow", "Parquet"), _SEARCHED
+    ),
+}
+"""What is in a file that a reader takes, and in which it finds no pickle."""
+
+
+def is_text(front: bytes) -> bool:
+    """Whether these first bytes of a file are printable text."""
+    text = front.decode("utf-8", "ignore").translate(_WHITE)
+    return text.isprintable() and 2 * len(text) >= len(front)
+
+
+_WHITE = {ord(white): " " for white in "\n\r\t\f"}
+
+
+def examine(place: Place) -> Found:
+    """All readings of a file or a member. Returns whether any reader takes it."""
+    from .all_readings import READINGS
+
+    reports = place.budget.reports
+    takers: List[str] = []
+    if place.depth < 0:
+        raise TooMuch(f"containers are more than {DEPTH} deep in one another")
+    for name, reading in READINGS.items():
+        if (yield from reading(place)):
+            takers.append(name)
+    if len(takers) > 1:
+        named = " and as ".join(takers)
+        yield place.unread("file", "differing-readings", f"it can be read as {named}")
+    elif place.budget.reports == reports:
+        around = "file" if place.around == "pickle" else place.around
+        kind = takers[0] if takers else around
+        yield Nothing(place.path, kind, place.source.size, _ONLY.get(kind, ""))
+    return bool(takers)

@@ -1,0 +1,88 @@
+"""Files at URLs that fsspec opens, such as s3, gs, hdfs, http or memory."""
+
+from __future__ import annotations
+
+import contextlib
+import shutil
+import tempfile
+from typing import Any, BinaryIO, Dict, Iterator, List, Tuple
+
+from .files import File, Files
+
+_STAMPS = ("ETag", "etag", "LastModified", "last_modified", "mtime", "updated", "created")
+"""What the file systems of fsspec call that which changes with a file."""
+
+
+def files_at(url: str, files: Files) -> Iterator[File]:
+    """The file at a URL, or those in the folder there that are chosen, one folder after another."""
+    system, path = _system_of(url)
+    if not url.endswith("/"):
+        try:
+            info = system.info(path)
+        except Exception:
+            yield File(url)  # reported as unreadable
+            return
+        if info["type"] != "directory":
+            yield _file(url, info)
+            return
+    folders = [path]
+    while folders:
+        folder = folders.pop().rstrip("/")
+        below = []
+        for info in _listed(system, folder):
+            its = system.unstrip_protocol(info["name"])
+            is_folder = info["type"] == "directory"
+            if not files.choice.takes(its.rstrip("/"), is_folder):
+                continue
+            if not is_folder:
+                yield _file(its, info)
+            elif files.recursive:
+                below.append(info["name"])
+            else:
+                files.left_out += 1
+        folders += reversed(below)
+
+
+def _listed(system: Any, folder: str) -> List[Dict[str, Any]]:
+    """What is in a folder, in the order of the names; not what is beside it or above it."""
+    try:
+        found = system.ls(f"{folder}/", detail=True)
+    except Exception as error:
+        raise OSError(f"{folder} can't be listed: {type(error).__name__}: {error}") from error
+    inside = (info for info in found if info["name"].startswith(f"{folder}/"))
+    return sorted(inside, key=lambda info: str(info["name"]))
+
+
+def _file(url: str, info: Dict[str, Any]) -> File:
+    size = info.get("size") or 0
+    stamps = [str(info[key]) for key in _STAMPS if info.get(key)]
+    return File(url, True, size, " ".join([str(size), *stamps]))
+
+
+def opened(url: str) -> "contextlib.AbstractContextManager[BinaryIO]":
+    """The file at a URL."""
+    system, path = _system_of(url)
+    made: "contextlib.AbstractContextManager[BinaryIO]" = system.open(path, "rb")
+    return made
+
+
+@contextlib.contextmanager
+def held(file: File) -> Iterator[File]:
+    """The file with its bytes in a temporary file, for a process that can't open the URL."""
+    with tempfile.NamedTemporaryFile(prefix="storklocker-") as copy:
+        with opened(file.path) as source:
+            shutil.copyfileobj(source, copy, 1 << 20)
+        copy.flush()
+        yield file._replace(held=copy.name)
+
+
+def _system_of(url: str) -> Tuple[Any, str]:
+    try:
+        import fsspec.core
+    except ImportError:
+        raise OSError(f"{url} needs the package fsspec, which is not installed") from None
+    try:
+        system, path = fsspec.core.url_to_fs(url)
+    except (ImportError, ValueError) as error:
+        raise OSError(f"{url} can't be opened: {error}") from None
+    return system, path

@@ -1,0 +1,200 @@
+"""Reads a pickle, or pickles that follow one another, up to the first that is refused."""
+
+from __future__ import annotations
+
+import itertools
+from typing import TYPE_CHECKING, Dict, Optional, Tuple
+
+from .._answers import Verdict
+from .._checking import check, check_row
+from .._lists import AllowList
+from .._reasons import Reason
+from .budget import Budget, TooMuch
+from .names import NOTHING, WIDE, Imports, imports_within, refused_with
+from .reaching import READERS_STOP, is_module, reached
+from .readings import Piece, is_text
+
+if TYPE_CHECKING:
+    from .._lists import Names
+
+_FIRST = 4096
+"""The size of the first window; it grows sixteenfold until it contains the whole pickle."""
+_WHOLE = 1 << 26
+"""The most bytes of a file that the third window of its first pickle contains at once, and of a row
+that is checked in one call.
+"""
+_ONE_BY_ONE = 1000
+"""How many pickles of a row are looked at one by one, before the rest is tried in one call."""
+_IMPORTING = (Reason.ImportOffList, Reason.UnknownImport, Reason.ExtensionCode)
+
+
+class Row:
+    """The pickles that follow one another in a piece.
+
+    names: what they would import, each pair once; for the refused one, the imports in front of the
+        place where it is refused, and the first behind it that a reader may get to.
+    is_complete: whether these are all.
+    refusal: the verdict on the first that is refused, with its offset in the piece.
+    number: the index of that one, counted from 0.
+    pickles, taken: the number of accepted pickles, and their length in bytes.
+    is_reached: whether a reader may get to an import or to STOP in the refused one.
+    stop: the offset in the piece at which every reader stops in the refused one, perhaps behind the
+        import that is there; -1 if one may go on.
+    is_cut: whether it stops there because the bytes end.
+    refused: the bytes of the refused one, and its offset.
+    too_much: why the rest was not read.
+    raw: why arrays that stand between the instructions could not be left out.
+    """
+
+    def __init__(self, piece: Piece, allow: Optional[AllowList], budget: Budget) -> None:
+        self._piece, self._source, self._budget = piece, piece.source, budget
+        self._allow, self._listed = allow, NOTHING if allow is None else allow
+        self.names: Dict["Names", None] = {}
+        self.is_complete, self.is_reached, self.is_cut = True, False, False
+        self.refusal: Optional[Verdict] = None
+        self.number = self.pickles = self.taken = self.stop = 0
+        self.refused: Tuple[bytes, int] = (b"", 0)
+        self.too_much: Optional[TooMuch] = None
+        self.raw = ""
+        self._try_at = _ONE_BY_ONE
+        try:
+            while self._is_more() and self._is_next_accepted():
+                pass
+        except TooMuch as error:
+            self.too_much = error
+
+    def _is_more(self) -> bool:
+        """Whether another pickle is to be read one by one."""
+        if self.pickles == self._piece.most > 0:
+            return False
+        if self.taken and self.taken >= self._source.size:
+            return False
+        if self.pickles == self._try_at and not self._piece.most:
+            self._try_at *= 2
+            return not self._are_all_accepted()
+        return True
+
+    def _is_next_accepted(self) -> bool:
+        """Reads the next pickle. Returns whether another may follow it."""
+        self._budget.spend_pickle()
+        data, found = self._next()
+        verdict = found.verdict
+        if self._goes_on_behind(found):
+            self.taken += verdict.at + 1
+            return True
+        names = dict.fromkeys((*found.names, *self._refused(verdict, found)))
+        self.is_complete &= found.is_complete
+        is_listed = found.is_complete and all(map(self._listed._has, names))
+        if not (verdict and is_listed) and self.refusal is None:
+            self._judge(data, verdict)
+        self.names.update(names)
+        if not verdict:
+            return False
+        self.pickles += 1
+        self.taken += verdict.taken
+        return True
+
+    def _goes_on_behind(self, found: Imports) -> bool:
+        """Whether all readers end in a text, with one of several objects and no import."""
+        end = self.taken + found.verdict.at + 1
+        return (
+            found.verdict.reason is Reason.LeftOver
+            and not (self._piece.is_claimed or self.pickles or found.names)
+            and end < self._source.size
+            and is_text(self._source.front())
+        )
+
+    def _next(self) -> Tuple[bytes, Imports]:
+        """The bytes of the next pickle, perhaps more, and its imports with each permitted."""
+        window = _FIRST
+        while True:
+            data = self._source.read(self.taken, window)
+            found = imports_within(data, self._listed)
+            if found.verdict.reason is not Reason.Truncated or len(data) < window:
+                break
+            window = self._wider(window)
+        if not found.verdict and self._allow is not None:
+            # If only the limits of the list refuse it, report its imports anyway.
+            found = imports_within(data, NOTHING)
+        return data, found
+
+    def _wider(self, window: int) -> int:
+        """The next window. For the first pickle of a file, the third one is the whole file, because
+        most files contain one pickle, and each window costs a check.
+        """
+        whole = self._source.size if self.pickles == 0 and window > _FIRST else 0
+        return max(16 * window, whole if whole <= _WHOLE else 0)
+
+    def _refused(self, verdict: Verdict, found: Imports) -> Tuple["Names", ...]:
+        """What a reader may import at the place where a pickle is refused, or behind it."""
+        if verdict:
+            return ()
+        names = refused_with(verdict.reason)
+        beyond = reached(self._source, self.taken + verdict.at, verdict.reason)
+        self.is_reached = bool(found.names) or bool(names) or bool(beyond)
+        goes_on = bool(beyond) and verdict.reason not in READERS_STOP
+        self.stop = -1 if goes_on else self.taken + verdict.at
+        self.is_cut = verdict.reason is Reason.Truncated
+        if beyond.pair is None:
+            return names
+        module, name = ((text or "").encode() for text in beyond.pair)
+        return (*names, (module, name))
+
+    def forget_impossible(self) -> None:
+        """Leaves out the names from the first on that no module has: a reader stops there."""
+        for place, (module, _) in enumerate(self.names):
+            if module is not None and not is_module(module.decode("utf-8", "replace")):
+                self.names = dict.fromkeys(itertools.islice(self.names, place))
+                self.is_reached = False
+                return
+
+    def _judge(self, data: bytes, found: Verdict) -> None:
+        """Keeps the first refusal under the list; without one, the one with every import permitted.
+        """
+        under = found if self._allow is None else check(data, self._allow, limits=WIDE)
+        if not under:
+            self.number, self.refused = self.pickles, (data, self.taken)
+            self.refusal = under._replace(at=self.taken + under.at)
+
+    def _are_all_accepted(self) -> bool:
+        """Whether all pickles that are left import nothing new, by one call. So a long row costs
+        little; and if something new is in it, that is looked for one by one.
+        """
+        left = self._source.size - self.taken
+        if left > min(_WHOLE, self._budget.row_bytes):
+            return False
+        data = self._source.read(self.taken, left)
+        names = [(module, name) for module, name in self.names if module is not None and name]
+        limits = None if self._allow is None else self._allow.limits
+        verdict = check_row(data, AllowList._of(names, limits), limits=WIDE)
+        if not verdict:
+            return False
+        self.pickles += verdict.pickles
+        self.taken += verdict.taken
+        return True
+
+
+def row_of(piece: Piece, allow: Optional[AllowList], budget: Budget) -> Optional[Row]:
+    """The row, if the bytes claim to be a pickle, or a reader may get to an import or to the end of
+    each.
+    """
+    front = piece.source.front()
+    is_claimed = piece.is_claimed or (front[:1] == b"\x80" and len(front) > 1 and front[1] <= 5)
+    if not is_claimed and not _may_be_pickle(piece, front):
+        return None
+    row = Row(piece._replace(is_claimed=is_claimed), allow, budget)
+    if not is_claimed and row.refusal is None and not row.pickles:
+        return None
+    if not is_claimed and row.refusal is not None:
+        row.forget_impossible()
+    if is_claimed or row.refusal is None or row.names or row.is_reached or not row.is_complete:
+        return row
+    return None
+
+
+def _may_be_pickle(piece: Piece, front: bytes) -> bool:
+    verdict = check(front, NOTHING, limits=WIDE)
+    if verdict or verdict.reason in _IMPORTING:
+        return True
+    is_cut = verdict.reason is Reason.Truncated and len(front) < piece.source.size
+    return bool(reached(piece.source, verdict.at, None if is_cut else verdict.reason))

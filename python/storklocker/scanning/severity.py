@@ -1,0 +1,107 @@
+"""The kinds of findings, how bad each is, and what to do about it."""
+
+from __future__ import annotations
+
+from typing import Dict, NamedTuple
+
+REFUSED = "refused"
+"""It isn't permitted by the list."""
+DANGER = "danger"
+"""It is known to run code that the pickle chooses, or to lead to a name that does."""
+UNREADABLE = "unreadable"
+"""It couldn't be read to its end, so that nothing is known of the rest."""
+WARNING = "warning"
+"""It opens files, reaches the network, changes the process, or permits more than it says."""
+NOTE = "note"
+"""It may be harmless, but nobody has looked."""
+
+SEVERITIES = (REFUSED, DANGER, UNREADABLE, WARNING, NOTE)
+"""From the worst to the least."""
+
+
+class Kind(NamedTuple):
+    """A kind of finding."""
+
+    severity: str
+    title: str
+    """What it is, in a few words."""
+    advice: str
+    """What to do about it, in one sentence."""
+
+
+KINDS: Dict[str, Kind] = {
+    "refused": Kind(
+        REFUSED,
+        "The list refuses the pickle",
+        "Don't load it. If you trust where it comes from, `storklocker learn` writes the names that"
+        " it needs.",
+    ),
+    "dangerous-import": Kind(
+        DANGER,
+        "The pickle imports a name that runs code",
+        "Don't load it. Delete it, or ask its author why it needs this name.",
+    ),
+    "hidden-import": Kind(
+        DANGER,
+        "The pickle hides what it imports",
+        "Don't load it: no library writes such a pickle.",
+    ),
+    "broken-pickle": Kind(
+        UNREADABLE,
+        "The pickle can't be followed to its end",
+        "Don't load it: a reader may run what stands in front of the fault. Get the file again.",
+    ),
+    "raw-arrays": Kind(
+        UNREADABLE,
+        "Arrays stand between the instructions of the pickle",
+        "Load it only if you trust where it comes from.",
+    ),
+    "broken-container": Kind(
+        UNREADABLE,
+        "The file is damaged",
+        "Don't load it: what is behind the damage is not known. Get the file again.",
+    ),
+    "unknown-container": Kind(
+        UNREADABLE,
+        "The file is packed in a way that is not unpacked here",
+        "Unpack it, and scan what is in it.",
+    ),
+    "differing-readings": Kind(
+        UNREADABLE,
+        "Readers differ about what is in the file",
+        "Don't load it: no library writes such a file. Get it again, or pack it again.",
+    ),
+    "too-much": Kind(
+        UNREADABLE,
+        "The file holds more than is read of one file",
+        "Don't load it, or unpack it and scan its parts.",
+    ),
+    "unreadable": Kind(
+        UNREADABLE,
+        "The file can't be read",
+        "See to it that it can be read, and scan it again; or leave it out with --exclude.",
+    ),
+    "risky-import": Kind(
+        WARNING,
+        "The pickle imports a name that does more than hold data",
+        "Load it only if you know why it needs this name, and trust where it comes from.",
+    ),
+    "wildcard": Kind(
+        WARNING,
+        "The list has a wildcard, which permits nothing",
+        "Write each name: a list has no wildcards. `storklocker learn` writes the names that"
+        " trusted files need.",
+    ),
+    "dangling-link": Kind(
+        NOTE,
+        "A link leads to nothing",
+        "Scan again where the link leads to a file, or delete it.",
+    ),
+    "unknown-import": Kind(
+        NOTE,
+        "The pickle imports a name that nobody has judged",
+        "Find out what it does when a pickle calls it; then write it into a list, and scan with"
+        " --allow.",
+    ),
+}
+"""By the name that reports give it, which never changes."""

@@ -1,0 +1,121 @@
+"""Bytes that several readers look at, each from any place and as often as it likes."""
+
+from __future__ import annotations
+
+import io
+import itertools
+import os
+import stat
+from typing import Any, BinaryIO, Tuple
+
+from .budget import UNPACKED, TooMuch
+
+BLOCK = 1 << 16
+"""How many bytes are read at once where the number doesn't matter."""
+
+
+_numbers = itertools.count(1)
+
+
+class Source:
+    """A file, a part of one, or bytes that were unpacked into memory. Reading past its end gives
+    fewer bytes, or none.
+    """
+
+    def __init__(self, file: BinaryIO, start: int, size: int, number: int = 0) -> None:
+        self._file, self._start, self.size = file, start, size
+        self._number = number or next(_numbers)
+        self._front = b""
+
+    def place(self, at: int) -> Tuple[int, int]:
+        """A place of the file that it is a part of: the number of that file, and the offset."""
+        return self._number, self._start + at
+
+    def read(self, at: int, count: int) -> bytes:
+        """The bytes from a place on."""
+        count = min(count, self.size - at)
+        if count <= 0:
+            return b""
+        if at + count <= len(self._front):
+            return self._front[at : at + count]
+        self._file.seek(self._start + at)
+        return self._file.read(count)
+
+    def fill(self, at: int, room: memoryview) -> bool:
+        """Fills a buffer with the bytes from a place on; False if there are fewer."""
+        self._file.seek(self._start + at)
+        while len(room):
+            read: int = self._file.readinto(room)  # type: ignore[attr-defined]
+            if not read:
+                return False
+            room = room[read:]
+        return True
+
+    def front(self) -> bytes:
+        """The first bytes, at most `BLOCK`."""
+        if not self._front:
+            self._front = self.read(0, BLOCK)
+        return self._front
+
+    def part(self, start: int, size: int) -> "Source":
+        """A part of it, which ends where it ends."""
+        start = min(start, self.size)
+        size = max(0, min(size, self.size - start))
+        return Source(self._file, self._start + start, size, self._number)
+
+    def opened(self) -> BinaryIO:
+        """A file that begins and ends where it does."""
+        return io.BufferedReader(_Window(self))
+
+
+class _Window(io.RawIOBase):
+    """A source as a file."""
+
+    def __init__(self, source: Source) -> None:
+        self._source, self._at = source, 0
+
+    def readable(self) -> bool:
+        return True
+
+    def seekable(self) -> bool:
+        return True
+
+    def seek(self, offset: int, whence: int = os.SEEK_SET) -> int:
+        base = {os.SEEK_SET: 0, os.SEEK_CUR: self._at, os.SEEK_END: self._source.size}[whence]
+        if base + offset < 0:
+            raise OSError("a place in front of the first byte")
+        self._at = base + offset
+        return self._at
+
+    def tell(self) -> int:
+        return self._at
+
+    def readinto(self, room: Any) -> int:
+        data = self._source.read(self._at, len(room))
+        room[: len(data)] = data
+        self._at += len(data)
+        return len(data)
+
+
+def in_memory(data: io.BytesIO) -> Source:
+    """The source of bytes in memory, with no copy."""
+    return Source(data, 0, data.seek(0, os.SEEK_END))
+
+
+def source_of(file: BinaryIO) -> Source:
+    """The source of a file. One that can't seek is read into memory."""
+    found = None
+    if file.seekable():
+        try:
+            found = os.fstat(file.fileno())
+        except OSError:  # a file in memory
+            return Source(file, 0, file.seek(0, os.SEEK_END))
+    if found is not None and stat.S_ISREG(found.st_mode) and found.st_size:
+        return Source(file, 0, found.st_size)
+    held, left = io.BytesIO(), UNPACKED
+    while left >= 0:
+        data = file.read(1 << 20)
+        if not data:
+            return in_memory(held)
+        left -= held.write(data)
+    raise TooMuch(f"it has more than {UNPACKED:,} bytes, and comes from a pipe")

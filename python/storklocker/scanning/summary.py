@@ -1,0 +1,130 @@
+"""What a whole scan found: the exit status, the progress line, and the last line on a terminal."""
+
+from __future__ import annotations
+
+import os
+import sys
+import time
+from collections import Counter
+from typing import FrozenSet, Iterable, Iterator, List, Optional, TextIO
+
+from .report import NO_PICKLE, Report
+from .severity import DANGER, NOTE, REFUSED, SEVERITIES, UNREADABLE, WARNING
+
+NEVER = "never"
+FAIL_ON = (REFUSED, DANGER, WARNING, NOTE, NEVER)
+"""The choices of `--fail-on`."""
+_FOLDERS = 10_000
+"""The most folders whose findings are counted."""
+_WORDS = {
+    REFUSED: "refused", DANGER: "dangerous", UNREADABLE: "unreadable", WARNING: "with warnings",
+    NOTE: "with names that nobody has judged",
+}
+
+
+def counted(fail_on: str) -> FrozenSet[str]:
+    """The severities that cause status 1."""
+    if fail_on == NEVER:
+        return frozenset()
+    return frozenset(SEVERITIES[: SEVERITIES.index(fail_on) + 1]) - {UNREADABLE}
+
+
+class Summary:
+    """Collects what the status and the last line of a scan depend on.
+
+    is_found: whether there is a finding that counts.
+    is_unread: whether something couldn't be read to its end.
+    """
+
+    def __init__(self, fail_on: str) -> None:
+        self._counted = counted(fail_on)
+        self.is_found = self.is_unread = False
+        self._found: "Counter[str]" = Counter()
+        self._folders: "Counter[str]" = Counter()
+        self._file = ""
+        self._is_noted = False
+        self.files = 0
+
+    def heard(self, reports: Iterable[Report]) -> Iterator[Report]:
+        """Passes on the reports, and notes what they say."""
+        for report in reports:
+            self._hear(report)
+            yield report
+
+    def _hear(self, report: Report) -> None:
+        severities = {report.status, *(it.severity for it in report.findings)}
+        self.is_unread |= UNREADABLE in severities
+        self.is_found |= not self._counted.isdisjoint(severities)
+        if report.file != self._file:
+            self._file, self._is_noted = report.file, False
+            self.files += 1
+        worst = next((it for it in SEVERITIES if it in severities), "")
+        if not worst:
+            return
+        self._found[worst] += 1
+        folder = os.path.dirname(report.file) or "."
+        if not self._is_noted and (folder in self._folders or len(self._folders) < _FOLDERS):
+            self._folders[folder] += 1
+        self._is_noted = True
+
+    def line(self, command: str) -> str:
+        """What was found, where most of it is, and the command that shows more."""
+        if not self._found:
+            return f"nothing was found in {_files(self.files)}"
+        kinds = [f"{self._found[it]:,} {_WORDS[it]}" for it in SEVERITIES if self._found[it]]
+        folder, count = self._folders.most_common(1)[0]
+        files = sum(self._folders.values())
+        where = f"most in {folder} ({count:,})" if len(self._folders) > 1 else f"all in {folder}"
+        return (
+            f"{', '.join(kinds)}: in {files:,} of {_files(self.files)}, {where};"
+            f" for what to do about each: {command}"
+        )
+
+
+def _files(count: int) -> str:
+    return "1 file" if count == 1 else f"{count:,} files"
+
+
+class Progress:
+    """A progress line on a terminal: files, bytes, files a second."""
+
+    def __init__(self, out: Optional[TextIO]) -> None:
+        self._out = out if out is not None and out.isatty() else None
+        self._is_shared = sys.stdout.isatty()
+        self._files = self._bytes = self._width = 0
+        self._findings = 0
+        self._began = self._told = time.monotonic()
+
+    def add(self, reports: List[Report]) -> None:
+        """Counts a file, and clears the progress line for its report."""
+        self._files += 1
+        self._bytes += sum(report.size for report in reports)
+        self._findings += any(report.is_finding for report in reports)
+        if self._out is None:
+            return
+        if self._is_shared and any(report.status != NO_PICKLE for report in reports):
+            self._clear()
+        elif time.monotonic() - self._told > 0.2:
+            self._told = time.monotonic()
+            self._write()
+
+    def end(self) -> None:
+        """Ends the line."""
+        if self._out is not None:
+            self._write()
+            self._out.write("\n")
+
+    def _clear(self) -> None:
+        if self._out is not None and self._width:
+            self._out.write("\r" + " " * self._width + "\r")
+            self._out.flush()
+            self._width = 0
+
+    def _write(self) -> None:
+        if self._out is not None:
+            pace = self._files / max(time.monotonic() - self._began, 0.001)
+            found = f", {self._findings:,} with findings" if self._findings else ""
+            told = f"{self._files:,} files, {self._bytes:,} bytes, {pace:.0f} a second{found} "
+            self._width = max(self._width, len(told))
+            self._out.write("\r" + told.ljust(self._width))
+            self._out.flush()

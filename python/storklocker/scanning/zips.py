@@ -1,0 +1,193 @@
+"""Zip files: by their directory as `zipfile` and as miniz find it, and by their local headers."""
+
+from __future__ import annotations
+
+import zlib
+from collections import Counter
+from typing import Any, Callable, Dict, Iterator, List, NamedTuple, Optional, Set, Tuple
+
+from .budget import PROBED
+from .packed import MEMORY, NO_MODULE, bzip2, unpack
+from .readings import Found, Place, examine
+from .source import BLOCK, Source, in_memory
+from .zip_layout import END, LOCAL, Directory, Entry, directories, entries, fault_of, local_at
+
+_HIDDEN = 0x61
+"""The flags of members that are encrypted or patched."""
+_STORED, _DEFLATED, _BZIP2, _LZMA = 0, 8, 12, 14
+_BEGIN: Dict[int, Callable[[], Any]] = {
+    _DEFLATED: lambda: zlib.decompressobj(-15),
+    _BZIP2: bzip2,
+}
+
+
+class _Read(NamedTuple):
+    """A directory that some reader uses, and its members."""
+
+    directory: Directory
+    start: int
+    """Where this reader finds the directory."""
+    members: List[Entry]
+
+    @property
+    def shift(self) -> int:
+        """What this reader adds to the offsets of members."""
+        return self.start - self.directory.start
+
+
+def zip_reading(place: Place) -> Found:
+    """What any reader of zip files gets to. The one that is laid out strictly is read once."""
+    source = place.source
+    is_named = source.front()[:4] in (LOCAL, END)
+    fault, is_read = "", False
+    seen: Set[Tuple[int, ...]] = set()
+    for read in _reads(place):
+        if source.place(read.start) in place.budget.zips:
+            continue  # that of a member, which was read as a file of its own
+        if not (read.members or is_named):
+            continue
+        fault, is_read = fault_of(source, read.directory, read.members), True
+        yield from _members(place, read.members, read.shift, seen)
+        if not fault:
+            place.budget.zips.add(source.place(read.start))
+            return True
+    if is_named and not is_read:
+        fault = "it has no directory"
+    if fault:
+        kind = "differing-readings" if is_read else "broken-container"
+        yield place.unread("zip", kind, f"{fault}: readers differ")
+        yield from _members(place, _streamed(source), 0, seen)
+    return bool(fault)
+
+
+def _reads(place: Place) -> Iterator[_Read]:
+    """The directories, each by its offset and by its size."""
+    source = place.source
+    for found in directories(source):
+        for start in dict.fromkeys((found.start, found.meets - found.size)):
+            if start >= 0:
+                yield _Read(found, start, list(entries(source, start, found)))
+                place.budget.spend_time()
+
+
+def _streamed(source: Source) -> List[Entry]:
+    """The members by their local headers, up to the first that doesn't say how long it is."""
+    members: List[Entry] = []
+    at = 0
+    while True:
+        local = local_at(source, at)
+        if local is None:
+            return members
+        members.append(local.entry)
+        at = local.data + local.entry.packed
+
+
+def _members(
+    place: Place, members: List[Entry], shift: int, seen: Set[Tuple[int, ...]]
+) -> Found:
+    """The members that weren't seen yet, by where they are and what their headers say."""
+    yield from _twice(place, members)
+    for entry in members:
+        moved = entry._replace(at=entry.at + shift)
+        key = (moved.at, moved.flags, moved.method, moved.packed)
+        if key in seen:
+            continue
+        seen.add(key)
+        place.budget.spend_member()
+        if not entry.name.endswith(b"/") or entry.size or entry.packed:
+            yield from _member(place, moved)
+    return True
+
+
+def _twice(place: Place, members: List[Entry]) -> Found:
+    """Names that two members have. Readers differ in which they use."""
+    names = [entry.text.partition("\0")[0] for entry in members]
+    twice = [name for name, count in Counter(names).items() if count > 1]
+    if twice:
+        why = f"{len(twice)} names are of two members, such as {twice[0][:80]!r}: readers differ"
+        yield place.unread("zip", "differing-readings", why)
+    pickles = sum(name.rpartition("/")[2].lower() == "data.pkl" for name in names)
+    if pickles > 1:
+        why = f"{pickles} members are called data.pkl: readers differ"
+        yield place.unread("zip", "differing-readings", why)
+    return True
+
+
+def _member(place: Place, entry: Entry) -> Found:
+    local = local_at(place.source, entry.at)
+    inner = place.inside(entry.text, place.source, "zip member")
+    if entry.flags & _HIDDEN:
+        yield inner.unread("zip", "broken-container", "it is encrypted")
+    elif local is None:
+        yield inner.unread("zip", "broken-container", "it has no local header")
+    elif entry.method not in (_STORED, _LZMA, *_BEGIN):
+        why = f"it is packed in a way ({entry.method}) that is not unpacked here"
+        yield inner.unread("zip", "unknown-container", why)
+    else:
+        packed = place.source.part(local.data, entry.packed)
+        data, fault = _content(packed, entry, place)
+        if packed.size < entry.packed:
+            fault = "it is truncated"
+        yield from examine(inner._replace(source=data, is_cut=bool(fault)))
+        if fault:
+            yield inner.unread("zip", "broken-container", fault)
+    return True
+
+
+def _content(packed: Source, entry: Entry, place: Place) -> Tuple[Source, str]:
+    """What a member unpacks to, as far as it can be unpacked, and what is wrong with it."""
+    data, fault = packed, ""
+    if entry.method != _STORED:
+        data, fault = _unpacked(packed, entry.method, place)
+    if entry.method == _LZMA and data.size == entry.size:
+        fault = ""  # its end needs no mark
+    if not fault and data.size != entry.size:
+        fault = f"it has {data.size:,} bytes, not {entry.size:,} as its header says"
+    if not fault and data.size <= PROBED and _checksum(data, place) != entry.crc:
+        fault = "Bad CRC-32"
+    return data, fault
+
+
+def _unpacked(packed: Source, method: int, place: Place) -> Tuple[Source, str]:
+    start, begin = 0, _BEGIN.get(method)
+    if begin is None:
+        start, begin = _lzma_of(packed)
+    if begin is None:
+        return packed.part(0, 0), "the properties of LZMA can't be read"
+    try:
+        found = unpack(packed, start, begin, place.budget.spend_bytes)
+    except ImportError as error:
+        return packed.part(0, 0), f"{NO_MODULE}: {error}"
+    fault = found.fault
+    if not fault and found.end != packed.size:
+        fault = "bytes follow what is packed"
+    return in_memory(found.data), fault
+
+
+def _lzma_of(packed: Source) -> Tuple[int, Optional[Callable[[], Any]]]:
+    """Where an LZMA stream of a zip file begins, behind its properties, and its filter."""
+    front = packed.read(0, 9)
+    length = int.from_bytes(front[2:4], "little")
+    properties, size = front[4] if len(front) == 9 else 225, int.from_bytes(front[5:9], "little")
+    if length != 5 or properties >= 225 or size > MEMORY:
+        return 0, None
+    numbers = {"lc": properties % 9, "lp": properties // 9 % 5, "pb": properties // 45}
+
+    def begin() -> Any:
+        import lzma
+
+        filters = [{"id": lzma.FILTER_LZMA1, "dict_size": max(size, 4096), **numbers}]
+        return lzma.LZMADecompressor(lzma.FORMAT_RAW, filters=filters)
+
+    return 9, begin
+
+
+def _checksum(data: Source, place: Place) -> int:
+    found, at = 0, 0
+    while at < data.size:
+        block = data.read(at, 16 * BLOCK)
+        if not block:
+            break
+        found, at = zlib.crc32(block, found), at + len(block)
+        place.budget.spend_time()
+    return found

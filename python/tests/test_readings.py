@@ -1,0 +1,352 @@
+"""`scan` on files that only some reader takes for a pickle, and on files that none does."""
+
+import bz2
+import gzip
+import io
+import json
+import lzma
+import pathlib
+import pickle
+import random
+import struct
+import subprocess
+import sys
+import tarfile
+import tempfile
+import time
+import unittest
+import zipfile
+import zlib
+
+import storklocker
+from common import needs
+from storklocker.scanning import tars
+from storklocker.scanning.judging import Question, reports_of
+from storklocker.scanning.names import NOTHING
+from test_scanning import GOOD, tarred, zipped
+
+RUNS = b"cposix\nsystem\n(S'echo a hostile pickle ran'\ntR."
+EVIL = b"\x80\x02" + RUNS
+SECONDS = 2
+"""The most processor time for a file of at most a megabyte."""
+
+
+def reports(data, allow=NOTHING):
+    return list(reports_of("file", io.BytesIO(data), Question(allow)))
+
+
+def npy(descr, data, version=1, shape="(1,)"):
+    """An array whose header has this type, with these bytes behind it."""
+    header = f"{{'descr': {descr}, 'fortran_order': False, 'shape': {shape}, }}".encode()
+    length = struct.pack("<H" if version == 1 else "<I", len(header))
+    return b"\x93NUMPY" + bytes((version, 0)) + length + header + data
+
+
+def header(name, size, magic=b"ustar\x0000", number=None, time=b"00000000000\0"):
+    """A header of a tar file."""
+    made = bytearray(512)
+    made[: len(name)] = name
+    made[100:124] = b"0000644\0" + b"0000000\0" * 2
+    made[124:136], made[136:148] = b"%011o\0" % size, time
+    made[148:156], made[156:157] = b" " * 8, b"0"
+    made[257 : 257 + len(magic)] = magic
+    made[148:156] = (number or (lambda total: b"%06o\0 " % total))(sum(made))
+    return bytes(made)
+
+
+def tar(head, data):
+    return head + data + b"\0" * (-len(data) % 512) + b"\0" * 1024
+
+
+def old_tar(number):
+    """A tar file without magic, whose checksum is written like this."""
+    return tar(header(b"a", len(EVIL), b"", number), EVIL)
+
+
+def local(name, data):
+    numbers = (20, 0, 0, 0, 0, zlib.crc32(data), len(data), len(data), len(name), 0)
+    return struct.pack("<4s5H3L2H", b"PK\3\4", *numbers) + name + data
+
+
+def central(name, data, at):
+    numbers = (20, 3, 20, 0, 0, 0, 0, 0, zlib.crc32(data), len(data), len(data), len(name))
+    return struct.pack("<4s4B4HL2L5H2L", b"PK\1\2", *numbers, 0, 0, 0, 0, 0, at) + name
+
+
+def two_directories():
+    """A checkpoint whose directory `zipfile` finds by its size, and torch another by its offset."""
+    names, good, data, places = (b"a/data.pkl", b"a/version"), b"", b"", []
+    for member in (GOOD, b"3\n", EVIL, b"3\n"):
+        places.append(len(data))
+        data += local(names[len(places) % 2 == 0], member)
+    size = sum(46 + len(name) for name in names)
+    shift = size + 22
+    for number, member in enumerate((GOOD, b"3\n")):
+        good += central(names[number], member, places[number] + shift)
+    evil = b"".join(central(names[number], member, places[number + 2])
+                    for number, member in enumerate((EVIL, b"3\n")))
+    end = struct.pack("<4s4H2LH", b"PK\5\6", 0, 0, 2, 2, size, len(data) + shift, len(evil))
+    return data + good + end + evil
+
+
+def alone(data, **properties):
+    filters = [{"id": lzma.FILTER_LZMA1, "dict_size": 4096, **properties}]
+    return lzma.compress(data, format=lzma.FORMAT_ALONE, filters=filters)
+
+
+def broken_at_its_end(pack):
+    """A packed pickle in front of bytes whose last ones are damaged: readers stop at STOP."""
+    noise = random.Random(1).getrandbits(8 * 30_000).to_bytes(30_000, "little")
+    data = bytearray(pack(b"B" + struct.pack("<I", 9000) + noise[:9000] + b"0" + RUNS + noise))
+    data[-6:] = bytes(6)
+    return bytes(data)
+
+
+def zip_in_tar(member):
+    """A tar file whose last member is a zip file, with so much behind it that both are found."""
+    comment = b"\0" * (-len(member) % 512 + 1024)
+    made = io.BytesIO(member)
+    with zipfile.ZipFile(made, "a") as archive:
+        archive.comment = comment
+    data = b"hello\n" + made.getvalue()
+    return header(b"readme.txt", len(data) - len(comment)) + data
+
+
+def legacy(data):
+    """torch's file of before its zip files, with this object."""
+    front = [pickle.dumps(it, 2) for it in (0x1950A86A20F9469CFC6C, 1001, {"little_endian": True})]
+    return b"".join(front) + data + pickle.dumps(["1"], 2) + struct.pack("<q2f", 2, 1, 1)
+
+
+HOSTILE = {
+    "an unknown import in front of a fault": b"S'posix'\nS'system'\n\x93S'echo\n\x85R",
+    "arrays": npy("'|O'", EVIL), "a type by name": npy("'object'", EVIL),
+    "a type with a shape": npy("('object', (1,))", EVIL), "a set": npy("{'aO'}", EVIL),
+    "a field by name": npy("[('a', 'object')]", EVIL), "a dict": npy("{'aO': 0}", EVIL),
+    "bytes": npy("(b'O', (1,))", EVIL), "npz": zipped(("a.npy", npy("'object'", EVIL))),
+    "the second array": npy("'<i8'", bytes(8)) + npy("'|O'", EVIL),
+    "a pickle behind an array": npy("'<i8'", bytes(8)) + EVIL,
+    "an empty shape": npy("'<i8'", EVIL, shape="(0, 5)"),
+    "a field of nothing": npy("[('a', '<i8', (0,))]", EVIL),
+    "ZF": b"ZF" + hex(len(EVIL)).encode().ljust(19) + zlib.compress(EVIL),
+    "ZF of Python 2": b"ZF" + hex(len(EVIL)).encode().ljust(20) + zlib.compress(EVIL),
+    "two zlib": zlib.compress(b"(") + zlib.compress(b"0" + RUNS),
+    "two gzip": gzip.compress(b"") + gzip.compress(EVIL), "lzma": alone(EVIL),
+    "gzip, zeros": gzip.compress(b"") + bytes(99) + gzip.compress(EVIL),
+    "lzma, odd": alone(EVIL, lc=2, lp=1, pb=2), "two bzip2": bz2.compress(b"") + bz2.compress(EVIL),
+    "xz, zeros": lzma.compress(b"") + bytes(4) + lzma.compress(EVIL),
+    "a name in tar": tar(header(RUNS, 3), b"hi\n"),
+    "a text with a tar header": tar(header(b"X" + struct.pack("<I", 507), 50), b"0" + RUNS),
+    "tar, base 256": old_tar(lambda total: b"\x80" + total.to_bytes(7, "big")),
+    "tar, no name": tar(header(b"", len(EVIL), b""), EVIL),
+    "tar, no name, magic": tar(header(b"", len(EVIL)), EVIL),
+    "ZF, signed": b"ZF" + (b"+%x" % len(EVIL)).ljust(19, b"\n") + zlib.compress(EVIL),
+    "tar, 0o": old_tar(lambda total: b"0o%o\0\0" % total), "tar, old": old_tar(None),
+    "a tar and a zip": zip_in_tar(zipped(("a", EVIL))),
+    "an end in front": b"PK\x05\x06" + b"\n" * 18 + zipped(("a.npy", npy("'|O'", EVIL))),
+    "the same in tar": tarred(("x.npz", b"PK\x05\x06" + b"\n" * 18 + zipped(("a", EVIL)))),
+    "zip in zip": zipped(("x.zip", b"#!sh\n" + zipped(("a", EVIL)))),
+    "two directories": two_directories(), "torch": legacy(EVIL),
+    "behind torch": legacy(GOOD) + RUNS, "persistent": b"Pabc\n0" + RUNS,
+    "a line without its end": b"cposix\nsystemX", "a module alone": b"cposix\n",
+    "no line": b"cposixX", "INST without a mark": b"iposix\nsystem\n.",
+    "a line across a frame's end": b"\x95\x05\0\0\0\0\0\0\0cbad posix\nsystem\n.",
+    "the same behind a number": b"I1_0\n0\x95\x05\0\0\0\0\0\0\0cbad posix\nsystem\n.",
+    "a long number": b"F" + b" " * 40 + b"-Infinity\n0" + RUNS,
+    "a module up to NUL": b"cos\0x\n" + RUNS.partition(b"\n")[2],
+    "lzma, a large window": alone(EVIL, dict_size=1 << 29),
+    "lzma, another byte in front": alone(EVIL)[:13] + b"\1" + alone(EVIL)[14:],
+    "xz behind lzma": alone(b"") + lzma.compress(EVIL),
+    "lzma behind xz": lzma.compress(b"(") + alone(b"0" + RUNS),
+    "the first xz alone": lzma.compress(b"cposixX") + bytes(4) + lzma.compress(b" is a text\n"),
+    "the first lzma alone": alone(b"cposixX") + bytes(4) + alone(b" is a text\n"),
+    "lzma of another window": alone(b"") + b"\0\0\x80" + bytes(15) + alone(EVIL),
+    "the first zlib alone": zlib.compress(b"cposixX") + zlib.compress(b" is a text\n"),
+    "the first zlib, not the next": zlib.compress(b"cposixX") + broken_at_its_end(zlib.compress),
+    "xz behind zeros": bytes(18) + lzma.compress(EVIL),
+    "zlib, broken at its end": broken_at_its_end(zlib.compress),
+    "lzma, broken at its end": broken_at_its_end(alone),
+}
+
+
+class Readings(unittest.TestCase):
+    def test_what_some_reader_runs(self):
+        for name, data in HOSTILE.items():
+            found = reports(data)
+            self.assertTrue(any(report.is_finding for report in found), name)
+            for nested in (gzip.compress(data), zipped(("x", data)), tarred(("x", data))):
+                self.assertTrue(any(report.is_finding for report in reports(nested)), name)
+
+    def test_what_none_runs(self):
+        made = [zipped(("a", GOOD), ("b/", b""), ("c.zip", zipped(("d", b"text")))), legacy(GOOD)]
+        made += [tarred(("a", GOOD), ("c.zip", zipped(("d", b"text")))), tarred(("é" * 99, GOOD))]
+        made += [npy("'<f8'", bytes(24), shape="(3,)") * 3, npy("[('a', '|S3')]", bytes(3)), b""]
+        made += [gzip.compress(GOOD) * 2, bytes(9000), b"PK\x05\x06" + bytes(18), b"BZh", b"x"]
+        allow = storklocker.AllowList(
+            [("collections", "OrderedDict"), ("datetime", "datetime"), ("torch", "FloatStorage")]
+        )
+        for data in made:
+            found = [it for report in reports(data, allow) for it in report.findings]
+            self.assertEqual(found, [], data[:40])
+
+    def test_texts(self):
+        texts = (
+            b"class A: pass\nx = 1\n", b"config = 1\n", b"import os\nprint(1)\n", b"count,a\n1,a\n",
+            b"continue\nimport\n", b"from x import y\n", b"Version 1\n. foo", b"(c) 2026\nI1\n.",
+            b"cronlog-stubs\ncrontab\ncron-stubs", b"cab\ncabal\ncabbage\ncable\n",
+            b"GIT v1.5.2.1 Release Notes\n", b"Ninja\n-----\n\nGenerates\n", b"NNN. Text\n",
+            b"cat,dog\ncow\n\xff", b"class Sequential(Module):\n  __parameters__ = []\n",
+        )
+        for text in texts:
+            (found,) = reports(text, None)
+            severities = {it.severity for it in found.findings}
+            self.assertLessEqual(severities, {"note"}, text)
+        self.assertEqual([report.status for report in reports(texts[-1])], ["no pickle"])
+        for text in (
+            b"cposix\nsystem\nand more", b"cos\0x\nsystem\n.", b"NN.cposix\nsystem\n",
+            b"NN.NN." + RUNS,
+        ):
+            danger = reports(text, None)[0]
+            self.assertIn("danger", {it.severity for it in danger.findings})
+
+    def test_a_text_that_a_reader_gets_beyond(self):
+        text = b"ccollections\nOrderedDict\nI1_0\n0S'posix'\nS'system'\n\x93(S'echo'\ntR."
+        self.assertEqual(pickle.loads(text.replace(b"\x93(S'echo'\ntR", b"0")), "posix")
+        (found,) = reports(text, None)
+        self.assertEqual([it.severity for it in found.findings], ["unreadable"])
+
+    @unittest.skipIf(sys.version_info < (3, 11), "`os` isn't frozen")
+    def test_python_finds_frozen_modules_up_to_a_nul(self):
+        words = [sys.executable, "-c", "import pickle, sys; pickle.load(sys.stdin.buffer)"]
+        ran = subprocess.run(words, input=HOSTILE["a module up to NUL"], stdout=subprocess.PIPE)
+        self.assertIn(b"a hostile pickle ran", ran.stdout)
+
+    def test_lzma_and_xz_follow_one_another(self):
+        names = ("xz behind lzma", "lzma behind xz", "xz behind zeros", "lzma of another window")
+        for name in names:
+            self.assertIn(RUNS, lzma.LZMAFile(io.BytesIO(HOSTILE[name])).read(), name)
+
+    def test_readers_get_to_what_is_in_front_of_a_fault(self):
+        for name, begin in (("zlib", zlib.decompressobj), ("lzma", lzma.LZMADecompressor)):
+            data, made = HOSTILE[f"{name}, broken at its end"], begin()
+            with self.assertRaises((zlib.error, lzma.LZMAError, AssertionError)):
+                unpacked = b""
+                for at in range(0, len(data), 8192):  # as joblib does
+                    unpacked += made.decompress(data[at : at + 8192])
+                self.fail(f"{name} isn't broken" if made.eof else "it is truncated")
+            self.assertIn(RUNS, unpacked)
+
+    def test_imports_in_front_of_a_fault(self):
+        front = b"\x80\x04ccollections\nOrderedDict\n)R(cos\nsystem\n(Vecho\ntR"
+        framed = b"\x80\x04\x95\xff\0\0\0\0\0\0\0" + front[2:] + b"\xff"
+        for data in (front + b"\xff.", front, framed):
+            for allow in (NOTHING, None):
+                (found,) = reports(data, allow)
+                self.assertEqual(found.imports, (("collections", "OrderedDict"), ("os", "system")))
+        (found,) = reports(b"I1_0\n0" + RUNS)
+        self.assertEqual(found.missing, (("posix", "system"),))
+
+    def test_two_readings_are_told(self):
+        found = reports(zip_in_tar(zipped(("a", EVIL))))
+        why = [it.why for report in found for it in report.findings]
+        self.assertIn("it can be read as tar and as zip", why)
+        good = zipped(("a", GOOD))
+        for data in (good + b"x", b"#!x\n" + good, gzip.compress(GOOD) + b"x"):
+            self.assertTrue(any(report.is_finding for report in reports(data)), data[-9:])
+
+    def test_two_readings_of_listed_names(self):
+        """Where a reader begins or ends elsewhere, the list may permit what another one reads."""
+        name, allow = b"ccollections\nOrderedDict\n.", storklocker.AllowList(
+            [("collections", "OrderedDict")]
+        )
+        self.assertEqual(reports(name, allow)[0].status, "accepted")
+        streams = [lzma.compress(name[:7]), bytes(4), lzma.compress(name[7:])]
+        for data in (npy("'?'", name), b"".join(streams)):
+            self.assertTrue(any(report.is_finding for report in reports(data, allow)), data)
+        self.assertFalse(any(it.is_finding for it in reports(npy("'|b1'", b"x" + name), allow)))
+
+    def test_broken_tar_files(self):
+        broken = bytearray(tarred(("a", b"N."), ("b", RUNS)))
+        broken[1024 + 148] ^= 1
+        junk = header(b"a", 2) + b"N.".ljust(512, b"\0")
+        junk += tar(header(b"b", len(RUNS), time=b"z" * 12), RUNS)
+        for data in (bytes(broken), junk, tarred(("a", b"N."))[:700]):
+            self.assertIn("unreadable", [report.status for report in reports(data)])
+
+    def test_lzma_with_impossible_properties(self):
+        made = io.BytesIO()
+        with zipfile.ZipFile(made, "w", zipfile.ZIP_LZMA) as archive:
+            archive.writestr("a", GOOD)
+        data = bytearray(made.getvalue())
+        data[30 + 1 + 4] = 8 + 9 * 4  # in all, at most 4 bits
+        found = reports(bytes(data) + zipped(("b", EVIL)))
+        self.assertIn("refused", [report.status for report in found])
+        self.assertIn("unreadable", [report.status for report in found])
+
+    def test_a_tarfile_that_is_not_known_here(self):
+        """Reading fails closed where `tarfile` doesn't call what is overridden."""
+        kept, tars._Header.fromtarfile = tars._Header.fromtarfile, tarfile.TarInfo.fromtarfile
+        try:
+            found = reports(tarred(("a", b"N.")))
+        finally:
+            tars._Header.fromtarfile = kept
+        self.assertIn("unreadable", [report.status for report in found])
+
+    @needs("/proc/self/status")
+    def test_what_a_file_may_cost(self):
+        long = b"X" + struct.pack("<I", 500_000) + b"m" * 500_000 + b"q\x000"
+        names = b"".join(b"h\0X\x03\0\0\0%03d\x930" % number for number in range(500))
+        globals_ = b"".join(b"cm%d\nx\n0" % number for number in range(80_000))
+        ends = b"PK\x03\x04" + b"PK\x05\x06" * 200_000
+        made = {
+            "names": b"\x80\x02" + long + names + b"N.", "rows": b"N." * 500_000,
+            "bomb": gzip.compress(b"N." * (30 << 20)), "globals": b"\x80\x02" + globals_ + b"\xff",
+            "ends": ends, "texts": b"Va\n" * 300_000,
+            "marks": b"\x80\x04" + b"(" * 900_000 + b"\xff",
+            "line": gzip.compress(b"I" + b"1" * (60 << 20)), "xz": lzma.compress(bytes(99 << 20)),
+            "arrays": npy("'<i8'", b"", 1, "(0,)") * 9000, "bz2": bz2.compress(bytes(200 << 20)),
+        }
+        for name, data in made.items():
+            self.assertLess(len(data), 1_100_000, name)
+            seconds, peak, size = cost_of(data)
+            self.assertLess(seconds, SECONDS, name)
+            self.assertLess(peak, 256, name)
+            self.assertLess(size, 1_000_000, name)
+
+
+def cost_of(data):
+    """The processor seconds, megabytes and bytes of JSON that a file costs in a fresh process, of
+    three tries the cheapest: the machine may be busy. (The peak of `getrusage` is at least that of
+    the process that started it.)
+    """
+    code = (
+        "import io, json, sys, time\n"
+        "from storklocker.scanning.judging import Question, reports_of\n"
+        "data = open(sys.argv[1], 'rb')\n"
+        "began = time.process_time()\n"
+        "found = [report.as_dict() for report in reports_of('x', data, Question())]\n"
+        "used = time.process_time() - began\n"
+        "lines = open('/proc/self/status').read().splitlines()\n"
+        "peak = next(int(line.split()[1]) // 1024 for line in lines if line.startswith('VmHWM'))\n"
+        "print(json.dumps([used, peak, len(json.dumps(found))]))\n"
+    )
+    package = str(pathlib.Path(storklocker.__file__).parent.parent)
+    best = None
+    with tempfile.TemporaryDirectory() as folder:
+        path = pathlib.Path(folder) / "file"
+        path.write_bytes(data)
+        for _ in range(3):
+            words = [sys.executable, "-c", code, str(path)]
+            ran = subprocess.run(
+                words, env={"PYTHONPATH": package}, stdout=subprocess.PIPE, check=True
+            )
+            found = json.loads(ran.stdout)
+            best = found if best is None or found < best else best
+            if best[0] < SECONDS / 2:
+                break
+            time.sleep(0.5)
+    return best
+
+
+if __name__ == "__main__":
+    unittest.main()

@@ -1,0 +1,117 @@
+"""`scan` on files of databases, HDF5, Arrow and Parquet with pickles in them."""
+
+import base64
+import importlib
+import pathlib
+import pickle
+import shelve
+import sqlite3
+import tempfile
+import unittest
+
+import test_readings
+from common import needs
+from storklocker import AllowList
+from test_readings import EVIL, RUNS, reports
+
+GOOD = [pickle.dumps([1, "text", {"a": 2.5}], protocol) for protocol in (2, 4)]
+SHELVES = ("dbm.gnu", "dbm.ndbm", "dbm.sqlite3")
+
+
+class Stores(unittest.TestCase):
+    def setUp(self):
+        made = tempfile.TemporaryDirectory()
+        self.addCleanup(made.cleanup)
+        self.folder = pathlib.Path(made.name)
+
+    def files(self):
+        """The bytes of each file in the folder that is not empty."""
+        found = [path.read_bytes() for path in self.folder.iterdir()]
+        return [data for data in found if data]
+
+    def check(self, data, kind, is_evil):
+        for wrap in (bytes, lambda data: test_readings.zipped(("x", data))):
+            found = reports(wrap(data), AllowList([]))
+            self.assertEqual(any(it.is_finding for it in found), is_evil, found)
+            self.assertEqual({it.kind for it in found}, {kind})
+
+    def sqlite(self, *values):
+        path = self.folder / "base"
+        base = sqlite3.connect(str(path))
+        base.execute("create table kept (value blob)")
+        base.executemany("insert into kept values (?)", [(value,) for value in values])
+        base.commit()
+        base.close()
+        data = path.read_bytes()
+        path.unlink()
+        return data
+
+    def test_blobs(self):
+        self.check(self.sqlite(b"text", 1, None, *GOOD), "SQLite", False)
+        large = b"\x80\x02B" + (9000).to_bytes(4, "little") + bytes(9000) + b"0" + RUNS
+        for value in (EVIL, RUNS, b"(" + RUNS, large, pickle.dumps(print, 4)):
+            self.check(self.sqlite(*GOOD, value), "SQLite", True)
+
+    def test_shelves(self):
+        tried = 0
+        for name in SHELVES:
+            try:
+                module = importlib.import_module(name)
+            except ImportError:
+                continue
+            tried += 1
+            for value, is_evil in (([1, 2], False), (print, True)):
+                path = str(self.folder / "shelf")
+                with shelve.Shelf(module.open(path, "c")) as shelf:
+                    shelf["a"], shelf["b"] = value, "text"
+                with shelve.open(path) as shelf:
+                    self.assertEqual(shelf["a"], value)  # it is read, so loaded
+                (data,) = self.files()
+                kinds = {"dbm.gnu": "GDBM", "dbm.ndbm": "Berkeley DB", "dbm.sqlite3": "SQLite"}
+                self.check(data, kinds[name], is_evil)
+                for path in self.folder.iterdir():
+                    path.unlink()
+        if not tried:
+            self.skipTest("no module of dbm")
+
+    @needs("module:tables")
+    def test_pytables(self):
+        import tables
+
+        for value, is_evil in (([1, "text"], False), (print, True)):
+            path = self.folder / "file.h5"
+            with tables.open_file(str(path), "w") as file:
+                row = file.create_vlarray(
+                    file.root, "row", tables.ObjectAtom(), filters=tables.Filters(5)
+                )
+                row.append(value)
+            self.check(path.read_bytes(), "HDF5", is_evil)
+            with tables.open_file(str(path), "w") as file:
+                file.root._v_attrs.kept = value
+            with tables.open_file(str(path)) as file:
+                self.assertEqual(file.root._v_attrs.kept, value)
+            self.check(path.read_bytes(), "HDF5", is_evil)
+
+    def test_schemas_of_arrow(self):
+        """Arrow before version 14.0.1 loads the pickle of an extension type."""
+        for value, is_evil in ((pickle.dumps([1], 4), False), (EVIL, True), (RUNS, True)):
+            schema = bytes(40) + b"arrow.py_extension_type" + value + bytes(9)
+            self.check(b"ARROW1\0\0" + schema, "Arrow", is_evil)
+            parquet = b"PAR1\x15\x04\x18\x0cARROW:schema\x18\x90\x01" + base64.b64encode(schema)
+            self.check(parquet + b"\0\x18\0\0\0PAR1", "Parquet", is_evil)
+
+    def test_what_has_no_pickle_is_named(self):
+        hdf5 = b"\x89HDF\r\n\x1a\n"
+        for data, kind in (
+            (self.sqlite("a text that\ncontains\nwords\n"), "SQLite"),
+            (hdf5 + bytes(range(256)) * 99, "HDF5"),
+            (b"PAR1" + bytes(99) + b"PAR1", "Parquet"),
+            (bytes(512) + hdf5 + bytes(99), "HDF5"), (b"ARROW1\0\0" + bytes(99), "Arrow"),
+        ):
+            (found,) = reports(data)
+            self.assertEqual((found.status, found.kind), ("no pickle", kind))
+            self.assertIn("not read as its programs read it", found.why)
+
+
+if __name__ == "__main__":
+    unittest.main()

@@ -1,0 +1,93 @@
+#!/usr/bin/env python3
+"""Compiles and runs the programs of examples/languages by the commands of docs/C.md, in each
+language whose compiler is here.
+
+The library is that of release/ for this machine, or one that release/library made in the folder
+that `--library` names. The last line counts the programs.
+"""
+
+import argparse
+import os
+import platform
+import re
+import shutil
+import subprocess
+import sys
+import tempfile
+from pathlib import Path
+from typing import Iterator, Tuple
+
+from worked import ROOT
+
+COMPILERS = {"C": "cc", "Rust": "cargo", "Go": "go"}
+COMMANDS = re.compile(r"(?ms)^```sh\n(.*?)^```$")
+# Pickles on standard input, and what a program says about them.
+ANSWERS = {
+    (ROOT / "examples/pickles/ordered-dict.pickle").read_bytes(): "yes: 28 bytes, 1 imports",
+    b"cos\nsystem\n.": 'no at 0: ImportOffList("os","system")',
+    b"\x80\x04\x8c\x01\n\x8c\x01\x1b\x93.": None,
+    b"\x80\x04]": "no at 3: Truncated",
+    b"": "no at 0: Truncated",
+}
+
+
+def programs() -> Iterator[Tuple[str, str]]:
+    """The language and the commands of each program."""
+    text = (ROOT / "docs/C.md").read_text()
+    for section in text.split("\n## ")[1:]:
+        yield section.partition("\n")[0], "".join(COMMANDS.findall(section))
+
+
+def unpacked(folder: Path) -> Path:
+    """The library of release/ for this machine."""
+    archives = list((ROOT / "release").glob(f"storklocker-*-{platform.machine()}-linux.tar.gz"))
+    if not archives:
+        print("skipped: release/ has no library for this machine; see --library")
+        print("0 passed, 0 failed, 1 skipped")
+        sys.exit()
+    archive = archives[0]
+    subprocess.run(["tar", "-C", folder, "-xzf", archive], check=True)
+    return folder / archive.name[: -len(".tar.gz")]
+
+
+def fault_of(folder: Path, commands: str, library: Path) -> str:
+    """What is wrong with the program in a folder, or an empty text."""
+    environment = {**os.environ, "STORKLOCKER": str(library), "GOCACHE": str(folder / "cache")}
+    built = subprocess.run(
+        ["sh", "-euc", commands], cwd=folder, env=environment, capture_output=True, text=True
+    )
+    if built.returncode != 0:
+        return built.stdout + built.stderr
+    for pickle, wanted in ANSWERS.items():
+        ran = subprocess.run([folder / "verdict"], input=pickle, capture_output=True)
+        said = ran.stdout.decode("ascii").rstrip("\n")
+        is_right = said == wanted if wanted is not None else said.isprintable()
+        if not is_right or ran.returncode != (not said.startswith("yes")) or ran.stderr:
+            return f"{pickle!r}: {said!r}, status {ran.returncode}, {ran.stderr!r}"
+    return ""
+
+
+def main() -> int:
+    parser = argparse.ArgumentParser(description=__doc__)
+    parser.add_argument("--library", type=Path, help="the folder of a library")
+    given = parser.parse_args()
+    passed = failed = skipped = 0
+    with tempfile.TemporaryDirectory() as name:
+        library = (given.library or unpacked(Path(name))).resolve()
+        for language, commands in programs():
+            if not shutil.which(COMPILERS[language]):
+                print(f"skipped: {language}, without {COMPILERS[language]}")
+                skipped += 1
+                continue
+            folder = Path(name) / language
+            shutil.copytree(ROOT / "examples" / "languages" / language.lower(), folder)
+            fault = fault_of(folder, commands, library)
+            passed, failed = passed + (not fault), failed + bool(fault)
+            if fault:
+                print(f"failed: {language}: {fault}")
+    print(f"{passed} passed, {failed} failed, {skipped} skipped")
+    return 1 if failed else 0
+
+
+if __name__ == "__main__":
+    sys.exit(main())
