@@ -12,6 +12,7 @@ import doctest
 import itertools
 import os
 import shlex
+import shutil
 import signal
 import subprocess
 import sys
@@ -21,7 +22,8 @@ from typing import Dict, Iterator, List, NamedTuple, Tuple
 
 ROOT = Path(__file__).resolve().parent.parent
 SECONDS = 120
-PYTHON = os.environ.get("PYTHON", sys.executable)
+# With its folder: the examples find this module's own `python3` first, which runs it.
+PYTHON = shutil.which(os.environ.get("PYTHON", sys.executable)) or sys.executable
 
 
 class Block(NamedTuple):
