@@ -88,9 +88,9 @@ def files(data):
 
 class Loads(unittest.TestCase):
     def test_each_accepted_seed(self):
-        for data in SEEDS:
-            if not GUARD.check(data):
-                continue
+        accepted = [data for data in SEEDS if GUARD.check(data)]
+        self.assertGreaterEqual(len(accepted), 20)
+        for data in accepted:
             for given in (data, bytearray(data), memoryview(data)):
                 self.assertEqual(GUARD.loads(given), pickle.loads(data))
             for file in files(data + b"rest"):
