@@ -9,6 +9,7 @@ end are scaled to such a machine: a figure is the median, over the rounds, of it
 import argparse
 import collections
 import datetime
+import functools
 import itertools
 import math
 import os
@@ -223,6 +224,22 @@ def lists(storklocker: ModuleType, asked: argparse.Namespace) -> Figure:
     return Figure("refusal, in microseconds", REFERENCE * max(found), 3)
 
 
+def reloading(storklocker: ModuleType, asked: argparse.Namespace) -> Figure:
+    """Times a load by a guard that looks at its list file from time to time."""
+    few = storklocker.AllowList(PAIRS)
+    with tempfile.TemporaryDirectory() as folder:
+        path = pathlib.Path(folder, "list.toml")
+        few.to_file(path)
+        guards = storklocker.Guard(few), storklocker.Guard.from_file(path, reload=30)
+        data = job(6)
+        loads = [pickle.loads, *(guard.loads for guard in guards)]
+        calls = [functools.partial(load, data) for load in loads]
+        bare, plain, again = in_turns(calls, asked.rounds, asked.calls)
+    print(f"\nwith a list that is reloaded: {min(again) - min(plain):.2f} microseconds more")
+    more = [late - soon for late, soon in zip(again, plain)]
+    return Figure("reloading, in microseconds", REFERENCE * program.ratio(more, bare), 3)
+
+
 def processors(count: int) -> List[Tuple[int, ...]]:
     """Sets of this many processors. Two may be halves of one core, which only a trial shows."""
     found = sorted(os.sched_getaffinity(0))
@@ -293,6 +310,7 @@ def main() -> int:
         *pickles(storklocker, asked),
         native(asked),
         lists(storklocker, asked),
+        reloading(storklocker, asked),
         *threads(storklocker, asked),
         imported(asked),
     ]

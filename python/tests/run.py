@@ -1,9 +1,17 @@
-"""Runs the tests beside this file. The last line counts them."""
+"""Runs the tests beside this file, each file in a process of its own. The last line counts them."""
 
 import argparse
+import concurrent.futures
+import os
 import pathlib
+import re
+import subprocess
 import sys
 import unittest
+
+HERE = pathlib.Path(__file__).resolve().parent
+# Several at a time, so that a wait costs little, and few, so that what is timed isn't disturbed.
+TOGETHER = min(4, os.cpu_count() or 1)
 
 
 class Result(unittest.TextTestResult):
@@ -16,22 +24,57 @@ class Result(unittest.TextTestResult):
         self.passed += 1
 
 
-def main():
-    parser = argparse.ArgumentParser(description=__doc__)
-    parser.add_argument(
-        "-k", action="append", metavar="PATTERN", help="only tests with this in their names"
-    )
-    asked = parser.parse_args()
+def run_alone(name, patterns):
+    """Runs the tests of a file."""
     loader = unittest.TestLoader()
-    if asked.k:
-        loader.testNamePatterns = [it if "*" in it else f"*{it}*" for it in asked.k]
-    suite = loader.discover(str(pathlib.Path(__file__).parent))
+    if patterns:
+        loader.testNamePatterns = [it if "*" in it else f"*{it}*" for it in patterns]
+    suite = loader.discover(str(HERE), name)
     result = unittest.TextTestRunner(verbosity=2, resultclass=Result).run(suite)
     for test, reason in result.skipped:
         print(f"skipped: {test.id()}: {reason}")
     failed = len(result.failures) + len(result.errors)
     print(f"{result.passed} passed, {failed} failed, {len(result.skipped)} skipped")
-    return 0 if failed == 0 and result.passed > 0 else 1
+    return 0 if failed == 0 else 1
+
+
+def said_of(name, patterns):
+    """What a file's tests print, and their counts: passed, failed, skipped."""
+    words = [sys.executable, __file__, "--file", name]
+    for pattern in patterns:
+        words += ["-k", pattern]
+    ran = subprocess.run(
+        words,
+        stdin=subprocess.DEVNULL,
+        stdout=subprocess.PIPE,
+        stderr=subprocess.STDOUT,
+        encoding="utf-8",
+        errors="replace",
+    )
+    printed, _, last = ran.stdout.rstrip("\n").rpartition("\n")
+    counts = re.fullmatch(r"(\d+) passed, (\d+) failed, (\d+) skipped", last)
+    if counts is None:
+        return f"{ran.stdout}{name} ended with status {ran.returncode}", (0, 1, 0)
+    return printed, tuple(map(int, counts.groups()))
+
+
+def main():
+    parser = argparse.ArgumentParser(description=__doc__)
+    parser.add_argument(
+        "-k", action="append", metavar="PATTERN", default=[], help="tests with this in their names"
+    )
+    parser.add_argument("--file", metavar="NAME", help="the tests of this file, in this process")
+    asked = parser.parse_args()
+    if asked.file:
+        return run_alone(asked.file, asked.k)
+    names = sorted(path.name for path in HERE.glob("test_*.py"))
+    sums = (0, 0, 0)
+    with concurrent.futures.ThreadPoolExecutor(TOGETHER) as pool:
+        for printed, counts in pool.map(lambda name: said_of(name, asked.k), names):
+            print(printed, flush=True)
+            sums = tuple(map(sum, zip(sums, counts)))
+    print("{} passed, {} failed, {} skipped".format(*sums))
+    return 0 if sums[1] == 0 and sums[0] > 0 else 1
 
 
 if __name__ == "__main__":  # (a process that a test spawns reads this file again)

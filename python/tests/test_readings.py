@@ -27,8 +27,8 @@ from test_scanning import GOOD, tarred, zipped
 
 RUNS = b"cposix\nsystem\n(S'echo a hostile pickle ran'\ntR."
 EVIL = b"\x80\x02" + RUNS
-SECONDS = 2
-"""The most processor time for a file of at most a megabyte."""
+SECONDS = 4
+"""The most processor time for a file of at most a megabyte: twice what a quiet machine takes."""
 
 
 def reports(data, allow=NOTHING):

@@ -235,22 +235,6 @@ class Reloading(unittest.TestCase):
         self.assertEqual(wrong, [])
 
 
-class Cost(unittest.TestCase):
-    def test_a_load_costs_little_more(self):
-        with tempfile.TemporaryDirectory() as folder:
-            path = Path(folder, "list.toml")
-            COUNTERS.to_file(path)
-            plain, reloading = Guard(COUNTERS), Guard.from_file(path, reload=30)
-            least = [1.0, 1.0]
-            for _ in range(20):
-                for place, guard in enumerate((plain, reloading)):
-                    began = time.perf_counter()
-                    for _ in range(1000):
-                        guard.loads(b"N.")
-                    least[place] = min(least[place], time.perf_counter() - began)
-        self.assertLess(least[1] - least[0], 3e-3)
-
-
 class Telling(unittest.TestCase):
     """Misuse of a listed name comes to `on_refusal`."""
 
