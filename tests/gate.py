@@ -116,6 +116,15 @@ class Scripts(Copies):
         status, lines = self.ran("python/services", **alone)
         self.assertEqual((status, len(lines), self.counts(lines)), (1, 2, [0, 1, 0]))
 
+    def test_an_interpreter_by_its_name(self) -> None:
+        program = str(self.script(self.fakes / "pktool", "echo none"))
+        code = r"""import worked; print(worked.examples("```console\n$ python3 -V\n$ echo\n\n```", 0))"""
+        path = str(self.copy / "tests")
+        for python in ("python3", sys.executable):
+            words = [sys.executable, "-c", code]
+            _, lines = self.ran(*words, PKTOOL=program, PYTHON=python, PYTHONPATH=path)
+            self.assertRegex(lines[-1], r"^\(1, \[\(2, 'python3 -V prints\\nPython 3", python)
+
     def test_nothing_is_installed_unasked(self) -> None:
         told = self.fakes / "told"
         for name in ("apt-get", "sudo"):

@@ -3,6 +3,7 @@ service is not installed is skipped.
 """
 
 import ast
+import concurrent.futures
 import importlib
 import importlib.util
 import os
@@ -15,6 +16,8 @@ from pathlib import Path
 
 HERE = Path(__file__).resolve().parent
 SECONDS = 300
+# They mostly wait for their servers.
+TOGETHER = 3
 
 
 def is_missing(name):
@@ -35,18 +38,36 @@ def missing_for(name):
 
 
 def run(name):
-    """Whether the test passes, with no mark left by a hostile pickle."""
+    """What a test prints, and whether it passes, with no mark left by a hostile pickle."""
     with tempfile.TemporaryDirectory() as marks, tempfile.TemporaryDirectory() as modules:
         path = os.pathsep.join([str(HERE), modules, *filter(None, [os.environ.get("PYTHONPATH")])])
         # (its clients would ask a server that has gone when they are cleared away)
         words = [sys.executable, "-c", f"import os, {name}; {name}.run(); os._exit(0)"]
         environment = {**os.environ, "PYTHONPATH": path, "STORKLOCKER_MARKS": marks}
         environment.update(PYTHONDONTWRITEBYTECODE="1", STORKLOCKER_MODULES=modules)
-        ran = subprocess.run(words, cwd=HERE, env=environment, timeout=SECONDS)
+        began = time.monotonic()
+        ran, said = ended(words, environment)
+        took = time.monotonic() - began
         left = sorted(Path(marks).iterdir())
         for mark in left:
-            print(f"{name}: a mark: {mark.name}", mark.read_text()[:2000] if mark.is_file() else "")
-        return ran.returncode == 0 and not left
+            text = mark.read_text()[:2000] if mark.is_file() else ""
+            said += f"{name}: a mark: {mark.name} {text}\n"
+        is_good = ran == 0 and not left
+        return f"{said}{name}: {'passed' if is_good else 'FAILED'}, {took:.1f} s", is_good
+
+
+def ended(words, environment):
+    """The status of a process, which is None if it was stopped, and its output."""
+    with tempfile.TemporaryFile("w+", encoding="utf-8", errors="replace") as output:
+        both = {"stdout": output, "stderr": subprocess.STDOUT}
+        try:
+            ran = subprocess.run(words, cwd=HERE, env=environment, timeout=SECONDS, **both)
+        except subprocess.TimeoutExpired:
+            status = None
+        else:
+            status = ran.returncode
+        output.seek(0)
+        return status, output.read()
 
 
 def main():
@@ -55,17 +76,18 @@ def main():
         print(f"{sys.executable} doesn't find the package: python/make builds its module")
         print("0 passed, 1 failed")
         return 1
+    names = []
     for path in sorted(HERE.glob("test_*.py")):
         missing = missing_for(path.stem)
         if missing:
             print(f"skipped: {path.stem}: not installed: {', '.join(missing)}", flush=True)
             skipped += 1
-            continue
-        began = time.monotonic()
-        good = run(path.stem)
-        passed, failed = passed + good, failed + (not good)
-        word = "passed" if good else "FAILED"
-        print(f"{path.stem}: {word}, {time.monotonic() - began:.1f} s", flush=True)
+        else:
+            names.append(path.stem)
+    with concurrent.futures.ThreadPoolExecutor(TOGETHER) as pool:
+        for said, is_good in pool.map(run, names):
+            print(said, flush=True)
+            passed, failed = passed + is_good, failed + (not is_good)
     print(f"{passed} passed, {failed} failed, {skipped} skipped")
     return 1 if failed else 0
 
