@@ -31,8 +31,8 @@ SECONDS = 4
 """The most processor time for a file of at most a megabyte: twice what a quiet machine takes."""
 
 
-def reports(data, allow=NOTHING):
-    return list(reports_of("file", io.BytesIO(data), Question(allow)))
+def reports(data, allow=NOTHING, path="file"):
+    return list(reports_of(path, io.BytesIO(data), Question(allow)))
 
 
 def npy(descr, data, version=1, shape="(1,)"):

@@ -92,6 +92,20 @@ class Stores(unittest.TestCase):
                 self.assertEqual(file.root._v_attrs.kept, value)
             self.check(path.read_bytes(), "HDF5", is_evil)
 
+    @needs("module:tables")
+    def test_user_blocks(self):
+        import tables
+
+        path = self.folder / "file.h5"
+        for size in (512, 1 << 16, 1 << 17, 1 << 20):
+            for value, is_evil in (([1, "text"], False), (print, True)):
+                with tables.open_file(str(path), "w", user_block_size=size) as file:
+                    file.root._v_attrs.kept = value
+                path.write_bytes(b"a text".ljust(size) + path.read_bytes()[size:])
+                with tables.open_file(str(path)) as file:
+                    self.assertEqual(file.root._v_attrs.kept, value)
+                self.check(path.read_bytes(), "HDF5", is_evil)
+
     def test_schemas_of_arrow(self):
         """Arrow before version 14.0.1 loads the pickle of an extension type."""
         for value, is_evil in ((pickle.dumps([1], 4), False), (EVIL, True), (RUNS, True)):

@@ -2,8 +2,9 @@
 
     report.py       the report on a file or a member
     readings.py     what the readers that people use would get to; all_readings.py lists them
-    pickles.py, npys.py, tars.py, packed.py, zips.py, zip_layout.py and stores.py
-                    the rule of each reader
+    pickles.py, npys.py, tars.py, packed.py, zips.py, zip_layout.py, checkpoints.py, stores.py and
+    shelves.py      the rule of each reader
+    beside.py       the file that says where the values of a shelf are
     source.py       bytes that several readers look at
     budget.py       how much is read of one file
     judging.py      makes the report on each pickle

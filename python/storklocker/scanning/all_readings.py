@@ -10,11 +10,13 @@ from .packed import (
 )
 from .pickles import pickle_reading
 from .readings import Reading
+from .shelves import shelf_reading
 from .stores import STORES
 from .tars import tar_reading
 from .zips import zip_reading
 
 READINGS: Dict[str, Reading] = {
+    "dbm.dumb": shelf_reading,  # the first, because it says where the pickles are
     "pickle": pickle_reading,
     "npy": npy_reading,
     "tar": tar_reading,

@@ -42,8 +42,12 @@ class Budget:
         """The most bytes of a row that are checked in one call, which nothing interrupts."""
         self.reports = 0
         """The number of reports on this file so far."""
-        self.zips: Set[Tuple[int, int]] = set()
-        """The places of the end records of the zip files that were read."""
+        self.zips: Set[Tuple[int, int, int]] = set()
+        """The directories of the zip files that were read: the file, the place, and the place from
+        which they count.
+        """
+        self.shelves: Set[Tuple[int, int]] = set()
+        """The places of shelves, each of whose values is read."""
 
     def spend_bytes(self, count: int) -> None:
         """Counts bytes that were unpacked."""

@@ -8,7 +8,7 @@ import pickle
 import threading
 from typing import Any, Deque, Dict, Iterable, Iterator, List, NamedTuple, Tuple
 
-from .files import File
+from .files import File, batches
 from .isolated import Isolated
 from .judging import Question
 from .report import Finding, Report, report_of, unreadable
@@ -59,7 +59,7 @@ class _Cluster:
     def scanned(self, files: Iterable[File]) -> Iterator[Tuple[File, List[Report]]]:
         """The reports, while later batches are worked on."""
         waiting: Deque[_Waiting] = Deque()
-        for batch in _batches(files):
+        for batch in batches(files, FILES, BYTES):
             waiting.append(_Waiting(batch, self._submitted(batch)))
             if len(waiting) >= self._most:
                 yield from self._answer(waiting.popleft())
@@ -109,19 +109,6 @@ class _Cluster:
             why = Finding("unreadable", "the workers that read it ended")
             report = unreadable(file.path, "file", why, file.path)
             return json.dumps([report.as_dict()])
-
-
-def _batches(files: Iterable[File]) -> Iterator[List[File]]:
-    batch: List[File] = []
-    size = 0
-    for file in files:
-        batch.append(file)
-        size += file.size
-        if len(batch) >= FILES or size >= BYTES:
-            yield batch
-            batch, size = [], 0
-    if batch:
-        yield batch
 
 
 def scan_batch(batch: List[File], question: str) -> Answer:

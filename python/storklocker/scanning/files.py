@@ -4,10 +4,11 @@ from __future__ import annotations
 
 import itertools
 import os
-from typing import Callable, Iterable, Iterator, NamedTuple, Optional, Tuple
+from typing import Callable, Iterable, Iterator, List, NamedTuple, Optional, Tuple
 
 from .choosing import Choice
 from .report import Report
+from .shelves import places_of
 
 _BLOCK = 100_000
 """How many entries of a folder are sorted at once."""
@@ -101,6 +102,20 @@ class Files:
         return not self._roots.isdisjoint((folder, *_parents(folder)))
 
 
+def batches(files: Iterable[File], most: int, room: int) -> Iterator[List[File]]:
+    """The files in batches of at most so many files, each ended by the one that fills its bytes."""
+    batch: List[File] = []
+    size = 0
+    for file in files:
+        batch.append(file)
+        size += file.size
+        if len(batch) >= most or size >= room:
+            yield batch
+            batch, size = [], 0
+    if batch:
+        yield batch
+
+
 def _is_system(entry: "os.DirEntry[str]") -> bool:
     return f"/{entry.name}" in _SYSTEM and os.path.realpath(entry.path) in _SYSTEM
 
@@ -121,7 +136,19 @@ def _file(path: str) -> File:
         found = os.stat(path)
     except OSError:
         return File(path)
-    return File(path, True, found.st_size, f"{found.st_size} {found.st_mtime_ns}")
+    return File(path, True, found.st_size, f"{_stamp(found)}{_stamp_beside(path)}")
+
+
+def _stamp(found: os.stat_result) -> str:
+    return f"{found.st_size} {found.st_mtime_ns}"
+
+
+def _stamp_beside(path: str) -> str:
+    """The stamp of the file that says where the values in this one are."""
+    try:
+        return f" {_stamp(os.stat(places_of(path)))}"
+    except OSError:
+        return ""
 
 
 def _sorted(found: Iterator["os.DirEntry[str]"]) -> Iterator["os.DirEntry[str]"]:

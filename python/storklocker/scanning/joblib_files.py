@@ -9,13 +9,12 @@ from .._lists import AllowList
 from .budget import Budget
 from .joblib_cutting import WRAPPERS, Cutter
 from .joblib_types import NotJoblib
-from .names import NOTHING, imports_within
+from .names import length_at
 from .readings import Piece
 from .rows import Row
-from .source import Source, in_memory
+from .source import in_memory
 
 WRAPPER_NAMES = frozenset((module.encode(), name.encode()) for module, name in WRAPPERS)
-_FIRST = 1 << 16
 
 
 def without_arrays(
@@ -26,7 +25,7 @@ def without_arrays(
     """
     source = piece.source
     try:
-        cut = Cutter(source, lambda at: _length(source, at, budget), budget.spend_time).cut()
+        cut = Cutter(source, lambda at: length_at(source, at, budget), budget.spend_time).cut()
         if cut.end < source.size:
             raise NotJoblib("bytes follow it")
     except NotJoblib as error:
@@ -44,14 +43,3 @@ def without_arrays(
         first.too_much = first.too_much or other.too_much
     first.taken = cut.end
     return piece, first
-
-
-def _length(source: Source, at: int, budget: Budget) -> int:
-    """The length of the pickle at an offset; 0 if no list makes it acceptable."""
-    size = _FIRST
-    while True:
-        verdict = imports_within(source.read(at, size), NOTHING).verdict
-        budget.spend_time()
-        if verdict or size >= source.size - at:
-            return verdict.taken
-        size *= 16

@@ -12,7 +12,7 @@ from .dangers import import_findings
 from .joblib_files import WRAPPER_NAMES, without_arrays
 from .listing import listing
 from .names import WIDE
-from .readings import Nothing, Piece, Place, Unread, examine, is_text
+from .readings import Beside, Nothing, Piece, Place, Unread, examine, is_text, nothing
 from .report import (
     ACCEPTED, LONGEST, NO_PICKLE, UNJUDGED, Finding, Pair, Report, sorted_findings, unreadable
 )
@@ -33,11 +33,13 @@ class Question(NamedTuple):
     """Whether the reports need the SHA-256, which takes half as long as a check."""
 
 
-def reports_of(path: str, file: BinaryIO, question: Question) -> Iterator[Report]:
+def reports_of(
+    path: str, file: BinaryIO, question: Question, beside: Beside = nothing
+) -> Iterator[Report]:
     """The reports on a file: one for each piece that is a pickle, and one for each finding."""
     try:
         source = source_of(file)
-        place = Place(path, source, Budget(source.size))
+        place = Place(path, source, Budget(source.size), beside=beside)
         yield from _reports_at(place, question)
     except TooMuch as error:
         yield unreadable(path, "file", Finding("too-much", str(error)), path)

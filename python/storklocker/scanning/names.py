@@ -9,6 +9,8 @@ from .._limits import Limits
 from .._lists import AllowList, records, settings_of
 from .._reasons import Reason
 from .._storklocker import imports as _imports
+from .budget import Budget
+from .source import BLOCK, Source
 
 if TYPE_CHECKING:
     from .._lists import Names
@@ -41,6 +43,18 @@ def imports_within(data: bytes, allow: AllowList, limits: Limits = WIDE) -> Impo
     if wanted > size:
         verdict, wanted, room = _imports(data, allow, settings, wanted)
     return Imports(verdict, dict.fromkeys(records(room[:wanted])))
+
+
+def length_at(source: Source, at: int, budget: Budget) -> int:
+    """The length of the pickle at an offset; 0 if no list makes it acceptable."""
+    size = BLOCK
+    while True:
+        verdict = imports_within(source.read(at, size), NOTHING).verdict
+        budget.spend_time()
+        is_cut = verdict.reason is Reason.Truncated and size < source.size - at
+        if not is_cut:
+            return verdict.taken
+        size *= 16
 
 
 def refused_with(reason: Optional[Reason]) -> Tuple[Names, ...]:

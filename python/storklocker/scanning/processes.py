@@ -11,7 +11,7 @@ import signal
 import threading
 from typing import Deque, Iterable, Iterator, List, Tuple
 
-from .files import File
+from .files import File, batches
 from .judging import Question
 from .report import Report
 from .scan import reports_on
@@ -36,7 +36,7 @@ def scan_in_processes(
     with _pool_of(question, jobs) as pool:
         waiting: Deque[Tuple[Batch, "concurrent.futures.Future[List[List[Report]]]"]] = Deque()
         try:
-            for batch in _batches(files):
+            for batch in batches(files, _FILES, _BYTES):
                 waiting.append((batch, _submitted(pool, batch, question)))
                 if len(waiting) >= _AHEAD * jobs:
                     done, future = waiting.popleft()
@@ -60,19 +60,6 @@ def _pool_of(question: Question, jobs: int) -> concurrent.futures.ProcessPoolExe
     except (OSError, NotImplementedError):
         why = "no semaphores for several processes (is /dev/shm mounted?): scan with one"
         raise OSError(why) from None
-
-
-def _batches(files: Iterable[File]) -> Iterator[Batch]:
-    batch: Batch = []
-    size = 0
-    for file in files:
-        batch.append(file)
-        size += file.size
-        if len(batch) >= _FILES or size >= _BYTES:
-            yield batch
-            batch, size = [], 0
-    if batch:
-        yield batch
 
 
 def _submitted(

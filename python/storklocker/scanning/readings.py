@@ -55,6 +55,14 @@ Answer = Optional[int]
 Found = Generator[Union[Piece, Unread, Nothing], Answer, bool]
 
 
+Beside = Callable[[], Optional[Source]]
+
+
+def nothing() -> Optional[Source]:
+    """No file is beside it."""
+    return None
+
+
 class Place(NamedTuple):
     """What is read: bytes, where they are from, and what may be spent on them."""
 
@@ -67,6 +75,8 @@ class Place(NamedTuple):
     """What a pickle is called here."""
     is_cut: bool = False
     """Whether bytes are missing at its end, which is reported."""
+    beside: Beside = nothing
+    """Gives the file with the places of values in this one, if there is one beside it."""
 
     def piece(self, kind: str, at: int = 0, is_claimed: bool = False, most: int = 0) -> Piece:
         """The bytes from an offset on, as a pickle of this kind."""

@@ -5,9 +5,11 @@ from __future__ import annotations
 import contextlib
 import shutil
 import tempfile
+from pathlib import Path
 from typing import Any, BinaryIO, Dict, Iterator, List, Tuple
 
 from .files import File, Files
+from .shelves import VALUES, places_of
 
 _STAMPS = ("ETag", "etag", "LastModified", "last_modified", "mtime", "updated", "created")
 """What the file systems of fsspec call that which changes with a file."""
@@ -23,7 +25,7 @@ def files_at(url: str, files: Files) -> Iterator[File]:
             yield File(url)  # reported as unreadable
             return
         if info["type"] != "directory":
-            yield _file(url, info)
+            yield _file(system, url, info)
             return
     folders = [path]
     while folders:
@@ -35,7 +37,7 @@ def files_at(url: str, files: Files) -> Iterator[File]:
             if not files.choice.takes(its.rstrip("/"), is_folder):
                 continue
             if not is_folder:
-                yield _file(its, info)
+                yield _file(system, its, info)
             elif files.recursive:
                 below.append(info["name"])
             else:
@@ -53,10 +55,16 @@ def _listed(system: Any, folder: str) -> List[Dict[str, Any]]:
     return sorted(inside, key=lambda info: str(info["name"]))
 
 
-def _file(url: str, info: Dict[str, Any]) -> File:
-    size = info.get("size") or 0
-    stamps = [str(info[key]) for key in _STAMPS if info.get(key)]
-    return File(url, True, size, " ".join([str(size), *stamps]))
+def _file(system: Any, url: str, info: Dict[str, Any]) -> File:
+    stamps, other = _stamps(info), places_of(info["name"])
+    if other:
+        with contextlib.suppress(Exception):  # there is none
+            stamps += _stamps(system.info(other))
+    return File(url, True, info.get("size") or 0, " ".join(stamps))
+
+
+def _stamps(info: Dict[str, Any]) -> List[str]:
+    return [str(info.get("size") or 0), *(str(info[key]) for key in _STAMPS if info.get(key))]
 
 
 def opened(url: str) -> "contextlib.AbstractContextManager[BinaryIO]":
@@ -68,12 +76,22 @@ def opened(url: str) -> "contextlib.AbstractContextManager[BinaryIO]":
 
 @contextlib.contextmanager
 def held(file: File) -> Iterator[File]:
-    """The file with its bytes in a temporary file, for a process that can't open the URL."""
-    with tempfile.NamedTemporaryFile(prefix="storklocker-") as copy:
-        with opened(file.path) as source:
-            shutil.copyfileobj(source, copy, 1 << 20)
-        copy.flush()
-        yield file._replace(held=copy.name)
+    """The file with its bytes in a temporary one, for a process that can't open the URL; and with
+    the one beside it that has the places of its values.
+    """
+    other = places_of(file.path)
+    with tempfile.TemporaryDirectory(prefix="storklocker-") as folder:
+        copy = Path(folder, f"copy{VALUES if other else ''}")
+        _copy(file.path, copy)
+        if other:
+            with contextlib.suppress(FileNotFoundError):
+                _copy(other, Path(places_of(str(copy))))
+        yield file._replace(held=str(copy))
+
+
+def _copy(url: str, path: Path) -> None:
+    with opened(url) as source, path.open("wb") as copy:
+        shutil.copyfileobj(source, copy, 1 << 20)
 
 
 def _system_of(url: str) -> Tuple[Any, str]:

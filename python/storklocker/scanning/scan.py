@@ -12,6 +12,7 @@ from typing import (
     BinaryIO, ContextManager, Iterable, Iterator, List, NamedTuple, Optional, TextIO, Tuple
 )
 
+from .beside import beside
 from .condensing import condensed
 from .files import File, is_url
 from .judging import Question, reports_of
@@ -30,7 +31,8 @@ def scan_file(file: File, question: Question) -> List[Report]:
     reports: List[Report] = []
     try:
         with _opened(file) as opened:
-            for report in condensed(reports_of(name, opened, question)):
+            found = reports_of(name, opened, question, lambda: beside(file))
+            for report in condensed(found):
                 reports.append(report)
         return reports
     except MemoryError:

@@ -8,9 +8,10 @@ from __future__ import annotations
 
 import base64
 import io
+import itertools
 import re
 import struct
-from typing import TYPE_CHECKING, Dict, Iterator, List, Tuple
+from typing import TYPE_CHECKING, Deque, Dict, Iterator, List, Sequence, Tuple
 
 from .._reasons import Reason
 from .budget import Budget
@@ -18,25 +19,30 @@ from .dangers import judged
 from .known import HARMLESS
 from .names import NOTHING, imports_within
 from .readings import Found, Piece, Place, Reading
-from .source import Source, in_memory
+from .source import BLOCK, Source, in_memory
 
 if TYPE_CHECKING:
     from .._lists import Names
 
 _WORD = rb"[A-Za-z_][\w.]{0,99}"
-_BEGINNING = re.compile(
-    rb"\x80[\x02-\x05]|\([dl]p?[0-9]*\n|(?=[ci]%b\n%b\n)|\x8c.%b\x94?\x8c.%b\x94?\x93"
-    % ((_WORD,) * 4),
-    re.DOTALL,
+_BEGINNINGS = tuple(
+    re.compile(begun, re.DOTALL)
+    for begun in (
+        rb"\x80(?=[\x02-\x05])",
+        rb"\((?=[dl]p?[0-9]*\n)",
+        rb"c(?=%b\n%b\n)" % (_WORD, _WORD),
+        rb"i(?=%b\n%b\n)" % (_WORD, _WORD),
+        rb"\x8c(?=.%b\x94?\x8c.%b\x94?\x93)" % (_WORD, _WORD),
+    )
 )
 """PROTO, the front of a dict or a list of protocol 0, or an import, which may begin anywhere in a
-word.
+word. A pattern each, because the search for a first byte is fast.
 """
 _LONGEST = 512
 """More bytes than these patterns match."""
 _STEP, _FIRST, _MOST = 1 << 20, 1 << 12, 1 << 20
 _MAGICS: Dict[str, List[Tuple[int, bytes]]] = {
-    "HDF5": [(at, b"\x89HDF\r\n\x1a\n") for at in (0, *(512 << power for power in range(16)))],
+    "HDF5": [(at, b"\x89HDF\r\n\x1a\n") for at in (0, *(512 << power for power in range(48)))],
     "SQLite": [(0, b"SQLite format 3\0")],
     "GDBM": [
         (0, struct.pack(f"{order}I", number))
@@ -58,20 +64,40 @@ _SCHEMA = re.compile(rb"ARROW:schema.{0,16}?([A-Za-z0-9+/]{64,}={0,2})", re.DOTA
 
 
 def _reading(name: str) -> Reading:
-    magics = [(magic, at) for at, magic in _MAGICS[name]]
-
     def reading(place: Place) -> Found:
-        if not any(map(place.source.front().startswith, *zip(*magics))):
+        if not _has_one(place.source, _MAGICS[name]):
             return False
-        for source in (place.source, *(_schemas(place.source) if name == "Parquet" else ())):
-            end, word = 0, "at" if source is place.source else "schema, at"
-            for at in _beginnings(source, place.budget):
-                if at >= end and _is_pickle(source, at):
-                    path, rest = f"{place.path}!{word} {at}", source.part(at, source.size)
-                    end = at + ((yield Piece(path, name, rest, True, 1)) or 0)
+        yield from searched(place, name)
+        for source in _schemas(place.source) if name == "Parquet" else ():
+            yield from searched(place.inside("schema", source, name), name)
         return True
 
     return reading
+
+
+def searched(place: Place, kind: str, known: Sequence[Tuple[int, int]] = ()) -> Found:
+    """The pickles that begin anywhere, but in parts that are known, each from an offset to another,
+    in their order.
+    """
+    source, end, left = place.source, 0, Deque(known)
+    for at in _beginnings(source, place.budget):
+        while left and left[0][0] <= at:
+            end = max(end, left.popleft()[1])
+        if at >= end and _is_pickle(source, at):
+            rest = source.part(at, source.size)
+            end = at + ((yield Piece(f"{place.path}!at {at}", kind, rest, True, 1)) or 0)
+    return True
+
+
+def _has_one(source: Source, magics: List[Tuple[int, bytes]]) -> bool:
+    """Whether the source has some of these bytes at their places."""
+    front = source.front()
+    for at, magic in magics:
+        if at >= source.size:  # as all that follow
+            break
+        if front.startswith(magic, at) or at >= BLOCK and source.read(at, len(magic)) == magic:
+            return True
+    return False
 
 
 def _schemas(source: Source) -> Iterator[Source]:
@@ -85,10 +111,11 @@ def _beginnings(source: Source, budget: Budget) -> Iterator[int]:
     """The places that look like the beginning of a pickle."""
     for start in range(0, source.size, _STEP):
         block = source.read(start, _STEP + _LONGEST)
-        for found in _BEGINNING.finditer(block):
-            if found.start() < _STEP:
-                budget.spend_time()
-                yield start + found.start()
+        budget.spend_time()
+        places = sorted(it.start() for begun in _BEGINNINGS for it in begun.finditer(block))
+        for at in itertools.takewhile(lambda at: at < _STEP, places):
+            budget.spend_time()
+            yield start + at
 
 
 def _is_pickle(source: Source, at: int) -> bool:

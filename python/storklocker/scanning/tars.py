@@ -5,10 +5,12 @@ from __future__ import annotations
 import io
 import re
 import tarfile
-from typing import Any, List, Optional
+from functools import partial
+from typing import Any, Dict, Iterator, List, Optional, Tuple
 
 from .packed import behind_zeros
 from .readings import Found, Place, examine
+from .shelves import places_of
 from .source import Source, in_memory
 
 _BLOCK = 512
@@ -30,6 +32,9 @@ _LARGE = 8**11
 
 class _Broken(Exception):
     """A header that `tarfile` can't read. It would stop there without an error."""
+
+
+_FAULTS = (_Broken, tarfile.TarError, OSError, ValueError, EOFError)
 
 
 class _Header(tarfile.TarInfo):
@@ -71,9 +76,27 @@ def tar_reading(place: Place) -> Found:
         return False
     if is_behind:
         odd.append("it begins with zeros")
-    count, end = 0, at
     try:
         archive = _Archive(fileobj=source.opened(), mode="r", ignore_zeros=True)
+        for entry, other in _entries(place, archive, at, odd):
+            yield from _member(place, archive, entry, other)
+    except _FAULTS as error:
+        odd.append(str(error))
+    if odd:
+        yield place.unread("tar", "differing-readings", f"{odd[0]}: readers differ")
+    return True
+
+
+def _entries(
+    place: Place, archive: _Archive, end: int, odd: List[str]
+) -> Iterator[Tuple[tarfile.TarInfo, Optional[tarfile.TarInfo]]]:
+    """The members with contents, from an offset on, each with that of the places of its values. The
+    latter may follow, so members with values come last.
+    """
+    source, count = place.source, 0
+    named: Dict[str, tarfile.TarInfo] = {}
+    late: List[tarfile.TarInfo] = []
+    try:
         while True:
             entry, count = archive.following(count), count + 1
             if entry is None:
@@ -84,13 +107,16 @@ def tar_reading(place: Place) -> Found:
             end = source.size if entry.issparse() else end
             odd += _oddities(source, archive, entry)
             place.budget.spend_member()
-            if entry.isreg() or entry.type not in tarfile.SUPPORTED_TYPES:
-                yield from _member(place, archive, entry)
-    except (_Broken, tarfile.TarError, OSError, ValueError, EOFError) as error:
+            if not entry.isreg() and entry.type in tarfile.SUPPORTED_TYPES:
+                continue
+            named[entry.name] = entry
+            if places_of(entry.name):
+                late.append(entry)
+            else:
+                yield entry, None
+    except _FAULTS as error:
         odd.append(str(error))
-    if odd:
-        yield place.unread("tar", "differing-readings", f"{odd[0]}: readers differ")
-    return True
+    yield from ((entry, named.get(places_of(entry.name))) for entry in late)
 
 
 def _is_header(header: bytes) -> bool:
@@ -122,12 +148,24 @@ def _oddities(source: Source, archive: tarfile.TarFile, entry: tarfile.TarInfo) 
     return found
 
 
-def _member(place: Place, archive: tarfile.TarFile, entry: tarfile.TarInfo) -> Found:
-    content = place.source.part(entry.offset_data, entry.size)
+def _member(
+    place: Place,
+    archive: tarfile.TarFile,
+    entry: tarfile.TarInfo,
+    other: Optional[tarfile.TarInfo],
+) -> Found:
+    """A member, beside which another may have the places of values."""
+    content = _content(place, archive, entry)
+    inner = place.inside(entry.name, content, "tar member", content.size < entry.size)
+    if other is not None:
+        inner = inner._replace(beside=partial(_content, place, archive, other))
+    return (yield from examine(inner))
+
+
+def _content(place: Place, archive: tarfile.TarFile, entry: tarfile.TarInfo) -> Source:
     if entry.issparse():
-        content = _expanded(place, archive.extractfile(entry))
-    is_cut = content.size < entry.size
-    return (yield from examine(place.inside(entry.name, content, "tar member", is_cut)))
+        return _expanded(place, archive.extractfile(entry))
+    return place.source.part(entry.offset_data, entry.size)
 
 
 def _expanded(place: Place, file: Any) -> Source:

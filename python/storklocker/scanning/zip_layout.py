@@ -18,7 +18,8 @@ _END64 = struct.Struct("<4sQ2H2L4Q")
 _CENTRAL = struct.Struct("<4s2B5H3L5H2L")
 _LOCAL = struct.Struct("<4s5H3L2H")
 END, LOCAL = b"PK\x05\x06", b"PK\x03\x04"
-_TAIL = _END.size + (1 << 16)
+END_SIZE = _END.size
+_TAIL = END_SIZE + (1 << 16)
 _ENDS = 8
 """The most end records that are looked at."""
 _NONE16, _NONE32 = (1 << 16) - 1, (1 << 32) - 1

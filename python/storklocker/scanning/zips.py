@@ -4,16 +4,20 @@ from __future__ import annotations
 
 import zlib
 from collections import Counter
+from functools import partial
 from typing import Any, Callable, Dict, Iterator, List, NamedTuple, Optional, Set, Tuple
 
 from .budget import PROBED
+from .checkpoints import checkpoint_reading
 from .packed import MEMORY, NO_MODULE, bzip2, unpack
 from .readings import Found, Place, examine
+from .shelves import places_of
 from .source import BLOCK, Source, in_memory
 from .zip_layout import END, LOCAL, Directory, Entry, directories, entries, fault_of, local_at
 
 _HIDDEN = 0x61
 """The flags of members that are encrypted or patched."""
+_PACKED = "it is packed in a way"
 _STORED, _DEFLATED, _BZIP2, _LZMA = 0, 8, 12, 14
 _BEGIN: Dict[int, Callable[[], Any]] = {
     _DEFLATED: lambda: zlib.decompressobj(-15),
@@ -38,26 +42,32 @@ class _Read(NamedTuple):
 def zip_reading(place: Place) -> Found:
     """What any reader of zip files gets to. The one that is laid out strictly is read once."""
     source = place.source
+    is_parted = yield from checkpoint_reading(place)
     is_named = source.front()[:4] in (LOCAL, END)
     fault, is_read = "", False
     seen: Set[Tuple[int, ...]] = set()
     for read in _reads(place):
-        if source.place(read.start) in place.budget.zips:
+        if _place_of(source, read) in place.budget.zips:
             continue  # that of a member, which was read as a file of its own
         if not (read.members or is_named):
             continue
         fault, is_read = fault_of(source, read.directory, read.members), True
         yield from _members(place, read.members, read.shift, seen)
         if not fault:
-            place.budget.zips.add(source.place(read.start))
+            place.budget.zips.add(_place_of(source, read))
             return True
     if is_named and not is_read:
         fault = "it has no directory"
-    if fault:
+    if fault and not is_parted:
         kind = "differing-readings" if is_read else "broken-container"
         yield place.unread("zip", kind, f"{fault}: readers differ")
         yield from _members(place, _streamed(source), 0, seen)
-    return bool(fault)
+    return bool(fault) or is_parted
+
+
+def _place_of(source: Source, read: _Read) -> Tuple[int, int, int]:
+    """The place of a directory, and the one from which its offsets are counted."""
+    return (*source.place(read.start), source.place(read.shift)[1])
 
 
 def _reads(place: Place) -> Iterator[_Read]:
@@ -87,15 +97,16 @@ def _members(
 ) -> Found:
     """The members that weren't seen yet, by where they are and what their headers say."""
     yield from _twice(place, members)
-    for entry in members:
-        moved = entry._replace(at=entry.at + shift)
-        key = (moved.at, moved.flags, moved.method, moved.packed)
+    moved = [entry._replace(at=entry.at + shift) for entry in members]
+    named = {entry.text: entry for entry in moved}
+    for entry in moved:
+        key = (entry.at, entry.flags, entry.method, entry.packed)
         if key in seen:
             continue
         seen.add(key)
         place.budget.spend_member()
         if not entry.name.endswith(b"/") or entry.size or entry.packed:
-            yield from _member(place, moved)
+            yield from _member(place, entry, named.get(places_of(entry.text)))
     return True
 
 
@@ -113,25 +124,36 @@ def _twice(place: Place, members: List[Entry]) -> Found:
     return True
 
 
-def _member(place: Place, entry: Entry) -> Found:
-    local = local_at(place.source, entry.at)
-    inner = place.inside(entry.text, place.source, "zip member")
-    if entry.flags & _HIDDEN:
-        yield inner.unread("zip", "broken-container", "it is encrypted")
-    elif local is None:
-        yield inner.unread("zip", "broken-container", "it has no local header")
-    elif entry.method not in (_STORED, _LZMA, *_BEGIN):
-        why = f"it is packed in a way ({entry.method}) that is not unpacked here"
-        yield inner.unread("zip", "unknown-container", why)
-    else:
-        packed = place.source.part(local.data, entry.packed)
-        data, fault = _content(packed, entry, place)
-        if packed.size < entry.packed:
-            fault = "it is truncated"
-        yield from examine(inner._replace(source=data, is_cut=bool(fault)))
-        if fault:
-            yield inner.unread("zip", "broken-container", fault)
+def _member(place: Place, entry: Entry, other: Optional[Entry]) -> Found:
+    """A member, beside which another may have the places of values."""
+    data, fault = _read(place, entry)
+    inner = place.inside(entry.text, data or place.source, "zip member", bool(fault))
+    if data is not None:
+        if other is not None:
+            inner = inner._replace(beside=partial(_data, place, other))
+        yield from examine(inner)
+    if fault:
+        kind = "unknown-container" if fault.startswith(_PACKED) else "broken-container"
+        yield inner.unread("zip", kind, fault)
     return True
+
+
+def _read(place: Place, entry: Entry) -> Tuple[Optional[Source], str]:
+    """What a member holds, as far as it can be read, and what is wrong with it."""
+    local = local_at(place.source, entry.at)
+    if entry.flags & _HIDDEN:
+        return None, "it is encrypted"
+    if local is None:
+        return None, "it has no local header"
+    if entry.method not in (_STORED, _LZMA, *_BEGIN):
+        return None, f"{_PACKED} ({entry.method}) that is not unpacked here"
+    packed = place.source.part(local.data, entry.packed)
+    data, fault = _content(packed, entry, place)
+    return data, fault if packed.size == entry.packed else "it is truncated"
+
+
+def _data(place: Place, entry: Entry) -> Optional[Source]:
+    return _read(place, entry)[0]
 
 
 def _content(packed: Source, entry: Entry, place: Place) -> Tuple[Source, str]:
