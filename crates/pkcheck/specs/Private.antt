@@ -15,7 +15,6 @@ pub mod ListIndex
 pub mod NewTexts
 pub mod NextPickle
 pub mod Turns
-pub mod ThreeEnds
 pub mod NamelessOperations
 pub mod Steps
 pub mod NamedOperations

@@ -8,8 +8,12 @@ use crate::listening::Listener;
 use pkops::{Inst, Op};
 use std::convert::Infallible;
 
-/// Whoever is told of the instructions of a check.
-pub(crate) trait Audience {
+/// Whoever is told of the instructions of a check, each before it is judged.
+///
+/// An audience that holds payloads is told of each instruction whole. Any other audience is told of
+/// an instruction with a payload of plain bytes as skipped, wherever its bytes lie, and of every
+/// other one whole. Such payloads are those of BINBYTES, SHORT_BINBYTES, BINBYTES8 and BYTEARRAY8.
+pub trait Audience {
     /// Why the audience stops the check.
     type Error;
 
@@ -19,18 +23,28 @@ pub(crate) trait Audience {
     // What it was told between two of its states, in order.
     ghost hears: { Self → Self → List Report → Type 0 };
 
-    /// Whether all payloads are held for it. Otherwise those of plain bytes are skipped, and so are
-    /// those that lie at hand.
+    /// Whether all payloads are held for it. Otherwise those of plain bytes are skipped.
     fn holds() -> bool
         ensures { result ≡ holding };
 
-    /// Tells of an admitted instruction before it is judged, as in `Listener::hear`.
+    /// Tells of an instruction that was read whole and is admitted, before it is judged. `at` is
+    /// the offset of its first byte, counted from the first byte taken. `marks` is the number of
+    /// open marks before it, which is the same in every run.
+    ///
+    /// # Errors
+    ///
+    /// An error ends the check.
     fn tell(&mut self, at: u64, inst: &Inst<'_>, marks: usize) -> Result<(), Self::Error>
         ensures { OnOk result (hears self.old self.new
             (report at (Whole (instruction_of inst.now)) marks ∷ [])) };
 
-    /// Tells of an admitted instruction with this opcode and length, whose payload is skipped. It
+    /// Tells of an admitted instruction with this opcode, whose payload is skipped, before it is
+    /// judged. `length` is the number of its bytes, with its opcode, its count and its payload. It
     /// isn't called where all payloads are held.
+    ///
+    /// # Errors
+    ///
+    /// An error ends the check.
     fn tell_skipped(
         &mut self,
         at: u64,

@@ -1,13 +1,12 @@
 //! The loop of every check.
 //!
-//! For a silent audience the payloads of bytes and bytearrays are skipped; a listener has them
-//! held. So `Limits::holding_all` lowers `passed` to `counted` for it, and a pickle that `check`
-//! accepts may be `TooLarge` for a listing.
+//! An audience may have the payloads of bytes and bytearrays held. `Limits::holding_all` lowers
+//! `passed` to `counted` for it, so a pickle that `check` accepts may be `TooLarge` for a listing.
 
 ghost use Rattle.std.specs.Prelude.{◌≡◌, IfErr, IfOk, MatchResult, true};
 ghost use Rattle.pkread.specs.Rows.{sight};
 ghost use Rattle.pkcheck.specs.Import.{policy_of};
-ghost use Rattle.pkcheck.specs.Private.ThreeEnds.{AnswersTold, CountsTold, StopsTold};
+ghost use Rattle.pkcheck.specs.ThreeEnds.{AnswersTold, CountsTold, StopsTold};
 
 use crate::audience::Audience;
 use crate::checking::No;
@@ -23,7 +22,7 @@ use std::alloc::Global;
 
 /// Where a check ends if nothing is refused.
 #[derive(Clone, Copy, Debug, PartialEq, Eq)]
-pub(crate) enum Extent {
+pub enum Extent {
     /// Behind the first STOP.
     OnePickle,
     /// At the end of the source.
@@ -32,30 +31,42 @@ pub(crate) enum Extent {
 
 /// What a check goes by, apart from the policy.
 #[derive(Clone, Copy, Debug)]
-pub(crate) struct Terms {
+pub struct Terms {
+    /// The limits. For an audience that holds payloads, `counted` must limit all of them, as in
+    /// `Limits::holding_all`.
     pub limits: Limits,
+    /// How the pickles are loaded. A pickle that is alone begins with an empty memo.
     pub loading: Loading,
+    /// Where the check ends.
     pub extent: Extent,
 }
 
-/// A refused pickle, with its number in the row. If it is alone, the imports are those of the
-/// instructions before the refused one.
+/// A refused pickle.
 #[derive(Debug, Drop)]
-pub(crate) struct RefusedPickle {
+pub struct RefusedPickle {
+    /// The number of the refused pickle, counted from 0. Those before it are accepted.
     pub pickle: u64,
+    /// Its refusal, with an offset counted from the first byte taken from the source.
     pub no: No,
+    /// For [`Extent::OnePickle`], what the instructions before `no.at` import, in order.
     pub imports: Imports,
 }
 
 /// Checks pickles that follow one another in a source, and tells the audience of each instruction
-/// before it is judged.
+/// before it is judged: of the accepted ones, and of the refused one if it was read completely and
+/// is admitted. The answer is that of [`check_with_imports`](crate::check_with_imports) or of
+/// [`check_all_loaded`](crate::check_all_loaded), which are this loop with an audience that is told
+/// nothing.
+///
+/// The payloads of plain bytes are skipped under the limit `passed`, and told as skipped, unless
+/// the audience holds payloads.
 ///
 /// # Errors
 ///
 /// The error of the audience, which ends the check. By then it was told of every earlier
 /// instruction, and none of these was refused. The bytes taken are exactly those of these
 /// instructions and of the one at which the audience failed.
-pub(crate) fn check_pickles<R: Source, A: Audience>(
+pub fn check_pickles<R: Source, A: Audience>(
     alloc: Global,
     source: &mut R,
     policy: &Policy<'_>,

@@ -25,6 +25,8 @@ mod turned;
 mod with_imports;
 
 pub use allow::{Allow, AllowError, Where};
+pub use audience::Audience;
+pub use check_loop::{Extent, RefusedPickle, Terms, check_pickles};
 pub use checking::{No, Yes, check, check_as};
 pub use import::{Asked, Import};
 pub use import_list::{ImportIter, ImportList};

@@ -16,7 +16,7 @@ use Rattle.pkread.specs.declared.Refusal.{Refusal as ReadRefusal}
 use Rattle.pkcheck.specs.Heard.{refused_instruction}
 use Rattle.pkcheck.specs.Knowledge.{Asked, Knowledge, Policy, nothing_known}
 use Rattle.pkcheck.specs.Private.NextPickle.{IsRefusedBehind, listed_in, moved_apart, restarted}
-use Rattle.pkcheck.specs.Private.ThreeEnds.{AcceptedAndTold, AreReportsOf}
+use Rattle.pkcheck.specs.ThreeEnds.{AcceptedAndTold, AreReportsOf}
 use Rattle.pkcheck.specs.Refused.{RefusedFrom}
 use Rattle.pkcheck.specs.Reports.{AreReportsBehind, Report}
 use Rattle.pkcheck.specs.RowOfPickles.{HasMore, begins, bytes_of_all}

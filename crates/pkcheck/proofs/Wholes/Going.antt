@@ -13,8 +13,8 @@ use Rattle.pkcheck.specs.Covers.{Covers}
 use Rattle.pkcheck.specs.Knowledge.{Asked, Policy}
 use Rattle.pkcheck.specs.Private.Judgement.{IsRefused, SessionView}
 use Rattle.pkcheck.specs.Private.Lent.{FailsAtHand, GoesAlong, HearsAlong, HearsRefused}
-use Rattle.pkcheck.specs.Private.ThreeEnds.{AcceptedAndTold, AreReportsOf, RefusedAndTold}
-use Rattle.pkcheck.specs.Private.ThreeEnds.{StoppedAndTold}
+use Rattle.pkcheck.specs.ThreeEnds.{AcceptedAndTold, AreReportsOf, RefusedAndTold}
+use Rattle.pkcheck.specs.ThreeEnds.{StoppedAndTold}
 use Rattle.pkcheck.specs.Private.Turns.{FailsNext, HearsNext, RefusesNext}
 use Rattle.pkcheck.specs.Reports.{AreReportsBehind, Report, report, told_of}
 use Rattle.pkcheck.specs.RowOfPickles.{HasMore}

@@ -17,8 +17,8 @@ use Rattle.pkcheck.specs.Accepted.{AcceptedFrom}
 use Rattle.pkcheck.specs.Heard.{refused_instruction}
 use Rattle.pkcheck.specs.Knowledge.{Asked, Policy}
 use Rattle.pkcheck.specs.Listing.{imports_among}
-use Rattle.pkcheck.specs.Private.ThreeEnds.{AcceptedAndTold, AreReportsOf, RefusedAndTold}
-use Rattle.pkcheck.specs.Private.ThreeEnds.{StoppedAndTold, StoppedFrom}
+use Rattle.pkcheck.specs.ThreeEnds.{AcceptedAndTold, AreReportsOf, RefusedAndTold}
+use Rattle.pkcheck.specs.ThreeEnds.{StoppedAndTold, StoppedFrom}
 use Rattle.pkcheck.specs.Refused.{RefusedFrom}
 use Rattle.pkcheck.specs.Reports.{AreReportsBehind, Report}
 use Rattle.pkcheck.specs.RowOfPickles.{HasMore, begins, bytes_of_all}

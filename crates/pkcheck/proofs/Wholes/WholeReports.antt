@@ -7,7 +7,7 @@ use Rattle.pkread.specs.Sequence.{spellings}
 use Rattle.pkcheck.specs.Faults.{InEachRun}
 use Rattle.pkcheck.specs.Heard.{AreHeardBehind, Heard, IsCutShort}
 use Rattle.pkcheck.specs.Knowledge.{Policy}
-use Rattle.pkcheck.specs.Private.ThreeEnds.{StoppedFrom}
+use Rattle.pkcheck.specs.ThreeEnds.{StoppedFrom}
 use Rattle.pkcheck.specs.Private.WholeReports.{whole_of, wholes}
 use Rattle.pkcheck.specs.Reports.{AreReportsBehind, Report, Told, Whole}
 use Rattle.pkcheck.specs.RowRuns.{Afresh}
