@@ -9,6 +9,7 @@ use Rattle.pkcheck.specs.declared.effect.Gives.TheVariants.{MayMake, Answers, Le
 use Rattle.pkcheck.specs.Effects.{Effect, Operates, Moves, Stops, Raises, effect_of}
 use Rattle.pkcheck.specs.Shape.{Breach, moved, operands, top}
 use Rattle.pkload.specs.Bill.{Bill, billed_by, move_billed, stop_billed}
+use Rattle.pkload.specs.Memory.{number_kept}
 use Rattle.pkload.specs.Private.Billing.{action_in, operated_on}
 use Rattle.pkload.specs.declared.action.Action.{Action}
 use Rattle.pkload.specs.declared.action.Action.TheVariants as action
@@ -17,7 +18,8 @@ use Rattle.pkload.specs.declared.action.Action.TheVariants as action
 abbrev by_action : Action → Instruction → Bill → Result Bill Breach
 by_action (action.Gives takes) i b = operated_on false i b (operands takes b.shape.entries)
 by_action (action.Leaves takes) i b = operated_on true i b (operands takes b.shape.entries)
-by_action (action.Moves move) i b = move_billed b (moved move (memo_number i) b.shape)
+by_action (action.Moves move) i b = move_billed move (number_kept move (memo_number i) b.shape) b
+    (moved move (memo_number i) b.shape)
 by_action action.Stops i b = stop_billed b (top b.shape.entries)
 
 abbrev is_raise : Effect → Bool

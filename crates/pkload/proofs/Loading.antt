@@ -18,7 +18,7 @@ use Rattle.pkload.specs.Laws.{EndsBilled}
 use Rattle.pkload.specs.Loading.{CostsWithin, EndsWithin, IsRightLoading}
 use Rattle.pkload.specs.Private.Meter.{Meter, Meters}
 use Rattle.pkload.specs.Tally.{IsAtMost}
-use Rattle.pkload.specs.Tolls.{IsWithin}
+use Rattle.pkload.specs.Tolls.{IsWithin, KeepsWithin}
 use Rattle.pkload.specs.Weighed.{account_of}
 use Rattle.pkload.specs.declared.tally.Tally.{Tally}
 use Rattle.pkload.specs.declared.tolls.Tolls.{Tolls}
@@ -52,28 +52,31 @@ ends_within tolls bill (EndedBy (WentOn s)) h w = absurd h
 ends_within tolls bill (EndedBy (Stuck b)) h w = absurd h
 
 costs : (tolls : Tolls) (is : List Instruction) (bill : Bill)
-    → all_billed Unknown is no_bill ≡ Ok bill → IsWithin tolls bill.tally → CostsWithin tolls is
+    → all_billed is no_bill ≡ Ok bill → KeepsWithin tolls bill.tally bill.memory
+    → CostsWithin tolls is
 costs tolls is bill e w = record {
   bill = bill;
   billed = e;
-  within = w;
+  within = w.0;
+  memory = w.1;
   runs = λ os new. ends_within tolls bill (run is os start)
-      (bill_bounds_runs Unknown is os bill e new) w;
+      (bill_bounds_runs Unknown is os bill e new) w.0;
 }
 
 module _ (policy : Policy) (limits : Bounds) (tolls : Tolls) (old new : Sight) where
   right_loading : (answer : Result Yes No) (hs : List Heard) (x y : Meter)
       → IsRightAndHeard policy limits old new answer hs → Meters x y hs → x.bill ≡ no_bill
-      → x.tolls ≡ tolls → IfOk answer (λ _. (y.excess ≡ None) × IsWithin y.tolls y.bill.tally)
+      → x.tolls ≡ tolls → IfOk answer (λ _. (y.excess ≡ None)
+      × KeepsWithin y.tolls y.bill.tally y.bill.memory)
       → IsRightLoading policy limits tolls old new answer
   right_loading (Ok answered) hs x y h m begins same w = record {
     accepted = h.right;
     costs = costs tolls h.right.instructions y.bill
-        (ap (λ is. all_billed Unknown is no_bill)
+        (ap (λ is. all_billed is no_bill)
         (sym (heard_all [] h.right.instructions hs h.each))
-        ∙ ap (λ b. all_billed Unknown (map (λ h. h.instruction) hs) b) (sym begins)
+        ∙ ap (λ b. all_billed (map (λ h. h.instruction) hs) b) (sym begins)
         ∙ m.billed w.0)
-        (subst (λ t. IsWithin t y.bill.tally) (m.tolls ∙ same) w.1);
+        (subst (λ t. KeepsWithin t y.bill.tally y.bill.memory) (m.tolls ∙ same) w.1);
   }
   right_loading (Err refused) hs x y h m begins same w = h.right
 
@@ -83,7 +86,8 @@ module _ (policy : Policy) (limits : Bounds) (tolls : Tolls) (old new : Sight) w
       (x y : Meter) → IsRightAndHeard policy limits old new answer hs
       → Meters x y hs → x.bill ≡ no_bill → x.tolls ≡ tolls
       → IfOk settled (λ a. a ≡ answer)
-      → IfOk settled (λ a. IfOk a (λ _. (y.excess ≡ None) × IsWithin y.tolls y.bill.tally))
+      → IfOk settled (λ a. IfOk a (λ _. (y.excess ≡ None)
+      × KeepsWithin y.tolls y.bill.tally y.bill.memory))
       → IfOk settled (IsRightLoading policy limits tolls old new)
   settled_loading (Ok a) answer hs x y h m begins same e w =
       right_loading a hs x y (subst (λ b. IsRightAndHeard policy limits old new b hs) (sym e) h) m

@@ -4,7 +4,6 @@ use Rattle.std.proofs.Common.{Bool, ◌++◌, false, replicate, true}
 use Rattle.pkops.specs.declared.Op.{Op}
 use Rattle.pkops.specs.declared.Op.TheVariants as op
 use Rattle.pkops.specs.Spelling.{Counted, Instruction, Line, Nothing, Number, Pair, instruction}
-use Rattle.pkcheck.specs.declared.old_strings.OldStrings.TheVariants.{Unknown}
 use Rattle.pkcheck.specs.Runs.{Foreign, Go, Raise, Stopped, WentOn, Raised, Stuck, start}
 use Rattle.pkcheck.specs.Shape.{Breach}
 use Rattle.pkcheck.specs.WholeRuns.{Ended, EndedBy, Reached, run}
@@ -29,14 +28,22 @@ abbrev tally_in : Result Bill Breach → Tally
 tally_in (Ok bill) = bill.tally
 tally_in (Err breach) = no_tally
 
+-- the memory that loading takes
+abbrev memory_in : Result Bill Breach → ℕ
+memory_in (Ok bill) = bill.memory
+memory_in (Err breach) = 0
+
+abbrev takes_memory : List Instruction → ℕ
+takes_memory is = memory_in (all_billed is no_bill)
+
 -- what the bill counts: levels, weight, work, clash
 abbrev counts : List Instruction → ℕ × ℕ × ℕ × ℕ
 counts is =
-    let t = tally_in (all_billed Unknown is no_bill) in (t.levels, t.weight, t.work, t.clash)
+    let t = tally_in (all_billed is no_bill) in (t.levels, t.weight, t.work, t.clash)
 
 -- BUILD takes an imported object
 abbrev builds : List Instruction → Bool
-builds is = (tally_in (all_billed Unknown is no_bill)).builds
+builds is = (tally_in (all_billed is no_bill)).builds
 
 -- SETITEM with this key, and then STOP
 abbrev as_key : List Instruction → List Instruction
@@ -138,6 +145,47 @@ an_answer : counts
     (as_key (global ∷ bare op.EmptyTuple ∷ bare op.Tuple1 ∷ bare op.Reduce ∷ [])) ≡ (0, 1, 1, 0)
 an_answer = refl
 
+-- ---- memory
+
+-- two sets of 240, a list of 80, 16 for each instruction and for the mark, 72 for APPENDS
+a_list_of_two_sets : takes_memory
+    (bare op.EmptyList ∷ bare op.Mark ∷ bare op.EmptySet ∷ bare op.EmptySet ∷ bare op.Appends
+    ∷ bare op.Stop ∷ [])
+    ≡ 744
+a_list_of_two_sets = refl
+
+-- a dict of 80, two tuples of 80, 176 for SETITEM
+a_doubled_key : takes_memory
+    (as_key (bare op.EmptyTuple ∷ bare op.Dup ∷ bare op.Tuple2 ∷ bare op.Dup ∷ bare op.Tuple2 ∷ []))
+    ≡ 560
+a_doubled_key = refl
+
+-- 16 for each memo number
+a_high_memo_number : takes_memory
+    (bare op.None ∷ instruction op.BinPut (Number 1 255) ∷ bare op.Memoize ∷ bare op.Stop ∷ [])
+    ≡ 4_176
+a_high_memo_number = refl
+
+-- an ASCII text takes a byte a character
+a_text_of_three_bytes : takes_memory (text 3 ∷ bare op.Stop ∷ []) ≡ 99
+a_text_of_three_bytes = refl
+
+-- a character of two bytes in UTF-8 takes one byte, or two behind the first 256
+a_text_of_one_character : takes_memory
+    (instruction op.ShortBinUnicode (Counted (195 ∷ 169 ∷ [])) ∷ bare op.Stop ∷ []) ≡ 121
+a_text_of_one_character = refl
+
+a_text_of_a_wide_character : takes_memory
+    (instruction op.ShortBinUnicode (Counted (97 ∷ 208 ∷ 150 ∷ [])) ∷ bare op.Stop ∷ []) ≡ 124
+a_text_of_a_wide_character = refl
+
+-- a set of five has a table
+a_set_of_five : takes_memory
+    (bare op.EmptySet ∷ bare op.Mark ∷ int 1 ∷ int 2 ∷ int 3 ∷ int 4 ∷ int 5 ∷ bare op.AddItems
+    ∷ bare op.Stop ∷ [])
+    ≡ 1_120
+a_set_of_five = refl
+
 -- ---- BUILD
 
 build_of_an_import : builds (global ∷ bare op.EmptyDict ∷ bare op.Build ∷ bare op.Stop ∷ []) ≡ true
@@ -183,12 +231,12 @@ doubled_key =
     as_key (bare op.EmptyTuple ∷ bare op.Dup ∷ bare op.Tuple2 ∷ bare op.Dup ∷ bare op.Tuple2 ∷ [])
 
 the_run_of_doubled : tally_of (run doubled_key (Go 0 Foreign ∷ []) start)
-    ≡ tally_in (all_billed Unknown doubled_key no_bill)
+    ≡ tally_in (all_billed doubled_key no_bill)
 the_run_of_doubled = refl
 
 -- a key that can't be hashed raises, and was counted
 a_raising_key : tally_of (run doubled_key (Raise ∷ []) start)
-    ≡ tally_in (all_billed Unknown doubled_key no_bill)
+    ≡ tally_in (all_billed doubled_key no_bill)
 a_raising_key = refl
 
 -- with an answer that is a tuple of the pickle, a key weighs more than the bill says

@@ -1,17 +1,28 @@
 -- Each step of a run whose answers are new costs what the step of the bill says.
-use Rattle.std.proofs.Common.{◌≡◌, ℕ, ◌≤◌, Bool, true, false, cond, List, [], ◌∷◌, ◌++◌, length}
-use Rattle.std.proofs.Common.{map, Option, Some, None, Result, Ok, Err, sym, ap, subst, ◌∙◌}
+use Rattle.std.proofs.Common.{◌≡◌, ℕ, ◌+◌, ◌≤◌, Bool, true, false, cond, List, [], ◌∷◌, ◌++◌, length}
+use Rattle.std.proofs.Common.{map, Option, Some, None, Result, Ok, Err, refl, sym, ap, subst, ◌∙◌}
 use Rattle.std.proofs.Common.{arith, length-append, le-ltb}
-use Rattle.std.specs.Prelude.{⊤}
+use Rattle.std.specs.Prelude.{⊤, unwrap_or}
+use Rattle.std.specs.Char.{is_ascii}
+use Rattle.std.specs.List.{list_all}
+use Rattle.pkops.specs.OldBytes.{old_bytes}
+use Rattle.pkops.specs.declared.Op.{Op}
+use Rattle.pkops.specs.declared.Op.TheVariants as op
 use Rattle.pkops.specs.Operands.{memo_number}
 use Rattle.pkops.specs.Spelling.{Instruction}
 use Rattle.pkcheck.specs.declared.effect.Names.{Names}
 use Rattle.pkcheck.specs.declared.effect.Gives.{Gives}
+use Rattle.pkcheck.specs.declared.effect.Move.{Move}
 use Rattle.pkcheck.specs.declared.effect.Gives.TheVariants.{Makes, MakesIntOrBool, MakesText}
 use Rattle.pkcheck.specs.declared.effect.Gives.TheVariants.{MayMake, Answers, Leaves}
+use Rattle.pkcheck.specs.declared.effect.Class.TheVariants as class
+use Rattle.pkcheck.specs.declared.effect.Names.TheVariants.{NoName}
+use Rattle.pkcheck.specs.declared.effect.Takes.TheVariants.{Objects}
 use Rattle.pkcheck.specs.declared.old_strings.OldStrings.{OldStrings}
+use Rattle.pkcheck.specs.declared.old_strings.OldStrings.TheVariants.{Unknown, Ascii, Bytes}
 use Rattle.pkcheck.specs.Covers.{Alike, AlikeCell, AlikeEntry, Pointwise}
-use Rattle.pkcheck.specs.Effects.{Effect, Operates, Moves, Stops, Raises, effect_as}
+use Rattle.pkcheck.specs.Effects.{Effect, Operates, Moves, Stops, Raises, answers, ascii_string}
+use Rattle.pkcheck.specs.Effects.{effect_as, effect_of, is_old_string, pushes}
 use Rattle.pkcheck.specs.Runs.{Did, Foreign, Go, Import, Named, NoImport, NotTexts, Object}
 use Rattle.pkcheck.specs.Runs.{ObjectClass, Outcome, Pair, Raise, Raised, State, Stepped, Stopped}
 use Rattle.pkcheck.specs.Runs.{Stuck, WentOn, answered, asks, class_at, come_of, effect_asks}
@@ -26,6 +37,7 @@ use Rattle.pkload.specs.Bill.{Bill, billed, billed_by, heft_given, move_billed, 
 use Rattle.pkload.specs.Bill.{stop_billed}
 use Rattle.pkload.specs.Heft.{Heft, heft_of}
 use Rattle.pkload.specs.Laws.{Costs}
+use Rattle.pkload.specs.Memory.{number_kept, operation_memory}
 use Rattle.pkload.specs.Tally.{with_operation}
 use Rattle.pkload.specs.Weighed.{If, IsNew, account_of, heft_at, hefts_with, no_account}
 
@@ -53,6 +65,8 @@ after gives i t b = record {
     memo = b.shape.memo;
   };
   tally = with_operation i.op t.operands b.tally;
+  memory = b.memory + operation_memory i (length t.operands);
+  highest = b.highest;
 }
 
 -- pushes one more object, of this cost
@@ -119,6 +133,8 @@ module _ (i : Instruction) (t : Taken Heft) (u : Taken ℕ) (b : Bill) (s : Stat
           memo = b.shape.memo;
         };
         tally = with_operation i.op t.operands b.tally;
+        memory = b.memory + operation_memory i (length t.operands);
+        highest = b.highest;
       }) (record {
         shape = record { entries = Item (length s.objects) ∷ u.below; memo = s.shape.memo };
         objects = s.objects ++ o ∷ [];
@@ -145,6 +161,8 @@ module _ (i : Instruction) (t : Taken Heft) (u : Taken ℕ) (b : Bill) (s : Stat
   leaves : Billed (record {
     shape = record { entries = front t.operands ++ t.below; memo = b.shape.memo };
     tally = with_operation i.op t.operands b.tally;
+    memory = b.memory + operation_memory i (length t.operands);
+    highest = b.highest;
   }) (record {
     shape = record { entries = front u.operands ++ u.below; memo = s.shape.memo };
     objects = s.objects;
@@ -230,13 +248,13 @@ operate_billed names gives i b s o (Ok t) (Ok u) h a w =
 operate_billed names gives i b s o (Err r) y h a w = tt
 operate_billed names gives i b s o (Ok t) (Err r) h a w = absurd a
 
-shape_billed : (b : Bill) (s : State) (x : Result (Shape Heft) Breach)
+shape_billed : (m : Move) (n : ℕ) (b : Bill) (s : State) (x : Result (Shape Heft) Breach)
     (y : Result (Shape ℕ) Breach) → Billed b s
     → SameResult (Alike (Costs (account_of s.events).hefts)) x y
-    → IfBilled (move_billed b x) (move_step s y)
-shape_billed b s (Ok p) (Ok q) h a = record { shape = a; tally = h.tally; count = h.count }
-shape_billed b s (Err r) y h a = tt
-shape_billed b s (Ok p) (Err r) h a = absurd a
+    → IfBilled (move_billed m n b x) (move_step s y)
+shape_billed m n b s (Ok p) (Ok q) h a = record { shape = a; tally = h.tally; count = h.count }
+shape_billed m n b s (Err r) y h a = tt
+shape_billed m n b s (Ok p) (Err r) h a = absurd a
 
 result_billed : (b : Bill) (s : State) (x : Result (Heft × List (Entry Heft)) Breach)
     (y : Result (ℕ × List (Entry ℕ)) Breach) → Billed b s
@@ -254,7 +272,7 @@ performed_billed (Operates takes names gives) i b s o h w =
     (operands_alike (Costs (account_of s.events).hefts) takes b.shape.entries s.shape.entries
     h.shape.entries) w
 performed_billed (Moves m) i b s o h w =
-    shape_billed b s (moved m (memo_number i) b.shape) (moved m (memo_number i) s.shape) h
+    shape_billed m (number_kept m (memo_number i) b.shape) b s (moved m (memo_number i) b.shape) (moved m (memo_number i) s.shape) h
     (moved_alike (Costs (account_of s.events).hefts) m (memo_number i) b.shape s.shape h.shape)
 performed_billed Stops i b s o h w =
     result_billed b s (top b.shape.entries) (top s.shape.entries) h
@@ -263,8 +281,47 @@ performed_billed Raises i b s o h w =
     ap (λ x. x.tally) (along_end no_account s.events (Did i [] None))
     ∙ nothing_counted i.op (account_of s.events).tally ∙ h.tally
 
+-- ---- the decoding of old strings
+
+old_string_answers : (o : Op) → is_old_string o ≡ true → effect_of o ≡ answers (Objects 0)
+old_string_answers op.String h = refl
+old_string_answers op.BinString h = refl
+old_string_answers op.ShortBinString h = refl
+old_string_answers _ h = cc
+
+module _ (i : Instruction) (b : Bill) (s : State) (o : Outcome) (h : Billed b s) where
+  -- the step of an effect is billed by the opcode
+  abbrev IsBilledAs : Effect → Type 0
+  IsBilledAs e = If (effect_asks e) (IsNew s o) → IfBilled (billed i b) (perform e i s o)
+
+  abbrev IsBilledAsOld : Effect → Type 0
+  IsBilledAsOld e = If (effect_asks e) (IsNew s o)
+      → IfBilled (billed_by (answers (Objects 0)) i b) (perform e i s o)
+
+  ascii_billed : (plain : Bool)
+      → IsBilledAsOld (cond plain (Operates (Objects 0) NoName MakesText) Raises)
+  ascii_billed true w = performed_billed (Operates (Objects 0) NoName MakesText) i b s o h w
+  ascii_billed false w =
+      ap (λ x. x.tally) (along_end no_account s.events (Did i [] None))
+      ∙ ap (λ t. with_operation i.op [] t) h.tally
+
+  old_billed : (e : Effect) (old : Bool) → is_old_string i.op ≡ old → IsBilledAsOld e
+      → IsBilledAs (cond old e (effect_of i.op))
+  old_billed e true q f w =
+      subst (λ x. IfBilled (billed_by x i b) (perform e i s o)) (sym (old_string_answers i.op q))
+      (f w)
+  old_billed e false q f w = performed_billed (effect_of i.op) i b s o h w
+
+  by_setting : (setting : OldStrings) → IsBilledAs (effect_as setting i)
+  by_setting Unknown w = performed_billed (effect_of i.op) i b s o h w
+  by_setting Ascii w =
+      old_billed (ascii_string (unwrap_or (old_bytes i) [])) (is_old_string i.op) refl
+      (ascii_billed (list_all is_ascii (unwrap_or (old_bytes i) []))) w
+  by_setting Bytes w = old_billed (pushes class.Bytes) (is_old_string i.op) refl
+      (λ v. performed_billed (pushes class.Bytes) i b s o h v) w
+
 -- a step from a state with this bill leads to one with the next bill
 pub step_billed : (setting : OldStrings) (i : Instruction) (b : Bill) (s : State) (o : Outcome)
     → Billed b s → If (effect_asks (effect_as setting i)) (IsNew s o)
-    → IfBilled (billed setting i b) (step_as setting i s o)
-step_billed setting i b s o h w = performed_billed (effect_as setting i) i b s o h w
+    → IfBilled (billed i b) (step_as setting i s o)
+step_billed setting i b s o h w = by_setting i b s o h setting w

@@ -1,10 +1,19 @@
 -- Taking objects one after the other.
-use Rattle.std.proofs.Common.{◌≡◌, ℕ, suc, List, [], ◌∷◌, None, Result, Ok, Err, IfOk, ap, ◌∙◌}
+use Rattle.std.proofs.Common.{◌≡◌, ℕ, suc, ◌+◌, Bool, List, [], ◌∷◌, ◌++◌, length, None, Result}
+use Rattle.std.proofs.Common.{Ok, Err, IfOk, OnOk, sym, ap, ◌∙◌}
+use Rattle.pkops.specs.Spelling.{Instruction}
 use Rattle.pkcheck.specs.declared.effect.SliceRule.{SliceRule}
 use Rattle.pkcheck.specs.declared.effect.Takes.TheVariants.{SliceAndReceiver}
 use Rattle.pkcheck.specs.Shape.{Breach, Entry, Item, Mark, Taken, and_then, breaks, items}
-use Rattle.pkcheck.specs.Shape.{operands, slice, unless}
+use Rattle.pkcheck.specs.Shape.{operands, put, slice, unless}
+use Rattle.pkload.specs.Bill.{Bill}
 use Rattle.pkload.specs.Heft.{Heft}
+use Rattle.pkload.specs.Memory.{operation_memory}
+use Rattle.pkload.specs.Private.Billing.{HasTaken, heft_pushed, operated_on}
+use Rattle.pkload.specs.Private.Gathered.{AreOf}
+use Rattle.pkload.specs.Tally.{with_operation}
+use Rattle.pkload.specs.declared.operands.Operands.{Operands}
+use Rattle.pkload.specs.declared.tally.Tally.{Tally}
 
 -- one object, and then the others
 pub one_more : (n : ℕ) (es below : List (Entry Heft)) (above hefts : List Heft)
@@ -33,3 +42,34 @@ receiver_taken rule es middle below hefts all e g h =
     (λ a. unless (breaks rule t.operands) (Ok a)) in
     ap (λ r. and_then r rest) e ∙ ap (λ r. and_then r (λ a. unless (breaks rule hefts) (Ok a))) g
     ∙ ap (λ o. unless o (Ok (record { operands = all; below = below }))) h
+
+-- what was taken is billed
+pub operated : {E : Type 0} (r : Result (Unit {0}) E) (leaves : Bool) (i : Instruction) (b : Bill)
+    (found : Result (Taken Heft) Breach) (below stack : List (Entry Heft)) (o : Operands)
+    (tally : Tally) (memory : ℕ) → HasTaken b.tally found below o
+    → ((hefts : List Heft) → AreOf b.tally hefts o → tally ≡ with_operation i.op hefts b.tally)
+    → ((hefts : List Heft) → AreOf b.tally hefts o
+    → memory ≡ b.memory + operation_memory i (length hefts))
+    → OnOk r ((t : Tally) (hefts : List Heft) → AreOf t hefts o
+    → stack ≡ put (heft_pushed leaves i hefts) hefts ++ below)
+    → OnOk r (operated_on leaves i b found ≡ Ok (record {
+      shape = record { entries = stack; memo = b.shape.memo };
+      tally = tally;
+      memory = memory;
+      highest = b.highest;
+    }))
+operated (Err e) leaves i b found below stack o tally memory h t m p = tt
+operated (Ok u) leaves i b found below stack o tally memory h t m p =
+    let after : List (Entry Heft) → Tally → ℕ → Result Bill Breach =
+    λ es n s. Ok (record {
+      shape = record { entries = es; memo = b.shape.memo };
+      tally = n;
+      memory = s;
+      highest = b.highest;
+    }) in
+    let entries = put (heft_pushed leaves i h.hefts) h.hefts ++ below in
+    let counted = with_operation i.op h.hefts b.tally in
+    ap (operated_on leaves i b) h.is
+    ∙ (ap (λ s. after entries counted s) (sym (m h.hefts h.of))
+    ∙ (ap (λ n. after entries n memory) (sym (t h.hefts h.of))
+    ∙ ap (λ es. after es tally memory) (sym (p b.tally h.hefts h.of))))

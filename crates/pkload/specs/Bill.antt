@@ -1,22 +1,27 @@
 -- The bill: what is known about the cost of every object in all runs at once, and how an
 -- instruction changes it. It uses the machine's own definition of what an instruction takes and
 -- moves.
-use Rattle.std.specs.Prelude.{List, [], ◌∷◌, ◌++◌, Option, Some, None, Result, Ok}
+use Rattle.std.specs.Prelude.{ℕ, ◌+◌, ◌-◌, max, List, [], ◌∷◌, ◌++◌, length, Option, Some, None}
+use Rattle.std.specs.Prelude.{Result, Ok}
 use Rattle.pkops.specs.Spelling.{Instruction}
 use Rattle.pkops.specs.Operands.{memo_number}
 use Rattle.pkcheck.specs.declared.effect.Gives.{Gives}
 use Rattle.pkcheck.specs.declared.effect.Gives.TheVariants.{Leaves}
-use Rattle.pkcheck.specs.declared.old_strings.OldStrings.{OldStrings}
-use Rattle.pkcheck.specs.Effects.{Effect, Operates, Moves, Stops, Raises, effect_as}
+use Rattle.pkcheck.specs.declared.effect.Move.{Move}
+use Rattle.pkcheck.specs.Effects.{Effect, Operates, Moves, Stops, Raises, effect_of}
 use Rattle.pkcheck.specs.Shape.{Breach, Entry, Shape, Taken, and_then, operands, put, moved, top}
 use Rattle.pkload.specs.Heft.{Heft, heft_of}
+use Rattle.pkload.specs.Memory.{move_memory, number_kept, operation_memory}
 use Rattle.pkload.specs.declared.tally.Tally.{Tally}
 use Rattle.pkload.specs.Tally.{no_tally, with_operation}
 
--- the cost of each object on the stack and in the memo, and what was counted
+-- the cost of each object on the stack and in the memo, what was counted, the memory that loading
+-- takes, and the highest memo number so far
 pub record Bill : Type 0 where
   pub shape : Shape Heft
   pub tally : Tally
+  pub memory : ℕ
+  pub highest : ℕ
 
 -- the cost of the object that an operation gives; None if it leaves its receiver
 abbrev pub heft_given : Gives → Instruction → List Heft → Option Heft
@@ -33,37 +38,55 @@ operation_billed gives instruction bill found =
         memo = bill.shape.memo;
       };
       tally = with_operation instruction.op taken.operands bill.tally;
+      memory = bill.memory + operation_memory instruction (length taken.operands);
+      highest = bill.highest;
     }))
 
--- the bill after a move
-abbrev pub move_billed : Bill → Result (Shape Heft) Breach → Result Bill Breach
-move_billed bill found = and_then found (λ shape. Ok (record bill { shape = shape }))
+-- the bill after a move that stores under this number, if it stores
+abbrev pub move_billed : Move → ℕ → Bill → Result (Shape Heft) Breach → Result Bill Breach
+move_billed move number bill found =
+    and_then found (λ shape. Ok (record {
+      shape = shape;
+      tally = bill.tally;
+      memory = bill.memory + move_memory move (max bill.highest number - bill.highest);
+      highest = max bill.highest number;
+    }))
 
 -- the bill after STOP, which takes the result
 abbrev pub stop_billed : Bill → Result (Heft × List (Entry Heft)) Breach → Result Bill Breach
 stop_billed bill found =
     and_then found (λ taken.
-    Ok (record bill { shape = record bill.shape { entries = taken.1 } }))
+    Ok (record bill {
+      shape = record bill.shape { entries = taken.1 };
+      memory = bill.memory + 16;
+    }))
 
 -- the bill after an instruction with this effect
 abbrev pub billed_by : Effect → Instruction → Bill → Result Bill Breach
 billed_by (Operates takes names gives) instruction bill =
     operation_billed gives instruction bill (operands takes bill.shape.entries)
 billed_by (Moves move) instruction bill =
-    move_billed bill (moved move (memo_number instruction) bill.shape)
+    move_billed move (number_kept move (memo_number instruction) bill.shape) bill
+    (moved move (memo_number instruction) bill.shape)
 billed_by Stops instruction bill = stop_billed bill (top bill.shape.entries)
 billed_by Raises instruction bill = Ok bill
 
--- the bill after one more instruction, given the decoding of old strings
-abbrev pub billed : OldStrings → Instruction → Bill → Result Bill Breach
-billed setting instruction bill = billed_by (effect_as setting instruction) instruction bill
+-- the bill after one more instruction. An old string weighs by its bytes, whatever it decodes to,
+-- so its decoding doesn't matter
+abbrev pub billed : Instruction → Bill → Result Bill Breach
+billed instruction bill = billed_by (effect_of instruction.op) instruction bill
 
 -- the bill after these instructions
-abbrev pub all_billed : OldStrings → List Instruction → Bill → Result Bill Breach
-all_billed setting [] bill = Ok bill
-all_billed setting (instruction ∷ instructions) bill =
-    and_then (billed setting instruction bill) (all_billed setting instructions)
+abbrev pub all_billed : List Instruction → Bill → Result Bill Breach
+all_billed [] bill = Ok bill
+all_billed (instruction ∷ instructions) bill =
+    and_then (billed instruction bill) (all_billed instructions)
 
 -- the bill at the start
 abbrev pub no_bill : Bill
-no_bill = record { shape = record { entries = []; memo = [] }; tally = no_tally }
+no_bill = record {
+  shape = record { entries = []; memo = [] };
+  tally = no_tally;
+  memory = 0;
+  highest = 0;
+}

@@ -35,6 +35,6 @@ EndsBilled bill (EndedBy (Stuck breach)) = ⊥
 abbrev pub BillBoundsRuns : Type 0
 BillBoundsRuns =
     (setting : OldStrings) (instructions : List Instruction) (outcomes : List Outcome) (bill : Bill)
-    → all_billed setting instructions no_bill ≡ Ok bill
+    → all_billed instructions no_bill ≡ Ok bill
     → AnswersAreNew setting instructions outcomes start
     → EndsBilled bill (run_as setting instructions outcomes start)

@@ -2,6 +2,7 @@
 pub mod Heft
 pub mod Keys
 pub mod Tally
+pub mod Memory
 -- the bill, and the account of a run
 pub mod Bill
 pub mod Weighed

@@ -1,5 +1,5 @@
 -- What an answer says about the cost of loading.
-use Rattle.std.specs.Prelude.{◌≡◌, ℕ, List, Result, Ok, MatchResult, option_map}
+use Rattle.std.specs.Prelude.{◌≡◌, ◌≤◌, ℕ, List, Result, Ok, MatchResult, option_map}
 use Rattle.pkops.specs.Limits.{Bounds}
 use Rattle.pkops.specs.Spelling.{Instruction}
 use Rattle.pkread.specs.Rows.{Sight}
@@ -30,8 +30,9 @@ EndsWithin tolls (EndedBy (Stuck breach)) = ⊥
 -- are new objects
 pub record CostsWithin (tolls : Tolls) (instructions : List Instruction) : Type 0 where
   pub bill : Bill
-  pub billed : all_billed Unknown instructions no_bill ≡ Ok bill
+  pub billed : all_billed instructions no_bill ≡ Ok bill
   pub within : IsWithin tolls bill.tally
+  pub memory : bill.memory ≤ tolls.memory
   pub runs : (outcomes : List Outcome) → AnswersAreNew Unknown instructions outcomes start
       → EndsWithin tolls (run instructions outcomes start)
 

@@ -1,11 +1,11 @@
 -- Limits on what loading may cost.
-use Rattle.std.specs.Prelude.{◌≡◌, ◌≤◌, ◌<◌, ◌⊎◌, ⊤, true, false}
+use Rattle.std.specs.Prelude.{◌≡◌, ◌≤◌, ◌<◌, ◌⊎◌, ⊤, ℕ, true, false}
 use Rattle.pkload.specs.Tally.{Implies}
 use Rattle.pkload.specs.declared.tally.Tally.{Tally}
 use Rattle.pkload.specs.declared.tolls.Tolls.{Tolls}
 use Rattle.pkload.specs.declared.tolls.Excess.{Excess}
 use Rattle.pkload.specs.declared.tolls.Excess.TheVariants.{DeepKey, HeavyKeys, ManyKeys}
-use Rattle.pkload.specs.declared.tolls.Excess.TheVariants.{BuildsImport, OutOfMemory}
+use Rattle.pkload.specs.declared.tolls.Excess.TheVariants.{MuchMemory, BuildsImport, OutOfMemory}
 
 -- the default limits
 abbrev pub standard : Tolls
@@ -14,6 +14,7 @@ standard = record {
   weight = 1_000_000;
   work = 100_000_000;
   clash = 18_446_744_073_709_551_615;
+  memory = 18_446_744_073_709_551_615;
   builds = false;
 }
 
@@ -25,25 +26,35 @@ pub record IsWithin (tolls : Tolls) (tally : Tally) : Type 0 where
   pub clash : tally.clash ≤ tolls.clash
   pub builds : Implies tally.builds tolls.builds
 
--- what the reason names holds; a refused allocation is no excess
-abbrev pub IsExcess : Excess → Tolls → Tally → Type 0
-IsExcess DeepKey tolls tally = tolls.levels < tally.levels
-IsExcess HeavyKeys tolls tally = (tolls.weight < tally.weight) ⊎ (tolls.work < tally.work)
-IsExcess ManyKeys tolls tally = tolls.clash < tally.clash
-IsExcess BuildsImport tolls tally = (tally.builds ≡ true) × (tolls.builds ≡ false)
-IsExcess OutOfMemory tolls tally = ⊥
+-- what the reason names holds, given the memory that loading takes; a refused allocation is no
+-- excess
+abbrev pub IsExcess : Excess → Tolls → Tally → ℕ → Type 0
+IsExcess DeepKey tolls tally memory = tolls.levels < tally.levels
+IsExcess HeavyKeys tolls tally memory = (tolls.weight < tally.weight) ⊎ (tolls.work < tally.work)
+IsExcess ManyKeys tolls tally memory = tolls.clash < tally.clash
+IsExcess MuchMemory tolls tally memory = tolls.memory < memory
+IsExcess BuildsImport tolls tally memory = (tally.builds ≡ true) × (tolls.builds ≡ false)
+IsExcess OutOfMemory tolls tally memory = ⊥
 
 -- no reason that is tried earlier holds
-abbrev pub IsFirstExcess : Excess → Tolls → Tally → Type 0
-IsFirstExcess DeepKey tolls tally = ⊤
-IsFirstExcess HeavyKeys tolls tally = tally.levels ≤ tolls.levels
-IsFirstExcess ManyKeys tolls tally =
+abbrev pub IsFirstExcess : Excess → Tolls → Tally → ℕ → Type 0
+IsFirstExcess DeepKey tolls tally memory = ⊤
+IsFirstExcess HeavyKeys tolls tally memory = tally.levels ≤ tolls.levels
+IsFirstExcess ManyKeys tolls tally memory =
     (tally.levels ≤ tolls.levels) × (tally.weight ≤ tolls.weight) × (tally.work ≤ tolls.work)
-IsFirstExcess BuildsImport tolls tally =
+IsFirstExcess MuchMemory tolls tally memory =
     (tally.levels ≤ tolls.levels) × (tally.weight ≤ tolls.weight) × (tally.work ≤ tolls.work)
     × (tally.clash ≤ tolls.clash)
-IsFirstExcess OutOfMemory tolls tally = ⊤
+IsFirstExcess BuildsImport tolls tally memory =
+    (tally.levels ≤ tolls.levels) × (tally.weight ≤ tolls.weight) × (tally.work ≤ tolls.work)
+    × (tally.clash ≤ tolls.clash) × (memory ≤ tolls.memory)
+IsFirstExcess OutOfMemory tolls tally memory = ⊤
 
--- the tally exceeds the limit that the reason names, and none that is tried earlier
-abbrev pub Exceeds : Excess → Tolls → Tally → Type 0
-Exceeds excess tolls tally = IsExcess excess tolls tally × IsFirstExcess excess tolls tally
+-- a limit is exceeded that the reason names, and none that is tried earlier
+abbrev pub Exceeds : Excess → Tolls → Tally → ℕ → Type 0
+Exceeds excess tolls tally memory =
+    IsExcess excess tolls tally memory × IsFirstExcess excess tolls tally memory
+
+-- each count is within its limit, and so is the memory
+abbrev pub KeepsWithin : Tolls → Tally → ℕ → Type 0
+KeepsWithin tolls tally memory = IsWithin tolls tally × (memory ≤ tolls.memory)

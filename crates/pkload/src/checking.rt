@@ -5,7 +5,7 @@ ghost use Rattle.pkops.specs.Limits.{holding_all};
 ghost use Rattle.pkread.specs.Rows.{sight};
 ghost use Rattle.pkcheck.specs.Import.{policy_of};
 ghost use Rattle.pkload.specs.Loading.{IsRightLoading};
-ghost use Rattle.pkload.specs.Tolls.{IsWithin};
+ghost use Rattle.pkload.specs.Tolls.{KeepsWithin};
 
 use crate::meter::Meter;
 use crate::tolls::{Excess, Tolls};
@@ -56,7 +56,7 @@ pub fn check_loading<R: Source>(
 fn settled(answer: Result<Yes, No>, meter: &Meter) -> Result<Result<Yes, No>, Costly>
     ensures same { IfOk result (λ settled. settled ≡ answer) }
     ensures within { IfOk result (λ settled. IfOk settled (λ _. (meter.now.excess ≡ None)
-        × IsWithin meter.now.tolls meter.now.bill.tally)) }
+        × KeepsWithin meter.now.tolls meter.now.bill.tally meter.now.bill.memory)) }
 {
     let Some(excess) = meter.excess() else {
         return Ok(answer);

@@ -8,6 +8,7 @@ mod halt;
 pub mod laws;
 mod machine;
 mod making;
+mod memory;
 mod meter;
 mod moves;
 mod operands;

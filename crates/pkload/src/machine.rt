@@ -7,6 +7,7 @@ ghost use Rattle.pkcheck.specs.Effects.{effect_of};
 ghost use Rattle.pkcheck.specs.Shape.{moved, operands, put, top};
 ghost use Rattle.pkload.specs.Bill.{billed_by, move_billed, no_bill, stop_billed};
 ghost use Rattle.pkload.specs.Heft.{Heft};
+ghost use Rattle.pkload.specs.Memory.{number_kept};
 ghost use Rattle.pkload.specs.Private.Billing.{heft_pushed, operated_on};
 ghost use Rattle.pkload.specs.Private.Gathered.{AreOf};
 ghost use Rattle.pkload.specs.declared.tally.Tally.{Tally as Counted};
@@ -15,6 +16,7 @@ use crate::action::{Action, action_of};
 use crate::gathering::take;
 use crate::halt::Halt;
 use crate::making::{argument_size, counted, made};
+use crate::memory::{after_move, after_operation, after_stop, number_kept};
 use crate::moves::apply;
 use crate::operands::Operands;
 use crate::packed::Packed;
@@ -26,11 +28,14 @@ use std::alloc::Global;
 use std::collections::BTreeMap;
 use std::marker::Model;
 
-/// The cost of each object on the stack and in the memo, and what was counted.
+/// The cost of each object on the stack and in the memo, what was counted, the memory that loading
+/// takes, and the highest memo number so far.
 pub struct Machine {
     stack: Stack,
     memo: BTreeMap<u32, Packed>,
     tally: Tally,
+    memory: u64,
+    highest: u64,
 }
 
 impl Drop for Machine {
@@ -39,6 +44,8 @@ impl Drop for Machine {
             stack: _stack,
             memo: _memo,
             tally: _tally,
+            memory: _memory,
+            highest: _highest,
         } = self;
     }
 }
@@ -51,6 +58,8 @@ impl Model for Machine {
     ghost view = { λ m. record {
       shape = record { entries = m.stack; memo = m.memo.entries };
       tally = m.tally;
+      memory = m.memory;
+      highest = m.highest;
     } };
 }
 
@@ -63,6 +72,8 @@ impl Machine {
             stack: Stack::new(alloc),
             memo: BTreeMap::new(alloc),
             tally: Tally::new(),
+            memory: 0,
+            highest: 0,
         }
     }
 
@@ -73,12 +84,20 @@ impl Machine {
         self.tally
     }
 
+    /// The memory that loading takes.
+    pub fn memory(&self) -> u64
+        ensures { result ≡ self.now.memory }
+    {
+        self.memory
+    }
+
     /// Executes an operation.
     fn operate(&mut self, inst: &Inst<'_>, takes: Takes, leaves: bool) -> Result<(), Halt>
         ensures { OnOk result (operated_on leaves (instruction_of inst.now) self.old
             (operands takes self.old.shape.entries) ≡ Ok self.new) }
     {
         let taken = take(&mut self.stack, takes, self.tally)?;
+        self.memory = after_operation(inst, &taken, self.memory)?;
         self.tally = counted(inst.op(), &taken, self.tally);
         push_result(&mut self.stack, inst, leaves, &taken)
     }
@@ -88,22 +107,28 @@ impl Machine {
         ensures { OnOk result (stop_billed self.old (top self.old.shape.entries)
             ≡ Ok self.new) }
     {
-        match self.stack.pop_object() {
-            Some(_heft) => Ok(()),
-            None => Err(Halt::Lost),
-        }
+        let Some(_heft) = self.stack.pop_object() else {
+            return Err(Halt::Lost);
+        };
+        self.memory = after_stop(self.memory)?;
+        Ok(())
     }
 
     /// Executes a move.
     fn go(&mut self, what: Move, inst: &Inst<'_>) -> Result<(), Halt>
-        ensures { OnOk result (move_billed self.old
+        ensures { OnOk result (move_billed what (number_kept what
+            (memo_number (instruction_of inst.now)) self.old.shape) self.old
             (moved what (memo_number (instruction_of inst.now)) self.old.shape) ≡ Ok self.new) }
     {
         let number = inst.memo_number().unwrap_or(0);
+        let kept = number_kept(what, number, &self.memo);
+        let highest = kept.max(self.highest);
+        self.memory = after_move(what, highest - self.highest, self.memory)?;
+        self.highest = highest;
         apply(&mut self.stack, &mut self.memo, what, number)
     }
 
-    /// Bills an instruction, if the decoding of old strings isn't set.
+    /// Bills an instruction.
     pub fn step(&mut self, inst: &Inst<'_>) -> Result<(), Halt>
         ensures { OnOk result (billed_by (effect_of (instruction_of inst.now).op)
             (instruction_of inst.now) self.old ≡ Ok self.new) }

@@ -2,7 +2,7 @@
 
 ghost use Rattle.std.specs.Prelude.{◌≡◌, None};
 ghost use Rattle.pkload.specs.Bill.{no_bill};
-ghost use Rattle.pkload.specs.Tolls.{IsWithin};
+ghost use Rattle.pkload.specs.Tolls.{KeepsWithin};
 
 use crate::machine::Machine;
 use crate::tolls::{Excess, Tolls};
@@ -35,7 +35,7 @@ impl Drop for Meter {
 impl Model for Meter {
     ghost use Rattle.std.specs.Prelude.{◌≡◌, None};
     ghost use Rattle.pkload.specs.Private.Meter.{Meter as View};
-    ghost use Rattle.pkload.specs.Tolls.{IsWithin};
+    ghost use Rattle.pkload.specs.Tolls.{KeepsWithin};
 
     ghost Value = { View };
 
@@ -46,7 +46,8 @@ impl Model for Meter {
       at = m.at;
     } };
 
-    ghost invariant = { λ m. m.excess ≡ None → IsWithin m.tolls m.machine.tally };
+    ghost invariant = { λ m. m.excess ≡ None
+        → KeepsWithin m.tolls m.machine.tally m.machine.memory };
 }
 
 impl Meter {
@@ -67,7 +68,8 @@ impl Meter {
     /// The first limit that was exceeded.
     pub fn excess(&self) -> Option<Excess>
         ensures excess { result ≡ self.now.excess }
-        ensures within { result ≡ None → IsWithin self.now.tolls self.now.bill.tally }
+        ensures within { result ≡ None
+            → KeepsWithin self.now.tolls self.now.bill.tally self.now.bill.memory }
     {
         self.excess
     }
@@ -94,7 +96,9 @@ impl Listener for Meter {
         }
         self.at = at;
         self.excess = match self.machine.step(inst) {
-            Ok(()) => self.tolls.excess_of(&self.machine.tally()),
+            Ok(()) => self
+                .tolls
+                .excess_of(&self.machine.tally(), self.machine.memory()),
             Err(_) => Some(Excess::OutOfMemory),
         };
         Ok(())

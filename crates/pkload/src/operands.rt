@@ -16,6 +16,8 @@ pub struct Operands {
     pub weights: u32,
     /// The depth of the deepest.
     pub deepest: u32,
+    /// Their number.
+    pub count: u64,
     /// Whether there are none.
     pub is_empty: bool,
     /// The first one, if there is one.
@@ -41,6 +43,7 @@ impl Operands {
         Operands {
             weights: 0,
             deepest: 0,
+            count: 0,
             is_empty: true,
             first: Packed::from_code(0),
             is_even: true,
@@ -58,9 +61,13 @@ impl Operands {
             → AreOf tally hefts self → AreOf tally (heft ∷ hefts) more) }
         ensures small { IfOk result (λ more. more.weights ≤ 1_048_575) }
     {
+        if self.count == u64::MAX {
+            return Err(Halt::Lost);
+        }
         Ok(Operands {
             weights: (self.weights + heft.weight()).min(1_048_575),
             deepest: self.deepest.max(heft.depth()),
+            count: self.count + 1,
             is_empty: false,
             first: heft,
             is_even: !self.is_even,

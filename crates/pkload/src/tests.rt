@@ -20,6 +20,7 @@ fn few() -> Tolls {
         weight: 4,
         work: 6,
         clash: 3,
+        memory: 1_000,
         builds: false,
     }
 }

@@ -1,7 +1,7 @@
 //! Limits on what loading a pickle may cost.
 
 ghost use Rattle.std.specs.Prelude.{◌≡◌, MatchOption};
-ghost use Rattle.pkload.specs.Tolls.{Exceeds, IsWithin, standard};
+ghost use Rattle.pkload.specs.Tolls.{Exceeds, KeepsWithin, standard};
 
 use crate::tally::Tally;
 
@@ -17,6 +17,8 @@ pub struct Tolls {
     pub work: u64,
     /// The weights of all keys whose hash isn't salted.
     pub clash: u64,
+    /// The bytes of memory that loading takes.
+    pub memory: u64,
     /// Whether BUILD may take an object that an import answered.
     pub builds: bool,
 }
@@ -30,15 +32,17 @@ pub enum Excess {
     HeavyKeys,
     /// The keys whose hash isn't salted are heavier than `clash`.
     ManyKeys,
+    /// Loading takes more memory than `memory`.
+    MuchMemory,
     /// BUILD takes an object that an import answered.
     BuildsImport,
-    /// An allocation for the bill was refused, or a sum of weights doesn't fit 64 bits.
+    /// An allocation for the bill was refused, or a sum doesn't fit 64 bits.
     OutOfMemory,
 }
 
 impl Tolls {
     /// The default limits: 1,000 levels, a weight of 1,000,000 for a key and of 100,000,000 for all
-    /// keys, no limit on collisions, and no BUILD of an imported object.
+    /// keys, no limit on collisions or memory, and no BUILD of an imported object.
     pub fn standard() -> Tolls
         ensures { result ≡ standard }
     {
@@ -47,14 +51,15 @@ impl Tolls {
             weight: 1_000_000,
             work: 100_000_000,
             clash: u64::MAX,
+            memory: u64::MAX,
             builds: false,
         }
     }
 
-    /// The first limit that a tally exceeds.
-    pub(crate) fn excess_of(&self, tally: &Tally) -> Option<Excess>
-        ensures { MatchOption result (IsWithin self.now tally.now)
-            (λ excess. Exceeds excess self.now tally.now) }
+    /// The first limit that a tally or this much memory exceeds.
+    pub(crate) fn excess_of(&self, tally: &Tally, memory: u64) -> Option<Excess>
+        ensures { MatchOption result (KeepsWithin self.now tally.now memory)
+            (λ excess. Exceeds excess self.now tally.now memory) }
     {
         if tally.levels > self.levels {
             return Some(Excess::DeepKey);
@@ -64,6 +69,9 @@ impl Tolls {
         }
         if tally.clash > self.clash {
             return Some(Excess::ManyKeys);
+        }
+        if memory > self.memory {
+            return Some(Excess::MuchMemory);
         }
         if tally.builds && !self.builds {
             return Some(Excess::BuildsImport);

@@ -1,12 +1,13 @@
 -- What the machine does at an opcode.
-use Rattle.std.specs.Prelude.{◌≡◌, Bool, true, false, List, ◌++◌, Option, Some}
-use Rattle.std.specs.Prelude.{None, Result, Ok}
+use Rattle.std.specs.Prelude.{◌≡◌, ◌+◌, Bool, true, false, List, ◌++◌, length, Option, Some, None}
+use Rattle.std.specs.Prelude.{Result, Ok}
 use Rattle.pkops.specs.Spelling.{Instruction}
 use Rattle.pkcheck.specs.declared.effect.Gives.TheVariants.{Leaves}
 use Rattle.pkcheck.specs.Effects.{Effect, Operates, Moves, Stops, Raises}
 use Rattle.pkcheck.specs.Shape.{Breach, Entry, Taken, and_then, put}
 use Rattle.pkload.specs.Bill.{Bill}
 use Rattle.pkload.specs.Heft.{Heft, heft_of}
+use Rattle.pkload.specs.Memory.{operation_memory}
 use Rattle.pkload.specs.Private.Gathered.{AreOf}
 use Rattle.pkload.specs.Tally.{with_operation}
 use Rattle.pkload.specs.declared.action.Action.{Action}
@@ -37,6 +38,8 @@ operated_on leaves i bill found =
         memo = bill.shape.memo;
       };
       tally = with_operation i.op taken.operands bill.tally;
+      memory = bill.memory + operation_memory i (length taken.operands);
+      highest = bill.highest;
     }))
 
 -- operands were found, with these entries below them, and this was gathered of them

@@ -1,5 +1,5 @@
 -- What is gathered of operands, from the top down.
-use Rattle.std.specs.Prelude.{◌≡◌, min, List, [], ◌∷◌, Bool, true, false}
+use Rattle.std.specs.Prelude.{◌≡◌, min, List, [], ◌∷◌, length, Bool, true, false}
 use Rattle.pkcheck.specs.Shape.{is_even}
 use Rattle.pkload.specs.declared.operands.Operands.{Operands}
 use Rattle.pkload.specs.declared.tally.Tally.{Tally}
@@ -17,6 +17,7 @@ pub record AreOf (tally : Tally) (hefts : List Heft) (o : Operands) : Type 0 whe
   pub weights : o.weights ≡ min 1_048_575 (weights_of hefts)
   pub deepest : o.deepest ≡ deepest_of hefts
   pub first : IsFirst hefts o.is_empty o.first
+  pub count : o.count ≡ length hefts
   pub even : o.is_even ≡ is_even hefts
   pub items : o.items ≡ with_keys tally hefts
   pub behind : o.behind ≡ with_keys tally (behind_first hefts)

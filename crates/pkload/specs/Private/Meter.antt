@@ -3,7 +3,6 @@ use Rattle.std.proofs.Common.{◌≡◌, ℕ, List, [], ◌∷◌, ◌++◌, map
 use Rattle.std.proofs.Common.{ap, ◌∙◌}
 use Rattle.pkcheck.specs.Heard.{Heard}
 use Rattle.pkcheck.specs.Shape.{Breach, and_then}
-use Rattle.pkcheck.specs.declared.old_strings.OldStrings.TheVariants.{Unknown}
 use Rattle.pkload.specs.Bill.{Bill, all_billed, billed}
 use Rattle.pkload.specs.declared.tolls.Excess.{Excess}
 use Rattle.pkload.specs.declared.tolls.Tolls.{Tolls}
@@ -21,17 +20,17 @@ pub record Meters (x y : Meter) (hs : List Heard) : Type 0 where
   pub tolls : y.tolls ≡ x.tolls
   pub before : y.excess ≡ None → x.excess ≡ None
   pub billed : y.excess ≡ None
-      → all_billed Unknown (map (λ h. h.instruction) hs) x.bill ≡ Ok y.bill
+      → all_billed (map (λ h. h.instruction) hs) x.bill ≡ Ok y.bill
 
 abbrev bill_heard : List Heard → Bill → Result Bill Breach
-bill_heard hs b = all_billed Unknown (map (λ h. h.instruction) hs) b
+bill_heard hs b = all_billed (map (λ h. h.instruction) hs) b
 
 -- what is heard in two parts is billed in two parts
 billed_more : (hs gs : List Heard) (b : Bill)
     → bill_heard (hs ++ gs) b ≡ and_then (bill_heard hs b) (bill_heard gs)
 billed_more [] gs b = refl
 billed_more (h ∷ hs) gs b =
-    after_one (billed Unknown h.instruction b) (λ c. billed_more hs gs c)
+    after_one (billed h.instruction b) (λ c. billed_more hs gs c)
   where
     after_one : (r : Result Bill Breach)
         → ((c : Bill) → bill_heard (hs ++ gs) c ≡ and_then (bill_heard hs c) (bill_heard gs))

@@ -1,0 +1,229 @@
+//! The memory that loading takes.
+
+ghost use Rattle.std.specs.Char.{is_ascii};
+ghost use Rattle.std.specs.List.{filter, list_all};
+ghost use Rattle.std.specs.Prelude.{◌≡◌, ◌+◌, ◌≤◌, IfOk, List, length, ltb};
+ghost use Rattle.pkops.specs.Inst.{instruction_of};
+ghost use Rattle.pkcheck.specs.Shape.{Entry};
+ghost use Rattle.pkload.specs.Heft.{Heft};
+ghost use Rattle.pkload.specs.Memory.{argument_bytes, begins_character, character_width};
+ghost use Rattle.pkload.specs.Memory.{held_memory, line_memory, move_memory, number_kept};
+ghost use Rattle.pkload.specs.Memory.{operation_memory, plain_memory, set_memory, text_memory};
+ghost use Rattle.pkload.specs.Memory.{written_memory};
+ghost use Rattle.pkload.specs.Private.Gathered.{AreOf};
+ghost use Rattle.pkload.specs.declared.tally.Tally.{Tally as Counted};
+
+use crate::halt::Halt;
+use crate::making::argument_size;
+use crate::operands::Operands;
+use crate::packed::Packed;
+use pkcheck::effect::Move;
+use pkops::{Arg, Inst, Op, spells_itself};
+use std::collections::BTreeMap;
+
+/// So much more than any memory that sums of some of them fit 64 bits.
+const MOST: u64 = 1_125_899_906_842_624;
+
+/// The sum, if it fits.
+fn plus(memory: u64, more: u64) -> Result<u64, Halt>
+    ensures { IfOk result (λ sum. sum ≡ memory + more) }
+{
+    if memory > u64::MAX - more {
+        return Err(Halt::Lost);
+    }
+    Ok(memory + more)
+}
+
+/// Whether all bytes are below this one.
+fn are_below(bytes: &[u8], limit: u8) -> bool
+    ensures { result ≡ list_all (λ byte. ltb byte limit) bytes.now }
+{
+    bytes.iter().all(|byte| *byte < limit)
+}
+
+/// Whether all bytes are ASCII.
+fn are_ascii(bytes: &[u8]) -> bool
+    ensures { result ≡ list_all is_ascii bytes.now }
+{
+    bytes.iter().all(|byte| byte.is_ascii())
+}
+
+/// The number of bytes that are the first of a character.
+fn characters(bytes: &[u8]) -> usize
+    ensures value { result ≡ length (filter begins_character bytes.now) }
+    ensures small { result ≤ length bytes.now }
+{
+    bytes
+        .iter()
+        .filter(|byte| **byte < 128 || !(**byte < 192))
+        .count()
+}
+
+/// The size of a text's characters: one, two or four bytes each.
+fn character_width(bytes: &[u8]) -> u64
+    ensures value { result ≡ character_width bytes.now }
+    ensures small { result ≤ 4 }
+{
+    if are_below(bytes, 196) {
+        return 1;
+    }
+    if are_below(bytes, 240) {
+        return 2;
+    }
+    4
+}
+
+/// The memory of a text in UTF-8.
+fn text_memory(bytes: &[u8]) -> u64
+    requires { length bytes.now ≤ 1_125_899_906_842_624 }
+    ensures value { result ≡ text_memory bytes.now }
+    ensures small { result ≤ 9_007_199_254_740_992 }
+{
+    if are_ascii(bytes) {
+        return 64 + bytes.len() as u64;
+    }
+    88 + character_width(bytes) * characters(bytes) as u64
+}
+
+/// The memory of a line of UNICODE, at most.
+fn line_memory(line: &[u8]) -> u64
+    requires { length line.now ≤ 1_125_899_906_842_624 }
+    ensures value { result ≡ line_memory line.now }
+    ensures small { result ≤ 9_007_199_254_740_992 }
+{
+    let size = line.len() as u64;
+    if spells_itself(line) {
+        return 64 + size;
+    }
+    88 + 4 * size
+}
+
+/// The memory of the text that an opcode makes of some bytes, if it makes one.
+fn written_memory(op: Op, bytes: &[u8]) -> u64
+    requires { length bytes.now ≤ 1_125_899_906_842_624 }
+    ensures value { result ≡ written_memory op bytes.now }
+    ensures small { result ≤ 9_007_199_254_740_992 }
+{
+    match op {
+        Op::Unicode => line_memory(bytes),
+        Op::ShortBinUnicode | Op::BinUnicode | Op::BinUnicode8 => text_memory(bytes),
+        _ => 0,
+    }
+}
+
+/// The memory of an object without operands.
+fn plain_memory(op: Op, size: u64) -> u64
+    requires { size ≤ 1_125_899_906_842_624 }
+    ensures value { result ≡ plain_memory op size }
+    ensures small { result ≤ 9_007_199_254_740_992 }
+{
+    match op {
+        Op::BinInt | Op::BinInt2 | Op::Float | Op::BinFloat => 32,
+        Op::Int | Op::Long => 32 + size / 2,
+        Op::Long1 | Op::Long4 => 32 + size * 8 / 7,
+        Op::String | Op::BinString | Op::ShortBinString => 64 + size,
+        Op::BinBytes | Op::ShortBinBytes | Op::BinBytes8 => 64 + size,
+        Op::ByteArray8 => 96 + size,
+        Op::EmptyList | Op::EmptyDict => 80,
+        Op::EmptySet => 240,
+        Op::ReadonlyBuffer => 480,
+        _ => 0,
+    }
+}
+
+/// The memory of a set's table.
+fn set_memory(least: u64, items: u64) -> u64
+    requires least { least ≤ 128 }
+    requires items { items ≤ 1_125_899_906_842_624 }
+    ensures value { result ≡ set_memory least items }
+    ensures small { result ≤ 162_129_586_585_337_984 }
+{
+    if items > 4 {
+        144 * items
+    } else {
+        least + 8 * items
+    }
+}
+
+/// The memory of an object with so many operands, or what they add to their receiver.
+fn held_memory(op: Op, count: u64) -> u64
+    requires { count ≤ 1_125_899_906_842_624 }
+    ensures value { result ≡ held_memory op count }
+    ensures small { result ≤ 162_129_586_585_338_224 }
+{
+    match op {
+        Op::Tuple | Op::Tuple1 | Op::Tuple2 | Op::Tuple3 => 64 + 8 * count,
+        Op::List => 80 + 8 * count,
+        Op::Dict => { if count > 0 { 256 + 48 * count } else { 80 } }
+        Op::FrozenSet => 240 + set_memory(0, count),
+        Op::Append => 32,
+        Op::Appends => 24 * count,
+        Op::SetItem => 176,
+        Op::SetItems => 128 + 48 * count,
+        Op::AddItems => set_memory(128, count.saturating_sub(1)),
+        _ => 0,
+    }
+}
+
+/// The bytes in the line or payload of an instruction.
+fn argument_bytes<'a>(inst: &'a Inst<'_>) -> &'a [u8]
+    ensures { result.now ≡ argument_bytes (instruction_of inst.now).arg }
+{
+    match inst.arg() {
+        Arg::Line(line) => line,
+        Arg::Counted(payload) => payload,
+        _ => &[],
+    }
+}
+
+/// The memory after an operation.
+pub fn after_operation(inst: &Inst<'_>, taken: &Operands, memory: u64) -> Result<u64, Halt>
+    ensures { IfOk result (λ sum. (tally : Counted) (hefts : List Heft)
+        → AreOf tally hefts taken.now
+        → sum ≡ memory + operation_memory (instruction_of inst.now) (length hefts)) }
+{
+    let op = inst.op();
+    let size = argument_size(inst);
+    let bytes = argument_bytes(inst);
+    if size > MOST || taken.count > MOST || bytes.len() as u64 > MOST {
+        return Err(Halt::Lost);
+    }
+    let own = plain_memory(op, size);
+    let held = held_memory(op, taken.count);
+    let written = written_memory(op, bytes);
+    plus(memory, 16 + (own + (held + written)))
+}
+
+/// The memory after STOP.
+pub fn after_stop(memory: u64) -> Result<u64, Halt>
+    ensures { IfOk result (λ sum. sum ≡ memory + 16) }
+{
+    plus(memory, 16)
+}
+
+/// The memo number under which a move stores, otherwise 0.
+pub fn number_kept(what: Move, number: u32, memo: &BTreeMap<u32, Packed>) -> u64
+    ensures { (entries : List (Entry Heft)) → result ≡ number_kept what number
+        (record { entries = entries; memo = memo.now.entries }) }
+{
+    match what {
+        Move::Stores => u64::from(number),
+        Move::StoresNext => memo.len() as u64,
+        _ => 0,
+    }
+}
+
+/// The memory after a move that stores under a number so far above the highest before.
+pub fn after_move(what: Move, grown: u64, memory: u64) -> Result<u64, Halt>
+    ensures { IfOk result (λ sum. sum ≡ memory + move_memory what grown) }
+{
+    if grown > MOST {
+        return Err(Halt::Lost);
+    }
+    let more = match what {
+        Move::PushesMark => 32,
+        Move::Stores | Move::StoresNext => 32 + 16 * grown,
+        _ => 16,
+    };
+    plus(memory, more)
+}
