@@ -58,6 +58,19 @@ def tar(head, data):
     return head + data + b"\0" * (-len(data) % 512) + b"\0" * 1024
 
 
+def with_record(comment):
+    """A tar file with a header of POSIX in front, which has this comment."""
+    made = io.BytesIO()
+    headers = {"comment": comment.decode()}
+    with tarfile.open(fileobj=made, mode="w", format=tarfile.PAX_FORMAT, pax_headers=headers) as it:
+        it.addfile(tarfile.TarInfo("a"))
+    return made.getvalue()
+
+
+def is_finding(data):
+    return any(report.is_finding for report in reports(data))
+
+
 def old_tar(number):
     """A tar file without magic, whose checksum is written like this."""
     return tar(header(b"a", len(EVIL), b"", number), EVIL)
@@ -292,6 +305,15 @@ class Readings(unittest.TestCase):
             tars._Header.fromtarfile = kept
         self.assertIn("unreadable", [report.status for report in found])
 
+    def test_records_of_tar_headers(self):
+        for comment, is_odd in ((b"1" * 40, False), (b"a\n=" * 999, False), (b"1" * 99, True)):
+            self.assertEqual(is_finding(with_record(comment)), is_odd)
+        honest = with_record(b"text")
+        self.assertIn(b"16 comment=text\n", honest)
+        for record in (b"16 comment text\n", b"16=comment=text\n", b"17 comment=text\n",
+                       b"16 =omment=text\n", b"00 comment=text\n", b"15 comment=text\n"):
+            self.assertTrue(is_finding(honest.replace(b"16 comment=text\n", record)), record)
+
     @needs("/proc/self/status")
     def test_what_a_file_may_cost(self):
         long = b"X" + struct.pack("<I", 500_000) + b"m" * 500_000 + b"q\x000"
@@ -305,6 +327,9 @@ class Readings(unittest.TestCase):
             "marks": b"\x80\x04" + b"(" * 900_000 + b"\xff",
             "line": gzip.compress(b"I" + b"1" * (60 << 20)), "xz": lzma.compress(bytes(99 << 20)),
             "arrays": npy("'<i8'", b"", 1, "(0,)") * 9000, "bz2": bz2.compress(bytes(200 << 20)),
+            "digits": with_record(b"1" * 400_000),
+            "no records": with_record(b"2 " * 200_000 + b"=").replace(b" comment=", b"2 2 2 2 2"),
+            "endless": tar(header(b"a", -512), b"") * 2,
         }
         for name, data in made.items():
             self.assertLess(len(data), 1_100_000, name)

@@ -26,6 +26,12 @@ _ENDS = tuple(
     if error is not None
 )
 """How `tarfile` tells the end from a fault. Without these names, each end counts as a fault."""
+_POSIX = (tarfile.XHDTYPE, tarfile.XGLTYPE, tarfile.SOLARIS_XHDTYPE)
+_EXTENDED = (*_POSIX, tarfile.GNUTYPE_LONGNAME, tarfile.GNUTYPE_LONGLINK)
+"""The types of headers with contents, which are read whole."""
+_LONGEST, _NUMERAL = 1 << 20, 20
+_DIGITS = re.compile(rb"[0-9]{64}")
+"""So many digits are no number, but make Pythons before 2024 look through them again and again."""
 _LARGE = 8**11
 """The least size that a header has no room for."""
 
@@ -43,19 +49,55 @@ class _Header(tarfile.TarInfo):
     @classmethod
     def fromtarfile(cls, tarfile: Any) -> Any:
         tarfile.headers += 1
+        _check(tarfile.fileobj)
         try:
             return super().fromtarfile(tarfile)
         except _ENDS:
+            tarfile.ends += 1
             raise
         except Exception as error:  # of a header, or of a number in it that is out of range
             raise _Broken(f"{error or type(error).__name__}: the rest was not read") from None
 
 
+def _check(file: Any) -> None:
+    """Raises _Broken at a header whose contents cost `tarfile` more time than they have bytes."""
+    at = file.tell()
+    try:
+        header = tarfile.TarInfo.frombuf(file.read(_BLOCK), "utf-8", "surrogateescape")
+    except (tarfile.HeaderError, ValueError):
+        return
+    finally:
+        file.seek(at)
+    if header.type not in _EXTENDED:
+        return
+    if header.size > _LONGEST:
+        raise _Broken(f"a header has more than {_LONGEST:,} bytes: the rest was not read")
+    if header.type in _POSIX:
+        file.seek(at + _BLOCK)
+        content = file.read(max(header.size, 0))
+        file.seek(at)
+        if _DIGITS.search(content) or not _has_records(content):
+            raise _Broken("a header of POSIX is at fault: the rest was not read")
+
+
+def _has_records(content: bytes) -> bool:
+    """Whether these are records as POSIX has them: a length, a space, a key, `=` and a value."""
+    at = 0
+    while at < len(content):
+        length, space, _ = content[at : at + _NUMERAL].partition(b" ")
+        end = at + int(length) if space and length.isdigit() else at
+        key = content.find(b"=", at, end) - at - len(length) - 1
+        if key < 1 or end > len(content) or content[end - 1 : end] != b"\n":
+            return False
+        at = end
+    return True
+
+
 class _Archive(tarfile.TarFile):
-    """A tar file, which counts its headers."""
+    """A tar file, which counts its headers, and the places that mark its end."""
 
     tarinfo = _Header
-    headers = 0
+    headers = ends = 0
 
     def following(self, count: int) -> Optional[tarfile.TarInfo]:
         """The next member, with this many in front of it."""
@@ -78,7 +120,7 @@ def tar_reading(place: Place) -> Found:
         odd.append("it begins with zeros")
     try:
         archive = _Archive(fileobj=source.opened(), mode="r", ignore_zeros=True)
-        for entry, other in _entries(place, archive, at, odd):
+        for entry, other in _entries(place, archive, odd):
             yield from _member(place, archive, entry, other)
     except _FAULTS as error:
         odd.append(str(error))
@@ -88,10 +130,10 @@ def tar_reading(place: Place) -> Found:
 
 
 def _entries(
-    place: Place, archive: _Archive, end: int, odd: List[str]
+    place: Place, archive: _Archive, odd: List[str]
 ) -> Iterator[Tuple[tarfile.TarInfo, Optional[tarfile.TarInfo]]]:
-    """The members with contents, from an offset on, each with that of the places of its values. The
-    latter may follow, so members with values come last.
+    """The members with contents, each with that of the places of its values. The latter may follow,
+    so members with values come last.
     """
     source, count = place.source, 0
     named: Dict[str, tarfile.TarInfo] = {}
@@ -101,10 +143,8 @@ def _entries(
             entry, count = archive.following(count), count + 1
             if entry is None:
                 break
-            if entry.offset > end:
+            if archive.ends:
                 odd.append("more follows the end that it marks")
-            end = entry.offset_data + -(-entry.size // _BLOCK) * _BLOCK
-            end = source.size if entry.issparse() else end
             odd += _oddities(source, archive, entry)
             place.budget.spend_member()
             if not entry.isreg() and entry.type in tarfile.SUPPORTED_TYPES:
