@@ -118,7 +118,8 @@ class Scripts(Copies):
 
     def test_an_interpreter_by_its_name(self) -> None:
         program = str(self.script(self.fakes / "pktool", "echo none"))
-        code = r"""import worked; print(worked.examples("```console\n$ python3 -V\n$ echo\n\n```", 0))"""
+        text = "```console\n$ python3 -V\n$ echo\n\n```"
+        code = f"import worked; print(worked.examples({text!r}, False))"
         path = str(self.copy / "tests")
         for python in ("python3", sys.executable):
             words = [sys.executable, "-c", code]
