@@ -1,6 +1,8 @@
 -- What a ledger holds, and the imports that names refer to.
-use Rattle.std.proofs.Common.{◌≡◌, ℕ, zero, suc, ◌<◌, ◌≤◌, List, [], ◌∷◌, ◌++◌, Option, None, Some}
-use Rattle.std.proofs.Common.{length, map, take, get_or, refl, ap, arith, length-append}
+use Rattle.std.proofs.Common.{◌≡◌, ℕ, zero, suc, ◌-◌, ◌<◌, ◌≤◌, List, [], ◌∷◌, ◌++◌, Option, None}
+use Rattle.std.proofs.Common.{Some, drop, length, map, take, get_or, refl, ap, arith, sym, ◌∙◌}
+use Rattle.std.proofs.Common.{length-append}
+use Rattle.std.proofs.lemmas.List.{length-drop}
 use Rattle.std.proofs.Math.ListN.{get_or-append}
 use Rattle.std.proofs.Math.Seq.{take-append_seam, take-length}
 use Rattle.pkcheck.specs.declared.machine.ledger.Entry.{Entry}
@@ -65,6 +67,20 @@ pub are_kept : (made written count : ℕ) (es : List Entry) → AreEntries made 
 are_kept made written zero es h = tt
 are_kept made written (suc n) [] h = tt
 are_kept made written (suc n) (e ∷ es) h = (h.0, are_kept made written n es h.1)
+
+pub are_left : (made written count : ℕ) (es : List Entry) → AreEntries made written es
+    → AreEntries made written (drop count es)
+are_left made written zero es h = h
+are_left made written (suc n) [] h = tt
+are_left made written (suc n) (e ∷ es) h = are_left made written n es h.1
+
+-- the first ones moved to the end, and cut off
+pub cut_off : {X : Type 0} (count rest : ℕ) (xs ys : List X) → rest ≡ length xs - count
+    → ys ≡ drop count xs ++ take count xs → take rest ys ≡ drop count xs
+cut_off count rest xs ys is moved =
+    ap (λ n. take n ys) (is ∙ sym (length-drop count xs))
+    ∙ (ap (take (length (drop count xs))) moved
+    ∙ take-append_seam (drop count xs) (take count xs))
 
 pub map_more : {A B : Type 0} (f : A → B) (xs : List A) (x : A)
     → map f (xs ++ x ∷ []) ≡ map f xs ++ f x ∷ []

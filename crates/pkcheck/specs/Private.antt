@@ -6,6 +6,7 @@ pub mod Slots
 pub mod Noted
 pub mod Joined
 pub mod Denials
+pub mod SameImports
 pub mod Spelled
 pub mod Actions
 pub mod Judgement

@@ -14,11 +14,11 @@ use Rattle.pkcheck.specs.Accepted.{AcceptedFrom}
 use Rattle.pkcheck.specs.Heard.{refused_instruction}
 use Rattle.pkcheck.specs.Import.{asked_shown}
 use Rattle.pkcheck.specs.Knowledge.{Asked, Policy}
-use Rattle.pkcheck.specs.Reports.{AreReportsBehind, Report}
+use Rattle.pkcheck.specs.Reports.{AreReportsBehind, IsReportOf, Report}
 use Rattle.pkcheck.specs.RowOfPickles.{AcceptedRow, AreAccepted, RefusedInRow, begins, bytes_of_all}
 use Rattle.pkcheck.specs.RowRuns.{Beginning, Pickle}
 use Rattle.pkcheck.specs.RunFaults.{IsFaultless}
-use Rattle.pkcheck.specs.WithImports.{RefusedWithImports}
+use Rattle.pkcheck.specs.WithImports.{ImportsBefore, RefusedWithImports}
 use Rattle.pkcheck.specs.declared.check_loop.Extent.{Extent}
 use Rattle.pkcheck.specs.declared.check_loop.Extent.TheVariants.{OnePickle, ToTheEnd}
 use Rattle.pkcheck.specs.declared.check_loop.RefusedPickle.{RefusedPickle}
@@ -69,8 +69,11 @@ module _ (holding : Bool) (loading : Loading) (policy : Policy) (limits : Bounds
 
     -- a pickle of a row was refused, and the audience was told of all that was read
     pub record RefusedRow (pickle at : ℕ) (reason : Reason) (pair : Option Asked)
-        (rs : List Report) : Type 0 where
+        (imports : List Asked) (rs : List Report) : Type 0 where
       pub right : RefusedInRow loading policy limits old new pickle at reason pair
+      -- the imports of the refused pickle itself, before its refused instruction
+      pub imported : ImportsBefore loading.old_strings (begins loading.memo right.before)
+          right.refused.instructions imports
       pub earlier : List Report
       pub last : List Report
       pub all : rs ≡ earlier ++ last
@@ -79,17 +82,18 @@ module _ (holding : Bool) (loading : Loading) (policy : Policy) (limits : Bounds
           (length (bytes_of_all right.before)) []
           (right.refused.instructions ++ refused_instruction right.refused.why) last
 
-    -- a pickle was refused; one that is alone, with the imports before its refused instruction
+    -- a pickle was refused, with the imports before its refused instruction
     abbrev pub RefusedAndTold : Extent → ℕ → ℕ → Reason → Option Asked → List Asked → List Report
         → Type 0
-    RefusedAndTold ToTheEnd pickle at reason pair imports rs = RefusedRow pickle at reason pair rs
+    RefusedAndTold ToTheEnd pickle at reason pair imports rs =
+        RefusedRow pickle at reason pair imports rs
     RefusedAndTold OnePickle pickle at reason pair imports rs =
         (right : RefusedWithImports 0 loading.old_strings (begins loading.memo []) policy limits old
         new at reason pair imports)
         × AreReports (right.refused.instructions ++ refused_instruction right.refused.why) rs
 
-    -- the audience failed in a row, and it was told of all instructions before
-    pub record StoppedRow (rs : List Report) : Type 0 where
+    -- the audience failed in a row when it was told of this, and before of all instructions before
+    pub record StoppedRow (rs : List Report) (failed : Report) : Type 0 where
       pub before : List Pickle
       pub here : Sight
       pub each : AreAccepted loading policy limits old here [] before
@@ -101,27 +105,33 @@ module _ (holding : Bool) (loading : Loading) (policy : Policy) (limits : Bounds
       pub of_pickles : AreReportsOf holding loading [] before earlier
       pub behind : AreReportsBehind holding loading.old_strings (begins loading.memo before)
           (length (bytes_of_all before)) [] stopped.instructions last
+      pub at_last : IsReportOf holding loading.old_strings (begins loading.memo before)
+          (length (bytes_of_all before)) stopped.instructions stopped.instruction failed
 
-    abbrev pub StoppedAndTold : Extent → List Report → Type 0
-    StoppedAndTold ToTheEnd rs = StoppedRow rs
-    StoppedAndTold OnePickle rs =
+    abbrev pub StoppedAndTold : Extent → List Report → Report → Type 0
+    StoppedAndTold ToTheEnd rs failed = StoppedRow rs failed
+    StoppedAndTold OnePickle rs failed =
         (right : StoppedFrom loading.old_strings (begins loading.memo []) policy limits old new)
         × AreReports right.instructions rs
+        × IsReportOf holding loading.old_strings (begins loading.memo []) 0 right.instructions
+        right.instruction failed
 
-    module _ {A : Type 0} (hears : A → A → List Report → Type 0) (first : A) where
+    module _ {A : Type 0} (hears : A → A → List Report → Type 0) where
       -- the answer is right
-      abbrev pub AnswersTold : A → Extent → Result YesAll RefusedPickle → Type 0
-      AnswersTold now extent answer = (rs : List Report)
+      abbrev pub AnswersTold : A → A → Extent → Result YesAll RefusedPickle → Type 0
+      AnswersTold first now extent answer = (rs : List Report)
           × MatchResult answer
           (λ yes. AcceptedAndTold extent yes.taken yes.pickles yes.imports rs)
           (λ refused. RefusedAndTold extent refused.pickle refused.no.at refused.no.reason
           (option_map asked_shown refused.no.pair) refused.imports rs)
           × hears first now rs
 
-      -- the audience failed
-      abbrev pub StopsTold : Extent → Type 0
-      StopsTold extent = (rs : List Report) × (between : A) × StoppedAndTold extent rs
-          × hears first between rs
+      -- the audience failed, and is left like this
+      abbrev pub StopsTold : {X : Type 0} → (A → A → Report → X → Type 0) → A → A → Extent → X
+          → Type 0
+      StopsTold fails first now extent error = (rs : List Report) × (failed : Report)
+          × (between : A) × StoppedAndTold extent rs failed × hears first between rs
+          × fails between now failed error
 
 -- the count of failed reads rises by one if the reason is Source, and otherwise stays the same
 abbrev pub CountsTold : ℕ → ℕ → Result YesAll RefusedPickle → Type 0

@@ -1,6 +1,7 @@
 //! Whoever is told of the instructions of a check.
 
-ghost use Rattle.std.specs.Prelude.{◌≡◌, ◌∷◌, ◌++◌, [], Bool, List, OnOk, false, true};
+ghost use Rattle.std.specs.Prelude.{◌≡◌, ◌∷◌, ◌++◌, [], Bool, IfErr, List, OnOk, false};
+ghost use Rattle.std.specs.Prelude.{true};
 ghost use Rattle.pkops.specs.Inst.{instruction_of};
 ghost use Rattle.pkcheck.specs.Reports.{Report, Skipped, Whole, report, told_of};
 
@@ -23,6 +24,10 @@ pub trait Audience {
     // What it was told between two of its states, in order.
     ghost hears: { Self → Self → List Report → Type 0 };
 
+    // It stopped the check with this error, told of this in the first state; the second one is that
+    // in which it is left.
+    ghost fails: { Self → Self → Report → Self.Error → Type 0 };
+
     /// Whether all payloads are held for it. Otherwise those of plain bytes are skipped.
     fn holds() -> bool
         ensures { result ≡ holding };
@@ -35,8 +40,10 @@ pub trait Audience {
     ///
     /// An error ends the check.
     fn tell(&mut self, at: u64, inst: &Inst<'_>, marks: usize) -> Result<(), Self::Error>
-        ensures { OnOk result (hears self.old self.new
-            (report at (Whole (instruction_of inst.now)) marks ∷ [])) };
+        ensures ok { OnOk result (hears self.old self.new
+            (report at (Whole (instruction_of inst.now)) marks ∷ [])) }
+        ensures err { IfErr result (fails self.old self.new
+            (report at (Whole (instruction_of inst.now)) marks)) };
 
     /// Tells of an admitted instruction with this opcode, whose payload is skipped, before it is
     /// judged. `length` is the number of its bytes, with its opcode, its count and its payload. It
@@ -52,8 +59,10 @@ pub trait Audience {
         length: u64,
         marks: usize,
     ) -> Result<(), Self::Error>
-        ensures { OnOk result (holding ≡ false → hears self.old self.new
-            (report at (Skipped op length) marks ∷ [])) };
+        ensures ok { OnOk result (holding ≡ false → hears self.old self.new
+            (report at (Skipped op length) marks ∷ [])) }
+        ensures err { IfErr result (λ error. holding ≡ false → fails self.old self.new
+            (report at (Skipped op length) marks) error) };
 
     ghost hears_none: { (x : Self) → hears x x [] };
 
@@ -63,6 +72,7 @@ pub trait Audience {
 
 /// A listener hears each instruction whole.
 impl<L: Listener> Audience for L {
+    ghost use Rattle.std.specs.Prelude.{⊤};
     ghost use Rattle.pkcheck.specs.Private.WholeReports.{HearsWhole, hears_whole_more};
 
     type Error = L::Error;
@@ -70,6 +80,8 @@ impl<L: Listener> Audience for L {
     ghost holding = { true };
 
     ghost hears = { HearsWhole L.hears };
+
+    ghost fails = { λ old new told error. ⊤ };
 
     #[inline(always)]
     fn holds() -> bool {
@@ -109,6 +121,8 @@ impl Audience for Silent {
 
     ghost hears = { λ x y rs. ⊤ };
 
+    ghost fails = { λ old new told error. ⊤ };
+
     #[inline(always)]
     fn holds() -> bool {
         false
@@ -143,8 +157,10 @@ pub(crate) fn tell_lent<A: Audience>(
     inst: &Inst<'_>,
     marks: usize,
 ) -> Result<(), A::Error>
-    ensures { OnOk result (A.hears audience.old audience.new
+    ensures ok { OnOk result (A.hears audience.old audience.new
         (report at (told_of A.holding (instruction_of inst.now)) marks ∷ [])) }
+    ensures err { IfErr result (A.fails audience.old audience.new
+        (report at (told_of A.holding (instruction_of inst.now)) marks)) }
 {
     if A::holds() {
         return audience.tell(at, inst, marks);

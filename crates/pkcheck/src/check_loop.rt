@@ -48,7 +48,7 @@ pub struct RefusedPickle {
     pub pickle: u64,
     /// Its refusal, with an offset counted from the first byte taken from the source.
     pub no: No,
-    /// For [`Extent::OnePickle`], what the instructions before `no.at` import, in order.
+    /// What the instructions of this pickle before `no.at` import, in order.
     pub imports: Imports,
 }
 
@@ -65,7 +65,7 @@ pub struct RefusedPickle {
 ///
 /// The error of the audience, which ends the check. By then it was told of every earlier
 /// instruction, and none of these was refused. The bytes taken are exactly those of these
-/// instructions and of the one at which the audience failed.
+/// instructions and of the one at which the audience failed. The audience is left as it was then.
 pub fn check_pickles<R: Source, A: Audience>(
     alloc: Global,
     source: &mut R,
@@ -77,9 +77,10 @@ pub fn check_pickles<R: Source, A: Audience>(
     ensures answer { IfOk result (AnswersTold A.holding terms.now.loading (policy_of policy.now)
         terms.now.limits (sight R.left R.failures source.old) (sight R.left R.failures source.new)
         A.hears audience.old audience.new terms.now.extent) }
-    ensures stopped { IfErr result (λ _. StopsTold A.holding terms.now.loading
+    ensures stopped { IfErr result (StopsTold A.holding terms.now.loading
         (policy_of policy.now) terms.now.limits (sight R.left R.failures source.old)
-        (sight R.left R.failures source.new) A.hears audience.old terms.now.extent) }
+        (sight R.left R.failures source.new) A.hears A.fails audience.old audience.new
+        terms.now.extent) }
     ensures count { MatchResult result
         (CountsTold (R.failures source.old) (R.failures source.new))
         (λ _. R.failures source.new ≡ R.failures source.old) }

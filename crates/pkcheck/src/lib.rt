@@ -19,7 +19,6 @@ mod pairs;
 mod policy;
 mod quoted;
 mod row_of_pickles;
-mod same;
 mod session;
 mod turned;
 mod with_imports;

@@ -198,6 +198,7 @@ impl Machine {
         requires running { self.old.stopped ≡ false }
         ensures step { (instruction : Instruction) → instruction.op ≡ op
             → IsStep (policy_of policy.now) instruction self.old self.new result }
+        ensures goes_on { IfOk result (λ moved. (moved ≡ Moved.On) × (self.new.stopped ≡ false)) }
         ensures imports { self.new.imports ≡ self.old.imports }
     {
         if let Some(earlier) = self.refused {

@@ -1,6 +1,6 @@
 //! Checks pickles that follow one another in a source.
 
-ghost use Rattle.std.specs.Prelude.{◌≡◌, ◌<◌, [], None, true};
+ghost use Rattle.std.specs.Prelude.{◌≡◌, ◌<◌, [], None, drop, length, true};
 ghost use Rattle.pkread.specs.ReaderCalls.{TakesNoneAhead, has_ended, state};
 ghost use Rattle.pkread.specs.Rows.{all_bytes, sight};
 ghost use Rattle.pkcheck.specs.Import.{policy_of};
@@ -25,7 +25,7 @@ use std::error::Error;
 use std::fmt;
 
 /// An accepted row of pickles.
-#[derive(Debug, Drop)]
+#[derive(Debug, Drop, PartialEq, Eq)]
 pub struct YesAll {
     /// The number of bytes taken from the source: all it had.
     pub taken: u64,
@@ -127,6 +127,8 @@ pub(crate) struct Row {
     pickles: u64,
     /// The imports of pickles that the machine forgot.
     apart: Ledger,
+    /// How many of the machine's imports are those of earlier pickles.
+    earlier: usize,
 }
 
 impl Row {
@@ -136,12 +138,14 @@ impl Row {
           memo = memo;
           pickles = 0;
           apart = record { texts = []; asked = [] };
+          earlier = 0;
         } }
     {
         Row {
             memo,
             pickles: 0,
             apart: Ledger::new(alloc),
+            earlier: 0,
         }
     }
 
@@ -160,9 +164,12 @@ impl Row {
         ensures row { IsCounted self.old session.old.machine.imports self.new result }
         ensures session { IsRestarted self.old.memo session.old session.new result }
         ensures reader { LooksBehind R.left R.failures reader.old reader.new result }
+        ensures earlier { self.new.earlier ≡ length session.new.machine.imports }
     {
         self.pickles += 1;
-        let Ok(()) = session.restart(self.memo, &mut self.apart) else {
+        let restarted = session.restart(self.memo, &mut self.apart);
+        self.earlier = session.imported();
+        let Ok(()) = restarted else {
             return Err(Refusal {
                 at: reader.taken(),
                 reason: Reason::OutOfMemory,
@@ -182,6 +189,7 @@ impl Row {
             memo,
             pickles,
             apart,
+            ..
         } = self;
         let imports = match memo {
             Memo::Fresh => Imports::from_ledger(apart),
@@ -213,9 +221,13 @@ impl Row {
     pub fn refused(self, session: &mut Session, refusal: Refusal) -> RefusedPickle
         ensures pickle { result.pickle ≡ self.pickles }
         ensures no { IsNoAt refusal.at refusal.reason session.old.machine.off result.no }
-        ensures imports { result.imports ≡ session.old.machine.imports }
+        ensures imports { result.imports ≡ drop self.earlier session.old.machine.imports }
     {
-        let NoWithImports { no, imports } = session.refuse_with_imports(refusal.at, refusal.reason);
+        let NoWithImports { no, imports } = session.refuse_with_imports(
+            refusal.at,
+            refusal.reason,
+            self.earlier,
+        );
         RefusedPickle {
             pickle: self.pickles,
             no,

@@ -1,7 +1,7 @@
 //! The frames and the machine of one check, which judge one instruction at a time.
 
 ghost use Rattle.std.specs.Prelude.{◌≡◌, ◌+◌, ◌<◌, ◌≤◌, IfErr, IfOk, IsTrue, MatchResult, None};
-ghost use Rattle.std.specs.Prelude.{OnErr, OnOk, false, length, true};
+ghost use Rattle.std.specs.Prelude.{OnErr, OnOk, drop, false, length, true};
 ghost use Rattle.pkops.specs.Admitted.{is_admitted};
 ghost use Rattle.pkops.specs.Inst.{instruction_of};
 ghost use Rattle.pkops.specs.Payloads.{is_passed};
@@ -91,7 +91,7 @@ impl Session {
         ensures no { IfOk result (λ judged. IfErr judged (HearsRefused A.hears audience.old
             audience.new A.holding (policy_of policy.now) (state R.left R.failures reader.old)
             (state R.left R.failures reader.new) self.old self.new.machine)) }
-        ensures err { OnErr result (FailsAtHand A.hears audience.old A.holding
+        ensures err { IfErr result (FailsAtHand A.hears A.fails audience.old audience.new A.holding
             (policy_of policy.now) (state R.left R.failures reader.old)
             (state R.left R.failures reader.new) self.old) }
         ensures none { MatchResult result (λ judged. OnErr judged (TakesNoneAhead reader.new))
@@ -144,8 +144,9 @@ impl Session {
         ensures no { IfOk result (λ judged. IfErr judged (HearsTurned A.hears audience.old
             audience.new A.holding (policy_of policy.now) at bytes.now self.old
             self.new.machine)) }
-        ensures err { IfErr result (λ failed. FailsInTurn A.hears audience.old A.holding
-            (policy_of policy.now) at bytes.now self.old failed.before failed.length) }
+        ensures err { IfErr result (λ failed. FailsInTurn A.hears A.fails audience.old
+            audience.new A.holding (policy_of policy.now) at bytes.now self.old failed.before
+            failed.length failed.error) }
     {
         let inside = self.frames.inside(bytes);
         // Counted back from the end, an offset needs one value less in each turn.
@@ -194,8 +195,8 @@ impl Session {
         ensures no { IfOk result (λ judged. IfErr judged (RefusesNext A.holding A.hears
             audience.old audience.new (policy_of policy.now) (state R.left R.failures reader.old)
             (state R.left R.failures reader.new) self.old self.new.machine)) }
-        ensures err { OnErr result (FailsNext (state R.left R.failures reader.old)
-            (state R.left R.failures reader.new) A.holding) }
+        ensures err { IfErr result (FailsNext A.holding A.fails audience.old audience.new
+            (state R.left R.failures reader.old) (state R.left R.failures reader.new) self.old) }
     {
         if A::holds() {
             return self.hear_held(reader, policy, audience);
@@ -222,8 +223,8 @@ impl Session {
         ensures no { IfOk result (λ judged. IfErr judged (RefusesNext true A.hears audience.old
             audience.new (policy_of policy.now) (state R.left R.failures reader.old)
             (state R.left R.failures reader.new) self.old self.new.machine)) }
-        ensures err { OnErr result (FailsNext (state R.left R.failures reader.old)
-            (state R.left R.failures reader.new) true) }
+        ensures err { IfErr result (FailsNext true A.fails audience.old audience.new
+            (state R.left R.failures reader.old) (state R.left R.failures reader.new) self.old) }
     {
         match reader.next() {
             Err(refusal) => return Ok(Err(refusal)),
@@ -260,8 +261,8 @@ impl Session {
         ensures no { IfOk result (λ judged. IfErr judged (RefusesNext false A.hears audience.old
             audience.new (policy_of policy.now) (state R.left R.failures reader.old)
             (state R.left R.failures reader.new) self.old self.new.machine)) }
-        ensures err { OnErr result (FailsNext (state R.left R.failures reader.old)
-            (state R.left R.failures reader.new) false) }
+        ensures err { IfErr result (FailsNext false A.fails audience.old audience.new
+            (state R.left R.failures reader.old) (state R.left R.failures reader.new) self.old) }
     {
         match reader.next_head() {
             Err(refusal) => return Ok(Err(refusal)),
@@ -346,9 +347,8 @@ impl Session {
         Ok(())
     }
 
-    /// The refusal of a pickle at this offset, for this reason. This ends the session. It is taken
-    /// by reference, because a call that moves it needs a stack slot for it, and the compiler
-    /// clears the slots of all such calls at the start of every check.
+    /// The refusal of a pickle at this offset, for this reason. This ends the session. By value it
+    /// would need a stack slot, which the compiler clears at the start of every check.
     #[inline(never)]
     pub fn refuse(&mut self, at: u64, reason: Reason) -> No
         ensures { IsNoAt at reason self.old.machine.off result }
@@ -360,15 +360,23 @@ impl Session {
         }
     }
 
-    /// As `refuse`, with the imports before the offset.
+    /// As `refuse`, with the imports before the offset, apart from so many earlier ones.
     #[inline(never)]
-    pub fn refuse_with_imports(&mut self, at: u64, reason: Reason) -> NoWithImports
+    pub fn refuse_with_imports(&mut self, at: u64, reason: Reason, earlier: usize) -> NoWithImports
         ensures no { IsNoAt at reason self.old.machine.off result.no }
-        ensures imports { result.imports ≡ self.old.machine.imports }
+        ensures imports { result.imports ≡ drop earlier self.old.machine.imports }
     {
-        let imports = self.machine.take_imports();
+        let mut imports = self.machine.take_imports();
+        imports.skip(earlier);
         let no = self.refuse(at, reason);
         NoWithImports { no, imports }
+    }
+
+    /// The number of imports so far.
+    pub fn imported(&self) -> usize
+        ensures { result ≡ length self.now.machine.imports }
+    {
+        self.machine.imports().len()
     }
 
     /// The imports. This ends the session. See `refuse`.

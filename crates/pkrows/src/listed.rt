@@ -120,11 +120,11 @@ fn answers_are_the_same_by_what_they_list(rt: HostRuntime) -> Result<(), Fail> {
     let again = checked(&rt, b"cm\nff\n.")?;
     let made = checked(&rt, b"\x8c\x01m\x8c\x01f\x93.")?;
     let written = checked(&rt, b"cm\nf\n.")?;
-    assert_eq!(rt; spelled.same(&again), true);
-    assert_eq!(rt; spelled.same(&made), false);
-    assert_eq!(rt; made.same(&written), false);
-    assert_eq!(rt; made.imports.same(&written.imports), true);
-    assert_eq!(rt; made.imports.same(&spelled.imports), false);
+    assert!(rt; spelled == again);
+    assert!(rt; spelled != made);
+    assert!(rt; made != written);
+    assert!(rt; made.imports == written.imports);
+    assert!(rt; made.imports != spelled.imports);
     Ok(())
 }
 

@@ -22,6 +22,7 @@ use Rattle.pkcheck.specs.Reports.{AreReportsBehind, Report}
 use Rattle.pkcheck.specs.RowOfPickles.{HasMore, begins, bytes_of_all}
 use Rattle.pkcheck.specs.RowRuns.{Pickle}
 use Rattle.pkcheck.specs.View.{View}
+use Rattle.pkcheck.specs.WithImports.{ImportsBefore}
 use Rattle.pkcheck.specs.declared.check_loop.Extent.{Extent}
 use Rattle.pkcheck.specs.declared.check_loop.Extent.TheVariants.{OnePickle, ToTheEnd}
 use Rattle.pkcheck.specs.declared.loading.Loading.{Loading}
@@ -35,8 +36,8 @@ use Rattle.pkcheck.proofs.Wholes.Going.{AcceptedNow, Going, RefusedNow, none_bef
 
 module _ (holding : Bool) (loading : Loading) (policy : Policy) (limits : Bounds) (old : Sight)
     (e : Extent) {A : Type 0} (hears : A → A → List Report → Type 0) (first : A) (pickles : ℕ)
-    (apart : List Asked) (s t : ReaderState) (frame : ℕ) (m : View) (now : A)
-    (g : Going holding loading policy limits old e hears first pickles apart s frame m now)
+    (apart : List Asked) (kept : ℕ) (s t : ReaderState) (frame : ℕ) (m : View) (now : A)
+    (g : Going holding loading policy limits old e hears first pickles apart kept s frame m now)
     (ended : has_ended s ≡ true) where
   abbrev Accepted : ℕ → ℕ → List Asked → Sight → Type 0
   Accepted taken number imports new =
@@ -57,7 +58,7 @@ module _ (holding : Bool) (loading : Loading) (policy : Policy) (limits : Bounds
   none_failed_here : s.source.failures ≡ old.failures
   none_failed_here = g.checked.reads.bytes.count
       ∙ none_before_it holding loading policy limits old e
-      hears first pickles apart s t frame m now g
+      hears first pickles apart kept s t frame m now g
 
   pub accepts_alone : e ≡ OnePickle → (new : Sight) (taken number : ℕ) (imports : List Asked)
       → new ≡ s.source → taken ≡ s.taken → imports ≡ m.imports
@@ -101,12 +102,13 @@ module _ (holding : Bool) (loading : Loading) (policy : Policy) (limits : Bounds
       sequence_here new takes known all lists
 
   -- another pickle begins
-  pub going_again : e ≡ ToTheEnd → (number : ℕ) (all : List Asked) (n : View)
+  pub going_again : e ≡ ToTheEnd → (number : ℕ) (all : List Asked) (others : ℕ) (n : View)
       → Takes s.source t.source [] → t.phase ≡ Open → t.taken ≡ s.taken → t.limits ≡ s.limits
       → HasMore t.source → number ≡ pickles + 1 → all ≡ moved_apart loading.memo apart m.imports
-      → n ≡ restarted loading.memo m
-      → Going holding loading policy limits old e hears first number all t 0 n now
-  going_again is number all n takes is_open taken same more one_more lists restarts =
+      → n ≡ restarted loading.memo m → others ≡ length n.imports
+      → Going holding loading policy limits old e hears first number all others t 0 n now
+  going_again is number all others n takes is_open taken same more one_more lists restarts count =
+      let own = count ∙ ap length (ap (λ v. v.imports) restarts ∙ ready.imports) in
       let known = (restarted loading.memo m).knowledge in
       rw (one_more, restarts) (record {
         laws = g.laws;
@@ -121,6 +123,7 @@ module _ (holding : Bool) (loading : Loading) (policy : Policy) (limits : Bounds
           beginning = begins loading.memo these;
           known = known;
         }) (pickles + 1) all these) (sym taken) (row_here t.source takes known all lists);
+        own = own;
         more = λ ne. more;
         alone = alone_in_row e old t.source these is;
         earlier = g.earlier ++ g.last;
@@ -159,17 +162,19 @@ module _ (holding : Bool) (loading : Loading) (policy : Policy) (limits : Bounds
       }
 
   -- it is unknown whether another pickle begins
-  pub refused_again : e ≡ ToTheEnd → (number : ℕ) (x : ReadRefusal) (imports : List Asked)
-      (new : Sight) → IsRefusedBehind s t x → number ≡ pickles + 1 → new ≡ t.source
-      → Refused number x.at x.reason None imports new
-  refused_again is number x imports new h one_more same =
+  pub refused_again : e ≡ ToTheEnd → (number : ℕ) (x : ReadRefusal) (new : Sight)
+      → IsRefusedBehind s t x → number ≡ pickles + 1 → new ≡ t.source
+      → Refused number x.at x.reason None [] new
+  refused_again is number x new h one_more same =
       let row = row_here s.source (g.laws.taking.none s.source) nothing_known _ refl in
       let r = refused_behind g.laws.taking loading policy limits g.checked.laws g.laws.again s
       g.checked.read_limits (begins loading.memo these) (restarted loading.memo m) ready
       g.laws.behind t x h in
       let y = subst (λ k. (r : RefusedFrom k loading.old_strings (begins loading.memo these)
       policy limits s.source t.source x.at x.reason None)
-      × (r.instructions ++ refused_instruction r.why ≡ [])) row.from_is r in
+      × (r.instructions ++ refused_instruction r.why ≡ [])
+      × ImportsBefore loading.old_strings (begins loading.memo these) r.instructions [])
+      row.from_is r in
       record {
         reports = g.earlier ++ g.last;
         right = rw (is, one_more, same) (record {
@@ -181,6 +186,7 @@ module _ (holding : Bool) (loading : Loading) (policy : Policy) (limits : Bounds
             refused = y.0;
             more = λ cut. absurd (behind_is_not_cut s t x h cut);
           };
+          imported = y.2;
           earlier = g.earlier ++ g.last;
           last = [];
           all = sym (append-nil (g.earlier ++ g.last));

@@ -1,6 +1,8 @@
 -- What is known along the loop of a check.
 use Rattle.std.proofs.Common.{◌≡◌, ◌≢◌, ◌+◌, ℕ, List, [], ◌∷◌, ◌++◌, Option, None, true, inl, inr}
 use Rattle.std.proofs.Common.{refl, sym, ap, subst, ◌∙◌, Result, Err, append-nil, append_assoc}
+use Rattle.std.proofs.Common.{drop, length}
+use Rattle.std.proofs.Math.Seq.{drop-append_seam}
 use Rattle.std.specs.Prelude.{Bool, MatchResult}
 use Rattle.pkops.specs.Limits.{Bounds}
 use Rattle.pkops.specs.Spelling.{Instruction}
@@ -11,14 +13,15 @@ use Rattle.pkread.specs.declared.Reason.{Reason}
 use Rattle.pkread.specs.declared.Refusal.{Refusal as ReadRefusal}
 use Rattle.pkcheck.specs.Covers.{Covers}
 use Rattle.pkcheck.specs.Knowledge.{Asked, Policy}
+use Rattle.pkcheck.specs.Listing.{imports_among}
 use Rattle.pkcheck.specs.Private.Judgement.{IsRefused, SessionView}
 use Rattle.pkcheck.specs.Private.Lent.{FailsAtHand, GoesAlong, HearsAlong, HearsRefused}
 use Rattle.pkcheck.specs.ThreeEnds.{AcceptedAndTold, AreReportsOf, RefusedAndTold}
 use Rattle.pkcheck.specs.ThreeEnds.{StoppedAndTold}
 use Rattle.pkcheck.specs.Private.Turns.{FailsNext, HearsNext, RefusesNext}
-use Rattle.pkcheck.specs.Reports.{AreReportsBehind, Report, report, told_of}
+use Rattle.pkcheck.specs.Reports.{AreReportsBehind, IsReportOf, Report, report, told_of}
 use Rattle.pkcheck.specs.RowOfPickles.{HasMore}
-use Rattle.pkcheck.specs.RowRuns.{Pickle}
+use Rattle.pkcheck.specs.RowRuns.{Pickle, listed_before}
 use Rattle.pkcheck.specs.Runs.{State as RunState}
 use Rattle.pkcheck.specs.Shape.{marks_of}
 use Rattle.pkcheck.specs.View.{View}
@@ -46,8 +49,8 @@ phase_along holding policy s t before after (inr k) = ap (λ u. u.phase) k.taken
 module _ (holding : Bool) (loading : Loading) (policy : Policy) (limits : Bounds) (old : Sight)
     (e : Extent) {A : Type 0} (hears : A → A → List Report → Type 0) (first : A) where
   -- what is known after each instruction
-  pub record Going (pickles : ℕ) (apart : List Asked) (s : ReaderState) (frame : ℕ) (m : View)
-      (now : A) : Type 0 where
+  pub record Going (pickles : ℕ) (apart : List Asked) (kept : ℕ) (s : ReaderState) (frame : ℕ)
+      (m : View) (now : A) : Type 0 where
     pub laws : Laws
     pub one : holding ≡ true → limits.passed ≡ limits.counted
     pub law : (x y z : A) (rs : List Report) (r : Report) → hears x y rs → hears y z (r ∷ [])
@@ -57,6 +60,8 @@ module _ (holding : Bool) (loading : Loading) (policy : Policy) (limits : Bounds
     pub origin : Origin
     pub before : List Pickle
     pub row : RowSoFar loading policy limits old here origin pickles apart before
+    -- so many of the machine's imports are those of earlier pickles
+    pub own : kept ≡ length (listed_before origin.beginning)
     pub more : before ≢ [] → HasMore here
     pub alone : IsAlone e old here before
     pub earlier : List Report
@@ -79,11 +84,14 @@ module _ (holding : Bool) (loading : Loading) (policy : Policy) (limits : Bounds
     pub counts : CountsAt why old.failures new.failures
 
   -- the right answer if the audience fails
-  pub record StoppedNow (new : Sight) : Type 0 where
+  pub record StoppedNow {X : Type 0} (fails : A → A → Report → X → Type 0) (now : A) (error : X)
+      (new : Sight) : Type 0 where
     pub reports : List Report
+    pub failed : Report
     pub between : A
-    pub right : StoppedAndTold holding loading policy limits old new e reports
+    pub right : StoppedAndTold holding loading policy limits old new e reports failed
     pub told : hears first between reports
+    pub left : fails between now failed error
     pub counts : new.failures ≡ old.failures
 
   -- the right answer for what is accepted
@@ -108,8 +116,8 @@ module _ (holding : Bool) (loading : Loading) (policy : Policy) (limits : Bounds
       → AcceptedNow taken number imports source now
   accepted_as taken number imports new now h source is = rw is h
 
-  module _ (pickles : ℕ) (apart : List Asked) (s t : ReaderState) (frame : ℕ) (m : View)
-      (now : A) (g : Going pickles apart s frame m now) where
+  module _ (pickles : ℕ) (apart : List Asked) (kept : ℕ) (s t : ReaderState) (frame : ℕ) (m : View)
+      (now : A) (g : Going pickles apart kept s frame m now) where
     -- no read failed before this pickle
     pub none_before_it : g.here.failures ≡ old.failures
     none_before_it = none_failed g.laws.taking loading policy limits old g.here g.origin pickles
@@ -121,7 +129,7 @@ module _ (holding : Bool) (loading : Loading) (policy : Policy) (limits : Bounds
         → Checked loading.old_strings policy limits g.here g.origin q more u is_open n
         → (rs : List Report)
         → AreReportsBehind holding loading.old_strings g.origin.beginning g.origin.at [] q rs
-        → hears first behind (g.earlier ++ rs) → Going pickles apart u is_open n behind
+        → hears first behind (g.earlier ++ rs) → Going pickles apart kept u is_open n behind
     goes_on u is_open n behind q more checked rs told heard = record {
       laws = g.laws;
       one = g.one;
@@ -131,6 +139,7 @@ module _ (holding : Bool) (loading : Loading) (policy : Policy) (limits : Bounds
       origin = g.origin;
       before = g.before;
       row = g.row;
+      own = g.own;
       more = g.more;
       alone = g.alone;
       earlier = g.earlier;
@@ -143,6 +152,17 @@ module _ (holding : Bool) (loading : Loading) (policy : Policy) (limits : Bounds
       heard = heard;
     }
 
+    -- the imports of the pickle that is being read
+    own_imports : (p : List Instruction) (asked : List (Option Asked)) (u : ReaderState)
+        (still_open : ℕ) (v : View)
+        → Checked loading.old_strings policy limits g.here g.origin p asked u still_open v
+        → (imports : List Asked) → imports ≡ v.imports → drop kept imports ≡ imports_among asked
+    own_imports p asked u still_open v checked imports lists =
+        let before = listed_before g.origin.beginning in
+        ap (drop kept) (lists ∙ checked.imports)
+        ∙ (ap (λ n. drop n (before ++ imports_among asked)) g.own
+        ∙ drop-append_seam before (imports_among asked))
+
     -- an instruction that was read is refused
     refuses_read : (p : List Instruction) (asked : List (Option Asked)) (u : ReaderState)
         (still_open : ℕ) (v : View)
@@ -152,7 +172,7 @@ module _ (holding : Bool) (loading : Loading) (policy : Policy) (limits : Bounds
         → IsRefused policy i still_open v n r.reason
         → (rs : List Report) → AreReportsBehind holding loading.old_strings g.origin.beginning
         g.origin.at [] (p ++ i ∷ []) rs → (behind : A) → hears first behind (g.earlier ++ rs)
-        → RefusedNow pickles r.at r.reason n.off n.imports new behind
+        → RefusedNow pickles r.at r.reason n.off (drop kept n.imports) new behind
     refuses_read p asked u still_open v checked r i n new took same why rs told behind heard =
         let after = refused_took loading.old_strings policy limits g.here g.origin p asked u
         still_open v checked t r.at i new took same g.long n r.reason n.off why refl in
@@ -161,8 +181,9 @@ module _ (holding : Bool) (loading : Loading) (policy : Policy) (limits : Bounds
           right = refused_told holding loading policy limits old g.here g.origin pickles apart
               g.before
               g.row g.earlier g.of_pickles p asked u still_open v checked e g.alone g.more r.at
-              r.reason n.off new (p ++ i ∷ []) after n.imports
-              (refused_imports policy i still_open v n r.reason why) rs told;
+              r.reason n.off new (p ++ i ∷ []) after (drop kept n.imports)
+              (own_imports p asked u still_open v checked n.imports
+              (refused_imports policy i still_open v n r.reason why)) rs told;
           told = heard;
           counts = subst (λ f. CountsAt r.reason f new.failures) none_before_it
               (count_took loading.old_strings policy limits g.here g.origin p asked u still_open v
@@ -176,23 +197,30 @@ module _ (holding : Bool) (loading : Loading) (policy : Policy) (limits : Bounds
         → (at : ℕ) (i : Instruction) (new : Sight)
         → Took g.here g.origin.at limits p u at i t → new ≡ t.source
         → (rs : List Report) → AreReportsBehind holding loading.old_strings g.origin.beginning
-        g.origin.at [] p rs → (between : A) → hears first between (g.earlier ++ rs) → StoppedNow new
-    stops_read p asked u still_open v checked at i new took same rs told between heard = record {
-      reports = g.earlier ++ rs;
-      between = between;
-      right = stopped_told holding loading policy limits old g.here g.origin pickles apart g.before
-          g.row g.earlier g.of_pickles p asked u still_open v checked t at i new took same e g.alone
-          rs told;
-      told = heard;
-      counts = ap (λ z. z.failures) same ∙ (took.more.reads.bytes.count ∙ none_before_it);
-    }
+        g.origin.at [] p rs → (between : A) → hears first between (g.earlier ++ rs)
+        → (x : Report) → IsReportOf holding loading.old_strings g.origin.beginning g.origin.at p i x
+        → {X : Type 0} (fails : A → A → Report → X → Type 0) (behind : A) (error : X)
+        → fails between behind x error → StoppedNow fails behind error new
+    stops_read p asked u still_open v checked at i new took same rs told between heard x last fails
+        behind error left = record {
+          reports = g.earlier ++ rs;
+          failed = x;
+          between = between;
+          right = stopped_told holding loading policy limits old g.here g.origin pickles apart
+              g.before g.row g.earlier g.of_pickles p asked u still_open v checked t at i new took
+              same rs told x
+              last e g.alone;
+          told = heard;
+          left = left;
+          counts = ap (λ z. z.failures) same ∙ (took.more.reads.bytes.count ∙ none_before_it);
+        }
 
     -- ---- instructions at hand
 
     pub going_along : (behind : A) (after : SessionView)
         → HearsAlong hears now behind holding policy s t (record { frame = frame; machine = m })
         after
-        → Going pickles apart t after.frame after.machine behind
+        → Going pickles apart kept t after.frame after.machine behind
     going_along behind after (along, more) =
         let r = hears_along holding loading.old_strings policy limits g.here g.origin g.laws.lent
         g.laws.twice g.read g.asked s t frame m g.checked g.last g.behind hears first now g.earlier
@@ -202,7 +230,7 @@ module _ (holding : Bool) (loading : Loading) (policy : Policy) (limits : Bounds
     pub refused_at_hand : (behind : A) (n : View) (r : ReadRefusal) (new : Sight)
         → HearsRefused hears now behind holding policy s t (record { frame = frame; machine = m })
         n r → new ≡ t.source
-        → RefusedNow pickles r.at r.reason n.off n.imports new behind
+        → RefusedNow pickles r.at r.reason n.off (drop kept n.imports) new behind
     refused_at_hand behind n r new (k, more) same =
         let (x, why, rs, told, heard) = hears_refused holding loading.old_strings policy limits
         g.here g.origin g.laws.lent g.laws.twice g.read g.asked s t frame m g.checked g.last
@@ -211,15 +239,18 @@ module _ (holding : Bool) (loading : Loading) (policy : Policy) (limits : Bounds
         refuses_read x.read x.listed x.between k.down.here.between.frame k.down.here.between.machine
         x.checked r k.down.here.instruction n new x.took same why rs told behind heard
 
-    pub failed_at_hand : (new : Sight)
-        → FailsAtHand hears now holding policy s t (record { frame = frame; machine = m })
-        → new ≡ t.source → StoppedNow new
-    failed_at_hand new (k, (between, more)) same =
-        let (x, rs, told, heard) = hears_failed holding loading.old_strings policy limits g.here
-        g.origin g.laws.lent g.laws.twice g.read g.asked s t frame m g.checked g.last g.behind hears
-        first now g.earlier g.heard k between more in
+    pub failed_at_hand : {X : Type 0} (fails : A → A → Report → X → Type 0) (behind : A) (error : X)
+        (new : Sight)
+        → FailsAtHand hears fails now behind holding policy s t
+        (record { frame = frame; machine = m }) error
+        → new ≡ t.source → StoppedNow fails behind error new
+    failed_at_hand fails behind error new (k, (between, more, left)) same =
+        let (x, rs, told, heard, last) = hears_failed holding loading.old_strings policy limits
+        g.here g.origin g.laws.lent g.laws.twice g.read g.asked s t frame m g.checked g.last
+        g.behind hears first now g.earlier g.heard k between more in
         stops_read x.read x.listed x.between k.here.between.frame k.here.between.machine x.checked
-        (s.taken + k.before_it) k.here.instruction new x.took same rs told between heard
+        (s.taken + k.before_it) k.here.instruction new x.took same rs told between heard _ last
+        fails behind error left
 
     -- ---- the next instruction
 
@@ -244,7 +275,7 @@ module _ (holding : Bool) (loading : Loading) (policy : Policy) (limits : Bounds
     pub going_next : (behind : A) (after : SessionView)
         → HearsNext holding hears now behind policy s t (record { frame = frame; machine = m })
         after
-        → Going pickles apart t after.frame after.machine behind
+        → Going pickles apart kept t after.frame after.machine behind
     going_next behind after h =
         let (i, took, (both, told)) = took_gave g.here g.origin.at limits g.read s g.checked.reads
         g.checked.read_limits t holding g.one g.laws.nexts g.laws.heads g.laws.passed h.at _ h.gave
@@ -258,8 +289,8 @@ module _ (holding : Bool) (loading : Loading) (policy : Policy) (limits : Bounds
     pub refused_next : (behind : A) (n : View) (r : ReadRefusal) (new : Sight)
         → RefusesNext holding hears now behind policy s t (record { frame = frame; machine = m })
         n r → new ≡ t.source
-        → RefusedNow pickles r.at r.reason n.off n.imports new behind
-    refused_next behind n r new (inl (down, kept, silent)) same =
+        → RefusedNow pickles r.at r.reason n.off (drop kept n.imports) new behind
+    refused_next behind n r new (inl (down, unchanged, silent)) same =
         let d = turned_down g.here g.origin.at limits g.read s g.checked.reads g.checked.read_limits
         t holding g.one g.laws.refused_nexts g.laws.refused_heads r down in
         let after = refused_turned loading.old_strings policy limits g.here g.origin g.read g.asked
@@ -268,11 +299,13 @@ module _ (holding : Bool) (loading : Loading) (policy : Policy) (limits : Bounds
           reports = g.earlier ++ g.last;
           right = subst
               (λ o. RefusedAndTold holding loading policy limits old new e pickles r.at r.reason o
-              n.imports (g.earlier ++ g.last)) (sym (ap (λ v. v.off) kept ∙ g.checked.off))
+              (drop kept n.imports) (g.earlier ++ g.last))
+              (sym (ap (λ v. v.off) unchanged ∙ g.checked.off))
               (refused_told holding loading policy limits old g.here g.origin pickles apart
               g.before g.row g.earlier g.of_pickles g.read g.asked s frame m g.checked e g.alone
-              g.more r.at r.reason None new (g.read ++ []) after n.imports
-              (ap (λ v. v.imports) kept) g.last
+              g.more r.at r.reason None new (g.read ++ []) after (drop kept n.imports)
+              (own_imports g.read g.asked s frame m g.checked n.imports
+              (ap (λ v. v.imports) unchanged)) g.last
               (subst (λ z. AreReportsBehind holding loading.old_strings g.origin.beginning
               g.origin.at [] z g.last) (sym (append-nil g.read)) g.behind));
           told = subst (λ b. hears first b (g.earlier ++ g.last)) (sym silent) g.heard;
@@ -287,11 +320,18 @@ module _ (holding : Bool) (loading : Loading) (policy : Policy) (limits : Bounds
         let w = heard_next r.at i took h.marks h.open_ones behind told in
         refuses_read g.read g.asked s frame m g.checked r i n new took same why w.0 w.1 behind w.2
 
-    pub failed_next : (new : Sight) → FailsNext s t holding → new ≡ t.source → StoppedNow new
-    failed_next new (at, gave) same =
-        let (i, took, none) = took_gave g.here g.origin.at limits g.read s g.checked.reads
-        g.checked.read_limits t holding g.one g.laws.nexts g.laws.heads g.laws.passed at _ gave in
-        stops_read g.read g.asked s frame m g.checked at i new took same g.last g.behind now g.heard
+    pub failed_next : {X : Type 0} (fails : A → A → Report → X → Type 0) (behind : A) (error : X)
+        (new : Sight)
+        → FailsNext holding fails now behind s t (record { frame = frame; machine = m }) error
+        → new ≡ t.source → StoppedNow fails behind error new
+    failed_next fails behind error new h same =
+        let (i, took, left) = took_gave g.here g.origin.at limits g.read s g.checked.reads
+        g.checked.read_limits t holding g.one g.laws.nexts g.laws.heads g.laws.passed h.at _ h.gave
+        in
+        stops_read g.read g.asked s frame m g.checked h.at i new took same g.last g.behind now
+        g.heard _
+        (heard_here holding loading.old_strings policy limits g.here g.origin g.read g.asked s frame
+        m g.checked t h.at i took h.marks h.open_ones) fails behind error left
 
 -- an error says nothing of what an answer would
 pub if_err_count : {X Y : Type 0} (P : X → Type 0) {Q : Type 0} (r : Result X Y) (y : Y)

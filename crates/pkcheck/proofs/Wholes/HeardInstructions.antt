@@ -144,6 +144,8 @@ module _ (holding : Bool) (setting : OldStrings) (policy : Policy) (limits : Bou
           frame m h rs each
           (s.taken + k.before_it) k.here.instruction k.here.between k.here.earlier)
           × (all : List Report) × Heard x.read all × hears first between (earlier ++ all)
+          × IsReportOf holding setting o.beginning o.at x.read k.here.instruction
+          (heard_before holding (s.taken + k.before_it) k.here.instruction k.here.between.machine)
       hears_failed k between more =
           let x = reached holding setting policy limits old o lends twice Heard hears_on p asked s t
           frame m h rs each k.bytes k.before_it k.next k.here k.taken
@@ -153,6 +155,10 @@ module _ (holding : Bool) (setting : OldStrings) (policy : Policy) (limits : Bou
             x.holds,
             subst (hears first between) (append_assoc earlier rs _)
                 (more first (earlier ++ rs) heard_first),
+            heard_here x.read x.listed x.between k.here.between.frame k.here.between.machine
+                x.checked t (s.taken + k.before_it) k.here.instruction x.took
+                (marks_of k.here.between.machine.knowledge.entries)
+                (λ st here. marks_alike _ _ _ here.entries),
           )
 
 -- whatever the error is

@@ -7,6 +7,8 @@ use Rattle.std.specs.Io.KnownBytes.{IsAtEnd}
 use Rattle.std.proofs.lemmas.Grind.{flat_map-append}
 use Rattle.std.proofs.lemmas.List.{length-map, map-append}
 use Rattle.std.proofs.lemmas.List.Elements.{All-nil, All-cons}
+use Rattle.pkcheck.specs.WithImports.{ImportsBefore}
+use Rattle.pkcheck.proofs.Wholes.ImportsBefore.{imports_before}
 use Rattle.pkops.specs.Limits.{Bounds}
 use Rattle.pkops.specs.Payloads.{payload_limit, payload_limit_at}
 use Rattle.pkops.specs.Spelling.{Instruction, spelling}
@@ -317,6 +319,7 @@ module _ (taking : TakingLaws) (loading : Loading) (policy : Policy) (limits : B
         (r : RefusedFrom s.taken loading.old_strings b policy limits s.source new x.at x.reason
         None)
         × (r.instructions ++ refused_instruction r.why ≡ [])
+        × ImportsBefore loading.old_strings b r.instructions []
 
     turned : (x : ReadRefusal) (new : Sight) → x.at ≡ s.taken
         → Refuses (payload_limit_at limits []) s.source new [] s.taken s.taken x.reason
@@ -331,7 +334,9 @@ module _ (taking : TakingLaws) (loading : Loading) (policy : Policy) (limits : B
         (record s { source = new }) x new
         (record { no_stop = All-nil (λ i. i.op ≢ Stop); place = place; bytes = []; why = why })
         refl in
-        (r.0, r.1)
+        let none = imports_before loading.old_strings policy limits s.source origin [] [] open' 0 m
+        here [] refl (All-nil (λ i. i.op ≢ Stop)) in
+        (r.0, r.1, subst (λ p. ImportsBefore loading.old_strings b p []) (sym r.2) none)
 
     -- the reader refused after STOP, or an allocation for the imports was refused
     pub refused_behind : NoByteIsRefused → (t : ReaderState) (x : ReadRefusal)

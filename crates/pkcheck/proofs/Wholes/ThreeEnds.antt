@@ -20,7 +20,7 @@ use Rattle.pkcheck.specs.Listing.{imports_among}
 use Rattle.pkcheck.specs.ThreeEnds.{AcceptedAndTold, AreReportsOf, RefusedAndTold}
 use Rattle.pkcheck.specs.ThreeEnds.{StoppedAndTold, StoppedFrom}
 use Rattle.pkcheck.specs.Refused.{RefusedFrom}
-use Rattle.pkcheck.specs.Reports.{AreReportsBehind, Report}
+use Rattle.pkcheck.specs.Reports.{AreReportsBehind, IsReportOf, Report}
 use Rattle.pkcheck.specs.RowOfPickles.{HasMore, begins, bytes_of_all}
 use Rattle.pkcheck.specs.RowRuns.{Beginning, Pickle, listed_before}
 use Rattle.pkcheck.specs.View.{View}
@@ -149,19 +149,32 @@ module _ (holding : Bool) (loading : Loading) (policy : Policy) (limits : Bounds
     RefusedHere at why pair new q = RefusedAfter loading.old_strings policy limits here origin p
         asked s still_open m checked at why pair new q
 
+    -- the imports before the refused instruction
+    imports_here : (at : ℕ) (why : Reason) (pair : Option Asked) (new : Sight)
+        (q : List Instruction) (r : RefusedHere at why pair new q) (imports : List Asked)
+        → imports ≡ imports_among asked
+        → ImportsBefore loading.old_strings origin.beginning r.0.instructions imports
+    imports_here at why pair new q r imports lists =
+        subst (λ x. ImportsBefore loading.old_strings origin.beginning x imports) (sym r.2)
+        (imports_before loading.old_strings policy limits here origin p asked s still_open m checked
+        imports lists (subst NoStop r.2 r.0.goes_on))
+
     -- the pickle that begins here is refused
     pub refused_told : (e : Extent) → IsAlone e old here before → (before ≢ [] → HasMore here)
         → (at : ℕ) (why : Reason) (pair : Option Asked) (new : Sight) (q : List Instruction)
-        → RefusedHere at why pair new q → (imports : List Asked) → imports ≡ m.imports
+        → RefusedHere at why pair new q → (imports : List Asked) → imports ≡ imports_among asked
         → (last : List Report) → Behind q last
         → RefusedAndTold holding loading policy limits old new e pickles at why pair imports
         (earlier ++ last)
     refused_told ToTheEnd alone more at why pair new q r imports lists last behind =
         let count = length (bytes_of_all before) in
         let x = subst (λ b. (r : RefusedFrom count loading.old_strings b policy limits here new at
-        why pair) × (r.instructions ++ refused_instruction r.why ≡ q)) h.begins
+        why pair) × (r.instructions ++ refused_instruction r.why ≡ q)
+        × ImportsBefore loading.old_strings b r.instructions imports) h.begins
         (subst (λ n. (r : RefusedFrom n loading.old_strings origin.beginning policy limits here new
-        at why pair) × (r.instructions ++ refused_instruction r.why ≡ q)) h.from_is (r.0, r.1)) in
+        at why pair) × (r.instructions ++ refused_instruction r.why ≡ q)
+        × ImportsBefore loading.old_strings origin.beginning r.instructions imports) h.from_is
+        (r.0, r.1, imports_here at why pair new q r imports lists)) in
         record {
           right = record {
             before = before;
@@ -171,6 +184,7 @@ module _ (holding : Bool) (loading : Loading) (policy : Policy) (limits : Bounds
             refused = x.0;
             more = λ is ne. more ne;
           };
+          imported = x.2;
           earlier = earlier;
           last = last;
           all = refl;
@@ -181,23 +195,27 @@ module _ (holding : Bool) (loading : Loading) (policy : Policy) (limits : Bounds
               h.from_is behind);
         }
     refused_told OnePickle alone more at why pair new q r imports lists last behind =
-        let mine = lists ∙ own_imports alone.1 in
-        let b : ImportsBefore loading.old_strings origin.beginning r.0.instructions imports =
-        subst (λ x. ImportsBefore loading.old_strings origin.beginning x imports) (sym r.2)
-        (imports_before loading.old_strings policy limits here origin p asked s still_open m checked
-        imports mine (subst NoStop r.2 r.0.goes_on)) in
         as_first (λ n b o rs. (right : RefusedWithImports n loading.old_strings b policy limits o
         new at why pair imports) × AreReportsBehind holding loading.old_strings b n []
         (right.refused.instructions ++ refused_instruction right.refused.why) rs) alone last (
-          record { refused = r.0; before = b },
+          record {
+            refused = r.0;
+            before = imports_here at why pair new q r imports lists;
+          },
           subst (λ z. Behind z last) (sym r.1) behind,
         )
 
     -- the audience failed at this instruction
     module _ (t : ReaderState) (at : ℕ) (i : Instruction) (new : Sight)
-        (took : Took here origin.at limits p s at i t) (same : new ≡ t.source) where
-      stopped_from : (f : StoppedFrom loading.old_strings origin.beginning policy limits here new)
-          × (f.instructions ≡ p)
+        (took : Took here origin.at limits p s at i t) (same : new ≡ t.source)
+        (last : List Report) (behind : Behind p last) (failed : Report)
+        (told : IsReportOf holding loading.old_strings origin.beginning origin.at p i failed) where
+      abbrev Stopped : ℕ → Beginning → Sight → Type 0
+      Stopped n b o = (f : StoppedFrom loading.old_strings b policy limits o new)
+          × AreReportsBehind holding loading.old_strings b n [] f.instructions last
+          × IsReportOf holding loading.old_strings b n f.instructions f.instruction failed
+
+      stopped_from : Stopped origin.at origin.beginning here
       stopped_from = (
         record {
           instructions = p;
@@ -210,15 +228,15 @@ module _ (holding : Bool) (loading : Loading) (policy : Policy) (limits : Bounds
           faultless = faultless_here loading.old_strings policy limits here origin p asked s
               still_open m checked took.more.no_stop;
         },
-        refl,
+        behind,
+        told,
       )
 
-      pub stopped_told : (e : Extent) → IsAlone e old here before → (last : List Report)
-          → Behind p last
-          → StoppedAndTold holding loading policy limits old new e (earlier ++ last)
-      stopped_told ToTheEnd alone last behind =
-          let x = subst (λ b. (f : StoppedFrom loading.old_strings b policy limits here new)
-          × (f.instructions ≡ p)) h.begins stopped_from in
+      pub stopped_told : (e : Extent) → IsAlone e old here before
+          → StoppedAndTold holding loading policy limits old new e (earlier ++ last) failed
+      stopped_told ToTheEnd alone =
+          let x = subst (λ b. Stopped (length (bytes_of_all before)) b here) h.begins
+          (subst (λ n. Stopped n origin.beginning here) h.from_is stopped_from) in
           record {
             before = before;
             here = here;
@@ -228,17 +246,14 @@ module _ (holding : Bool) (loading : Loading) (policy : Policy) (limits : Bounds
             last = last;
             all = refl;
             of_pickles = each;
-            behind = subst (λ z. AreReportsBehind holding loading.old_strings
-                (begins loading.memo before) (length (bytes_of_all before)) [] z last) (sym x.1)
-                (placed holding loading.old_strings origin.beginning _ origin.at _ p last h.begins
-                h.from_is behind);
+            behind = x.1;
+            at_last = x.2;
           }
-      stopped_told OnePickle alone last behind = as_first (λ n b o rs. (right : StoppedFrom
+      stopped_told OnePickle alone = as_first (λ n b o rs. (right : StoppedFrom
           loading.old_strings b policy limits o new) × AreReportsBehind holding
-          loading.old_strings b n [] right.instructions rs) alone last (
-            stopped_from.0,
-            subst (λ z. Behind z last) (sym stopped_from.1) behind,
-          )
+          loading.old_strings b n [] right.instructions rs × IsReportOf holding
+          loading.old_strings b n right.instructions right.instruction failed) alone last
+          stopped_from
 
     -- the pickle that is alone is accepted
     pub alone_told : (here ≡ old) × (before ≡ []) → (new : Sight) (taken number : ℕ)

@@ -122,15 +122,21 @@ module _ {L : Type 0} (hears : L → L → List Report → Type 0) (first now : 
     HearsRefused after r = (k : RefusesLent holding policy old new before after r)
         × HearsMore hears first now (heard_refused holding policy old new before k)
 
-module _ {L : Type 0} (hears : L → L → List Report → Type 0) (first : L) (holding : Bool)
-    (policy : Policy) where
-  -- instructions are heard in turn, and the listener fails at the one behind them
-  abbrev pub FailsInTurn : ℕ → List ℕ → SessionView → ℕ → ℕ → Type 0
-  FailsInTurn at bytes before count size = (here : StopsAt holding policy at bytes before count)
+module _ {L X : Type 0} (hears : L → L → List Report → Type 0)
+    (fails : L → L → Report → X → Type 0) (first now : L) (holding : Bool) (policy : Policy) where
+  -- instructions are heard in turn, and the audience fails at the one behind them
+  abbrev pub FailsInTurn : ℕ → List ℕ → SessionView → ℕ → ℕ → X → Type 0
+  FailsInTurn at bytes before count size error =
+      (here : StopsAt holding policy at bytes before count)
       × (size ≡ length (spelling here.instruction))
-      × ((between : L) × HearsMore hears first between here.earlier)
+      × ((between : L) × HearsMore hears first between here.earlier
+      × fails between now
+      (heard_before holding (at + count) here.instruction here.between.machine) error)
 
   -- the same of instructions at hand
-  abbrev pub FailsAtHand : ReaderState → ReaderState → SessionView → Type 0
-  FailsAtHand old new before = (k : FailsLent holding policy old new before)
-      × ((between : L) × HearsMore hears first between k.here.earlier)
+  abbrev pub FailsAtHand : ReaderState → ReaderState → SessionView → X → Type 0
+  FailsAtHand old new before error = (k : FailsLent holding policy old new before)
+      × ((between : L) × HearsMore hears first between k.here.earlier
+      × fails between now
+      (heard_before holding (old.taken + k.before_it) k.here.instruction k.here.between.machine)
+      error)

@@ -1,5 +1,5 @@
 -- How the next instruction of a reader is told and judged.
-use Rattle.std.specs.Prelude.{◌≡◌, ◌-◌, ◌≤◌, ◌⊎◌, ⊤, ℕ, Bool, true, false, List, [], ◌∷◌, Ok, Err}
+use Rattle.std.specs.Prelude.{◌≡◌, ◌-◌, ◌≤◌, ◌⊎◌, ℕ, Bool, true, false, List, [], ◌∷◌, Ok, Err}
 use Rattle.pkops.specs.Inst.{instruction_of}
 use Rattle.pkops.specs.Spelling.{Instruction}
 use Rattle.pkops.specs.declared.Inst.{Inst}
@@ -33,10 +33,6 @@ module _ (s t : ReaderState) where
   TurnedDown true r = Steps s (Err r) t
   TurnedDown false r = StepsHead s (Err r) t
 
-  -- the audience failed at the next instruction
-  abbrev pub FailsNext : (holding : Bool) → Type 0
-  FailsNext holding = (at : ℕ) × Gave holding at (λ i. ⊤)
-
 module _ (holding : Bool) {A : Type 0} (hears : A → A → List Report → Type 0) (first now : A)
     (policy : Policy) (s t : ReaderState) (before : SessionView) where
   -- the audience is told of the next instruction, which is accepted
@@ -61,3 +57,14 @@ module _ (holding : Bool) {A : Type 0} (hears : A → A → List Report → Type
   abbrev pub RefusesNext : View → Refusal → Type 0
   RefusesNext after r =
       (TurnedDown s t holding r × (after ≡ before.machine) × (now ≡ first)) ⊎ RefusesTold after r
+
+module _ (holding : Bool) {A X : Type 0} (fails : A → A → Report → X → Type 0) (first now : A)
+    (s t : ReaderState) (before : SessionView) where
+  -- the audience fails at the next instruction
+  pub record FailsNext (error : X) : Type 0 where
+    pub at : ℕ
+    pub marks : ℕ
+    pub open_ones : (state : State) → Covers before.machine.knowledge state
+        → marks ≡ marks_of state.shape.entries
+    pub gave : Gave s t holding at
+        (λ i. fails first now (report at (told_of holding i) marks) error)

@@ -1,7 +1,8 @@
 //! The texts that a pickle makes and the imports that it requests. Imports refer to texts by
 //! number.
-ghost use Rattle.std.specs.Prelude.{◌≡◌, ◌<◌, ℕ, List, ◌∷◌, ◌++◌, [], length, take, get_or};
-ghost use Rattle.std.specs.Prelude.{is_some, map, option_map, IfOk, IfErr, IsSome, OnErr, OnOk};
+ghost use Rattle.std.specs.Prelude.{◌≡◌, ◌<◌, ℕ, List, ◌∷◌, ◌++◌, [], drop, length, take};
+ghost use Rattle.std.specs.Prelude.{get_or, is_some, map, option_map, IfOk, IfErr, IsSome};
+ghost use Rattle.std.specs.Prelude.{OnErr, OnOk};
 ghost use Rattle.pkcheck.specs.Import.{asks_more};
 ghost use Rattle.pkcheck.specs.Knowledge.{AskedPair};
 ghost use Rattle.pkcheck.specs.Private.Noted.{AreCopies, AreEntries, IsEntry, IsNamed, IsNamedIf};
@@ -166,6 +167,19 @@ impl Ledger {
         ensures { self.new ≡ record { texts = self.old.texts; asked = take count self.old.asked } }
     {
         self.entries.truncate(count);
+    }
+
+    /// Removes the first `count` imports and keeps the rest.
+    pub fn skip(&mut self, count: usize)
+        ensures { self.new ≡ record { texts = self.old.texts; asked = drop count self.old.asked } }
+    {
+        if count >= self.entries.len() {
+            self.entries.clear();
+            return;
+        }
+        let rest = self.entries.len() - count;
+        self.entries.rotate_left(count);
+        self.entries.truncate(rest);
     }
 }
 

@@ -1,4 +1,5 @@
-use Rattle.std.proofs.Common.{rules, [], refl, sym, ap, ◌∙◌}
+use Rattle.std.proofs.Common.{rules, [], drop, length, refl, sym, ap, ◌∙◌}
+use Rattle.std.proofs.Math.Seq.{drop-length}
 use Rattle.std.proofs.lemmas.Result.{err_from_is_err_and}
 use Rattle.pkread.specs.ReaderCalls.{is_ended, state}
 use Rattle.pkread.specs.Rows.{sight}
@@ -10,7 +11,6 @@ use Rattle.pkcheck.proofs.Wholes.AnotherPickle.{again_false, again_true, refused
 use Rattle.pkcheck.proofs.Wholes.Checked.{checked_first}
 use Rattle.pkcheck.proofs.Wholes.FramesSoFar.{FrameLaws}
 use Rattle.pkcheck.proofs.Wholes.Given.{seen_so}
-use Rattle.pkcheck.proofs.Wholes.HeardInstructions.{if_err}
 use Rattle.pkcheck.proofs.Wholes.RowOfPickles.{begins_first, none_before, row_begins}
 use Rattle.pkcheck.proofs.Wholes.BehindStop.{accepts_alone, accepts_row, going_again, refused_again}
 use Rattle.pkcheck.proofs.Wholes.Going.{accepted_as, count_told, failed_at_hand, failed_next}
@@ -53,6 +53,7 @@ instructions-init g c =
         before = [];
         row = row_begins c.rows.ensures.taking _ _ _ _ _ _ (ap (λ w. w.pickles) c.new-row.ensures)
             (ap (λ w. w.apart.asked) c.new-row.ensures);
+        own = ap (λ w. w.earlier) c.new-row.ensures ∙ sym (ap length (none_before memo));
         more = λ ne. absurd (ne refl);
         alone = alone_first _ _;
         earlier = [];
@@ -73,16 +74,19 @@ instructions-init g c =
 pub returns-in_err-refusal-clause-stopped : goal.returns-in_err-refusal-clause-stopped
 returns-in_err-refusal-clause-stopped g c =
     let now = sight g.R.Source.left g.R.Source.failures c.hear_at_hand.new.reader.source.now in
-    let x = failed_at_hand _ _ _ _ _ _ _ _ _ _ _ _ _ _ _ c.instructions.invariant.going now
-    c.in_err-refusal.ensures.err (seen_so _ now now c.in_err-refusal.ensures.none refl) in
+    let x = failed_at_hand _ _ _ _ _ _ _ _ _ _ _ _ _ _ _ _ c.instructions.invariant.going
+    g.A.Audience.fails _ _ now c.in_err-refusal.ensures.err
+    (seen_so _ now now c.in_err-refusal.ensures.none refl) in
+    let p = err_from_is_err_and c.from_residual.result c.from_residual.ensures.1 in
     let right = x.right in
-    if_err c.from_residual.result (x.reports, x.between, search (rules, right), x.told)
+    rw (p.1, p.2) (x.reports, x.failed, x.between, search (rules, right), x.told, x.left)
 
 pub returns-in_err-refusal-clause-count : goal.returns-in_err-refusal-clause-count
 returns-in_err-refusal-clause-count g c =
     let now = sight g.R.Source.left g.R.Source.failures c.hear_at_hand.new.reader.source.now in
-    let x = failed_at_hand _ _ _ _ _ _ _ _ _ _ _ _ _ _ _ c.instructions.invariant.going now
-    c.in_err-refusal.ensures.err (seen_so _ now now c.in_err-refusal.ensures.none refl) in
+    let x = failed_at_hand _ _ _ _ _ _ _ _ _ _ _ _ _ _ _ _ c.instructions.invariant.going
+    g.A.Audience.fails _ _ now c.in_err-refusal.ensures.err
+    (seen_so _ now now c.in_err-refusal.ensures.none refl) in
     let p = err_from_is_err_and c.from_residual.result c.from_residual.ensures.1 in
     let same = x.counts in
     if_err_count _ c.from_residual.result p.0 p.1 (search (rules, same))
@@ -92,7 +96,7 @@ returns-in-Err-clause-answer g c =
     let no = (let h = rw c.in-Err.is at c.in_ok-refusal.ensures.no in h) in
     let none = (let h = rw c.in-Err.is at c.in_ok-refusal.ensures.none in h) in
     let now = sight g.R.Source.left g.R.Source.failures c.hear_at_hand.new.reader.source.now in
-    let x = refused_at_hand _ _ _ _ _ _ _ _ _ _ _ _ _ _ _ c.instructions.invariant.going
+    let x = refused_at_hand _ _ _ _ _ _ _ _ _ _ _ _ _ _ _ _ c.instructions.invariant.going
     c.hear_at_hand.new.audience _ c.in-Err.refusal now no (seen_so _ now now none refl) in
     let e = c.refused.ensures in
     let y = refused_as _ _ _ _ _ _ _ _ _ _ _ _ _ _ _ x _ _ _ _ _ _ (search rules) e.pickle
@@ -104,7 +108,7 @@ returns-in-Err-clause-count g c =
     let no = (let h = rw c.in-Err.is at c.in_ok-refusal.ensures.no in h) in
     let none = (let h = rw c.in-Err.is at c.in_ok-refusal.ensures.none in h) in
     let now = sight g.R.Source.left g.R.Source.failures c.hear_at_hand.new.reader.source.now in
-    let x = refused_at_hand _ _ _ _ _ _ _ _ _ _ _ _ _ _ _ c.instructions.invariant.going
+    let x = refused_at_hand _ _ _ _ _ _ _ _ _ _ _ _ _ _ _ _ c.instructions.invariant.going
     c.hear_at_hand.new.audience _ c.in-Err.refusal now no (seen_so _ now now none refl) in
     let e = c.refused.ensures in
     count_told _ _ _ _ _ e.no.why (search rules) x.counts
@@ -114,34 +118,35 @@ returns-in-Err-clause-count g c =
 pub hear_next-requires-clause-running : goal.hear_next-requires-clause-running
 hear_next-requires-clause-running g c =
     let go = (let h = rw c.in_default.is at c.in_ok-refusal.ensures.ok in h) in
-    let w = going_along _ _ _ _ _ _ _ _ _ _ _ _ _ _ _ c.instructions.invariant.going _ _ go in
+    let w = going_along _ _ _ _ _ _ _ _ _ _ _ _ _ _ _ _ c.instructions.invariant.going _ _ go in
     w.checked.stopped
     ∙ ap is_ended (phase_along _ _ _ _ _ _ go.0 ∙ c.instructions.invariant.is_open)
 
 pub hear_next-requires-clause-well : goal.hear_next-requires-clause-well
 hear_next-requires-clause-well g c =
     let go = (let h = rw c.in_default.is at c.in_ok-refusal.ensures.ok in h) in
-    let w = going_along _ _ _ _ _ _ _ _ _ _ _ _ _ _ _ c.instructions.invariant.going _ _ go in
+    let w = going_along _ _ _ _ _ _ _ _ _ _ _ _ _ _ _ _ c.instructions.invariant.going _ _ go in
     w.checked.refused
 
 pub returns-in_err-turned-clause-stopped : goal.returns-in_err-turned-clause-stopped
 returns-in_err-turned-clause-stopped g c =
     let go = (let h = rw c.in_default.is at c.in_ok-refusal.ensures.ok in h) in
-    let w = going_along _ _ _ _ _ _ _ _ _ _ _ _ _ _ _ c.instructions.invariant.going _ _ go in
+    let w = going_along _ _ _ _ _ _ _ _ _ _ _ _ _ _ _ _ c.instructions.invariant.going _ _ go in
     let now = sight g.R.Source.left g.R.Source.failures c.hear_next.new.reader.source.now in
-    let x = failed_next _ _ _ _ _ _ _ _ _ _ _ _ _ _ _ w now c.in_err-turned.ensures.err
-    (seen_so _ now now c.in_err-turned.ensures.none refl) in
+    let x = failed_next _ _ _ _ _ _ _ _ _ _ _ _ _ _ _ _ w g.A.Audience.fails _ _ now
+    c.in_err-turned.ensures.err (seen_so _ now now c.in_err-turned.ensures.none refl) in
+    let from = c.from_residual-in_err-turned in
+    let p = err_from_is_err_and from.result from.ensures.1 in
     let right = x.right in
-    if_err c.from_residual-in_err-turned.result
-    (x.reports, x.between, search (rules, right), x.told)
+    rw (p.1, p.2) (x.reports, x.failed, x.between, search (rules, right), x.told, x.left)
 
 pub returns-in_err-turned-clause-count : goal.returns-in_err-turned-clause-count
 returns-in_err-turned-clause-count g c =
     let go = (let h = rw c.in_default.is at c.in_ok-refusal.ensures.ok in h) in
-    let w = going_along _ _ _ _ _ _ _ _ _ _ _ _ _ _ _ c.instructions.invariant.going _ _ go in
+    let w = going_along _ _ _ _ _ _ _ _ _ _ _ _ _ _ _ _ c.instructions.invariant.going _ _ go in
     let now = sight g.R.Source.left g.R.Source.failures c.hear_next.new.reader.source.now in
-    let x = failed_next _ _ _ _ _ _ _ _ _ _ _ _ _ _ _ w now c.in_err-turned.ensures.err
-    (seen_so _ now now c.in_err-turned.ensures.none refl) in
+    let x = failed_next _ _ _ _ _ _ _ _ _ _ _ _ _ _ _ _ w g.A.Audience.fails _ _ now
+    c.in_err-turned.ensures.err (seen_so _ now now c.in_err-turned.ensures.none refl) in
     let from = c.from_residual-in_err-turned in
     let p = err_from_is_err_and from.result from.ensures.1 in
     let same = x.counts in
@@ -150,10 +155,10 @@ returns-in_err-turned-clause-count g c =
 pub returns-in-Err-2-clause-answer : goal.returns-in-Err-2-clause-answer
 returns-in-Err-2-clause-answer g c =
     let go = (let h = rw c.in_default.is at c.in_ok-refusal.ensures.ok in h) in
-    let w = going_along _ _ _ _ _ _ _ _ _ _ _ _ _ _ _ c.instructions.invariant.going _ _ go in
+    let w = going_along _ _ _ _ _ _ _ _ _ _ _ _ _ _ _ _ c.instructions.invariant.going _ _ go in
     let no = (let h = rw c.in-Err-2.is at c.in_ok-turned.ensures.no in h) in
     let now = sight g.R.Source.left g.R.Source.failures c.hear_next.new.reader.source.now in
-    let x = refused_next _ _ _ _ _ _ _ _ _ _ _ _ _ _ _ w c.hear_next.new.audience _
+    let x = refused_next _ _ _ _ _ _ _ _ _ _ _ _ _ _ _ _ w c.hear_next.new.audience _
     c.in-Err-2.turned now no (seen_so _ now now c.in_ok-turned.ensures.none refl) in
     let e = c.refused-in-Err-2.ensures in
     let y = refused_as _ _ _ _ _ _ _ _ _ _ _ _ _ _ _ x _ _ _ _ _ _ (search rules) e.pickle
@@ -163,10 +168,10 @@ returns-in-Err-2-clause-answer g c =
 pub returns-in-Err-2-clause-count : goal.returns-in-Err-2-clause-count
 returns-in-Err-2-clause-count g c =
     let go = (let h = rw c.in_default.is at c.in_ok-refusal.ensures.ok in h) in
-    let w = going_along _ _ _ _ _ _ _ _ _ _ _ _ _ _ _ c.instructions.invariant.going _ _ go in
+    let w = going_along _ _ _ _ _ _ _ _ _ _ _ _ _ _ _ _ c.instructions.invariant.going _ _ go in
     let no = (let h = rw c.in-Err-2.is at c.in_ok-turned.ensures.no in h) in
     let now = sight g.R.Source.left g.R.Source.failures c.hear_next.new.reader.source.now in
-    let x = refused_next _ _ _ _ _ _ _ _ _ _ _ _ _ _ _ w c.hear_next.new.audience _
+    let x = refused_next _ _ _ _ _ _ _ _ _ _ _ _ _ _ _ _ w c.hear_next.new.audience _
     c.in-Err-2.turned now no (seen_so _ now now c.in_ok-turned.ensures.none refl) in
     let e = c.refused-in-Err-2.ensures in
     count_told _ _ _ _ _ e.no.why (search rules) x.counts
@@ -174,9 +179,9 @@ returns-in-Err-2-clause-count g c =
 pub instructions-preserved : goal.instructions-preserved
 instructions-preserved g c =
     let go = (let h = rw c.in_default.is at c.in_ok-refusal.ensures.ok in h) in
-    let w = going_along _ _ _ _ _ _ _ _ _ _ _ _ _ _ _ c.instructions.invariant.going _ _ go in
+    let w = going_along _ _ _ _ _ _ _ _ _ _ _ _ _ _ _ _ c.instructions.invariant.going _ _ go in
     let step = (let h = rw c.in_default-2.is at c.in_ok-turned.ensures.ok in h) in
-    let v = going_next _ _ _ _ _ _ _ _ _ _ _ _ _ _ _ w _ _ step in
+    let v = going_next _ _ _ _ _ _ _ _ _ _ _ _ _ _ _ _ w _ _ step in
     record {
       memo = c.instructions.invariant.memo;
       same = c.hear_next.ensures.source
@@ -190,13 +195,13 @@ instructions-preserved g c =
 pub returns-in-OnePickle-clause-answer : goal.returns-in-OnePickle-clause-answer
 returns-in-OnePickle-clause-answer g c =
     let go = (let h = rw c.in_default.is at c.in_ok-refusal.ensures.ok in h) in
-    let w = going_along _ _ _ _ _ _ _ _ _ _ _ _ _ _ _ c.instructions.invariant.going _ _ go in
+    let w = going_along _ _ _ _ _ _ _ _ _ _ _ _ _ _ _ _ c.instructions.invariant.going _ _ go in
     let step = (let h = rw c.in_default-2.is at c.in_ok-turned.ensures.ok in h) in
-    let v = going_next _ _ _ _ _ _ _ _ _ _ _ _ _ _ _ w _ _ step in
+    let v = going_next _ _ _ _ _ _ _ _ _ _ _ _ _ _ _ _ w _ _ step in
     let ended = sym c.ended.ensures ∙ c.if-ended.true in
     let now = sight g.R.Source.left g.R.Source.failures c.hear_next.new.reader.source.now in
     let t = state g.R.Source.left g.R.Source.failures c.hear_next.new.reader in
-    let x = accepts_alone _ _ _ _ _ _ _ _ _ _ _ t _ _ _ v ended c.in-OnePickle.is now
+    let x = accepts_alone _ _ _ _ _ _ _ _ _ _ _ _ t _ _ _ v ended c.in-OnePickle.is now
     c.alone.result.taken
     c.alone.result.pickles c.alone.result.imports
     (seen_so _ now now c.in_ok-turned.ensures.none refl)
@@ -207,25 +212,25 @@ returns-in-OnePickle-clause-answer g c =
 pub next-requires-clause-well : goal.next-requires-clause-well
 next-requires-clause-well g c =
     let go = (let h = rw c.in_default.is at c.in_ok-refusal.ensures.ok in h) in
-    let w = going_along _ _ _ _ _ _ _ _ _ _ _ _ _ _ _ c.instructions.invariant.going _ _ go in
+    let w = going_along _ _ _ _ _ _ _ _ _ _ _ _ _ _ _ _ c.instructions.invariant.going _ _ go in
     let step = (let h = rw c.in_default-2.is at c.in_ok-turned.ensures.ok in h) in
-    let v = going_next _ _ _ _ _ _ _ _ _ _ _ _ _ _ _ w _ _ step in
+    let v = going_next _ _ _ _ _ _ _ _ _ _ _ _ _ _ _ _ w _ _ step in
     v.checked.refused
 
 pub next-requires-clause-off : goal.next-requires-clause-off
 next-requires-clause-off g c =
     let go = (let h = rw c.in_default.is at c.in_ok-refusal.ensures.ok in h) in
-    let w = going_along _ _ _ _ _ _ _ _ _ _ _ _ _ _ _ c.instructions.invariant.going _ _ go in
+    let w = going_along _ _ _ _ _ _ _ _ _ _ _ _ _ _ _ _ c.instructions.invariant.going _ _ go in
     let step = (let h = rw c.in_default-2.is at c.in_ok-turned.ensures.ok in h) in
-    let v = going_next _ _ _ _ _ _ _ _ _ _ _ _ _ _ _ w _ _ step in
+    let v = going_next _ _ _ _ _ _ _ _ _ _ _ _ _ _ _ _ w _ _ step in
     v.checked.off
 
 pub returns-in-Err-next-clause-answer : goal.returns-in-Err-next-clause-answer
 returns-in-Err-next-clause-answer g c =
     let go = (let h = rw c.in_default.is at c.in_ok-refusal.ensures.ok in h) in
-    let w = going_along _ _ _ _ _ _ _ _ _ _ _ _ _ _ _ c.instructions.invariant.going _ _ go in
+    let w = going_along _ _ _ _ _ _ _ _ _ _ _ _ _ _ _ _ c.instructions.invariant.going _ _ go in
     let step = (let h = rw c.in_default-2.is at c.in_ok-turned.ensures.ok in h) in
-    let v = going_next _ _ _ _ _ _ _ _ _ _ _ _ _ _ _ w _ _ step in
+    let v = going_next _ _ _ _ _ _ _ _ _ _ _ _ _ _ _ _ w _ _ step in
     let ended = sym c.ended.ensures ∙ c.if-ended.true in
     let counted = c.next.ensures.row in
     let looks = c.next.ensures.reader in
@@ -236,19 +241,21 @@ returns-in-Err-next-clause-answer g c =
     let now = sight g.R.Source.left g.R.Source.failures c.next.new.reader.source.now in
     let t = state g.R.Source.left g.R.Source.failures c.next.new.reader in
     let e = c.refused-in-Err-next.ensures in
-    let x = refused_again _ _ _ _ _ _ _ _ _ _ _ t _ _ _ v ended c.in-ToTheEnd.is
-    c.next.new.self.pickles refusal c.next.new.session.machine.imports now behind counted.number
+    let x = refused_again _ _ _ _ _ _ _ _ _ _ _ _ t _ _ _ v ended c.in-ToTheEnd.is
+    c.next.new.self.pickles refusal now behind counted.number
     (seen_so _ now now ahead refl) in
+    let imports = c.next.new.session.machine.imports in
+    let none = ap (λ n. drop n imports) c.next.ensures.earlier ∙ drop-length imports in
     let y = refused_as _ _ _ _ _ _ _ _ _ _ _ _ _ _ _ x _ _ _ _ _ _ (search rules) e.pickle
-    e.no.place e.no.why (e.no.pair ∙ off) e.imports in
+    e.no.place e.no.why (e.no.pair ∙ off) (e.imports ∙ none) in
     (y.reports, y.right, y.told)
 
 pub returns-in-Err-next-clause-count : goal.returns-in-Err-next-clause-count
 returns-in-Err-next-clause-count g c =
     let go = (let h = rw c.in_default.is at c.in_ok-refusal.ensures.ok in h) in
-    let w = going_along _ _ _ _ _ _ _ _ _ _ _ _ _ _ _ c.instructions.invariant.going _ _ go in
+    let w = going_along _ _ _ _ _ _ _ _ _ _ _ _ _ _ _ _ c.instructions.invariant.going _ _ go in
     let step = (let h = rw c.in_default-2.is at c.in_ok-turned.ensures.ok in h) in
-    let v = going_next _ _ _ _ _ _ _ _ _ _ _ _ _ _ _ w _ _ step in
+    let v = going_next _ _ _ _ _ _ _ _ _ _ _ _ _ _ _ _ w _ _ step in
     let ended = sym c.ended.ensures ∙ c.if-ended.true in
     let counted = c.next.ensures.row in
     let looks = c.next.ensures.reader in
@@ -259,17 +266,17 @@ returns-in-Err-next-clause-count g c =
     let now = sight g.R.Source.left g.R.Source.failures c.next.new.reader.source.now in
     let t = state g.R.Source.left g.R.Source.failures c.next.new.reader in
     let e = c.refused-in-Err-next.ensures in
-    let x = refused_again _ _ _ _ _ _ _ _ _ _ _ t _ _ _ v ended c.in-ToTheEnd.is
-    c.next.new.self.pickles refusal c.next.new.session.machine.imports now behind counted.number
+    let x = refused_again _ _ _ _ _ _ _ _ _ _ _ _ t _ _ _ v ended c.in-ToTheEnd.is
+    c.next.new.self.pickles refusal now behind counted.number
     (seen_so _ now now ahead refl) in
     count_told _ _ _ _ _ e.no.why (search rules) x.counts
 
 pub instructions-preserved-in-Ok-true : goal.instructions-preserved-in-Ok-true
 instructions-preserved-in-Ok-true g c =
     let go = (let h = rw c.in_default.is at c.in_ok-refusal.ensures.ok in h) in
-    let w = going_along _ _ _ _ _ _ _ _ _ _ _ _ _ _ _ c.instructions.invariant.going _ _ go in
+    let w = going_along _ _ _ _ _ _ _ _ _ _ _ _ _ _ _ _ c.instructions.invariant.going _ _ go in
     let step = (let h = rw c.in_default-2.is at c.in_ok-turned.ensures.ok in h) in
-    let v = going_next _ _ _ _ _ _ _ _ _ _ _ _ _ _ _ w _ _ step in
+    let v = going_next _ _ _ _ _ _ _ _ _ _ _ _ _ _ _ _ w _ _ step in
     let ended = sym c.ended.ensures ∙ c.if-ended.true in
     let counted = c.next.ensures.row in
     let looks = c.next.ensures.reader in
@@ -280,22 +287,23 @@ instructions-preserved-in-Ok-true g c =
     let kept = c.instructions.invariant.memo in
     let apart = (let b = rw (c.in-Ok-true.is, kept) at counted.apart in b) in
     let machine = (let b = rw (c.in-Ok-true.is, kept) at c.next.ensures.session.ready in b) in
+    let earlier = (let b = rw machine at c.next.ensures.earlier in b) in
     record {
       memo = counted.memo ∙ kept;
       same = looks.source ∙ (c.hear_next.ensures.source
           ∙ (c.hear_at_hand.ensures.source ∙ c.instructions.invariant.same));
       is_open = h.1;
-      going = rw machine (going_again _ _ _ _ _ _ _ _ _ _ _ t _ _ _ v ended c.in-ToTheEnd.is
-          c.next.new.self.pickles c.next.new.self.apart.asked _ h.0 h.1 h.2 h.3
-          (some_ahead ahead.0 _ _ ahead.1) counted.number apart refl);
+      going = rw machine (going_again _ _ _ _ _ _ _ _ _ _ _ _ t _ _ _ v ended c.in-ToTheEnd.is
+          c.next.new.self.pickles c.next.new.self.apart.asked c.next.new.self.earlier _ h.0 h.1
+          h.2 h.3 (some_ahead ahead.0 _ _ ahead.1) counted.number apart refl earlier);
     }
 
 pub returns-in-Ok-false-clause-answer : goal.returns-in-Ok-false-clause-answer
 returns-in-Ok-false-clause-answer g c =
     let go = (let h = rw c.in_default.is at c.in_ok-refusal.ensures.ok in h) in
-    let w = going_along _ _ _ _ _ _ _ _ _ _ _ _ _ _ _ c.instructions.invariant.going _ _ go in
+    let w = going_along _ _ _ _ _ _ _ _ _ _ _ _ _ _ _ _ c.instructions.invariant.going _ _ go in
     let step = (let h = rw c.in_default-2.is at c.in_ok-turned.ensures.ok in h) in
-    let v = going_next _ _ _ _ _ _ _ _ _ _ _ _ _ _ _ w _ _ step in
+    let v = going_next _ _ _ _ _ _ _ _ _ _ _ _ _ _ _ _ w _ _ step in
     let ended = sym c.ended.ensures ∙ c.if-ended.true in
     let counted = c.next.ensures.row in
     let looks = c.next.ensures.reader in
@@ -308,7 +316,7 @@ returns-in-Ok-false-clause-answer g c =
     let machine = (let b = rw (c.in-Ok-false.is, kept) at c.next.ensures.session.ready in b) in
     let now = sight g.R.Source.left g.R.Source.failures c.next.new.reader.source.now in
     let e = c.accepted.ensures in
-    let x = accepts_row _ _ _ _ _ _ _ _ _ _ _ t _ _ _ v ended c.in-ToTheEnd.is
+    let x = accepts_row _ _ _ _ _ _ _ _ _ _ _ _ t _ _ _ v ended c.in-ToTheEnd.is
     c.accepted.result.taken c.accepted.result.pickles c.accepted.result.imports
     c.next.new.self.apart.asked c.next.new.session.machine now h.0 h.1 h.2
     (e.pickles ∙ counted.number) apart (ap (λ s. s.machine) machine)
@@ -321,9 +329,9 @@ returns-in-Ok-false-clause-answer g c =
 pub returns-in-Ok-false-clause-count : goal.returns-in-Ok-false-clause-count
 returns-in-Ok-false-clause-count g c =
     let go = (let h = rw c.in_default.is at c.in_ok-refusal.ensures.ok in h) in
-    let w = going_along _ _ _ _ _ _ _ _ _ _ _ _ _ _ _ c.instructions.invariant.going _ _ go in
+    let w = going_along _ _ _ _ _ _ _ _ _ _ _ _ _ _ _ _ c.instructions.invariant.going _ _ go in
     let step = (let h = rw c.in_default-2.is at c.in_ok-turned.ensures.ok in h) in
-    let v = going_next _ _ _ _ _ _ _ _ _ _ _ _ _ _ _ w _ _ step in
+    let v = going_next _ _ _ _ _ _ _ _ _ _ _ _ _ _ _ _ w _ _ step in
     let ended = sym c.ended.ensures ∙ c.if-ended.true in
     let counted = c.next.ensures.row in
     let looks = c.next.ensures.reader in
@@ -336,7 +344,7 @@ returns-in-Ok-false-clause-count g c =
     let machine = (let b = rw (c.in-Ok-false.is, kept) at c.next.ensures.session.ready in b) in
     let now = sight g.R.Source.left g.R.Source.failures c.next.new.reader.source.now in
     let e = c.accepted.ensures in
-    let x = accepts_row _ _ _ _ _ _ _ _ _ _ _ t _ _ _ v ended c.in-ToTheEnd.is
+    let x = accepts_row _ _ _ _ _ _ _ _ _ _ _ _ t _ _ _ v ended c.in-ToTheEnd.is
     c.accepted.result.taken c.accepted.result.pickles c.accepted.result.imports
     c.next.new.self.apart.asked c.next.new.session.machine now h.0 h.1 h.2
     (e.pickles ∙ counted.number) apart (ap (λ s. s.machine) machine)

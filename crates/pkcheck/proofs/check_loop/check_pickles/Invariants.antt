@@ -14,6 +14,7 @@ invariant-instructions g l = record {
   going : Going g.A.Audience.holding l.fn.terms.loading (policy_of l.fn.policy) l.fn.terms.limits
       (sight g.R.Source.left g.R.Source.failures l.fn.source) l.fn.terms.extent
       g.A.Audience.hears l.initial.audience l.row.pickles l.row.apart.asked
+      l.row.earlier
       (state g.R.Source.left g.R.Source.failures l.reader) l.session.frame l.session.machine
       l.audience;
 }

@@ -9,7 +9,7 @@ pub returns-in_err-yes-clause-cut_short : goal.returns-in_err-yes-clause-cut_sho
 returns-in_err-yes-clause-cut_short g c =
     let s = (let h = rw c.holding_all.ensures at c.in_err-yes.ensures.stopped in h) in
     if_err c.from_residual.result
-    (wholes s.0, s.1, cut_short _ _ _ _ s.0 s.2.0 s.2.1, s.3.1)
+    (wholes s.0, s.2, cut_short _ _ _ _ s.0 s.3.0 s.3.1, s.4.1)
 
 pub returns-in-Ok-clause-answer : goal.returns-in-Ok-clause-answer
 returns-in-Ok-clause-answer g c =

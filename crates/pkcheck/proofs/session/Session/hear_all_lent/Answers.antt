@@ -3,6 +3,7 @@ use Rattle.std.proofs.Common.{◌≡◌, ◌≤◌, ℕ, [], ◌∷◌}
 use Rattle.std.proofs.lemmas.List.{length-append, length-drop}
 use Rattle.pkops.specs.Inst.{instruction_of}
 use Rattle.pkcheck.specs.Import.{policy_of}
+use Rattle.pkcheck.specs.Private.Lent.{heard_before}
 use Rattle.pkcheck.specs.Reports.{report, told_of}
 use Rattle.pkcheck.proofs.Wholes.InTurn.{Along, IsInside, along_more, along_none, all_passed}
 use Rattle.pkcheck.proofs.Wholes.InTurn.{behind_slice, heard_as, heard_now, is_inside, one_more}
@@ -78,12 +79,26 @@ returns-in-Err-clause-err g c =
     let m = c.instructions.self-inside.machine in
     let h = c.instructions.invariant.along in
     let rest = c.instructions.rest.now in
-    let lent = (let l = rw c.limits.ensures at c.in-Some.ensures in l) in (
+    let lent = (let l = rw c.limits.ensures at c.in-Some.ensures in l) in
+    let i = instruction_of c.in-Some.inst in
+    let within : length rest ≤ length inside =
+    omega (arith, ap length h.left, length-drop h.count inside) in
+    let same : report ((c.args.at + length inside) - length rest) (told_of g.A.Audience.holding i)
+    c.marks.result ≡ heard_before g.A.Audience.holding (c.args.at + (length inside - length rest)) i
+    m = ap (λ n. report n (told_of g.A.Audience.holding i) c.marks.result)
+    (counted_back c.args.at (length inside) (length rest) within)
+    ∙ heard_as g.A.Audience.holding (c.args.at + (length inside - length rest)) c.marks.result i m
+    c.marks.ensures.known in (
       stop_here g.A.Audience.holding _ c.args.at bytes inside before whole rest m _ h
           (instruction_of c.in-Some.inst)
           lent _ refl,
       c.len-length.ensures,
-      (c.instructions.audience, c.instructions.invariant.heard),
+      (
+        c.instructions.audience,
+        c.instructions.invariant.heard,
+        subst (λ x. g.A.Audience.fails c.instructions.audience c.tell_lent.new.audience x
+            c.in-Err.error) same c.in-Err.ensures.err,
+      ),
     )
 
 pub returns-in-Err-step_on-clause-no : goal.returns-in-Err-step_on-clause-no
@@ -103,7 +118,7 @@ returns-in-Err-step_on-clause-no g c =
     let place = c.args.at + (length inside - length rest) in
     let within : length rest ≤ length inside =
     omega (arith, ap length h.left, length-drop h.count inside) in
-    let now = c.in_default-tell_lent.ensures in
+    let now = c.in_default-tell_lent.ensures.ok in
     let told = subst (λ n. g.A.Audience.hears c.instructions.audience c.tell_lent.new.audience
     (report n (told_of g.A.Audience.holding i) c.marks.result ∷ []))
     (counted_back c.args.at (length inside) (length rest) within) now in (
@@ -140,7 +155,8 @@ instructions-preserved g c =
     omega (arith, ap length h.left, length-drop h.count inside) in
     let told = subst (λ n. g.A.Audience.hears c.instructions.audience c.tell_lent.new.audience
     (report n (told_of g.A.Audience.holding i) c.marks.result ∷ []))
-    (counted_back c.args.at (length inside) (length rest) within) c.in_default-tell_lent.ensures in
+    (counted_back c.args.at (length inside) (length rest) within)
+    c.in_default-tell_lent.ensures.ok in
     let more = along_more g.A.Audience.holding _ c.args.at bytes inside before whole rest m hs h i
     lent
     c.step_on.new.self c.in_default-step_on.field-0 c.in_default-step_on.ensures.step.goes_on in

@@ -10,7 +10,16 @@ returns-in-Err-tell-clause-err g c =
     let inst = c.in-Ok-Inst.inst in
     let is : c.next.result ≡ Ok (next.Inst c.in-Ok-Inst.at inst) =
     cc (c.in-Ok-Inst.is, c.in-Ok-Inst.field-0-is) in
-    (c.in-Ok-Inst.at, (inst, subst (λ r. Steps s r t) is c.next.follows.holds-at-none.1, tt))
+    record {
+      at = c.in-Ok-Inst.at;
+      marks = c.marks.result;
+      open_ones = c.marks.ensures;
+      gave = (
+        inst,
+        subst (λ r. Steps s r t) is c.next.follows.holds-at-none.1,
+        c.in-Err-tell.ensures.err,
+      );
+    }
 
 pub returns-in-Err-judge-clause-no : goal.returns-in-Err-judge-clause-no
 returns-in-Err-judge-clause-no g c =
@@ -25,7 +34,7 @@ returns-in-Err-judge-clause-no g c =
       gave = (
         inst,
         subst (λ r. Steps s r t) is c.next.follows.holds-at-none.1,
-        (c.in-Err-judge.ensures.err, c.in_default.ensures),
+        (c.in-Err-judge.ensures.err, c.in_default.ensures.ok),
       );
     })
 
@@ -43,6 +52,6 @@ returns-in-Ok-Inst-clause-ok g c =
       at = c.in-Ok-Inst.at;
       marks = c.marks.result;
       open_ones = c.marks.ensures;
-      gave = (inst, stepped, (c.in_default-judge.ensures.ok, c.in_default.ensures));
+      gave = (inst, stepped, (c.in_default-judge.ensures.ok, c.in_default.ensures.ok));
       within = gives.within;
     }
