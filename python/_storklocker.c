@@ -300,6 +300,8 @@ static PyMethodDef methods[] = {
      "Where the plain instructions end that the cutter of joblib's files follows, and a frame."},
     {"respelled", respelled, METH_VARARGS,
      "The instructions with BUILD as TUPLE2 BINPERSID, or None; and where they end."},
+    {"begin_uses", begin_uses, METH_NOARGS, "What `uses` keeps from one pickle to the next."},
+    {"uses", uses, METH_VARARGS, "What a pickle does with names that have substitutes."},
     {"verdict", verdict, METH_VARARGS, "The Verdict of the pickle at the front of the bytes."},
     {"row_verdict", row_verdict, METH_VARARGS, "The RowVerdict of all pickles in the bytes."},
     {"imports", imports, METH_VARARGS,

@@ -93,13 +93,14 @@ static void write_again(struct walk *w, const struct walk *walked, uint8_t *out)
 }
 
 static int is_begun(PyObject *args, PyObject **data, size_t most, struct walk *w) {
-    Py_ssize_t start;
-    if (!PyArg_ParseTuple(args, "Sn", data, &start))
+    Py_ssize_t start, stop = PY_SSIZE_T_MAX;
+    if (!PyArg_ParseTuple(args, "Sn|n", data, &start, &stop))
         return 0;
+    Py_ssize_t length = PyBytes_Size(*data);
     *w = (struct walk){
-        .bytes = (const uint8_t *)PyBytes_AsString(*data), .length = (size_t)PyBytes_Size(*data),
-        .at = (size_t)start, .most = most};
-    if (start >= 0 && w->at <= w->length)
+        .bytes = (const uint8_t *)PyBytes_AsString(*data),
+        .length = (size_t)(stop < length ? stop : length), .at = (size_t)start, .most = most};
+    if (start >= 0 && stop >= start && w->at <= w->length)
         return 1;
     PyErr_SetString(PyExc_ValueError, "the start lies outside of the data");
     return 0;

@@ -9,7 +9,7 @@
 
 #include <stdint.h>
 
-/* Both take bytes, and the offset of an instruction. `walked` returns where the whole instructions
+/* Both take bytes, the offset of an instruction, and one to stop at, or no such. `walked` returns where the whole instructions
    from there on end, at the latest after STOP, and whether the last one is STOP. `respelled` goes
    up to a large instruction, and returns these instructions with BUILD as TUPLE2 BINPERSID and
    BINPERSID as TUPLE1 BINPERSID, and without frames, or None if it has none of them; where they
@@ -22,6 +22,15 @@ PyObject *respelled(PyObject *module, PyObject *args);
    stands there for any other object and for a mark, and the class of dicts. Returns where the
    instruction begins that isn't plain or whole, and where the last frame ends, or 0. */
 PyObject *followed(PyObject *module, PyObject *args);
+
+/* Follows what the instructions of a pickle do with the names that are loaded through substitutes.
+   `uses` takes what `begin_uses` made for all pickles of a reader, bytes, the offset of the pickle,
+   and a function that says of each import, given the instructions that push its module and its
+   name, or twice the one that has both: 0, or a number below 1024 plus 1024 times the name's role.
+   Returns where a value becomes the real object, behind the instruction that pushes it; whether it
+   got to STOP; and the number of a name that is a value and can't be real, and its place, or -1. */
+PyObject *begin_uses(PyObject *module, PyObject *args);
+PyObject *uses(PyObject *module, PyObject *args);
 
 /* The length of the instruction that begins the bytes, or 0 if it isn't complete. */
 size_t length_of(const uint8_t *bytes, size_t length);

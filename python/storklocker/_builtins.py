@@ -6,7 +6,7 @@ import copyreg
 from typing import Any, Dict, Tuple
 
 from ._answers import Misused
-from ._substitute import Substitute
+from ._substitute import BECOMES_REAL, Substitute
 
 _CODECS = ("latin1", "latin-1", "ascii", "utf-8")
 
@@ -34,16 +34,11 @@ def _encode(*given: Any) -> bytes:
     return given[0].encode(given[1])
 
 
-BYTES = Substitute("builtins.bytes", _bytes)
-BYTEARRAY = Substitute("builtins.bytearray", _bytearray)
-_REAL: Dict[Any, Any] = {BYTES: bytes, BYTEARRAY: bytearray}
-
-
 def _reconstructor(*given: Any) -> Any:
     """`copyreg._reconstructor`: an object of a class, made of a value of its base class."""
     if len(given) != 3:
         raise Misused("_reconstructor is called with other arguments")
-    kind, base, value = (_REAL.get(it, it) if isinstance(it, Substitute) else it for it in given)
+    kind, base, value = given
     is_class = isinstance(kind, type) and isinstance(base, type) and issubclass(kind, base)
     if not is_class or not (value is None if base is object else type(value) is base):
         raise Misused("_reconstructor is called with other arguments")
@@ -52,8 +47,8 @@ def _reconstructor(*given: Any) -> Any:
 
 
 TABLE: Dict[Tuple[str, str], Substitute] = {
-    ("builtins", "bytes"): BYTES,
-    ("builtins", "bytearray"): BYTEARRAY,
+    ("builtins", "bytes"): Substitute("builtins.bytes", _bytes, BECOMES_REAL),
+    ("builtins", "bytearray"): Substitute("builtins.bytearray", _bytearray, BECOMES_REAL),
     ("_codecs", "encode"): Substitute("_codecs.encode", _encode),
     ("copyreg", "_reconstructor"): Substitute("copyreg._reconstructor", _reconstructor),
 }

@@ -2,19 +2,32 @@
 
 from __future__ import annotations
 
+import functools
+import importlib
 import weakref
 from typing import Any, Callable
 
 from ._answers import Misused
 
 
+BECOMES_REAL, IS_PASSED, IS_WRAPPER = 1, 2, 4
+"""Roles, as `uses.c` knows them: a name that is the real object where it is a value; a class that
+some functions take as an argument; joblib's wrapper of arrays.
+"""
+
+
+def takes(*places: int) -> int:
+    """The role of a function that takes classes as these of its arguments."""
+    return sum(16 << place for place in places)
+
+
 class Substitute:
-    """What a pickle gets for a name. It can be called, and otherwise only be passed on."""
+    """What a pickle gets for a name. It can be called, and passed on as its role says."""
 
-    __slots__ = ("name", "_call")
+    __slots__ = ("name", "role", "_call")
 
-    def __init__(self, name: str, call: Callable[..., Any]) -> None:
-        self.name, self._call = name, call
+    def __init__(self, name: str, call: Callable[..., Any], role: int = 0) -> None:
+        self.name, self.role, self._call = name, role, call
 
     def __call__(self, *given: Any) -> Any:
         return self._call(*given)
@@ -25,6 +38,10 @@ class Substitute:
     def within(self, reader: Any) -> Substitute:
         """What a pickle gets that this reader loads."""
         return self
+
+    def real(self) -> Any:
+        """The object that has this name."""
+        return _real(self.name)
 
 
 class Remembering(Substitute):
@@ -42,3 +59,9 @@ class Remembering(Substitute):
             return call(its, *given)
 
         return Substitute(self.name, within)
+
+
+@functools.lru_cache(maxsize=None)
+def _real(path: str) -> Any:
+    module, _, name = path.rpartition(".")
+    return getattr(importlib.import_module(module), name)

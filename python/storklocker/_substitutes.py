@@ -5,25 +5,42 @@ An allow list is about names. Some listed names do harm if a pickle calls them a
 name is imported as a substitute of ours, which checks its arguments, the very objects, when it is
 called. BUILD isn't a call of a name. The reader that this module feeds gets each BUILD as the
 persistent id (receiver, state), in otherwise unchanged instructions, so that the state is judged
-before it is set.
+before it is set. Where a substitute would be left in what is loaded, the persistent id of three has
+the reader put the real object there.
 """
 
 from __future__ import annotations
 
 import functools
+import io
 import pickle
 import sys
 import types
-from typing import Any, Callable, Dict, Iterator, List, Tuple, cast
+from typing import (
+    Any,
+    Callable,
+    Dict,
+    FrozenSet,
+    Iterable,
+    Iterator,
+    List,
+    Optional,
+    Tuple,
+    cast,
+)
 
 from . import _arrays, _builtins, _names
 from ._answers import Misused
+from ._guard import _later
 from ._lists import AllowList
 from ._storklocker import respelled
 from ._substitute import Substitute
 
+Pair = Tuple[str, str]
 Piece = Tuple[bytes, int, int]
-
+_PLAIN = pickle.Unpickler
+_REAL = (pickle.NONE + pickle.NONE + pickle.TUPLE3 + pickle.BINPERSID, 0, 4)
+"""The piece that makes the object on the top a real one."""
 
 _IS_LENT = pickle.Unpickler is not getattr(pickle, "_Unpickler", None)
 """Whether the reader takes bytes that are lent: that in C does, that in Python doesn't."""
@@ -36,9 +53,9 @@ class Feed:
         self._pieces: List[Piece] = []
         self._data, self._at, self._end = b"", 0, 0
 
-    def fill(self, data: bytes, at: int) -> None:
-        """Gives it the pickle at an offset."""
-        self._pieces = list(_pieces_of(data, at))[::-1]
+    def fill(self, data: bytes, at: int, real_at: Iterable[int]) -> None:
+        """Gives it the pickle at an offset, with names that become real at some."""
+        self._pieces = list(_pieces_of(data, at, real_at))[::-1]
         self._data, self._at, self._end = self._pieces.pop()
 
     def peek(self, count: int, /) -> memoryview:
@@ -62,11 +79,19 @@ class Feed:
         return self._data[begin : self._at]
 
 
-def _pieces_of(data: bytes, at: int) -> Iterator[Piece]:
+def _pieces_of(data: bytes, at: int, real_at: Iterable[int]) -> Iterator[Piece]:
     """The pieces of a respelled pickle: bytes, and the part of them that counts."""
+    for place in real_at:
+        yield from _respelled(data, at, place)
+        yield _REAL
+        at = place
+    yield from _respelled(data, at, len(data))
+
+
+def _respelled(data: bytes, at: int, stop: int) -> Iterator[Piece]:
     end = -1
     while at != end:
-        spelled, end, past = respelled(data, at)
+        spelled, end, past = respelled(data, at, stop)
         yield (data, at, end) if spelled is None else (spelled, 0, len(spelled))
         if past > end:
             yield (data, end, past)
@@ -76,11 +101,16 @@ def _pieces_of(data: bytes, at: int) -> Iterator[Piece]:
 class Reader(pickle.Unpickler):
     """Loads pickles that are accepted and respelled."""
 
-    def __init__(self, feed: Feed, allow: AllowList, **named: Any) -> None:
-        super().__init__(feed, fix_imports=False, **named)
+    wrappers: FrozenSet[Pair] = frozenset()
+    """The names of joblib's wrapper of arrays, if they have a meaning of their own."""
+
+    def __init__(self, allow: AllowList, **named: Any) -> None:
+        self._feed = Feed()
+        super().__init__(self._feed, fix_imports=False, **named)
         meant = allow._meant
-        self.own: Dict[Tuple[str, str], Substitute] = {} if meant is None else meant.substitutes
+        self.own: Dict[Pair, Substitute] = {} if meant is None else meant.substitutes
         """The substitutes that the list declares."""
+        self._uses = _later("_uses").Uses(self.own, self.wrappers)
         self.unbuilt: Dict[int, Any] = {}
         """Objects that a substitute made, by id, and whose state the pickle has yet to set."""
         self.types: Dict[int, Any] = {}
@@ -89,6 +119,16 @@ class Reader(pickle.Unpickler):
         """What judges the state of an object in `unbuilt`, and gives the one to be set."""
         self.looked = 0
         """The number of memo entries that were searched."""
+
+    def loaded(self, data: bytes, at: int, is_old: bool) -> Any:
+        """The object of the accepted pickle at an offset. `is_old`: whether its names are those of
+        Python 2.
+        """
+        self._feed.fill(data, at, self._uses.real_at(data, at, is_old))
+        made = self.load()
+        if not self._uses.is_whole:
+            raise Misused("the pickle has instructions that no pickler writes")
+        return made
 
     def find_class(self, module: str, name: str, /) -> Any:
         substitute = self.own.get((module, name)) or TABLE.get((module, name))
@@ -103,6 +143,8 @@ class Reader(pickle.Unpickler):
         if type(asked) is tuple and len(asked) == 2:
             _build(self, cast(Tuple[Any, Any], asked))
             return asked[0]
+        if type(asked) is tuple and len(asked) == 3:
+            return asked[0].real() if isinstance(asked[0], Substitute) else asked[0]
         return self.persistent(asked[0] if type(asked) is tuple else asked)
 
     def copied_memo(self) -> Dict[int, Any]:
@@ -130,9 +172,7 @@ def loads(data: bytes, allow: AllowList, is_old: bool, **named: Any) -> Any:
     """The object of a pickle that is accepted under the list. `is_old`: whether its names are those
     of Python 2.
     """
-    feed = Feed()
-    feed.fill(data, 0)
-    return (_Renaming if is_old else Reader)(feed, allow, **named).load()
+    return (_Renaming if is_old else Reader)(allow, **named).loaded(data, 0, is_old)
 
 
 TABLE = {**_arrays.TABLE, **_builtins.TABLE}
@@ -145,6 +185,17 @@ def _by_object() -> Dict[int, Substitute]:
     if not _found and "numpy" in sys.modules:
         _found.update(_arrays.by_object())
     return _found
+
+
+def substitute_of(pair: Pair) -> Optional[Substitute]:
+    """The substitute for a name under all lists, if it has one."""
+    if pair in TABLE:
+        return TABLE[pair]
+    try:
+        found = _PLAIN(io.BytesIO()).find_class(*pair)
+    except Exception:  # the load will tell
+        return None
+    return _by_object().get(id(found))
 
 
 _ABSENT = object()

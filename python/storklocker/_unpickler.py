@@ -15,7 +15,7 @@ from ._checking import check_row
 from ._reading import FIRST_BLOCK, block_of, can_step_back, too_long
 from ._reasons import Reason
 from ._storklocker import verdict, walked
-from ._substitutes import Feed, Reader
+from ._substitutes import Reader
 from ._telling import Misuses
 from ._walking import Walk
 
@@ -245,8 +245,7 @@ class _Inner(Reader):
     """Reads what another Unpickler has admitted, and asks it for classes and persistent objects."""
 
     def __init__(self, outer: SubstitutingUnpickler, **named: Any) -> None:
-        self.feed = Feed()
-        super().__init__(self.feed, outer.guard._allow, **named)
+        super().__init__(outer.guard._allow, **named)
         self._outer = weakref.ref(outer)
 
     def find_class(self, module: str, name: str, /) -> Any:
@@ -279,9 +278,9 @@ class SubstitutingUnpickler(GuardedUnpickler):
         return Reader.find_class(self._reader, module, name)
 
     def _loaded(self, feed: _Feed, end: int) -> Any:
-        self._reader.feed.fill(self._bytes, self._taken)
-        with Misuses(self.guard, self._bytes[self._taken : end]):
-            return self._reader.load()
+        data, at = self._bytes, self._taken
+        with Misuses(self.guard, data[at:end]):
+            return self._reader.loaded(data, at, self.guard._has_old_names(data[at : at + 2]))
 
 
 class OldUnpickler(GuardedUnpickler):

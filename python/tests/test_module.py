@@ -140,7 +140,8 @@ class Module(unittest.TestCase):
         self.assertNotIn("PyUnstable", said)
 
     def test_it_is_as_short_as_it_was_promised(self):
-        promised = {"_storklocker.c": 340, "loads.c": 155, "walk.c": 135, "cutting.c": 215}
+        promised = {"_storklocker.c": 345, "loads.c": 155, "walk.c": 135, "uses.c": 400}
+        promised["cutting.c"] = 215
         for name, most in promised.items():
             lines = (PYTHON / name).read_text().splitlines()
             self.assertLessEqual(len(lines), most)

@@ -8,7 +8,7 @@ from typing import Any, Dict, Iterator, List, NamedTuple, Optional, Tuple, Type
 
 from .. import Guard, _names
 from .._answers import Misused
-from .._substitutes import Feed, Reader
+from .._substitutes import Reader
 from .._telling import Misuses
 from .._types import class_of, known, size_of
 from ..scanning.joblib_cutting import WRAPPERS, Gap
@@ -42,19 +42,18 @@ def loaded(
     an array of objects, which is accepted too.
     """
     encoding, errors = guard._decoding(None, None)
-    feed = Feed()
-    feed.fill(pickled, 0)
     lent = iter([_Lent(*each) for each in gaps])
-    reader = _Reader(feed, guard.allow, encoding=encoding, errors=errors, buffers=lent)
+    reader = _Reader(guard.allow, encoding=encoding, errors=errors, buffers=lent)
     reader.is_old = guard._has_old_names(pickled)
     reader.wrapper = _wrapper_of(reader, guard, place)
     with Misuses(guard, pickled):
-        return reader.load()
+        return reader.loaded(pickled, 0, reader.is_old)
 
 
 class _Reader(Reader):
     """Gives a class of ours in the place of joblib's wrapper."""
 
+    wrappers = WRAPPERS
     wrapper: Type[Any]
     is_old = False
 

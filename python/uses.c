@@ -1,0 +1,400 @@
+#include "walk.h"
+
+#include <string.h>
+
+/* What is known of an object: its kind, the number of its name, a mask, and the place of the
+   instruction that pushed it. For a tuple these are of a class in it, and the mask has a bit for the
+   place of each; for a name it is 1 if it can't become real; a dict has its number for a place. */
+typedef uint64_t slot;
+enum { ABSENT, MARK, OTHER, TEXT, NAME, TUPLE, DICT, WRAPPER };
+#define SLOT(kind, name, place) ((slot)(kind) | (slot)(name) << 4 | (slot)(place) << 24)
+#define MASK(bits) ((slot)(bits) << 16)
+#define NAMES 1024
+#define LONGEST 4096     /* no listed name is longer */
+#define SPARE (1 << 20)  /* a greater memo number than this and the bytes of the pickle is no use */
+
+/* What a name is: one that becomes the real object where it is a value; a class that some names take
+   as an argument; joblib's wrapper. The bits from TAKES on are the arguments that it takes. */
+enum { BECOMES_REAL = 1, IS_PASSED = 2, WRAPS = 4, TAKES = 4 };
+
+/* What the pickles of one reader have in common. */
+struct kept {
+    slot *memo, *dicts; /* of each dict the class that it has as a value; OTHER if it is shared */
+    size_t numbers, entries, count;
+    uint16_t roles[NAMES];
+};
+
+struct uses {
+    struct kept *kept;
+    const uint8_t *bytes;
+    size_t length, at, next, size; /* `next`: where the instruction ends; `size` of the stack */
+    slot *stack;
+    PyObject *number_of, *places;
+    slot fault; /* what is used as a value and can't be */
+};
+
+enum { DONE, LOST, FAILED }; /* LOST: a reader gets no further, or needn't */
+
+static unsigned kind_of(slot s) {
+    return s & 15;
+}
+
+static unsigned mask_of(slot s) {
+    return s >> 16 & 255;
+}
+
+static size_t place_of(slot s) {
+    return (size_t)(s >> 24);
+}
+
+static unsigned name_of(slot s) {
+    return s >> 4 & (NAMES - 1);
+}
+
+static unsigned role_of(const struct uses *u, slot s) {
+    return kind_of(s) == NAME ? u->kept->roles[name_of(s)] : 0;
+}
+
+/* Makes room for one more item in an array, whose room is a power of two. */
+static int grown(slot **items, size_t count) {
+    if ((count & (count - 1)) != 0)
+        return DONE;
+    slot *made = PyMem_Realloc(*items, (count == 0 ? 1 : 2 * count) * sizeof *made);
+    if (made == NULL) {
+        PyErr_NoMemory();
+        return FAILED;
+    }
+    *items = made;
+    return DONE;
+}
+
+static int push(struct uses *u, slot s) {
+    if (grown(&u->stack, u->size) != DONE)
+        return FAILED;
+    u->stack[u->size++] = s;
+    return DONE;
+}
+
+static slot pop(struct uses *u) {
+    return u->stack[--u->size];
+}
+
+/* Whether there are so many objects on the stack, and no mark among them. */
+static int are_there(const struct uses *u, size_t count) {
+    for (size_t k = 1; k <= count; k++)
+        if (k > u->size || kind_of(u->stack[u->size - k]) == MARK)
+            return 0;
+    return 1;
+}
+
+/* The index of the last mark, or the size of the stack if there is none. */
+static size_t last_mark(const struct uses *u) {
+    for (size_t k = u->size; k > 0; k--)
+        if (kind_of(u->stack[k - 1]) == MARK)
+            return k - 1;
+    return u->size;
+}
+
+static int is_put(uint8_t code) {
+    return code == 'p' || code == 'q' || code == 'r' || code == 0x94;
+}
+
+/* Has a name become the real object, behind the instruction that pushes it and those that memoize
+   it there. */
+static int make_real(struct uses *u, size_t at) {
+    size_t length;
+    do {
+        length = length_of(u->bytes + at, u->length - at);
+        at += length;
+    } while (length > 0 && at < u->length && is_put(u->bytes[at]));
+    PyObject *place = PyLong_FromSize_t(at);
+    int is_wrong = place == NULL || PyList_Append(u->places, place) < 0;
+    Py_XDECREF(place);
+    return is_wrong ? FAILED : DONE;
+}
+
+/* An object becomes a value: part of another one, or the result. */
+static int use(struct uses *u, slot s) {
+    if (role_of(u, s) & BECOMES_REAL && mask_of(s) == 0)
+        return make_real(u, place_of(s));
+    if (kind_of(s) == DICT)
+        s = u->kept->dicts[place_of(s)];
+    if ((kind_of(s) == NAME && !(role_of(u, s) & WRAPS)) || (kind_of(s) == TUPLE && mask_of(s))) {
+        u->fault = s;
+        return LOST;
+    }
+    return DONE;
+}
+
+/* The objects from an index on become values, and are taken off the stack down to another index. */
+static int use_from(struct uses *u, size_t index, size_t below) {
+    int is = DONE;
+    while (index < u->size && is == DONE)
+        is = use(u, u->stack[index++]);
+    u->size = below;
+    return is;
+}
+
+/* The objects from an index on become a tuple, in which only classes stay what they are. */
+static int make_tuple(struct uses *u, size_t index, size_t below) {
+    slot made = OTHER, mask = 0;
+    int is = DONE;
+    for (size_t k = index; k < u->size && is == DONE; k++) {
+        slot s = u->stack[k];
+        unsigned role = role_of(u, s);
+        int is_passed = role & IS_PASSED && k - index < 8;
+        if (is_passed || role & WRAPS)
+            made = SLOT(role & WRAPS && mask == 0 ? WRAPPER : TUPLE, name_of(s), place_of(s));
+        else
+            is = use(u, s);
+        mask |= is_passed ? MASK(1u << (k - index)) : 0;
+    }
+    u->size = below;
+    return is == DONE ? push(u, made | mask) : is;
+}
+
+/* Puts the keys and values from an index on into a dict. That of a wrapper's state has a class. */
+static int set_items(struct uses *u, size_t index, size_t below, slot dict) {
+    slot none = OTHER, *held = kind_of(dict) == DICT ? u->kept->dicts + place_of(dict) : &none;
+    int is = DONE;
+    for (size_t k = index; k < u->size && is == DONE; k++) {
+        slot s = u->stack[k];
+        if ((k - index) % 2 == 1 && role_of(u, s) & IS_PASSED && kind_of(*held) != OTHER)
+            *held = s;
+        else
+            is = use(u, s);
+    }
+    u->size = below;
+    return is;
+}
+
+static int make_dict(struct uses *u, size_t index, size_t below) {
+    struct kept *kept = u->kept;
+    if (grown(&kept->dicts, kept->count) != DONE)
+        return FAILED;
+    kept->dicts[kept->count] = ABSENT;
+    slot made = SLOT(DICT, 0, kept->count++);
+    int is = set_items(u, index, below, made);
+    return is == DONE ? push(u, made) : is;
+}
+
+/* Calls an object with arguments, or makes an object of a class with them. */
+static int call(struct uses *u, slot called, slot words, int is_new) {
+    unsigned role = role_of(u, called);
+    int is_wrapper = is_new ? (role & WRAPS) != 0 : kind_of(words) == WRAPPER;
+    int is = mask_of(words) & ~(is_new ? 0 : role >> TAKES) ? use(u, words) : DONE;
+    if (kind_of(words) == NAME || kind_of(words) == DICT)
+        is = use(u, words);
+    if (is == DONE && kind_of(called) != NAME)
+        is = use(u, called);
+    return is == DONE ? push(u, is_wrapper ? WRAPPER : OTHER) : is;
+}
+
+/* Follows an instruction that makes, calls or changes an object, and takes what lies from an index
+   on, down to another one. */
+static int made(struct uses *u, uint8_t code, size_t index, size_t below) {
+    slot top;
+    int is = DONE;
+    switch (code) {
+    case 'd':
+    case '}':
+        return make_dict(u, index, below);
+    case 's':
+    case 'u':
+        return below > 0 ? set_items(u, index, below, u->stack[below - 1]) : LOST;
+    case 'b': /* the class in the state of a wrapper is an argument of it */
+        top = pop(u);
+        return kind_of(top) == DICT && kind_of(u->stack[below]) == WRAPPER ? DONE : use(u, top);
+    case 0x92:
+        is = use(u, pop(u)); /* fall through */
+    case 'R':
+    case 0x81:
+        top = pop(u);
+        return is == DONE ? call(u, pop(u), top, code != 'R') : is;
+    }
+    return make_tuple(u, index, below);
+}
+
+/* An object gets another name in the pickle, by which it may be used a second time. */
+static int share(struct uses *u, slot s) {
+    if (kind_of(s) != DICT)
+        return DONE;
+    if (kind_of(u->kept->dicts[place_of(s)]) == NAME)
+        return use(u, s);
+    u->kept->dicts[place_of(s)] = OTHER;
+    return DONE;
+}
+
+/* Reads a memo number. */
+static int is_numbered(const struct uses *u, uint64_t *number) {
+    const uint8_t *argument = u->bytes + u->at + 1;
+    size_t length = u->next - u->at - 1;
+    int is_line = argument[-1] == 'g' || argument[-1] == 'p';
+    *number = argument[-1] == 0x94 ? u->kept->entries : 0;
+    for (size_t k = 0; k < length - (is_line ? 1 : 0); k++) {
+        if (is_line && (argument[k] < '0' || argument[k] > '9' || *number > UINT32_MAX))
+            return 0;
+        *number = is_line ? 10 * *number + (uint64_t)(argument[k] - '0')
+                          : *number | (uint64_t)argument[k] << 8 * k;
+    }
+    return !is_line || length > 1;
+}
+
+static int get(struct uses *u) {
+    uint64_t number;
+    if (!is_numbered(u, &number) || number >= u->kept->numbers)
+        return LOST;
+    slot s = u->kept->memo[number];
+    if (kind_of(s) == ABSENT || share(u, s) != DONE)
+        return LOST;
+    return push(u, kind_of(s) == NAME ? SLOT(NAME, name_of(s), u->at) : s);
+}
+
+/* Memoizes the object on the top. A name that is memoized later than where it is pushed can't
+   become real there, because the memo has to hold what can be called. */
+static int put(struct uses *u, size_t last) {
+    struct kept *kept = u->kept;
+    uint64_t number;
+    if (!is_numbered(u, &number) || number > u->length + SPARE || !are_there(u, 1))
+        return LOST;
+    if (number >= kept->numbers) {
+        size_t size = number < 2 * kept->numbers ? 2 * kept->numbers : (size_t)number + 16;
+        slot *more = PyMem_Realloc(kept->memo, size * sizeof *more);
+        if (more == NULL) {
+            PyErr_NoMemory();
+            return FAILED;
+        }
+        memset(more + kept->numbers, 0, (size - kept->numbers) * sizeof *more);
+        kept->memo = more;
+        kept->numbers = size;
+    }
+    slot *top = u->stack + u->size - 1;
+    if (kind_of(*top) == NAME && place_of(*top) != last)
+        *top |= MASK(1);
+    kept->entries += kind_of(kept->memo[number]) == ABSENT;
+    kept->memo[number] = *top;
+    return DONE;
+}
+
+/* Asks what is imported, given the instructions that push the module and the name. */
+static int import(struct uses *u, size_t module, size_t name) {
+    if (module >= u->length || name >= u->length)
+        return LOST;
+    size_t first = length_of(u->bytes + module, u->length - module);
+    size_t second = length_of(u->bytes + name, u->length - name);
+    if (first > LONGEST || second > LONGEST)
+        return push(u, OTHER); /* nothing that is listed */
+    PyObject *asked = PyObject_CallFunction(
+        u->number_of, "y#y#", (const char *)u->bytes + module, (Py_ssize_t)first,
+        (const char *)u->bytes + name, (Py_ssize_t)second);
+    long said = asked != NULL ? PyLong_AsLong(asked) : -1;
+    Py_XDECREF(asked);
+    if (said < 0)
+        return FAILED;
+    u->kept->roles[said % NAMES] = (uint16_t)(said / NAMES);
+    return push(u, said == 0 ? OTHER : SLOT(NAME, said % NAMES, u->at));
+}
+
+/* Follows an instruction that moves objects, or pushes a text or a name. */
+static int moved(struct uses *u, uint8_t code, size_t mark, size_t last) {
+    slot name, module;
+    switch (code) {
+    case '(':
+        return push(u, MARK);
+    case '0':
+        u->size -= u->size > 0;
+        return DONE;
+    case '1':
+        u->size = mark;
+        return DONE;
+    case '2': /* the copy would be real too */
+        u->stack[u->size - 1] |= kind_of(u->stack[u->size - 1]) == NAME ? MASK(1) : 0;
+        return share(u, u->stack[u->size - 1]) == DONE ? push(u, u->stack[u->size - 1]) : LOST;
+    case 'c':
+        return import(u, u->at, u->at);
+    case 0x93:
+        name = pop(u), module = pop(u);
+        return kind_of(name) == TEXT && kind_of(module) == TEXT
+            ? import(u, place_of(module), place_of(name)) : LOST;
+    case 'g':
+    case 'h':
+    case 'j':
+        return get(u);
+    }
+    return is_put(code) ? put(u, last) : push(u, SLOT(TEXT, 0, u->at));
+}
+
+/* What an instruction does: it takes values off the top, none to three, or those above a mark; one
+   more stays below them; and it gives a new one, unless it KEEPS what is there. `made` follows what
+   MAKES, and `moved` what MOVES. (A reader fails at a byte that is no opcode.) */
+enum { SLICE = 4, STAYS = 8, KEEPS = 16, MAKES = 32, MOVES = 64 };
+static const uint8_t effects[256] = {
+    [0x80] = KEEPS, [0x95] = KEEPS, ['.'] = 1 | KEEPS, [0x98] = STAYS | KEEPS, ['Q'] = 1,
+    ['a'] = 1 | STAYS | KEEPS, ['e'] = SLICE | STAYS | KEEPS, [0x90] = SLICE | STAYS | KEEPS,
+    ['i'] = SLICE, ['l'] = SLICE, ['o'] = SLICE, [0x91] = SLICE, ['t'] = SLICE | MAKES,
+    ['d'] = SLICE | MAKES, ['u'] = SLICE | MAKES, ['}'] = MAKES, [0x85] = 1 | MAKES,
+    [0x86] = 2 | MAKES, [0x87] = 3 | MAKES, ['s'] = 2 | MAKES, ['b'] = 2 | MAKES, ['R'] = 2 | MAKES,
+    [0x81] = 2 | MAKES, [0x92] = 3 | MAKES, ['('] = MOVES, ['0'] = MOVES, ['1'] = SLICE | MOVES,
+    ['2'] = 1 | MOVES, ['c'] = MOVES, [0x93] = 2 | MOVES, ['g'] = MOVES, ['h'] = MOVES,
+    ['j'] = MOVES, ['p'] = MOVES, ['q'] = MOVES, ['r'] = MOVES, [0x94] = MOVES, ['S'] = MOVES,
+    ['T'] = MOVES, ['U'] = MOVES, ['V'] = MOVES, ['X'] = MOVES, [0x8c] = MOVES, [0x8d] = MOVES};
+
+/* Follows an instruction. `last`: the last one before it that isn't a PUT. */
+static int followed_one(struct uses *u, size_t last) {
+    uint8_t code = u->bytes[u->at], effect = effects[code];
+    size_t count = effect & 3, below = effect & SLICE ? last_mark(u) : u->size - count;
+    size_t index = below + (effect & SLICE ? 1 : 0);
+    if (!are_there(u, count) || index > u->size)
+        return LOST;
+    if (effect & MAKES)
+        return made(u, code, index, below);
+    if (effect & MOVES)
+        return moved(u, code, below, last);
+    if (code == 'o' && index < u->size) /* a class that OBJ calls isn't to become real */
+        u->stack[index] |= kind_of(u->stack[index]) == NAME ? MASK(1) : 0;
+    int is = use_from(u, index, below);
+    is = is == DONE && effect & STAYS && !are_there(u, 1) ? LOST : is;
+    return is == DONE && !(effect & KEEPS) ? push(u, OTHER) : is;
+}
+
+static void freed(PyObject *capsule) {
+    struct kept *kept = PyCapsule_GetPointer(capsule, NULL);
+    PyMem_Free(kept->memo);
+    PyMem_Free(kept->dicts);
+    PyMem_Free(kept);
+}
+
+PyObject *begin_uses(PyObject *Py_UNUSED(module), PyObject *Py_UNUSED(args)) {
+    struct kept *kept = PyMem_Calloc(1, sizeof *kept);
+    PyObject *made = kept != NULL ? PyCapsule_New(kept, NULL, freed) : PyErr_NoMemory();
+    if (made == NULL)
+        PyMem_Free(kept);
+    return made;
+}
+
+PyObject *uses(PyObject *Py_UNUSED(module), PyObject *args) {
+    PyObject *capsule, *data;
+    Py_ssize_t start;
+    struct uses u = {.fault = ABSENT};
+    if (!PyArg_ParseTuple(args, "OSnO", &capsule, &data, &start, &u.number_of)
+        || (u.kept = PyCapsule_GetPointer(capsule, NULL)) == NULL
+        || (u.places = PyList_New(0)) == NULL)
+        return NULL;
+    u.bytes = (const uint8_t *)PyBytes_AsString(data);
+    u.length = (size_t)PyBytes_Size(data);
+    u.at = start < 0 ? u.length : (size_t)start;
+    int is = DONE, is_stopped = 0;
+    for (size_t last = u.at; is == DONE && !is_stopped && u.at < u.length; u.at = u.next) {
+        size_t length = length_of(u.bytes + u.at, u.length - u.at);
+        u.next = u.at + length;
+        is = length == 0 ? LOST : followed_one(&u, last);
+        is_stopped = is == DONE && u.bytes[u.at] == '.';
+        last = is_put(u.bytes[u.at]) ? last : u.at;
+    }
+    PyMem_Free(u.stack);
+    PyObject *found = is == FAILED ? NULL : Py_BuildValue(
+        "OOin", u.places, is_stopped ? Py_True : Py_False, (int)name_of(u.fault),
+        u.fault != ABSENT ? (Py_ssize_t)place_of(u.fault) : -1);
+    Py_DECREF(u.places);
+    return found;
+}
