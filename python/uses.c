@@ -3,8 +3,8 @@
 #include <string.h>
 
 /* What is known of an object: its kind, the number of its name, a mask, and the place of the
-   instruction that pushed it. For a tuple these are of a class in it, and the mask has a bit for the
-   place of each; for a name it is 1 if it can't become real; a dict has its number for a place. */
+   instruction that pushed it. For a tuple these are of a class in it, and the mask has a bit for
+   each; for a name it is 1 if it can't become real; a dict has its number for a place. */
 typedef uint64_t slot;
 enum { ABSENT, MARK, OTHER, TEXT, NAME, TUPLE, DICT, WRAPPER };
 #define SLOT(kind, name, place) ((slot)(kind) | (slot)(name) << 4 | (slot)(place) << 24)
@@ -13,8 +13,8 @@ enum { ABSENT, MARK, OTHER, TEXT, NAME, TUPLE, DICT, WRAPPER };
 #define LONGEST 4096     /* no listed name is longer */
 #define SPARE (1 << 20)  /* a greater memo number than this and the bytes of the pickle is no use */
 
-/* What a name is: one that becomes the real object where it is a value; a class that some names take
-   as an argument; joblib's wrapper. The bits from TAKES on are the arguments that it takes. */
+/* What a name is: one that becomes the real object where it is a value; a class that some names
+   take as an argument; joblib's wrapper. The bits from TAKES on are the arguments that it takes. */
 enum { BECOMES_REAL = 1, IS_PASSED = 2, WRAPS = 4, TAKES = 4 };
 
 /* What the pickles of one reader have in common. */

@@ -372,6 +372,7 @@ class Sanitized(unittest.TestCase):
             "test_guard.Files",
             "test_loads.Memory",
             "test_joblib_files.Hastened",
+            "test_uses",
         )
 
 
