@@ -300,6 +300,7 @@ static PyMethodDef methods[] = {
      "Where the plain instructions end that the cutter of joblib's files follows, and a frame."},
     {"respelled", respelled, METH_VARARGS,
      "The instructions with BUILD as TUPLE2 BINPERSID, or None; and where they end."},
+    {"audit_hook", audit_hook, METH_O, "The audit hook of an installed guard."},
     {"begin_uses", begin_uses, METH_NOARGS, "What `uses` keeps from one pickle to the next."},
     {"uses", uses, METH_VARARGS, "What a pickle does with names that have substitutes."},
     {"verdict", verdict, METH_VARARGS, "The Verdict of the pickle at the front of the bytes."},

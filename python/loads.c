@@ -2,10 +2,6 @@
 
 #include <stddef.h>
 
-#ifndef METH_FASTCALL /* part of the stable ABI from 3.10 on, and the same before */
-#define METH_FASTCALL 0x0080
-#endif
-
 typedef PyObject *fast_function(
     PyObject *self, PyObject *const *given, Py_ssize_t count, PyObject *names);
 

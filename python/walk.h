@@ -9,11 +9,11 @@
 
 #include <stdint.h>
 
-/* Both take bytes, the offset of an instruction, and one to stop at, or no such. `walked` returns where the whole instructions
-   from there on end, at the latest after STOP, and whether the last one is STOP. `respelled` goes
-   up to a large instruction, and returns these instructions with BUILD as TUPLE2 BINPERSID and
-   BINPERSID as TUPLE1 BINPERSID, and without frames, or None if it has none of them; where they
-   end; and where the large instruction ends that follows, if there is one. */
+/* Both take bytes, the offset of an instruction, and one to stop at, or no such. `walked` returns
+   where the whole instructions from there on end, at the latest after STOP, and whether the last is
+   STOP. `respelled` goes up to a large instruction, and returns these instructions with BUILD as
+   TUPLE2 BINPERSID and BINPERSID as TUPLE1 BINPERSID, and without frames, or None if it has none of
+   them; where they end; and where the large instruction ends that follows, if there is one. */
 PyObject *walked(PyObject *module, PyObject *args);
 PyObject *respelled(PyObject *module, PyObject *args);
 

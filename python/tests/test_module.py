@@ -141,7 +141,7 @@ class Module(unittest.TestCase):
 
     def test_it_is_as_short_as_it_was_promised(self):
         promised = {"_storklocker.c": 345, "loads.c": 155, "walk.c": 135, "uses.c": 400}
-        promised["cutting.c"] = 215
+        promised.update({"cutting.c": 215, "audit.c": 35})
         for name, most in promised.items():
             lines = (PYTHON / name).read_text().splitlines()
             self.assertLessEqual(len(lines), most)

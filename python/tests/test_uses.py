@@ -108,7 +108,8 @@ class Values(unittest.TestCase):
                 for load in every_way(GUARD):
                     with self.subTest(value=value, protocol=protocol):
                         found = load(data)
-                        self.assertEqual(pickle.dumps(found, 4), pickle.dumps(pickle.loads(data), 4))
+                        wanted = pickle.dumps(pickle.loads(data), 4)
+                        self.assertEqual(pickle.dumps(found, 4), wanted)
                         self.assertEqual(substitutes_in(found), [])
         found = GUARD.loads(pickle.dumps(made))
         found["new"].append(1)

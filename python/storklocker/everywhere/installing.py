@@ -13,6 +13,7 @@ from .._guard import Guard
 from .._lists import AllowList
 from .._reasons import Reason
 from .._refusal import CONTEXT, Refusal
+from .._storklocker import audit_hook
 from .holders import ORIGINALS, Change, others, paths_of, replace_all
 from .joblib_reader import replace_joblib
 from .reading import readers_of
@@ -39,6 +40,8 @@ class State:
     def __init__(self, guard: Guard, own: Iterable[str]) -> None:
         self.guard, self.own = guard, frozenset(own)
         self.is_active = True
+        self.is_lasting = type(guard)._now is Guard._now
+        """Whether the list stays as it is."""
         self._of = (guard._now(), permitted_by(guard.allow))
         self.readers: Dict[str, Any] = readers_of(self)
         self.changes: List[Change] = []
@@ -89,10 +92,6 @@ class _Everything:
 
 
 _INSTALLED: List[State] = []
-_permitted: Any = _Everything()
-"""The list of the innermost guard. The audit hook sees each event of the interpreter, so it does no
-more than look an import up here.
-"""
 
 
 def install(guard: Guard, *, own: Iterable[str] = ()) -> Installed:
@@ -146,37 +145,34 @@ def _audits() -> bool:
     """Adds the audit hook, which stays for the life of the process."""
     if not hasattr(sys, "addaudithook"):
         return False
-    if not _AUDITS:
-        sys.addaudithook(_audit)
-        _AUDITS.append(_audit)
+    if len(_HELD) == 1:
+        _HELD.append(_judge)
+        sys.addaudithook(audit_hook(_HELD))
     return True
 
 
-def _audit(event: str, words: Tuple[Any, ...]) -> None:
-    """Judges an import that a reader asks for, whichever reader it is."""
-    if event == "pickle.find_class" and words not in _permitted:
-        _judge(words)
-
-
 def _judge(words: Tuple[Any, ...]) -> None:
+    """Judges an import that a reader asks for, whichever reader it is."""
     state, (module, name) = _INSTALLED[-1], words
-    if state.permits((module, name)) or is_trusted():
+    if is_trusted() or state.permits((module, name)):
         return
-    if not is_own(sys._getframe(2), state.own):  # (the frame that called the reader)
+    if not is_own(sys._getframe(1), state.own):  # (the frame that called the reader)
         state.refuse((module, name))
 
 
 def _permit() -> None:
-    global _permitted
     if not _INSTALLED:
-        _permitted = _Everything()
-    elif type(_INSTALLED[-1].guard)._now is Guard._now:  # the list stays as it is
-        _permitted = _INSTALLED[-1].listed
+        _HELD[0] = _Everything()
+    elif _INSTALLED[-1].is_lasting:
+        _HELD[0] = _INSTALLED[-1].listed
     else:
-        _permitted = _INSTALLED[-1]
+        _HELD[0] = _INSTALLED[-1]
 
 
-_AUDITS: List[Any] = []
+_HELD: List[Any] = [_Everything()]
+"""The list of the innermost guard, and once there is an audit hook, what judges other imports. The
+hook sees each event of the interpreter, so it does no more than look an import up.
+"""
 
 
 class _Child:

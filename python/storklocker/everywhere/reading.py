@@ -10,12 +10,14 @@ from .checked_file import CheckedFile
 from .holders import ORIGINALS
 from .joblib_reader import is_joblib, load_of
 from .python_reader import python_unpickler
-from .trust import is_own, is_trusted, trusted
+from .trust import is_own, is_trusted, trust_now, trusted
 
 if TYPE_CHECKING:
     from .installing import State
 
 _load, _loads = ORIGINALS["load"], ORIGINALS["loads"]
+_SMALL = 1 << 12
+"""Checking fewer bytes costs less than finding out who asks for them."""
 
 
 def readers_of(state: State) -> Dict[str, Any]:
@@ -30,21 +32,23 @@ def readers_of(state: State) -> Dict[str, Any]:
 
 
 def _loads_of(state: State) -> Any:
-    now = state.guard._now
+    guard = state.guard
+    is_bound = state.is_lasting and guard._is_plain
+    refusal = guard._new._refusal
 
     def loads(data: Any, /, **named: Any) -> Any:
         """`pickle.loads` through the guard that is installed."""
-        if not state.is_active or is_trusted():
-            return _loads(data, **named)
+        trust = trust_now()
+        if trust is not None and trust.is_open or not state.is_active:
+            return _loads(data, **named) if named else _loads(data)
+        if is_bound and not named and type(data) is bytes and len(data) < _SMALL:
+            if refusal(data) is None:  # whoever asks
+                return _loads(data, fix_imports=False)
         if is_own(sys._getframe(1), state.own):
             with trusted():
                 return _loads(data, **named)
-        guard = now()
-        if guard._is_plain and not named and type(data) is bytes:
-            if guard._new._refusal(data) is None:
-                return _loads(data, fix_imports=False)
         encoding, errors, buffers = _words(**named)
-        return guard._loads_front(data, encoding, errors, buffers)
+        return guard._now()._loads_front(data, encoding, errors, buffers)
 
     return loads
 

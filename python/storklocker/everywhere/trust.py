@@ -48,6 +48,8 @@ class _Trust:
 _TRUST: "contextvars.ContextVar[Optional[_Trust]]" = contextvars.ContextVar(
     "storklocker.trusted", default=None
 )
+trust_now = _TRUST.get
+"""The trust of this thread or task, which may have ended, or None."""
 
 
 @contextlib.contextmanager
@@ -66,7 +68,7 @@ def trusted() -> Iterator[None]:
 
 def is_trusted() -> bool:
     """Whether this code runs in a trusted block."""
-    trust = _TRUST.get()
+    trust = trust_now()
     return trust is not None and trust.is_open
 
 
