@@ -89,6 +89,15 @@ class Resuming(unittest.TestCase):
         self.assertEqual((status, read), (1, ["b"]))
         self.assertEqual((status, out), self.scans()[:2])
 
+    def test_what_could_not_be_read_is_read_again(self):
+        (self.folder / "f").mkdir()
+        self.put("f/a", GOOD)
+        words = ("--resume", self.folder / "store")
+        with mock.patch.object(scan, "_opened", side_effect=OSError("no answer")):
+            self.assertEqual(self.scans(*words)[::2], (2, ["a"]))
+        self.assertEqual(self.scans(*words)[::2], (0, ["a"]))
+        self.assertEqual(self.scans(*words)[::2], (0, []))
+
     def test_the_store_of_another_question(self):
         (self.folder / "f").mkdir()
         words = ("scan", self.folder / "f", "--resume", self.folder / "store")

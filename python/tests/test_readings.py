@@ -329,6 +329,7 @@ class Readings(unittest.TestCase):
             "arrays": npy("'<i8'", b"", 1, "(0,)") * 9000, "bz2": bz2.compress(bytes(200 << 20)),
             "digits": with_record(b"1" * 400_000),
             "no records": with_record(b"2 " * 200_000 + b"=").replace(b" comment=", b"2 2 2 2 2"),
+            "words": b"\x89HDF\r\n\x1a\n" + (b"c" * 99 + b"\n") * 10_000,
             "endless": tar(header(b"a", -512), b"") * 2,
         }
         for name, data in made.items():

@@ -51,8 +51,8 @@ class Store:
             yield file
 
     def put(self, file: File, reports: List[Report]) -> None:
-        """Keeps the reports on a file."""
-        if file.known is not None or not file.stamp:
+        """Keeps the reports on a file, unless it may be read another time."""
+        if file.known is not None or not file.stamp or any(map(_is_unread, reports)):
             return
         text = json.dumps([report.as_dict() for report in reports])
         row = (os.fsencode(file.path), file.stamp, text)
@@ -67,6 +67,10 @@ class Store:
         with contextlib.suppress(sqlite3.ProgrammingError):
             self._base.commit()
             self._base.close()
+
+
+def _is_unread(report: Report) -> bool:
+    return any(finding.kind == "unreadable" for finding in report.findings)
 
 
 def _digest(question: Question) -> str:

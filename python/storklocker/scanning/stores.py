@@ -40,7 +40,7 @@ word. A pattern each, because the search for a first byte is fast.
 """
 _LONGEST = 512
 """More bytes than these patterns match."""
-_STEP, _FIRST, _MOST = 1 << 20, 1 << 12, 1 << 20
+_STEP, _FIRST, _MOST, _FOOTER = 1 << 16, 1 << 12, 1 << 20, 1 << 20
 _MAGICS: Dict[str, List[Tuple[int, bytes]]] = {
     "HDF5": [(at, b"\x89HDF\r\n\x1a\n") for at in (0, *(512 << power for power in range(48)))],
     "SQLite": [(0, b"SQLite format 3\0")],
@@ -102,7 +102,7 @@ def _has_one(source: Source, magics: List[Tuple[int, bytes]]) -> bool:
 
 def _schemas(source: Source) -> Iterator[Source]:
     """The schemas of Arrow in the footer of a Parquet file."""
-    for found in _SCHEMA.finditer(source.read(max(0, source.size - _STEP), _STEP)):
+    for found in _SCHEMA.finditer(source.read(max(0, source.size - _FOOTER), _FOOTER)):
         text = found.group(1).rstrip(b"=")
         yield in_memory(io.BytesIO(base64.b64decode(text[: len(text) // 4 * 4])))
 
