@@ -29,12 +29,12 @@ def pair_of(it: Any) -> Tuple[str, str]:
         )
     if not isinstance(module, str):
         raise ValueError(f"{it!r:.80} belongs to an object, so no pickle names it alone")
-    if _found(module, name) is not it:
+    if found(module, name) is not it:
         raise ValueError(f"{it!r:.80} isn't what a pickle finds as {module}.{name}")
     return (module, name)
 
 
-def _found(module: str, name: str) -> Any:
+def found(module: str, name: str) -> Any:
     """What is under a name, as `pickle` looks it up; None if nothing is."""
     try:
         __import__(module)

@@ -12,7 +12,6 @@ the reader put the real object there.
 from __future__ import annotations
 
 import functools
-import io
 import pickle
 import sys
 import types
@@ -33,12 +32,12 @@ from . import _arrays, _builtins, _names
 from ._answers import Misused
 from ._guard import _later
 from ._lists import AllowList
+from ._objects import found
 from ._storklocker import respelled
 from ._substitute import Substitute
 
 Pair = Tuple[str, str]
 Piece = Tuple[bytes, int, int]
-_PLAIN = pickle.Unpickler
 _REAL = (pickle.NONE + pickle.NONE + pickle.TUPLE3 + pickle.BINPERSID, 0, 4)
 """The piece that makes the object on the top a real one."""
 
@@ -133,10 +132,10 @@ class Reader(pickle.Unpickler):
     def find_class(self, module: str, name: str, /) -> Any:
         substitute = self.own.get((module, name)) or TABLE.get((module, name))
         if substitute is None:
-            found = super().find_class(module, name)
-            substitute = _by_object().get(id(found))
+            it = super().find_class(module, name)
+            substitute = _by_object().get(id(it))
             if substitute is None:
-                return found
+                return it
         return substitute.within(self)
 
     def persistent_load(self, asked: Any, /) -> Any:
@@ -177,25 +176,22 @@ def loads(data: bytes, allow: AllowList, is_old: bool, **named: Any) -> Any:
 
 TABLE = {**_arrays.TABLE, **_builtins.TABLE}
 """The substitutes, by the pair that imports them."""
-_found: Dict[int, Substitute] = {}
+_by_id: Dict[int, Substitute] = {}
 
 
 def _by_object() -> Dict[int, Substitute]:
     """The substitutes by the id of what they stand for, which other pairs may name too."""
-    if not _found and "numpy" in sys.modules:
-        _found.update(_arrays.by_object())
-    return _found
+    if not _by_id and "numpy" in sys.modules:
+        _by_id.update(_arrays.by_object())
+    return _by_id
 
 
 def substitute_of(pair: Pair) -> Optional[Substitute]:
     """The substitute for a name under all lists, if it has one."""
     if pair in TABLE:
         return TABLE[pair]
-    try:
-        found = _PLAIN(io.BytesIO()).find_class(*pair)
-    except Exception:  # the load will tell
-        return None
-    return _by_object().get(id(found))
+    it = found(*pair)  # (may import NumPy)
+    return _by_object().get(id(it))
 
 
 _ABSENT = object()

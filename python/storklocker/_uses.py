@@ -56,9 +56,8 @@ class Uses:
         """The number and the role of what an import asks for, given the instructions that push the
         names; 0 if that has no substitute.
         """
-        pair, role = _asked(module, name, self._is_old)
-        if self._own:
-            role = self._own.get(pair, role)
+        pair = _pair_of(module, name, self._is_old)
+        role = self._own[pair] if pair in self._own else _role_of(pair)
         if role is None:
             return 0
         number = self._numbers.setdefault(pair, len(self._numbers) + 1)
@@ -68,12 +67,17 @@ class Uses:
 
 
 @functools.lru_cache(maxsize=4096)
-def _asked(module: bytes, name: bytes, is_old: bool) -> Tuple[Pair, Optional[int]]:
-    """What is imported, and the role of the substitute for it that all lists have."""
+def _pair_of(module: bytes, name: bytes, is_old: bool) -> Pair:
+    """What is imported by the names that these instructions push."""
     if module[:1] == b"c":
         first, second = module[1:-1].decode().split("\n")
     else:
         first, second = _loads(module + b"."), _loads(name + b".")
-    pair = _names.renamed((first, second)) if is_old else (first, second)
+    return _names.renamed((first, second)) if is_old else (first, second)
+
+
+@functools.lru_cache(maxsize=4096)
+def _role_of(pair: Pair) -> Optional[int]:
+    """The role of the substitute that a name has under all lists."""
     substitute = substitute_of(pair)
-    return pair, None if substitute is None else substitute.role
+    return None if substitute is None else substitute.role

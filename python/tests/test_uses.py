@@ -172,6 +172,13 @@ class Values(unittest.TestCase):
         with self.assertRaisesRegex(Misused, "builtins.getattr is a value at byte "):
             unpickler.load()
 
+    def test_an_installed_guard_tells_of_no_name_with_a_substitute(self):
+        told = []
+        with storklocker.installed(GUARD._like(on_refusal=told.append)):
+            made = pickle.loads(pickle.dumps(functools.partial(note, bytes)))
+        self.assertIs(made(), bytes)
+        self.assertEqual(told, [])
+
     def test_what_is_not_enforced(self):
         told = []
         guard = GUARD._like(enforce=False, on_refusal=told.append)
