@@ -31,8 +31,9 @@ class Uses:
     def __init__(self, own: Mapping[Pair, Substitute], wrappers: FrozenSet[Pair]) -> None:
         self.is_whole = True
         """Whether each instruction of the last pickle was followed."""
-        self._own = {pair: own[pair].role for pair in own}
-        self._own.update(dict.fromkeys(wrappers, IS_WRAPPER))
+        self._own = dict.fromkeys(wrappers, IS_WRAPPER)
+        for pair in own:
+            self._own[pair] = own[pair].role
         self._kept = begin_uses()
         self._numbers: Dict[Pair, int] = {}
         self._is_old = False
