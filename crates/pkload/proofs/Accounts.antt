@@ -1,29 +1,77 @@
 -- Facts about accounts, bills and tallies.
 use Rattle.std.proofs.Common.{◌≡◌, ℕ, ◌+◌, ◌<◌, ◌≤◌, Bool, true, false, cond, ◌||◌, List, []}
-use Rattle.std.proofs.Common.{◌∷◌, ◌++◌, length, map, Some, refl, ap, ◌∙◌}
+use Rattle.std.proofs.Common.{◌∷◌, ◌++◌, length, map, Some, refl, sym, ap, ◌∙◌}
 use Rattle.std.proofs.Common.{arith, length-append, le-ltb}
 use Rattle.std.specs.Prelude.{slice_get, unwrap_or}
 use Rattle.std.proofs.lemmas.Option.{slice_get_within, slice_get-get_or, get_or_from_slice_get}
 use Rattle.std.proofs.Math.ListN.{get_or-append}
+use Rattle.std.proofs.Math.Seq.{drop-length}
+use Rattle.std.proofs.lemmas.List.{drop-append-le, take-append-drop, take-append-le}
+use Rattle.std.specs.Prelude.{drop, take}
 use Rattle.std.proofs.Math.Seq.{get_or-append_seam}
 use Rattle.pkops.specs.declared.Op.{Op}
 use Rattle.pkops.specs.declared.Op.TheVariants as op
 use Rattle.pkops.specs.Spelling.{Instruction}
 use Rattle.pkcheck.specs.Covers.{Pointwise}
-use Rattle.pkcheck.specs.Runs.{Event}
+use Rattle.pkcheck.specs.Runs.{Event, Import, Did}
 use Rattle.pkload.specs.Heft.{Heft, heft_of}
 use Rattle.pkload.specs.Keys.{keys_of}
 use Rattle.pkload.specs.Laws.{Costs}
 use Rattle.pkload.specs.declared.tally.Tally.{Tally}
 use Rattle.pkload.specs.Tally.{Implies, IsAtMost, builds_import, with_key, with_keys}
-use Rattle.pkload.specs.Tally.{with_operation}
+use Rattle.pkload.specs.Tally.{no_tally, with_operation}
 use Rattle.pkload.specs.Weighed.{Account, account_along, account_with, answered_again, heft_at}
-use Rattle.pkload.specs.Weighed.{hefts_with, no_heft}
+use Rattle.pkload.specs.Weighed.{account_of, hefts_with, no_account, no_heft, tally_since}
 
 pub along_end : (a : Account) (es : List Event) (e : Event)
     → account_along a (es ++ e ∷ []) ≡ account_with (account_along a es) e
 along_end a [] e = refl
 along_end a (x ∷ es) e = along_end (account_with a x) es e
+
+-- in two parts
+along_both : (a : Account) (es fs : List Event)
+    → account_along a (es ++ fs) ≡ account_along (account_along a es) fs
+along_both a [] fs = refl
+along_both a (x ∷ es) fs = along_both (account_with a x) es fs
+
+same_after : (a b : Account) (e : Event) → a.hefts ≡ b.hefts
+    → (account_with a e).hefts ≡ (account_with b e).hefts
+same_after a b (Import m n) h = h
+same_after a b (Did i ns r) h = ap (hefts_with i ns r) h
+
+-- what objects cost doesn't depend on what was counted
+same_hefts : (a b : Account) (es : List Event) → a.hefts ≡ b.hefts
+    → (account_along a es).hefts ≡ (account_along b es).hefts
+same_hefts a b [] h = h
+same_hefts a b (e ∷ es) h =
+    same_hefts (account_with a e) (account_with b e) es (same_after a b e h)
+
+abbrev since : List Event → List Event → Account
+since before es = account_along (record { hefts = (account_of before).hefts; tally = no_tally }) es
+
+hefts_since : (n : ℕ) (es : List Event)
+    → (since (take n es) (drop n es)).hefts ≡ (account_of es).hefts
+hefts_since n es =
+    same_hefts (record { hefts = (account_of (take n es)).hefts; tally = no_tally })
+    (account_of (take n es)) (drop n es) refl
+    ∙ ap (λ a. a.hefts) (sym (along_both no_account (take n es) (drop n es)))
+    ∙ ap (λ l. (account_of l).hefts) (take-append-drop n es)
+
+-- what is counted with one more event
+pub since_end : (n : ℕ) (es : List Event) (e : Event) → n ≤ length es
+    → tally_since n (es ++ e ∷ [])
+    ≡ (account_with (record { hefts = (account_of es).hefts; tally = tally_since n es }) e).tally
+since_end n es e h =
+    ap (λ l. (since l (drop n (es ++ e ∷ []))).tally) (take-append-le n es (e ∷ []) h)
+    ∙ ap (λ l. (since (take n es) l).tally) (drop-append-le n es (e ∷ []) h)
+    ∙ ap (λ a. a.tally)
+    (along_end (record { hefts = (account_of (take n es)).hefts; tally = no_tally }) (drop n es) e)
+    ∙ ap (λ l. (account_with (record { hefts = l; tally = tally_since n es }) e).tally)
+    (hefts_since n es)
+
+-- nothing is counted at the start of a pickle
+pub none_since : (es : List Event) → tally_since (length es) es ≡ no_tally
+none_since es = ap (λ l. (since (take (length es) es) l).tally) (drop-length es)
 
 -- the costs of objects that the bill knows
 pub costs_are : (hefts hs : List Heft) (ns : List ℕ) → Pointwise (Costs hefts) hs ns

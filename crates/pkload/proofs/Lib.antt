@@ -3,6 +3,8 @@ pub mod Alike
 pub mod Accounts
 pub mod Steps
 pub mod Whole
+pub mod Metered
+pub mod Tolds
 pub mod Loading
 -- the machine
 pub mod Slots

@@ -1,36 +1,47 @@
--- What a check with the listener that keeps the bill says.
-use Rattle.std.proofs.Common.{◌≡◌, List, [], ◌∷◌, ◌++◌, map, None, Result, Ok}
-use Rattle.std.proofs.Common.{Err, IfOk, refl, sym, ap, subst, ◌∙◌, arith}
+-- What a check with the audience that keeps the bill says.
+use Rattle.std.proofs.Common.{◌≡◌, ℕ, suc, ◌+◌, true, false, List, [], ◌∷◌, ◌++◌, length}
+use Rattle.std.proofs.Common.{None, Result, Ok, Err, IfOk, refl, sym, ap, subst, ◌∙◌, arith}
+use Rattle.std.proofs.Common.{length-append}
+use Rattle.std.specs.Prelude.{All, MatchResult, option_map}
+use Rattle.std.proofs.lemmas.List.Elements.{All-head, All-tail, All-cons, All-nil}
+use Rattle.pkops.specs.Contents.{IsGood}
 use Rattle.pkops.specs.Limits.{Bounds}
+use Rattle.pkops.specs.Payloads.{payload_limit}
 use Rattle.pkops.specs.Spelling.{Instruction}
+use Rattle.pkread.specs.Admission.{IsAllowedBy}
 use Rattle.pkread.specs.Rows.{Sight}
-use Rattle.pkcheck.specs.Heard.{AreHeardBehind, Heard, IsRightAndHeard}
+use Rattle.pkread.specs.Sequence.{IsSequence, StopIsLast}
+use Rattle.pkcheck.specs.Import.{asked_shown}
 use Rattle.pkcheck.specs.Knowledge.{Policy}
+use Rattle.pkcheck.specs.Reports.{AreReportsBehind, Report}
+use Rattle.pkcheck.specs.RowOfPickles.{AreAccepted, begins, bytes_of_all}
+use Rattle.pkcheck.specs.RowRuns.{Afresh, Beginning, Behind, Pickle, sequences_of}
 use Rattle.pkcheck.specs.Runs.{Raised, Stopped, Stuck, WentOn, start}
-use Rattle.pkcheck.specs.WholeRuns.{Ended, EndedBy, Reached, run}
-use Rattle.pkcheck.specs.declared.checking.No.{No}
-use Rattle.pkcheck.specs.declared.checking.Yes.{Yes}
-use Rattle.pkcheck.specs.declared.old_strings.OldStrings.TheVariants.{Unknown}
+use Rattle.pkcheck.specs.Shape.{Breach, and_then}
+use Rattle.pkcheck.specs.ThreeEnds.{AcceptedAndTold, AreReportsOf, RefusedAndTold}
+use Rattle.pkcheck.specs.WholeRuns.{Ended, EndedBy, Reached, run_as}
+use Rattle.pkcheck.specs.declared.check_loop.Extent.{Extent}
+use Rattle.pkcheck.specs.declared.check_loop.Extent.TheVariants.{OnePickle, ToTheEnd}
+use Rattle.pkcheck.specs.declared.check_loop.RefusedPickle.{RefusedPickle}
+use Rattle.pkcheck.specs.declared.loading.Loading.{Loading}
+use Rattle.pkcheck.specs.declared.loading.Memo.{Memo}
+use Rattle.pkcheck.specs.declared.loading.Memo.TheVariants.{Fresh, Kept}
+use Rattle.pkcheck.specs.declared.old_strings.OldStrings.{OldStrings}
+use Rattle.pkcheck.specs.declared.row_of_pickles.YesAll.{YesAll}
 use Rattle.pkload.proofs.Accounts.{implies_across}
+use Rattle.pkload.proofs.Tolds.{NoneBehindStop, metering_of, none_behind, stopped, told_along}
 use Rattle.pkload.proofs.Whole.{bill_bounds_runs}
-use Rattle.pkload.specs.Bill.{Bill, all_billed, no_bill}
+use Rattle.pkload.specs.Bill.{Bill, all_billed, bill_before, billed, next_bill, no_bill, row_billed}
 use Rattle.pkload.specs.Laws.{EndsBilled}
-use Rattle.pkload.specs.Loading.{CostsWithin, EndsWithin, IsRightLoading}
-use Rattle.pkload.specs.Private.Meter.{Meter, Meters}
+use Rattle.pkload.specs.Loading.{CostsWithin, EndsWithin, IsRightLoading, KeepWithin}
+use Rattle.pkload.specs.Private.Meter.{AllFit, Fits, Meter, Meters, metered_more, metering_in}
+use Rattle.pkload.specs.Private.Told.{Metering, all_metered, metered, next_if, next_in, ready}
+use Rattle.pkload.specs.Private.Told.{told_billed, with_bill}
 use Rattle.pkload.specs.Tally.{IsAtMost}
-use Rattle.pkload.specs.Tolls.{IsWithin, KeepsWithin}
-use Rattle.pkload.specs.Weighed.{account_of}
+use Rattle.pkload.specs.Tolls.{IsWithin}
+use Rattle.pkload.specs.Weighed.{InEachNewRun, tally_since}
 use Rattle.pkload.specs.declared.tally.Tally.{Tally}
 use Rattle.pkload.specs.declared.tolls.Tolls.{Tolls}
-
--- the instructions that were heard
-heard_all : (before is : List Instruction) (hs : List Heard) → AreHeardBehind before is hs
-    → map (λ h. h.instruction) hs ≡ is
-heard_all before [] [] a = refl
-heard_all before (i ∷ is) (h ∷ hs) a = ap (λ x. x ∷ map (λ h. h.instruction) hs) a.0.same
-    ∙ ap (λ l. i ∷ l) (heard_all (before ++ i ∷ []) is hs a.1)
-heard_all before [] (h ∷ hs) a = absurd a
-heard_all before (i ∷ is) [] a = absurd a
 
 within_below : (tolls : Tolls) (a b : Tally) → IsAtMost a b → IsWithin tolls b → IsWithin tolls a
 within_below tolls a b h w = record {
@@ -41,55 +52,330 @@ within_below tolls a b h w = record {
   builds = implies_across a.builds b.builds tolls.builds h.builds w.builds;
 }
 
-ends_within : (tolls : Tolls) (bill : Bill) (e : Ended) → EndsBilled bill e
-    → IsWithin tolls bill.tally → EndsWithin tolls e
-ends_within tolls bill (Reached s) h w = subst (IsWithin tolls) (sym h.tally) w
-ends_within tolls bill (EndedBy (Stopped r s)) h w =
-    within_below tolls (account_of s.events).tally bill.tally h w
-ends_within tolls bill (EndedBy (Raised s)) h w =
-    within_below tolls (account_of s.events).tally bill.tally h w
-ends_within tolls bill (EndedBy (WentOn s)) h w = absurd h
-ends_within tolls bill (EndedBy (Stuck b)) h w = absurd h
+ends_within : (tolls : Tolls) (bill : Bill) (n : ℕ) (e : Ended) → EndsBilled bill n e
+    → IsWithin tolls bill.tally → EndsWithin tolls n e
+ends_within tolls bill n (Reached s) h w = subst (IsWithin tolls) (sym h.tally) w
+ends_within tolls bill n (EndedBy (Stopped r s)) h w = subst (IsWithin tolls) (sym h.tally) w
+ends_within tolls bill n (EndedBy (Raised s)) h w =
+    within_below tolls (tally_since n s.events) bill.tally h w
+ends_within tolls bill n (EndedBy (WentOn s)) h w = absurd h
+ends_within tolls bill n (EndedBy (Stuck b)) h w = absurd h
 
-costs : (tolls : Tolls) (is : List Instruction) (bill : Bill)
-    → all_billed is no_bill ≡ Ok bill → KeepsWithin tolls bill.tally bill.memory
-    → CostsWithin tolls is
-costs tolls is bill e w = record {
-  bill = bill;
-  billed = e;
-  within = w.0;
-  memory = w.1;
-  runs = λ os new. ends_within tolls bill (run is os start)
-      (bill_bounds_runs Unknown is os bill e new) w.0;
-}
+runs_within : (tolls : Tolls) (bill : Bill) (setting : OldStrings) (beginning : Beginning)
+    (is : List Instruction) → InEachNewRun setting beginning is (EndsBilled bill)
+    → IsWithin tolls bill.tally → InEachNewRun setting beginning is (EndsWithin tolls)
+runs_within tolls bill setting Afresh is h w = λ os v.
+    ends_within tolls bill 0 (run_as setting is os start) (h os v) w
+runs_within tolls bill setting (Behind ps) is h w = λ earlier first os f r v.
+    ends_within tolls bill (length first.events) (run_as setting is os first)
+    (h earlier first os f r v) w
 
-module _ (policy : Policy) (limits : Bounds) (tolls : Tolls) (old new : Sight) where
-  right_loading : (answer : Result Yes No) (hs : List Heard) (x y : Meter)
-      → IsRightAndHeard policy limits old new answer hs → Meters x y hs → x.bill ≡ no_bill
-      → x.tolls ≡ tolls → IfOk answer (λ _. (y.excess ≡ None)
-      × KeepsWithin y.tolls y.bill.tally y.bill.memory)
-      → IsRightLoading policy limits tolls old new answer
-  right_loading (Ok answered) hs x y h m begins same w = record {
-    accepted = h.right;
-    costs = costs tolls h.right.instructions y.bill
-        (ap (λ is. all_billed is no_bill)
-        (sym (heard_all [] h.right.instructions hs h.each))
-        ∙ ap (λ b. all_billed (map (λ h. h.instruction) hs) b) (sym begins)
-        ∙ m.billed w.0)
-        (subst (λ t. KeepsWithin t y.bill.tally y.bill.memory) (m.tolls ∙ same) w.1);
-  }
-  right_loading (Err refused) hs x y h m begins same w = h.right
+-- ---- what was metered, in parts
 
-  -- an answer that was settled
-  pub settled_loading : {E : Type 0} (settled : Result (Result Yes No) E)
-      (answer : Result Yes No) (hs : List Heard)
-      (x y : Meter) → IsRightAndHeard policy limits old new answer hs
-      → Meters x y hs → x.bill ≡ no_bill → x.tolls ≡ tolls
-      → IfOk settled (λ a. a ≡ answer)
-      → IfOk settled (λ a. IfOk a (λ _. (y.excess ≡ None)
-      × KeepsWithin y.tolls y.bill.tally y.bill.memory))
-      → IfOk settled (IsRightLoading policy limits tolls old new)
-  settled_loading (Ok a) answer hs x y h m begins same e w =
-      right_loading a hs x y (subst (λ b. IsRightAndHeard policy limits old new b hs) (sym e) h) m
-      begins same w
-  settled_loading (Err c) answer hs x y h m begins same e w = tt
+abbrev bill_in : Result Bill Breach → Bill
+bill_in (Ok b) = b
+bill_in (Err e) = no_bill
+
+pub record IsSplit {A B : Type 0} (x : Result A Breach) (f : A → Result B Breach) (b : B) : Type 0 where
+  pub middle : A
+  pub first : x ≡ Ok middle
+  pub then : f middle ≡ Ok b
+
+pub split_at : {A B : Type 0} (x : Result A Breach) (f : A → Result B Breach) (b : B)
+    → and_then x f ≡ Ok b → IsSplit x f b
+split_at (Ok a) f b e = record { middle = a; first = refl; then = e }
+split_at (Err r) f b e = cc
+
+pub billed_more : (is js : List Instruction) (b : Bill)
+    → all_billed (is ++ js) b ≡ and_then (all_billed is b) (all_billed js)
+billed_more [] js b = refl
+billed_more (i ∷ is) js b = after_one (billed i b) (λ c. billed_more is js c)
+  where
+    after_one : (x : Result Bill Breach)
+        → ((c : Bill) → all_billed (is ++ js) c ≡ and_then (all_billed is c) (all_billed js))
+        → and_then x (all_billed (is ++ js)) ≡ and_then (and_then x (all_billed is)) (all_billed js)
+    after_one (Ok c) on = on c
+    after_one (Err e) on = refl
+
+pub record IsMetered (m n : Metering) (x : Result Bill Breach) : Type 0 where
+  pub bill : x ≡ Ok n.bill
+  pub pickle : n.pickle ≡ m.pickle
+
+pub metered_is : (memo : Memo) (setting : OldStrings) (beginning : Beginning) (from : ℕ)
+    (m n : Metering) (x : Result Bill Breach)
+    → metering_of memo setting beginning from m x ≡ Ok n → IsMetered m n x
+metered_is memo setting beginning from m n (Ok b) e =
+    let same = ap (metering_in m) e in
+    record { bill = ap (λ k. Ok k.bill) same; pickle = sym (ap (λ k. k.pickle) same) }
+metered_is memo setting beginning from m n (Err r) e = cc
+
+pub all_good : (limits : Bounds) (is : List Instruction)
+    → All (IsAllowedBy (payload_limit limits)) is → All IsGood is
+all_good limits [] h = All-nil IsGood
+all_good limits (i ∷ is) h =
+    All-cons IsGood i is (All-head (IsAllowedBy (payload_limit limits)) i is h).good
+    (all_good limits is (All-tail (IsAllowedBy (payload_limit limits)) i is h))
+
+-- the last instruction is billed last
+last_billed : (front : List Instruction) (last : Instruction) (b c : Bill)
+    → all_billed (front ++ last ∷ []) b ≡ Ok c
+    → (d : Bill) × (billed last d ≡ Ok c)
+last_billed front last b c e =
+    let s = split_at (all_billed front b) (all_billed (last ∷ [])) c
+    (sym (billed_more front (last ∷ []) b) ∙ e) in
+    let t = split_at (billed last s.middle) (all_billed []) c s.then in
+    (s.middle, t.first ∙ t.then)
+
+stops_ended : (is : List Instruction) (b c : Bill) → StopIsLast is → all_billed is b ≡ Ok c
+    → c.ended ≡ true
+stops_ended is b c s e =
+    let l = last_billed s.0 s.1 b c (subst (λ x. all_billed x b ≡ Ok c) s.2 e) in
+    stopped s.1 l.0 c s.3 l.1
+
+-- ---- a pickle of a row
+
+module _ (tolls : Tolls) (loading : Loading) where
+  abbrev memo : Memo
+  memo = loading.memo
+
+  abbrev setting : OldStrings
+  setting = loading.old_strings
+
+  pub last_fits : (rs : List Report) (m n : Metering) → Fits tolls m → all_metered memo rs m ≡ Ok n
+      → AllFit memo tolls rs m → Fits tolls n
+  last_fits [] m n w e f = subst (Fits tolls) (ap (metering_in m) e) w
+  last_fits (r ∷ rs) m n w e f =
+      let s = split_at (metered memo r m) (all_metered memo rs) n e in
+      let g = subst (λ x. IfOk x (λ k. Fits tolls k × AllFit memo tolls rs k)) s.first f in
+      last_fits rs s.middle n g.0 s.then g.1
+
+  -- the next pickle begins with this metering
+  pub record IsReady (before : List Pickle) (m : Metering) : Type 0 where
+    pub bill : bill_before (begins memo before) ≡ Ok (ready memo m).bill
+    pub going : (ready memo m).bill.ended ≡ false
+    pub pickle : (ready memo m).pickle ≡ length before
+
+  -- the first report makes ready
+  pub made_ready : (r : Report) (m : Metering) → (ready memo m).bill.ended ≡ false
+      → metered memo r (ready memo m) ≡ metered memo r m
+  made_ready r m e = ap (λ q. and_then
+      (told_billed r.told (next_if q memo (ready memo m)).bill)
+      (λ bill. Ok (with_bill (next_if q memo (ready memo m)) bill))) e
+
+  no_stop : (front : List Instruction) (last : Instruction) → [] ≡ front ++ last ∷ [] → ⊥
+  no_stop [] last e = cc
+  no_stop (i ∷ front) last e = cc
+
+  all_ready : (beginning : Beginning) (from : ℕ) (is : List Instruction) (rs : List Report)
+      (m : Metering) → StopIsLast is
+      → AreReportsBehind false setting beginning from [] is rs
+      → (ready memo m).bill.ended ≡ false
+      → all_metered memo rs (ready memo m) ≡ all_metered memo rs m
+  all_ready beginning from is (r ∷ rs) m s h e =
+      ap (λ x. and_then x (all_metered memo rs)) (made_ready r m e)
+  all_ready beginning from [] [] m s h e = absurd (no_stop s.0 s.1 s.2)
+  all_ready beginning from (i ∷ is) [] m s h e = absurd h
+
+  pub record IsPickleWithin (before : List Pickle) (is : List Instruction) (m n : Metering)
+      : Type 0 where
+    pub costs : CostsWithin setting (begins memo before) tolls is
+    pub bill : all_billed is (ready memo m).bill ≡ Ok n.bill
+    pub ended : n.bill.ended ≡ true
+    pub pickle : n.pickle ≡ (ready memo m).pickle
+    pub fits : Fits tolls n
+
+  pub pickle_within : (limits : Bounds) (from : ℕ) (before : List Pickle)
+      (is : List Instruction) (rs : List Report) (m n : Metering)
+      → IsSequence (payload_limit limits) is
+      → AreReportsBehind false setting (begins memo before) from [] is rs
+      → IsReady before m → Fits tolls m → all_metered memo rs m ≡ Ok n
+      → AllFit memo tolls rs m → IsPickleWithin before is m n
+  pickle_within limits from before is rs m n q h r w e f =
+      let s = q.stops in
+      let k = metered_is memo setting (begins memo before) from (ready memo m) n
+      (all_billed is (ready memo m).bill)
+      (sym (told_along memo setting (begins memo before) from [] is rs (ready memo m) h
+      (all_good limits is q.each)
+      (subst NoneBehindStop (sym s.2) (none_behind s.0 s.1 s.4)) r.going)
+      ∙ all_ready (begins memo before) from is rs m s h r.going ∙ e) in
+      let fits = last_fits rs m n w e f in
+      let all = ap (λ x. and_then x (all_billed is)) r.bill ∙ k.bill in
+      record {
+        costs = record {
+          bill = n.bill;
+          billed = all;
+          within = fits;
+          runs = runs_within tolls n.bill setting (begins memo before) is
+              (bill_bounds_runs setting (begins memo before) is n.bill all) fits.0;
+        };
+        bill = k.bill;
+        ended = stops_ended is (ready memo m).bill n.bill s k.bill;
+        pickle = k.pickle;
+        fits = fits;
+      }
+
+  -- ---- rows
+
+  row_end : (ps : List (List Instruction)) (is : List Instruction) (b c d : Bill)
+      → row_billed ps b ≡ Ok c → all_billed is c ≡ Ok d
+      → row_billed (ps ++ is ∷ []) b ≡ Ok (next_bill d)
+  row_end [] is b c d e h =
+      ap (λ x. and_then x (λ after. Ok (next_bill after)))
+      (ap (all_billed is) (ap bill_in e) ∙ h)
+  row_end (p ∷ ps) is b c d e h =
+      let s = split_at (all_billed p b) (λ after. row_billed ps (next_bill after)) c e in
+      ap (λ x. and_then x (λ after. row_billed (ps ++ is ∷ []) (next_bill after))) s.first
+      ∙ row_end ps is (next_bill s.middle) c d s.then h
+
+  sequences_end : (ps : List Pickle) (p : Pickle)
+      → sequences_of (ps ++ p ∷ []) ≡ sequences_of ps ++ p.instructions ∷ []
+  sequences_end [] p = refl
+  sequences_end (q ∷ ps) p = ap (λ l. q.instructions ∷ l) (sequences_end ps p)
+
+  next_before : (k : Memo) (before : List Pickle) (p : Pickle) (b c : Bill)
+      → bill_before (begins k before) ≡ Ok b → all_billed p.instructions b ≡ Ok c
+      → bill_before (begins k (before ++ p ∷ [])) ≡ Ok (next_in k c)
+  next_before Fresh before p b c e h = refl
+  next_before Kept before p b c e h =
+      ap (λ l. row_billed l no_bill) (sequences_end before p)
+      ∙ row_end (sequences_of before) p.instructions no_bill b c e h
+
+  next_goes : (k : Memo) (b : Bill) → (next_in k b).ended ≡ false
+  next_goes Fresh b = refl
+  next_goes Kept b = refl
+
+  pub ready_next : (before : List Pickle) (p : Pickle) (m n : Metering) → IsReady before m
+      → IsPickleWithin before p.instructions m n → IsReady (before ++ p ∷ []) n
+  ready_next before p m n r h =
+      let same : ready memo n ≡ next_if true memo n = ap (λ q. next_if q memo n) h.ended in
+      record {
+        bill = next_before memo before p (ready memo m).bill n.bill r.bill h.bill
+            ∙ ap (λ k. Ok k.bill) (sym same);
+        going = ap (λ k. k.bill.ended) same ∙ next_goes memo n.bill;
+        pickle = ap (λ k. k.pickle) same ∙ ap suc (h.pickle ∙ r.pickle)
+            ∙ omega (arith, length-append before (p ∷ []));
+      }
+
+  pub fits_split : (rs qs : List Report) (m : Metering) → AllFit memo tolls (rs ++ qs) m
+      → AllFit memo tolls rs m × ((n : Metering) → all_metered memo rs m ≡ Ok n
+      → AllFit memo tolls qs n)
+  fits_split [] qs m f = (tt, λ n e. subst (AllFit memo tolls qs) (ap (metering_in m) e) f)
+  fits_split (r ∷ rs) qs m f = one (metered memo r m) f (λ k. fits_split rs qs k)
+    where
+      one : (x : Result Metering Breach)
+          → IfOk x (λ k. Fits tolls k × AllFit memo tolls (rs ++ qs) k)
+          → ((k : Metering) → AllFit memo tolls (rs ++ qs) k
+          → AllFit memo tolls rs k × ((n : Metering) → all_metered memo rs k ≡ Ok n
+          → AllFit memo tolls qs n))
+          → IfOk x (λ k. Fits tolls k × AllFit memo tolls rs k)
+          × ((n : Metering) → and_then x (all_metered memo rs) ≡ Ok n → AllFit memo tolls qs n)
+      one (Ok k) g on = ((g.0, (on k g.1).0), λ n e. (on k g.1).1 n e)
+      one (Err e) g on = (tt, λ n j. cc j)
+
+  pub rows_within : (policy : Policy) (limits : Bounds) (ps before : List Pickle)
+      (old new : Sight) (rs : List Report) (m n : Metering)
+      → AreAccepted loading policy limits old new before ps
+      → AreReportsOf false loading before ps rs → IsReady before m → Fits tolls m
+      → all_metered memo rs m ≡ Ok n → AllFit memo tolls rs m
+      → KeepWithin loading tolls before ps
+  rows_within policy limits [] before old new rs m n a h r w e f = tt
+  rows_within policy limits (p ∷ ps) before old new rs m n a h r w e f =
+      let e' : all_metered memo (h.0 ++ h.1) m ≡ Ok n =
+      subst (λ l. all_metered memo l m ≡ Ok n) h.2 e in
+      let f' : AllFit memo tolls (h.0 ++ h.1) m = subst (λ l. AllFit memo tolls l m) h.2 f in
+      let s = split_at (all_metered memo h.0 m) (all_metered memo h.1) n
+      (sym (metered_more memo h.0 h.1 m) ∙ e') in
+      let g = fits_split h.0 h.1 m f' in
+      let one = pickle_within limits (length (bytes_of_all before)) before p.instructions h.0 m
+      s.middle (subst (IsSequence (payload_limit limits)) a.1.1 a.1.0.sequence) h.3 r w s.first
+      g.0 in (
+        one.costs,
+        rows_within policy limits ps (before ++ p ∷ []) a.0 new h.1 s.middle n a.2 h.4
+            (ready_next before p m s.middle r one) one.fits s.then (g.1 s.middle s.first),
+      )
+
+  -- ---- the whole check
+
+  abbrev at_first : Metering
+  at_first = record { pickle = 0; bill = no_bill }
+
+  first_ready : (k : Memo) → bill_before (begins k []) ≡ Ok no_bill
+  first_ready Fresh = refl
+  first_ready Kept = refl
+
+  pub begins_ready : IsReady [] at_first
+  begins_ready = record { bill = first_ready memo; going = refl; pickle = refl }
+
+  pub begins_within : Fits tolls at_first
+  begins_within = (
+    record {
+      levels = omega arith;
+      weight = omega arith;
+      work = omega arith;
+      clash = omega arith;
+      builds = tt;
+    },
+    omega arith,
+  )
+
+module _ (loading : Loading) (policy : Policy) (limits : Bounds) (tolls : Tolls) (old new : Sight)
+    (rs : List Report) (x y : Meter) (told : Meters x y rs) (memo_is : x.memo ≡ loading.memo)
+    (tolls_are : x.tolls ≡ tolls) (begun : x.metering ≡ record { pickle = 0; bill = no_bill })
+  where
+    is_metered : y.excess ≡ None
+        → all_metered loading.memo rs (record { pickle = 0; bill = no_bill }) ≡ Ok y.metering
+    is_metered e = subst (λ k. all_metered k rs (record { pickle = 0; bill = no_bill })
+        ≡ Ok y.metering) memo_is
+        (subst (λ m. all_metered x.memo rs m ≡ Ok y.metering) begun (told.is e))
+
+    all_fit : y.excess ≡ None
+        → AllFit loading.memo tolls rs (record { pickle = 0; bill = no_bill })
+    all_fit e = subst (λ k. AllFit k tolls rs (record { pickle = 0; bill = no_bill })) memo_is
+        (subst (λ t. AllFit x.memo t rs (record { pickle = 0; bill = no_bill })) tolls_are
+        (subst (AllFit x.memo x.tolls rs) begun (told.fits e)))
+
+    pub right_loading : (extent : Extent) (answer : Result YesAll RefusedPickle)
+        → MatchResult answer
+        (λ yes. AcceptedAndTold false loading policy limits old new extent yes.taken yes.pickles
+        yes.imports rs)
+        (λ refused. RefusedAndTold false loading policy limits old new extent refused.pickle
+        refused.no.at refused.no.reason (option_map asked_shown refused.no.pair) refused.imports
+        rs)
+        → IfOk answer (λ _. y.excess ≡ None)
+        → IsRightLoading loading policy limits tolls old new extent answer
+    right_loading ToTheEnd (Ok accepted) h e = (
+      h.0,
+      rows_within tolls loading policy limits h.0.row [] old new rs
+          (record { pickle = 0; bill = no_bill }) y.metering h.0.each h.1
+          (begins_ready tolls loading) (begins_within tolls loading) (is_metered e) (all_fit e),
+    )
+    right_loading OnePickle (Ok accepted) h e = (
+      h.0,
+      (pickle_within tolls loading limits 0 [] h.0.instructions rs
+          (record { pickle = 0; bill = no_bill }) y.metering h.0.sequence h.1
+          (begins_ready tolls loading) (begins_within tolls loading) (is_metered e)
+          (all_fit e)).costs,
+    )
+    right_loading ToTheEnd (Err refused) h e = h.right
+    right_loading OnePickle (Err refused) h e = h.0
+
+    pub settled_loading : {E : Type 0} (extent : Extent)
+        (settled : Result (Result YesAll RefusedPickle) E) (answer : Result YesAll RefusedPickle)
+        → MatchResult answer
+        (λ yes. AcceptedAndTold false loading policy limits old new extent yes.taken yes.pickles
+        yes.imports rs)
+        (λ refused. RefusedAndTold false loading policy limits old new extent refused.pickle
+        refused.no.at refused.no.reason (option_map asked_shown refused.no.pair) refused.imports
+        rs)
+        → IfOk settled (λ a. a ≡ answer)
+        → IfOk settled (λ a. IfOk a (λ _. y.excess ≡ None))
+        → IfOk settled (IsRightLoading loading policy limits tolls old new extent)
+    settled_loading extent (Ok a) answer h same e =
+        right_loading extent a
+        (subst (λ b. MatchResult b
+        (λ yes. AcceptedAndTold false loading policy limits old new extent yes.taken yes.pickles
+        yes.imports rs)
+        (λ refused. RefusedAndTold false loading policy limits old new extent refused.pickle
+        refused.no.at refused.no.reason (option_map asked_shown refused.no.pair) refused.imports
+        rs)) (sym same) h) e
+    settled_loading extent (Err c) answer h same e = tt

@@ -23,14 +23,14 @@ use Rattle.pkcheck.specs.declared.old_strings.OldStrings.TheVariants.{Unknown, A
 use Rattle.pkcheck.specs.Covers.{Alike, AlikeCell, AlikeEntry, Pointwise}
 use Rattle.pkcheck.specs.Effects.{Effect, Operates, Moves, Stops, Raises, answers, ascii_string}
 use Rattle.pkcheck.specs.Effects.{effect_as, effect_of, is_old_string, pushes}
-use Rattle.pkcheck.specs.Runs.{Did, Foreign, Go, Import, Named, NoImport, NotTexts, Object}
+use Rattle.pkcheck.specs.Runs.{Did, Event, Foreign, Go, Import, Named, NoImport, NotTexts, Object}
 use Rattle.pkcheck.specs.Runs.{ObjectClass, Outcome, Pair, Raise, Raised, State, Stepped, Stopped}
 use Rattle.pkcheck.specs.Runs.{Stuck, WentOn, answered, asks, class_at, come_of, effect_asks}
 use Rattle.pkcheck.specs.Runs.{gone_on, move_step, named, operate_step, operated, perform, step_as}
 use Rattle.pkcheck.specs.Runs.{stop_step, with_answer, with_event}
-use Rattle.pkcheck.specs.Shape.{Breach, Entry, Item, Shape, Taken, front, moved, operands, put, top}
+use Rattle.pkcheck.specs.Shape.{Breach, NoItem, Entry, Item, Shape, Taken, front, moved, operands, put, top}
 use Rattle.pkload.proofs.Accounts.{along_end, costs_are, kept_at, new_at, next_is_new}
-use Rattle.pkload.proofs.Accounts.{nothing_counted}
+use Rattle.pkload.proofs.Accounts.{nothing_counted, since_end}
 use Rattle.pkload.proofs.Alike.{Alike-map, AlikeTaken, AlikeTop, Pointwise-append, SameResult}
 use Rattle.pkload.proofs.Alike.{front_alike, moved_alike, operands_alike, top_alike}
 use Rattle.pkload.specs.Bill.{Bill, billed, billed_by, heft_given, move_billed, operation_billed}
@@ -40,288 +40,316 @@ use Rattle.pkload.specs.Laws.{Costs}
 use Rattle.pkload.specs.Memory.{number_kept, operation_memory}
 use Rattle.pkload.specs.Tally.{with_operation}
 use Rattle.pkload.specs.Weighed.{If, IsNew, account_of, heft_at, hefts_with, no_account}
+use Rattle.pkload.specs.Weighed.{tally_since}
 
--- the bill is that of the run, and the account has each object of the run
-pub record Billed (b : Bill) (s : State) : Type 0 where
-  pub shape : Alike (Costs (account_of s.events).hefts) b.shape s.shape
-  pub tally : (account_of s.events).tally ≡ b.tally
-  pub count : length (account_of s.events).hefts ≡ length s.objects
+module _ (n : ℕ) where
+  -- the bill is that of the run behind these events, and the account has each object of the run
+  pub record Billed (b : Bill) (s : State) : Type 0 where
+    pub shape : Alike (Costs (account_of s.events).hefts) b.shape s.shape
+    pub tally : tally_since n s.events ≡ b.tally
+    pub count : length (account_of s.events).hefts ≡ length s.objects
+    pub behind : n ≤ length s.events
 
-abbrev pub StepBilled : Bill → Stepped → Type 0
-StepBilled b (WentOn t) = Billed b t
-StepBilled b (Raised t) = (account_of t.events).tally ≡ b.tally
-StepBilled b (Stopped r t) = (account_of t.events).tally ≡ b.tally
-StepBilled b (Stuck r) = ⊥
+  abbrev pub StepBilled : Bill → Stepped → Type 0
+  StepBilled b (WentOn t) = Billed b t
+  StepBilled b (Raised t) = tally_since n t.events ≡ b.tally
+  StepBilled b (Stopped r t) = Billed b t × (b.ended ≡ true)
+  StepBilled b (Stuck r) = ⊥
 
-abbrev pub IfBilled : Result Bill Breach → Stepped → Type 0
-IfBilled (Ok b) st = StepBilled b st
-IfBilled (Err r) st = ⊤
+  abbrev pub IfBilled : Result Bill Breach → Stepped → Type 0
+  IfBilled (Ok b) st = StepBilled b st
+  IfBilled (Err r) st = ⊤
 
--- the bill after an operation on these operands
-abbrev after : Gives → Instruction → Taken Heft → Bill → Bill
-after gives i t b = record {
-  shape = record {
-    entries = put (heft_given gives i t.operands) t.operands ++ t.below;
-    memo = b.shape.memo;
-  };
-  tally = with_operation i.op t.operands b.tally;
-  memory = b.memory + operation_memory i (length t.operands);
-  highest = b.highest;
-}
-
--- pushes one more object, of this cost
-pushed : (hefts : List Heft) (h : Heft) (objects : List Object) (es : List (Entry Heft))
-    (fs : List (Entry ℕ)) (ms : List (ℕ × Heft)) (ns : List (ℕ × ℕ))
-    → length hefts ≡ length objects → Pointwise (AlikeEntry (Costs hefts)) es fs
-    → Pointwise (AlikeCell (Costs hefts)) ms ns
-    → Alike (Costs (hefts ++ h ∷ [])) (record { entries = Item h ∷ es; memo = ms })
-    (record { entries = Item (length objects) ∷ fs; memo = ns })
-pushed hefts h objects es fs ms ns e p q =
-    let old = Alike-map (Costs hefts) (Costs (hefts ++ h ∷ [])) (λ x n g. kept_at hefts h x n g)
-    (record { entries = es; memo = ms }) (record { entries = fs; memo = ns })
-    (record { entries = p; memo = q }) in
-    record {
-      entries = (
-        subst (λ n. Costs (hefts ++ h ∷ []) h n) e (new_at hefts h),
-        old.entries,
-      );
-      memo = old.memo;
-    }
-
-answered_new : (n : ℕ) (c : ObjectClass) (objects : List Object) → length objects ≤ n
-    → answered n c objects ≡ (Some (length objects), with_answer c objects)
-answered_new n c objects h = ap (λ b. cond b (Some n, objects)
-    (Some (length objects), with_answer c objects)) (le-ltb n (length objects) h)
-
--- an answer is new, if there is one
-abbrev NewIfAnswer : Gives → State → ℕ → Type 0
-NewIfAnswer Answers s n = length s.objects ≤ n
-NewIfAnswer gives s n = ⊤
-
-module _ (i : Instruction) (t : Taken Heft) (u : Taken ℕ) (b : Bill) (s : State) (h : Billed b s)
-    (a : AlikeTaken (Costs (account_of s.events).hefts) t u) where
-  abbrev hefts : List Heft
-  hefts = (account_of s.events).hefts
-
-  account_then : (d : Option ℕ) → account_of (s.events ++ Did i u.operands d ∷ []) ≡ record {
-    hefts = hefts_with i u.operands d hefts;
-    tally = with_operation i.op (map (heft_at hefts) u.operands) (account_of s.events).tally;
-  }
-  account_then d = along_end no_account s.events (Did i u.operands d)
-
-  tally_then : (d : Option ℕ)
-      → (account_of (s.events ++ Did i u.operands d ∷ [])).tally
-      ≡ with_operation i.op t.operands b.tally
-  tally_then d = ap (λ x. x.tally) (account_then d)
-      ∙ ap (λ hs. with_operation i.op hs (account_of s.events).tally)
-      (costs_are hefts t.operands u.operands a.operands)
-      ∙ ap (λ x. with_operation i.op t.operands x) h.tally
-
-  hefts_then : (account_of (s.events ++ Did i u.operands (Some (length s.objects)) ∷ [])).hefts
-      ≡ hefts ++ heft_of i t.operands ∷ []
-  hefts_then = ap (λ x. x.hefts) (account_then (Some (length s.objects)))
-      ∙ subst (λ n. hefts_with i u.operands (Some n) hefts
-      ≡ hefts ++ heft_of i (map (heft_at hefts) u.operands) ∷ []) h.count
-      (next_is_new i u.operands hefts)
-      ∙ ap (λ hs. hefts ++ heft_of i hs ∷ []) (costs_are hefts t.operands u.operands a.operands)
-
-  -- an operation that gives a new object
-  new_result : (o : Object)
-      → Billed (record {
-        shape = record {
-          entries = Item (heft_of i t.operands) ∷ t.below;
-          memo = b.shape.memo;
-        };
-        tally = with_operation i.op t.operands b.tally;
-        memory = b.memory + operation_memory i (length t.operands);
-        highest = b.highest;
-      }) (record {
-        shape = record { entries = Item (length s.objects) ∷ u.below; memo = s.shape.memo };
-        objects = s.objects ++ o ∷ [];
-        events = s.events ++ Did i u.operands (Some (length s.objects)) ∷ [];
-      })
-  new_result o = record {
-    shape = subst (λ hs. Alike (Costs hs) (record {
-      entries = Item (heft_of i t.operands) ∷ t.below;
+  -- the bill after an operation on these operands
+  abbrev after : Gives → Instruction → Taken Heft → Bill → Bill
+  after gives i t b = record {
+    shape = record {
+      entries = put (heft_given gives i t.operands) t.operands ++ t.below;
       memo = b.shape.memo;
-    }) (record { entries = Item (length s.objects) ∷ u.below; memo = s.shape.memo }))
-        (sym hefts_then)
-        (pushed hefts (heft_of i t.operands) s.objects t.below u.below b.shape.memo s.shape.memo
-        h.count a.below h.shape.memo);
-    tally = tally_then (Some (length s.objects));
-    count = ap length hefts_then ∙ omega (
-      arith,
-      h.count,
-      length-append hefts (heft_of i t.operands ∷ []),
-      length-append s.objects (o ∷ []),
-    );
-  }
-
-  -- an operation that leaves its receiver
-  leaves : Billed (record {
-    shape = record { entries = front t.operands ++ t.below; memo = b.shape.memo };
+    };
     tally = with_operation i.op t.operands b.tally;
     memory = b.memory + operation_memory i (length t.operands);
     highest = b.highest;
-  }) (record {
-    shape = record { entries = front u.operands ++ u.below; memo = s.shape.memo };
-    objects = s.objects;
-    events = s.events ++ Did i u.operands None ∷ [];
-  })
-  leaves = record {
-    shape = subst (λ hs. Alike (Costs hs)
-        (record { entries = front t.operands ++ t.below; memo = b.shape.memo })
-        (record { entries = front u.operands ++ u.below; memo = s.shape.memo }))
-        (sym (ap (λ x. x.hefts) (account_then None)))
-        (record {
-          entries = Pointwise-append (AlikeEntry (Costs hefts)) (front t.operands)
-              (front u.operands) t.below u.below
-              (front_alike (Costs hefts) t.operands u.operands a.operands) a.below;
-          memo = h.shape.memo;
-        });
-    tally = tally_then None;
-    count = ap (λ x. length x.hefts) (account_then None) ∙ h.count;
+    ended = b.ended;
   }
 
-  went_on : (gives : Gives) (n : ℕ) (c : ObjectClass) → NewIfAnswer gives s n
-      → StepBilled (after gives i t b) (gone_on gives i u n c s)
-  went_on (Makes k) n c w = new_result _
-  went_on MakesIntOrBool n c w = new_result _
-  went_on MakesText n c w = new_result _
-  went_on (MayMake k) n c w = new_result _
-  went_on (Leaves k) n c w = leaves
-  went_on Answers n c w = subst (λ x. StepBilled (after Answers i t b) (WentOn (record {
-    shape = record { entries = put x.0 u.operands ++ u.below; memo = s.shape.memo };
-    objects = x.1;
-    events = s.events ++ Did i u.operands x.0 ∷ [];
-  }))) (sym (answered_new n c s.objects w)) (new_result _)
+  -- pushes one more object, of this cost
+  pushed : (hefts : List Heft) (h : Heft) (objects : List Object) (es : List (Entry Heft))
+      (fs : List (Entry ℕ)) (ms : List (ℕ × Heft)) (ns : List (ℕ × ℕ))
+      → length hefts ≡ length objects → Pointwise (AlikeEntry (Costs hefts)) es fs
+      → Pointwise (AlikeCell (Costs hefts)) ms ns
+      → Alike (Costs (hefts ++ h ∷ [])) (record { entries = Item h ∷ es; memo = ms })
+      (record { entries = Item (length objects) ∷ fs; memo = ns })
+  pushed hefts h objects es fs ms ns e p q =
+      let old = Alike-map (Costs hefts) (Costs (hefts ++ h ∷ [])) (λ x n g. kept_at hefts h x n g)
+      (record { entries = es; memo = ms }) (record { entries = fs; memo = ns })
+      (record { entries = p; memo = q }) in
+      record {
+        entries = (
+          subst (λ n. Costs (hefts ++ h ∷ []) h n) e (new_at hefts h),
+          old.entries,
+        );
+        memo = old.memo;
+      }
 
-  comes : (gives : Gives) (o : Outcome) → If (asks gives) (IsNew s o)
-      → StepBilled (after gives i t b) (come_of (asks gives) gives i u o s)
-  comes (Makes k) o w = went_on (Makes k) 0 Foreign tt
-  comes MakesIntOrBool o w = went_on MakesIntOrBool 0 Foreign tt
-  comes MakesText o w = went_on MakesText 0 Foreign tt
-  comes (MayMake k) Raise w = tally_then None
-  comes (MayMake k) (Go n c) w = went_on (MayMake k) n c tt
-  comes (Leaves k) Raise w = tally_then None
-  comes (Leaves k) (Go n c) w = went_on (Leaves k) n c tt
-  comes Answers Raise w = tally_then None
-  comes Answers (Go n c) w = went_on Answers n c w
+  answered_new : (n : ℕ) (c : ObjectClass) (objects : List Object) → length objects ≤ n
+      → answered n c objects ≡ (Some (length objects), with_answer c objects)
+  answered_new n c objects h = ap (λ b. cond b (Some n, objects)
+      (Some (length objects), with_answer c objects)) (le-ltb n (length objects) h)
 
--- an import counts nothing
-account_imports : (s : State) (m n : List ℕ)
-    → account_of s.events ≡ account_of (s.events ++ Import m n ∷ [])
-account_imports s m n = sym (along_end no_account s.events (Import m n))
+  -- an answer is new, if there is one
+  abbrev NewIfAnswer : Gives → State → ℕ → Type 0
+  NewIfAnswer Answers s n = length s.objects ≤ n
+  NewIfAnswer gives s n = ⊤
 
-imports : (b : Bill) (s : State) (m n : List ℕ) → Billed b s
-    → Billed b (with_event (Import m n) s)
-imports b s m n h = record {
-  shape = subst (λ x. Alike (Costs x.hefts) b.shape s.shape) (account_imports s m n) h.shape;
-  tally = subst (λ x. x.tally ≡ b.tally) (account_imports s m n) h.tally;
-  count = subst (λ x. length x.hefts ≡ length s.objects) (account_imports s m n) h.count;
-}
+  module _ (i : Instruction) (t : Taken Heft) (u : Taken ℕ) (b : Bill) (s : State) (h : Billed b s)
+      (a : AlikeTaken (Costs (account_of s.events).hefts) t u) where
+    abbrev hefts : List Heft
+    hefts = (account_of s.events).hefts
 
-operates : (nm : Named) (gives : Gives) (i : Instruction) (t : Taken Heft) (u : Taken ℕ) (b : Bill)
-    (s : State) (o : Outcome) → Billed b s
-    → AlikeTaken (Costs (account_of s.events).hefts) t u → If (asks gives) (IsNew s o)
-    → StepBilled (after gives i t b) (operated nm gives i u o s)
-operates NoImport gives i t u b s o h a w = comes i t u b s h a gives o w
-operates (Pair m n) gives i t u b s o h a w =
-    comes i t u b (with_event (Import m n) s) (imports b s m n h)
-    (subst (λ x. AlikeTaken (Costs x.hefts) t u) (account_imports s m n) a) gives o
-    (same_new (asks gives) o w)
-  where
-    same_new : (q : Bool) (o : Outcome) → If q (IsNew s o)
-        → If q (IsNew (with_event (Import m n) s) o)
-    same_new true Raise w = w
-    same_new true (Go k c) w = w
-    same_new false o w = w
-operates NotTexts gives i t u b s o h a w = tally_then i t u b s h a None
+    account_then : (d : Option ℕ) → account_of (s.events ++ Did i u.operands d ∷ []) ≡ record {
+      hefts = hefts_with i u.operands d hefts;
+      tally = with_operation i.op (map (heft_at hefts) u.operands) (account_of s.events).tally;
+    }
+    account_then d = along_end no_account s.events (Did i u.operands d)
 
-operate_billed : (names : Names) (gives : Gives) (i : Instruction) (b : Bill) (s : State)
-    (o : Outcome) (x : Result (Taken Heft) Breach) (y : Result (Taken ℕ) Breach) → Billed b s
-    → SameResult (AlikeTaken (Costs (account_of s.events).hefts)) x y
-    → If (asks gives) (IsNew s o)
-    → IfBilled (operation_billed gives i b x) (operate_step names gives i o s y)
-operate_billed names gives i b s o (Ok t) (Ok u) h a w =
-    operates (named names i (map (class_at s.objects) u.operands)) gives i t u b s o h a w
-operate_billed names gives i b s o (Err r) y h a w = tt
-operate_billed names gives i b s o (Ok t) (Err r) h a w = absurd a
+    tally_then : (d : Option ℕ)
+        → tally_since n (s.events ++ Did i u.operands d ∷ [])
+        ≡ with_operation i.op t.operands b.tally
+    tally_then d = since_end n s.events (Did i u.operands d) h.behind
+        ∙ ap (λ hs. with_operation i.op hs (tally_since n s.events))
+        (costs_are hefts t.operands u.operands a.operands)
+        ∙ ap (λ x. with_operation i.op t.operands x) h.tally
 
-shape_billed : (m : Move) (n : ℕ) (b : Bill) (s : State) (x : Result (Shape Heft) Breach)
-    (y : Result (Shape ℕ) Breach) → Billed b s
-    → SameResult (Alike (Costs (account_of s.events).hefts)) x y
-    → IfBilled (move_billed m n b x) (move_step s y)
-shape_billed m n b s (Ok p) (Ok q) h a = record { shape = a; tally = h.tally; count = h.count }
-shape_billed m n b s (Err r) y h a = tt
-shape_billed m n b s (Ok p) (Err r) h a = absurd a
+    further : (e : Event) → n ≤ length (s.events ++ e ∷ [])
+    further e = omega (arith, h.behind, length-append s.events (e ∷ []))
 
-result_billed : (b : Bill) (s : State) (x : Result (Heft × List (Entry Heft)) Breach)
-    (y : Result (ℕ × List (Entry ℕ)) Breach) → Billed b s
-    → SameResult (AlikeTop (Costs (account_of s.events).hefts)) x y
-    → IfBilled (stop_billed b x) (stop_step s y)
-result_billed b s (Ok p) (Ok q) h a = h.tally
-result_billed b s (Err r) y h a = tt
-result_billed b s (Ok p) (Err r) h a = absurd a
+    hefts_then : (account_of (s.events ++ Did i u.operands (Some (length s.objects)) ∷ [])).hefts
+        ≡ hefts ++ heft_of i t.operands ∷ []
+    hefts_then = ap (λ x. x.hefts) (account_then (Some (length s.objects)))
+        ∙ subst (λ n. hefts_with i u.operands (Some n) hefts
+        ≡ hefts ++ heft_of i (map (heft_at hefts) u.operands) ∷ []) h.count
+        (next_is_new i u.operands hefts)
+        ∙ ap (λ hs. hefts ++ heft_of i hs ∷ []) (costs_are hefts t.operands u.operands a.operands)
 
-performed_billed : (e : Effect) (i : Instruction) (b : Bill) (s : State) (o : Outcome)
-    → Billed b s → If (effect_asks e) (IsNew s o) → IfBilled (billed_by e i b) (perform e i s o)
-performed_billed (Operates takes names gives) i b s o h w =
-    operate_billed names gives i b s o (operands takes b.shape.entries)
-    (operands takes s.shape.entries) h
-    (operands_alike (Costs (account_of s.events).hefts) takes b.shape.entries s.shape.entries
-    h.shape.entries) w
-performed_billed (Moves m) i b s o h w =
-    shape_billed m (number_kept m (memo_number i) b.shape) b s (moved m (memo_number i) b.shape) (moved m (memo_number i) s.shape) h
-    (moved_alike (Costs (account_of s.events).hefts) m (memo_number i) b.shape s.shape h.shape)
-performed_billed Stops i b s o h w =
-    result_billed b s (top b.shape.entries) (top s.shape.entries) h
-    (top_alike (Costs (account_of s.events).hefts) b.shape.entries s.shape.entries h.shape.entries)
-performed_billed Raises i b s o h w =
-    ap (λ x. x.tally) (along_end no_account s.events (Did i [] None))
-    ∙ nothing_counted i.op (account_of s.events).tally ∙ h.tally
+    -- an operation that gives a new object
+    new_result : (o : Object)
+        → Billed (record {
+          shape = record {
+            entries = Item (heft_of i t.operands) ∷ t.below;
+            memo = b.shape.memo;
+          };
+          tally = with_operation i.op t.operands b.tally;
+          memory = b.memory + operation_memory i (length t.operands);
+          highest = b.highest;
+          ended = b.ended;
+        }) (record {
+          shape = record { entries = Item (length s.objects) ∷ u.below; memo = s.shape.memo };
+          objects = s.objects ++ o ∷ [];
+          events = s.events ++ Did i u.operands (Some (length s.objects)) ∷ [];
+        })
+    new_result o = record {
+      shape = subst (λ hs. Alike (Costs hs) (record {
+        entries = Item (heft_of i t.operands) ∷ t.below;
+        memo = b.shape.memo;
+      }) (record { entries = Item (length s.objects) ∷ u.below; memo = s.shape.memo }))
+          (sym hefts_then)
+          (pushed hefts (heft_of i t.operands) s.objects t.below u.below b.shape.memo s.shape.memo
+          h.count a.below h.shape.memo);
+      tally = tally_then (Some (length s.objects));
+      count = ap length hefts_then ∙ omega (
+        arith,
+        h.count,
+        length-append hefts (heft_of i t.operands ∷ []),
+        length-append s.objects (o ∷ []),
+      );
+      behind = further (Did i u.operands (Some (length s.objects)));
+    }
 
--- ---- the decoding of old strings
+    -- an operation that leaves its receiver
+    leaves : Billed (record {
+      shape = record { entries = front t.operands ++ t.below; memo = b.shape.memo };
+      tally = with_operation i.op t.operands b.tally;
+      memory = b.memory + operation_memory i (length t.operands);
+      highest = b.highest;
+      ended = b.ended;
+    }) (record {
+      shape = record { entries = front u.operands ++ u.below; memo = s.shape.memo };
+      objects = s.objects;
+      events = s.events ++ Did i u.operands None ∷ [];
+    })
+    leaves = record {
+      shape = subst (λ hs. Alike (Costs hs)
+          (record { entries = front t.operands ++ t.below; memo = b.shape.memo })
+          (record { entries = front u.operands ++ u.below; memo = s.shape.memo }))
+          (sym (ap (λ x. x.hefts) (account_then None)))
+          (record {
+            entries = Pointwise-append (AlikeEntry (Costs hefts)) (front t.operands)
+                (front u.operands) t.below u.below
+                (front_alike (Costs hefts) t.operands u.operands a.operands) a.below;
+            memo = h.shape.memo;
+          });
+      tally = tally_then None;
+      count = ap (λ x. length x.hefts) (account_then None) ∙ h.count;
+      behind = further (Did i u.operands None);
+    }
 
-old_string_answers : (o : Op) → is_old_string o ≡ true → effect_of o ≡ answers (Objects 0)
-old_string_answers op.String h = refl
-old_string_answers op.BinString h = refl
-old_string_answers op.ShortBinString h = refl
-old_string_answers _ h = cc
+    went_on : (gives : Gives) (n : ℕ) (c : ObjectClass) → NewIfAnswer gives s n
+        → StepBilled (after gives i t b) (gone_on gives i u n c s)
+    went_on (Makes k) n c w = new_result _
+    went_on MakesIntOrBool n c w = new_result _
+    went_on MakesText n c w = new_result _
+    went_on (MayMake k) n c w = new_result _
+    went_on (Leaves k) n c w = leaves
+    went_on Answers n c w = subst (λ x. StepBilled (after Answers i t b) (WentOn (record {
+      shape = record { entries = put x.0 u.operands ++ u.below; memo = s.shape.memo };
+      objects = x.1;
+      events = s.events ++ Did i u.operands x.0 ∷ [];
+    }))) (sym (answered_new n c s.objects w)) (new_result _)
 
-module _ (i : Instruction) (b : Bill) (s : State) (o : Outcome) (h : Billed b s) where
-  -- the step of an effect is billed by the opcode
-  abbrev IsBilledAs : Effect → Type 0
-  IsBilledAs e = If (effect_asks e) (IsNew s o) → IfBilled (billed i b) (perform e i s o)
+    comes : (gives : Gives) (o : Outcome) → If (asks gives) (IsNew s o)
+        → StepBilled (after gives i t b) (come_of (asks gives) gives i u o s)
+    comes (Makes k) o w = went_on (Makes k) 0 Foreign tt
+    comes MakesIntOrBool o w = went_on MakesIntOrBool 0 Foreign tt
+    comes MakesText o w = went_on MakesText 0 Foreign tt
+    comes (MayMake k) Raise w = tally_then None
+    comes (MayMake k) (Go n c) w = went_on (MayMake k) n c tt
+    comes (Leaves k) Raise w = tally_then None
+    comes (Leaves k) (Go n c) w = went_on (Leaves k) n c tt
+    comes Answers Raise w = tally_then None
+    comes Answers (Go n c) w = went_on Answers n c w
 
-  abbrev IsBilledAsOld : Effect → Type 0
-  IsBilledAsOld e = If (effect_asks e) (IsNew s o)
-      → IfBilled (billed_by (answers (Objects 0)) i b) (perform e i s o)
+  -- an import counts nothing
+  account_imports : (s : State) (m k : List ℕ)
+      → account_of s.events ≡ account_of (s.events ++ Import m k ∷ [])
+  account_imports s m k = sym (along_end no_account s.events (Import m k))
 
-  ascii_billed : (plain : Bool)
-      → IsBilledAsOld (cond plain (Operates (Objects 0) NoName MakesText) Raises)
-  ascii_billed true w = performed_billed (Operates (Objects 0) NoName MakesText) i b s o h w
-  ascii_billed false w =
-      ap (λ x. x.tally) (along_end no_account s.events (Did i [] None))
-      ∙ ap (λ t. with_operation i.op [] t) h.tally
+  imports : (b : Bill) (s : State) (m k : List ℕ) → Billed b s
+      → Billed b (with_event (Import m k) s)
+  imports b s m k h = record {
+    shape = subst (λ x. Alike (Costs x.hefts) b.shape s.shape) (account_imports s m k) h.shape;
+    tally = since_end n s.events (Import m k) h.behind ∙ h.tally;
+    count = subst (λ x. length x.hefts ≡ length s.objects) (account_imports s m k) h.count;
+    behind = omega (arith, h.behind, length-append s.events (Import m k ∷ []));
+  }
 
-  old_billed : (e : Effect) (old : Bool) → is_old_string i.op ≡ old → IsBilledAsOld e
-      → IsBilledAs (cond old e (effect_of i.op))
-  old_billed e true q f w =
-      subst (λ x. IfBilled (billed_by x i b) (perform e i s o)) (sym (old_string_answers i.op q))
-      (f w)
-  old_billed e false q f w = performed_billed (effect_of i.op) i b s o h w
+  operates : (nm : Named) (gives : Gives) (i : Instruction) (t : Taken Heft) (u : Taken ℕ) (b : Bill)
+      (s : State) (o : Outcome) → Billed b s
+      → AlikeTaken (Costs (account_of s.events).hefts) t u → If (asks gives) (IsNew s o)
+      → StepBilled (after gives i t b) (operated nm gives i u o s)
+  operates NoImport gives i t u b s o h a w = comes i t u b s h a gives o w
+  operates (Pair m k) gives i t u b s o h a w =
+      comes i t u b (with_event (Import m k) s) (imports b s m k h)
+      (subst (λ x. AlikeTaken (Costs x.hefts) t u) (account_imports s m k) a) gives o
+      (same_new (asks gives) o w)
+    where
+      same_new : (q : Bool) (o : Outcome) → If q (IsNew s o)
+          → If q (IsNew (with_event (Import m k) s) o)
+      same_new true Raise w = w
+      same_new true (Go j c) w = w
+      same_new false o w = w
+  operates NotTexts gives i t u b s o h a w = tally_then i t u b s h a None
 
-  by_setting : (setting : OldStrings) → IsBilledAs (effect_as setting i)
-  by_setting Unknown w = performed_billed (effect_of i.op) i b s o h w
-  by_setting Ascii w =
-      old_billed (ascii_string (unwrap_or (old_bytes i) [])) (is_old_string i.op) refl
-      (ascii_billed (list_all is_ascii (unwrap_or (old_bytes i) []))) w
-  by_setting Bytes w = old_billed (pushes class.Bytes) (is_old_string i.op) refl
-      (λ v. performed_billed (pushes class.Bytes) i b s o h v) w
+  operate_billed : (names : Names) (gives : Gives) (i : Instruction) (b : Bill) (s : State)
+      (o : Outcome) (x : Result (Taken Heft) Breach) (y : Result (Taken ℕ) Breach) → Billed b s
+      → SameResult (AlikeTaken (Costs (account_of s.events).hefts)) x y
+      → If (asks gives) (IsNew s o)
+      → IfBilled (operation_billed gives i b x) (operate_step names gives i o s y)
+  operate_billed names gives i b s o (Ok t) (Ok u) h a w =
+      operates (named names i (map (class_at s.objects) u.operands)) gives i t u b s o h a w
+  operate_billed names gives i b s o (Err r) y h a w = tt
+  operate_billed names gives i b s o (Ok t) (Err r) h a w = absurd a
 
--- a step from a state with this bill leads to one with the next bill
-pub step_billed : (setting : OldStrings) (i : Instruction) (b : Bill) (s : State) (o : Outcome)
-    → Billed b s → If (effect_asks (effect_as setting i)) (IsNew s o)
-    → IfBilled (billed i b) (step_as setting i s o)
-step_billed setting i b s o h w = by_setting i b s o h setting w
+  shape_billed : (m : Move) (k : ℕ) (b : Bill) (s : State) (x : Result (Shape Heft) Breach)
+      (y : Result (Shape ℕ) Breach) → Billed b s
+      → SameResult (Alike (Costs (account_of s.events).hefts)) x y
+      → IfBilled (move_billed m k b x) (move_step s y)
+  shape_billed m k b s (Ok p) (Ok q) h a =
+      record { shape = a; tally = h.tally; count = h.count; behind = h.behind }
+  shape_billed m k b s (Err r) y h a = tt
+  shape_billed m k b s (Ok p) (Err r) h a = absurd a
+
+  result_billed : (b : Bill) (s : State) (x : Result (Heft × List (Entry Heft)) Breach)
+      (y : Result (ℕ × List (Entry ℕ)) Breach) → Billed b s
+      → SameResult (AlikeTop (Costs (account_of s.events).hefts)) x y
+      → IfBilled (stop_billed b x) (stop_step s y)
+  result_billed b s (Ok p) (Ok q) h a = (
+    record {
+      shape = record { entries = a.below; memo = h.shape.memo };
+      tally = h.tally;
+      count = h.count;
+      behind = h.behind;
+    },
+    refl,
+  )
+  result_billed b s (Err r) y h a = tt
+  result_billed b s (Ok p) (Err r) h a = absurd a
+
+  performed_billed : (e : Effect) (i : Instruction) (b : Bill) (s : State) (o : Outcome)
+      → Billed b s → If (effect_asks e) (IsNew s o) → IfBilled (billed_by e i b) (perform e i s o)
+  performed_billed (Operates takes names gives) i b s o h w =
+      operate_billed names gives i b s o (operands takes b.shape.entries)
+      (operands takes s.shape.entries) h
+      (operands_alike (Costs (account_of s.events).hefts) takes b.shape.entries s.shape.entries
+      h.shape.entries) w
+  performed_billed (Moves m) i b s o h w =
+      shape_billed m (number_kept m (memo_number i) b.shape) b s (moved m (memo_number i) b.shape) (moved m (memo_number i) s.shape) h
+      (moved_alike (Costs (account_of s.events).hefts) m (memo_number i) b.shape s.shape h.shape)
+  performed_billed Stops i b s o h w =
+      result_billed b s (top b.shape.entries) (top s.shape.entries) h
+      (top_alike (Costs (account_of s.events).hefts) b.shape.entries s.shape.entries h.shape.entries)
+  performed_billed Raises i b s o h w =
+      since_end n s.events (Did i [] None) h.behind
+      ∙ nothing_counted i.op (tally_since n s.events) ∙ h.tally
+
+  -- ---- the decoding of old strings
+
+  old_string_answers : (o : Op) → is_old_string o ≡ true → effect_of o ≡ answers (Objects 0)
+  old_string_answers op.String h = refl
+  old_string_answers op.BinString h = refl
+  old_string_answers op.ShortBinString h = refl
+  old_string_answers _ h = cc
+
+  module _ (i : Instruction) (b : Bill) (s : State) (o : Outcome) (h : Billed b s) where
+    -- the step of an effect is billed by the opcode
+    abbrev IsBilledAs : Effect → Type 0
+    IsBilledAs e = If (effect_asks e) (IsNew s o) → IfBilled (billed_by (effect_of i.op) i b) (perform e i s o)
+
+    abbrev IsBilledAsOld : Effect → Type 0
+    IsBilledAsOld e = If (effect_asks e) (IsNew s o)
+        → IfBilled (billed_by (answers (Objects 0)) i b) (perform e i s o)
+
+    ascii_billed : (plain : Bool)
+        → IsBilledAsOld (cond plain (Operates (Objects 0) NoName MakesText) Raises)
+    ascii_billed true w = performed_billed (Operates (Objects 0) NoName MakesText) i b s o h w
+    ascii_billed false w =
+        since_end n s.events (Did i [] None) h.behind
+        ∙ ap (λ t. with_operation i.op [] t) h.tally
+
+    old_billed : (e : Effect) (old : Bool) → is_old_string i.op ≡ old → IsBilledAsOld e
+        → IsBilledAs (cond old e (effect_of i.op))
+    old_billed e true q f w =
+        subst (λ x. IfBilled (billed_by x i b) (perform e i s o)) (sym (old_string_answers i.op q))
+        (f w)
+    old_billed e false q f w = performed_billed (effect_of i.op) i b s o h w
+
+    by_setting : (setting : OldStrings) → IsBilledAs (effect_as setting i)
+    by_setting Unknown w = performed_billed (effect_of i.op) i b s o h w
+    by_setting Ascii w =
+        old_billed (ascii_string (unwrap_or (old_bytes i) [])) (is_old_string i.op) refl
+        (ascii_billed (list_all is_ascii (unwrap_or (old_bytes i) []))) w
+    by_setting Bytes w = old_billed (pushes class.Bytes) (is_old_string i.op) refl
+        (λ v. performed_billed (pushes class.Bytes) i b s o h v) w
+
+  -- a step from a state with this bill leads to one with the next bill
+  pub step_billed : (setting : OldStrings) (i : Instruction) (b : Bill) (s : State) (o : Outcome)
+      → Billed b s → If (effect_asks (effect_as setting i)) (IsNew s o)
+      → IfBilled (billed i b) (step_as setting i s o)
+  step_billed setting i b s o h w =
+      unless_ended b.ended (billed_by (effect_of i.op) i b) (step_as setting i s o)
+      (by_setting i b s o h setting w)
+    where
+      unless_ended : (q : Bool) (x : Result Bill Breach) (st : Stepped) → IfBilled x st
+          → IfBilled (cond q (Err NoItem) x) st
+      unless_ended true x st g = tt
+      unless_ended false x st g = g

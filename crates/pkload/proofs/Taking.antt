@@ -1,16 +1,19 @@
 -- Taking objects one after the other.
-use Rattle.std.proofs.Common.{◌≡◌, ℕ, suc, ◌+◌, Bool, List, [], ◌∷◌, ◌++◌, length, None, Result}
+use Rattle.std.proofs.Common.{◌≡◌, ℕ, suc, ◌+◌, ◌-◌, Bool, false, cond, List, [], ◌∷◌, ◌++◌, length, None, Result}
 use Rattle.std.proofs.Common.{Ok, Err, IfOk, OnOk, sym, ap, ◌∙◌}
 use Rattle.pkops.specs.Spelling.{Instruction}
+use Rattle.pkops.specs.declared.Op.{Op}
+use Rattle.pkcheck.specs.Reports.{Skipped}
 use Rattle.pkcheck.specs.declared.effect.SliceRule.{SliceRule}
 use Rattle.pkcheck.specs.declared.effect.Takes.TheVariants.{SliceAndReceiver}
 use Rattle.pkcheck.specs.Shape.{Breach, Entry, Item, Mark, Taken, and_then, breaks, items}
-use Rattle.pkcheck.specs.Shape.{operands, put, slice, unless}
+use Rattle.pkcheck.specs.Shape.{NoItem, operands, put, slice, unless}
 use Rattle.pkload.specs.Bill.{Bill}
-use Rattle.pkload.specs.Heft.{Heft}
+use Rattle.pkload.specs.Heft.{Heft, heft_made}
 use Rattle.pkload.specs.Memory.{operation_memory}
 use Rattle.pkload.specs.Private.Billing.{HasTaken, heft_pushed, operated_on}
 use Rattle.pkload.specs.Private.Gathered.{AreOf}
+use Rattle.pkload.specs.Private.Told.{bytes_before, bytes_billed, skipped_memory, told_billed}
 use Rattle.pkload.specs.Tally.{with_operation}
 use Rattle.pkload.specs.declared.operands.Operands.{Operands}
 use Rattle.pkload.specs.declared.tally.Tally.{Tally}
@@ -57,6 +60,7 @@ pub operated : {E : Type 0} (r : Result (Unit {0}) E) (leaves : Bool) (i : Instr
       tally = tally;
       memory = memory;
       highest = b.highest;
+      ended = b.ended;
     }))
 operated (Err e) leaves i b found below stack o tally memory h t m p = tt
 operated (Ok u) leaves i b found below stack o tally memory h t m p =
@@ -66,6 +70,7 @@ operated (Ok u) leaves i b found below stack o tally memory h t m p =
       tally = n;
       memory = s;
       highest = b.highest;
+      ended = b.ended;
     }) in
     let entries = put (heft_pushed leaves i h.hefts) h.hefts ++ below in
     let counted = with_operation i.op h.hefts b.tally in
@@ -73,3 +78,35 @@ operated (Ok u) leaves i b found below stack o tally memory h t m p =
     ∙ (ap (λ s. after entries counted s) (sym (m h.hefts h.of))
     ∙ (ap (λ n. after entries n memory) (sym (t h.hefts h.of))
     ∙ ap (λ es. after es tally memory) (sym (p b.tally h.hefts h.of))))
+
+-- what was skipped is billed
+pub skipped : {E : Type 0} (r : Result (Unit {0}) E) (o : Op) (n : ℕ) (b : Bill) (size : ℕ)
+    (stack : List (Entry Heft)) (tally : Tally) (memory : ℕ) (heft : Heft) → b.ended ≡ false
+    → size ≡ n - bytes_before o → tally ≡ with_operation o [] b.tally
+    → memory ≡ b.memory + skipped_memory o size → heft ≡ heft_made o size []
+    → OnOk r (stack ≡ Item heft ∷ b.shape.entries)
+    → OnOk r (told_billed (Skipped o n) b ≡ Ok (record {
+      shape = record { entries = stack; memo = b.shape.memo };
+      tally = tally;
+      memory = memory;
+      highest = b.highest;
+      ended = b.ended;
+    }))
+skipped (Err e) o n b size stack tally memory heft q s t m h p = tt
+skipped (Ok u) o n b size stack tally memory heft q s t m h p =
+    let after : List (Entry Heft) → Tally → ℕ → Result Bill Breach =
+    λ es x y. Ok (record {
+      shape = record { entries = es; memo = b.shape.memo };
+      tally = x;
+      memory = y;
+      highest = b.highest;
+      ended = b.ended;
+    }) in
+    let made = Item (heft_made o size []) ∷ b.shape.entries in
+    let counted = with_operation o [] b.tally in
+    ap (λ k. cond k (Err NoItem) (Ok (bytes_billed o (n - bytes_before o) b))) q
+    ∙ (ap (λ k. Ok (bytes_billed o k b)) (sym s)
+    ∙ (ap (λ y. after made counted y) (sym m)
+    ∙ (ap (λ x. after made x memory) (sym t)
+    ∙ ap (λ es. after es tally memory)
+    (ap (λ k. Item k ∷ b.shape.entries) (sym h) ∙ sym p))))

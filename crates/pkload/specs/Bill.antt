@@ -2,26 +2,28 @@
 -- instruction changes it. It uses the machine's own definition of what an instruction takes and
 -- moves.
 use Rattle.std.specs.Prelude.{ℕ, ◌+◌, ◌-◌, max, List, [], ◌∷◌, ◌++◌, length, Option, Some, None}
-use Rattle.std.specs.Prelude.{Result, Ok}
+use Rattle.std.specs.Prelude.{Result, Ok, Err, Bool, true, false, if◌then◌else◌}
 use Rattle.pkops.specs.Spelling.{Instruction}
 use Rattle.pkops.specs.Operands.{memo_number}
 use Rattle.pkcheck.specs.declared.effect.Gives.{Gives}
 use Rattle.pkcheck.specs.declared.effect.Gives.TheVariants.{Leaves}
 use Rattle.pkcheck.specs.declared.effect.Move.{Move}
 use Rattle.pkcheck.specs.Effects.{Effect, Operates, Moves, Stops, Raises, effect_of}
-use Rattle.pkcheck.specs.Shape.{Breach, Entry, Shape, Taken, and_then, operands, put, moved, top}
+use Rattle.pkcheck.specs.Shape.{Breach, NoItem, Entry, Shape, Taken, and_then, operands, put, moved, top}
+use Rattle.pkcheck.specs.RowRuns.{Beginning, Afresh, Behind, sequences_of}
 use Rattle.pkload.specs.Heft.{Heft, heft_of}
 use Rattle.pkload.specs.Memory.{move_memory, number_kept, operation_memory}
 use Rattle.pkload.specs.declared.tally.Tally.{Tally}
 use Rattle.pkload.specs.Tally.{no_tally, with_operation}
 
 -- the cost of each object on the stack and in the memo, what was counted, the memory that loading
--- takes, and the highest memo number so far
+-- takes, the highest memo number so far, and whether the pickle stopped
 pub record Bill : Type 0 where
   pub shape : Shape Heft
   pub tally : Tally
   pub memory : ℕ
   pub highest : ℕ
+  pub ended : Bool
 
 -- the cost of the object that an operation gives; None if it leaves its receiver
 abbrev pub heft_given : Gives → Instruction → List Heft → Option Heft
@@ -40,6 +42,7 @@ operation_billed gives instruction bill found =
       tally = with_operation instruction.op taken.operands bill.tally;
       memory = bill.memory + operation_memory instruction (length taken.operands);
       highest = bill.highest;
+      ended = bill.ended;
     }))
 
 -- the bill after a move that stores under this number, if it stores
@@ -50,6 +53,7 @@ move_billed move number bill found =
       tally = bill.tally;
       memory = bill.memory + move_memory move (max bill.highest number - bill.highest);
       highest = max bill.highest number;
+      ended = bill.ended;
     }))
 
 -- the bill after STOP, which takes the result
@@ -59,6 +63,7 @@ stop_billed bill found =
     Ok (record bill {
       shape = record bill.shape { entries = taken.1 };
       memory = bill.memory + 16;
+      ended = true;
     }))
 
 -- the bill after an instruction with this effect
@@ -71,10 +76,11 @@ billed_by (Moves move) instruction bill =
 billed_by Stops instruction bill = stop_billed bill (top bill.shape.entries)
 billed_by Raises instruction bill = Ok bill
 
--- the bill after one more instruction. An old string weighs by its bytes, whatever it decodes to,
--- so its decoding doesn't matter
+-- the bill after one more instruction; none follows STOP. An old string weighs by its bytes,
+-- whatever it decodes to, so its decoding doesn't matter
 abbrev pub billed : Instruction → Bill → Result Bill Breach
-billed instruction bill = billed_by (effect_of instruction.op) instruction bill
+billed instruction bill =
+    if bill.ended then Err NoItem else billed_by (effect_of instruction.op) instruction bill
 
 -- the bill after these instructions
 abbrev pub all_billed : List Instruction → Bill → Result Bill Breach
@@ -89,4 +95,23 @@ no_bill = record {
   tally = no_tally;
   memory = 0;
   highest = 0;
+  ended = false;
 }
+
+-- the bill where the next pickle begins under one Unpickler: the sums begin anew, and the memo stays
+abbrev pub next_bill : Bill → Bill
+next_bill bill = record no_bill {
+  shape = record { entries = []; memo = bill.shape.memo };
+  highest = bill.highest;
+}
+
+-- the bill behind these pickles under one Unpickler
+abbrev pub row_billed : List (List Instruction) → Bill → Result Bill Breach
+row_billed [] bill = Ok bill
+row_billed (pickle ∷ pickles) bill =
+    and_then (all_billed pickle bill) (λ after. row_billed pickles (next_bill after))
+
+-- the bill where a pickle begins
+abbrev pub bill_before : Beginning → Result Bill Breach
+bill_before Afresh = Ok no_bill
+bill_before (Behind pickles) = row_billed (sequences_of pickles) no_bill

@@ -1,50 +1,77 @@
 -- What an answer says about the cost of loading.
-use Rattle.std.specs.Prelude.{◌≡◌, ◌≤◌, ℕ, List, Result, Ok, MatchResult, option_map}
+use Rattle.std.specs.Prelude.{◌≡◌, ◌++◌, ◌∷◌, [], ⊤, ℕ, List, Result, Ok, MatchResult, option_map}
 use Rattle.pkops.specs.Limits.{Bounds}
 use Rattle.pkops.specs.Spelling.{Instruction}
 use Rattle.pkread.specs.Rows.{Sight}
-use Rattle.pkcheck.specs.Accepted.{Accepted}
+use Rattle.pkcheck.specs.Accepted.{AcceptedFrom}
 use Rattle.pkcheck.specs.Import.{asked_shown}
-use Rattle.pkcheck.specs.Knowledge.{Asked, Policy}
-use Rattle.pkcheck.specs.Refused.{Refused}
-use Rattle.pkcheck.specs.Runs.{Outcome, Raised, Stopped, Stuck, WentOn, start}
-use Rattle.pkcheck.specs.WholeRuns.{Ended, EndedBy, Reached, run}
-use Rattle.pkcheck.specs.declared.checking.No.{No}
-use Rattle.pkcheck.specs.declared.checking.Yes.{Yes}
-use Rattle.pkcheck.specs.declared.old_strings.OldStrings.TheVariants.{Unknown}
-use Rattle.pkload.specs.Bill.{Bill, all_billed, no_bill}
-use Rattle.pkload.specs.Tolls.{IsWithin}
-use Rattle.pkload.specs.Weighed.{AnswersAreNew, account_of}
+use Rattle.pkcheck.specs.Knowledge.{Policy}
+use Rattle.pkcheck.specs.RowOfPickles.{AcceptedRow, RefusedInRow, begins}
+use Rattle.pkcheck.specs.RowRuns.{Beginning, Pickle}
+use Rattle.pkcheck.specs.Runs.{Raised, Stopped, Stuck, WentOn}
+use Rattle.pkcheck.specs.Shape.{and_then}
+use Rattle.pkcheck.specs.WholeRuns.{Ended, EndedBy, Reached}
+use Rattle.pkcheck.specs.WithImports.{RefusedWithImports}
+use Rattle.pkcheck.specs.declared.check_loop.Extent.{Extent}
+use Rattle.pkcheck.specs.declared.check_loop.Extent.TheVariants.{OnePickle, ToTheEnd}
+use Rattle.pkcheck.specs.declared.check_loop.RefusedPickle.{RefusedPickle}
+use Rattle.pkcheck.specs.declared.loading.Loading.{Loading}
+use Rattle.pkcheck.specs.declared.old_strings.OldStrings.{OldStrings}
+use Rattle.pkcheck.specs.declared.row_of_pickles.YesAll.{YesAll}
+use Rattle.pkload.specs.Bill.{Bill, all_billed, bill_before}
+use Rattle.pkload.specs.Tolls.{IsWithin, KeepsWithin}
+use Rattle.pkload.specs.Weighed.{InEachNewRun, tally_since}
 use Rattle.pkload.specs.declared.tolls.Tolls.{Tolls}
 
--- what the events of the run count is within the limits
-abbrev pub EndsWithin : Tolls → Ended → Type 0
-EndsWithin tolls (Reached state) = IsWithin tolls (account_of state.events).tally
-EndsWithin tolls (EndedBy (Stopped result state)) =
-    IsWithin tolls (account_of state.events).tally
-EndsWithin tolls (EndedBy (Raised state)) = IsWithin tolls (account_of state.events).tally
-EndsWithin tolls (EndedBy (WentOn state)) = ⊥
-EndsWithin tolls (EndedBy (Stuck breach)) = ⊥
+-- what the events of a run count, behind those of earlier pickles, is within the limits
+abbrev pub EndsWithin : Tolls → ℕ → Ended → Type 0
+EndsWithin tolls earlier (Reached state) = IsWithin tolls (tally_since earlier state.events)
+EndsWithin tolls earlier (EndedBy (Stopped result state)) =
+    IsWithin tolls (tally_since earlier state.events)
+EndsWithin tolls earlier (EndedBy (Raised state)) =
+    IsWithin tolls (tally_since earlier state.events)
+EndsWithin tolls earlier (EndedBy (WentOn state)) = ⊥
+EndsWithin tolls earlier (EndedBy (Stuck breach)) = ⊥
 
--- the bill of these instructions is within the limits, and so is each of their runs whose answers
--- are new objects
-pub record CostsWithin (tolls : Tolls) (instructions : List Instruction) : Type 0 where
+-- the bill of the instructions of a pickle that begins like this is within the limits, and so is
+-- each of its runs whose answers are new objects
+pub record CostsWithin (setting : OldStrings) (beginning : Beginning) (tolls : Tolls)
+    (instructions : List Instruction) : Type 0 where
   pub bill : Bill
-  pub billed : all_billed instructions no_bill ≡ Ok bill
-  pub within : IsWithin tolls bill.tally
-  pub memory : bill.memory ≤ tolls.memory
-  pub runs : (outcomes : List Outcome) → AnswersAreNew Unknown instructions outcomes start
-      → EndsWithin tolls (run instructions outcomes start)
+  pub billed : and_then (bill_before beginning) (all_billed instructions) ≡ Ok bill
+  pub within : KeepsWithin tolls bill.tally bill.memory
+  pub runs : InEachNewRun setting beginning instructions (EndsWithin tolls)
 
--- a pickle was accepted, and keeps within the limits
-pub record AcceptedWithin (policy : Policy) (limits : Bounds) (tolls : Tolls) (old new : Sight)
-    (taken : ℕ) (imports : List Asked) : Type 0 where
-  pub accepted : Accepted Unknown policy limits old new taken imports
-  pub costs : CostsWithin tolls accepted.instructions
+-- each of these pickles, which follow those before, keeps within the limits
+abbrev pub KeepWithin : Loading → Tolls → List Pickle → List Pickle → Type 0
+KeepWithin loading tolls before [] = ⊤
+KeepWithin loading tolls before (pickle ∷ pickles) =
+    CostsWithin loading.old_strings (begins loading.memo before) tolls pickle.instructions
+    × KeepWithin loading tolls (before ++ pickle ∷ []) pickles
 
--- the answer is that of a check, and an accepted pickle keeps within the limits
-abbrev pub IsRightLoading : Policy → Bounds → Tolls → Sight → Sight → Result Yes No → Type 0
-IsRightLoading policy limits tolls old new answer =
-    MatchResult answer
-    (λ yes. AcceptedWithin policy limits tolls old new yes.taken yes.imports)
-    (λ no. Refused Unknown policy limits old new no.at no.reason (option_map asked_shown no.pair))
+module _ (loading : Loading) (policy : Policy) (limits : Bounds) (tolls : Tolls) (old new : Sight)
+  where
+    -- the pickles were accepted, and each keeps within the limits
+    abbrev pub AcceptedWithin : Extent → YesAll → Type 0
+    AcceptedWithin ToTheEnd accepted =
+        (right : AcceptedRow loading policy limits old new accepted.taken accepted.pickles
+        accepted.imports)
+        × KeepWithin loading tolls [] right.row
+    AcceptedWithin OnePickle accepted =
+        (right : AcceptedFrom loading.old_strings (begins loading.memo []) policy limits old new
+        accepted.taken accepted.imports)
+        × CostsWithin loading.old_strings (begins loading.memo []) tolls right.instructions
+
+    -- a pickle was refused, whatever it costs
+    abbrev pub IsRefused : Extent → RefusedPickle → Type 0
+    IsRefused ToTheEnd refused =
+        RefusedInRow loading policy limits old new refused.pickle refused.no.at refused.no.reason
+        (option_map asked_shown refused.no.pair)
+    IsRefused OnePickle refused =
+        RefusedWithImports 0 loading.old_strings (begins loading.memo []) policy limits old new
+        refused.no.at refused.no.reason (option_map asked_shown refused.no.pair) refused.imports
+
+    -- the answer is that of the check, and accepted pickles keep within the limits
+    abbrev pub IsRightLoading : Extent → Result YesAll RefusedPickle → Type 0
+    IsRightLoading extent answer =
+        MatchResult answer (AcceptedWithin extent) (IsRefused extent)

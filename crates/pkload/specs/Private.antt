@@ -3,4 +3,5 @@ pub mod Packed
 pub mod Shown
 pub mod Gathered
 pub mod Billing
+pub mod Told
 pub mod Meter

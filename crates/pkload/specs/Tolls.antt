@@ -18,6 +18,17 @@ standard = record {
   builds = false;
 }
 
+-- no limits
+abbrev pub unlimited : Tolls
+unlimited = record {
+  levels = 4_294_967_295;
+  weight = 4_294_967_295;
+  work = 18_446_744_073_709_551_615;
+  clash = 18_446_744_073_709_551_615;
+  memory = 18_446_744_073_709_551_615;
+  builds = true;
+}
+
 -- each count is at most its limit, and BUILD takes no imported object unless it may
 pub record IsWithin (tolls : Tolls) (tally : Tally) : Type 0 where
   pub levels : tally.levels ≤ tolls.levels

@@ -1,12 +1,14 @@
 -- What the objects of a run cost, read off its events, and the runs whose answers are new objects.
 use Rattle.std.specs.Prelude.{ℕ, ◌≤◌, ⊤, Bool, true, false, if◌then◌else◌, ltb, List, [], ◌∷◌, ◌++◌}
-use Rattle.std.specs.Prelude.{length, map, set, Option, Some, None, slice_get, unwrap_or}
+use Rattle.std.specs.Prelude.{◌≡◌, drop, length, map, set, take, Option, Some, None, slice_get}
+use Rattle.std.specs.Prelude.{unwrap_or}
 use Rattle.pkops.specs.Spelling.{Instruction}
 use Rattle.pkcheck.specs.declared.old_strings.OldStrings.{OldStrings}
 use Rattle.pkcheck.specs.Effects.{effect_as}
 use Rattle.pkcheck.specs.Runs.{Event, Import, Did, State, Outcome, Raise, Go, Stepped, WentOn}
-use Rattle.pkcheck.specs.Runs.{Raised, Stopped, Stuck, step_as, effect_asks}
-use Rattle.pkcheck.specs.WholeRuns.{first_outcome, outcomes_after}
+use Rattle.pkcheck.specs.RowRuns.{Beginning, Afresh, Behind, run_row, sequences_of}
+use Rattle.pkcheck.specs.Runs.{Raised, Stopped, Stuck, step_as, effect_asks, start}
+use Rattle.pkcheck.specs.WholeRuns.{Ended, EndedBy, first_outcome, outcomes_after, run_as}
 use Rattle.pkload.specs.Heft.{Heft, heft_of, imports_object}
 use Rattle.pkload.specs.declared.tally.Tally.{Tally}
 use Rattle.pkload.specs.Tally.{no_tally, with_operation}
@@ -62,6 +64,12 @@ no_account = record { hefts = []; tally = no_tally }
 abbrev pub account_of : List Event → Account
 account_of events = account_along no_account events
 
+-- what is counted behind so many events
+abbrev pub tally_since : ℕ → List Event → Tally
+tally_since count events =
+    (account_along (record { hefts = (account_of (take count events)).hefts; tally = no_tally })
+    (drop count events)).tally
+
 -- the outcome answers none of the earlier objects
 abbrev pub IsNew : State → Outcome → Type 0
 IsNew state Raise = ⊤
@@ -87,3 +95,33 @@ AnswersAreNew setting (i ∷ instructions) outcomes state =
     × IfWentOn (step_as setting i state (first_outcome outcomes))
     (AnswersAreNew setting instructions
     (outcomes_after (effect_asks (effect_as setting i)) outcomes))
+
+-- the property holds where the next pickle begins, if the run stopped
+abbrev pub IfStopped : Ended → (State → Type 0) → Type 0
+IfStopped (EndedBy (Stopped result state)) Holds =
+    Holds (record state { shape = record { entries = []; memo = state.shape.memo } })
+IfStopped ended Holds = ⊤
+
+-- each outcome that the runs of these pickles use answers a new object, or raises
+abbrev pub RowIsNew :
+    OldStrings → List (List Instruction) → List (List Outcome) → State → Type 0
+RowIsNew setting [] outcomes state = ⊤
+RowIsNew setting (pickle ∷ pickles) [] state = ⊤
+RowIsNew setting (pickle ∷ pickles) (first ∷ others) state =
+    AnswersAreNew setting pickle first state
+    × IfStopped (run_as setting pickle first state) (RowIsNew setting pickles others)
+
+-- every run of these instructions that begins like this, and whose answers are new objects, has this
+-- property, given the number of the events before it
+abbrev pub InEachNewRun :
+    OldStrings → Beginning → List Instruction → (ℕ → Ended → Type 0) → Type 0
+InEachNewRun setting Afresh instructions Holds =
+    (outcomes : List Outcome)
+    → AnswersAreNew setting instructions outcomes start
+    → Holds 0 (run_as setting instructions outcomes start)
+InEachNewRun setting (Behind pickles) instructions Holds =
+    (earlier : List (List Outcome)) (first : State) (outcomes : List Outcome)
+    → run_row setting (sequences_of pickles) earlier start ≡ Some first
+    → RowIsNew setting (sequences_of pickles) earlier start
+    → AnswersAreNew setting instructions outcomes first
+    → Holds (length first.events) (run_as setting instructions outcomes first)

@@ -1,69 +1,73 @@
 //! A check that also bounds what loading costs.
 
 ghost use Rattle.std.specs.Prelude.{◌≡◌, IfOk, None};
-ghost use Rattle.pkops.specs.Limits.{holding_all};
 ghost use Rattle.pkread.specs.Rows.{sight};
 ghost use Rattle.pkcheck.specs.Import.{policy_of};
 ghost use Rattle.pkload.specs.Loading.{IsRightLoading};
-ghost use Rattle.pkload.specs.Tolls.{KeepsWithin};
 
 use crate::meter::Meter;
 use crate::tolls::{Excess, Tolls};
-use pkcheck::{No, Policy, Yes, check_heard};
-use pkops::Limits;
+use pkcheck::{Policy, RefusedPickle, Terms, YesAll, check_pickles};
 use pkread::Source;
 use std::alloc::Global;
 
-/// A limit that a pickle exceeds, and the offset of the instruction that exceeds it.
+/// A pickle that exceeds a limit on what loading costs.
 #[derive(Clone, Copy, Debug, PartialEq, Eq)]
 pub struct Costly {
+    /// The number of the pickle, counted from 0. Those before it are accepted.
+    pub pickle: u64,
+    /// The offset of the instruction, counted from the first byte taken from the source.
     pub at: u64,
+    /// The limit that it exceeds.
     pub excess: Excess,
 }
 
-/// Checks the pickle at the start of a source as [`check`](pkcheck::check) does, and bounds what
-/// its keys cost. If the answer is yes, then in every run whose calls and imports answer new
-/// objects, each key is at most as deep and as heavy as `tolls` allow, all keys together cost at
-/// most the limits, and BUILD never takes an imported object unless it may. Payloads are held
-/// instead of skipped, so `counted` limits all of them.
+/// Checks pickles as [`check_pickles`] does, and bounds what the keys of each cost. If the answer
+/// is yes, then in every run whose calls and imports answer new objects, each key is at most as deep
+/// and as heavy as `tolls` allow, all keys of a pickle together cost at most the limits, and BUILD
+/// never takes an imported object unless it may.
 ///
 /// # Errors
 ///
-/// The first limit that an accepted instruction exceeds. Whatever else `check` refuses at this
-/// instruction or before it comes first. The source is left where the check stopped. The contract
-/// specifies answers, not this error; tests show which limit it names.
+/// The first limit that an instruction exceeds which the check accepts. Whatever else the check
+/// refuses at this instruction or before it comes first. The contract specifies answers, not this
+/// error; tests show which limit it names.
 pub fn check_loading<R: Source>(
     alloc: Global,
     source: &mut R,
     policy: &Policy<'_>,
-    limits: &Limits,
+    terms: &Terms,
     tolls: &Tolls,
-) -> Result<Result<Yes, No>, Costly>
-    ensures { IfOk result (IsRightLoading (policy_of policy.now) (holding_all limits.now) tolls.now
-        (sight R.left R.failures source.old) (sight R.left R.failures source.new)) }
+) -> Result<Result<YesAll, RefusedPickle>, Costly>
+    ensures { IfOk result (IsRightLoading terms.now.loading (policy_of policy.now)
+        terms.now.limits tolls.now (sight R.left R.failures source.old)
+        (sight R.left R.failures source.new) terms.now.extent) }
 {
-    let mut meter = Meter::new(alloc, tolls);
-    match check_heard(alloc, source, policy, limits, &mut meter) {
+    let mut meter = Meter::new(alloc, tolls, terms.loading.memo);
+    match check_pickles(alloc, source, policy, terms, &mut meter) {
         Ok(answer) => settled(answer, &meter),
-        Err(excess) => Err(Costly {
-            at: meter.at(),
-            excess,
-        }),
+        Err(never) => match never {},
     }
 }
 
 /// The answer, unless a limit was exceeded before the check refused.
-fn settled(answer: Result<Yes, No>, meter: &Meter) -> Result<Result<Yes, No>, Costly>
+fn settled(
+    answer: Result<YesAll, RefusedPickle>,
+    meter: &Meter,
+) -> Result<Result<YesAll, RefusedPickle>, Costly>
     ensures same { IfOk result (λ settled. settled ≡ answer) }
-    ensures within { IfOk result (λ settled. IfOk settled (λ _. (meter.now.excess ≡ None)
-        × KeepsWithin meter.now.tolls meter.now.bill.tally meter.now.bill.memory)) }
+    ensures none { IfOk result (λ settled. IfOk settled (λ _. meter.now.excess ≡ None)) }
 {
     let Some(excess) = meter.excess() else {
         return Ok(answer);
     };
-    let at = meter.at();
+    let costly = Costly {
+        pickle: meter.pickle(),
+        at: meter.at(),
+        excess,
+    };
     match answer {
-        Err(no) if no.at <= at => Ok(Err(no)),
-        _ => Err(Costly { at, excess }),
+        Err(refused) if refused.no.at <= costly.at => Ok(Err(refused)),
+        _ => Err(costly),
     }
 }

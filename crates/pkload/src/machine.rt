@@ -4,38 +4,44 @@ ghost use Rattle.std.specs.Prelude.{◌≡◌, ◌≤◌, ◌++◌, List, Ok, On
 ghost use Rattle.pkops.specs.Inst.{instruction_of};
 ghost use Rattle.pkops.specs.Operands.{memo_number};
 ghost use Rattle.pkcheck.specs.Effects.{effect_of};
+ghost use Rattle.pkcheck.specs.Reports.{Skipped};
 ghost use Rattle.pkcheck.specs.Shape.{moved, operands, put, top};
-ghost use Rattle.pkload.specs.Bill.{billed_by, move_billed, no_bill, stop_billed};
+ghost use Rattle.pkload.specs.Bill.{billed, billed_by, move_billed, no_bill, stop_billed};
 ghost use Rattle.pkload.specs.Heft.{Heft};
 ghost use Rattle.pkload.specs.Memory.{number_kept};
 ghost use Rattle.pkload.specs.Private.Billing.{heft_pushed, operated_on};
 ghost use Rattle.pkload.specs.Private.Gathered.{AreOf};
+ghost use Rattle.pkload.specs.Private.Told.{next_in, told_billed};
 ghost use Rattle.pkload.specs.declared.tally.Tally.{Tally as Counted};
 
 use crate::action::{Action, action_of};
 use crate::gathering::take;
 use crate::halt::Halt;
 use crate::making::{argument_size, counted, made};
-use crate::memory::{after_move, after_operation, after_stop, number_kept};
+use crate::memory::{
+    after_move, after_operation, after_skipped, after_stop, bytes_before, number_kept,
+};
 use crate::moves::apply;
 use crate::operands::Operands;
 use crate::packed::Packed;
 use crate::stack::Stack;
 use crate::tally::Tally;
+use pkcheck::Memo;
 use pkcheck::effect::{Move, Takes};
-use pkops::Inst;
+use pkops::{Inst, Op};
 use std::alloc::Global;
 use std::collections::BTreeMap;
 use std::marker::Model;
 
 /// The cost of each object on the stack and in the memo, what was counted, the memory that loading
-/// takes, and the highest memo number so far.
+/// takes, the highest memo number so far, and whether the pickle stopped.
 pub struct Machine {
     stack: Stack,
     memo: BTreeMap<u32, Packed>,
     tally: Tally,
     memory: u64,
     highest: u64,
+    ended: bool,
 }
 
 impl Drop for Machine {
@@ -46,6 +52,7 @@ impl Drop for Machine {
             tally: _tally,
             memory: _memory,
             highest: _highest,
+            ended: _ended,
         } = self;
     }
 }
@@ -60,6 +67,7 @@ impl Model for Machine {
       tally = m.tally;
       memory = m.memory;
       highest = m.highest;
+      ended = m.ended;
     } };
 }
 
@@ -74,6 +82,7 @@ impl Machine {
             tally: Tally::new(),
             memory: 0,
             highest: 0,
+            ended: false,
         }
     }
 
@@ -89,6 +98,31 @@ impl Machine {
         ensures { result ≡ self.now.memory }
     {
         self.memory
+    }
+
+    /// Whether the pickle stopped.
+    #[inline]
+    pub fn ended(&self) -> bool
+        ensures { result ≡ self.now.ended }
+    {
+        self.ended
+    }
+
+    /// Begins the next pickle of a row.
+    pub fn begin_next(&mut self, memo: Memo)
+        ensures { self.new ≡ next_in memo self.old }
+    {
+        match memo {
+            Memo::Fresh => {
+                self.memo.clear();
+                self.highest = 0;
+            }
+            Memo::Kept => {}
+        }
+        self.stack.clear();
+        self.tally = Tally::new();
+        self.memory = 0;
+        self.ended = false;
     }
 
     /// Executes an operation.
@@ -111,6 +145,7 @@ impl Machine {
             return Err(Halt::Lost);
         };
         self.memory = after_stop(self.memory)?;
+        self.ended = true;
         Ok(())
     }
 
@@ -128,8 +163,32 @@ impl Machine {
         apply(&mut self.stack, &mut self.memo, what, number)
     }
 
+    /// Bills an instruction with this opcode and so many bytes, whose payload is skipped.
+    pub fn step_skipped(&mut self, op: Op, count: u64) -> Result<(), Halt>
+        ensures { OnOk result (told_billed (Skipped op count) self.old ≡ Ok self.new) }
+    {
+        if self.ended {
+            return Err(Halt::Lost);
+        }
+        let size = count.saturating_sub(bytes_before(op));
+        let none = Operands::none(self.tally);
+        self.memory = after_skipped(op, size, self.memory)?;
+        self.tally = counted(op, &none, self.tally);
+        self.stack.push(made(op, size, &none))
+    }
+
     /// Bills an instruction.
     pub fn step(&mut self, inst: &Inst<'_>) -> Result<(), Halt>
+        ensures { OnOk result (billed (instruction_of inst.now) self.old ≡ Ok self.new) }
+    {
+        if self.ended {
+            return Err(Halt::Lost);
+        }
+        self.act(inst)
+    }
+
+    /// Does what the opcode says.
+    fn act(&mut self, inst: &Inst<'_>) -> Result<(), Halt>
         ensures { OnOk result (billed_by (effect_of (instruction_of inst.now).op)
             (instruction_of inst.now) self.old ≡ Ok self.new) }
     {

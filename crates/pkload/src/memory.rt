@@ -11,6 +11,7 @@ ghost use Rattle.pkload.specs.Memory.{held_memory, line_memory, move_memory, num
 ghost use Rattle.pkload.specs.Memory.{operation_memory, plain_memory, set_memory, text_memory};
 ghost use Rattle.pkload.specs.Memory.{written_memory};
 ghost use Rattle.pkload.specs.Private.Gathered.{AreOf};
+ghost use Rattle.pkload.specs.Private.Told.{bytes_before, skipped_memory};
 ghost use Rattle.pkload.specs.declared.tally.Tally.{Tally as Counted};
 
 use crate::halt::Halt;
@@ -226,4 +227,29 @@ pub fn after_move(what: Move, grown: u64, memory: u64) -> Result<u64, Halt>
         _ => 16,
     };
     plus(memory, more)
+}
+
+/// The bytes of an instruction with a payload that may be skipped, before its payload.
+#[inline]
+pub fn bytes_before(op: Op) -> u64
+    ensures { result ≡ bytes_before op }
+{
+    match op {
+        Op::ShortBinBytes => 2,
+        Op::BinBytes => 5,
+        _ => 9,
+    }
+}
+
+/// The memory after an instruction that makes an object of a payload of this size.
+pub fn after_skipped(op: Op, size: u64, memory: u64) -> Result<u64, Halt>
+    ensures { IfOk result (λ sum. sum ≡ memory + skipped_memory op size) }
+{
+    if size > MOST {
+        return Err(Halt::Lost);
+    }
+    plus(
+        memory,
+        16 + (plain_memory(op, size) + (held_memory(op, 0) + 0)),
+    )
 }

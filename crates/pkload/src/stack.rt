@@ -44,6 +44,13 @@ impl Stack {
         }
     }
 
+    /// Removes all entries.
+    pub fn clear(&mut self)
+        ensures { self.new ≡ [] }
+    {
+        self.codes.clear();
+    }
+
     /// Pushes a code.
     #[tactic(auto, using(crate::proofs::Slots::shown_append))]
     fn push_code(&mut self, code: u32) -> Result<(), Halt>

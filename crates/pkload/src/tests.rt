@@ -1,7 +1,7 @@
 //! Worked pickles, with what their keys cost.
 
 use crate::{Costly, Excess, Tolls, check_loading};
-use pkcheck::Policy;
+use pkcheck::{Extent, Loading, Memo, OldStrings, Policy, Terms};
 use pkops::Limits;
 use pkread::{Memory, Reason};
 use std::test::Fail;
@@ -25,20 +25,29 @@ fn few() -> Tolls {
     }
 }
 
-fn answer_of(rt: &HostRuntime, bytes: &[u8], tolls: &Tolls) -> Answer {
+fn terms(memo: Memo, extent: Extent) -> Terms {
+    Terms {
+        limits: Limits::STANDARD,
+        loading: Loading {
+            memo,
+            old_strings: OldStrings::Unknown,
+        },
+        extent,
+    }
+}
+
+fn answer_in(rt: &HostRuntime, bytes: &[u8], tolls: &Tolls, terms: &Terms) -> Answer {
     let mut source = Memory::new(bytes);
-    let answer = check_loading(
-        rt.alloc(),
-        &mut source,
-        &Policy::AnyImport,
-        &Limits::STANDARD,
-        tolls,
-    );
+    let answer = check_loading(rt.alloc(), &mut source, &Policy::AnyImport, terms, tolls);
     match answer {
         Ok(Ok(yes)) => Answer::Yes(yes.taken),
-        Ok(Err(no)) => Answer::No(no.at, no.reason),
-        Err(Costly { at, excess }) => Answer::Costs(at, excess),
+        Ok(Err(refused)) => Answer::No(refused.no.at, refused.no.reason),
+        Err(Costly { at, excess, .. }) => Answer::Costs(at, excess),
     }
+}
+
+fn answer_of(rt: &HostRuntime, bytes: &[u8], tolls: &Tolls) -> Answer {
+    answer_in(rt, bytes, tolls, &terms(Memo::Fresh, Extent::OnePickle))
 }
 
 const WITHIN: [(&[u8], u64); 7] = [
@@ -92,4 +101,49 @@ fn thirty_doublings_are_refused(rt: HostRuntime) -> Result<(), Fail> {
     let answer = answer_of(&rt, &bytes, &Tolls::standard());
     assert_eq!(rt; answer, Answer::Costs(63, Excess::HeavyKeys));
     Ok(())
+}
+
+#[test]
+fn each_pickle_of_a_row_begins_anew(rt: HostRuntime) {
+    let tolls = Tolls { work: 1, ..few() };
+    let row = terms(Memo::Kept, Extent::ToTheEnd);
+    assert_eq!(rt;
+        answer_in(&rt, b"})\x94Ns.}h\0Ns.", &tolls, &row),
+        Answer::Yes(12)
+    );
+}
+
+#[test]
+fn the_memo_keeps_what_objects_cost(rt: HostRuntime) {
+    let row = terms(Memo::Kept, Extent::ToTheEnd);
+    let deep = answer_in(&rt, b")\x85\x85\x94.}h\0Ns.", &few(), &row);
+    assert_eq!(rt; deep, Answer::Costs(9, Excess::DeepKey));
+}
+
+#[test]
+fn a_skipped_payload_weighs_by_its_length(rt: HostRuntime) -> Result<(), Fail> {
+    let mut bytes = Vec::new(rt.alloc());
+    bytes.extend_from_slice(b"}C\xff")?;
+    for _k in 0..255 {
+        bytes.push(0)?;
+    }
+    bytes.extend_from_slice(b"Ns.")?;
+    let tolls = Tolls { weight: 3, ..few() };
+    assert_eq!(rt; answer_of(&rt, &bytes, &few()), Answer::Yes(261));
+    assert_eq!(rt;
+        answer_of(&rt, &bytes, &tolls),
+        Answer::Costs(259, Excess::HeavyKeys)
+    );
+    Ok(())
+}
+
+#[test]
+fn memory_is_limited(rt: HostRuntime) {
+    let sets: &[u8] = b"](\x8f\x8fe.";
+    let tolls = |memory| Tolls { memory, ..few() };
+    assert_eq!(rt; answer_of(&rt, sets, &tolls(744)), Answer::Yes(6));
+    assert_eq!(rt;
+        answer_of(&rt, sets, &tolls(743)),
+        Answer::Costs(5, Excess::MuchMemory)
+    );
 }

@@ -1,7 +1,7 @@
 //! Limits on what loading a pickle may cost.
 
-ghost use Rattle.std.specs.Prelude.{◌≡◌, MatchOption};
-ghost use Rattle.pkload.specs.Tolls.{Exceeds, KeepsWithin, standard};
+ghost use Rattle.std.specs.Prelude.{◌≡◌, MatchOption, None};
+ghost use Rattle.pkload.specs.Tolls.{Exceeds, KeepsWithin, standard, unlimited};
 
 use crate::tally::Tally;
 
@@ -56,10 +56,25 @@ impl Tolls {
         }
     }
 
+    /// No limits, whatever BUILD takes.
+    pub fn unlimited() -> Tolls
+        ensures { result ≡ unlimited }
+    {
+        Tolls {
+            levels: u32::MAX,
+            weight: u32::MAX,
+            work: u64::MAX,
+            clash: u64::MAX,
+            memory: u64::MAX,
+            builds: true,
+        }
+    }
+
     /// The first limit that a tally or this much memory exceeds.
     pub(crate) fn excess_of(&self, tally: &Tally, memory: u64) -> Option<Excess>
-        ensures { MatchOption result (KeepsWithin self.now tally.now memory)
+        ensures excess { MatchOption result (KeepsWithin self.now tally.now memory)
             (λ excess. Exceeds excess self.now tally.now memory) }
+        ensures unlimited { self.now ≡ unlimited → result ≡ None }
     {
         if tally.levels > self.levels {
             return Some(Excess::DeepKey);

@@ -40,6 +40,7 @@ operated_on leaves i bill found =
       tally = with_operation i.op taken.operands bill.tally;
       memory = bill.memory + operation_memory i (length taken.operands);
       highest = bill.highest;
+      ended = bill.ended;
     }))
 
 -- operands were found, with these entries below them, and this was gathered of them
