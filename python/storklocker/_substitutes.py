@@ -5,8 +5,8 @@ An allow list is about names. Some listed names do harm if a pickle calls them a
 name is imported as a substitute of ours, which checks its arguments, the very objects, when it is
 called. BUILD isn't a call of a name. The reader that this module feeds gets each BUILD as the
 persistent id (receiver, state), in otherwise unchanged instructions, so that the state is judged
-before it is set. Where a substitute would be left in what is loaded, the persistent id of three has
-the reader put the real object there.
+before it is set. Where a substitute would be left in what is loaded, a persistent id of three parts
+has the reader put the real object there.
 """
 
 from __future__ import annotations

@@ -15,6 +15,7 @@ from ._checking import check_row
 from ._reading import FIRST_BLOCK, block_of, can_step_back, too_long
 from ._reasons import Reason
 from ._storklocker import verdict, walked
+from ._substitute import Substitute
 from ._substitutes import Reader
 from ._telling import Misuses
 from ._walking import Walk
@@ -271,8 +272,9 @@ class SubstitutingUnpickler(GuardedUnpickler):
 
         @property
         def memo(self) -> Dict[int, Any]:
-            """A copy of the memo."""
-            return self._reader.copied_memo()
+            """A copy of the memo, without the names that have substitutes."""
+            memo = self._reader.copied_memo()
+            return {key: it for key, it in memo.items() if not isinstance(it, Substitute)}
 
     def find_class(self, module: str, name: str, /) -> Any:
         return Reader.find_class(self._reader, module, name)

@@ -166,6 +166,9 @@ class Values(unittest.TestCase):
         unpickler = GUARD.Unpickler(io.BytesIO(file.getvalue()))
         for value in row:
             self.assertEqual(unpickler.load(), value)
+        if hasattr(pickle.Unpickler, "memo"):
+            self.assertIn([bytes], unpickler.memo.values())
+            self.assertEqual(substitutes_in(unpickler.memo), [])
         data = b"\x80\x04" + GETATTR + b"\x940N.\x80\x04]h\0a."
         unpickler = GUARD.Unpickler(io.BytesIO(data))
         self.assertIsNone(unpickler.load())
