@@ -131,7 +131,10 @@ def legacy(data):
     return b"".join(front) + data + pickle.dumps(["1"], 2) + struct.pack("<q2f", 2, 1, 1)
 
 
+FONT = b"\x80\x01%c\x15\0\0%%!PS-AdobeFont-1.1: CMR10 1.00B\n%%%%CreationDate: 1992 Feb 19\n"
+"""The first bytes of a Type 1 font, which begins like a pickle of protocol 1."""
 HOSTILE = {
+    "protocol 0": b"\x80\0" + RUNS, "protocol 1": b"\x80\1" + RUNS,
     "an unknown import in front of a fault": b"S'posix'\nS'system'\n\x93S'echo\n\x85R",
     "arrays": npy("'|O'", EVIL), "a type by name": npy("'object'", EVIL),
     "a type with a shape": npy("('object', (1,))", EVIL), "a set": npy("{'aO'}", EVIL),
@@ -221,6 +224,10 @@ class Readings(unittest.TestCase):
         ):
             danger = reports(text, None)[0]
             self.assertIn("danger", {it.severity for it in danger.findings})
+
+    def test_fonts(self):
+        alarms = [code for code in range(256) if is_finding(FONT % code)]
+        self.assertEqual(alarms, [0x82, 0x83, 0x84])  # which import what is registered
 
     def test_a_text_that_a_reader_gets_beyond(self):
         text = b"ccollections\nOrderedDict\nI1_0\n0S'posix'\nS'system'\n\x93(S'echo'\ntR."

@@ -3,6 +3,7 @@
 from __future__ import annotations
 
 import itertools
+import re
 from typing import TYPE_CHECKING, Dict, Optional, Tuple
 
 from .._answers import Verdict
@@ -25,6 +26,8 @@ that is checked in one call.
 """
 _ONE_BY_ONE = 1000
 """How many pickles of a row are looked at one by one, before the rest is tried in one call."""
+_CLAIM = re.compile(rb"\x80[\x02-\x05]")
+"""How pickles of protocol 2 and later begin. Those of 0 and 1 have no PROTO, but fonts have it."""
 _IMPORTING = (Reason.ImportOffList, Reason.UnknownImport, Reason.ExtensionCode)
 
 
@@ -179,7 +182,7 @@ def row_of(piece: Piece, allow: Optional[AllowList], budget: Budget) -> Optional
     each.
     """
     front = piece.source.front()
-    is_claimed = piece.is_claimed or (front[:1] == b"\x80" and len(front) > 1 and front[1] <= 5)
+    is_claimed = piece.is_claimed or _CLAIM.match(front) is not None
     if not is_claimed and not _may_be_pickle(piece, front):
         return None
     row = Row(piece._replace(is_claimed=is_claimed), allow, budget)
