@@ -1,14 +1,18 @@
 """`scan` on files of joblib, whose arrays stand raw between the instructions of a pickle."""
 
+import bz2
 import io
 import pickle
 import random
+import sys
+import types
 import unittest
 import unittest.mock
 
 import storklocker
-from common import SEEDS
+from common import SEEDS, needs
 from storklocker._storklocker import followed
+from storklocker.contrib.joblib import load_joblib
 from storklocker.scanning.joblib_cutting import Cutter
 from storklocker.scanning.joblib_types import NotJoblib
 from storklocker.scanning.judging import Question, reports_of
@@ -171,6 +175,65 @@ class Hastened(unittest.TestCase):
                       (b"N", 0, [], []), (b"N", 0, [], None), (bytearray(b"N"), 0, [], {})):
             with self.assertRaises((TypeError, ValueError)):
                 followed(*words, object(), object(), list)
+
+
+class FakeZstd:
+    """Stands for `ZstdDecompressor`: bzip2 behind the magic of zstd."""
+
+    MAGIC = b"\x28\xb5\x2f\xfd"
+
+    class ZstdError(Exception):
+        pass
+
+    def __init__(self):
+        self.front, self.made = 0, bz2.BZ2Decompressor()
+
+    def __getattr__(self, name):
+        return getattr(self.made, name)
+
+    def decompress(self, data, most):
+        skipped = min(len(self.MAGIC) - self.front, len(data))
+        self.front += skipped
+        try:
+            return self.made.decompress(data[skipped:], most)
+        except OSError as error:
+            raise self.ZstdError(str(error)) from error
+
+
+class Unpacking(unittest.TestCase):
+    """What joblib loads if somebody has registered a compressor."""
+
+    def load(self, data, **modules):
+        guard = storklocker.Guard(storklocker.AllowList([]), max_bytes=1 << 16)
+        names = {"compression.zstd": None, "backports": None, **modules}
+        with unittest.mock.patch.dict(sys.modules, names):
+            return load_joblib(data, guard)
+
+    def test_zstd(self):
+        data = FakeZstd.MAGIC + bz2.compress(pickle.dumps([1, 2]))
+        zstd = types.SimpleNamespace(ZstdDecompressor=FakeZstd, ZstdError=FakeZstd.ZstdError)
+        found = {"backports": types.SimpleNamespace(zstd=zstd), "backports.zstd": zstd}
+        self.assertEqual(self.load(data, **found), [1, 2])
+        large = FakeZstd.MAGIC + bz2.compress(bytes(1 << 20))
+        for bad, said in ((data[:20], "truncated"), (data[:6] + data[7:], "can't be read"),
+                          (large, "max_bytes"), (data + b"N", "bytes follow")):
+            with self.assertRaisesRegex(pickle.UnpicklingError, said):
+                self.load(bad, **found)
+        with self.assertRaisesRegex(pickle.UnpicklingError, "this Python can't unpack the file"):
+            self.load(data)
+
+    @needs("module:lz4")
+    def test_changed_lz4(self):
+        from lz4 import frame
+
+        data = frame.compress(pickle.dumps(list(range(300))))
+        self.assertEqual(self.load(data), list(range(300)))
+        for at in range(len(data)):
+            for bad in (data[:at], data[:at] + bytes([data[at] ^ 0x55]) + data[at + 1 :]):
+                try:
+                    self.load(bad)
+                except pickle.UnpicklingError:
+                    continue
 
 
 if __name__ == "__main__":

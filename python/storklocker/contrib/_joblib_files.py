@@ -32,6 +32,15 @@ def _lz4() -> Any:
     return frame.LZ4FrameDecompressor()
 
 
+def _zstd() -> Any:
+    """For files of a compressor that was registered with joblib."""
+    try:
+        from compression import zstd  # from Python 3.14 on
+    except ImportError:
+        from backports import zstd
+    return zstd.ZstdDecompressor()
+
+
 _BEGIN: Dict[bytes, Callable[[], Any]] = {
     b"x": lambda: zlib.decompressobj(ZLIB),
     b"\x1f\x8b": lambda: zlib.decompressobj(GZIP),
@@ -39,6 +48,7 @@ _BEGIN: Dict[bytes, Callable[[], Any]] = {
     b"\xfd7zXZ": xz,
     b"]\0": lzma_alone,
     b"\x04\x22\x4d\x18": _lz4,
+    b"\x28\xb5\x2f\xfd": _zstd,
 }
 """The first bytes by which joblib knows what is packed, and what unpacks it."""
 _STEP = 1 << 20

@@ -18,6 +18,8 @@ from .source import BLOCK, Source, in_memory
 MEMORY = 1 << 28
 """The most memory for the window of an xz or LZMA stream."""
 NO_MODULE = "this Python can't unpack it"
+_FAULTS = {"lzma": "LZMAError", "compression.zstd": "ZstdError", "backports.zstd": "ZstdError"}
+"""The errors of modules that unpack."""
 _STEP = 1 << 12
 """What goes in and comes out at once. A step that meets a fault loses its bytes, and readers take
 steps of 8 KiB: none may get further.
@@ -66,10 +68,10 @@ def unpack(
 
 
 def _faults() -> Tuple[Type[Exception], ...]:
-    """What decompressors raise."""
-    lzma = sys.modules.get("lzma")
-    more = () if lzma is None else (lzma.LZMAError,)
-    return (OSError, ValueError, EOFError, zlib.error, MemoryError, *more)
+    """What decompressors raise; that of LZ4 a RuntimeError."""
+    found = {name: sys.modules.get(name) for name in _FAULTS}
+    more = (getattr(module, _FAULTS[name]) for name, module in found.items() if module)
+    return (OSError, ValueError, EOFError, zlib.error, MemoryError, RuntimeError, *more)
 
 
 class _Format(NamedTuple):
