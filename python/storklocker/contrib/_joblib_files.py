@@ -4,6 +4,7 @@ from __future__ import annotations
 
 import contextlib
 import functools
+import importlib
 import io
 import os
 import zlib
@@ -35,9 +36,9 @@ def _lz4() -> Any:
 def _zstd() -> Any:
     """For files of a compressor that was registered with joblib."""
     try:
-        from compression import zstd  # from Python 3.14 on
+        zstd: Any = importlib.import_module("compression.zstd")  # from Python 3.14 on
     except ImportError:
-        from backports import zstd
+        zstd = importlib.import_module("backports.zstd")
     return zstd.ZstdDecompressor()
 
 
