@@ -15,9 +15,9 @@ import time
 from pathlib import Path
 
 HERE = Path(__file__).resolve().parent
-SECONDS = 300
+SECONDS = 900
 # They mostly wait for their servers.
-TOGETHER = 3
+TOGETHER = 2
 
 
 def is_missing(name):

@@ -174,6 +174,13 @@ def loads(data: bytes, allow: AllowList, is_old: bool, **named: Any) -> Any:
     return (_Renaming if is_old else Reader)(allow, **named).loaded(data, 0, is_old)
 
 
+def named(module: str, name: str, allow: AllowList) -> Any:
+    """What a pickle gets for a listed name, to call it."""
+    reader = Reader(allow)
+    reader.loaded(b"\x80\x04N.", 0, False)  # from protocol 4 on, names have dots
+    return reader.find_class(module, name)
+
+
 TABLE = {**_arrays.TABLE, **_builtins.TABLE}
 """The substitutes, by the pair that imports them."""
 _by_id: Dict[int, Substitute] = {}

@@ -13,6 +13,7 @@ from .. import Guard
 from .._answers import Refused, Verdict
 from .._reasons import Reason
 from .._refusal import CONTEXT, Refusal
+from .._substitutes import named as substitute_named
 
 _STEADY = (tuple, list, dict, set, frozenset, bytes, bytearray, str, deque, OrderedDict)
 """Types whose iteration gives the same items again."""
@@ -116,7 +117,11 @@ class Names:
         """What the guard gives a pickle for a name: perhaps a substitute. It isn't counted."""
         texts = (word.encode() for word in (module, name))
         words = b"".join(b"X" + len(text).to_bytes(4, "little") + text for text in texts)
-        return Guard.loads(self._guard._now(), b"\x80\x04" + words + b"\x93.")
+        guard, name_alone = self._guard._now(), b"\x80\x04" + words + b"\x93"
+        if not guard._has_substitutes:
+            return Guard.loads(guard, name_alone + b".")
+        Guard.loads(guard, name_alone + b"0N.")  # (as a value it would be the real object)
+        return substitute_named(module, name, guard._allow)
 
     def _is_listed_method(self, instance: Any, name: Any) -> bool:
         kind = _class_of(instance)
