@@ -29,10 +29,10 @@ NO_PAPERS = re.compile(r"docs/THEOREM\.md|CHANGELOG\.md|LICEN[CS]E.*")
 
 
 def long_lines_of_scripts() -> Iterator[Fault]:
-    """Long lines of scripts, which have a name that ends in .py or begin with `#!`."""
+    """Long lines of scripts, which have a name that ends in .py or begin with `#!`, and crates."""
     for path in FILES:
         front = path.read_bytes()[:2]
-        if path.suffix == ".py" or front == b"#!":
+        if path.suffix in (".py", ".rt", ".antt") or front == b"#!":
             name = path.relative_to(ROOT).as_posix()
             yield from long_lines(Document(name, text_of(name)))
 

@@ -76,7 +76,8 @@ abbrev bill_in : Result Bill Breach → Bill
 bill_in (Ok b) = b
 bill_in (Err e) = no_bill
 
-pub record IsSplit {A B : Type 0} (x : Result A Breach) (f : A → Result B Breach) (b : B) : Type 0 where
+pub record IsSplit {A B : Type 0} (x : Result A Breach) (f : A → Result B Breach) (b : B)
+    : Type 0 where
   pub middle : A
   pub first : x ≡ Ok middle
   pub then : f middle ≡ Ok b

@@ -1,5 +1,6 @@
 -- What the audience that keeps the bill does with one report.
-use Rattle.std.proofs.Common.{◌≡◌, ℕ, false, List, [], ◌∷◌, Option, None, Some, Result, Ok, Err, IfOk}
+use Rattle.std.proofs.Common.{◌≡◌, ℕ, false, List, [], ◌∷◌}
+use Rattle.std.proofs.Common.{Option, None, Some, Result, Ok, Err, IfOk}
 use Rattle.std.proofs.Common.{OnOk, refl, sym, ap, subst, ◌∙◌}
 use Rattle.std.specs.Option.{is_some, MatchOption}
 use Rattle.std.specs.Prelude.{⊤}

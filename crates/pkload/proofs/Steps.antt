@@ -1,5 +1,6 @@
 -- Each step of a run whose answers are new costs what the step of the bill says.
-use Rattle.std.proofs.Common.{◌≡◌, ℕ, ◌+◌, ◌≤◌, Bool, true, false, cond, List, [], ◌∷◌, ◌++◌, length}
+use Rattle.std.proofs.Common.{◌≡◌, ℕ, ◌+◌, ◌≤◌, Bool, true}
+use Rattle.std.proofs.Common.{false, cond, List, [], ◌∷◌, ◌++◌, length}
 use Rattle.std.proofs.Common.{map, Option, Some, None, Result, Ok, Err, refl, sym, ap, subst, ◌∙◌}
 use Rattle.std.proofs.Common.{arith, length-append, le-ltb}
 use Rattle.std.specs.Prelude.{⊤, unwrap_or}
@@ -28,7 +29,8 @@ use Rattle.pkcheck.specs.Runs.{ObjectClass, Outcome, Pair, Raise, Raised, State,
 use Rattle.pkcheck.specs.Runs.{Stuck, WentOn, answered, asks, class_at, come_of, effect_asks}
 use Rattle.pkcheck.specs.Runs.{gone_on, move_step, named, operate_step, operated, perform, step_as}
 use Rattle.pkcheck.specs.Runs.{stop_step, with_answer, with_event}
-use Rattle.pkcheck.specs.Shape.{Breach, NoItem, Entry, Item, Shape, Taken, front, moved, operands, put, top}
+use Rattle.pkcheck.specs.Shape.{Breach, NoItem, Entry, Item, Shape}
+use Rattle.pkcheck.specs.Shape.{Taken, front, moved, operands, put, top}
 use Rattle.pkload.proofs.Accounts.{along_end, costs_are, kept_at, new_at, next_is_new}
 use Rattle.pkload.proofs.Accounts.{nothing_counted, since_end}
 use Rattle.pkload.proofs.Alike.{Alike-map, AlikeTaken, AlikeTop, Pointwise-append, SameResult}
@@ -233,8 +235,8 @@ module _ (n : ℕ) where
     behind = omega (arith, h.behind, length-append s.events (Import m k ∷ []));
   }
 
-  operates : (nm : Named) (gives : Gives) (i : Instruction) (t : Taken Heft) (u : Taken ℕ) (b : Bill)
-      (s : State) (o : Outcome) → Billed b s
+  operates : (nm : Named) (gives : Gives) (i : Instruction) (t : Taken Heft) (u : Taken ℕ)
+      (b : Bill) (s : State) (o : Outcome) → Billed b s
       → AlikeTaken (Costs (account_of s.events).hefts) t u → If (asks gives) (IsNew s o)
       → StepBilled (after gives i t b) (operated nm gives i u o s)
   operates NoImport gives i t u b s o h a w = comes i t u b s h a gives o w
@@ -293,11 +295,13 @@ module _ (n : ℕ) where
       (operands_alike (Costs (account_of s.events).hefts) takes b.shape.entries s.shape.entries
       h.shape.entries) w
   performed_billed (Moves m) i b s o h w =
-      shape_billed m (number_kept m (memo_number i) b.shape) b s (moved m (memo_number i) b.shape) (moved m (memo_number i) s.shape) h
+      shape_billed m (number_kept m (memo_number i) b.shape) b s
+      (moved m (memo_number i) b.shape) (moved m (memo_number i) s.shape) h
       (moved_alike (Costs (account_of s.events).hefts) m (memo_number i) b.shape s.shape h.shape)
   performed_billed Stops i b s o h w =
       result_billed b s (top b.shape.entries) (top s.shape.entries) h
-      (top_alike (Costs (account_of s.events).hefts) b.shape.entries s.shape.entries h.shape.entries)
+      (top_alike (Costs (account_of s.events).hefts) b.shape.entries s.shape.entries
+      h.shape.entries)
   performed_billed Raises i b s o h w =
       since_end n s.events (Did i [] None) h.behind
       ∙ nothing_counted i.op (tally_since n s.events) ∙ h.tally
@@ -313,7 +317,8 @@ module _ (n : ℕ) where
   module _ (i : Instruction) (b : Bill) (s : State) (o : Outcome) (h : Billed b s) where
     -- the step of an effect is billed by the opcode
     abbrev IsBilledAs : Effect → Type 0
-    IsBilledAs e = If (effect_asks e) (IsNew s o) → IfBilled (billed_by (effect_of i.op) i b) (perform e i s o)
+    IsBilledAs e = If (effect_asks e) (IsNew s o)
+        → IfBilled (billed_by (effect_of i.op) i b) (perform e i s o)
 
     abbrev IsBilledAsOld : Effect → Type 0
     IsBilledAsOld e = If (effect_asks e) (IsNew s o)

@@ -12,7 +12,8 @@ use Rattle.pkcheck.specs.Runs.{Outcome, Raised, State, Stepped, Stopped, Stuck, 
 use Rattle.pkcheck.specs.Runs.{start, step_as}
 use Rattle.pkcheck.specs.RowRuns.{Afresh, Behind, next_from, run_row, sequences_of}
 use Rattle.pkcheck.specs.Shape.{Breach, NoItem, Entry, Shape, Taken, and_then, moved, operands, top}
-use Rattle.pkcheck.specs.WholeRuns.{Ended, EndedBy, Reached, first_outcome, go_on, outcomes_after, run_as}
+use Rattle.pkcheck.specs.WholeRuns.{Ended, EndedBy, Reached}
+use Rattle.pkcheck.specs.WholeRuns.{first_outcome, go_on, outcomes_after, run_as}
 use Rattle.pkload.proofs.Accounts.{at_most_across, at_most_itself, none_since, operation_grows}
 use Rattle.pkload.proofs.Steps.{Billed, IfBilled, step_billed}
 use Rattle.pkload.specs.Bill.{Bill, all_billed, billed, billed_by, move_billed, next_bill, no_bill}

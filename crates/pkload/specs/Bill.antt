@@ -9,7 +9,8 @@ use Rattle.pkcheck.specs.declared.effect.Gives.{Gives}
 use Rattle.pkcheck.specs.declared.effect.Gives.TheVariants.{Leaves}
 use Rattle.pkcheck.specs.declared.effect.Move.{Move}
 use Rattle.pkcheck.specs.Effects.{Effect, Operates, Moves, Stops, Raises, effect_of}
-use Rattle.pkcheck.specs.Shape.{Breach, NoItem, Entry, Shape, Taken, and_then, operands, put, moved, top}
+use Rattle.pkcheck.specs.Shape.{Breach, NoItem, Entry, Shape, Taken}
+use Rattle.pkcheck.specs.Shape.{and_then, operands, put, moved, top}
 use Rattle.pkcheck.specs.RowRuns.{Beginning, Afresh, Behind, sequences_of}
 use Rattle.pkload.specs.Heft.{Heft, heft_of}
 use Rattle.pkload.specs.Memory.{move_memory, number_kept, operation_memory}
@@ -98,7 +99,7 @@ no_bill = record {
   ended = false;
 }
 
--- the bill where the next pickle begins under one Unpickler: the sums begin anew, and the memo stays
+-- the bill where the next pickle begins under one Unpickler: the sums begin anew, the memo stays
 abbrev pub next_bill : Bill → Bill
 next_bill bill = record no_bill {
   shape = record { entries = []; memo = bill.shape.memo };

@@ -111,8 +111,8 @@ RowIsNew setting (pickle ∷ pickles) (first ∷ others) state =
     AnswersAreNew setting pickle first state
     × IfStopped (run_as setting pickle first state) (RowIsNew setting pickles others)
 
--- every run of these instructions that begins like this, and whose answers are new objects, has this
--- property, given the number of the events before it
+-- every run of these instructions that begins like this, and whose answers are new objects, has
+-- this property, given the number of the events before it
 abbrev pub InEachNewRun :
     OldStrings → Beginning → List Instruction → (ℕ → Ended → Type 0) → Type 0
 InEachNewRun setting Afresh instructions Holds =

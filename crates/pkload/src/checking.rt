@@ -23,9 +23,9 @@ pub struct Costly {
 }
 
 /// Checks pickles as [`check_pickles`] does, and bounds what the keys of each cost. If the answer
-/// is yes, then in every run whose calls and imports answer new objects, each key is at most as deep
-/// and as heavy as `tolls` allow, all keys of a pickle together cost at most the limits, and BUILD
-/// never takes an imported object unless it may.
+/// is yes, then in every run whose calls and imports answer new objects, each key is at most as
+/// deep and as heavy as `tolls` allow, all keys of a pickle together cost at most the limits, and
+/// BUILD never takes an imported object unless it may.
 ///
 /// # Errors
 ///

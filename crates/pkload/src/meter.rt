@@ -17,8 +17,8 @@ use std::alloc::Global;
 use std::convert::Infallible;
 use std::marker::Model;
 
-/// Keeps the bill of each pickle, until a limit is exceeded. It is told of an instruction before the
-/// check judges it, so whether the check refuses this one is known only at the end.
+/// Keeps the bill of each pickle, until a limit is exceeded. It is told of an instruction before
+/// the check judges it, so whether the check refuses this one is known only at the end.
 pub struct Meter {
     machine: Machine,
     pickle: u64,

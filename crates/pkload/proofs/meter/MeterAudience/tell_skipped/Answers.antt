@@ -17,9 +17,10 @@ returns-clause-ok c =
     let stays = c.bill_skipped.ensures.stays in
     let none = is_none c.self.inside.excess (sym c.is_some.ensures ∙ c.if-is_some.false) in
     λ holds. rw (sym c.self.view_is) (elim c.match-bill_skipped.branch [
-      | in-Ok v ↦ billed_one x z w told c.args.at c.args._marks c.match-bill_skipped.self c.self-2.view_is
-          none stays.tolls stays.memo stays.at
-          (ok_then (IsBilled told x z) c.bill_skipped.result _ v.in-Ok.is c.bill_skipped.ensures.bill)
+      | in-Ok v ↦ billed_one x z w told c.args.at c.args._marks c.match-bill_skipped.self
+          c.self-2.view_is none stays.tolls stays.memo stays.at
+          (ok_then (IsBilled told x z) c.bill_skipped.result _ v.in-Ok.is
+          c.bill_skipped.ensures.bill)
           (subst (λ q. MatchOption q (Fits z.tolls z.metering)
           (λ e. Exceeds e z.tolls z.metering.bill.tally z.metering.bill.memory)) (sym v.self-is)
           v.found-self-inside.ensures)
