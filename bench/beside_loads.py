@@ -60,6 +60,9 @@ def small(storklocker: ModuleType) -> Iterator[Shape]:
     value = {"id": 17, "tags": ["one", "two", "three"], "name": "a job", "args": (1, 2.5, None)}
     value["when"] = datetime.datetime(2026, 1, 2, 3, 4, 5)
     value["words"] = {f"key{k}": k for k in range(8)}
+    plain = {name: it for name, it in value.items() if name != "when"}
+    named = "a message without names, NumPy's list"
+    yield Shape(named, pickle.dumps(plain, 4), storklocker.lists.NUMPY, 4000, 1, 2, 1.3)
     listed = storklocker.AllowList([("datetime", "datetime")])
     yield Shape("a message", pickle.dumps(value, 4), listed, 4000, 1, 1.6, 1.3)
     rows = [{"id": k, "name": f"user {k}", "score": k * 1.5} for k in range(65)]

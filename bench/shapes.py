@@ -85,7 +85,6 @@ EXPORTED: Dict[str, Make] = {
 }
 
 
-
 def blocks(count: int = 16, size: int = 4 * 2**20) -> List[bytes]:
     """Byte strings."""
     return [bytes([i]) * size for i in range(count)]
@@ -107,15 +106,22 @@ BESIDE_LOADS: Dict[str, Tuple[int, Callable[[], object]]] = {
     "floats": (4, lambda: [i / 7 for i in range(400_000)]),
     "pairs of integers": (4, lambda: [(i, -i) for i in range(400_000)]),
     "lists in a list": (4, lambda: [[i] for i in range(400_000)]),
-    "names and bytes, protocol 3": (3, lambda: [(f"n{i}", it) for i, it in enumerate(blocks())]),
-    "names and bytes in frames": (4, lambda: [(f"n{i}", it) for i, it in enumerate(blocks())]),
-    "names and bytes in frames, protocol 5": (
-        5, lambda: [(f"n{i}", it) for i, it in enumerate(blocks())]
-    ),
-    "a dict of bytes": (4, lambda: dict(enumerate(blocks()))),
-    "bytes behind a title": (4, lambda: ["title", *blocks()]),
     "records, protocol 2": (2, lambda: [record(i) for i in range(40_000)]),
+    "records, protocol 4": (4, lambda: [record(i) for i in range(40_000)]),
 }
+
+# Byte strings: alone they have no frame, and what is beside them puts them behind one.
+PAYLOADS: Dict[str, Callable[[], object]] = {
+    "bytes": blocks,
+    "a dict of bytes": lambda: dict(enumerate(blocks())),
+    "bytes behind a title": lambda: ["title", *blocks()],
+    "names and bytes": lambda: [(f"n{i}", it) for i, it in enumerate(blocks())],
+}
+BESIDE_LOADS.update(
+    (f"{name}, protocol {protocol}", (protocol, make))
+    for name, make in PAYLOADS.items()
+    for protocol in (3, 4, 5)
+)
 
 # The names that these import.
 LIST = 'version = 1\n[imports]\ndatetime = ["datetime"]\n'

@@ -19,7 +19,7 @@ static PyObject *audit(PyObject *held, PyObject *const *given, Py_ssize_t count)
 
 PyObject *audit_hook(PyObject *Py_UNUSED(module), PyObject *held) {
     static PyMethodDef hook = {
-        "audit", (PyCFunction)(void (*)(void))audit, METH_FASTCALL, "The audit hook of a guard."};
+        "audit", AS_C_FUNCTION(audit), METH_FASTCALL, "The audit hook of a guard."};
     if (!PyList_Check(held) || PyList_Size(held) != 2) {
         PyErr_SetString(PyExc_TypeError, "a list of two is needed");
         return NULL;

@@ -1,4 +1,5 @@
 #include "loads.h"
+#include "walk.h"
 
 #include <stddef.h>
 
@@ -12,6 +13,7 @@ typedef struct {
     PyObject *names;  /* ("fix_imports",) */
     fast_function *function; /* what the reader calls, if it is such a function of C */
     PyObject *receiver;      /* its first argument, borrowed from the reader */
+    int is_substituting;     /* whether names of the list are loaded through substitutes */
 } Loads;
 
 /* Whether instances say that they refer to their type. Before 3.9 their subclass says it. */
@@ -61,9 +63,11 @@ static void find_function(Loads *own) {
 #endif
 }
 
-int set_loads(PyObject *guard, PyObject *list, PyObject *reader) {
+int set_loads(PyObject *guard, PyObject *list, PyObject *reader, int is_substituting) {
     Loads *own = (Loads *)guard;
-    PyObject *names = Py_BuildValue("(s)", "fix_imports"), *before = own->list;
+    /* (interned, as the reader's own, which it compares by address first) */
+    PyObject *names = Py_BuildValue("(N)", PyUnicode_InternFromString("fix_imports"));
+    PyObject *before = own->list;
     if (names == NULL)
         return -1;
     if (own->reader == NULL) { /* one that is loading in another thread goes on with it */
@@ -75,6 +79,7 @@ int set_loads(PyObject *guard, PyObject *list, PyObject *reader) {
         Py_DECREF(names);
     Py_XINCREF(list == Py_None ? NULL : list);
     own->list = list == Py_None ? NULL : list;
+    own->is_substituting = is_substituting;
     Py_XDECREF(before);
     return 0;
 }
@@ -115,18 +120,23 @@ static PyObject *loads(PyObject *self, PyObject *const *given, Py_ssize_t count,
         return made;
     }
     Py_INCREF(list); /* the guard may get another one while a long check runs without the GIL */
-    PyObject *no = pairs_refusal(list, given[0]), *made = NULL;
+    int is_substituting = own->is_substituting;
+    uint64_t imports;
+    PyObject *no = refusal_of(list, given[0], &imports), *made = NULL;
     Py_DECREF(list);
-    if (no == Py_None)
+    Py_ssize_t build = no == Py_None && imports > 0 && !is_substituting ? build_in(given[0]) : -1;
+    if (no == Py_None && ((is_substituting && imports > 0) || build >= 0))
+        made = PyObject_CallMethod(self, "_loads_accepted", "O", given[0]);
+    else if (no == Py_None && build == -1) /* what imports nothing can't call or change anything */
         made = loaded(own, given[0]);
-    else if (no != NULL)
+    else if (no != NULL && no != Py_None)
         made = PyObject_CallMethod(self, "_loads_refused", "OO", given[0], no);
     Py_XDECREF(no);
     return made;
 }
 
 static PyMethodDef loads_methods[] = {
-    {"loads", (PyCFunction)(void (*)(void))loads, METH_FASTCALL | METH_KEYWORDS,
+    {"loads", AS_C_FUNCTION(loads), METH_FASTCALL | METH_KEYWORDS,
      "loads($self, data, /, *, fix_imports=None, encoding=None, errors=None, buffers=None)\n--\n\n"
      "The object of the pickle in `data`, which must contain nothing else.\n\n"
      "`data` is bytes or a buffer, which is copied first. Raises Refused, MoreBytes if more bytes\n"

@@ -5,21 +5,27 @@
 #define PY_SSIZE_T_CLEAN
 #define Py_LIMITED_API 0x03080000
 #include <Python.h>
+#include <stdint.h>
 
 #ifndef METH_FASTCALL /* part of the stable ABI from 3.10 on, and the same before */
 #define METH_FASTCALL 0x0080
 #endif
+/* A function that takes its arguments as METH_FASTCALL says, for a table of methods. */
+#define AS_C_FUNCTION(function) ((PyCFunction)(void (*)(void))(function))
 
-/* `Pairs._refusal`: None if the pickle is accepted and is all of the bytes, or its Verdict. */
-PyObject *pairs_refusal(PyObject *pairs, PyObject *data);
+/* None if the pickle is accepted and is all of the bytes, and the number of its imports; or its
+   Verdict. */
+PyObject *refusal_of(PyObject *pairs, PyObject *data, uint64_t *imports);
 
 /* Makes the class. Returns null after an error. */
 PyObject *loads_type(void);
 
 /* Says what `loads` does, once `guard` is of the class and `list` is Pairs or None: under None it
-   leaves everything to the guard's `_loads`. `reader` is `pickle.loads`. Returns -1 after an
-   error. */
-int set_loads(PyObject *guard, PyObject *list, PyObject *reader);
+   leaves everything to the guard's `_loads`. `reader` is `pickle.loads`, which loads what is
+   accepted. What takes longer to judge is left to the guard's `_loads_accepted`: a pickle whose
+   BUILD takes an imported object, and with `is_substituting` one that imports something. Returns -1
+   after an error. */
+int set_loads(PyObject *guard, PyObject *list, PyObject *reader, int is_substituting);
 
 /* The audit hook of the guard that is installed. Takes a list, whose items may change: a container
    of the pairs that any reader may import, and a function that judges the other pairs. */

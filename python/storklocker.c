@@ -22,6 +22,8 @@ static void *or_nothing(const void *given) {
 /* The settings that the caller's header has, with standard values for the others. */
 static struct storklocker_settings settings_of(const struct storklocker_settings *given) {
     struct storklocker_settings settings = STORKLOCKER_STANDARD;
+    if (given != NULL && given->size == sizeof settings)
+        return *given; /* of this version, which is copied faster */
     if (given != NULL) {
         memcpy(&settings, given, given->size < sizeof settings ? given->size : sizeof settings);
         settings.size = given->size;

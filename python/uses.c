@@ -11,7 +11,6 @@ enum { ABSENT, MARK, OTHER, TEXT, NAME, TUPLE, DICT, WRAPPER };
 #define MASK(bits) ((slot)(bits) << 16)
 #define NAMES 1024
 #define LONGEST 4096     /* no listed name is longer */
-#define SPARE (1 << 20)  /* a greater memo number than this and the bytes of the pickle is no use */
 
 /* What a name is: one that becomes the real object where it is a value; a class that some names
    take as an argument; joblib's wrapper. The bits from TAKES on are the arguments that it takes. */
@@ -225,24 +224,9 @@ static int share(struct uses *u, slot s) {
     return DONE;
 }
 
-/* Reads a memo number. */
-static int is_numbered(const struct uses *u, uint64_t *number) {
-    const uint8_t *argument = u->bytes + u->at + 1;
-    size_t length = u->next - u->at - 1;
-    int is_line = argument[-1] == 'g' || argument[-1] == 'p';
-    *number = argument[-1] == 0x94 ? u->kept->entries : 0;
-    for (size_t k = 0; k < length - (is_line ? 1 : 0); k++) {
-        if (is_line && (argument[k] < '0' || argument[k] > '9' || *number > UINT32_MAX))
-            return 0;
-        *number = is_line ? 10 * *number + (uint64_t)(argument[k] - '0')
-                          : *number | (uint64_t)argument[k] << 8 * k;
-    }
-    return !is_line || length > 1;
-}
-
 static int get(struct uses *u) {
     uint64_t number;
-    if (!is_numbered(u, &number) || number >= u->kept->numbers)
+    if (!parse_number(u->bytes + u->at, u->next - u->at, &number) || number >= u->kept->numbers)
         return LOST;
     slot s = u->kept->memo[number];
     if (kind_of(s) == ABSENT || share(u, s) != DONE)
@@ -254,8 +238,11 @@ static int get(struct uses *u) {
    become real there, because the memo has to hold what can be called. */
 static int put(struct uses *u, size_t last) {
     struct kept *kept = u->kept;
-    uint64_t number;
-    if (!is_numbered(u, &number) || number > u->length + SPARE || !are_there(u, 1))
+    uint64_t number = kept->entries;
+    int is_memoize = u->bytes[u->at] == 0x94;
+    if (!is_memoize && !parse_number(u->bytes + u->at, u->next - u->at, &number))
+        return LOST;
+    if (number > u->length + SPARE || !are_there(u, 1))
         return LOST;
     if (number >= kept->numbers) {
         size_t size = number < 2 * kept->numbers ? 2 * kept->numbers : (size_t)number + 16;

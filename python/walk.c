@@ -44,6 +44,18 @@ size_t length_of(const uint8_t *bytes, size_t length) {
     return width <= left ? at + width : 0;
 }
 
+int parse_number(const uint8_t *bytes, size_t length, uint64_t *number) {
+    int is_line = bytes[0] == 'g' || bytes[0] == 'p';
+    *number = 0;
+    for (size_t k = 1; k < length - (is_line ? 1 : 0); k++) {
+        if (is_line && (bytes[k] < '0' || bytes[k] > '9' || *number > UINT32_MAX))
+            return 0;
+        *number = is_line ? 10 * *number + (uint64_t)(bytes[k] - '0')
+                          : *number | (uint64_t)bytes[k] << 8 * (k - 1);
+    }
+    return !is_line || length > 2;
+}
+
 static void put(struct walk *w, uint8_t *out, const void *bytes, size_t count) {
     if (out != NULL)
         memcpy(out + w->size, bytes, count);

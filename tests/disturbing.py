@@ -1,12 +1,15 @@
 """What the tests of a disturbed `optimize` share: pickles, runs of the program, and their
 leftovers.
 """
+import argparse
 import contextlib
 import functools
 import io
 import os
 import pathlib
 import pickle
+import random
+import shutil
 import stat
 import subprocess
 import tempfile
@@ -113,6 +116,14 @@ def expect_names(folder: pathlib.Path, *wanted: str) -> None:
     expect(names(folder) == set(wanted), f"in the folder: {sorted(names(folder))[:9]}")
 
 
+def watch(folder: pathlib.Path, still: Callable[[], bool], look: Callable[[str], None]) -> None:
+    """Reads each file of a folder, again and again."""
+    while still():
+        for name in names(folder):
+            with contextlib.suppress(FileNotFoundError):
+                look(str(folder / name))
+
+
 def mode_of(path: pathlib.Path) -> int:
     return stat.S_IMODE(path.stat().st_mode)
 
@@ -176,3 +187,24 @@ def tally(only: str) -> Tuple[int, int, int]:
         print(f"{name}: {wrong or 'passed'}", flush=True)
         passed, failed = passed + (wrong is None), failed + (wrong is not None)
     return passed, failed, skipped
+
+
+def run_all(about: Optional[str]) -> int:
+    """What a script of such tests does: it reads the words of the command, and runs the tests."""
+    words = argparse.ArgumentParser(description=(about or "").splitlines()[0])
+    words.add_argument("--program", type=pathlib.Path, default=program.PROGRAM)
+    words.add_argument(
+        "--only", default="", metavar="WORD", help="only tests with this word in the name"
+    )
+    words.add_argument("--seed", type=int, default=1, help="of the moments of the interrupts")
+    asked = words.parse_args()
+    program.require(asked.program)
+    random.seed(asked.seed)
+    with room() as folder:
+        # where any user may run it
+        BENCH.program = folder / "pktool"
+        shutil.copy(str(asked.program), str(BENCH.program))
+        BENCH.program.chmod(0o755)
+        passed, failed, skipped = tally(asked.only)
+    print(f"{passed} passed, {failed} failed, {skipped} skipped")
+    return 1 if failed else 0

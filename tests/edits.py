@@ -13,6 +13,7 @@ The first and the last end with a line `N passed, M failed`. Trying needs the Ra
 import argparse
 import contextlib
 import hashlib
+import os
 import pathlib
 import re
 import shutil
@@ -25,6 +26,8 @@ from typing import Iterator, List, Sequence
 ROOT = pathlib.Path(__file__).resolve().parent.parent
 MOST = 100
 SHARE = 10
+# What a check takes of the memory, in bytes.
+CHECK = 5 << 30
 NO_VERDICT = ": BAD EDIT: "
 
 
@@ -98,6 +101,14 @@ def beside(edits: Sequence[pathlib.Path]) -> Iterator[None]:
             copy.unlink()
 
 
+def lanes() -> str:
+    """How many checks run side by side, one job each: as many as the processors and the memory
+    carry. Left to itself, `rt ci` gives several processors to a library, whose check uses one.
+    """
+    memory = os.sysconf("SC_PHYS_PAGES") * os.sysconf("SC_PAGE_SIZE")
+    return str(max(1, min(len(os.sched_getaffinity(0)), memory // CHECK)))
+
+
 def gate() -> int:
     """Runs `rt ci`. It passes over an edit that it can't apply or read: here that is a failure."""
     edits = chosen()
@@ -105,8 +116,9 @@ def gate() -> int:
     for edit in edits:
         print(f"  {edit.relative_to(ROOT)}", flush=True)
     unread, last = 0, ""
+    how = {"RT_JOBS": lanes(), **os.environ}
     with beside(edits), subprocess.Popen(
-        ["rt", "ci"], cwd=ROOT, stdout=subprocess.PIPE, encoding="utf-8", errors="replace"
+        ["rt", "ci"], cwd=ROOT, env=how, stdout=subprocess.PIPE, encoding="utf-8", errors="replace"
     ) as running:
         assert running.stdout
         for line in running.stdout:

@@ -9,7 +9,7 @@ cases passed.
 """
 import argparse
 import collections
-import multiprocessing
+import functools
 import os
 import pathlib
 import sys
@@ -124,16 +124,15 @@ def tries(library: pathlib.Path, wanted: List[rows.Row], jobs: int) -> Tuple[int
     answer.
     """
     passed = 0
-    with multiprocessing.Pool(jobs, begin, (library,)) as pool:
-        results = pool.imap(tried, wanted)
-        for row, counts, wrong in progress.said_of(results, len(wanted), "rows"):
-            total = sum(counts.values())
-            passed += total
-            told = "; ".join(f"{count} {said}" for said, count in counts.most_common())
-            print(f"{row.command} {row.name}: {total} cases: {told}", flush=True)
-            if wrong:
-                print(f"FAILED: {row.command} {row.name}, {wrong}")
-                return passed, 1
+    start = functools.partial(begin, library)
+    for row, counts, wrong in progress.results_of(tried, wanted, "rows", jobs, start):
+        total = sum(counts.values())
+        passed += total
+        told = "; ".join(f"{count} {said}" for said, count in counts.most_common())
+        print(f"{row.command} {row.name}: {total} cases: {told}", flush=True)
+        if wrong:
+            print(f"FAILED: {row.command} {row.name}, {wrong}")
+            return passed, 1
     return passed, 0
 
 

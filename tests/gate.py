@@ -4,17 +4,18 @@ repository with parts that are fakes. The last line counts.
 """
 import contextlib
 import io
-import multiprocessing.pool
 import os
 import pathlib
 import re
 import shutil
+import signal
 import subprocess
 import sys
 import tempfile
 import time
 import unittest
-from typing import Any, Dict, List, Tuple
+from concurrent.futures.process import BrokenProcessPool
+from typing import Dict, List, Tuple
 
 import progress
 
@@ -150,10 +151,15 @@ class Scripts(Copies):
         said = io.StringIO()
         self.addCleanup(setattr, progress, "PAUSE", progress.PAUSE)
         progress.PAUSE = 0.05
-        with multiprocessing.pool.ThreadPool(1) as pool, contextlib.redirect_stderr(said):
-            results: Any = pool.imap(time.sleep, [0.3, 0])
-            self.assertEqual(list(progress.said_of(results, 2, "naps")), [None, None])
+        with contextlib.redirect_stderr(said):
+            results = progress.results_of(time.sleep, [0.3, 0.0], "naps", 1)
+            self.assertEqual(list(results), [None, None])
         self.assertRegex(said.getvalue(), r"\A0 of 2 naps in \d+ s\n")
+
+    def test_a_long_test_ends_when_a_process_of_it_is_killed(self) -> None:
+        results = progress.results_of(signal.raise_signal, [signal.SIGKILL], "kills", 1)
+        with self.assertRaises(BrokenProcessPool):
+            list(results)
 
 
 class Shipped(Copies):

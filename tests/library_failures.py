@@ -9,7 +9,6 @@ status 1. It prints a line per test, and finally how many cases passed.
 import argparse
 import collections
 import itertools
-import multiprocessing
 import os
 import pathlib
 import re
@@ -78,16 +77,14 @@ def tries(library: pathlib.Path, jobs: int) -> Tuple[int, int]:
     """
     passed = 0
     tasks = [(library, test) for test in TESTS]
-    with multiprocessing.Pool(jobs) as pool:
-        results = pool.imap(tried, tasks)
-        for test, counts, wrong in progress.said_of(results, len(tasks), "tests"):
-            total = sum(counts.values())
-            passed += total
-            told = "; ".join(f"{count} {said}" for said, count in counts.most_common())
-            print(f"{test}: {total} cases: {told}", flush=True)
-            if wrong:
-                print(f"FAILED: {test}, {wrong}")
-                return passed, 1
+    for test, counts, wrong in progress.results_of(tried, tasks, "tests", jobs):
+        total = sum(counts.values())
+        passed += total
+        told = "; ".join(f"{count} {said}" for said, count in counts.most_common())
+        print(f"{test}: {total} cases: {told}", flush=True)
+        if wrong:
+            print(f"FAILED: {test}, {wrong}")
+            return passed, 1
     return passed, 0
 
 

@@ -1,30 +1,39 @@
-"""Says on standard error how far a long test is."""
-import multiprocessing
+"""Runs long tests in several processes, and says on standard error how far they are."""
 import sys
 import time
-from multiprocessing.pool import IMapIterator
-from typing import Iterator, TypeVar
+from concurrent import futures
+from typing import Callable, Iterator, Optional, Sequence, TypeVar
 
+Task = TypeVar("Task")
 Result = TypeVar("Result")
 
 # Seconds between two lines.
 PAUSE = 10.0
 
 
-def said_of(results: "IMapIterator[Result]", total: int, what: str) -> Iterator[Result]:
-    """The results of a pool as they come, so many in all."""
+def results_of(
+    work: Callable[[Task], Result],
+    tasks: Sequence[Task],
+    what: str,
+    jobs: int,
+    begin: Optional[Callable[[], None]] = None,
+) -> Iterator[Result]:
+    """What each task comes to, as it ends. `begin` is called in each of the processes first.
+
+    Raises BrokenProcessPool if one of them is killed. (A `multiprocessing.Pool` would wait for it.)
+    """
     begun = said = time.monotonic()
-    count = 0
-    while count < total:
+    with futures.ProcessPoolExecutor(jobs, initializer=begin) as pool:
+        left = {pool.submit(work, task) for task in tasks}
         try:
-            result = results.next(timeout=PAUSE)
-        except multiprocessing.TimeoutError:
-            pass
-        else:
-            count += 1
-            yield result
-        now = time.monotonic()
-        if now - said >= PAUSE:
-            told = f"{count} of {total} {what} in {now - begun:.0f} s"
-            print(told, file=sys.stderr, flush=True)
-            said = now
+            while left:
+                done, left = futures.wait(left, PAUSE, futures.FIRST_COMPLETED)
+                yield from (it.result() for it in done)
+                now = time.monotonic()
+                if now - said >= PAUSE:
+                    told = f"{len(tasks) - len(left)} of {len(tasks)} {what} in {now - begun:.0f} s"
+                    print(told, file=sys.stderr, flush=True)
+                    said = now
+        finally:
+            for it in left:
+                it.cancel()

@@ -12,7 +12,6 @@ import collections
 import datetime
 import io
 import itertools
-import multiprocessing
 import os
 import pathlib
 import pickle
@@ -324,16 +323,14 @@ def judge_all(asked: argparse.Namespace) -> Judged:
     chunks = [range(at, min(at + CHUNK, asked.rows)) for at in range(0, asked.rows, CHUNK)]
     tasks = [(asked.seed, chunk) for chunk in chunks]
     whole = Judged(collections.Counter(), [])
-    with multiprocessing.Pool(asked.jobs, begin) as pool:
-        results = pool.imap_unordered(judged, tasks)
-        for found in progress.said_of(results, len(tasks), "chunks"):
-            whole.said.update(found.said)
-            whole.failed.extend(found.failed)
-            for number, word, wrong in found.failed:
-                kept = pathlib.Path(asked.keep, f"row-{asked.seed}-{number}")
-                kept.write_bytes(b"".join(row_of(asked.seed, number).pickles))
-                told = f"--all {word}".strip()
-                print(f"FAILED: {told} of row {number}, in {kept}: {'; '.join(wrong)}", flush=True)
+    for found in progress.results_of(judged, tasks, "chunks", asked.jobs, begin):
+        whole.said.update(found.said)
+        whole.failed.extend(found.failed)
+        for number, word, wrong in found.failed:
+            kept = pathlib.Path(asked.keep, f"row-{asked.seed}-{number}")
+            kept.write_bytes(b"".join(row_of(asked.seed, number).pickles))
+            told = f"--all {word}".strip()
+            print(f"FAILED: {told} of row {number}, in {kept}: {'; '.join(wrong)}", flush=True)
     return whole
 
 

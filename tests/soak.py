@@ -9,7 +9,6 @@ that use the same check disagree. A pickle that fails is named by its number and
 """
 import argparse
 import collections
-import multiprocessing
 import os
 import pathlib
 import re
@@ -140,15 +139,14 @@ def soak(asked: argparse.Namespace) -> Tuple[Ended, int]:
     ended, slowest, peak, wrong = collections.Counter(), 0.0, 0, 0
     chunks = [range(at, min(at + CHUNK, asked.pickles)) for at in range(0, asked.pickles, CHUNK)]
     tasks = [(asked.seed, chunk) for chunk in chunks]
-    with multiprocessing.Pool(asked.jobs, begin) as pool:
-        results = pool.imap_unordered(soaked, tasks)
-        for counts, took, held, failed in progress.said_of(results, len(tasks), "chunks"):
-            ended.update(counts)
-            slowest, peak, wrong = max(slowest, took), max(peak, held), wrong + len(failed)
-            for number, command, why, pickle in failed:
-                kept = pathlib.Path(asked.keep, f"soak-{asked.seed}-{number}.pickle")
-                kept.write_bytes(pickle)
-                print(f"FAILED: {command} of pickle {number}, in {kept}: {why}", flush=True)
+    results = progress.results_of(soaked, tasks, "chunks", asked.jobs, begin)
+    for counts, took, held, failed in results:
+        ended.update(counts)
+        slowest, peak, wrong = max(slowest, took), max(peak, held), wrong + len(failed)
+        for number, command, why, pickle in failed:
+            kept = pathlib.Path(asked.keep, f"soak-{asked.seed}-{number}.pickle")
+            kept.write_bytes(pickle)
+            print(f"FAILED: {command} of pickle {number}, in {kept}: {why}", flush=True)
     print(f"slowest run {slowest:.2f} of {SECONDS} s; peak {peak / 1e6:.0f} of {PEAK / 1e6:.0f} MB")
     return ended, wrong
 

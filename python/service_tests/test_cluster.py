@@ -13,6 +13,7 @@ import sqlite3
 import tempfile
 import threading
 from pathlib import Path
+from unittest import mock
 
 import common
 from storklocker.scanning import cluster, scan
@@ -77,6 +78,7 @@ def run():
         resumed(alone, address)
         deadly(address)
         over_http(address)
+    without_workers()
     common.nothing_ran()
 
 
@@ -111,6 +113,20 @@ def deadly(address):
     reports = scanned("memory://deadly", cluster=address)
     assert [it.status for it in reports] == ["accepted", "unreadable", "accepted"], reports
     assert reports[1].why == "the workers that read it ended", reports[1]
+
+
+def without_workers():
+    """A cluster that has no worker is given up after some time."""
+    from distributed import LocalCluster
+
+    soon = mock.patch.multiple(cluster, _PAUSE=0.1, _PAUSES=3)
+    with soon, LocalCluster(n_workers=0, host="127.0.0.1", dashboard_address=None) as local:
+        try:
+            scanned("memory://deadly", cluster=local.scheduler_address)
+        except OSError as error:
+            assert "no worker for" in str(error), error
+        else:
+            raise AssertionError("what scanned the files?")
 
 
 def resumed(alone, address):

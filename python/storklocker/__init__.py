@@ -30,7 +30,8 @@ harmless, or that loading succeeds. See docs/PYTHON.md.
 from ._answers import ListFault, Misused, MoreBytes, Refused, RowVerdict, Verdict
 from ._limits import Limits
 from ._lists import STANDARD, AllowList
-from ._guard import Guard, loads
+from ._guard import Guard
+from ._loading import loads
 from ._storklocker import version as __version__
 
 TYPE_CHECKING = False

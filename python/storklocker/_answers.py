@@ -3,7 +3,6 @@
 import functools
 import operator
 import pickle
-from collections import deque
 
 TYPE_CHECKING = False  # importing `typing` would take half the time of importing the package
 if TYPE_CHECKING:
@@ -49,23 +48,6 @@ class _Fields(tuple):  # type: ignore[type-arg]
 
     def __getnewargs__(self) -> "Tuple[Any, ...]":
         return tuple(self)
-
-
-class _Reasons(deque):  # type: ignore[type-arg]
-    """The reasons, indexed by number."""
-
-
-class _LaterReasons(_Reasons):
-    """Is filled at its first use: making the enum would take a quarter of the time of importing the
-    package. (A subclass of list would be indexed by a call of Python.)
-    """
-
-    def __getitem__(self, number: "Any") -> "Any":
-        from ._reasons import Reason
-
-        self.extend((None, *Reason))
-        self.__class__ = _Reasons  # type: ignore[assignment]
-        return self[number]
 
 
 LIST_FAULTS = {
@@ -187,10 +169,6 @@ class RowVerdict(Verdict):
         if self.accepted:
             return f"yes: {self.taken} bytes, {self.pickles} pickles, {self.imports} imports"
         return f"no in pickle {self.pickles} at {self.at}: {self._reason(most)}"
-
-
-HELD = (Verdict, RowVerdict, _LaterReasons(), "_asked")
-"""Objects that the extension module builds answers from, in the order of `_storklocker.c`."""
 
 
 class Refused(pickle.UnpicklingError):

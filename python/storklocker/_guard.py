@@ -25,42 +25,6 @@ ASYNC_FROM = 1 << 16
 _loads = pickle.loads
 
 
-def loads(
-    data: "Any",
-    allow: AllowList,
-    *,
-    limits: "Optional[Limits]" = None,
-    old_strings: str = "unknown",
-    fix_imports: bool = False,
-    encoding: "Optional[str]" = None,
-    errors: "Optional[str]" = None,
-    buffers: "Optional[Iterable[Any]]" = None,
-) -> "Any":
-    """`pickle.loads` for untrusted input: short for `Guard(allow, ..).loads(data, ..)`.
-
-    Raises Refused if the pickle is refused, MoreBytes if more bytes follow it, and otherwise what
-    `pickle.loads` raises. A buffer other than `bytes` is copied first, so that exactly the checked
-    bytes are loaded.
-    """
-    if limits is None and old_strings == "unknown" and fix_imports is False:
-        guard = _plain_guard(allow)
-    else:
-        guard = Guard(allow, limits=limits, old_strings=old_strings, fix_imports=fix_imports)
-    if encoding is None and errors is None and buffers is None:
-        return guard.loads(data)
-    return guard.loads(data, encoding=encoding, errors=errors, buffers=buffers)
-
-
-def _plain_guard(allow: AllowList) -> "Guard":
-    """The guard of a list without other settings, which the list caches."""
-    if isinstance(allow, AllowList) and allow._guard is not None:
-        held: Guard = allow._guard
-        return held
-    guard = Guard(allow)
-    allow._guard = guard
-    return guard
-
-
 @functools.lru_cache(maxsize=None)
 def _later(module: str) -> "Any":
     """A module of this package that few guards need, imported on first use."""
@@ -161,7 +125,7 @@ class Guard(Loads):
         self._new = allow._for_loading()._under(settings)
         self._old = allow._for_old_names()._under(settings) if fix_imports else self._new
         self._unpickler: Optional[Type[GuardedUnpickler]] = None
-        begin_loads(self, self._new if self._is_plain else None, _loads)
+        begin_loads(self, self._new if is_plain else None, _loads, self._has_substitutes)
 
     @classmethod
     def from_file(
@@ -228,11 +192,15 @@ class Guard(Loads):
         return self._loaded(data, encoding, errors, buffers)
 
     def _loads_refused(self, data: bytes, no: Verdict) -> "Any":
-        """`loads` of a plain pickle that is refused."""
+        """`loads` of a pickle that is refused."""
         if self._enforce:
             raise self._told(no, data)
         self._told(no, data)
-        return _loads(data, fix_imports=False)
+        return self._loads_accepted(data)
+
+    def _loads_accepted(self, data: bytes) -> "Any":
+        """`loads` of a pickle that is accepted, or loaded all the same."""
+        return self._loaded(data, *self._decoding(None, None), None)
 
     def load(
         self,
@@ -295,7 +263,8 @@ class Guard(Loads):
 
     def _judge(self, data: bytes) -> Verdict:
         """The verdict on the pickle at the front of `data`."""
-        return verdict(data, self._listed_for(data), None)
+        listed = self._listed_for(data) if self._fix_imports else self._new
+        return verdict(data, listed, None)
 
     def _decoding(self, encoding: "Optional[str]", errors: "Optional[str]") -> "Tuple[str, str]":
         """The encoding and errors for Python 2 strings: those of `old_strings`, or if that is
@@ -386,6 +355,8 @@ class Guard(Loads):
             is_old, own = self._has_old_names(data), self._allow
             with _later("_telling").Misuses(self, data):
                 return loads(data, own, is_old, encoding=encoding, errors=errors, buffers=buffers)
+        if self._enforce and b"b" in data:
+            _later("_builds").refuse(self, data)
         read: Any = _loads
         if self._has_old_names(data):
             from ._unpickler import loads_renaming as read

@@ -11,6 +11,7 @@ from typing import TYPE_CHECKING, Any, Dict, Iterable, Optional, Set, Type
 
 from . import _names
 from ._answers import Verdict
+from ._builds import Builds
 from ._checking import check_row
 from ._reading import FIRST_BLOCK, block_of, can_step_back, too_long
 from ._reasons import Reason
@@ -93,6 +94,7 @@ class GuardedUnpickler(pickle.Unpickler):
         self._accepted: Dict[bool, int] = {}  # the pickles accepted with and without old names
         self._kinds: Set[bool] = set()  # whether there are pickles with and without old names
         self._shift: Optional[int] = None  # the offset in the file minus that in these bytes
+        self._builds = Builds()
 
     def load(self) -> Any:
         """The object of the next pickle in the file."""
@@ -132,7 +134,10 @@ class GuardedUnpickler(pickle.Unpickler):
             raise pickle.UnpicklingError("a load of this Unpickler failed: create a new one")
         self._find_place()
         try:
-            return self.guard._admitted(self._admitted)
+            end = self.guard._admitted(self._admitted)
+            if self.guard._enforce and not self.guard._has_substitutes:
+                self._builds.refuse(self.guard, self._bytes, self._taken, end)
+            return end
         except BaseException:  # also an interrupt: the next `load` starts from the same byte
             self._put_back()
             raise

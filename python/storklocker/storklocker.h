@@ -31,7 +31,7 @@
 extern "C" {
 #endif
 
-#define STORKLOCKER_VERSION "0.3.0.dev3"
+#define STORKLOCKER_VERSION "0.3.0.dev4"
 
 /* The version of the running library; STORKLOCKER_VERSION is the version of this header. */
 const char *storklocker_version(void);

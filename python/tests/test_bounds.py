@@ -11,7 +11,7 @@ import unittest
 import storklocker
 from common import BY_PAIRS, python
 from storklocker import AllowList, Guard, Misused, Reason, Refused
-from test_guard import Piped
+from streams import Piped
 
 NOTHING = Guard(AllowList([]))
 

@@ -16,6 +16,7 @@ import harm
 import storklocker
 from common import PYTHON, python
 from storklocker import lists
+from storklocker.scanning import dangers
 from storklocker.scanning.command import main
 from storklocker.scanning.dangers import MOST, import_findings
 from storklocker.scanning.known import Known
@@ -62,6 +63,18 @@ def kinds(dotted):
         if dotted.startswith(f"{front}."):
             module, name = front, dotted[len(front) + 1 :]
     return [it.kind for it in import_findings([(module, name)])]
+
+
+class Kept(unittest.TestCase):
+    def test_a_judgement_is_kept_unless_its_names_are_long(self):
+        kept = dangers._judged_before
+        for name, is_kept in (("system", True), ("x" * 300, False)):
+            kept.cache_clear()
+            found = [dangers.judged("os", name) for _ in range(3)]
+            self.assertEqual(found, [dangers._judged("os", name)] * 3)
+            self.assertEqual(kept.cache_info().currsize, int(is_kept))
+        self.assertEqual(dangers.judged("os", "system").severity, "danger")
+        self.assertIsNotNone(kept.cache_info().maxsize)
 
 
 class Table(unittest.TestCase):

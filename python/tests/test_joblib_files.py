@@ -14,7 +14,7 @@ from common import SEEDS, needs
 from storklocker._storklocker import followed
 from storklocker.contrib.joblib import load_joblib
 from storklocker.scanning.joblib_cutting import Cutter
-from storklocker.scanning.joblib_types import NotJoblib
+from storklocker.scanning.following import NotFollowed
 from storklocker.scanning.judging import Question, reports_of
 from storklocker.scanning.source import in_memory
 
@@ -83,6 +83,9 @@ HOSTILE = {
     "a plain type with fields": file_of(MADE, state(kind(state=b"N(tN")), b"b", RAW, b"."),
     "a negative shape": file_of(MADE, state(shape=b"J\xfd\xff\xff\xff\x85"), b"b", RAW, b"."),
     "inside a frame": b"\x80\4\x95" + (len(ARRAY) + 1).to_bytes(8, "little") + ARRAY + b".",
+    "across a frame's end, behind an array of objects": file_of(
+        b"](", OBJECTS, b"\x80\2]K\1a.", b"\x95\5" + bytes(7), RUNS, b"e."
+    ),
     "files that it names": b"cjoblib.numpy_pickle\nNDArrayWrapper\n0" + WRAPPER + b"0N.",
 }
 
@@ -129,7 +132,7 @@ def outcome(data):
     cutter = Cutter(in_memory(io.BytesIO(data)), lambda at: 0, lambda: None)
     try:
         said = cutter.cut()
-    except NotJoblib as error:
+    except NotFollowed as error:
         said = str(error)
     shown = [repr(getattr(it, "__dict__", it)) for it in (cutter._stack, cutter._memo.items())]
     return said, cutter._at, cutter._frame, shown[0].count(","), len(cutter._memo)

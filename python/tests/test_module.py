@@ -140,8 +140,8 @@ class Module(unittest.TestCase):
         self.assertNotIn("PyUnstable", said)
 
     def test_it_is_as_short_as_it_was_promised(self):
-        promised = {"_storklocker.c": 345, "loads.c": 155, "walk.c": 135, "uses.c": 400}
-        promised.update({"cutting.c": 215, "audit.c": 35})
+        promised = {"_storklocker.c": 300, "pairs.c": 90, "loads.c": 160, "audit.c": 35}
+        promised.update({"walk.c": 145, "builds.c": 200, "uses.c": 390, "cutting.c": 215})
         for name, most in promised.items():
             lines = (PYTHON / name).read_text().splitlines()
             self.assertLessEqual(len(lines), most)
@@ -157,6 +157,16 @@ class Module(unittest.TestCase):
             ):
                 with self.subTest(given=given), self.assertRaises(TypeError):
                     call()
+        for call, count in (
+            (_storklocker.verdict, 3),
+            (_storklocker.row_verdict, 3),
+            (_storklocker.imports, 4),
+        ):
+            given = (b"N.", BY_PAIRS, None, 64, 64)
+            call(*given[:count])
+            for other in {0, 1, 2, 3, 4, 5} - {count}:
+                with self.subTest(call=call, count=other), self.assertRaises(TypeError):
+                    call(*given[:other])
         for pairs in ([], ("a",), ((b"a",),), (("a", "b"),), ((b"a", b"b"), None)):
             with self.subTest(pairs=pairs), self.assertRaises((TypeError, SystemError)):
                 _storklocker.pairs_of(AllowList, pairs, settings)
@@ -225,6 +235,8 @@ class Module(unittest.TestCase):
         )
         reasons = [repr(it) for it in (Reason.Truncated, None, Reason.Truncated, Reason.Truncated)]
         self.assertEqual(said.splitlines(), ["False", *reasons])
+        # the module finds each by its place
+        self.assertEqual(list(map(int, Reason)), list(range(1, len(Reason) + 1)))
 
     @needs("mypy")
     def test_types(self):
@@ -369,9 +381,10 @@ class Sanitized(unittest.TestCase):
             "test_values.Lists",
             "test_values.Copies",
             "test_guard.Loads",
-            "test_guard.Files",
+            "test_guarded_files.Files",
             "test_loads.Memory",
             "test_joblib_files.Hastened",
+            "test_builds",
             "test_uses",
         )
 

@@ -42,6 +42,9 @@ ENDS = (
 )
 
 
+JUNK = b"ab\n\0\xf3\xff."
+
+
 class Reached(BaseException):
     """A reader is about to import."""
 
@@ -50,6 +53,8 @@ class Stopping:
     """A reader that imports nothing."""
 
     def find_class(self, module, name):
+        if not module.replace(".", "").isidentifier():
+            raise ImportError  # as it does of each name that no module has
         raise Reached
 
     def persistent_load(self, name):
@@ -116,6 +121,20 @@ class Reaching(unittest.TestCase):
         for _ in range(20_000):
             parts = [instruction(chosen) for _ in range(chosen.randint(1, 8))]
             data = b"".join(parts) + chosen.choice(ENDS)
+            if is_reached(data):
+                reached += 1
+                self.assertEqual(status(data), "refused", data)
+        self.assertGreater(reached, 500)
+
+    def test_across_the_end_of_a_frame(self):
+        """The reader in C drops what a frame has of an argument, and reads that again behind it."""
+        chosen, reached = random.Random(20261127), 0
+        for _ in range(5_000):
+            last = chosen.choice((*ENDS, b"I1\n", b"S'a'\n", *COUNTED)) + b"0" + ENDS[0]
+            parts = [instruction(chosen) for _ in range(chosen.randint(0, 2))]
+            parts += (last[:1], bytes(chosen.choices(JUNK, k=chosen.randint(1, 4))))
+            framed = b"".join(parts)
+            data = b"\x95" + len(framed).to_bytes(8, "little") + framed + last[1:]
             if is_reached(data):
                 reached += 1
                 self.assertEqual(status(data), "refused", data)

@@ -126,6 +126,7 @@ def checkpoints():
     import torch
 
     value = {"w": torch.ones(3, 3), "b": [torch.zeros(99)], "n": torch.arange(5)}
+    value["all"] = [torch.full((130,), number) for number in range(256)]  # as the first byte
     for is_zip in (False, True):
         out = io.BytesIO()
         torch.save(value, out, _use_new_zipfile_serialization=is_zip)

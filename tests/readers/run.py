@@ -13,7 +13,6 @@ import collections
 import functools
 import io
 import json
-import multiprocessing
 import pathlib
 import random
 import re
@@ -24,10 +23,11 @@ import time
 
 HERE = pathlib.Path(__file__).resolve().parent
 PACKAGE = HERE.parents[1] / "python"
-sys.path[:0] = [str(HERE)]
+sys.path[:0] = [str(HERE), str(HERE.parent)]
 sys.path.append(str(PACKAGE))  # unless PYTHONPATH names another
 
 import made_by_libraries  # noqa: E402
+import progress  # noqa: E402
 import shapes  # noqa: E402
 from listed import LISTED  # noqa: E402
 from storklocker import AllowList  # noqa: E402
@@ -167,16 +167,15 @@ def main():
         for first in range(0, asked.files, CHUNK)
     ]
     end = time.monotonic() + asked.seconds
-    with multiprocessing.Pool(asked.jobs) as pool:
-        for count, misses, heard, died in pool.imap_unordered(compared, jobs):
-            passed, failed = passed + count - len(misses), failed + len(misses)
-            readers, deaths = readers + heard, deaths + died
-            for number, names, data in misses:
-                (asked.keep / str(number)).write_bytes(data)
-                print(f"file {number}: asked for by {', '.join(names)}, and not found", flush=True)
-            if time.monotonic() > end:
-                print(f"the time is over after {passed + failed:,} files")
-                break
+    for count, misses, heard, died in progress.results_of(compared, jobs, "chunks", asked.jobs):
+        passed, failed = passed + count - len(misses), failed + len(misses)
+        readers, deaths = readers + heard, deaths + died
+        for number, names, data in misses:
+            (asked.keep / str(number)).write_bytes(data)
+            print(f"file {number}: asked for by {', '.join(names)}, and not found", flush=True)
+        if time.monotonic() > end:
+            print(f"the time is over after {passed + failed:,} files")
+            break
     told = ", ".join(f"{name} {count:,}" for name, count in readers.most_common())
     print(f"asked for a name off the list: {told}; {deaths} files killed a reader")
     print(f"{passed} passed, {failed} failed")

@@ -23,6 +23,7 @@ pub mod ThreeEnds
 pub mod Going
 pub mod BehindStop
 pub mod Exclusive
+pub mod ExclusiveRows
 pub mod EachSetting
 mod AnswerExamples
 mod RowExamples

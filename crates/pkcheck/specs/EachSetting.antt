@@ -3,11 +3,15 @@ use Rattle.std.specs.Prelude.{ℕ, Bool, List}
 use Rattle.pkops.specs.Spelling.{Instruction}
 use Rattle.pkcheck.specs.declared.old_strings.OldStrings.{OldStrings}
 use Rattle.pkcheck.specs.declared.old_strings.OldStrings.TheVariants.{Unknown}
-use Rattle.pkcheck.specs.WholeRuns.{Sound}
+use Rattle.pkcheck.specs.RowRuns.{Beginning, InEachRunFrom}
+use Rattle.pkcheck.specs.WholeRuns.{EndsWell}
 
--- if all runs end well when old strings may decode to anything, they end well under each setting,
--- because a setting only picks one of these objects
+-- if all runs of a pickle end well when old strings may decode to anything, they end well under
+-- each setting, because a setting only picks one of these objects; the setting applies to the
+-- pickles behind which the runs begin, too
 abbrev pub SoundInEach : Type 0
 SoundInEach =
-    (setting : OldStrings) (instructions : List Instruction) (list : List ℕ → List ℕ → Bool) →
-    Sound Unknown instructions list → Sound setting instructions list
+    (setting : OldStrings) (beginning : Beginning) (instructions : List Instruction)
+    (list : List ℕ → List ℕ → Bool) →
+    InEachRunFrom Unknown beginning instructions (EndsWell list) →
+    InEachRunFrom setting beginning instructions (EndsWell list)

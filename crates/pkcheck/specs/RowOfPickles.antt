@@ -38,10 +38,11 @@ bytes_of_all pickles = flat_map spellings (sequences_of pickles)
 abbrev pub each_afresh : OldStrings → Loading
 each_afresh setting = record { memo = Fresh; old_strings = setting }
 
--- where the runs of the next pickle begin
+-- where the runs of the next pickle begin: those of the first one with nothing, whatever is kept
 abbrev pub begins : Memo → List Pickle → Beginning
 begins Fresh before = Afresh
-begins Kept before = Behind before
+begins Kept [] = Afresh
+begins Kept (pickle ∷ pickles) = Behind (pickle ∷ pickles)
 
 -- `check` would accept this pickle, with these instructions and imports, after the ones before it
 abbrev pub IsAcceptedBehind : Loading → Policy → Bounds → Sight → Sight → List Pickle → Pickle

@@ -5,14 +5,14 @@
 
 ghost use Rattle.std.specs.Prelude.{◌≡◌, IfErr, IfOk, MatchResult, true};
 ghost use Rattle.pkread.specs.Rows.{sight};
-ghost use Rattle.pkcheck.specs.Import.{policy_of};
+ghost use Rattle.pkcheck.specs.Import.{permit_of};
 ghost use Rattle.pkcheck.specs.ThreeEnds.{AnswersTold, CountsTold, StopsTold};
 
 use crate::audience::Audience;
 use crate::checking::No;
 use crate::imports::Imports;
 use crate::loading::Loading;
-use crate::policy::Policy;
+use crate::policy::Permit;
 use crate::row_of_pickles::{Row, YesAll};
 use crate::session::Session;
 use pkops::Limits;
@@ -69,16 +69,16 @@ pub struct RefusedPickle {
 pub fn check_pickles<R: Source, A: Audience>(
     alloc: Global,
     source: &mut R,
-    policy: &Policy<'_>,
+    policy: &Permit<'_>,
     terms: &Terms,
     audience: &mut A,
 ) -> Result<Result<YesAll, RefusedPickle>, A::Error>
     requires one { A.holding ≡ true → terms.now.limits.passed ≡ terms.now.limits.counted }
-    ensures answer { IfOk result (AnswersTold A.holding terms.now.loading (policy_of policy.now)
+    ensures answer { IfOk result (AnswersTold A.holding terms.now.loading (permit_of policy.now)
         terms.now.limits (sight R.left R.failures source.old) (sight R.left R.failures source.new)
         A.hears audience.old audience.new terms.now.extent) }
     ensures stopped { IfErr result (StopsTold A.holding terms.now.loading
-        (policy_of policy.now) terms.now.limits (sight R.left R.failures source.old)
+        (permit_of policy.now) terms.now.limits (sight R.left R.failures source.old)
         (sight R.left R.failures source.new) A.hears A.fails audience.old audience.new
         terms.now.extent) }
     ensures count { MatchResult result

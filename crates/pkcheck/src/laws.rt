@@ -4,7 +4,7 @@ ghost use Rattle.pkcheck.specs.ButForLimits.{RefusedForLimits};
 ghost use Rattle.pkcheck.specs.EachSetting.{SoundInEach};
 ghost use Rattle.pkcheck.specs.Ends.{ListedCarriesOver, SameAcross, SameAsItself, SameEitherWay};
 ghost use Rattle.pkcheck.specs.Ends.{SameEvents, WellCarriesOver, WellIsFree};
-ghost use Rattle.pkcheck.specs.Exclusive.{YesExcludesNo};
+ghost use Rattle.pkcheck.specs.Exclusive.{YesExcludesNo, YesOfRowExcludesNo};
 ghost use Rattle.pkcheck.specs.Pairs.{HalvingIsRight};
 
 use pkops::laws::{growth, one_answer};
@@ -16,11 +16,22 @@ pub fn halving()
     ensures { HalvingIsRight }
 {}
 
-/// An accepted pickle is not refused under the same policy, limits and setting, except for a
-/// refused allocation or a failed read.
+/// An accepted pickle is not refused under the same policy, limits and setting, if its runs begin
+/// alike, except for a refused allocation or a failed read.
 #[inline]
 pub fn yes_excludes_no()
     ensures { YesExcludesNo }
+{
+    growth();
+    one_answer();
+    one_sequence();
+}
+
+/// A row of pickles that was accepted is not refused when it is loaded alike, under the same policy
+/// and limits, except for a refused allocation or a failed read.
+#[inline]
+pub fn yes_of_row_excludes_no()
+    ensures { YesOfRowExcludesNo }
 {
     growth();
     one_answer();
@@ -39,7 +50,7 @@ pub fn refused_for_limits()
 }
 
 /// If all runs of a pickle end well when Python 2 strings may decode to anything, they end well
-/// under each setting of `old_strings`.
+/// under each setting of `old_strings`. The pickle may follow others of a row.
 #[inline]
 pub fn sound_in_each()
     ensures { SoundInEach }

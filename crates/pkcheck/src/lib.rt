@@ -35,7 +35,7 @@ pub use loading::{Loading, Memo};
 pub use machine::{Machine, Moved};
 pub use old_strings::OldStrings;
 pub use pairs::Pair;
-pub use policy::Policy;
+pub use policy::{Permit, Policy};
 pub use quoted::Quoted;
 pub use row_of_pickles::{NoAll, YesAll, check_all, check_all_loaded};
 pub use with_imports::{NoWithImports, check_with_imports};

@@ -13,7 +13,7 @@ use crate::check_loop::{Extent, Terms, check_pickles};
 use crate::checking::{No, Yes};
 use crate::loading::{Loading, Memo};
 use crate::old_strings::OldStrings;
-use crate::policy::Policy;
+use crate::policy::{Permit, Policy};
 use pkops::{Inst, Limits};
 use pkread::Source;
 use std::alloc::Global;
@@ -79,7 +79,7 @@ pub fn check_heard<R: Source, L: Listener>(
         },
         extent: Extent::OnePickle,
     };
-    match check_pickles(alloc, source, policy, &terms, listener)? {
+    match check_pickles(alloc, source, &Permit::By(*policy), &terms, listener)? {
         Ok(yes) => Ok(Ok(Yes {
             taken: yes.taken,
             imports: yes.imports,

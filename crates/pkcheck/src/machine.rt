@@ -25,7 +25,7 @@ ghost use Rattle.pkops.specs.Spelling.{Instruction};
 ghost use Rattle.pkcheck.specs.Shape.{marks_of};
 ghost use Rattle.pkcheck.specs.Runs.{State, start};
 ghost use Rattle.pkcheck.specs.Covers.{Covers};
-ghost use Rattle.pkcheck.specs.Import.{asked_shown, policy_of, pair_shown};
+ghost use Rattle.pkcheck.specs.Import.{asked_shown, pair_shown, permit_of, policy_of};
 ghost use Rattle.pkcheck.specs.Private.NextPickle.{moved_apart, restarted};
 ghost use Rattle.pkops.specs.Payloads.{is_passed};
 ghost use Rattle.pkcheck.specs.Step.{AnswersAsBefore, AppendsPermitted, FailsStep, GoesOn};
@@ -45,7 +45,7 @@ use crate::machine::ledger::Ledger;
 use crate::machine::stepping::advance;
 use crate::machine::terms::Terms;
 use crate::old_strings::OldStrings;
-use crate::policy::Policy;
+use crate::policy::{Permit, Policy};
 use pkops::{Inst, Limits, Op};
 use pkread::Reason;
 use std::alloc::{AllocError, Global};
@@ -161,16 +161,16 @@ impl Machine {
         if let Some(reason) = self.refused {
             return Err(reason);
         }
-        self.step_on(inst, policy)
+        self.step_on(inst, &Permit::By(*policy))
     }
 
     /// Steps as [`Machine::step`] does, but does not ask whether an earlier step was refused.
     #[inline(always)]
-    pub(crate) fn step_on(&mut self, inst: &Inst, policy: &Policy) -> Result<Moved, Reason>
+    pub(crate) fn step_on(&mut self, inst: &Inst, policy: &Permit) -> Result<Moved, Reason>
         requires admitted { is_admitted (instruction_of inst.now) ≡ true }
         requires running { self.old.stopped ≡ false }
         requires well { self.old.refused ≡ None }
-        ensures step { IsStep (policy_of policy.now) (instruction_of inst.now) self.old self.new
+        ensures step { IsStep (permit_of policy.now) (instruction_of inst.now) self.old self.new
             result }
         ensures texts { OnOk result (self.new.texts
             ≡ texts_then self.old.old_strings (instruction_of inst.now).op self.old.texts) }
@@ -198,6 +198,18 @@ impl Machine {
         requires running { self.old.stopped ≡ false }
         ensures step { (instruction : Instruction) → instruction.op ≡ op
             → IsStep (policy_of policy.now) instruction self.old self.new result }
+        ensures goes_on { IfOk result (λ moved. (moved ≡ Moved.On) × (self.new.stopped ≡ false)) }
+        ensures imports { self.new.imports ≡ self.old.imports }
+    {
+        self.step_passed_by(op, &Permit::By(*policy))
+    }
+
+    /// Steps as [`Machine::step_passed`] does, whatever permits the imports.
+    pub(crate) fn step_passed_by(&mut self, op: Op, policy: &Permit) -> Result<Moved, Reason>
+        requires passed { IsTrue (is_passed op) }
+        requires running { self.old.stopped ≡ false }
+        ensures step { (instruction : Instruction) → instruction.op ≡ op
+            → IsStep (permit_of policy.now) instruction self.old self.new result }
         ensures goes_on { IfOk result (λ moved. (moved ≡ Moved.On) × (self.new.stopped ≡ false)) }
         ensures imports { self.new.imports ≡ self.old.imports }
     {

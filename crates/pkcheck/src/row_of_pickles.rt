@@ -3,7 +3,7 @@
 ghost use Rattle.std.specs.Prelude.{◌≡◌, ◌<◌, [], None, drop, length, true};
 ghost use Rattle.pkread.specs.ReaderCalls.{TakesNoneAhead, has_ended, state};
 ghost use Rattle.pkread.specs.Rows.{all_bytes, sight};
-ghost use Rattle.pkcheck.specs.Import.{policy_of};
+ghost use Rattle.pkcheck.specs.Import.{permit_of, policy_of};
 ghost use Rattle.pkcheck.specs.Private.Judgement.{IsNoAt};
 ghost use Rattle.pkcheck.specs.Private.NextPickle.{IsCounted, IsRestarted, LooksBehind, listed_in};
 ghost use Rattle.pkcheck.specs.RowOfPickles.{CountsInRow, IsRightOfRow, each_afresh};
@@ -15,7 +15,7 @@ use crate::imports::Imports;
 use crate::loading::{Loading, Memo};
 use crate::machine::ledger::Ledger;
 use crate::old_strings::OldStrings;
-use crate::policy::Policy;
+use crate::policy::{Permit, Policy};
 use crate::session::Session;
 use crate::with_imports::NoWithImports;
 use pkops::Limits;
@@ -77,7 +77,7 @@ pub fn check_all<R: Source>(
         memo: Memo::Fresh,
         old_strings,
     };
-    check_all_loaded(alloc, source, policy, limits, loading)
+    check_all_loaded(alloc, source, &Permit::By(*policy), limits, loading)
 }
 
 /// Reads one pickle after another, up to the end of the source, and checks each as
@@ -97,11 +97,11 @@ pub fn check_all<R: Source>(
 pub fn check_all_loaded<R: Source>(
     alloc: Global,
     source: &mut R,
-    policy: &Policy<'_>,
+    policy: &Permit<'_>,
     limits: &Limits,
     loading: Loading,
 ) -> Result<YesAll, NoAll>
-    ensures answer { IsRightOfRow loading (policy_of policy.now) limits.now
+    ensures answer { IsRightOfRow loading (permit_of policy.now) limits.now
         (sight R.left R.failures source.old) (sight R.left R.failures source.new) result }
     ensures count { CountsInRow (R.failures source.old) (R.failures source.new) result }
 {

@@ -11,7 +11,7 @@ ghost use Rattle.pkread.specs.Pieces.{number_of, role_of};
 ghost use Rattle.pkread.specs.ReaderCalls.{KeepsSource, TakesNoneAhead, has_ended, state};
 ghost use Rattle.pkread.specs.Rows.{all_bytes};
 ghost use Rattle.pkcheck.specs.Covers.{Covers};
-ghost use Rattle.pkcheck.specs.Import.{policy_of};
+ghost use Rattle.pkcheck.specs.Import.{permit_of};
 ghost use Rattle.pkcheck.specs.Private.Judgement.{BothGoOn, HasLength, IsNoAt, IsRefused};
 ghost use Rattle.pkcheck.specs.Private.Lent.{FailsAtHand, FailsInTurn, HearsAlong, HearsInTurn};
 ghost use Rattle.pkcheck.specs.Private.Lent.{HearsRefused, HearsTurned};
@@ -28,7 +28,7 @@ use crate::loading::Memo;
 use crate::machine::Machine;
 use crate::machine::ledger::Ledger;
 use crate::old_strings::OldStrings;
-use crate::policy::Policy;
+use crate::policy::Permit;
 use crate::turned::{Failed, Turned};
 use crate::with_imports::NoWithImports;
 use pkops::{Inst, Limits, Op};
@@ -79,20 +79,20 @@ impl Session {
     pub fn hear_at_hand<R: Source, A: Audience>(
         &mut self,
         reader: &mut Reader<'_, R>,
-        policy: &Policy<'_>,
+        policy: &Permit<'_>,
         audience: &mut A,
     ) -> Result<Result<(), Refusal>, A::Error>
         requires ends { self.old.machine.stopped ≡ has_ended (state R.left R.failures reader.old) }
         requires well { self.old.machine.refused ≡ None }
         ensures source { KeepsSource reader.old reader.new }
         ensures ok { IfOk result (λ judged. OnOk judged (HearsAlong A.hears audience.old
-            audience.new A.holding (policy_of policy.now) (state R.left R.failures reader.old)
+            audience.new A.holding (permit_of policy.now) (state R.left R.failures reader.old)
             (state R.left R.failures reader.new) self.old self.new)) }
         ensures no { IfOk result (λ judged. IfErr judged (HearsRefused A.hears audience.old
-            audience.new A.holding (policy_of policy.now) (state R.left R.failures reader.old)
+            audience.new A.holding (permit_of policy.now) (state R.left R.failures reader.old)
             (state R.left R.failures reader.new) self.old self.new.machine)) }
         ensures err { IfErr result (FailsAtHand A.hears A.fails audience.old audience.new A.holding
-            (policy_of policy.now) (state R.left R.failures reader.old)
+            (permit_of policy.now) (state R.left R.failures reader.old)
             (state R.left R.failures reader.new) self.old) }
         ensures none { MatchResult result (λ judged. OnErr judged (TakesNoneAhead reader.new))
             (λ _. TakesNoneAhead reader.new) }
@@ -133,19 +133,19 @@ impl Session {
         &mut self,
         at: u64,
         bytes: &[u8],
-        policy: &Policy<'_>,
+        policy: &Permit<'_>,
         audience: &mut A,
     ) -> Result<Result<usize, Turned>, Failed<A::Error>>
         requires running { self.old.machine.stopped ≡ false }
         requires well { self.old.machine.refused ≡ None }
         requires room { at + length bytes.now ≤ all_bytes }
         ensures ok { IfOk result (λ judged. IfOk judged (HearsInTurn A.hears audience.old
-            audience.new A.holding (policy_of policy.now) at bytes.now self.old self.new)) }
+            audience.new A.holding (permit_of policy.now) at bytes.now self.old self.new)) }
         ensures no { IfOk result (λ judged. IfErr judged (HearsTurned A.hears audience.old
-            audience.new A.holding (policy_of policy.now) at bytes.now self.old
+            audience.new A.holding (permit_of policy.now) at bytes.now self.old
             self.new.machine)) }
         ensures err { IfErr result (λ failed. FailsInTurn A.hears A.fails audience.old
-            audience.new A.holding (policy_of policy.now) at bytes.now self.old failed.before
+            audience.new A.holding (permit_of policy.now) at bytes.now self.old failed.before
             failed.length failed.error) }
     {
         let inside = self.frames.inside(bytes);
@@ -181,7 +181,7 @@ impl Session {
     pub fn hear_next<R: Source, A: Audience>(
         &mut self,
         reader: &mut Reader<'_, R>,
-        policy: &Policy<'_>,
+        policy: &Permit<'_>,
         audience: &mut A,
     ) -> Result<Result<(), Refusal>, A::Error>
         requires ready { (state R.left R.failures reader.old).phase ≡ Open }
@@ -190,10 +190,10 @@ impl Session {
         ensures source { KeepsSource reader.old reader.new }
         ensures none { TakesNoneAhead reader.new }
         ensures ok { IfOk result (λ judged. OnOk judged (HearsNext A.holding A.hears audience.old
-            audience.new (policy_of policy.now) (state R.left R.failures reader.old)
+            audience.new (permit_of policy.now) (state R.left R.failures reader.old)
             (state R.left R.failures reader.new) self.old self.new)) }
         ensures no { IfOk result (λ judged. IfErr judged (RefusesNext A.holding A.hears
-            audience.old audience.new (policy_of policy.now) (state R.left R.failures reader.old)
+            audience.old audience.new (permit_of policy.now) (state R.left R.failures reader.old)
             (state R.left R.failures reader.new) self.old self.new.machine)) }
         ensures err { IfErr result (FailsNext A.holding A.fails audience.old audience.new
             (state R.left R.failures reader.old) (state R.left R.failures reader.new) self.old) }
@@ -209,7 +209,7 @@ impl Session {
     fn hear_held<R: Source, A: Audience>(
         &mut self,
         reader: &mut Reader<'_, R>,
-        policy: &Policy<'_>,
+        policy: &Permit<'_>,
         audience: &mut A,
     ) -> Result<Result<(), Refusal>, A::Error>
         requires ready { (state R.left R.failures reader.old).phase ≡ Open }
@@ -218,10 +218,10 @@ impl Session {
         ensures source { KeepsSource reader.old reader.new }
         ensures none { TakesNoneAhead reader.new }
         ensures ok { IfOk result (λ judged. OnOk judged (HearsNext true A.hears audience.old
-            audience.new (policy_of policy.now) (state R.left R.failures reader.old)
+            audience.new (permit_of policy.now) (state R.left R.failures reader.old)
             (state R.left R.failures reader.new) self.old self.new)) }
         ensures no { IfOk result (λ judged. IfErr judged (RefusesNext true A.hears audience.old
-            audience.new (policy_of policy.now) (state R.left R.failures reader.old)
+            audience.new (permit_of policy.now) (state R.left R.failures reader.old)
             (state R.left R.failures reader.new) self.old self.new.machine)) }
         ensures err { IfErr result (FailsNext true A.fails audience.old audience.new
             (state R.left R.failures reader.old) (state R.left R.failures reader.new) self.old) }
@@ -246,7 +246,7 @@ impl Session {
     fn hear_head<R: Source, A: Audience>(
         &mut self,
         reader: &mut Reader<'_, R>,
-        policy: &Policy<'_>,
+        policy: &Permit<'_>,
         audience: &mut A,
     ) -> Result<Result<(), Refusal>, A::Error>
         requires skips { A.holding ≡ false }
@@ -256,10 +256,10 @@ impl Session {
         ensures source { KeepsSource reader.old reader.new }
         ensures none { TakesNoneAhead reader.new }
         ensures ok { IfOk result (λ judged. OnOk judged (HearsNext false A.hears audience.old
-            audience.new (policy_of policy.now) (state R.left R.failures reader.old)
+            audience.new (permit_of policy.now) (state R.left R.failures reader.old)
             (state R.left R.failures reader.new) self.old self.new)) }
         ensures no { IfOk result (λ judged. IfErr judged (RefusesNext false A.hears audience.old
-            audience.new (policy_of policy.now) (state R.left R.failures reader.old)
+            audience.new (permit_of policy.now) (state R.left R.failures reader.old)
             (state R.left R.failures reader.new) self.old self.new.machine)) }
         ensures err { IfErr result (FailsNext false A.fails audience.old audience.new
             (state R.left R.failures reader.old) (state R.left R.failures reader.new) self.old) }
@@ -291,13 +291,13 @@ impl Session {
 
     /// Judges an instruction that a loop seldom meets: any one that is not lent.
     #[inline(never)]
-    pub fn judge(&mut self, inst: &Inst<'_>, policy: &Policy<'_>) -> Result<(), Reason>
+    pub fn judge(&mut self, inst: &Inst<'_>, policy: &Permit<'_>) -> Result<(), Reason>
         requires admitted { IsTrue (is_admitted (instruction_of inst.now)) }
         requires running { self.old.machine.stopped ≡ false }
         requires well { self.old.machine.refused ≡ None }
-        ensures ok { IfOk result (λ _. BothGoOn (policy_of policy.now) (instruction_of inst.now)
+        ensures ok { IfOk result (λ _. BothGoOn (permit_of policy.now) (instruction_of inst.now)
             self.old.frame self.old.machine self.new.frame self.new.machine) }
-        ensures err { IfErr result (IsRefused (policy_of policy.now) (instruction_of inst.now)
+        ensures err { IfErr result (IsRefused (permit_of policy.now) (instruction_of inst.now)
             self.old.frame self.old.machine self.new.machine) }
     {
         self.frames.take(inst.op(), inst.len(), frame_length(inst))?;
@@ -306,20 +306,20 @@ impl Session {
     }
 
     /// Judges an instruction with this opcode and length whose payload was skipped.
-    pub fn judge_passed(&mut self, op: Op, length: u64, policy: &Policy<'_>) -> Result<(), Reason>
+    pub fn judge_passed(&mut self, op: Op, length: u64, policy: &Permit<'_>) -> Result<(), Reason>
         requires passed { IsTrue (is_passed op) }
         requires some { 0 < length }
         requires running { self.old.machine.stopped ≡ false }
         requires well { self.old.machine.refused ≡ None }
         ensures ok { IfOk result (λ _. (i : Instruction) → HasLength i op length
-            → BothGoOn (policy_of policy.now) i self.old.frame self.old.machine
+            → BothGoOn (permit_of policy.now) i self.old.frame self.old.machine
             self.new.frame self.new.machine) }
         ensures err { IfErr result (λ reason. (i : Instruction) → HasLength i op length
-            → IsRefused (policy_of policy.now) i self.old.frame self.old.machine
+            → IsRefused (permit_of policy.now) i self.old.frame self.old.machine
             self.new.machine reason) }
     {
         self.frames.take(op, length, 0)?;
-        self.machine.step_passed(op, policy)?;
+        self.machine.step_passed_by(op, policy)?;
         Ok(())
     }
 

@@ -1,7 +1,7 @@
 //! A check that also gives the imports of a refused pickle.
 
 ghost use Rattle.pkread.specs.Rows.{sight};
-ghost use Rattle.pkcheck.specs.Import.{policy_of};
+ghost use Rattle.pkcheck.specs.Import.{permit_of};
 ghost use Rattle.pkcheck.specs.WithImports.{CountsWithImports, IsRightWithImports};
 
 use crate::audience::Silent;
@@ -10,7 +10,7 @@ use crate::checking::{No, Yes};
 use crate::imports::Imports;
 use crate::loading::{Loading, Memo};
 use crate::old_strings::OldStrings;
-use crate::policy::Policy;
+use crate::policy::Permit;
 use pkops::Limits;
 use pkread::Source;
 use std::alloc::Global;
@@ -33,11 +33,11 @@ pub struct NoWithImports {
 pub fn check_with_imports<R: Source>(
     alloc: Global,
     source: &mut R,
-    policy: &Policy<'_>,
+    policy: &Permit<'_>,
     limits: &Limits,
     old_strings: OldStrings,
 ) -> Result<Yes, NoWithImports>
-    ensures answer { IsRightWithImports old_strings (policy_of policy.now) limits.now
+    ensures answer { IsRightWithImports old_strings (permit_of policy.now) limits.now
         (sight R.left R.failures source.old) (sight R.left R.failures source.new) result }
     ensures count { CountsWithImports (R.failures source.old) (R.failures source.new) result }
 {

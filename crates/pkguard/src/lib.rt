@@ -18,7 +18,7 @@ mod settings;
 mod verdict;
 
 ghost use Rattle.std.specs.Prelude.{◌≡◌, ◌≢◌, ◌≤◌, None, Some};
-ghost use Rattle.pkcheck.specs.Import.{policy_of};
+ghost use Rattle.pkcheck.specs.Import.{permit_of};
 ghost use Rattle.pkguard.specs.Guard.{IsListFault, IsImports, IsImportsBefore, IsListRead};
 ghost use Rattle.pkguard.specs.Guard.{IsNo, IsNoOfRow, IsOfAnotherSize, IsUsage, IsYes, IsYesOfRow};
 ghost use Rattle.pkguard.specs.Guard.{Under};
@@ -26,7 +26,7 @@ ghost use Rattle.pkguard.specs.Settings.{PermitsPairs, Sets, limits_by, limits_w
 ghost use Rattle.pkguard.specs.Settings.{listed_by, loading_by};
 
 use pkcheck::laws::halving;
-use pkcheck::{Loading, OldStrings, Pair, Policy, check_all_loaded, check_as, check_with_imports};
+use pkcheck::{Loading, OldStrings, Pair, Permit, Policy, check_all_loaded, check_with_imports};
 use pkops::Limits;
 use pkread::Memory;
 pub use settings::Settings;
@@ -66,7 +66,7 @@ pub extern "C" fn pkguard_check_pairs(
         None => verdict::of_usage(),
         Some(old) => {
             let terms = Terms {
-                policy: settings::policy_by(settings, pairs),
+                permit: settings::permit_by(settings, pairs),
                 limits: settings::limits_by(settings),
                 loading: settings::loading_by(settings, old),
             };
@@ -140,7 +140,7 @@ pub extern "C" fn pkguard_check_row(
         None => verdict::of_usage(),
         Some(old) => {
             let terms = Terms {
-                policy: settings::policy_by(settings, pairs),
+                permit: settings::permit_by(settings, pairs),
                 limits: settings::limits_by(settings),
                 loading: settings::loading_by(settings, old),
             };
@@ -208,7 +208,7 @@ pub extern "C" fn pkguard_imports(
         None => verdict::of_usage(),
         Some(old) => {
             let terms = Terms {
-                policy: Policy::AnyImport,
+                permit: Permit::By(Policy::AnyImport),
                 limits: settings::limits_by(settings),
                 loading: settings::loading_by(settings, old),
             };
@@ -247,7 +247,7 @@ fn read(
 /// What a check obeys.
 #[derive(Clone, Copy)]
 struct Terms<'a> {
-    policy: Policy<'a>,
+    permit: Permit<'a>,
     limits: Limits,
     loading: Loading,
 }
@@ -260,7 +260,7 @@ fn imported(
     room: &mut [u8],
     wanted: &mut u64,
 ) -> Verdict
-    requires { policy_of terms.now.policy ≡ None }
+    requires { permit_of terms.now.permit ≡ None }
     ensures bound { result.status ≤ 1 }
     ensures yes { result.status ≡ 0 → IsImports terms.now.loading.old_strings terms.now.limits
         pickle.now room.old room.new wanted.new result }
@@ -269,7 +269,7 @@ fn imported(
 {
     let mut source = Memory::new(pickle);
     let old = terms.loading.old_strings;
-    match check_with_imports(alloc, &mut source, &terms.policy, &terms.limits, old) {
+    match check_with_imports(alloc, &mut source, &terms.permit, &terms.limits, old) {
         Ok(yes) => {
             *wanted = encoding::give_imports(&yes.imports, room);
             verdict::of_yes(yes.taken, &yes.imports, 1)
@@ -310,7 +310,7 @@ fn listed(
         Ok(allow) => {
             let terms = Terms {
                 limits: settings::limits_within(served.settings, &allow.limits()),
-                policy: Policy::Listed(&allow),
+                permit: Permit::By(Policy::Listed(&allow)),
                 loading: settings::loading_by(served.settings, served.old_strings),
             };
             answered(alloc, &terms, pickle, room)
@@ -322,37 +322,37 @@ fn listed(
 fn answered(alloc: Global, terms: &Terms<'_>, pickle: &[u8], room: &mut [u8]) -> Verdict
     ensures bound { result.status ≤ 1 }
     ensures yes { result.status ≡ 0 → IsYes terms.now.loading.old_strings
-        (policy_of terms.now.policy) terms.now.limits pickle.now room.old room.new result }
+        (permit_of terms.now.permit) terms.now.limits pickle.now room.old room.new result }
     ensures no { result.status ≡ 1 → IsNo terms.now.loading.old_strings
-        (policy_of terms.now.policy) terms.now.limits pickle.now room.old room.new result }
+        (permit_of terms.now.permit) terms.now.limits pickle.now room.old room.new result }
 {
     let mut source = Memory::new(pickle);
     let Loading { old_strings, .. } = terms.loading;
-    match check_as(
+    match check_with_imports(
         alloc,
         &mut source,
-        &terms.policy,
+        &terms.permit,
         &terms.limits,
         old_strings,
     ) {
         Ok(yes) => verdict::of_yes(yes.taken, &yes.imports, 1),
-        Err(no) => verdict::of_no(&no, 0, room),
+        Err(refused) => verdict::of_no(&refused.no, 0, room),
     }
 }
 
 /// The verdict of `check_all_loaded`.
 fn answered_row(alloc: Global, terms: &Terms<'_>, pickles: &[u8], room: &mut [u8]) -> Verdict
     ensures bound { result.status ≤ 1 }
-    ensures yes { result.status ≡ 0 → IsYesOfRow terms.now.loading (policy_of terms.now.policy)
+    ensures yes { result.status ≡ 0 → IsYesOfRow terms.now.loading (permit_of terms.now.permit)
         terms.now.limits pickles.now room.old room.new result }
-    ensures no { result.status ≡ 1 → IsNoOfRow terms.now.loading (policy_of terms.now.policy)
+    ensures no { result.status ≡ 1 → IsNoOfRow terms.now.loading (permit_of terms.now.permit)
         terms.now.limits pickles.now room.old room.new result }
 {
     let mut source = Memory::new(pickles);
     match check_all_loaded(
         alloc,
         &mut source,
-        &terms.policy,
+        &terms.permit,
         &terms.limits,
         terms.loading,
     ) {

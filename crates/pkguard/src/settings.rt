@@ -1,11 +1,11 @@
 //! The settings of a check.
 ghost use Rattle.std.specs.Prelude.{◌≡◌, ◌==◌, Some};
-ghost use Rattle.pkcheck.specs.Import.{policy_of};
+ghost use Rattle.pkcheck.specs.Import.{permit_of};
 ghost use Rattle.pkguard.specs.Listed.{are_usual, settings_with};
 ghost use Rattle.pkguard.specs.Settings.{is_served, limits_within, old_strings_in};
 ghost use Rattle.pkguard.specs.Settings.{limits_by, listed_by, loading_by, old_strings_of};
 
-use pkcheck::{Loading, Memo, OldStrings, Pair, Policy};
+use pkcheck::{Loading, Memo, OldStrings, Pair, Permit};
 use pkops::Limits;
 use std::cmp;
 
@@ -105,13 +105,13 @@ fn old_strings_of(number: u32) -> Option<OldStrings>
 }
 
 /// The permitted pairs.
-pub fn policy_by<'a>(settings: &Settings, pairs: &'a [Pair<'a>]) -> Policy<'a>
-    ensures { policy_of result ≡ Some (listed_by settings.now pairs.entry.now) }
+pub fn permit_by<'a>(settings: &Settings, pairs: &'a [Pair<'a>]) -> Permit<'a>
+    ensures { permit_of result ≡ Some (listed_by settings.now pairs.entry.now) }
 {
     if settings.sorted == 1 {
-        Policy::Sorted(pairs)
+        Permit::Sorted(pairs)
     } else {
-        Policy::Pairs(pairs)
+        Permit::Pairs(pairs)
     }
 }
 

@@ -6,9 +6,12 @@ pub mod Whole
 pub mod Metered
 pub mod Tolds
 pub mod Loading
+pub mod Exceeding
+pub mod Costs
+pub mod Ends
+pub mod Settled
 -- the machine
 pub mod Slots
-pub mod Actions
 pub mod Taking
 -- worked rows
 mod Rows

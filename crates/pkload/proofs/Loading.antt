@@ -1,8 +1,9 @@
 -- What a check with the audience that keeps the bill says.
-use Rattle.std.proofs.Common.{◌≡◌, ℕ, suc, ◌+◌, true, false, List, [], ◌∷◌, ◌++◌, length}
-use Rattle.std.proofs.Common.{None, Result, Ok, Err, IfOk, refl, sym, ap, subst, ◌∙◌, arith}
+use Rattle.std.proofs.Common.{◌≡◌, ℕ, suc, true, false, List, [], ◌∷◌, ◌++◌, length}
+use Rattle.std.proofs.Common.{Option, None, Some, Result, Ok, Err}
+use Rattle.std.proofs.Common.{IfOk, refl, sym, ap, subst, ◌∙◌, arith}
 use Rattle.std.proofs.Common.{length-append}
-use Rattle.std.specs.Prelude.{All, MatchResult, option_map}
+use Rattle.std.specs.Prelude.{All, ◌≢◌, ⊤}
 use Rattle.std.proofs.lemmas.List.Elements.{All-head, All-tail, All-cons, All-nil}
 use Rattle.pkops.specs.Contents.{IsGood}
 use Rattle.pkops.specs.Limits.{Bounds}
@@ -11,30 +12,26 @@ use Rattle.pkops.specs.Spelling.{Instruction}
 use Rattle.pkread.specs.Admission.{IsAllowedBy}
 use Rattle.pkread.specs.Rows.{Sight}
 use Rattle.pkread.specs.Sequence.{IsSequence, StopIsLast}
-use Rattle.pkcheck.specs.Import.{asked_shown}
 use Rattle.pkcheck.specs.Knowledge.{Policy}
 use Rattle.pkcheck.specs.Reports.{AreReportsBehind, Report}
 use Rattle.pkcheck.specs.RowOfPickles.{AreAccepted, begins, bytes_of_all}
 use Rattle.pkcheck.specs.RowRuns.{Afresh, Beginning, Behind, Pickle, sequences_of}
 use Rattle.pkcheck.specs.Runs.{Raised, Stopped, Stuck, WentOn, start}
 use Rattle.pkcheck.specs.Shape.{Breach, and_then}
-use Rattle.pkcheck.specs.ThreeEnds.{AcceptedAndTold, AreReportsOf, RefusedAndTold}
+use Rattle.pkcheck.specs.ThreeEnds.{AreReportsOf}
 use Rattle.pkcheck.specs.WholeRuns.{Ended, EndedBy, Reached, run_as}
-use Rattle.pkcheck.specs.declared.check_loop.Extent.{Extent}
 use Rattle.pkcheck.specs.declared.check_loop.Extent.TheVariants.{OnePickle, ToTheEnd}
-use Rattle.pkcheck.specs.declared.check_loop.RefusedPickle.{RefusedPickle}
 use Rattle.pkcheck.specs.declared.loading.Loading.{Loading}
 use Rattle.pkcheck.specs.declared.loading.Memo.{Memo}
 use Rattle.pkcheck.specs.declared.loading.Memo.TheVariants.{Fresh, Kept}
 use Rattle.pkcheck.specs.declared.old_strings.OldStrings.{OldStrings}
-use Rattle.pkcheck.specs.declared.row_of_pickles.YesAll.{YesAll}
 use Rattle.pkload.proofs.Accounts.{implies_across}
 use Rattle.pkload.proofs.Tolds.{NoneBehindStop, metering_of, none_behind, stopped, told_along}
 use Rattle.pkload.proofs.Whole.{bill_bounds_runs}
 use Rattle.pkload.specs.Bill.{Bill, all_billed, bill_before, billed, next_bill, no_bill, row_billed}
-use Rattle.pkload.specs.Laws.{EndsBilled}
-use Rattle.pkload.specs.Loading.{CostsWithin, EndsWithin, IsRightLoading, KeepWithin}
-use Rattle.pkload.specs.Private.Meter.{AllFit, Fits, Meter, Meters, metered_more, metering_in}
+use Rattle.pkload.specs.Laws.{EndsBilled, TollsOnlyRefuse}
+use Rattle.pkload.specs.Loading.{CostsWithin, EndsWithin, KeepWithin, last_bill}
+use Rattle.pkload.specs.Private.Meter.{AllFit, Fits, metered_more, metering_in}
 use Rattle.pkload.specs.Private.Told.{Metering, all_metered, metered, next_if, next_in, ready}
 use Rattle.pkload.specs.Private.Told.{told_billed, with_bill}
 use Rattle.pkload.specs.Tally.{IsAtMost}
@@ -133,6 +130,10 @@ stops_ended is b c s e =
     let l = last_billed s.0 s.1 b c (subst (λ x. all_billed x b ≡ Ok c) s.2 e) in
     stopped s.1 l.0 c s.3 l.1
 
+-- where a check begins
+abbrev pub at_first : Metering
+at_first = record { pickle = 0; bill = no_bill }
+
 -- ---- a pickle of a row
 
 module _ (tolls : Tolls) (loading : Loading) where
@@ -180,6 +181,7 @@ module _ (tolls : Tolls) (loading : Loading) where
   pub record IsPickleWithin (before : List Pickle) (is : List Instruction) (m n : Metering)
       : Type 0 where
     pub costs : CostsWithin setting (begins memo before) tolls is
+    pub same : costs.bill ≡ n.bill
     pub bill : all_billed is (ready memo m).bill ≡ Ok n.bill
     pub ended : n.bill.ended ≡ true
     pub pickle : n.pickle ≡ (ready memo m).pickle
@@ -209,6 +211,7 @@ module _ (tolls : Tolls) (loading : Loading) where
           runs = runs_within tolls n.bill setting (begins memo before) is
               (bill_bounds_runs setting (begins memo before) is n.bill all) fits.0;
         };
+        same = refl;
         bill = k.bill;
         ended = stops_ended is (ready memo m).bill n.bill s k.bill;
         pickle = k.pickle;
@@ -237,9 +240,10 @@ module _ (tolls : Tolls) (loading : Loading) where
       → bill_before (begins k before) ≡ Ok b → all_billed p.instructions b ≡ Ok c
       → bill_before (begins k (before ++ p ∷ [])) ≡ Ok (next_in k c)
   next_before Fresh before p b c e h = refl
-  next_before Kept before p b c e h =
-      ap (λ l. row_billed l no_bill) (sequences_end before p)
-      ∙ row_end (sequences_of before) p.instructions no_bill b c e h
+  next_before Kept [] p b c e h = row_end [] p.instructions no_bill b c e h
+  next_before Kept (x ∷ before) p b c e h =
+      ap (λ l. row_billed l no_bill) (sequences_end (x ∷ before) p)
+      ∙ row_end (sequences_of (x ∷ before)) p.instructions no_bill b c e h
 
   next_goes : (k : Memo) (b : Bill) → (next_in k b).ended ≡ false
   next_goes Fresh b = refl
@@ -273,13 +277,35 @@ module _ (tolls : Tolls) (loading : Loading) where
       one (Ok k) g on = ((g.0, (on k g.1).0), λ n e. (on k g.1).1 n e)
       one (Err e) g on = (tt, λ n j. cc j)
 
+  -- the bill, if there is one, is what was metered
+  abbrev pub IsLast : Option Bill → Metering → Type 0
+  IsLast None n = ⊤
+  IsLast (Some bill) n = bill ≡ n.bill
+
+  -- each of these pickles, which follow those before, keeps within the limits, and this was metered
+  -- of the last
+  abbrev pub RowWithin : List Pickle → List Pickle → Metering → Type 0
+  RowWithin before ps n = (kept : KeepWithin loading tolls before ps)
+      × IsLast (last_bill loading tolls before ps kept) n
+
+  row_more : (p : Pickle) (ps before : List Pickle)
+      (costs : CostsWithin setting (begins memo before) tolls p.instructions)
+      (k n : Metering) (rs : List Report) → costs.bill ≡ k.bill
+      → AreReportsOf false loading (before ++ p ∷ []) ps rs → all_metered memo rs k ≡ Ok n
+      → RowWithin (before ++ p ∷ []) ps n → RowWithin before (p ∷ ps) n
+  row_more p [] before costs k n rs same h e r = (
+    (costs, tt),
+    same ∙ ap (λ m. m.bill)
+        (ap (metering_in k) (subst (λ l. all_metered memo l k ≡ Ok n) h e)),
+  )
+  row_more p (q ∷ qs) before costs k n rs same h e r = ((costs, r.0), r.1)
+
   pub rows_within : (policy : Policy) (limits : Bounds) (ps before : List Pickle)
       (old new : Sight) (rs : List Report) (m n : Metering)
       → AreAccepted loading policy limits old new before ps
       → AreReportsOf false loading before ps rs → IsReady before m → Fits tolls m
-      → all_metered memo rs m ≡ Ok n → AllFit memo tolls rs m
-      → KeepWithin loading tolls before ps
-  rows_within policy limits [] before old new rs m n a h r w e f = tt
+      → all_metered memo rs m ≡ Ok n → AllFit memo tolls rs m → RowWithin before ps n
+  rows_within policy limits [] before old new rs m n a h r w e f = (tt, tt)
   rows_within policy limits (p ∷ ps) before old new rs m n a h r w e f =
       let e' : all_metered memo (h.0 ++ h.1) m ≡ Ok n =
       subst (λ l. all_metered memo l m ≡ Ok n) h.2 e in
@@ -289,16 +315,19 @@ module _ (tolls : Tolls) (loading : Loading) where
       let g = fits_split h.0 h.1 m f' in
       let one = pickle_within limits (length (bytes_of_all before)) before p.instructions h.0 m
       s.middle (subst (IsSequence (payload_limit limits)) a.1.1 a.1.0.sequence) h.3 r w s.first
-      g.0 in (
-        one.costs,
-        rows_within policy limits ps (before ++ p ∷ []) a.0 new h.1 s.middle n a.2 h.4
-            (ready_next before p m s.middle r one) one.fits s.then (g.1 s.middle s.first),
-      )
+      g.0 in
+      row_more p ps before one.costs s.middle n h.1 one.same h.4 s.then
+      (rows_within policy limits ps (before ++ p ∷ []) a.0 new h.1 s.middle n a.2 h.4
+      (ready_next before p m s.middle r one) one.fits s.then (g.1 s.middle s.first))
+
+  pub last_is : (ps before : List Pickle) (n : Metering) → ps ≢ [] → (h : RowWithin before ps n)
+      → last_bill loading tolls before ps h.0 ≡ Some n.bill
+  last_is [] before n some h = absurd (some refl)
+  last_is (p ∷ []) before n some h = ap Some h.1
+  last_is (p ∷ q ∷ ps) before n some h =
+      last_is (q ∷ ps) (before ++ p ∷ []) n (λ e. cc e) (h.0.1, h.1)
 
   -- ---- the whole check
-
-  abbrev at_first : Metering
-  at_first = record { pickle = 0; bill = no_bill }
 
   first_ready : (k : Memo) → bill_before (begins k []) ≡ Ok no_bill
   first_ready Fresh = refl
@@ -319,64 +348,6 @@ module _ (tolls : Tolls) (loading : Loading) where
     omega arith,
   )
 
-module _ (loading : Loading) (policy : Policy) (limits : Bounds) (tolls : Tolls) (old new : Sight)
-    (rs : List Report) (x y : Meter) (told : Meters x y rs) (memo_is : x.memo ≡ loading.memo)
-    (tolls_are : x.tolls ≡ tolls) (begun : x.metering ≡ record { pickle = 0; bill = no_bill })
-  where
-    is_metered : y.excess ≡ None
-        → all_metered loading.memo rs (record { pickle = 0; bill = no_bill }) ≡ Ok y.metering
-    is_metered e = subst (λ k. all_metered k rs (record { pickle = 0; bill = no_bill })
-        ≡ Ok y.metering) memo_is
-        (subst (λ m. all_metered x.memo rs m ≡ Ok y.metering) begun (told.is e))
-
-    all_fit : y.excess ≡ None
-        → AllFit loading.memo tolls rs (record { pickle = 0; bill = no_bill })
-    all_fit e = subst (λ k. AllFit k tolls rs (record { pickle = 0; bill = no_bill })) memo_is
-        (subst (λ t. AllFit x.memo t rs (record { pickle = 0; bill = no_bill })) tolls_are
-        (subst (AllFit x.memo x.tolls rs) begun (told.fits e)))
-
-    pub right_loading : (extent : Extent) (answer : Result YesAll RefusedPickle)
-        → MatchResult answer
-        (λ yes. AcceptedAndTold false loading policy limits old new extent yes.taken yes.pickles
-        yes.imports rs)
-        (λ refused. RefusedAndTold false loading policy limits old new extent refused.pickle
-        refused.no.at refused.no.reason (option_map asked_shown refused.no.pair) refused.imports
-        rs)
-        → IfOk answer (λ _. y.excess ≡ None)
-        → IsRightLoading loading policy limits tolls old new extent answer
-    right_loading ToTheEnd (Ok accepted) h e = (
-      h.0,
-      rows_within tolls loading policy limits h.0.row [] old new rs
-          (record { pickle = 0; bill = no_bill }) y.metering h.0.each h.1
-          (begins_ready tolls loading) (begins_within tolls loading) (is_metered e) (all_fit e),
-    )
-    right_loading OnePickle (Ok accepted) h e = (
-      h.0,
-      (pickle_within tolls loading limits 0 [] h.0.instructions rs
-          (record { pickle = 0; bill = no_bill }) y.metering h.0.sequence h.1
-          (begins_ready tolls loading) (begins_within tolls loading) (is_metered e)
-          (all_fit e)).costs,
-    )
-    right_loading ToTheEnd (Err refused) h e = h.right
-    right_loading OnePickle (Err refused) h e = h.0
-
-    pub settled_loading : {E : Type 0} (extent : Extent)
-        (settled : Result (Result YesAll RefusedPickle) E) (answer : Result YesAll RefusedPickle)
-        → MatchResult answer
-        (λ yes. AcceptedAndTold false loading policy limits old new extent yes.taken yes.pickles
-        yes.imports rs)
-        (λ refused. RefusedAndTold false loading policy limits old new extent refused.pickle
-        refused.no.at refused.no.reason (option_map asked_shown refused.no.pair) refused.imports
-        rs)
-        → IfOk settled (λ a. a ≡ answer)
-        → IfOk settled (λ a. IfOk a (λ _. y.excess ≡ None))
-        → IfOk settled (IsRightLoading loading policy limits tolls old new extent)
-    settled_loading extent (Ok a) answer h same e =
-        right_loading extent a
-        (subst (λ b. MatchResult b
-        (λ yes. AcceptedAndTold false loading policy limits old new extent yes.taken yes.pickles
-        yes.imports rs)
-        (λ refused. RefusedAndTold false loading policy limits old new extent refused.pickle
-        refused.no.at refused.no.reason (option_map asked_shown refused.no.pair) refused.imports
-        rs)) (sym same) h) e
-    settled_loading extent (Err c) answer h same e = tt
+pub tolls_only_refuse : TollsOnlyRefuse
+tolls_only_refuse loading policy limits tolls old new ToTheEnd accepted h = h.0
+tolls_only_refuse loading policy limits tolls old new OnePickle accepted h = h.0

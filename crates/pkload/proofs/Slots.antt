@@ -1,10 +1,41 @@
 -- How the view of the stack changes with its codes.
-use Rattle.std.proofs.Common.{◌≡◌, ℕ, List, [], ◌∷◌, ◌++◌, refl}
-use Rattle.pkcheck.specs.Shape.{Entry}
+use Rattle.std.proofs.Common.{◌≡◌, ℕ, suc, List, [], ◌∷◌, ◌++◌, length, take}
+use Rattle.std.proofs.Common.{Bool, true, false, cond, nat_eq, get_or, refl, sym, ap, ◌∙◌, arith}
+use Rattle.std.proofs.Math.Seq.{take-length, take-suc}
+use Rattle.std.proofs.lemmas.Bool.{eqb-true}
+use Rattle.pkcheck.specs.Shape.{Entry, Item, Mark}
 use Rattle.pkload.specs.Heft.{Heft}
+use Rattle.pkload.specs.Private.Packed.{unpacked}
 use Rattle.pkload.specs.Private.Shown.{entry_of, shown}
 
 pub shown_append : (xs ys : List ℕ) (below : List (Entry Heft))
     → shown (xs ++ ys) below ≡ shown ys (shown xs below)
 shown_append [] ys below = refl
 shown_append (x ∷ xs) ys below = shown_append xs ys (entry_of x ∷ below)
+
+-- the last code is on top
+pub shown_last : (xs : List ℕ) (n : ℕ) (d : ℕ) → length xs ≡ suc n
+    → shown xs [] ≡ entry_of (get_or xs n d) ∷ shown (take n xs) []
+shown_last xs n d e =
+    ap (λ l. shown l [])
+    (sym (take-length xs) ∙ ap (λ k. take k xs) e ∙ take-suc xs n d (omega (arith, e)))
+    ∙ shown_append (take n xs) (get_or xs n d ∷ []) []
+
+object_of : (code : ℕ) → (code ≡ 2 → ⊥) → entry_of code ≡ Item (unpacked code)
+object_of code h = by_flag (nat_eq code 2) refl
+  where
+    by_flag : (b : Bool) → nat_eq code 2 ≡ b → entry_of code ≡ Item (unpacked code)
+    by_flag true e = absurd (h (eqb-true code 2 e))
+    by_flag false e = ap (λ f. cond f Mark (Item (unpacked code))) e
+
+-- the last code is that of an object
+pub object_on_top : (xs : List ℕ) (n code d : ℕ) (heft : Heft) → length xs ≡ suc n
+    → code ≡ get_or xs n d → (code ≡ 2 → ⊥) → heft ≡ unpacked code
+    → (below : List (Entry Heft)) × (shown xs [] ≡ Item heft ∷ below)
+object_on_top xs n code d heft e g h k = (
+  shown (take n xs) [],
+  shown_last xs n d e
+      ∙ ap (λ c. entry_of c ∷ shown (take n xs) []) (sym g)
+      ∙ ap (λ x. x ∷ shown (take n xs) []) (object_of code h)
+      ∙ ap (λ x. Item x ∷ shown (take n xs) []) (sym k),
+)

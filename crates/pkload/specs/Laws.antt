@@ -1,7 +1,18 @@
 -- What the bill says about runs.
-use Rattle.std.specs.Prelude.{◌≡◌, ℕ, List, Ok, Some, slice_get}
+use Rattle.std.specs.Prelude.{◌≡◌, ℕ, List, [], Ok, Some, slice_get}
+use Rattle.pkops.specs.Limits.{Bounds}
 use Rattle.pkops.specs.Spelling.{Instruction}
+use Rattle.pkread.specs.Rows.{Sight}
+use Rattle.pkcheck.specs.Accepted.{AcceptedFrom}
+use Rattle.pkcheck.specs.Knowledge.{Policy}
+use Rattle.pkcheck.specs.RowOfPickles.{AcceptedRow, begins}
+use Rattle.pkcheck.specs.declared.check_loop.Extent.{Extent}
+use Rattle.pkcheck.specs.declared.check_loop.Extent.TheVariants.{OnePickle, ToTheEnd}
+use Rattle.pkcheck.specs.declared.loading.Loading.{Loading}
 use Rattle.pkcheck.specs.declared.old_strings.OldStrings.{OldStrings}
+use Rattle.pkcheck.specs.declared.row_of_pickles.YesAll.{YesAll}
+use Rattle.pkload.specs.Loading.{AcceptedWithin}
+use Rattle.pkload.specs.declared.tolls.Tolls.{Tolls}
 use Rattle.pkcheck.specs.Covers.{Alike}
 use Rattle.pkcheck.specs.RowRuns.{Beginning}
 use Rattle.pkcheck.specs.Runs.{State, WentOn, Raised, Stopped, Stuck}
@@ -39,3 +50,20 @@ BillBoundsRuns =
     (setting : OldStrings) (beginning : Beginning) (instructions : List Instruction) (bill : Bill)
     → and_then (bill_before beginning) (all_billed instructions) ≡ Ok bill
     → InEachNewRun setting beginning instructions (EndsBilled bill)
+
+module _ (loading : Loading) (policy : Policy) (limits : Bounds) (old new : Sight) where
+  -- pickles are accepted whatever loading costs
+  abbrev pub AcceptedAtAnyCost : Extent → YesAll → Type 0
+  AcceptedAtAnyCost ToTheEnd accepted =
+      AcceptedRow loading policy limits old new accepted.taken accepted.pickles accepted.imports
+  AcceptedAtAnyCost OnePickle accepted =
+      AcceptedFrom loading.old_strings (begins loading.memo []) policy limits old new
+      accepted.taken accepted.imports
+
+-- what is accepted within limits on what loading costs is accepted without them
+abbrev pub TollsOnlyRefuse : Type 0
+TollsOnlyRefuse =
+    (loading : Loading) (policy : Policy) (limits : Bounds) (tolls : Tolls) (old new : Sight)
+    (extent : Extent) (accepted : YesAll)
+    → AcceptedWithin loading policy limits tolls old new extent accepted
+    → AcceptedAtAnyCost loading policy limits old new extent accepted

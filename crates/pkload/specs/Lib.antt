@@ -9,6 +9,7 @@ pub mod Weighed
 -- limits, and what an answer says about them
 pub mod Tolls
 pub mod Loading
+pub mod Costly
 -- what the bill says about runs
 pub mod Laws
 -- what need not be trusted

@@ -1,5 +1,6 @@
 -- What an answer says about the cost of loading.
-use Rattle.std.specs.Prelude.{◌≡◌, ◌++◌, ◌∷◌, [], ⊤, ℕ, List, Result, Ok, MatchResult, option_map}
+use Rattle.std.specs.Prelude.{◌≡◌, ◌++◌, ◌∷◌, [], ⊤, ℕ, List, Result, Ok, MatchResult}
+use Rattle.std.specs.Prelude.{Option, None, Some, option_map}
 use Rattle.pkops.specs.Limits.{Bounds}
 use Rattle.pkops.specs.Spelling.{Instruction}
 use Rattle.pkread.specs.Rows.{Sight}
@@ -21,6 +22,7 @@ use Rattle.pkcheck.specs.declared.row_of_pickles.YesAll.{YesAll}
 use Rattle.pkload.specs.Bill.{Bill, all_billed, bill_before}
 use Rattle.pkload.specs.Tolls.{IsWithin, KeepsWithin}
 use Rattle.pkload.specs.Weighed.{InEachNewRun, tally_since}
+use Rattle.pkload.specs.declared.checking.YesWithBill.{YesWithBill}
 use Rattle.pkload.specs.declared.tolls.Tolls.{Tolls}
 
 -- what the events of a run count, behind those of earlier pickles, is within the limits
@@ -49,6 +51,14 @@ KeepWithin loading tolls before (pickle ∷ pickles) =
     CostsWithin loading.old_strings (begins loading.memo before) tolls pickle.instructions
     × KeepWithin loading tolls (before ++ pickle ∷ []) pickles
 
+-- the bill of the last of these pickles
+abbrev pub last_bill : (loading : Loading) (tolls : Tolls) (before pickles : List Pickle)
+    → KeepWithin loading tolls before pickles → Option Bill
+last_bill loading tolls before [] kept = None
+last_bill loading tolls before (pickle ∷ []) kept = Some kept.0.bill
+last_bill loading tolls before (pickle ∷ next ∷ pickles) kept =
+    last_bill loading tolls (before ++ pickle ∷ []) (next ∷ pickles) kept.1
+
 module _ (loading : Loading) (policy : Policy) (limits : Bounds) (tolls : Tolls) (old new : Sight)
   where
     -- the pickles were accepted, and each keeps within the limits
@@ -62,6 +72,20 @@ module _ (loading : Loading) (policy : Policy) (limits : Bounds) (tolls : Tolls)
         accepted.taken accepted.imports)
         × CostsWithin loading.old_strings (begins loading.memo []) tolls right.instructions
 
+    -- the bill of the last of the accepted pickles
+    abbrev pub bill_of : (extent : Extent) (accepted : YesAll) → AcceptedWithin extent accepted
+        → Option Bill
+    bill_of ToTheEnd accepted right = last_bill loading tolls [] right.0.row right.1
+    bill_of OnePickle accepted right = Some right.1.bill
+
+    -- the pickles were accepted, each keeps within the limits, and this is the bill of the last
+    pub record AcceptedWithBill (extent : Extent) (accepted : YesWithBill) : Type 0 where
+      pub right : AcceptedWithin extent accepted.yes
+      pub bill : Bill
+      pub last : bill_of extent accepted.yes right ≡ Some bill
+      pub tally : accepted.tally ≡ bill.tally
+      pub memory : accepted.memory ≡ bill.memory
+
     -- a pickle was refused, whatever it costs
     abbrev pub IsRefused : Extent → RefusedPickle → Type 0
     IsRefused ToTheEnd refused =
@@ -72,6 +96,6 @@ module _ (loading : Loading) (policy : Policy) (limits : Bounds) (tolls : Tolls)
         refused.no.at refused.no.reason (option_map asked_shown refused.no.pair) refused.imports
 
     -- the answer is that of the check, and accepted pickles keep within the limits
-    abbrev pub IsRightLoading : Extent → Result YesAll RefusedPickle → Type 0
+    abbrev pub IsRightLoading : Extent → Result YesWithBill RefusedPickle → Type 0
     IsRightLoading extent answer =
-        MatchResult answer (AcceptedWithin extent) (IsRefused extent)
+        MatchResult answer (AcceptedWithBill extent) (IsRefused extent)

@@ -5,3 +5,4 @@ pub mod Gathered
 pub mod Billing
 pub mod Told
 pub mod Meter
+pub mod Settled

@@ -35,11 +35,14 @@ abbrev pub builds_import : Op → List Heft → Bool
 builds_import op.Build operands = is_first_imported operands
 builds_import _ operands = false
 
+-- the tally, where BUILD may have taken an imported object
+abbrev pub building : Bool → Tally → Tally
+building builds tally = record tally { builds = tally.builds || builds }
+
 -- the tally with what an operation on these operands costs
 abbrev pub with_operation : Op → List Heft → Tally → Tally
 with_operation o operands tally =
-    let counted = with_keys tally (keys_of o operands) in
-    record counted { builds = counted.builds || builds_import o operands }
+    building (builds_import o operands) (with_keys tally (keys_of o operands))
 
 -- whether one bool implies another
 abbrev pub Implies : Bool → Bool → Type 0

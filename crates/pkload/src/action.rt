@@ -1,8 +1,7 @@
 //! What the bill does at each opcode.
 
 ghost use Rattle.std.specs.Prelude.{◌≡◌};
-ghost use Rattle.pkcheck.specs.Effects.{effect_of};
-ghost use Rattle.pkload.specs.Private.Billing.{action_in};
+ghost use Rattle.pkload.specs.Private.Billing.{action_of};
 
 use pkcheck::effect::{Move, SliceRule, Takes};
 use pkops::Op;
@@ -10,10 +9,22 @@ use pkops::Op;
 /// What the bill does at an opcode.
 #[derive(Clone, Copy)]
 pub enum Action {
+    /// Pushes a new object that weighs one, and takes this much memory.
+    Makes(u64),
+    /// Pushes a new object that is made of the argument.
+    Reads,
     /// Takes objects and pushes a new one.
     Gives(Takes),
     /// Takes objects and leaves the first.
     Leaves(Takes),
+    /// Pushes a mark.
+    Marks,
+    /// Pushes the memo entry of a number.
+    Fetches,
+    /// Stores the top under the next number.
+    StoresNext,
+    /// Stores the top under a number.
+    Stores,
     /// Looks at no object.
     Moves(Move),
     /// Takes the result.
@@ -23,9 +34,12 @@ pub enum Action {
 /// The action of an opcode.
 #[inline]
 pub fn action_of(op: Op) -> Action
-    ensures { result ≡ action_in (effect_of op) }
+    ensures { result ≡ action_of op }
 {
     match op {
+        Op::None | Op::NewTrue | Op::NewFalse | Op::BinInt1 => Action::Makes(16),
+        Op::BinInt | Op::BinInt2 | Op::BinFloat => Action::Makes(48),
+        Op::EmptyList | Op::EmptyDict => Action::Makes(96),
         Op::Tuple1 | Op::BinPersid | Op::ReadonlyBuffer => Action::Gives(Takes::Objects(1)),
         Op::Tuple2 | Op::Reduce | Op::NewObj | Op::StackGlobal => {
             Action::Gives(Takes::Objects(2))
@@ -44,14 +58,14 @@ pub fn action_of(op: Op) -> Action
         Op::SetItems => Action::Leaves(Takes::SliceAndReceiver(SliceRule::EvenSlice)),
         Op::Pop => Action::Moves(Move::Pops),
         Op::Dup => Action::Moves(Move::Duplicates),
-        Op::Mark => Action::Moves(Move::PushesMark),
+        Op::Mark => Action::Marks,
         Op::PopMark => Action::Moves(Move::PopsMark),
-        Op::Get | Op::BinGet | Op::LongBinGet => Action::Moves(Move::Fetches),
-        Op::Put | Op::BinPut | Op::LongBinPut => Action::Moves(Move::Stores),
-        Op::Memoize => Action::Moves(Move::StoresNext),
+        Op::Get | Op::BinGet | Op::LongBinGet => Action::Fetches,
+        Op::Put | Op::BinPut | Op::LongBinPut => Action::Stores,
+        Op::Memoize => Action::StoresNext,
         Op::Ext1 | Op::Ext2 | Op::Ext4 => Action::Moves(Move::Extends),
         Op::Proto | Op::Frame => Action::Moves(Move::Passes),
         Op::Stop => Action::Stops,
-        _ => Action::Gives(Takes::Objects(0)),
+        _ => Action::Reads,
     }
 }

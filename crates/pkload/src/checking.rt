@@ -1,15 +1,30 @@
 //! A check that also bounds what loading costs.
 
-ghost use Rattle.std.specs.Prelude.{◌≡◌, IfOk, None};
+ghost use Rattle.std.specs.Prelude.{◌≡◌, ◌≢◌, IfErr, IfOk, None};
 ghost use Rattle.pkread.specs.Rows.{sight};
 ghost use Rattle.pkcheck.specs.Import.{policy_of};
+ghost use Rattle.pkload.specs.Costly.{CostsTooMuch};
 ghost use Rattle.pkload.specs.Loading.{IsRightLoading};
+ghost use Rattle.pkload.specs.Private.Settled.{IsBilledAs, IsCostlyBy};
+ghost use Rattle.pkload.specs.Tolls.{unlimited};
 
 use crate::meter::Meter;
+use crate::tally::Tally;
 use crate::tolls::{Excess, Tolls};
-use pkcheck::{Policy, RefusedPickle, Terms, YesAll, check_pickles};
+use pkcheck::{Permit, Policy, RefusedPickle, Terms, YesAll, check_pickles};
 use pkread::Source;
 use std::alloc::Global;
+
+/// Accepted pickles, with what loading the last of them costs.
+#[derive(Debug, Drop)]
+pub struct YesWithBill {
+    /// The answer of the check.
+    pub yes: YesAll,
+    /// What the keys of the last pickle cost.
+    pub tally: Tally,
+    /// The bytes of memory that loading the last pickle takes.
+    pub memory: u64,
+}
 
 /// A pickle that exceeds a limit on what loading costs.
 #[derive(Clone, Copy, Debug, PartialEq, Eq)]
@@ -25,28 +40,68 @@ pub struct Costly {
 /// Checks pickles as [`check_pickles`] does, and bounds what the keys of each cost. If the answer
 /// is yes, then in every run whose calls and imports answer new objects, each key is at most as
 /// deep and as heavy as `tolls` allow, all keys of a pickle together cost at most the limits, and
-/// BUILD never takes an imported object unless it may.
+/// BUILD never takes an imported object unless it may. A yes carries the bill of the last pickle.
 ///
 /// # Errors
 ///
-/// The first limit that an instruction exceeds which the check accepts. Whatever else the check
-/// refuses at this instruction or before it comes first. The contract specifies answers, not this
-/// error; tests show which limit it names.
+/// The first limit that an instruction exceeds which the check accepts, with its place. What the
+/// check refuses at this instruction or before it comes first. Each run that gets past the
+/// instruction and whose answers are new objects exceeds the limit. `OutOfMemory` says no more than
+/// that the bill couldn't be kept.
 pub fn check_loading<R: Source>(
     alloc: Global,
     source: &mut R,
     policy: &Policy<'_>,
     terms: &Terms,
     tolls: &Tolls,
-) -> Result<Result<YesAll, RefusedPickle>, Costly>
-    ensures { IfOk result (IsRightLoading terms.now.loading (policy_of policy.now)
+) -> Result<Result<YesWithBill, RefusedPickle>, Costly>
+    ensures answer { IfOk result (IsRightLoading terms.now.loading (policy_of policy.now)
         terms.now.limits tolls.now (sight R.left R.failures source.old)
         (sight R.left R.failures source.new) terms.now.extent) }
+    ensures costly { IfErr result (λ costly. costly.excess ≢ Excess.OutOfMemory
+        → CostsTooMuch terms.now.loading (policy_of policy.now) terms.now.limits tolls.now
+        (sight R.left R.failures source.old) terms.now.extent costly.pickle costly.at
+        costly.excess) }
+    // Without limits, only an allocation can be refused, or a sum not fit.
+    ensures unlimited { tolls.now ≡ unlimited
+        → IfErr result (λ costly. costly.excess ≡ Excess.OutOfMemory) }
 {
     let mut meter = Meter::new(alloc, tolls, terms.loading.memo);
-    match check_pickles(alloc, source, policy, terms, &mut meter) {
+    match check_pickles(alloc, source, &Permit::By(*policy), terms, &mut meter) {
         Ok(answer) => settled(answer, &meter),
-        Err(never) => match never {},
+        Err(excess) => Err(costly_at(&meter, excess)),
+    }
+}
+
+/// The limit that was exceeded, with the place of the instruction.
+fn costly_at(meter: &Meter, excess: Excess) -> Costly
+    ensures { result ≡ record {
+      pickle = meter.now.metering.pickle;
+      at = meter.now.at;
+      excess = excess;
+    } }
+{
+    Costly {
+        pickle: meter.pickle(),
+        at: meter.at(),
+        excess,
+    }
+}
+
+/// The answer, with the bill of the last pickle if it is yes.
+fn with_bill(
+    answer: Result<YesAll, RefusedPickle>,
+    meter: &Meter,
+) -> Result<YesWithBill, RefusedPickle>
+    ensures { IsBilledAs meter.now answer result }
+{
+    match answer {
+        Ok(yes) => Ok(YesWithBill {
+            yes,
+            tally: meter.tally(),
+            memory: meter.memory(),
+        }),
+        Err(refused) => Err(refused),
     }
 }
 
@@ -54,18 +109,17 @@ pub fn check_loading<R: Source>(
 fn settled(
     answer: Result<YesAll, RefusedPickle>,
     meter: &Meter,
-) -> Result<Result<YesAll, RefusedPickle>, Costly>
-    ensures same { IfOk result (λ settled. settled ≡ answer) }
+) -> Result<Result<YesWithBill, RefusedPickle>, Costly>
+    ensures same { IfOk result (IsBilledAs meter.now answer) }
     ensures none { IfOk result (λ settled. IfOk settled (λ _. meter.now.excess ≡ None)) }
+    ensures costly { IfErr result (IsCostlyBy meter.now answer) }
+    ensures unlimited { meter.now.tolls ≡ unlimited
+        → IfErr result (λ costly. costly.excess ≡ Excess.OutOfMemory) }
 {
     let Some(excess) = meter.excess() else {
-        return Ok(answer);
+        return Ok(with_bill(answer, meter));
     };
-    let costly = Costly {
-        pickle: meter.pickle(),
-        at: meter.at(),
-        excess,
-    };
+    let costly = costly_at(meter, excess);
     match answer {
         Err(refused) if refused.no.at <= costly.at => Ok(Err(refused)),
         _ => Err(costly),

@@ -1,79 +1,105 @@
 //! Takes operands from the stack.
 
-ghost use Rattle.std.specs.Prelude.{◌≡◌, ◌≤◌, [], List, IfOk, OnOk, None};
-ghost use Rattle.pkcheck.specs.Shape.{breaks, items, operands, slice};
+ghost use Rattle.std.specs.Prelude.{◌≡◌, ◌≤◌, [], List, OnOk, None};
+ghost use Rattle.pkcheck.specs.Shape.{breaks, items, slice};
 ghost use Rattle.pkload.specs.Heft.{Heft};
-ghost use Rattle.pkload.specs.Private.Billing.{HasTaken};
-ghost use Rattle.pkload.specs.Private.Gathered.{AreOf};
+ghost use Rattle.pkload.specs.Private.Billing.{HasOperands, HasReceiver, HasTaken};
+ghost use Rattle.pkload.specs.Private.Gathered.{AreOf, IsTallied};
+ghost use Rattle.pkload.specs.declared.keying.Keying.{Keying as Keys};
 ghost use Rattle.pkload.specs.declared.tally.Tally.{Tally as Counted};
 
 use crate::halt::Halt;
 use crate::operands::Operands;
 use crate::packed::Packed;
 use crate::stack::{MARK, Stack};
-use crate::tally::Tally;
 use pkcheck::effect::{SliceRule, Takes};
 
-/// Takes one more object.
-fn take_one(stack: &mut Stack, taken: Operands) -> Result<Operands, Halt>
-    requires { taken.weights ≤ 1_048_575 }
-    ensures of { IfOk result (λ more. (tally : Counted) (above : List Heft)
-        → AreOf tally above taken → HasTaken tally (items 1 stack.old above) stack.new more) }
-    ensures small { IfOk result (λ more. more.weights ≤ 1_048_575) }
+/// Takes one more object, which may be a key.
+#[inline(always)]
+fn take_one(stack: &mut Stack, taken: &mut Operands) -> Result<(), Halt>
+    requires { taken.old.weights ≤ 1_048_575 }
+    ensures of { OnOk result ((keying : Keys) (tally : Counted) (above : List Heft)
+        → AreOf above taken.old → IsTallied keying tally above taken.old
+        → HasTaken keying tally (items 1 stack.old above) stack.new taken.new) }
+    ensures small { OnOk result (taken.new.weights ≤ 1_048_575) }
 {
     let Some(heft) = stack.pop_object() else {
         return Err(Halt::Lost);
     };
-    taken.behind(heft)
+    taken.add(heft)
+}
+
+/// Takes two more objects.
+#[inline(always)]
+fn take_two(stack: &mut Stack, taken: &mut Operands) -> Result<(), Halt>
+    requires { taken.old.weights ≤ 1_048_575 }
+    ensures of { OnOk result ((keying : Keys) (tally : Counted) (above : List Heft)
+        → AreOf above taken.old → IsTallied keying tally above taken.old
+        → HasTaken keying tally (items 2 stack.old above) stack.new taken.new) }
+    ensures small { OnOk result (taken.new.weights ≤ 1_048_575) }
+{
+    take_one(stack, taken)?;
+    take_one(stack, taken)
 }
 
 /// Takes the topmost objects, at most three.
-fn take_objects(stack: &mut Stack, count: u8, tally: Tally) -> Result<Operands, Halt>
-    ensures of { IfOk result (HasTaken tally (items count stack.old []) stack.new) }
-    ensures small { IfOk result (λ taken. taken.weights ≤ 1_048_575) }
+#[inline(always)]
+fn take_objects(stack: &mut Stack, count: u8, taken: &mut Operands) -> Result<(), Halt>
+    requires { taken.old.weights ≤ 1_048_575 }
+    ensures of { OnOk result ((keying : Keys) (tally : Counted)
+        → AreOf [] taken.old → IsTallied keying tally [] taken.old
+        → HasTaken keying tally (items count stack.old []) stack.new taken.new) }
+    ensures small { OnOk result (taken.new.weights ≤ 1_048_575) }
 {
-    let none = Operands::none(tally);
     match count {
-        0 => Ok(none),
-        1 => take_one(stack, none),
-        2 => take_two(stack, none),
+        0 => Ok(()),
+        1 => take_one(stack, taken),
+        2 => take_two(stack, taken),
         3 => {
-            let one = take_one(stack, none)?;
-            take_two(stack, one)
+            take_one(stack, taken)?;
+            take_two(stack, taken)
         }
         _ => Err(Halt::Lost),
     }
 }
 
-/// Takes two more objects.
-fn take_two(stack: &mut Stack, taken: Operands) -> Result<Operands, Halt>
-    requires { taken.weights ≤ 1_048_575 }
-    ensures of { IfOk result (λ more. (tally : Counted) (above : List Heft)
-        → AreOf tally above taken → HasTaken tally (items 2 stack.old above) stack.new more) }
-    ensures small { IfOk result (λ more. more.weights ≤ 1_048_575) }
-{
-    let one = take_one(stack, taken)?;
-    take_one(stack, one)
-}
-
 /// Takes the objects above the topmost mark, and the mark.
-pub fn take_slice(stack: &mut Stack, tally: Tally) -> Result<Operands, Halt>
-    ensures of { IfOk result (HasTaken tally (slice stack.old []) stack.new) }
-    ensures small { IfOk result (λ taken. taken.weights ≤ 1_048_575) }
+#[inline(always)]
+pub fn take_slice(stack: &mut Stack, taken: &mut Operands) -> Result<(), Halt>
+    requires { taken.old.weights ≤ 1_048_575 }
+    ensures of { OnOk result ((keying : Keys) (tally : Counted)
+        → AreOf [] taken.old → IsTallied keying tally [] taken.old
+        → HasTaken keying tally (slice stack.old []) stack.new taken.new) }
+    ensures small { OnOk result (taken.new.weights ≤ 1_048_575) }
 {
-    let mut taken = Operands::none(tally);
     'objects: while let Some(code) = stack.pop() {
         if code == MARK {
-            return Ok(taken);
+            return Ok(());
         }
-        taken = taken.behind(Packed::from_code(code))?;
+        taken.add(Packed::from_code(code))?;
     }
     Err(Halt::Lost)
 }
 
+/// Takes the receiver of a slice.
+#[inline(always)]
+fn take_receiver(stack: &mut Stack, taken: &mut Operands) -> Result<(), Halt>
+    requires { taken.old.weights ≤ 1_048_575 }
+    ensures of { OnOk result ((above : List Heft) → AreOf above taken.old
+        → HasReceiver (items 1 stack.old above) stack.new taken.new) }
+    ensures tally { OnOk result (taken.new.tally ≡ taken.old.tally) }
+    ensures small { OnOk result (taken.new.weights ≤ 1_048_575) }
+{
+    let Some(heft) = stack.pop_object() else {
+        return Err(Halt::Lost);
+    };
+    taken.receive(heft)
+}
+
 /// Whether a slice obeys its rule.
+#[inline(always)]
 fn obeys(rule: SliceRule, taken: &Operands) -> Result<(), Halt>
-    ensures { OnOk result ((tally : Counted) (hefts : List Heft) → AreOf tally hefts taken.now
+    ensures { OnOk result ((hefts : List Heft) → AreOf hefts taken.now
         → breaks rule hefts ≡ None) }
 {
     let is_broken = match rule {
@@ -87,22 +113,25 @@ fn obeys(rule: SliceRule, taken: &Operands) -> Result<(), Halt>
     Ok(())
 }
 
-/// Takes the operands of an operation.
-pub fn take(stack: &mut Stack, takes: Takes, tally: Tally) -> Result<Operands, Halt>
-    ensures of { IfOk result (HasTaken tally (operands takes stack.old) stack.new) }
-    ensures small { IfOk result (λ taken. taken.weights ≤ 1_048_575) }
+/// Takes the operands of an operation, behind none.
+#[inline(always)]
+pub fn take(stack: &mut Stack, takes: Takes, taken: &mut Operands) -> Result<(), Halt>
+    requires { taken.old.weights ≤ 1_048_575 }
+    ensures of { OnOk result ((keying : Keys) (tally : Counted)
+        → AreOf [] taken.old → IsTallied keying tally [] taken.old
+        → HasOperands keying tally takes stack.old stack.new taken.new) }
+    ensures small { OnOk result (taken.new.weights ≤ 1_048_575) }
 {
     match takes {
-        Takes::Objects(count) => take_objects(stack, count, tally),
+        Takes::Objects(count) => take_objects(stack, count, taken),
         Takes::Slice(rule) => {
-            let taken = take_slice(stack, tally)?;
-            obeys(rule, &taken)?;
-            Ok(taken)
+            take_slice(stack, taken)?;
+            obeys(rule, taken)
         }
         Takes::SliceAndReceiver(rule) => {
-            let taken = take_slice(stack, tally)?;
-            obeys(rule, &taken)?;
-            take_one(stack, taken)
+            take_slice(stack, taken)?;
+            obeys(rule, taken)?;
+            take_receiver(stack, taken)
         }
     }
 }

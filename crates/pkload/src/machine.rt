@@ -1,43 +1,44 @@
 //! The machine that keeps the bill.
 
-ghost use Rattle.std.specs.Prelude.{◌≡◌, ◌≤◌, ◌++◌, List, Ok, OnOk};
+ghost use Rattle.std.specs.Prelude.{◌≡◌, ◌≤◌, ◌++◌, [], List, IfOk, Ok, OnOk, false};
 ghost use Rattle.pkops.specs.Inst.{instruction_of};
-ghost use Rattle.pkops.specs.Operands.{memo_number};
 ghost use Rattle.pkcheck.specs.Effects.{effect_of};
 ghost use Rattle.pkcheck.specs.Reports.{Skipped};
-ghost use Rattle.pkcheck.specs.Shape.{moved, operands, put, top};
-ghost use Rattle.pkload.specs.Bill.{billed, billed_by, move_billed, no_bill, stop_billed};
-ghost use Rattle.pkload.specs.Heft.{Heft};
-ghost use Rattle.pkload.specs.Memory.{number_kept};
-ghost use Rattle.pkload.specs.Private.Billing.{heft_pushed, operated_on};
+ghost use Rattle.pkcheck.specs.Shape.{operands, put, top};
+ghost use Rattle.pkload.specs.Bill.{billed, billed_by, no_bill, stop_billed};
+ghost use Rattle.pkload.specs.Heft.{Heft, heft_of};
+ghost use Rattle.pkload.specs.Memory.{operation_memory};
+ghost use Rattle.pkload.specs.Private.Billing.{CountsKeys, heft_pushed, light, operated_on};
+ghost use Rattle.pkload.specs.Private.Billing.{by_move, pushed};
 ghost use Rattle.pkload.specs.Private.Gathered.{AreOf};
 ghost use Rattle.pkload.specs.Private.Told.{next_in, told_billed};
-ghost use Rattle.pkload.specs.declared.tally.Tally.{Tally as Counted};
 
 use crate::action::{Action, action_of};
 use crate::gathering::take;
 use crate::halt::Halt;
-use crate::making::{argument_size, counted, made};
+use crate::keying::Keying;
+use crate::making::{builds_import, made, made_plain};
+use crate::memo::Memo;
 use crate::memory::{
-    after_move, after_operation, after_skipped, after_stop, bytes_before, number_kept,
+    after_move, after_operation, after_reading, after_skipped, after_stop, argument_bytes,
+    bytes_before, number_kept, plus,
 };
 use crate::moves::apply;
 use crate::operands::Operands;
 use crate::packed::Packed;
 use crate::stack::Stack;
 use crate::tally::Tally;
-use pkcheck::Memo;
+use pkcheck::Memo as Between;
 use pkcheck::effect::{Move, Takes};
 use pkops::{Inst, Op};
 use std::alloc::Global;
-use std::collections::BTreeMap;
 use std::marker::Model;
 
 /// The cost of each object on the stack and in the memo, what was counted, the memory that loading
 /// takes, the highest memo number so far, and whether the pickle stopped.
 pub struct Machine {
     stack: Stack,
-    memo: BTreeMap<u32, Packed>,
+    memo: Memo,
     tally: Tally,
     memory: u64,
     highest: u64,
@@ -63,7 +64,7 @@ impl Model for Machine {
     ghost Value = { Bill };
 
     ghost view = { λ m. record {
-      shape = record { entries = m.stack; memo = m.memo.entries };
+      shape = record { entries = m.stack; memo = m.memo };
       tally = m.tally;
       memory = m.memory;
       highest = m.highest;
@@ -78,7 +79,7 @@ impl Machine {
     {
         Machine {
             stack: Stack::new(alloc),
-            memo: BTreeMap::new(alloc),
+            memo: Memo::new(alloc),
             tally: Tally::new(),
             memory: 0,
             highest: 0,
@@ -109,15 +110,15 @@ impl Machine {
     }
 
     /// Begins the next pickle of a row.
-    pub fn begin_next(&mut self, memo: Memo)
-        ensures { self.new ≡ next_in memo self.old }
+    pub fn begin_next(&mut self, between: Between)
+        ensures { self.new ≡ next_in between self.old }
     {
-        match memo {
-            Memo::Fresh => {
+        match between {
+            Between::Fresh => {
                 self.memo.clear();
                 self.highest = 0;
             }
-            Memo::Kept => {}
+            Between::Kept => {}
         }
         self.stack.clear();
         self.tally = Tally::new();
@@ -125,20 +126,56 @@ impl Machine {
         self.ended = false;
     }
 
-    /// Executes an operation.
-    fn operate(&mut self, inst: &Inst<'_>, takes: Takes, leaves: bool) -> Result<(), Halt>
-        ensures { OnOk result (operated_on leaves (instruction_of inst.now) self.old
+    /// Pushes a new object that weighs one and takes this much memory.
+    #[inline(always)]
+    fn make(&mut self, more: u64) -> Result<(), Halt>
+        ensures { OnOk result (self.new ≡ pushed light more self.old) }
+    {
+        self.memory = plus(self.memory, more)?;
+        self.stack.push(Packed::new(1, 0, false, false))
+    }
+
+    /// As `read`. It reads a copy of the instruction: passing the address of the original would
+    /// force it into memory in every step.
+    #[inline(always)]
+    fn read_copy(&mut self, inst: &Inst<'_>) -> Result<(), Halt>
+        ensures { OnOk result (self.new ≡ pushed (heft_of (instruction_of inst.now) [])
+            (operation_memory (instruction_of inst.now) 0) self.old) }
+    {
+        let copy = Inst::known(inst.op(), inst.arg());
+        self.read(&copy)
+    }
+
+    /// Pushes a new object that is made of the argument.
+    #[inline(never)]
+    fn read(&mut self, inst: &Inst<'_>) -> Result<(), Halt>
+        ensures { OnOk result (self.new ≡ pushed (heft_of (instruction_of inst.now) [])
+            (operation_memory (instruction_of inst.now) 0) self.old) }
+    {
+        let op = inst.op();
+        let bytes = argument_bytes(inst);
+        self.memory = after_reading(op, bytes, self.memory)?;
+        self.stack.push(made_plain(op, bytes.len() as u64))
+    }
+
+    /// Executes an operation on objects.
+    #[inline(never)]
+    fn operate(&mut self, op: Op, takes: Takes, leaves: bool) -> Result<(), Halt>
+        ensures { OnOk result (CountsKeys op takes → operated_on leaves op self.old
             (operands takes self.old.shape.entries) ≡ Ok self.new) }
     {
-        let taken = take(&mut self.stack, takes, self.tally)?;
-        self.memory = after_operation(inst, &taken, self.memory)?;
-        self.tally = counted(inst.op(), &taken, self.tally);
-        push_result(&mut self.stack, inst, leaves, &taken)
+        let mut taken = Operands::none(Keying::of(op), self.tally);
+        take(&mut self.stack, takes, &mut taken)?;
+        self.memory = after_operation(op, taken.count, self.memory)?;
+        self.tally = taken.tally.building(builds_import(op, &taken));
+        push_result(&mut self.stack, op, leaves, &taken)
     }
 
     /// Takes the result.
+    #[inline(never)]
     fn finish(&mut self) -> Result<(), Halt>
-        ensures { OnOk result (stop_billed self.old (top self.old.shape.entries)
+        ensures tally { OnOk result (self.new.tally ≡ self.old.tally) }
+        ensures billed { OnOk result (stop_billed self.old (top self.old.shape.entries)
             ≡ Ok self.new) }
     {
         let Some(_heft) = self.stack.pop_object() else {
@@ -150,10 +187,11 @@ impl Machine {
     }
 
     /// Executes a move.
+    #[inline(always)]
     fn go(&mut self, what: Move, inst: &Inst<'_>) -> Result<(), Halt>
-        ensures { OnOk result (move_billed what (number_kept what
-            (memo_number (instruction_of inst.now)) self.old.shape) self.old
-            (moved what (memo_number (instruction_of inst.now)) self.old.shape) ≡ Ok self.new) }
+        ensures billed { OnOk result (by_move what (instruction_of inst.now) self.old
+            ≡ Ok self.new) }
+        ensures tally { OnOk result (self.new.tally ≡ self.old.tally) }
     {
         let number = inst.memo_number().unwrap_or(0);
         let kept = number_kept(what, number, &self.memo);
@@ -163,23 +201,35 @@ impl Machine {
         apply(&mut self.stack, &mut self.memo, what, number)
     }
 
+    /// As `go`, out of line, for moves that are rare.
+    #[inline(never)]
+    fn go_slowly(&mut self, what: Move, inst: &Inst<'_>) -> Result<(), Halt>
+        ensures billed { OnOk result (by_move what (instruction_of inst.now) self.old
+            ≡ Ok self.new) }
+        ensures tally { OnOk result (self.new.tally ≡ self.old.tally) }
+    {
+        self.go(what, inst)
+    }
+
     /// Bills an instruction with this opcode and so many bytes, whose payload is skipped.
     pub fn step_skipped(&mut self, op: Op, count: u64) -> Result<(), Halt>
-        ensures { OnOk result (told_billed (Skipped op count) self.old ≡ Ok self.new) }
+        ensures billed { OnOk result (told_billed (Skipped op count) self.old ≡ Ok self.new) }
+        ensures tally { OnOk result (self.new.tally ≡ self.old.tally) }
     {
         if self.ended {
             return Err(Halt::Lost);
         }
         let size = count.saturating_sub(bytes_before(op));
-        let none = Operands::none(self.tally);
         self.memory = after_skipped(op, size, self.memory)?;
-        self.tally = counted(op, &none, self.tally);
-        self.stack.push(made(op, size, &none))
+        self.stack.push(made_plain(op, size))
     }
 
-    /// Bills an instruction.
-    pub fn step(&mut self, inst: &Inst<'_>) -> Result<(), Halt>
-        ensures { OnOk result (billed (instruction_of inst.now) self.old ≡ Ok self.new) }
+    /// Bills an instruction. Returns whether it may have counted keys.
+    #[inline(always)]
+    pub fn step(&mut self, inst: &Inst<'_>) -> Result<bool, Halt>
+        ensures billed { OnOk result (billed (instruction_of inst.now) self.old ≡ Ok self.new) }
+        ensures counted { IfOk result (λ counted. counted ≡ false
+            → self.new.tally ≡ self.old.tally) }
     {
         if self.ended {
             return Err(Halt::Lost);
@@ -187,33 +237,48 @@ impl Machine {
         self.act(inst)
     }
 
-    /// Does what the opcode says.
-    fn act(&mut self, inst: &Inst<'_>) -> Result<(), Halt>
-        ensures { OnOk result (billed_by (effect_of (instruction_of inst.now).op)
+    /// Does what the opcode says. Returns whether it may have counted keys.
+    #[inline(always)]
+    fn act(&mut self, inst: &Inst<'_>) -> Result<bool, Halt>
+        ensures billed { OnOk result (billed_by (effect_of (instruction_of inst.now).op)
             (instruction_of inst.now) self.old ≡ Ok self.new) }
+        ensures counted { IfOk result (λ counted. counted ≡ false
+            → self.new.tally ≡ self.old.tally) }
     {
         match action_of(inst.op()) {
-            Action::Gives(takes) => self.operate(inst, takes, false),
-            Action::Leaves(takes) => self.operate(inst, takes, true),
-            Action::Moves(what) => self.go(what, inst),
-            Action::Stops => self.finish(),
+            Action::Makes(more) => self.make(more)?,
+            Action::Fetches => self.go(Move::Fetches, inst)?,
+            Action::StoresNext => self.go(Move::StoresNext, inst)?,
+            Action::Stores => self.go(Move::Stores, inst)?,
+            Action::Marks => self.go(Move::PushesMark, inst)?,
+            Action::Gives(takes) => {
+                self.operate(inst.op(), takes, false)?;
+                return Ok(true);
+            }
+            Action::Leaves(takes) => {
+                self.operate(inst.op(), takes, true)?;
+                return Ok(true);
+            }
+            Action::Reads => self.read_copy(inst)?,
+            Action::Moves(what) => {
+                let copy = Inst::known(inst.op(), inst.arg());
+                self.go_slowly(what, &copy)?
+            }
+            Action::Stops => self.finish()?,
         }
+        Ok(false)
     }
 }
 
-/// Pushes what an operation leaves: its receiver, or a new object.
-fn push_result(
-    stack: &mut Stack,
-    inst: &Inst<'_>,
-    leaves: bool,
-    taken: &Operands,
-) -> Result<(), Halt>
+/// Pushes what an operation on objects leaves: its receiver, or a new object.
+#[inline]
+fn push_result(stack: &mut Stack, op: Op, leaves: bool, taken: &Operands) -> Result<(), Halt>
     requires { taken.now.weights ≤ 1_048_575 }
-    ensures { OnOk result ((tally : Counted) (hefts : List Heft) → AreOf tally hefts taken.now
-        → stack.new ≡ put (heft_pushed leaves (instruction_of inst.now) hefts) hefts ++ stack.old) }
+    ensures { OnOk result ((hefts : List Heft) → AreOf hefts taken.now
+        → stack.new ≡ put (heft_pushed leaves op hefts) hefts ++ stack.old) }
 {
     if !leaves {
-        return stack.push(made(inst.op(), argument_size(inst), taken));
+        return stack.push(made(op, taken));
     }
     if taken.is_empty {
         return Ok(());

@@ -1,20 +1,18 @@
 //! What an operation makes of its operands.
 
-ghost use Rattle.std.specs.Prelude.{◌≡◌, ◌≤◌, List};
-ghost use Rattle.pkops.specs.Inst.{instruction_of};
-ghost use Rattle.pkload.specs.Heft.{Heft, answers_other, argument_size, heft_made, holds_operands};
+ghost use Rattle.std.specs.Prelude.{◌≡◌, ◌≤◌, [], List};
+ghost use Rattle.pkload.specs.Heft.{Heft, answers_other, heft_made, holds_operands};
 ghost use Rattle.pkload.specs.Heft.{imports_object, makes_long, makes_salted, makes_string};
 ghost use Rattle.pkload.specs.Heft.{makes_tuple, payload_weight};
 ghost use Rattle.pkload.specs.Private.Gathered.{AreOf};
-ghost use Rattle.pkload.specs.Tally.{with_operation};
-ghost use Rattle.pkload.specs.declared.tally.Tally.{Tally as Counted};
+ghost use Rattle.pkload.specs.Tally.{builds_import};
 
 use crate::operands::Operands;
 use crate::packed::Packed;
-use crate::tally::Tally;
-use pkops::{Arg, Inst, Op};
+use pkops::Op;
 
 /// Whether the opcode makes a tuple.
+#[inline]
 fn makes_tuple(op: Op) -> bool
     ensures { result ≡ makes_tuple op }
 {
@@ -25,6 +23,7 @@ fn makes_tuple(op: Op) -> bool
 }
 
 /// Whether the opcode makes an int of any length.
+#[inline]
 fn makes_long(op: Op) -> bool
     ensures { result ≡ makes_long op }
 {
@@ -32,6 +31,7 @@ fn makes_long(op: Op) -> bool
 }
 
 /// Whether the opcode makes a text, bytes or a Python 2 string.
+#[inline]
 fn makes_string(op: Op) -> bool
     ensures { result ≡ makes_string op }
 {
@@ -44,6 +44,7 @@ fn makes_string(op: Op) -> bool
 }
 
 /// Whether the opcode answers what a name refers to.
+#[inline]
 fn imports_object(op: Op) -> bool
     ensures { result ≡ imports_object op }
 {
@@ -51,6 +52,7 @@ fn imports_object(op: Op) -> bool
 }
 
 /// Whether the opcode answers something else.
+#[inline]
 fn answers_other(op: Op) -> bool
     ensures { result ≡ answers_other op }
 {
@@ -62,6 +64,7 @@ fn answers_other(op: Op) -> bool
 }
 
 /// Whether the opcode's object has a salted hash, or it isn't known what hashes it.
+#[inline]
 fn makes_salted(op: Op) -> bool
     ensures { result ≡ makes_salted op }
 {
@@ -69,6 +72,7 @@ fn makes_salted(op: Op) -> bool
 }
 
 /// The weight of a line or payload of this many bytes.
+#[inline]
 fn payload_weight(op: Op, size: u64) -> u64
     ensures { result ≡ payload_weight op size }
 {
@@ -81,61 +85,48 @@ fn payload_weight(op: Op, size: u64) -> u64
     }
 }
 
-/// The number of bytes in the line or payload of an instruction.
-pub fn argument_size(inst: &Inst<'_>) -> u64
-    ensures { result ≡ argument_size (instruction_of inst.now).arg }
-{
-    match inst.arg() {
-        Arg::Line(line) => line.len() as u64,
-        Arg::Counted(payload) => payload.len() as u64,
-        _ => 0,
-    }
-}
-
-/// The weight of an opcode's object.
-fn weight_of(op: Op, size: u64, taken: &Operands) -> u32
+/// The weight of an object that is made of operands alone.
+#[inline]
+fn weight_of(op: Op, taken: &Operands) -> u32
     requires { taken.now.weights ≤ 1_048_575 }
-    ensures value { (tally : Counted) (hefts : List Heft) → AreOf tally hefts taken.now
-        → result ≡ (heft_made op size hefts).weight }
+    ensures value { (hefts : List Heft) → AreOf hefts taken.now
+        → result ≡ (heft_made op 0 hefts).weight }
     ensures small { result ≤ 1_048_575 }
 {
-    let own = payload_weight(op, size).min(1_048_575) as u32;
     let holds = matches!(op, Op::FrozenSet) || makes_tuple(op);
     let held = if holds { taken.weights } else { 0 };
-    (1 + own + held).min(1_048_575)
+    (1 + held).min(1_048_575)
 }
 
-/// What the object of an opcode costs.
-pub fn made(op: Op, size: u64, taken: &Operands) -> Packed
+/// What an object costs that is made of operands alone.
+#[inline]
+pub fn made(op: Op, taken: &Operands) -> Packed
     requires { taken.now.weights ≤ 1_048_575 }
-    ensures { (tally : Counted) (hefts : List Heft) → AreOf tally hefts taken.now
-        → result ≡ heft_made op size hefts }
+    ensures { (hefts : List Heft) → AreOf hefts taken.now → result ≡ heft_made op 0 hefts }
 {
     let depth = if makes_tuple(op) {
         taken.deepest.min(1_022) + 1
     } else {
         0
     };
-    let weight = weight_of(op, size, taken);
+    let weight = weight_of(op, taken);
     Packed::new(weight, depth, makes_salted(op), imports_object(op))
 }
 
-/// The tally after an operation.
-pub fn counted(op: Op, taken: &Operands, tally: Tally) -> Tally
-    ensures { (hefts : List Heft) → AreOf tally hefts taken.now
-        → result ≡ with_operation op hefts tally }
+/// What the object of an instruction without operands costs.
+#[inline]
+pub fn made_plain(op: Op, size: u64) -> Packed
+    ensures { result ≡ heft_made op size [] }
 {
-    let keys = match op {
-        Op::SetItem | Op::SetItems => taken.others,
-        Op::Dict => taken.pairs,
-        Op::AddItems => taken.behind,
-        Op::FrozenSet => taken.items,
-        _ => tally,
-    };
-    let is_build = matches!(op, Op::Build);
-    let takes_import = is_build && !taken.is_empty && taken.first.is_imported();
-    Tally {
-        builds: keys.builds || takes_import,
-        ..keys
-    }
+    let own = payload_weight(op, size).min(1_048_574) as u32;
+    let depth = if makes_tuple(op) { 1 } else { 0 };
+    Packed::new(1 + own, depth, makes_salted(op), imports_object(op))
+}
+
+/// Whether BUILD takes an object that an import answered.
+#[inline]
+pub fn builds_import(op: Op, taken: &Operands) -> bool
+    ensures { (hefts : List Heft) → AreOf hefts taken.now → result ≡ builds_import op hefts }
+{
+    matches!(op, Op::Build) && !taken.is_empty && taken.first.is_imported()
 }

@@ -10,23 +10,20 @@ ghost use Rattle.pkload.specs.Memory.{argument_bytes, begins_character, characte
 ghost use Rattle.pkload.specs.Memory.{held_memory, line_memory, move_memory, number_kept};
 ghost use Rattle.pkload.specs.Memory.{operation_memory, plain_memory, set_memory, text_memory};
 ghost use Rattle.pkload.specs.Memory.{written_memory};
-ghost use Rattle.pkload.specs.Private.Gathered.{AreOf};
+ghost use Rattle.pkload.specs.Private.Billing.{bare_memory, reading_memory};
 ghost use Rattle.pkload.specs.Private.Told.{bytes_before, skipped_memory};
-ghost use Rattle.pkload.specs.declared.tally.Tally.{Tally as Counted};
 
 use crate::halt::Halt;
-use crate::making::argument_size;
-use crate::operands::Operands;
-use crate::packed::Packed;
+use crate::memo::Memo;
 use pkcheck::effect::Move;
 use pkops::{Arg, Inst, Op, spells_itself};
-use std::collections::BTreeMap;
 
 /// So much more than any memory that sums of some of them fit 64 bits.
 const MOST: u64 = 1_125_899_906_842_624;
 
 /// The sum, if it fits.
-fn plus(memory: u64, more: u64) -> Result<u64, Halt>
+#[inline]
+pub fn plus(memory: u64, more: u64) -> Result<u64, Halt>
     ensures { IfOk result (λ sum. sum ≡ memory + more) }
 {
     if memory > u64::MAX - more {
@@ -167,7 +164,8 @@ fn held_memory(op: Op, count: u64) -> u64
 }
 
 /// The bytes in the line or payload of an instruction.
-fn argument_bytes<'a>(inst: &'a Inst<'_>) -> &'a [u8]
+#[inline(always)]
+pub fn argument_bytes<'a>(inst: &'a Inst<'_>) -> &'a [u8]
     ensures { result.now ≡ argument_bytes (instruction_of inst.now).arg }
 {
     match inst.arg() {
@@ -177,25 +175,33 @@ fn argument_bytes<'a>(inst: &'a Inst<'_>) -> &'a [u8]
     }
 }
 
-/// The memory after an operation.
-pub fn after_operation(inst: &Inst<'_>, taken: &Operands, memory: u64) -> Result<u64, Halt>
-    ensures { IfOk result (λ sum. (tally : Counted) (hefts : List Heft)
-        → AreOf tally hefts taken.now
-        → sum ≡ memory + operation_memory (instruction_of inst.now) (length hefts)) }
+/// The memory after an operation on so many objects.
+#[inline]
+pub fn after_operation(op: Op, count: u64, memory: u64) -> Result<u64, Halt>
+    ensures { IfOk result (λ sum. sum ≡ memory + bare_memory op count) }
 {
-    let op = inst.op();
-    let size = argument_size(inst);
-    let bytes = argument_bytes(inst);
-    if size > MOST || taken.count > MOST || bytes.len() as u64 > MOST {
+    if count > MOST {
+        return Err(Halt::Lost);
+    }
+    plus(memory, 16 + (plain_memory(op, 0) + held_memory(op, count)))
+}
+
+/// The memory after an instruction that makes an object of these bytes.
+pub fn after_reading(op: Op, bytes: &[u8], memory: u64) -> Result<u64, Halt>
+    ensures { IfOk result (λ sum. sum ≡ memory + reading_memory op bytes.now) }
+{
+    let size = bytes.len() as u64;
+    if size > MOST {
         return Err(Halt::Lost);
     }
     let own = plain_memory(op, size);
-    let held = held_memory(op, taken.count);
+    let held = held_memory(op, 0);
     let written = written_memory(op, bytes);
     plus(memory, 16 + (own + (held + written)))
 }
 
 /// The memory after STOP.
+#[inline]
 pub fn after_stop(memory: u64) -> Result<u64, Halt>
     ensures { IfOk result (λ sum. sum ≡ memory + 16) }
 {
@@ -203,18 +209,20 @@ pub fn after_stop(memory: u64) -> Result<u64, Halt>
 }
 
 /// The memo number under which a move stores, otherwise 0.
-pub fn number_kept(what: Move, number: u32, memo: &BTreeMap<u32, Packed>) -> u64
+#[inline(always)]
+pub fn number_kept(what: Move, number: u32, memo: &Memo) -> u64
     ensures { (entries : List (Entry Heft)) → result ≡ number_kept what number
-        (record { entries = entries; memo = memo.now.entries }) }
+        (record { entries = entries; memo = memo.now }) }
 {
     match what {
         Move::Stores => u64::from(number),
-        Move::StoresNext => memo.len() as u64,
+        Move::StoresNext => memo.len(),
         _ => 0,
     }
 }
 
 /// The memory after a move that stores under a number so far above the highest before.
+#[inline(always)]
 pub fn after_move(what: Move, grown: u64, memory: u64) -> Result<u64, Halt>
     ensures { IfOk result (λ sum. sum ≡ memory + move_memory what grown) }
 {
@@ -242,6 +250,7 @@ pub fn bytes_before(op: Op) -> u64
 }
 
 /// The memory after an instruction that makes an object of a payload of this size.
+#[inline]
 pub fn after_skipped(op: Op, size: u64, memory: u64) -> Result<u64, Halt>
     ensures { IfOk result (λ sum. sum ≡ memory + skipped_memory op size) }
 {

@@ -1,27 +1,24 @@
 //! The audience that keeps the bill.
 
-ghost use Rattle.std.specs.Prelude.{◌≡◌, MatchOption, None, OnOk};
-ghost use Rattle.pkops.specs.Inst.{instruction_of};
-ghost use Rattle.pkcheck.specs.Reports.{Skipped, Whole};
+ghost use Rattle.std.specs.Prelude.{◌≡◌, MatchOption, None};
 ghost use Rattle.pkload.specs.Bill.{no_bill};
-ghost use Rattle.pkload.specs.Private.Meter.{Fits, IsBilled, Stays};
-ghost use Rattle.pkload.specs.Private.Told.{next_if};
-ghost use Rattle.pkload.specs.Tolls.{Exceeds};
+ghost use Rattle.pkload.specs.Private.Meter.{IsExcessBy, IsUnlimited, IsWithinBy};
+ghost use Rattle.pkload.specs.Tolls.{unlimited};
 
 use crate::halt::Halt;
-use crate::machine::Machine;
+use crate::metering::Metering;
+use crate::tally::Tally;
 use crate::tolls::{Excess, Tolls};
 use pkcheck::{Audience, Memo};
 use pkops::{Inst, Op};
 use std::alloc::Global;
-use std::convert::Infallible;
 use std::marker::Model;
 
 /// Keeps the bill of each pickle, until a limit is exceeded. It is told of an instruction before
-/// the check judges it, so whether the check refuses this one is known only at the end.
+/// the check judges it. That the check accepts it is known when the next one is told, and then the
+/// meter stops the check.
 pub struct Meter {
-    machine: Machine,
-    pickle: u64,
+    metering: Metering,
     tolls: Tolls,
     memo: Memo,
     excess: Option<Excess>,
@@ -31,8 +28,7 @@ pub struct Meter {
 impl Drop for Meter {
     fn drop(self) {
         let Meter {
-            machine: _machine,
-            pickle: _pickle,
+            metering: _metering,
             tolls: _tolls,
             memo: _memo,
             excess: _excess,
@@ -42,17 +38,23 @@ impl Drop for Meter {
 }
 
 impl Model for Meter {
-    ghost use Rattle.pkload.specs.Private.Meter.{Meter as View};
+    ghost use Rattle.std.specs.Prelude.{◌≡◌, None};
+    ghost use Rattle.pkload.specs.Private.Meter.{Fits, IsUnlimited, Meter as View};
+    ghost use Rattle.pkload.specs.Tolls.{unlimited};
 
     ghost Value = { View };
 
     ghost view = { λ m. record {
-      metering = record { pickle = m.pickle; bill = m.machine };
+      metering = m.metering;
       tolls = m.tolls;
       memo = m.memo;
       excess = m.excess;
       at = m.at;
     } };
+
+    // While no limit is exceeded, the bill is within the limits. Without limits none is exceeded.
+    ghost invariant = { λ m. (m.excess ≡ None → Fits m.tolls m.metering)
+        × (m.tolls ≡ unlimited → IsUnlimited m.excess) };
 }
 
 impl Meter {
@@ -64,8 +66,7 @@ impl Meter {
         ensures none { result.excess ≡ None }
     {
         Meter {
-            machine: Machine::new(alloc),
-            pickle: 0,
+            metering: Metering::new(alloc),
             tolls: *tolls,
             memo,
             excess: None,
@@ -75,7 +76,8 @@ impl Meter {
 
     /// The first limit that was exceeded.
     pub fn excess(&self) -> Option<Excess>
-        ensures { result ≡ self.now.excess }
+        ensures excess { result ≡ self.now.excess }
+        ensures unlimited { self.now.tolls ≡ unlimited → IsUnlimited result }
     {
         self.excess
     }
@@ -84,7 +86,21 @@ impl Meter {
     pub fn pickle(&self) -> u64
         ensures { result ≡ self.now.metering.pickle }
     {
-        self.pickle
+        self.metering.pickle()
+    }
+
+    /// What the keys of this pickle cost so far.
+    pub fn tally(&self) -> Tally
+        ensures { result ≡ self.now.metering.bill.tally }
+    {
+        self.metering.tally()
+    }
+
+    /// The memory that loading this pickle takes so far.
+    pub fn memory(&self) -> u64
+        ensures { result ≡ self.now.metering.bill.memory }
+    {
+        self.metering.memory()
     }
 
     /// The offset of the instruction that was told last, or that exceeded a limit.
@@ -93,98 +109,57 @@ impl Meter {
     {
         self.at
     }
+}
 
-    /// The first limit that the bill exceeds.
-    fn found(&self) -> Option<Excess>
-        ensures { MatchOption result (Fits self.now.tolls self.now.metering)
-            (λ excess. Exceeds excess self.now.tolls self.now.metering.bill.tally
-            self.now.metering.bill.memory) }
-    {
-        self.tolls
-            .excess_of(&self.machine.tally(), self.machine.memory())
-    }
-
-    /// Begins the next pickle, if one has ended.
-    fn begin(&mut self) -> Result<(), Halt>
-        ensures ready { OnOk result (self.new.metering
-            ≡ next_if self.old.metering.bill.ended self.old.memo self.old.metering) }
-        ensures stays { Stays self.old self.new }
-    {
-        if self.machine.ended() {
-            if self.pickle == u64::MAX {
-                return Err(Halt::Lost);
-            }
-            self.pickle += 1;
-            self.machine.begin_next(self.memo);
-        }
-        Ok(())
-    }
-
-    /// Bills an instruction that is told whole.
-    fn bill(&mut self, inst: &Inst<'_>) -> Result<(), Halt>
-        ensures bill { OnOk result
-            (IsBilled (Whole (instruction_of inst.now)) self.old self.new) }
-        ensures stays { Stays self.old self.new }
-    {
-        self.begin()?;
-        self.machine.step(inst)
-    }
-
-    /// Bills an instruction whose payload is skipped.
-    fn bill_skipped(&mut self, op: Op, count: u64) -> Result<(), Halt>
-        ensures bill { OnOk result (IsBilled (Skipped op count) self.old self.new) }
-        ensures stays { Stays self.old self.new }
-    {
-        self.begin()?;
-        self.machine.step_skipped(op, count)
+/// The first limit that the bill exceeds. Without keys counted it can only be the memory's.
+#[inline(always)]
+fn excess_of(tolls: &Tolls, metering: &Metering, counted: Result<bool, Halt>) -> Option<Excess>
+    ensures excess { MatchOption result (IsWithinBy counted tolls.now metering.now)
+        (λ excess. IsExcessBy counted excess tolls.now metering.now) }
+    ensures unlimited { tolls.now ≡ unlimited → IsUnlimited result }
+{
+    match counted {
+        Ok(false) => tolls.excess_of_memory(metering.memory()),
+        Ok(true) => tolls.excess_of(&metering.tally(), metering.memory()),
+        Err(_) => Some(Excess::OutOfMemory),
     }
 }
 
 impl Audience for Meter {
-    type Error = Infallible;
+    type Error = Excess;
 
-    ghost use Rattle.std.specs.Prelude.{false, ⊤};
-    ghost use Rattle.pkload.specs.Private.Meter.{Meters, meters_more, meters_none};
+    ghost use Rattle.std.specs.Prelude.{false};
+    ghost use Rattle.pkload.specs.Private.Meter.{Meters, StopsFor, meters_more, meters_none};
 
     ghost holding = { false };
 
     ghost hears = { Meters };
 
-    ghost fails = { λ old new told error. ⊤ };
+    ghost fails = { λ old new told error. StopsFor old new error };
 
     #[inline]
     fn holds() -> bool {
         false
     }
 
-    #[inline]
-    fn tell(&mut self, at: u64, inst: &Inst<'_>, _marks: usize) -> Result<(), Infallible> {
-        if self.excess.is_some() {
-            return Ok(());
+    #[inline(always)]
+    fn tell(&mut self, at: u64, inst: &Inst<'_>, _marks: usize) -> Result<(), Excess> {
+        if let Some(excess) = self.excess {
+            return Err(excess);
         }
         self.at = at;
-        self.excess = match self.bill(inst) {
-            Ok(()) => self.found(),
-            Err(_) => Some(Excess::OutOfMemory),
-        };
+        let counted = self.metering.bill(self.memo, inst);
+        self.excess = excess_of(&self.tolls, &self.metering, counted);
         Ok(())
     }
 
-    fn tell_skipped(
-        &mut self,
-        at: u64,
-        op: Op,
-        length: u64,
-        _marks: usize,
-    ) -> Result<(), Infallible> {
-        if self.excess.is_some() {
-            return Ok(());
+    fn tell_skipped(&mut self, at: u64, op: Op, length: u64, _marks: usize) -> Result<(), Excess> {
+        if let Some(excess) = self.excess {
+            return Err(excess);
         }
         self.at = at;
-        self.excess = match self.bill_skipped(op, length) {
-            Ok(()) => self.found(),
-            Err(_) => Some(Excess::OutOfMemory),
-        };
+        let counted = self.metering.bill_skipped(self.memo, op, length);
+        self.excess = excess_of(&self.tolls, &self.metering, counted);
         Ok(())
     }
 

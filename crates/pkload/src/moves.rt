@@ -1,35 +1,22 @@
 //! Actions that look at no object.
 
-ghost use Rattle.std.specs.Prelude.{◌≡◌, ◌∷◌, List, IfOk, OnOk, Ok};
-ghost use Rattle.pkcheck.specs.Shape.{Entry, Item, moved, recalled, stored};
-ghost use Rattle.pkload.specs.Heft.{Heft};
+ghost use Rattle.std.specs.Prelude.{◌≡◌, OnOk, Ok};
+ghost use Rattle.pkcheck.specs.Shape.{moved};
 
 use crate::gathering::take_slice;
 use crate::halt::Halt;
-use crate::packed::Packed;
+use crate::keying::Keying;
+use crate::memo::Memo;
+use crate::operands::Operands;
 use crate::stack::Stack;
 use crate::tally::Tally;
 use pkcheck::effect::Move;
-use std::collections::BTreeMap;
-
-/// The top of the stack, which stays there.
-fn top(stack: &mut Stack) -> Result<Packed, Halt>
-    ensures kept { OnOk result (stack.new ≡ stack.old) }
-    ensures top { IfOk result (λ heft. (below : List (Entry Heft))
-        × (stack.old ≡ Item heft ∷ below)) }
-{
-    let Some(heft) = stack.pop_object() else {
-        return Err(Halt::Lost);
-    };
-    stack.push(heft)?;
-    Ok(heft)
-}
 
 /// Removes the topmost entry.
-fn pop(stack: &mut Stack, memo: &BTreeMap<u32, Packed>) -> Result<(), Halt>
+fn pop(stack: &mut Stack, memo: &Memo) -> Result<(), Halt>
     ensures { OnOk result
-        (moved Move.Pops 0 (record { entries = stack.old; memo = memo.now.entries })
-        ≡ Ok (record { entries = stack.new; memo = memo.now.entries })) }
+        (moved Move.Pops 0 (record { entries = stack.old; memo = memo.now })
+        ≡ Ok (record { entries = stack.new; memo = memo.now })) }
 {
     match stack.pop() {
         Some(_code) => Ok(()),
@@ -38,97 +25,70 @@ fn pop(stack: &mut Stack, memo: &BTreeMap<u32, Packed>) -> Result<(), Halt>
 }
 
 /// Removes the topmost mark and everything above it.
-fn pop_mark(stack: &mut Stack, memo: &BTreeMap<u32, Packed>) -> Result<(), Halt>
+fn pop_mark(stack: &mut Stack, memo: &Memo) -> Result<(), Halt>
     ensures { OnOk result
-        (moved Move.PopsMark 0 (record { entries = stack.old; memo = memo.now.entries })
-        ≡ Ok (record { entries = stack.new; memo = memo.now.entries })) }
+        (moved Move.PopsMark 0 (record { entries = stack.old; memo = memo.now })
+        ≡ Ok (record { entries = stack.new; memo = memo.now })) }
 {
-    let _above = take_slice(stack, Tally::new())?;
-    Ok(())
+    let mut above = Operands::none(Keying::Nothing, Tally::new());
+    take_slice(stack, &mut above)
 }
 
 /// Pushes the top again.
-fn duplicate(stack: &mut Stack, memo: &BTreeMap<u32, Packed>) -> Result<(), Halt>
+fn duplicate(stack: &mut Stack, memo: &Memo) -> Result<(), Halt>
     ensures { OnOk result
-        (moved Move.Duplicates 0 (record { entries = stack.old; memo = memo.now.entries })
-        ≡ Ok (record { entries = stack.new; memo = memo.now.entries })) }
+        (moved Move.Duplicates 0 (record { entries = stack.old; memo = memo.now })
+        ≡ Ok (record { entries = stack.new; memo = memo.now })) }
 {
-    let heft = top(stack)?;
-    stack.push(heft)
-}
-
-/// Stores the top under a number.
-fn store(stack: &mut Stack, memo: &mut BTreeMap<u32, Packed>, number: u32) -> Result<(), Halt>
-    ensures { OnOk result
-        (moved Move.Stores number (record { entries = stack.old; memo = memo.old.entries })
-        ≡ Ok (record { entries = stack.new; memo = memo.new.entries })) }
-{
-    let heft = top(stack)?;
-    put(memo, number, heft)
-}
-
-/// Sets the entry of a number.
-fn put(memo: &mut BTreeMap<u32, Packed>, number: u32, heft: Packed) -> Result<(), Halt>
-    ensures { OnOk result (memo.new.entries ≡ stored number heft memo.old.entries) }
-{
-    match memo.insert(number, heft) {
-        Ok(_) => Ok(()),
-        Err(_) => Err(Halt::OutOfMemory),
-    }
-}
-
-/// The entry of a number.
-fn found(memo: &BTreeMap<u32, Packed>, number: u32) -> Option<Packed>
-    ensures { result ≡ recalled number memo.now.entries }
-{
-    match memo.get(&number) {
-        Some(heft) => Some(*heft),
-        None => None,
-    }
-}
-
-/// Pushes the memo entry of a number.
-fn fetch(stack: &mut Stack, memo: &BTreeMap<u32, Packed>, number: u32) -> Result<(), Halt>
-    ensures { OnOk result
-        (moved Move.Fetches number (record { entries = stack.old; memo = memo.now.entries })
-        ≡ Ok (record { entries = stack.new; memo = memo.now.entries })) }
-{
-    match found(memo, number) {
+    match stack.top() {
         Some(heft) => stack.push(heft),
         None => Err(Halt::Lost),
     }
 }
 
-/// Stores the top under the number of entries.
-fn store_next(stack: &mut Stack, memo: &mut BTreeMap<u32, Packed>) -> Result<(), Halt>
+/// Stores the top under a number.
+#[inline(always)]
+fn store(stack: &Stack, memo: &mut Memo, number: u64) -> Result<(), Halt>
     ensures { OnOk result
-        (moved Move.StoresNext 0 (record { entries = stack.old; memo = memo.old.entries })
-        ≡ Ok (record { entries = stack.new; memo = memo.new.entries })) }
+        (moved Move.Stores number (record { entries = stack.now; memo = memo.old })
+        ≡ Ok (record { entries = stack.now; memo = memo.new })) }
 {
-    let Ok(number) = u32::try_from(memo.len()) else {
-        return Err(Halt::OutOfMemory);
-    };
-    store(stack, memo, number)
+    match stack.top() {
+        Some(heft) => memo.store(number, heft),
+        None => Err(Halt::Lost),
+    }
+}
+
+/// Pushes the memo entry of a number.
+#[inline(always)]
+fn fetch(stack: &mut Stack, memo: &Memo, number: u32) -> Result<(), Halt>
+    ensures { OnOk result
+        (moved Move.Fetches number (record { entries = stack.old; memo = memo.now })
+        ≡ Ok (record { entries = stack.new; memo = memo.now })) }
+{
+    match memo.get(number) {
+        Some(heft) => stack.push(heft),
+        None => Err(Halt::Lost),
+    }
 }
 
 /// Applies a move.
-pub fn apply(
-    stack: &mut Stack,
-    memo: &mut BTreeMap<u32, Packed>,
-    what: Move,
-    number: u32,
-) -> Result<(), Halt>
+#[inline(always)]
+pub fn apply(stack: &mut Stack, memo: &mut Memo, what: Move, number: u32) -> Result<(), Halt>
     ensures { OnOk result
-        (moved what number (record { entries = stack.old; memo = memo.old.entries })
-        ≡ Ok (record { entries = stack.new; memo = memo.new.entries })) }
+        (moved what number (record { entries = stack.old; memo = memo.old })
+        ≡ Ok (record { entries = stack.new; memo = memo.new })) }
 {
     match what {
         Move::PushesMark => stack.push_mark(),
         Move::Pops => pop(stack, memo),
         Move::PopsMark => pop_mark(stack, memo),
         Move::Duplicates => duplicate(stack, memo),
-        Move::Stores => store(stack, memo, number),
-        Move::StoresNext => store_next(stack, memo),
+        Move::Stores => store(stack, memo, u64::from(number)),
+        Move::StoresNext => {
+            let next = memo.len();
+            store(stack, memo, next)
+        }
         Move::Fetches => fetch(stack, memo, number),
         Move::Passes => Ok(()),
         Move::Extends => Err(Halt::Lost),

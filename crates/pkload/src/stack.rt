@@ -1,7 +1,8 @@
 //! The stack: marks, and what objects cost.
 
-ghost use Rattle.std.specs.Prelude.{◌≡◌, [], ◌∷◌, IfSome, MatchOption, OnOk};
-ghost use Rattle.pkcheck.specs.Shape.{Item, Mark};
+ghost use Rattle.std.specs.Prelude.{◌≡◌, [], ◌∷◌, List, IfSome, MatchOption, OnOk};
+ghost use Rattle.pkcheck.specs.Shape.{Entry, Item, Mark};
+ghost use Rattle.pkload.specs.Heft.{Heft};
 ghost use Rattle.pkload.specs.Private.Shown.{entry_of};
 
 use crate::halt::Halt;
@@ -52,6 +53,7 @@ impl Stack {
     }
 
     /// Pushes a code.
+    #[inline(always)]
     #[tactic(auto, using(crate::proofs::Slots::shown_append))]
     fn push_code(&mut self, code: u32) -> Result<(), Halt>
         ensures { OnOk result (self.new ≡ entry_of code ∷ self.old) }
@@ -63,6 +65,7 @@ impl Stack {
     }
 
     /// Pushes a mark.
+    #[inline(always)]
     pub fn push_mark(&mut self) -> Result<(), Halt>
         ensures { OnOk result (self.new ≡ Mark ∷ self.old) }
     {
@@ -70,6 +73,7 @@ impl Stack {
     }
 
     /// Pushes an object.
+    #[inline(always)]
     pub fn push(&mut self, heft: Packed) -> Result<(), Halt>
         ensures { OnOk result (self.new ≡ Item heft ∷ self.old) }
     {
@@ -81,6 +85,7 @@ impl Stack {
     }
 
     /// Removes the topmost entry, and returns its code.
+    #[inline(always)]
     #[tactic(auto, using(crate::proofs::Slots::shown_append))]
     pub fn pop(&mut self) -> Option<u32>
         ensures { MatchOption result (self.old ≡ []) (λ code. self.old ≡ entry_of code ∷ self.new) }
@@ -88,7 +93,25 @@ impl Stack {
         self.codes.pop()
     }
 
+    /// The topmost entry, which must be an object.
+    #[inline(always)]
+    pub fn top(&self) -> Option<Packed>
+        ensures { IfSome result (λ heft. (below : List (Entry Heft))
+            × (self.now ≡ Item heft ∷ below)) }
+    {
+        let count = self.codes.len();
+        if count == 0 {
+            return None;
+        }
+        let code = self.codes[count - 1];
+        if code == MARK {
+            return None;
+        }
+        Some(Packed::from_code(code))
+    }
+
     /// Removes the topmost entry, which must be an object.
+    #[inline(always)]
     pub fn pop_object(&mut self) -> Option<Packed>
         ensures { IfSome result (λ heft. self.old ≡ Item heft ∷ self.new) }
     {

@@ -1,7 +1,7 @@
 //! What the keys of a pickle cost together.
 
-ghost use Rattle.std.specs.Prelude.{◌≡◌, ◌+◌, IfOk};
-ghost use Rattle.pkload.specs.Tally.{no_tally, with_key};
+ghost use Rattle.std.specs.Prelude.{◌≡◌, ◌+◌, IfOk, OnOk};
+ghost use Rattle.pkload.specs.Tally.{building, no_tally, with_key};
 
 use crate::halt::Halt;
 use crate::packed::Packed;
@@ -35,23 +35,34 @@ impl Tally {
         }
     }
 
-    /// The tally with one more key.
-    pub(crate) fn with(self, key: Packed) -> Result<Tally, Halt>
-        ensures { IfOk result (λ tally. tally ≡ with_key self key) }
+    /// The tally, where BUILD may have taken an imported object.
+    #[inline]
+    pub(crate) fn building(self, builds: bool) -> Tally
+        ensures { result ≡ building builds self }
+    {
+        Tally {
+            builds: self.builds || builds,
+            ..self
+        }
+    }
+
+    /// Counts one more key.
+    #[inline]
+    pub(crate) fn add(&mut self, key: Packed) -> Result<(), Halt>
+        ensures { OnOk result (self.new ≡ with_key self.old key) }
     {
         let weight = key.weight();
         let clash = if key.is_salted() { 0 } else { weight };
-        Ok(Tally {
-            levels: self.levels.max(key.depth()),
-            weight: self.weight.max(weight),
-            work: plus(self.work, weight)?,
-            clash: plus(self.clash, clash)?,
-            builds: self.builds,
-        })
+        self.work = plus(self.work, weight)?;
+        self.clash = plus(self.clash, clash)?;
+        self.levels = self.levels.max(key.depth());
+        self.weight = self.weight.max(weight);
+        Ok(())
     }
 }
 
 /// The sum, if it fits.
+#[inline]
 fn plus(sum: u64, weight: u32) -> Result<u64, Halt>
     ensures { IfOk result (λ total. total ≡ sum + weight) }
 {

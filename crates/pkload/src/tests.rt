@@ -1,6 +1,6 @@
 //! Worked pickles, with what their keys cost.
 
-use crate::{Costly, Excess, Tolls, check_loading};
+use crate::{Costly, Excess, Tally, Tolls, check_loading};
 use pkcheck::{Extent, Loading, Memo, OldStrings, Policy, Terms};
 use pkops::Limits;
 use pkread::{Memory, Reason};
@@ -40,7 +40,7 @@ fn answer_in(rt: &HostRuntime, bytes: &[u8], tolls: &Tolls, terms: &Terms) -> An
     let mut source = Memory::new(bytes);
     let answer = check_loading(rt.alloc(), &mut source, &Policy::AnyImport, terms, tolls);
     match answer {
-        Ok(Ok(yes)) => Answer::Yes(yes.taken),
+        Ok(Ok(billed)) => Answer::Yes(billed.yes.taken),
         Ok(Err(refused)) => Answer::No(refused.no.at, refused.no.reason),
         Err(Costly { at, excess, .. }) => Answer::Costs(at, excess),
     }
@@ -91,7 +91,7 @@ fn keys_cost_what_the_bill_says(rt: HostRuntime) {
 }
 
 #[test]
-fn thirty_doublings_are_refused(rt: HostRuntime) -> Result<(), Fail> {
+fn thirty_doublings_are_refused_by_limits(rt: HostRuntime) -> Result<(), Fail> {
     let mut bytes = Vec::new(rt.alloc());
     bytes.extend_from_slice(b"})")?;
     for _k in 0..30 {
@@ -100,6 +100,10 @@ fn thirty_doublings_are_refused(rt: HostRuntime) -> Result<(), Fail> {
     bytes.extend_from_slice(b"Ns.")?;
     let answer = answer_of(&rt, &bytes, &Tolls::standard());
     assert_eq!(rt; answer, Answer::Costs(63, Excess::HeavyKeys));
+    assert_eq!(rt;
+        answer_of(&rt, &bytes, &Tolls::unlimited()),
+        Answer::Yes(65)
+    );
     Ok(())
 }
 
@@ -111,6 +115,26 @@ fn each_pickle_of_a_row_begins_anew(rt: HostRuntime) {
         answer_in(&rt, b"})\x94Ns.}h\0Ns.", &tolls, &row),
         Answer::Yes(12)
     );
+}
+
+#[test]
+fn a_yes_carries_the_bill_of_the_last_pickle(rt: HostRuntime) {
+    let row = terms(Memo::Fresh, Extent::ToTheEnd);
+    let mut source = Memory::new(b"})\x85Ns.}K\x01)\x85\x85s.");
+    let policy = Policy::AnyImport;
+    let bill = match check_loading(rt.alloc(), &mut source, &policy, &row, &few()) {
+        Ok(Ok(billed)) => Some((billed.tally, billed.memory)),
+        Ok(Err(_refused)) => None,
+        Err(_costly) => None,
+    };
+    let tally = Tally {
+        levels: 0,
+        weight: 1,
+        work: 1,
+        clash: 1,
+        builds: false,
+    };
+    assert_eq!(rt; bill, Some((tally, 512)));
 }
 
 #[test]

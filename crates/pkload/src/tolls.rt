@@ -1,6 +1,6 @@
 //! Limits on what loading a pickle may cost.
 
-ghost use Rattle.std.specs.Prelude.{◌≡◌, MatchOption, None};
+ghost use Rattle.std.specs.Prelude.{◌≡◌, ◌≤◌, ◌<◌, MatchOption, None};
 ghost use Rattle.pkload.specs.Tolls.{Exceeds, KeepsWithin, standard, unlimited};
 
 use crate::tally::Tally;
@@ -85,11 +85,24 @@ impl Tolls {
         if tally.clash > self.clash {
             return Some(Excess::ManyKeys);
         }
-        if memory > self.memory {
+        if self.memory < memory {
             return Some(Excess::MuchMemory);
         }
         if tally.builds && !self.builds {
             return Some(Excess::BuildsImport);
+        }
+        None
+    }
+
+    /// `MuchMemory` if so much memory exceeds its limit.
+    #[inline(always)]
+    pub(crate) fn excess_of_memory(&self, memory: u64) -> Option<Excess>
+        ensures excess { MatchOption result (memory ≤ self.now.memory)
+            (λ excess. (excess ≡ Excess.MuchMemory) × (self.now.memory < memory)) }
+        ensures unlimited { self.now ≡ unlimited → result ≡ None }
+    {
+        if memory > self.memory {
+            return Some(Excess::MuchMemory);
         }
         None
     }

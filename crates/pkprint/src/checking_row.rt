@@ -10,7 +10,7 @@ ghost use Rattle.pkprint.specs.Verdict.{outcome_of_row, row_line};
 
 use crate::checking::Outcome;
 use crate::printing::write_row;
-use pkcheck::{Loading, Memo, OldStrings, Policy, check_all_loaded};
+use pkcheck::{Loading, Memo, OldStrings, Permit, Policy, check_all_loaded};
 use pkops::Limits;
 use pkread::Source;
 use std::alloc::Global;
@@ -65,7 +65,7 @@ pub fn check_all_loaded_to<R: Source, W: Write>(
         × Appends (W.contents out.old) (W.contents out.new) (row_line answer)
         × (outcome ≡ outcome_of_row answer)) }
 {
-    let answer = check_all_loaded(alloc, source, policy, limits, loading);
+    let answer = check_all_loaded(alloc, source, &Permit::By(*policy), limits, loading);
     write_row(&answer, out)?;
     match answer {
         Ok(_) => Ok(Outcome::Done),

@@ -1,6 +1,6 @@
 //! The frame rules of PEP 3154, decided from the number of bytes left in the open frame.
 
-ghost use Rattle.std.specs.Prelude.{◌≡◌, ◌≢◌, ◌-◌, ◌<◌, ℕ, take};
+ghost use Rattle.std.specs.Prelude.{◌≡◌, ◌≢◌, ◌-◌, ◌<◌, ◌≤◌, ℕ, take};
 ghost use Rattle.pkops.specs.Inst.{instruction_of};
 ghost use Rattle.pkread.specs.Framing.{TakesPiece};
 ghost use Rattle.pkread.specs.Pieces.{number_of, role_of};
@@ -84,6 +84,7 @@ impl Frames {
     /// If a frame is open, they lie in it.
     #[inline(always)]
     pub fn take_inside(&mut self, count: usize)
+        requires { self.old ≢ 0 → count ≤ self.old }
         ensures { self.new ≡ self.old - count }
     {
         self.open = self.open.saturating_sub(count as u64);

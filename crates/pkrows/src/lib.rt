@@ -8,6 +8,8 @@
 #[cfg(test)]
 mod bounds;
 #[cfg(test)]
+mod calling;
+#[cfg(test)]
 mod exported;
 #[cfg(test)]
 mod giving;

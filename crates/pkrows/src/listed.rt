@@ -1,7 +1,8 @@
 //! The imports that a machine and an answer list, and comparisons of two answers.
 
 use pkcheck::{
-    Asked, Import, Machine, NoWithImports, OldStrings, Policy, Yes, check, check_with_imports,
+    Asked, Import, Machine, NoWithImports, OldStrings, Permit, Policy, Yes, check,
+    check_with_imports,
 };
 use pkops::{Arg, Inst, Limits, Op, Scan, scan};
 use pkread::{Memory, Reason};
@@ -63,7 +64,7 @@ fn refused<T: AllocGlobal>(rt: &T, pickle: &[u8]) -> Result<NoWithImports, Fail>
     match check_with_imports(
         rt.alloc(),
         &mut source,
-        &Policy::AnyImport,
+        &Permit::By(Policy::AnyImport),
         &Limits::STANDARD,
         OldStrings::Unknown,
     ) {

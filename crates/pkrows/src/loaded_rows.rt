@@ -2,7 +2,7 @@
 //! kept memo. CPython 3.11 agrees: with one `pickle.load` per pickle, and with one `Unpickler`.
 
 use crate::giving::Pieces;
-use pkcheck::{Allow, Loading, Memo, NoAll, OldStrings, Policy, YesAll, check_all_loaded};
+use pkcheck::{Allow, Loading, Memo, NoAll, OldStrings, Permit, Policy, YesAll, check_all_loaded};
 use pkops::Limits;
 use pkread::Reason;
 use std::process::Abort;
@@ -92,7 +92,8 @@ fn said<T: AllocGlobal>(rt: &T, policy: &Policy<'_>, memo: Memo, row: &[u8]) -> 
         memo,
         old_strings: OldStrings::Unknown,
     };
-    verdict_of(check_all_loaded(rt.alloc(), &mut source, policy, &Limits::STANDARD, loading))
+    let permit = Permit::By(*policy);
+    verdict_of(check_all_loaded(rt.alloc(), &mut source, &permit, &Limits::STANDARD, loading))
 }
 
 fn hold<T: Abort + AllocGlobal>(

@@ -7,6 +7,9 @@ from typing import Any, Dict, Iterator, List, Mapping, Set, Type, TypeVar, cast
 
 T = TypeVar("T")
 
+TRIED = {"cachelib": "0.9", "diskcache": "5.4", "django": "3.2", "rq": "1.13"}
+"""The version of each library that its adapter was tried with. Another one may use other names."""
+
 
 def rebound(cls: Type[T], names: Mapping[str, object]) -> Type[T]:
     """A subclass of `cls` whose methods see these objects under these global names.
@@ -27,7 +30,9 @@ def rebound(cls: Type[T], names: Mapping[str, object]) -> Type[T]:
                 methods[word] = _copied(member, names)
     if read != names.keys():
         missing = ", ".join(sorted(names.keys() - read))
-        raise TypeError(f"{cls.__module__}.{cls.__qualname__} no longer uses {missing}")
+        library = cls.__module__.partition(".")[0]
+        tried = f": {library} {TRIED[library]} does" if library in TRIED else ""
+        raise TypeError(f"{cls.__module__}.{cls.__qualname__} doesn't use {missing}{tried}")
     made: Dict[str, Any] = {"__module__": __name__, **methods}
     return cast(Type[T], type(cls.__name__, (cls,), made))
 

@@ -19,8 +19,8 @@ from typing import Any, List, Optional, Tuple, Union
 
 from .. import AllowList, Guard
 from .._storklocker import walked
+from ..scanning.following import NotFollowed
 from ..scanning.joblib_cutting import WRAPPERS, Cut, Cutter
-from ..scanning.joblib_types import NotJoblib
 from ..scanning.source import Source
 from ._joblib_arrays import MODES, Place, loaded
 from ._joblib_files import File, opened
@@ -71,7 +71,7 @@ def _cut(source: Source, guard: Guard) -> Tuple[Cut, List[bytes]]:
 
     try:
         cut = Cutter(source, length_of, lambda: None).cut()
-    except NotJoblib as error:
+    except NotFollowed as error:
         raise guard.UnpicklingError(f"this is not a file of joblib: {error}") from None
     held = iter(pickles)
     return cut, [next(held) if gap.is_pickle else b"" for gap in cut.gaps]

@@ -4,12 +4,14 @@
     readings.py     what the readers that people use would get to; all_readings.py lists them
     pickles.py, npys.py, tars.py, packed.py, zips.py, zip_layout.py, checkpoints.py, stores.py and
     shelves.py      the rule of each reader
-    beside.py       the file that says where the values of a shelf are
+    places.py, beside.py, checkpoint_places.py
+                    the file beside another that says where its values are
     source.py       bytes that several readers look at
     budget.py       how much is read of one file
     judging.py      makes the report on each pickle
     rows.py         reads pickles that follow one another
     names.py        the imports of a pickle, within bounds
+    following.py    the instructions of a pickle, without running them
     joblib_files.py, joblib_cutting.py and joblib_types.py
                     files of joblib without their arrays
     reaching.py     whether a reader gets further than the checker

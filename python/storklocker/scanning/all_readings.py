@@ -4,6 +4,7 @@ from __future__ import annotations
 
 from typing import Dict
 
+from .checkpoints import records_reading
 from .npys import npy_reading
 from .packed import (
     bzip2_reading, gzip_reading, lzma_reading, unknown_reading, xz_reading, zf_reading, zlib_reading
@@ -18,6 +19,7 @@ from .zips import zip_reading
 READINGS: Dict[str, Reading] = {
     "dbm.dumb": shelf_reading,  # the first, because it says where the pickles are
     "pickle": pickle_reading,
+    "distcp": records_reading,
     "npy": npy_reading,
     "tar": tar_reading,
     "gzip": gzip_reading,

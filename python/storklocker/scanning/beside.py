@@ -1,4 +1,4 @@
-"""The file with the places of values, which stands beside one of `dbm.dumb`."""
+"""The file with the places of values, which stands beside that with the values."""
 
 from __future__ import annotations
 
@@ -9,7 +9,7 @@ from typing import Optional
 
 from .budget import TooMuch
 from .files import File, is_url
-from .shelves import PLACES, places_of
+from .places import places_of
 from .source import Source, in_memory
 
 _MOST = 1 << 26
@@ -23,7 +23,7 @@ def beside(file: File) -> Optional[Source]:
         return None
     data = _of_url(path) if is_url(path) else _of_file(path)
     if data is not None and len(data) > _MOST:
-        raise TooMuch(f"{PLACES} has more than {_MOST:,} bytes")
+        raise TooMuch(f"{os.path.basename(path)} has more than {_MOST:,} bytes")
     return None if data is None else in_memory(io.BytesIO(data))
 
 

@@ -49,6 +49,11 @@ class Budget:
         self.shelves: Set[Tuple[int, int]] = set()
         """The places of shelves, each of whose values is read."""
 
+    def grow(self, size: int) -> None:
+        """Adds the time for so many bytes more than the file has."""
+        self._seconds += size / _SPEED
+        self._end += size / _SPEED
+
     def spend_bytes(self, count: int) -> None:
         """Counts bytes that were unpacked."""
         self._bytes -= count

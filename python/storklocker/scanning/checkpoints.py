@@ -1,39 +1,89 @@
-"""torch's distributed checkpoints: files of zip files, one behind another. The offset of each is in
-a pickle beside them, so a hostile one may be anywhere.
+"""torch's distributed checkpoints: files of zip files, one behind another. Where each of these is
+stands in a pickle beside them, `.metadata`, which must lead to these and nowhere else.
 """
 
 from __future__ import annotations
 
-from typing import Iterator, List, Optional, Tuple
+import re
+from typing import Iterator, List, Optional, Set, Tuple
 
 from .budget import Budget
+from .checkpoint_places import Records
+from .following import NotFollowed
 from .names import length_at
+from .places import METADATA, PART
 from .readings import Found, Place, examine
 from .source import Source
 from .stores import searched
 from .zip_layout import END, END_SIZE, directories, entries, fault_of, local_at
 
-_ENDING = ".distcp"
 _STEP = 1 << 20
+_KIND = "distcp"
+_METADATA = re.compile(rf"(__[0-9]+)?{re.escape(METADATA)}")
+"""The file for all processes, or for one of them."""
 
 
 def checkpoint_reading(place: Place) -> Found:
     """What torch gets to in its own files. Returns whether this is one, and nothing else."""
-    if not place.path.lower().endswith(_ENDING):
+    if not place.path.lower().endswith(PART):
         return False
-    end, known = 0, []  # type: int, List[Tuple[int, int]]
+    end, known, parts = 0, [], set()  # type: int, List[Tuple[int, int]], Set[Tuple[int, int]]
     for part, members in _parts(place.source, place.budget):
         place.budget.spend_member()
         yield from examine(place.inside(f"at {end}", part, "zip"))
         for member in members:
             at = end + member
             known.append((at, at + length_at(place.source, at, place.budget)))
+        parts.add((end, part.size))
         end += part.size
     if end < place.source.size:
         why = "it isn't zip files, one behind another: what a reader gets to isn't known"
-        yield place.unread("distcp", "broken-container", why)
-    yield from searched(place, "distcp", known)
+        yield place.unread(_KIND, "broken-container", why)
+    yield from searched(place, _KIND, known)
+    beside = place.beside()
+    if beside is not None:
+        yield from _recorded(place, beside, parts)
     return end == place.source.size > 0
+
+
+def _recorded(place: Place, beside: Source, parts: Set[Tuple[int, int]]) -> Found:
+    """Whether the records beside it lead to its parts, and nowhere else."""
+    place.budget.grow(2 * beside.size)  # to follow instructions takes longer than a check
+    name = _name_of(place)
+    try:
+        if not length_at(beside, 0, place.budget):
+            raise NotFollowed("it is no pickle that a list accepts")
+        for record in Records(beside, place.budget.spend_time).found():
+            if record.file.lower() == name and (record.offset, record.length) not in parts:
+                why = f"by {METADATA}, a value of {record.length:,} bytes is at {record.offset:,}"
+                yield place.unread(_KIND, "differing-readings", f"{why}, where no zip file is")
+                break
+    except NotFollowed as error:
+        yield place.unread(_KIND, "broken-container", f"{METADATA} can't be read: {error}")
+    return True
+
+
+def records_reading(place: Place) -> Found:
+    """Which files torch gets to by the records in a `.metadata`. It is loaded as a pickle, too."""
+    named = _METADATA.fullmatch(_name_of(place))
+    if named is None or not length_at(place.source, 0, place.budget):
+        return False
+    place.budget.grow(place.source.size)
+    try:
+        found = Records(place.source, place.budget.spend_time).found()
+    except NotFollowed as error:
+        why = f"where torch finds values isn't known: {error}"
+        yield place.unread(_KIND, "broken-container", why)
+    else:
+        if found and named.group(1):
+            why = "the places in a file for one process are not compared with its files here"
+            yield place.unread(_KIND, "unknown-container", why)
+    return False
+
+
+def _name_of(place: Place) -> str:
+    """The name of the file, in small letters."""
+    return re.split("[/!]", place.path)[-1].lower()
 
 
 def _parts(source: Source, budget: Budget) -> Iterator[Tuple[Source, List[int]]]:

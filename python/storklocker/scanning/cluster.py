@@ -2,6 +2,7 @@
 
 from __future__ import annotations
 
+import asyncio
 import base64
 import json
 import pickle
@@ -17,6 +18,9 @@ FILES, BYTES = 256, 1 << 26
 """The most files and bytes of a batch."""
 _AHEAD = 4
 """The most batches that wait for each thread of the cluster."""
+_PAUSE, _PAUSES = 5.0, 24
+"""How often a cluster may be found without a worker before it is given up, and the seconds between.
+"""
 _held = threading.local()
 
 Answer = List[str]
@@ -89,8 +93,7 @@ class _Cluster:
         if waiting.future is None:
             return []
         try:
-            answer: Answer = waiting.future.result()
-            return answer
+            return self._result(waiting.future)
         except KilledWorker:
             unknown = [file for file in waiting.batch if file.known is None]
             return [self._alone(file) for file in unknown]
@@ -99,12 +102,26 @@ class _Cluster:
         except Exception as error:
             raise OSError(f"the cluster failed: {type(error).__name__}: {error}") from error
 
+    def _result(self, future: Any) -> Answer:
+        """What comes of a batch. A cluster that has lost all of its workers may get new ones, for
+        which it is given some time.
+        """
+        lonely = 0
+        while lonely < _PAUSES:
+            try:
+                answer: Answer = future.result(timeout=_PAUSE)
+                return answer
+            except asyncio.TimeoutError:
+                if future.done():  # it is the worker's
+                    raise
+                lonely = 0 if self._client.nthreads() else lonely + 1
+        raise TimeoutError(f"no worker for {_PAUSE * _PAUSES:.0f} seconds")
+
     def _alone(self, file: File) -> str:
         from distributed.scheduler import KilledWorker
 
         try:
-            answer: Answer = self._submitted([file]).result()
-            return answer[0]
+            return self._result(self._submitted([file]))[0]
         except KilledWorker:
             why = Finding("unreadable", "the workers that read it ended")
             report = unreadable(file.path, "file", why, file.path)

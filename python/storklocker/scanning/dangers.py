@@ -20,6 +20,8 @@ from .severity import DANGER, WARNING
 MOST = 100
 """The most findings of each kind on the names of one pickle. A further one counts the rest."""
 
+_SHORT = 200
+"""The most characters of a module and a name whose judgement is kept."""
 _WORDS = 8
 """The most words of a dotted name: no class lies so deep, but a way from module to module may."""
 _HIDDEN = "The pickle computes the name that it imports."
@@ -59,12 +61,21 @@ def _substituted(allow: AllowList) -> Container[Tuple[str, str]]:
 
 def judged(module: str, name: str) -> Optional[Row]:
     """What is known of a name; None if nobody has judged it."""
+    is_short = len(module) + len(name) <= _SHORT  # so that hostile ones don't fill the memory
+    return _judged_before(module, name) if is_short else _judged(module, name)
+
+
+def _judged(module: str, name: str) -> Optional[Row]:
     found = [row for row in _rows(module, name) if row is not None]
     for severity in (DANGER, WARNING, HARMLESS):
         for row in found:
             if row.severity == severity:
                 return row
     return None
+
+
+# (the files of a scan mostly import the same names)
+_judged_before = functools.lru_cache(maxsize=4096)(_judged)
 
 
 def _rows(module: str, name: str) -> Iterator[Optional[Row]]:

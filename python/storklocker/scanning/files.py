@@ -8,7 +8,7 @@ from typing import Callable, Iterable, Iterator, List, NamedTuple, Optional, Tup
 
 from .choosing import Choice
 from .report import Report
-from .shelves import places_of
+from .places import places_of
 
 _BLOCK = 100_000
 """How many entries of a folder are sorted at once."""
@@ -145,8 +145,9 @@ def _stamp(found: os.stat_result) -> str:
 
 def _stamp_beside(path: str) -> str:
     """The stamp of the file that says where the values in this one are."""
+    places = places_of(path)
     try:
-        return f" {_stamp(os.stat(places_of(path)))}"
+        return f" {_stamp(os.stat(places))}" if places else ""
     except OSError:
         return ""
 

@@ -7,8 +7,8 @@ from typing import Optional, Tuple
 
 from .._lists import AllowList
 from .budget import Budget
+from .following import NotFollowed
 from .joblib_cutting import WRAPPERS, Cutter
-from .joblib_types import NotJoblib
 from .names import length_at
 from .readings import Piece
 from .rows import Row
@@ -27,8 +27,8 @@ def without_arrays(
     try:
         cut = Cutter(source, lambda at: length_at(source, at, budget), budget.spend_time).cut()
         if cut.end < source.size:
-            raise NotJoblib("bytes follow it")
-    except NotJoblib as error:
+            raise NotFollowed("bytes follow it")
+    except NotFollowed as error:
         row.raw = f"joblib writes arrays between the instructions, but not like this: {error}"
         return piece, row
     piece = piece._replace(kind="joblib", is_claimed=True, most=1)
@@ -39,7 +39,8 @@ def without_arrays(
         other = Row(piece._replace(source=nested), allow, budget)
         first.names.update(other.names)
         first.is_complete &= other.is_complete
-        first.refusal = first.refusal or other.refusal
+        if first.refusal is None:  # (a refusal is false)
+            first.refusal = other.refusal
         first.too_much = first.too_much or other.too_much
     first.taken = cut.end
     return piece, first

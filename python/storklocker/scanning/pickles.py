@@ -3,6 +3,7 @@
 from __future__ import annotations
 
 from .readings import Found, Place
+from .stores import is_pickle
 
 _TORCH = b"\x80\x02\x8a\nl\xfc\x9cF\xf9 j\xa8P\x19."
 """The pickle in front of torch's older files, as `torch.save` writes it."""
@@ -13,6 +14,8 @@ _TORCH_PICKLES = 5
 def pickle_reading(place: Place) -> Found:
     """What `pickle.load` gets to, once or again and again."""
     if place.source.place(0) in place.budget.shelves:
+        return False
+    if place.is_raw and not is_pickle(place.source, 0):
         return False
     if not place.source.front().startswith(_TORCH):
         taken = yield place.piece(place.around)

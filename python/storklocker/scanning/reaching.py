@@ -37,13 +37,15 @@ mark, and a line without a line feed.
 
 _INSTRUCTIONS = 100_000
 _LINE = 1 << 25
-_ENDS = (b".", b"\x82", b"\x83", b"\x84", b"\x95")
-"""STOP, the instructions that import what is registered, and FRAME: the reader in C drops the front
-of a line that crosses a frame's end, so it reads other lines than the layout shows.
+_FRAME, _REGISTERED = b"\x95", (b"\x82", b"\x83", b"\x84")
+"""FRAME, where the reader in C drops the front of an argument that crosses the frame's end, so that
+it reads other bytes than the layout shows; and the instructions that import what is registered
+under a number, or else are errors.
 """
-_TEXTS = frozenset(b"X\x8c")
-_KEPT = frozenset(b"\x94qrp")
-"""The codes of the instructions that push a text, and that leave the stack as it is."""
+_TEXTS, _KEPT, _PAIRS = frozenset(b"X\x8c"), frozenset(b"\x94qrp"), frozenset(b"ci")
+"""The codes of the instructions that push a text, that leave the stack as it is, and that import
+by two lines.
+"""
 _LONGEST = 1000
 
 _NUMBERS = frozenset(b"IFLpg")
@@ -78,6 +80,11 @@ class Reached(NamedTuple):
     pair: Optional[Pair] = None
     """The names, if an import is reached whose place shows them."""
 
+    @property
+    def name(self) -> Optional[str]:
+        """The name in the module, if it is known."""
+        return self.pair[1] if self.pair is not None else None
+
     def __bool__(self) -> bool:
         return self.is_reached
 
@@ -85,46 +92,74 @@ class Reached(NamedTuple):
 _STOPPED, _UNKNOWN = Reached(False), Reached(True)
 
 
-def reached(source: Source, at: int, reason: Optional[Reason]) -> Reached:
+def reached(source: Source, at: int, reason: Optional[Reason], begin: int = 0) -> Reached:
     """What a reader may get to from an instruction on, at which the checker stopped for this
-    reason.
+    reason. The pickle begins at `begin`.
     """
     walk = _Walk(source, at)
-    if reason is Reason.BrokenFrame:
+    is_misread = reason is Reason.Truncated or reason not in READERS_STOP
+    if reason is Reason.BrokenFrame or is_misread and _is_in_frame(source, at, begin):
         return _UNKNOWN
     if reason in READERS_STOP:
         code = walk.take(1)
         may_go_on = code == b"i" or (code == b"c" and reason is Reason.Truncated)
         return walk.imported() if may_go_on else _STOPPED
+    is_registered = False
     for _ in range(_INSTRUCTIONS):
         code = walk.take(1)
         if not code or code[0] not in _LENGTHS:
             return _STOPPED
+        if code == b".":  # numbers that look like a pickle don't end with it
+            return _STOPPED if is_registered and walk.at < source.size else _UNKNOWN
         if code == b"\x93":
-            return walk.imported_from_stack()
-        if code in _ENDS:
+            found = walk.imported_from_stack()
+            return found if found.pair or not is_registered else _STOPPED
+        if code == _FRAME and walk.frame_end() <= source.size:  # or else it says nothing
             return _UNKNOWN
         if code in (b"c", b"i"):
             return walk.imported()
         if not walk.is_passed(code[0]):
             return _STOPPED
+        is_registered |= code in _REGISTERED
     return _UNKNOWN
+
+
+def _is_in_frame(source: Source, at: int, begin: int) -> bool:
+    """Whether an instruction is in a frame that the source has whole. The reader in C reads other
+    bytes than its layout shows, if it crosses the frame's end.
+    """
+    walk, end = _Walk(source, begin), 0
+    if _FRAME not in source.read(begin, min(at - begin, _LINE)):
+        return at - begin > _LINE
+    for _ in range(_INSTRUCTIONS):
+        if walk.at >= at:
+            return at < end <= source.size
+        code = walk.take(1)
+        if code == _FRAME:
+            end = walk.frame_end()
+        if not walk.is_passed(code[0]):
+            return True
+    return True
 
 
 class _Walk:
     def __init__(self, source: Source, at: int) -> None:
-        self._source, self._at = source, at
+        self._source, self.at = source, at
         self._data, self._base = b"", at
         self._texts: List[bytes] = []
         """The last texts, if nothing was pushed behind them."""
 
     def take(self, count: int) -> bytes:
         """Takes the next `count` bytes, or fewer at the end."""
-        start = self._at - self._base
+        start = self.at - self._base
         if not 0 <= start <= len(self._data) - count:
-            self._data, self._base, start = self._source.read(self._at, BLOCK), self._at, 0
-        self._at += count
+            self._data, self._base, start = self._source.read(self.at, BLOCK), self.at, 0
+        self.at += count
         return self._data[start : start + count]
+
+    def frame_end(self) -> int:
+        """Where the frame ends whose length is next."""
+        return self.at + 8 + int.from_bytes(self._source.read(self.at, 8), "little")
 
     def is_passed(self, code: int) -> bool:
         """Skips the argument of an instruction. Returns whether a reader may get past it."""
@@ -134,12 +169,16 @@ class _Walk:
         if length >= 0:
             return self._is_skipped(length)
         if length == -1:
+            if code in _PAIRS:
+                self._line()
             return self._is_line_passed(code)
         size = _SIZES[length]
         count = int.from_bytes(self.take(size), "little", signed=length == -3)
         if code in _TEXTS:
-            text = self._source.read(self._at, count) if 0 <= count <= _LONGEST else b"\xff"
+            text = self._source.read(self.at, count) if 0 <= count <= _LONGEST else b"\xff"
             self._texts = [*self._texts[-1:], text]
+            if len(text) == count and not _is_utf8(text):
+                return False
         return count >= 0 and self._is_skipped(count)
 
     def imported(self) -> Reached:
@@ -157,8 +196,8 @@ class _Walk:
         return Reached(True, _pair_of(*self._texts) if len(self._texts) == 2 else None)
 
     def _is_skipped(self, count: int) -> bool:
-        self._at += count
-        return self._at <= self._source.size
+        self.at += count
+        return self.at <= self._source.size
 
     def _line(self) -> Optional[bytes]:
         """The next line without its end, which the reader in Python takes off whatever it is; None
@@ -166,11 +205,11 @@ class _Walk:
         """
         length = 0
         while length <= _LINE:
-            block = self._source.read(self._at + length, BLOCK)
+            block = self._source.read(self.at + length, BLOCK)
             end = block.find(b"\n")
             if end >= 0 or not block:
-                line = self._source.read(self._at, length + max(end, 0))
-                self._at += len(line) + 1
+                line = self._source.read(self.at, length + max(end, 0))
+                self.at += len(line) + 1
                 return line if end >= 0 else line[:-1]
             length += len(block)
         return None
@@ -179,7 +218,7 @@ class _Walk:
         line = self._line()
         if line is None:
             return True
-        if self._at > self._source.size:
+        if self.at > self._source.size:
             return False
         if code in _NUMBERS:
             return _is_number(line.partition(b"\0")[0])
@@ -195,6 +234,15 @@ def _pair_of(module: bytes, name: bytes) -> Optional[Pair]:
         return module.decode("utf-8"), name.decode("utf-8")
     except UnicodeDecodeError:
         return None
+
+
+def _is_utf8(text: bytes) -> bool:
+    """Whether readers accept the text."""
+    try:
+        text.decode("utf-8", "surrogatepass")
+        return True
+    except UnicodeDecodeError:
+        return False
 
 
 def _is_number(text: bytes) -> bool:

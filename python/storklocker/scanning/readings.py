@@ -77,6 +77,8 @@ class Place(NamedTuple):
     """Whether bytes are missing at its end, which is reported."""
     beside: Beside = nothing
     """Gives the file with the places of values in this one, if there is one beside it."""
+    is_raw: bool = False
+    """Whether its reader takes it for numbers, which may look like a pickle."""
 
     def piece(self, kind: str, at: int = 0, is_claimed: bool = False, most: int = 0) -> Piece:
         """The bytes from an offset on, as a pickle of this kind."""

@@ -9,7 +9,7 @@ from pathlib import Path
 from typing import Any, BinaryIO, Dict, Iterator, List, Tuple
 
 from .files import File, Files
-from .shelves import VALUES, places_of
+from .places import places_of
 
 _STAMPS = ("ETag", "etag", "LastModified", "last_modified", "mtime", "updated", "created")
 """What the file systems of fsspec call that which changes with a file."""
@@ -81,7 +81,7 @@ def held(file: File) -> Iterator[File]:
     """
     other = places_of(file.path)
     with tempfile.TemporaryDirectory(prefix="storklocker-") as folder:
-        copy = Path(folder, f"copy{VALUES if other else ''}")
+        copy = Path(folder, f"copy{Path(file.path).suffix if other else ''}")
         _copy(file.path, copy)
         if other:
             with contextlib.suppress(FileNotFoundError):

@@ -8,6 +8,7 @@ from typing import TYPE_CHECKING, Dict, Optional, Tuple
 
 from .._answers import Verdict
 from .._checking import check, check_row
+from .._limits import UNBOUND, Limits
 from .._lists import AllowList
 from .._reasons import Reason
 from .budget import Budget, TooMuch
@@ -28,6 +29,8 @@ _ONE_BY_ONE = 1000
 """How many pickles of a row are looked at one by one, before the rest is tried in one call."""
 _CLAIM = re.compile(rb"\x80[\x02-\x05]")
 """How pickles of protocol 2 and later begin. Those of 0 and 1 have no PROTO, but fonts have it."""
+_WIDEST = Limits(passed=1 << 40, numbers=UNBOUND, large=True)
+"""No limits: where a reader must stop, whatever it has room for."""
 _IMPORTING = (Reason.ImportOffList, Reason.UnknownImport, Reason.ExtensionCode)
 
 
@@ -132,10 +135,11 @@ class Row:
         """What a reader may import at the place where a pickle is refused, or behind it."""
         if verdict:
             return ()
-        names = refused_with(verdict.reason)
-        beyond = reached(self._source, self.taken + verdict.at, verdict.reason)
+        beyond = reached(self._source, self.taken + verdict.at, verdict.reason, self.taken)
+        names = refused_with(verdict.reason) if beyond or self._piece.is_claimed else ()
         self.is_reached = bool(found.names) or bool(names) or bool(beyond)
-        goes_on = bool(beyond) and verdict.reason not in READERS_STOP
+        # (no attribute has an empty name)
+        goes_on = bool(beyond) and verdict.reason not in READERS_STOP and beyond.name != ""
         self.stop = -1 if goes_on else self.taken + verdict.at
         self.is_cut = verdict.reason is Reason.Truncated
         if beyond.pair is None:
@@ -196,7 +200,7 @@ def row_of(piece: Piece, allow: Optional[AllowList], budget: Budget) -> Optional
 
 
 def _may_be_pickle(piece: Piece, front: bytes) -> bool:
-    verdict = check(front, NOTHING, limits=WIDE)
+    verdict = check(front, NOTHING, limits=_WIDEST)
     if verdict or verdict.reason in _IMPORTING:
         return True
     is_cut = verdict.reason is Reason.Truncated and len(front) < piece.source.size

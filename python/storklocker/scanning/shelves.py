@@ -7,10 +7,10 @@ import io
 from typing import Any, Dict, Iterator, Optional, Tuple
 
 from .budget import TooMuch
+from .places import PLACES, VALUES
 from .readings import Found, Place, examine
 from .source import Source
 
-VALUES, PLACES = ".dat", ".dir"
 _LONGEST = 1 << 16
 """The most characters of a line of `.dir`: more take too long to be read."""
 
@@ -22,16 +22,11 @@ class _Broken(Exception):
     """A line that the reader can't read either, in a file that it would open."""
 
 
-def places_of(path: str) -> str:
-    """The path of the file that has the places, if this may be one of values."""
-    return path[: -len(VALUES)] + PLACES if path.lower().endswith(VALUES) else ""
-
-
 def shelf_reading(place: Place) -> Found:
     """What `shelve` gets to by the places; at the first byte, what `pickle.load` does. Behind a
     value are zeros, or what is left of an older one.
     """
-    beside = place.beside() if places_of(place.path) else None
+    beside = place.beside() if place.path.lower().endswith(VALUES) else None
     if beside is None:
         return False
     try:

@@ -83,7 +83,7 @@ def searched(place: Place, kind: str, known: Sequence[Tuple[int, int]] = ()) -> 
     for at in _beginnings(source, place.budget):
         while left and left[0][0] <= at:
             end = max(end, left.popleft()[1])
-        if at >= end and _is_pickle(source, at):
+        if at >= end and is_pickle(source, at):
             rest = source.part(at, source.size)
             end = at + ((yield Piece(f"{place.path}!at {at}", kind, rest, True, 1)) or 0)
     return True
@@ -118,7 +118,7 @@ def _beginnings(source: Source, budget: Budget) -> Iterator[int]:
             yield start + at
 
 
-def _is_pickle(source: Source, at: int) -> bool:
+def is_pickle(source: Source, at: int) -> bool:
     """Whether a pickle there is accepted, or imports something; without a PROTO in front, something
     that is known to do harm, because texts have lines that look like imports.
     """

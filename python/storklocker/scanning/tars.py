@@ -10,7 +10,7 @@ from typing import Any, Dict, Iterator, List, Optional, Tuple
 
 from .packed import behind_zeros
 from .readings import Found, Place, examine
-from .shelves import places_of
+from .places import places_of
 from .source import Source, in_memory
 
 _BLOCK = 512

@@ -2,6 +2,7 @@
 
 from __future__ import annotations
 
+import re
 import zlib
 from collections import Counter
 from functools import partial
@@ -11,13 +12,15 @@ from .budget import PROBED
 from .checkpoints import checkpoint_reading
 from .packed import MEMORY, NO_MODULE, bzip2, unpack
 from .readings import Found, Place, examine
-from .shelves import places_of
+from .places import places_of
 from .source import BLOCK, Source, in_memory
 from .zip_layout import END, LOCAL, Directory, Entry, directories, entries, fault_of, local_at
 
 _HIDDEN = 0x61
 """The flags of members that are encrypted or patched."""
 _PACKED = "it is packed in a way"
+_STORAGE = re.compile(r"((?:.*/)?(?:data|constants))/[0-9]+", re.DOTALL)
+"""What torch calls the numbers of a tensor, beside a pickle `data.pkl` or `constants.pkl`."""
 _STORED, _DEFLATED, _BZIP2, _LZMA = 0, 8, 12, 14
 _BEGIN: Dict[int, Callable[[], Any]] = {
     _DEFLATED: lambda: zlib.decompressobj(-15),
@@ -106,7 +109,7 @@ def _members(
         seen.add(key)
         place.budget.spend_member()
         if not entry.name.endswith(b"/") or entry.size or entry.packed:
-            yield from _member(place, entry, named.get(places_of(entry.text)))
+            yield from _member(place, entry, named)
     return True
 
 
@@ -124,11 +127,14 @@ def _twice(place: Place, members: List[Entry]) -> Found:
     return True
 
 
-def _member(place: Place, entry: Entry, other: Optional[Entry]) -> Found:
+def _member(place: Place, entry: Entry, named: Dict[str, Entry]) -> Found:
     """A member, beside which another may have the places of values."""
     data, fault = _read(place, entry)
     inner = place.inside(entry.text, data or place.source, "zip member", bool(fault))
     if data is not None:
+        storage = _STORAGE.fullmatch(entry.text)
+        inner = inner._replace(is_raw=storage is not None and f"{storage.group(1)}.pkl" in named)
+        other = named.get(places_of(entry.text))
         if other is not None:
             inner = inner._replace(beside=partial(_data, place, other))
         yield from examine(inner)

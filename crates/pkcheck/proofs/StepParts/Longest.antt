@@ -2,11 +2,12 @@
 use Rattle.std.proofs.Common.{◌≡◌, ℕ, ◌+◌, ◌<◌, ◌≤◌, Bool, true, List, Some, length, arith}
 use Rattle.std.specs.Prelude.{replicate}
 use Rattle.std.proofs.lemmas.List.{length-replicate}
-use Rattle.pkcheck.specs.declared.policy.Policy.{Policy}
-use Rattle.pkcheck.specs.declared.policy.Policy.TheVariants.{Listed, Pairs, Sorted, AnyImport}
+use Rattle.pkcheck.specs.declared.policy.Permit.{Permit}
+use Rattle.pkcheck.specs.declared.policy.Permit.TheVariants.{By, Pairs, Sorted}
+use Rattle.pkcheck.specs.declared.policy.Policy.TheVariants.{Listed, AnyImport}
 use Rattle.pkcheck.specs.Allow.{lists}
 use Rattle.pkcheck.specs.Pairs.{found, have}
-use Rattle.pkcheck.specs.Import.{policy_of}
+use Rattle.pkcheck.specs.Import.{permit_of}
 use Rattle.std.proofs.lemmas.List.Elements.{All-replicate}
 use Rattle.std.proofs.lemmas.Str.{IsUtf8-from_ascii}
 use Rattle.std.proofs.lemmas.Str.Ascii.{IsAscii-from_all}
@@ -34,12 +35,12 @@ bounded list bound below = (
       length-replicate {A = ℕ} (bound + 1) 97 in (omega (arith, g.0, r), omega (arith, g.1, r)),
 )
 
-pub longest : (policy : Policy) → (v : Word) × IsLonger (policy_of policy) v.text
-longest (Listed list) = let (bound, below) = lists_bound list.now in
+pub longest : (policy : Permit) → (v : Word) × IsLonger (permit_of policy) v.text
+longest (By (Listed list)) = let (bound, below) = lists_bound list.now in
     bounded (lists list.now) bound below
 longest (Pairs pairs) = let (bound, below) = pairs_bound pairs.now in
     bounded (have pairs.now) bound below
 longest (Sorted pairs) =
     let (bound, below) = pairs_bound pairs.now in
     bounded (found pairs.now) bound (λ m n h. below m n (found_is_had pairs.now m n h))
-longest AnyImport = (letters 0, tt)
+longest (By AnyImport) = (letters 0, tt)

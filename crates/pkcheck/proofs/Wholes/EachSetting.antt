@@ -1,7 +1,7 @@
 -- The runs under each setting of old strings are among those under Unknown.
 use Rattle.std.proofs.Common.{◌≡◌, ℕ, zero, suc, Bool, true, false, cond, ltb, List, [], ◌∷◌, ◌++◌}
-use Rattle.std.proofs.Common.{length, map, Option, Some, Result, Ok, Err, refl, sym, ap, subst, ◌∙◌}
-use Rattle.std.proofs.Common.{arith}
+use Rattle.std.proofs.Common.{length, map, Option, None, Some, Result, Ok, Err, refl, sym, ap}
+use Rattle.std.proofs.Common.{subst, ◌∙◌, arith}
 use Rattle.std.specs.Prelude.{unwrap_or}
 use Rattle.std.specs.List.{list_all}
 use Rattle.std.specs.Char.{is_ascii}
@@ -29,9 +29,11 @@ use Rattle.pkcheck.specs.Runs.{Stopped, Stuck, Text, WentOn, answered, asks, cla
 use Rattle.pkcheck.specs.Runs.{effect_asks, given, int_or_bool, made_new, move_step}
 use Rattle.pkcheck.specs.Runs.{named, operate_step, operated, perform, start, step_as, stop_step}
 use Rattle.pkcheck.specs.Runs.{text, with_answer}
+use Rattle.pkcheck.specs.RowRuns.{Afresh, Behind, next_from, run_row, sequences_of}
 use Rattle.pkcheck.specs.WholeRuns.{AllListed, Ended, EndedBy, EndsWell, Reached, first_outcome}
 use Rattle.pkcheck.specs.WholeRuns.{go_on, outcomes_after, run_as}
 use Rattle.pkcheck.proofs.StepParts.PushedObjects.{old_unknown}
+use Rattle.pkcheck.proofs.Wholes.NextPickle.{cleared}
 use Rattle.pkcheck.proofs.Wholes.RunSteps.{kept, perform_unused}
 use Rattle.pkcheck.specs.EachSetting.{SoundInEach}
 
@@ -286,6 +288,50 @@ module _ (setting : OldStrings) where
       let (all, same) = begins (effect_asks (effect_of i.op)) i is t q qs refl in
       (all, subst (λ z. SameEnd (run_as setting (i ∷ is) os s) z) (sym same) on)
 
+  -- ---- rows
+
+  -- a run of these pickles that gets to a state has one like it
+  abbrev HaveRowLike : List (List Instruction) → Type 0
+  HaveRowLike ps = (oss : List (List Outcome)) (s t u : State) → Same s t
+      → run_row setting ps oss s ≡ Some u → (qss : List (List Outcome)) × (v : State)
+      × (run_row Unknown ps qss t ≡ Some v) × Same u v
+
+  none_come : (u : State) → None ≡ Some u → ⊥
+  none_come u e = cc
+
+  same_come : (s u : State) → Some s ≡ Some u → s ≡ u
+  same_come s u e = cc
+
+  cleared_same : (s t : State) → Same s t → Same (cleared s) (cleared t)
+  cleared_same s t w = record {
+    shape = ap (λ (k : Shape ℕ). record { entries = []; memo = k.memo }) w.shape;
+    events = w.events;
+    objects = w.objects;
+  }
+
+  next_like : (ps : List (List Instruction)) → HaveRowLike ps → (oss : List (List Outcome))
+      (x y : Ended) (u : State) → SameEnd x y → next_from x (run_row setting ps oss) ≡ Some u
+      → (qss : List (List Outcome)) × (v : State)
+      × (next_from y (run_row Unknown ps qss) ≡ Some v) × Same u v
+  next_like ps like oss (EndedBy (Stopped r s)) (EndedBy (Stopped q t)) u w e =
+      like oss (cleared s) (cleared t) u (cleared_same s t w) e
+  next_like ps like oss (EndedBy (Stopped r s)) (EndedBy (WentOn t)) u w e = absurd w
+  next_like ps like oss (EndedBy (Stopped r s)) (EndedBy (Raised t)) u w e = absurd w
+  next_like ps like oss (EndedBy (Stopped r s)) (EndedBy (Stuck c)) u w e = absurd w
+  next_like ps like oss (EndedBy (Stopped r s)) (Reached t) u w e = absurd w
+  next_like ps like oss (EndedBy (WentOn s)) y u w e = absurd (none_come u e)
+  next_like ps like oss (EndedBy (Raised s)) y u w e = absurd (none_come u e)
+  next_like ps like oss (EndedBy (Stuck b)) y u w e = absurd (none_come u e)
+  next_like ps like oss (Reached s) y u w e = absurd (none_come u e)
+
+  rows : (ps : List (List Instruction)) → HaveRowLike ps
+  rows [] oss s t u w e = ([], t, refl, subst (λ x. Same x t) (same_come s u e) w)
+  rows (p ∷ ps) [] s t u w e = absurd (none_come u e)
+  rows (p ∷ ps) (os ∷ oss) s t u w e =
+      let (qs, same) = runs p os s t w in
+      let (qss, v, comes, like) = next_like ps (rows ps) oss _ _ u same e in
+      (qs ∷ qss, v, comes, like)
+
   module _ (list : List ℕ → List ℕ → Bool) where
     listed : (s t : State) → Same s t → AllListed list (imports_of t.events)
         → AllListed list (imports_of s.events)
@@ -307,8 +353,15 @@ module _ (setting : OldStrings) where
     ends_well (Reached s) (EndedBy y) w h = absurd w
     ends_well (EndedBy x) (Reached t) w h = absurd w
 
+alike : Same start start
+alike = record { shape = refl; events = refl; objects = refl }
+
 pub sound_in_each : SoundInEach
-sound_in_each setting is list sound os =
-    let (qs, same) = runs setting is os start start
-    (record { shape = refl; events = refl; objects = refl }) in
+sound_in_each setting Afresh is list sound = λ os.
+    let (qs, same) = runs setting is os start start alike in
     ends_well setting list _ _ same (sound qs)
+sound_in_each setting (Behind pickles) is list sound = λ first os came.
+    let (qss, other, also, like) = rows setting (sequences_of pickles) came.0 start start first
+    alike came.1 in
+    let (qs, same) = runs setting is os first other like in
+    ends_well setting list _ _ same (sound other qs (qss, also))

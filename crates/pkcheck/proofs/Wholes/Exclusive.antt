@@ -22,19 +22,20 @@ use Rattle.pkops.specs.declared.Op.{Op}
 use Rattle.pkops.specs.declared.Op.TheVariants as op
 use Rattle.pkread.specs.Admission.{IsAllowedBy, objection, unadmitted_by}
 use Rattle.pkread.specs.Rows.{IsAmiss, IsBarred, ShowsReason, Sight, Takes, all_bytes}
-use Rattle.pkread.specs.Sequence.{spellings}
+use Rattle.pkread.specs.Sequence.{IsSequence, spellings}
 use Rattle.pkread.specs.Sequences.{GoesOnBehind, OneFront, SequenceGoesOn}
 use Rattle.pkread.specs.declared.Reason.{Reason}
 use Rattle.pkread.specs.declared.Reason.TheVariants as reason
 use Rattle.pkcheck.specs.declared.old_strings.OldStrings.{OldStrings}
 use Rattle.pkcheck.specs.Knowledge.{Policy, Asked}
 use Rattle.pkcheck.specs.Faults.{Arrivals, AsksOnce, HasFaultHere, InEachRun, everyone}
-use Rattle.pkcheck.specs.Refused.{Why, reading, judging, growing}
-use Rattle.pkcheck.specs.RunFaults.{HasRunFault, RunsBehind}
-use Rattle.pkcheck.specs.RowRuns.{Afresh}
+use Rattle.pkcheck.specs.Refused.{RefusedFrom, Why, reading, judging, growing}
+use Rattle.pkcheck.specs.RunFaults.{HasRunFault, RunsFrom}
+use Rattle.pkcheck.specs.RowRuns.{Afresh, Beginning}
 use Rattle.pkcheck.specs.Runs.{State}
 use Rattle.pkcheck.specs.ButForLimits.{RefusedForLimits}
 use Rattle.pkcheck.specs.Exclusive.{YesExcludesNo}
+use Rattle.pkcheck.proofs.Wholes.Origins.{any_arrives}
 
 -- ---- a fault that witness runs show is one that any run shows
 
@@ -68,33 +69,26 @@ module _ (here : Arrivals) (real : (s : State) → here.some s → here.any s) w
   fault_of_any policy limits i reason.BrokenFrame f = absurd f
   fault_of_any policy limits i reason.OutOfMemory f = absurd f
 
-module _ (setting : OldStrings) (policy : Policy) (limits : Bounds) (before : List Instruction)
-    (i : Instruction) where
-  by_any : (r : Reason) → HasRunFault policy limits before (RunsBehind setting before) i r
-      → HasRunFault policy limits before (everyone (RunsBehind setting before)) i r
+module _ (setting : OldStrings) (b : Beginning) (policy : Policy) (limits : Bounds)
+    (before : List Instruction) (i : Instruction) where
+  shown : (r : Reason) → HasFaultHere policy limits (RunsFrom setting b before) i r
+      → HasFaultHere policy limits (everyone (RunsFrom setting b before)) i r
+  shown = fault_of_any (RunsFrom setting b before) (any_arrives setting b before) policy limits i
+
+  by_any : (r : Reason) → HasRunFault policy limits before (RunsFrom setting b before) i r
+      → HasRunFault policy limits before (everyone (RunsFrom setting b before)) i r
   by_any reason.BrokenFrame f = f
-  by_any reason.MissingMark f = fault_of_any (RunsBehind setting before)
-      (λ s g. (g.0, g.2)) policy limits i reason.MissingMark f
-  by_any reason.MissingItem f = fault_of_any (RunsBehind setting before)
-      (λ s g. (g.0, g.2)) policy limits i reason.MissingItem f
-  by_any (reason.MissingMemo n) f = fault_of_any (RunsBehind setting before)
-      (λ s g. (g.0, g.2)) policy limits i (reason.MissingMemo n) f
-  by_any reason.OddItems f = fault_of_any (RunsBehind setting before)
-      (λ s g. (g.0, g.2)) policy limits i reason.OddItems f
-  by_any reason.WrongClass f = fault_of_any (RunsBehind setting before)
-      (λ s g. (g.0, g.2)) policy limits i reason.WrongClass f
-  by_any reason.NotText f = fault_of_any (RunsBehind setting before)
-      (λ s g. (g.0, g.2)) policy limits i reason.NotText f
-  by_any reason.UnknownImport f = fault_of_any (RunsBehind setting before)
-      (λ s g. (g.0, g.2)) policy limits i reason.UnknownImport f
-  by_any reason.ImportOffList f = fault_of_any (RunsBehind setting before)
-      (λ s g. (g.0, g.2)) policy limits i reason.ImportOffList f
-  by_any reason.LeftOver f = fault_of_any (RunsBehind setting before)
-      (λ s g. (g.0, g.2)) policy limits i reason.LeftOver f
-  by_any reason.NotAscii f = fault_of_any (RunsBehind setting before)
-      (λ s g. (g.0, g.2)) policy limits i reason.NotAscii f
-  by_any reason.TooLarge f = fault_of_any (RunsBehind setting before)
-      (λ s g. (g.0, g.2)) policy limits i reason.TooLarge f
+  by_any reason.MissingMark f = shown reason.MissingMark f
+  by_any reason.MissingItem f = shown reason.MissingItem f
+  by_any (reason.MissingMemo n) f = shown (reason.MissingMemo n) f
+  by_any reason.OddItems f = shown reason.OddItems f
+  by_any reason.WrongClass f = shown reason.WrongClass f
+  by_any reason.NotText f = shown reason.NotText f
+  by_any reason.UnknownImport f = shown reason.UnknownImport f
+  by_any reason.ImportOffList f = shown reason.ImportOffList f
+  by_any reason.LeftOver f = shown reason.LeftOver f
+  by_any reason.NotAscii f = shown reason.NotAscii f
+  by_any reason.TooLarge f = shown reason.TooLarge f
   by_any reason.Source f = absurd f
   by_any reason.Truncated f = absurd f
   by_any (reason.UnknownOpcode b) f = absurd f
@@ -117,7 +111,7 @@ code_passed op.ByteArray8 = refl
 code_passed _ = refl
 
 -- the bytes are a proper prefix of the instruction, or begin with all of it
-abbrev Side : ℕ → List ℕ → Instruction → Type 0
+abbrev pub Side : ℕ → List ℕ → Instruction → Type 0
 Side limit bytes j = (Begun limit bytes × (length bytes < length (spelling j)))
     ⊎ IsWhole limit bytes j (length (spelling j))
 
@@ -189,7 +183,7 @@ module _ (one : OneAnswer) (limit : ℕ) (bytes : List ℕ) (j : Instruction)
       let none : Some r ≡ None = sym o ∙ ap objection same ∙ no_objection j good in
       cc
 
-  not_amiss : Side limit bytes j → (r : Reason) → IsAmiss limit bytes r → ⊥
+  pub not_amiss : Side limit bytes j → (r : Reason) → IsAmiss limit bytes r → ⊥
   not_amiss s (reason.UnknownOpcode c) h = no_fault s (fault.UnknownOpcode c) h
   not_amiss s reason.BadArgument h = no_fault s fault.BadArgument h
   not_amiss s reason.TooLarge h = no_fault s fault.TooLarge h
@@ -212,7 +206,7 @@ module _ (one : OneAnswer) (limit : ℕ) (bytes : List ℕ) (j : Instruction)
 
 -- ---- a source with known bytes
 
-consumed : (old : Sight) (bytes run : List ℕ) (new : Sight) → old.left ≡ Some bytes
+pub consumed : (old : Sight) (bytes run : List ℕ) (new : Sight) → old.left ≡ Some bytes
     → Takes old new run → (rest : List ℕ) × (new.left ≡ Some rest) × (bytes ≡ run ++ rest)
 consumed old bytes run new is t = left_by new.left
     (subst (λ o. Consumes o new.left run) is t.bytes) where
@@ -221,7 +215,7 @@ consumed old bytes run new is t = left_by new.left
       left_by None h = absurd h
       left_by (Some rest) h = (rest, refl, h)
 
-at_end : (o : Option (List ℕ)) (rest : List ℕ) → o ≡ Some rest → IsAtEnd o → rest ≡ []
+pub at_end : (o : Option (List ℕ)) (rest : List ℕ) → o ≡ Some rest → IsAtEnd o → rest ≡ []
 at_end o rest is h = subst IsAtEnd is h
 
 module _ (one : OneAnswer) (nothing : (limit : ℕ) → Begun limit []) (limits : Bounds)
@@ -324,16 +318,16 @@ if_not_other r h = absurd (h (λ e. cc))
 
 module _ (one : OneAnswer) (nothing : (limit : ℕ) → Begun limit []) (front : OneFront)
     (goes : SequenceGoesOn) where
-  module _ (setting : OldStrings) (policy : Policy) (limits : Bounds) (p q : List Instruction)
-      (rest tail : List ℕ)
+  module _ (setting : OldStrings) (b : Beginning) (policy : Policy) (limits : Bounds)
+      (p q : List Instruction) (rest tail : List ℕ)
       (g : GoesOnBehind p q rest tail) (each : All (IsAllowedBy (payload_limit limits)) p)
-      (few : length (spellings p) ≤ all_bytes)
+      (from : ℕ) (few : from + length (spellings p) ≤ all_bytes)
       (r : Reason)
       (faultless : (before : List Instruction) (i : Instruction) (is : List Instruction)
       → p ≡ before ++ i ∷ is → HasRunFault policy limits before
-      (everyone (RunsBehind setting before)) i r → ⊥)
+      (everyone (RunsFrom setting b before)) i r → ⊥)
       (here after : Sight) (at : ℕ) (pair : Option Asked) (is : here.left ≡ Some tail)
-      (place : at ≡ length (spellings q)) where
+      (place : at ≡ from + length (spellings q)) where
     may : IsAllowedBy (payload_limit limits) g.next
     may = behind_each (IsAllowedBy (payload_limit limits)) q g.next g.after
         (subst (All (IsAllowedBy (payload_limit limits))) g.split each)
@@ -351,7 +345,7 @@ module _ (one : OneAnswer) (nothing : (limit : ℕ) → Begun limit []) (front :
         )
 
     not_why : r ≢ reason.Source → r ≢ reason.OutOfMemory
-        → Why setting Afresh policy limits q here after at r pair → ⊥
+        → Why setting b policy limits q here after at r pair → ⊥
     not_why n m (reading h) = no_row one nothing limits here after tail
         (spellings g.after ++ rest) g.next may is g.bytes h.bytes at h.taken fits h.shown.taken r n
         m h.shown.row
@@ -359,37 +353,43 @@ module _ (one : OneAnswer) (nothing : (limit : ℕ) → Begun limit []) (front :
         let c = consumed here tail (spelling h.instruction) after is h.bytes in
         let same = front h.instruction g.next c.0 (spellings g.after ++ rest) h.allowed.good
         may.good (sym c.2 ∙ g.bytes) in
-        let fault = by_any setting policy limits q h.instruction r h.fault in
+        let fault = by_any setting b policy limits q h.instruction r h.fault in
         faultless q g.next g.after g.split
-        (subst (λ i. HasRunFault policy limits q (everyone (RunsBehind setting q)) i r) same.0
+        (subst (λ i. HasRunFault policy limits q (everyone (RunsFrom setting b q)) i r) same.0
         fault)
     not_why n m (growing h) = m h.memory
 
-  pub yes_excludes_no : YesExcludesNo
-  yes_excludes_no setting policy limits bytes old new taken imports other after at r pair known same
-      few accepted refused n m =
-      let p = accepted.instructions in
+  -- bytes that begin with a sequence are not refused for a fault that no instruction has
+  pub not_refused : (setting : OldStrings) (b : Beginning) (policy : Policy) (limits : Bounds)
+      (p : List Instruction) (rest : List ℕ) (from : ℕ) (old after : Sight) (at : ℕ) (r : Reason)
+      (pair : Option Asked) → old.left ≡ Some (spellings p ++ rest)
+      → IsSequence (payload_limit limits) p → from + length (spellings p) ≤ all_bytes
+      → ((before : List Instruction) (i : Instruction) (is : List Instruction)
+      → p ≡ before ++ i ∷ is → HasRunFault policy limits before
+      (everyone (RunsFrom setting b before)) i r → ⊥)
+      → RefusedFrom from setting b policy limits old after at r pair
+      → r ≢ reason.Source → r ≢ reason.OutOfMemory → ⊥
+  not_refused setting b policy limits p rest from old after at r pair is sequence few faultless
+      refused n m =
       let q = refused.instructions in
+      let c = consumed old (spellings p ++ rest) (spellings q) refused.here is refused.bytes in
+      let g = goes (payload_limit limits) (payload_limit limits) p q rest c.0 sequence
+      refused.admitted refused.goes_on c.2 in
+      not_why setting b policy limits p q rest c.0 g sequence.each from few r faultless
+      refused.here after at pair c.1 refused.place n m refused.why
+
+  pub yes_excludes_no : YesExcludesNo
+  yes_excludes_no setting b policy limits bytes old new taken imports from other after at r pair
+      known same few accepted refused n m =
+      let p = accepted.instructions in
       let a = consumed old bytes (spellings p) new known accepted.bytes in
-      let b = consumed other bytes (spellings q) refused.here same refused.bytes in
-      let g = goes (payload_limit limits) (payload_limit limits) p q a.0 b.0 accepted.sequence
-      refused.admitted refused.goes_on (sym a.2 ∙ b.2) in
-      let short : length (spellings p) ≤ all_bytes =
-      (let k = accepted.count in omega (arith, k, few)) in
-      let there : at ≡ length (spellings q) = (let k = refused.place in omega (arith, k)) in
-      not_why setting policy limits p q a.0 b.0 g accepted.sequence.each short
-      r (λ before i is e f. accepted.faultless before i is e r f) refused.here after at pair b.1
-      there n m refused.why
+      not_refused setting b policy limits p a.0 from other after at r pair (same ∙ ap Some a.2)
+      accepted.sequence (let k = accepted.count in omega (arith, k, few))
+      (λ before i is e f. accepted.faultless before i is e r f) refused n m
 
   pub refused_for_limits : RefusedForLimits
   refused_for_limits setting policy limits p rest old after at r pair sequence faultless is few
       refused n m =
       if_not_other r (λ other.
-      let q = refused.instructions in
-      let b = consumed old (spellings p ++ rest) (spellings q) refused.here is refused.bytes in
-      let g = goes (payload_limit limits) (payload_limit limits) p q rest b.0 sequence
-      refused.admitted refused.goes_on b.2 in
-      let there : at ≡ length (spellings q) = (let k = refused.place in omega (arith, k)) in
-      not_why setting policy limits p q rest b.0 g sequence.each few
-      r (λ before i is e f. faultless before i is e r other f) refused.here after at pair b.1 there
-      n m refused.why)
+      not_refused setting Afresh policy limits p rest 0 old after at r pair is sequence
+      (omega (arith, few)) (λ before i is e f. faultless before i is e r other f) refused n m)

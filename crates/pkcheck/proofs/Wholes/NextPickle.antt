@@ -38,7 +38,7 @@ use Rattle.pkcheck.proofs.Wholes.RunSteps.{going, gone, run_on}
 use Rattle.pkcheck.proofs.Wholes.Walk.{StopsNowhere, verdict_first, yes_parts}
 
 -- a stopped state, cleared for the next pickle
-abbrev cleared : State → State
+abbrev pub cleared : State → State
 cleared t = record t { shape = record { entries = []; memo = t.shape.memo } }
 
 -- what is known there

@@ -1,6 +1,6 @@
 -- Where the runs of a pickle begin, and what is known there.
 use Rattle.pkcheck.specs.declared.old_strings.OldStrings.{OldStrings}
-use Rattle.std.proofs.Common.{◌≡◌, ℕ, List, [], Some, refl, sym, subst}
+use Rattle.std.proofs.Common.{◌≡◌, ℕ, List, [], Some, refl, sym, ap, subst}
 use Rattle.std.specs.Prelude.{All}
 use Rattle.std.proofs.lemmas.List.Elements.{All-nil}
 use Rattle.pkops.specs.Limits.{Bounds}
@@ -59,7 +59,7 @@ module _ (setting : OldStrings) where
   arrives Afresh before s t e h = subst (λ x. CanGetTo setting before x t) e h
   arrives (Behind pickles) before s t c h = (s, c, h)
 
-  any_arrives : (b : Beginning) (before : List Instruction) (t : State)
+  pub any_arrives : (b : Beginning) (before : List Instruction) (t : State)
       → CanArrive setting b before t → Arrives setting b before t
   any_arrives Afresh before t h = (h.0, h.2)
   any_arrives (Behind pickles) before t h = (h.0, (h.1.0, h.1.2), (h.2.0, h.2.2))
@@ -86,13 +86,14 @@ module _ (setting : OldStrings) where
     first_state : (s : State) → Some start ≡ Some s → s ≡ start
     first_state s e = cc
 
-    -- after no pickles, nothing is known either
-    pub begins_row : Begins policy (Behind []) nothing_known
-    begins_row = record {
-      each = λ s h. begins_afresh.each s (first_state s h.1);
-      some = λ v. (start, ([], All-nil (All CanCome), refl), record { entries = tt; memo = tt });
-      permitted = λ s h. begins_afresh.permitted s (first_state s h.1);
-      listed = λ s h. begins_afresh.listed s (first_state s h.1);
+    -- behind no pickles, runs begin as those of a pickle that is alone
+    pub begins_row : (known : Knowledge) → Begins policy Afresh known
+        → Begins policy (Behind []) known
+    begins_row known h = record {
+      each = λ s w. h.each s (first_state s w.1);
+      some = λ v. let w = h.some v in (w.0, ([], All-nil (All CanCome), ap Some (sym w.1)), w.2);
+      permitted = λ s w. h.permitted s (first_state s w.1);
+      listed = λ s w. h.listed s (first_state s w.1);
     }
 
     -- what is known along instructions stands for the runs that get past them

@@ -118,5 +118,9 @@ no_entry_alone = refl
 each_afresh : (before : List Pickle) → begins Fresh before ≡ Afresh
 each_afresh before = refl
 
-each_behind_those_before : (before : List Pickle) → begins Kept before ≡ Behind before
-each_behind_those_before before = refl
+first_is_alone : begins Kept [] ≡ Afresh
+first_is_alone = refl
+
+each_behind_those_before : (x : Pickle) (before : List Pickle)
+    → begins Kept (x ∷ before) ≡ Behind (x ∷ before)
+each_behind_those_before x before = refl

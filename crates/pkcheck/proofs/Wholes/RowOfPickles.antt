@@ -39,7 +39,8 @@ use Rattle.pkcheck.specs.Heard.{refused_instruction}
 use Rattle.pkcheck.specs.Refused.{RefusedFrom}
 use Rattle.pkcheck.specs.RowOfPickles.{AcceptedRow, AreAccepted, IsAcceptedBehind}
 use Rattle.pkcheck.specs.RowOfPickles.{begins, bytes_of_all}
-use Rattle.pkcheck.specs.RowRuns.{Beginning, Pickle, imports_of_all, listed_before, sequences_of}
+use Rattle.pkcheck.specs.RowRuns.{Beginning, Behind, Pickle, imports_of_all, listed_before}
+use Rattle.pkcheck.specs.RowRuns.{sequences_of}
 use Rattle.pkcheck.proofs.Wholes.AnotherPickle.{refuses_again}
 
 -- a sequence has at least one byte
@@ -84,14 +85,30 @@ none_before Kept = refl
 pub begins_first : (memo : Memo) (setting : OldStrings) (policy : Policy)
     → Begins setting policy (begins memo []) nothing_known
 begins_first Fresh setting policy = begins_afresh setting policy
-begins_first Kept setting policy = begins_row setting policy
+begins_first Kept setting policy = begins_afresh setting policy
+
+-- under a kept memo, the pickle behind some others begins where their runs ended
+kept_more : (before : List Pickle) (x : Pickle)
+    → begins Kept (before ++ x ∷ []) ≡ Behind (before ++ x ∷ [])
+kept_more [] x = refl
+kept_more (y ∷ before) x = refl
+
+kept_listed : (before : List Pickle) → listed_before (begins Kept before) ≡ imports_of_all before
+kept_listed [] = refl
+kept_listed (x ∷ before) = refl
+
+kept_begins : (setting : OldStrings) (policy : Policy) (before : List Pickle) (known : Knowledge)
+    → Begins setting policy (begins Kept before) known
+    → Begins setting policy (Behind before) known
+kept_begins setting policy [] known h = begins_row setting policy known h
+kept_begins setting policy (x ∷ before) known h = h
 
 -- the imports of a row, which are outside the machine or inside it
 pub all_listed : (memo : Memo) (apart own : List Asked) (before : List Pickle)
     → apart ≡ listed_apart memo before → own ≡ listed_before (begins memo before)
     → listed_in memo apart own ≡ imports_of_all before
 all_listed Fresh apart own before e h = e
-all_listed Kept apart own before e h = h
+all_listed Kept apart own before e h = h ∙ kept_listed before
 
 module _ (taking : TakingLaws) (loading : Loading) (policy : Policy) (limits : Bounds) where
   -- only the bytes depend on the source
@@ -260,19 +277,24 @@ module _ (taking : TakingLaws) (loading : Loading) (policy : Policy) (limits : B
         off = refl;
         stopped = refl;
       }
-      ready Kept e = record {
-        begins = begins_next loading.old_strings policy limits before origin.known
-            (subst (λ b. Begins loading.old_strings policy b origin.known) e checked.begins)
-            (payload_limit limits) p sequence m.knowledge asked checked.accepts;
-        imports = checked.imports
-            ∙ (ap (λ b. listed_before b ++ imports_among asked) e
-            ∙ sym (imports_more before (this p asked)));
-        same_limits = checked.same_limits;
-        same_setting = checked.same_setting;
-        refused = checked.refused;
-        off = checked.off;
-        stopped = refl;
-      }
+      ready Kept e =
+          let begun = kept_begins loading.old_strings policy before origin.known
+          (subst (λ b. Begins loading.old_strings policy b origin.known) e checked.begins) in
+          subst (λ b. IsReady loading.old_strings policy limits b (restarted Kept m))
+          (sym (kept_more before (this p asked)))
+          (record {
+            begins = begins_next loading.old_strings policy limits before origin.known begun
+                (payload_limit limits) p sequence m.knowledge asked checked.accepts;
+            imports = checked.imports
+                ∙ (ap (λ b. listed_before b ++ imports_among asked) e
+                ∙ (ap (λ l. l ++ imports_among asked) (kept_listed before)
+                ∙ sym (imports_more before (this p asked))));
+            same_limits = checked.same_limits;
+            same_setting = checked.same_setting;
+            refused = checked.refused;
+            off = checked.off;
+            stopped = refl;
+          })
 
       -- the restarted machine is ready for the next pickle
       pub next_ready : IsReady loading.old_strings policy limits

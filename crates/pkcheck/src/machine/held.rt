@@ -9,7 +9,7 @@ ghost use Rattle.pkcheck.specs.Private.Denials.{IsFaultOf, IsStopFault, Proceeds
 ghost use Rattle.pkcheck.specs.Private.Denials.{pair_denied, with_item, with_made};
 ghost use Rattle.pkcheck.specs.Private.Spelled.{IsSpelled};
 ghost use Rattle.pkcheck.specs.Runs.{Text, text};
-ghost use Rattle.pkcheck.specs.Import.{policy_of};
+ghost use Rattle.pkcheck.specs.Import.{permit_of};
 ghost use Rattle.pkcheck.specs.Knowledge.{learn, stop_learned, nothing_known};
 ghost use Rattle.pkcheck.specs.Knowledge.{Policy as Pairs};
 ghost use Rattle.pkops.specs.Spelling.{Instruction};
@@ -28,7 +28,7 @@ use crate::machine::operate::{Denial, Spelled, lines_of, operate_named, operate_
 use crate::machine::packed::Packed;
 use crate::machine::stack::Stack;
 use crate::machine::terms::Terms;
-use crate::policy::Policy;
+use crate::policy::Permit;
 use pkops::{Inst, Limits, Op};
 use pkread::Reason;
 use std::alloc::{AllocError, Global};
@@ -219,18 +219,18 @@ impl Held {
         &mut self,
         terms: &Terms,
         inst: &Inst,
-        policy: &Policy,
+        policy: &Permit,
     ) -> Result<bool, Denial>
         requires within { length self.old.knowledge.entries ≤ terms.now.limits.stack }
         requires operation { IsOperation (effect_of (instruction_of inst.now).op) }
-        ensures ok { IfOk result (Proceeds (learn (policy_of policy.now)
+        ensures ok { IfOk result (Proceeds (learn (permit_of policy.now)
             (effect_of (instruction_of inst.now).op) (instruction_of inst.now) self.old.knowledge)
             self.new.knowledge self.old.imports self.new.imports) }
         ensures room { OnOk result ((length self.new.knowledge.entries ≤ terms.now.limits.stack)
             × (length self.new.knowledge.memo ≡ length self.old.knowledge.memo)) }
         ensures texts { self.new.texts ≡ self.old.texts }
         ensures kept { OnErr result (self.new ≡ self.old) }
-        ensures err { IfErr result (λ d. IsStepFault (policy_of policy.now) terms.now.limits
+        ensures err { IfErr result (λ d. IsStepFault (permit_of policy.now) terms.now.limits
             (effect_of (instruction_of inst.now).op) (instruction_of inst.now) self.old.knowledge
             d.reason (pair_denied d)) }
     {

@@ -9,7 +9,7 @@ ghost use Rattle.pkcheck.specs.Private.Steps.{IsOldString, IsStepFault, LeadsTo}
 ghost use Rattle.pkcheck.specs.Shape.{top};
 ghost use Rattle.pkcheck.specs.View.{texts_after};
 ghost use Rattle.pkops.specs.Inst.{instruction_of};
-ghost use Rattle.pkcheck.specs.Import.{asked_shown, policy_of};
+ghost use Rattle.pkcheck.specs.Import.{asked_shown, permit_of};
 ghost use Rattle.pkcheck.specs.Private.Denials.{FitsLimits, IsStopFault, pair_denied};
 
 use crate::effect::Class;
@@ -21,7 +21,7 @@ use crate::machine::operate::Denial;
 use crate::machine::terms::Terms;
 use crate::machine::value::int_or_bool;
 use crate::old_strings::OldStrings;
-use crate::policy::Policy;
+use crate::policy::Permit;
 use pkops::Inst;
 use pkread::Reason;
 
@@ -43,19 +43,19 @@ pub fn advance(
     held: &mut Held,
     terms: &Terms,
     inst: &Inst,
-    policy: &Policy,
+    policy: &Permit,
     off: &mut Option<Asked>,
 ) -> Result<Moved, Reason>
     requires room { FitsLimits terms.now.limits held.old.knowledge }
     requires none { off.old ≡ None }
-    ensures ok { IfOk result (Advances terms.now (policy_of policy.now) (instruction_of inst.now)
+    ensures ok { IfOk result (Advances terms.now (permit_of policy.now) (instruction_of inst.now)
         held.old held.new) }
     ensures room { OnOk result (FitsLimits terms.now.limits held.new.knowledge) }
     ensures texts { OnOk result (held.new.texts
         ≡ texts_after (effect_as terms.now.old_strings (instruction_of inst.now)) held.old.texts) }
     ensures off { OnOk result (off.new ≡ None) }
     ensures kept { OnErr result (held.new ≡ held.old) }
-    ensures err { IfErr result (λ r. IsAdvanceFault terms.now (policy_of policy.now)
+    ensures err { IfErr result (λ r. IsAdvanceFault terms.now (permit_of policy.now)
         (instruction_of inst.now) held.old.knowledge r (option_map asked_shown off.new)) }
 {
     let op = inst.op();
@@ -151,19 +151,19 @@ fn import(
     held: &mut Held,
     terms: &Terms,
     inst: &Inst,
-    policy: &Policy,
+    policy: &Permit,
     off: &mut Option<Asked>,
 ) -> Result<Moved, Reason>
     requires operation { IsOperation (effect_of (instruction_of inst.now).op) }
     requires room { FitsLimits terms.now.limits held.old.knowledge }
     requires none { off.old ≡ None }
-    ensures ok { IfOk result (LeadsTo (policy_of policy.now) terms.now.limits
+    ensures ok { IfOk result (LeadsTo (permit_of policy.now) terms.now.limits
         (effect_of (instruction_of inst.now).op) (instruction_of inst.now) held.old held.new) }
     ensures room { OnOk result (FitsLimits terms.now.limits held.new.knowledge) }
     ensures texts { held.new.texts ≡ held.old.texts }
     ensures off { OnOk result (off.new ≡ None) }
     ensures kept { OnErr result (held.new ≡ held.old) }
-    ensures err { IfErr result (λ r. IsStepFault (policy_of policy.now) terms.now.limits
+    ensures err { IfErr result (λ r. IsStepFault (permit_of policy.now) terms.now.limits
         (effect_of (instruction_of inst.now).op) (instruction_of inst.now) held.old.knowledge r
         (option_map asked_shown off.new)) }
 {

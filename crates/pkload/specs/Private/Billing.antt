@@ -1,51 +1,133 @@
 -- What the machine does at an opcode.
-use Rattle.std.specs.Prelude.{◌≡◌, ◌+◌, Bool, true, false, List, ◌++◌, length, Option, Some, None}
-use Rattle.std.specs.Prelude.{Result, Ok}
+use Rattle.std.specs.Prelude.{◌≡◌, ◌+◌, ℕ, Bool, true, false, List, ◌∷◌, ◌++◌, length, Option}
+use Rattle.std.specs.Prelude.{Some, None, Result, Ok, zero}
+use Rattle.pkops.specs.declared.Op.{Op}
+use Rattle.pkops.specs.declared.Op.TheVariants as op
+use Rattle.pkops.specs.Operands.{memo_number}
 use Rattle.pkops.specs.Spelling.{Instruction}
 use Rattle.pkcheck.specs.declared.effect.Gives.TheVariants.{Leaves}
-use Rattle.pkcheck.specs.Effects.{Effect, Operates, Moves, Stops, Raises}
-use Rattle.pkcheck.specs.Shape.{Breach, Entry, Taken, and_then, put}
-use Rattle.pkload.specs.Bill.{Bill}
-use Rattle.pkload.specs.Heft.{Heft, heft_of}
-use Rattle.pkload.specs.Memory.{operation_memory}
-use Rattle.pkload.specs.Private.Gathered.{AreOf}
-use Rattle.pkload.specs.Tally.{with_operation}
+use Rattle.pkcheck.specs.declared.effect.Move.{Move}
+use Rattle.pkcheck.specs.declared.effect.Move.TheVariants.{PushesMark, Stores, StoresNext, Fetches}
+use Rattle.pkcheck.specs.declared.effect.Takes.{Takes}
+use Rattle.pkcheck.specs.declared.effect.Takes.TheVariants.{Objects}
+use Rattle.pkcheck.specs.Effects.{Effect, Operates, Moves, Stops, Raises, effect_of}
+use Rattle.pkcheck.specs.Shape.{Breach, Entry, Item, Taken, and_then, moved, operands, put}
+use Rattle.pkload.specs.Bill.{Bill, move_billed}
+use Rattle.pkload.specs.Heft.{Heft, heft_made}
+use Rattle.pkload.specs.Memory.{held_memory, number_kept, plain_memory, written_memory}
+use Rattle.pkload.specs.Keys.{keys_of}
+use Rattle.pkload.specs.Private.Gathered.{AreOf, IsTallied, Obeys, keying_of, keys_taken}
+use Rattle.pkload.specs.Tally.{with_keys, with_operation}
 use Rattle.pkload.specs.declared.action.Action.{Action}
 use Rattle.pkload.specs.declared.action.Action.TheVariants as action
+use Rattle.pkload.specs.declared.keying.Keying.{Keying}
 use Rattle.pkload.specs.declared.operands.Operands.{Operands}
 use Rattle.pkload.specs.declared.tally.Tally.{Tally}
 
+-- the action of an operation that takes objects
+abbrev pub action_on : Bool → Takes → Action
+action_on true takes = action.Leaves takes
+action_on false (Objects zero) = action.Reads
+action_on false takes = action.Gives takes
+
 -- the action of an effect; a raise ends the run, whatever the machine does
 abbrev pub action_in : Effect → Action
-action_in (Operates takes names (Leaves wanted)) = action.Leaves takes
-action_in (Operates takes names gives) = action.Gives takes
+action_in (Operates takes names (Leaves wanted)) = action_on true takes
+action_in (Operates takes names gives) = action_on false takes
+action_in (Moves PushesMark) = action.Marks
+action_in (Moves Fetches) = action.Fetches
+action_in (Moves StoresNext) = action.StoresNext
+action_in (Moves Stores) = action.Stores
 action_in (Moves move) = action.Moves move
 action_in Stops = action.Stops
 action_in Raises = action.Stops
 
--- the object that an operation pushes; None if it leaves its receiver
-abbrev pub heft_pushed : Bool → Instruction → List Heft → Option Heft
-heft_pushed true i operands = None
-heft_pushed false i operands = Some (heft_of i operands)
+-- the action of an opcode: objects that weigh one, have no argument and cost this much memory
+abbrev pub action_of : Op → Action
+action_of op.None = action.Makes 16
+action_of op.NewTrue = action.Makes 16
+action_of op.NewFalse = action.Makes 16
+action_of op.BinInt1 = action.Makes 16
+action_of op.BinInt = action.Makes 48
+action_of op.BinInt2 = action.Makes 48
+action_of op.BinFloat = action.Makes 48
+action_of op.EmptyList = action.Makes 96
+action_of op.EmptyDict = action.Makes 96
+action_of o = action_in (effect_of o)
+
+-- the bill after a new object is pushed
+abbrev pub pushed : Heft → ℕ → Bill → Bill
+pushed heft more bill = record {
+  shape = record { entries = Item heft ∷ bill.shape.entries; memo = bill.shape.memo };
+  tally = bill.tally;
+  memory = bill.memory + more;
+  highest = bill.highest;
+  ended = bill.ended;
+}
+
+-- an object that weighs one
+abbrev pub light : Heft
+light = record { weight = 1; depth = 0; salted = false; imported = false }
+
+-- the object that an operation on objects pushes; None if it leaves its receiver
+abbrev pub heft_pushed : Bool → Op → List Heft → Option Heft
+heft_pushed true o operands = None
+heft_pushed false o operands = Some (heft_made o 0 operands)
+
+-- the memory that an operation on so many objects takes
+abbrev pub bare_memory : Op → ℕ → ℕ
+bare_memory o count = 16 + (plain_memory o 0 + held_memory o count)
+
+-- the memory that an instruction takes which makes an object of these bytes
+abbrev pub reading_memory : Op → List ℕ → ℕ
+reading_memory o bytes =
+    16 + (plain_memory o (length bytes) + (held_memory o 0 + written_memory o bytes))
 
 -- the bill after an operation that leaves its receiver, or pushes a new object
-abbrev pub operated_on : Bool → Instruction → Bill → Result (Taken Heft) Breach
-    → Result Bill Breach
-operated_on leaves i bill found =
+abbrev pub operated_on : Bool → Op → Bill → Result (Taken Heft) Breach → Result Bill Breach
+operated_on leaves o bill found =
     and_then found (λ taken. Ok (record {
       shape = record {
-        entries = put (heft_pushed leaves i taken.operands) taken.operands ++ taken.below;
+        entries = put (heft_pushed leaves o taken.operands) taken.operands ++ taken.below;
         memo = bill.shape.memo;
       };
-      tally = with_operation i.op taken.operands bill.tally;
-      memory = bill.memory + operation_memory i (length taken.operands);
+      tally = with_operation o taken.operands bill.tally;
+      memory = bill.memory + bare_memory o (length taken.operands);
       highest = bill.highest;
       ended = bill.ended;
     }))
 
--- operands were found, with these entries below them, and this was gathered of them
-pub record HasTaken (tally : Tally) (found : Result (Taken Heft) Breach)
+-- the bill after a move
+abbrev pub by_move : Move → Instruction → Bill → Result Bill Breach
+by_move move i bill =
+    move_billed move (number_kept move (memo_number i) bill.shape) bill
+    (moved move (memo_number i) bill.shape)
+
+-- the keys among the operands that the operation of this opcode takes are those of the opcode
+abbrev pub CountsKeys : Op → Takes → Type 0
+CountsKeys o takes =
+    (hefts : List Heft) → Obeys takes hefts → keys_taken (keying_of o) takes hefts ≡ keys_of o hefts
+
+-- objects were found, with these entries below them, and this was gathered of them
+pub record HasTaken (keying : Keying) (tally : Tally) (found : Result (Taken Heft) Breach)
     (below : List (Entry Heft)) (o : Operands) : Type 0 where
   pub hefts : List Heft
   pub is : found ≡ Ok (record { operands = hefts; below = below })
-  pub of : AreOf tally hefts o
+  pub of : AreOf hefts o
+  pub tallied : IsTallied keying tally hefts o
+
+-- the operands of an operation were found, and this was gathered of them
+pub record HasOperands (keying : Keying) (tally : Tally) (takes : Takes)
+    (entries below : List (Entry Heft)) (o : Operands) : Type 0 where
+  pub hefts : List Heft
+  pub is : operands takes entries ≡ Ok (record { operands = hefts; below = below })
+  pub of : AreOf hefts o
+  pub obeys : Obeys takes hefts
+  pub tally_is : o.tally ≡ with_keys tally (keys_taken keying takes hefts)
+
+-- the receiver was found, and this was gathered of all
+pub record HasReceiver (found : Result (Taken Heft) Breach) (below : List (Entry Heft))
+    (o : Operands) : Type 0 where
+  pub hefts : List Heft
+  pub is : found ≡ Ok (record { operands = hefts; below = below })
+  pub of : AreOf hefts o

@@ -1,14 +1,15 @@
 -- What the audience that keeps the bill knows.
 use Rattle.std.proofs.Common.{◌≡◌, ℕ, List, [], ◌∷◌, ◌++◌, Option, None, Some, Result, Ok, Err}
-use Rattle.std.proofs.Common.{IfOk, append_assoc, refl, ap, subst, sym, ◌∙◌}
-use Rattle.std.specs.Prelude.{⊤}
+use Rattle.std.proofs.Common.{IfOk, refl, ap, subst, sym, ◌∙◌}
+use Rattle.std.specs.Prelude.{⊤, ◌≢◌, ◌≤◌, ◌<◌, Bool, true, false}
 use Rattle.pkcheck.specs.Reports.{Report, Told}
 use Rattle.pkcheck.specs.Shape.{Breach, and_then}
 use Rattle.pkcheck.specs.declared.loading.Memo.{Memo}
-use Rattle.pkload.specs.Private.Told.{Metering, all_metered, metered, ready, told_billed, with_bill}
-use Rattle.pkload.specs.Tolls.{Exceeds, KeepsWithin}
+use Rattle.pkload.specs.Private.Told.{Metering, all_metered, metered, metered_told}
+use Rattle.pkload.specs.Tolls.{Exceeds, KeepsWithin, unlimited}
 use Rattle.pkload.specs.declared.tolls.Excess.{Excess}
-use Rattle.pkload.specs.declared.tolls.Excess.TheVariants.{OutOfMemory}
+use Rattle.pkload.specs.declared.halt.Halt.{Halt}
+use Rattle.pkload.specs.declared.tolls.Excess.TheVariants.{MuchMemory, OutOfMemory}
 use Rattle.pkload.specs.declared.tolls.Tolls.{Tolls}
 
 -- the number of the pickle and its bill, the limits, how the memo is kept between pickles, and the
@@ -20,23 +21,30 @@ pub record Meter : Type 0 where
   pub excess : Option Excess
   pub at : ℕ
 
--- the limits stay, and so does what is known of an excess
-pub record Stays (x y : Meter) : Type 0 where
-  pub tolls : y.tolls ≡ x.tolls
-  pub memo : y.memo ≡ x.memo
-  pub excess : y.excess ≡ x.excess
-  pub at : y.at ≡ x.at
-
 -- what was told is billed
 abbrev pub IsBilled : Told → Meter → Meter → Type 0
-IsBilled t x y =
-    and_then (told_billed t (ready x.memo x.metering).bill)
-    (λ bill. Ok (with_bill (ready x.memo x.metering) bill))
-    ≡ Ok y.metering
+IsBilled t x y = metered_told x.memo t x.metering ≡ Ok y.metering
 
 -- what was metered keeps within the limits
 abbrev pub Fits : Tolls → Metering → Type 0
 Fits tolls m = KeepsWithin tolls m.bill.tally m.bill.memory
+
+-- without limits only an allocation can be refused, or a sum be too great
+abbrev pub IsUnlimited : Option Excess → Type 0
+IsUnlimited None = ⊤
+IsUnlimited (Some excess) = excess ≡ OutOfMemory
+
+-- what is found to be within the limits: all, or the memory if no key was counted
+abbrev pub IsWithinBy : Result Bool Halt → Tolls → Metering → Type 0
+IsWithinBy (Ok true) tolls m = Fits tolls m
+IsWithinBy (Ok false) tolls m = m.bill.memory ≤ tolls.memory
+IsWithinBy (Err halt) tolls m = ⊥
+
+-- which limit is found to be exceeded
+abbrev pub IsExcessBy : Result Bool Halt → Excess → Tolls → Metering → Type 0
+IsExcessBy (Ok true) excess tolls m = Exceeds excess tolls m.bill.tally m.bill.memory
+IsExcessBy (Ok false) excess tolls m = (excess ≡ MuchMemory) × (tolls.memory < m.bill.memory)
+IsExcessBy (Err halt) excess tolls m = excess ≡ OutOfMemory
 
 -- what was metered fits after each report
 abbrev pub AllFit : Memo → Tolls → List Report → Metering → Type 0
@@ -44,34 +52,42 @@ AllFit memo tolls [] m = ⊤
 AllFit memo tolls (r ∷ rs) m =
     IfOk (metered memo r m) (λ n. Fits tolls n × AllFit memo tolls rs n)
 
--- why the report is one too many: a limit is exceeded, or the bill can't be kept
+-- why the report is one too many: a limit is exceeded, unless the bill can't be kept
 abbrev pub IsTooMuch : Excess → Memo → Tolls → Metering → Report → Metering → Type 0
-IsTooMuch OutOfMemory memo tolls m r n = ⊤
 IsTooMuch excess memo tolls m r n =
-    (metered memo r m ≡ Ok n) × Exceeds excess tolls n.bill.tally n.bill.memory
+    excess ≢ OutOfMemory
+    → (metered memo r m ≡ Ok n) × Exceeds excess tolls n.bill.tally n.bill.memory
 
--- one of the reports is the first that is too much
-pub record IsOver (x y : Meter) (excess : Excess) (rs : List Report) : Type 0 where
-  pub before : List Report
-  pub last : Report
-  pub behind : List Report
-  pub among : rs ≡ before ++ last ∷ behind
-  pub place : y.at ≡ last.at
-  pub metering : Metering
-  pub is : all_metered x.memo before x.metering ≡ Ok metering
-  pub fits : AllFit x.memo x.tolls before x.metering
-  pub over : IsTooMuch excess x.memo x.tolls metering last y.metering
+module _ (memo : Memo) (tolls : Tolls) (excess : Excess) (at : ℕ) (n : Metering) where
+  -- the last of the reports, at this offset, is the first that is too much
+  abbrev pub IsOver : List Report → Metering → Type 0
+  IsOver [] m = ⊥
+  IsOver (r ∷ []) m = (at ≡ r.at) × IsTooMuch excess memo tolls m r n
+  IsOver (r ∷ s ∷ rs) m =
+      (k : Metering) × (metered memo r m ≡ Ok k) × Fits tolls k × IsOver (s ∷ rs) k
 
--- between two states of the audience the limits stay; nothing changes once a limit was exceeded;
--- while none is, what was told is metered
+-- something was told
+abbrev pub HasSome : List Report → Type 0
+HasSome [] = ⊥
+HasSome (r ∷ rs) = ⊤
+
+-- between two states of the audience the limits stay; nothing more is told once a limit was
+-- exceeded; while none is, what was told is metered
 pub record Meters (x y : Meter) (rs : List Report) : Type 0 where
   pub tolls : y.tolls ≡ x.tolls
   pub memo : y.memo ≡ x.memo
-  pub kept : (e : Excess) → x.excess ≡ Some e → y ≡ x
+  pub going : HasSome rs → x.excess ≡ None
   pub before : y.excess ≡ None → x.excess ≡ None
   pub is : y.excess ≡ None → all_metered x.memo rs x.metering ≡ Ok y.metering
   pub fits : y.excess ≡ None → AllFit x.memo x.tolls rs x.metering
-  pub over : (e : Excess) → x.excess ≡ None → y.excess ≡ Some e → IsOver x y e rs
+  pub over : (e : Excess) → x.excess ≡ None → y.excess ≡ Some e
+      → IsOver x.memo x.tolls e y.at y.metering rs x.metering
+
+-- the audience, told of one more, stops the check for the limit that was exceeded
+pub record StopsFor (x y : Meter) (excess : Excess) : Type 0 where
+  pub same : y ≡ x
+  pub named : x.excess ≡ Some excess
+  pub unlimited : x.tolls ≡ unlimited → excess ≡ OutOfMemory
 
 -- what is told in two parts is metered in two parts
 pub metered_more : (memo : Memo) (rs qs : List Report) (m : Metering)
@@ -109,11 +125,34 @@ fits_more memo tolls (r ∷ rs) qs m n e h g =
     fits_next memo tolls rs qs (metered memo r m) n e h
     (λ k j l. fits_more memo tolls rs qs k n j l g)
 
+module _ (memo : Memo) (tolls : Tolls) (excess : Excess) (at : ℕ) (n : Metering) (c : Report) where
+  abbrev Over : List Report → Metering → Type 0
+  Over = IsOver memo tolls excess at n
+
+  over_after : (r : Report) (rs : List Report) (m k : Metering) (x : Result Metering Breach)
+      → metered memo r m ≡ x → and_then x (all_metered memo rs) ≡ Ok k
+      → IfOk x (λ j. Fits tolls j × AllFit memo tolls rs j)
+      → ((j : Metering) → all_metered memo rs j ≡ Ok k → AllFit memo tolls rs j
+      → Over (rs ++ c ∷ []) j)
+      → (j : Metering) × (metered memo r m ≡ Ok j) × Fits tolls j × Over (rs ++ c ∷ []) j
+  over_after r rs m k (Ok j) same e h on = (j, same, h.0, on j e h.1)
+  over_after r rs m k (Err f) same e h on = cc e
+
+  -- one report more is too much
+  pub over_more : (rs : List Report) (m k : Metering) → all_metered memo rs m ≡ Ok k
+      → AllFit memo tolls rs m → Over (c ∷ []) k → Over (rs ++ c ∷ []) m
+  over_more [] m k e f o = subst (Over (c ∷ [])) (sym (ap (metering_in m) e)) o
+  over_more (r ∷ []) m k e f o =
+      over_after r [] m k (metered memo r m) refl e f (λ j q g. over_more [] j k q g o)
+  over_more (r ∷ s ∷ rs) m k e f o =
+      over_after r (s ∷ rs) m k (metered memo r m) refl e f
+      (λ j q g. over_more (s ∷ rs) j k q g o)
+
 pub meters_none : (x : Meter) → Meters x x []
 meters_none x = record {
   tolls = refl;
   memo = refl;
-  kept = λ e h. refl;
+  going = λ s. absurd s;
   before = λ e. e;
   is = λ e. refl;
   fits = λ e. tt;
@@ -122,60 +161,32 @@ meters_none x = record {
 
 module _ (x y z : Meter) (rs : List Report) (r : Report) (f : Meters x y rs)
     (g : Meters y z (r ∷ [])) where
-  then_metered : y.excess ≡ None → (qs : List Report) (n : Metering)
-      → all_metered y.memo qs y.metering ≡ Ok n
-      → all_metered x.memo (rs ++ qs) x.metering ≡ Ok n
-  then_metered e qs n h = metered_more x.memo rs qs x.metering
-      ∙ ap (λ m. and_then m (all_metered x.memo qs)) (f.is e)
-      ∙ subst (λ o. all_metered o qs y.metering ≡ Ok n) f.memo h
+  then_metered : (n : Metering) → all_metered y.memo (r ∷ []) y.metering ≡ Ok n
+      → all_metered x.memo (rs ++ r ∷ []) x.metering ≡ Ok n
+  then_metered n h = metered_more x.memo rs (r ∷ []) x.metering
+      ∙ ap (λ m. and_then m (all_metered x.memo (r ∷ []))) (f.is (g.going tt))
+      ∙ subst (λ o. all_metered o (r ∷ []) y.metering ≡ Ok n) f.memo h
 
-  fits_then : y.excess ≡ None → (qs : List Report) → AllFit y.memo y.tolls qs y.metering
-      → AllFit x.memo x.tolls (rs ++ qs) x.metering
-  fits_then e qs h = fits_more x.memo x.tolls rs qs x.metering y.metering (f.is e) (f.fits e)
-      (subst (λ t. AllFit x.memo t qs y.metering) f.tolls
-      (subst (λ o. AllFit o y.tolls qs y.metering) f.memo h))
+  fits_then : AllFit y.memo y.tolls (r ∷ []) y.metering
+      → AllFit x.memo x.tolls (rs ++ r ∷ []) x.metering
+  fits_then h = fits_more x.memo x.tolls rs (r ∷ []) x.metering y.metering (f.is (g.going tt))
+      (f.fits (g.going tt)) (subst (λ t. AllFit x.memo t (r ∷ []) y.metering) f.tolls
+      (subst (λ o. AllFit o y.tolls (r ∷ []) y.metering) f.memo h))
 
-  over_later : (e : Excess) → y.excess ≡ None → IsOver y z e (r ∷ []) → IsOver x z e (rs ++ r ∷ [])
-  over_later e h o = record {
-    before = rs ++ o.before;
-    last = o.last;
-    behind = o.behind;
-    among = ap (λ l. rs ++ l) o.among ∙ sym (append_assoc rs o.before (o.last ∷ o.behind));
-    place = o.place;
-    metering = o.metering;
-    is = then_metered h o.before o.metering o.is;
-    fits = fits_then h o.before o.fits;
-    over = subst (λ t. IsTooMuch e x.memo t o.metering o.last z.metering) f.tolls
-        (subst (λ k. IsTooMuch e k y.tolls o.metering o.last z.metering) f.memo o.over);
-  }
-
-  over_earlier : (e : Excess) → z ≡ y → IsOver x y e rs → IsOver x z e (rs ++ r ∷ [])
-  over_earlier e h o = record {
-    before = o.before;
-    last = o.last;
-    behind = o.behind ++ r ∷ [];
-    among = ap (λ l. l ++ r ∷ []) o.among ∙ append_assoc o.before (o.last ∷ o.behind) (r ∷ []);
-    place = ap (λ m. m.at) h ∙ o.place;
-    metering = o.metering;
-    is = o.is;
-    fits = o.fits;
-    over = subst (λ m. IsTooMuch e x.memo x.tolls o.metering o.last m.metering) (sym h) o.over;
-  }
-
-  over_all : (e : Excess) (q : Option Excess) → y.excess ≡ q → x.excess ≡ None
-      → z.excess ≡ Some e → IsOver x z e (rs ++ r ∷ [])
-  over_all e None h k w = over_later e h (g.over e h w)
-  over_all e (Some d) h k w =
-      let same = g.kept d h in
-      over_earlier e same (f.over e k (ap (λ m. m.excess) (sym same) ∙ w))
+  over_then : (e : Excess) → IsOver y.memo y.tolls e z.at z.metering (r ∷ []) y.metering
+      → IsOver x.memo x.tolls e z.at z.metering (rs ++ r ∷ []) x.metering
+  over_then e h = over_more x.memo x.tolls e z.at z.metering r rs x.metering y.metering
+      (f.is (g.going tt)) (f.fits (g.going tt))
+      (subst (λ t. IsOver x.memo t e z.at z.metering (r ∷ []) y.metering) f.tolls
+      (subst (λ o. IsOver o y.tolls e z.at z.metering (r ∷ []) y.metering) f.memo h))
 
   pub meters_more : Meters x z (rs ++ r ∷ [])
   meters_more = record {
     tolls = g.tolls ∙ f.tolls;
     memo = g.memo ∙ f.memo;
-    kept = λ e h. let same = f.kept e h in g.kept e (ap (λ m. m.excess) same ∙ h) ∙ same;
+    going = λ s. f.before (g.going tt);
     before = λ e. f.before (g.before e);
-    is = λ e. then_metered (g.before e) (r ∷ []) z.metering (g.is e);
-    fits = λ e. fits_then (g.before e) (r ∷ []) (g.fits e);
-    over = λ e h w. over_all e y.excess refl h w;
+    is = λ e. then_metered z.metering (g.is e);
+    fits = λ e. fits_then (g.fits e);
+    over = λ e h w. over_then e (g.over e (g.going tt) w);
   }

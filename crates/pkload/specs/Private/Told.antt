@@ -63,10 +63,14 @@ ready memo m = next_if m.bill.ended memo m
 abbrev pub with_bill : Metering → Bill → Metering
 with_bill m bill = record { pickle = m.pickle; bill = bill }
 
+-- after something is told
+abbrev pub metered_told : Memo → Told → Metering → Result Metering Breach
+metered_told memo told m =
+    and_then (told_billed told (ready memo m).bill) (λ bill. Ok (with_bill (ready memo m) bill))
+
 -- after one more report
 abbrev pub metered : Memo → Report → Metering → Result Metering Breach
-metered memo r m =
-    and_then (told_billed r.told (ready memo m).bill) (λ bill. Ok (with_bill (ready memo m) bill))
+metered memo r m = metered_told memo r.told m
 
 -- after these reports
 abbrev pub all_metered : Memo → List Report → Metering → Result Metering Breach

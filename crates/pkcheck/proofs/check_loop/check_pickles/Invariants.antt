@@ -2,7 +2,7 @@ use Rattle.std.proofs.Common.{◌≡◌, ◌-◌}
 use Rattle.pkread.specs.Core.{Open}
 use Rattle.pkread.specs.ReaderCalls.{state}
 use Rattle.pkread.specs.Rows.{all_bytes, sight}
-use Rattle.pkcheck.specs.Import.{policy_of}
+use Rattle.pkcheck.specs.Import.{permit_of}
 use Rattle.pkcheck.proofs.Wholes.Going.{Going}
 use Rattle.pkcheck.proofs.check_loop.check_pickles.Given as goal
 
@@ -11,7 +11,7 @@ invariant-instructions g l = record {
   memo : l.row.memo ≡ l.fn.terms.loading.memo;
   same : l.reader.source.ghost_name ≡ l.initial.reader.source.ghost_name;
   is_open : (state g.R.Source.left g.R.Source.failures l.reader).phase ≡ Open;
-  going : Going g.A.Audience.holding l.fn.terms.loading (policy_of l.fn.policy) l.fn.terms.limits
+  going : Going g.A.Audience.holding l.fn.terms.loading (permit_of l.fn.policy) l.fn.terms.limits
       (sight g.R.Source.left g.R.Source.failures l.fn.source) l.fn.terms.extent
       g.A.Audience.hears l.initial.audience l.row.pickles l.row.apart.asked
       l.row.earlier

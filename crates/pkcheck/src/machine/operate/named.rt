@@ -3,7 +3,7 @@ ghost use Rattle.std.specs.Prelude.{◌≡◌, ◌⊎◌, ◌≤◌, length, map
 ghost use Rattle.std.specs.Prelude.{IfSome, Ok};
 ghost use Rattle.pkcheck.specs.Private.NamedOperations.{AreSeen, HasImported};
 ghost use Rattle.pkcheck.specs.Private.Slots.{known};
-ghost use Rattle.pkcheck.specs.Import.{policy_of};
+ghost use Rattle.pkcheck.specs.Import.{permit_of};
 ghost use Rattle.pkcheck.specs.Private.Noted.{AreNumbered, IsNamedIf, Spells, named_asked};
 ghost use Rattle.pkcheck.specs.Private.Denials.{judged, IgnoresArgument, IsDenied, IsForMemory};
 ghost use Rattle.pkcheck.specs.Private.Denials.{MayName, WellGiven};
@@ -22,7 +22,7 @@ use crate::machine::operate::receiver::receiver_fault;
 use crate::machine::stack::{Operands, Stack};
 use crate::machine::terms::Terms;
 use crate::machine::value::value_of;
-use crate::policy::Policy;
+use crate::policy::Permit;
 use pkops::{Arg, Inst, Op};
 use pkread::Reason;
 use std::alloc::Global;
@@ -40,7 +40,7 @@ pub struct Spelled<'a> {
 struct Request<'a> {
     operation: Operation,
     names: Option<(&'a str, &'a str)>,
-    policy: &'a Policy<'a>,
+    policy: &'a Permit<'a>,
 }
 
 /// Checks the class of the receiver and the import. Returns the import, if there is one.
@@ -52,12 +52,12 @@ fn permitted_name<'a>(
 ) -> Result<Option<Named<'a>>, Denial>
     requires numbered { AreNumbered (length ledger.now.texts) operands.now }
     ensures ok { (i : Instruction) → Spells request.now.names i
-        → IfOk result (λ a. judged (policy_of request.now.policy.now) request.now.operation.names
+        → IfOk result (λ a. judged (permit_of request.now.policy.now) request.now.operation.names
         request.now.operation.gives i (map (known ledger.now.texts) operands.now)
         ≡ Ok (option_map (named_asked ledger.now.texts) a)) }
     ensures within { IfOk result (IsNamedIf (length ledger.now.texts)) }
     ensures err { (i : Instruction) → Spells request.now.names i
-        → IfErr result (λ d. IsDenied (judged (policy_of request.now.policy.now)
+        → IfErr result (λ d. IsDenied (judged (permit_of request.now.policy.now)
         request.now.operation.names request.now.operation.gives
         i (map (known ledger.now.texts) operands.now)) d
         ⊎ (MayName request.now.operation.names × IsForMemory d)) }
@@ -98,7 +98,7 @@ fn replace_named(
     requires given { WellGiven request.now.operation.gives request.now.operation.takes }
     requires plain { IgnoresArgument request.now.operation.gives }
     requires sees { AreSeen (record { entries = stack.old; ledger = ledger.old }) }
-    ensures { HasImported (policy_of request.now.policy.now) terms.now.limits
+    ensures { HasImported (permit_of request.now.policy.now) terms.now.limits
         (effect_in request.now.operation) request.now.names
         (record { entries = stack.old; ledger = ledger.old })
         (record { entries = stack.new; ledger = ledger.new }) result }
@@ -125,14 +125,14 @@ pub fn operate_named(
     ledger: &mut Ledger,
     terms: &Terms,
     spelled: &Spelled<'_>,
-    policy: &Policy,
+    policy: &Permit,
 ) -> Result<bool, Denial>
     requires within { length stack.old ≤ terms.now.limits.stack }
     requires operation { IsOperation (effect_of spelled.now.op) }
     requires good { IfSome spelled.now.lines (λ pair.
         IsGood (instruction spelled.now.op (Pair pair.0.now pair.1.now))) }
     requires sees { AreSeen (record { entries = stack.old; ledger = ledger.old }) }
-    ensures { HasImported (policy_of policy.now) terms.now.limits (effect_of spelled.now.op)
+    ensures { HasImported (permit_of policy.now) terms.now.limits (effect_of spelled.now.op)
         spelled.now.lines (record { entries = stack.old; ledger = ledger.old })
         (record { entries = stack.new; ledger = ledger.new }) result }
 {

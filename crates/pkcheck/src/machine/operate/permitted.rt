@@ -1,6 +1,7 @@
 //! Checks an import against the policy.
 ghost use Rattle.std.specs.Prelude.{◌≡◌, ◌⊎◌, IfOk, IfErr, OnOk, Some, Ok, Err, if◌then◌else◌};
-ghost use Rattle.pkcheck.specs.Import.{asked_shown, policy_of};
+ghost use Rattle.std.specs.Prelude.{is_none};
+ghost use Rattle.pkcheck.specs.Import.{asked_shown, permit_of};
 ghost use Rattle.pkcheck.specs.Private.Noted.{named_asked};
 ghost use Rattle.pkcheck.specs.Knowledge.{AskedPair, OffList, permitted};
 ghost use Rattle.pkcheck.specs.Private.Denials.{ruled, IsDenied, IsForMemory};
@@ -9,24 +10,24 @@ use crate::import::{Asked, Named, pair_of};
 use crate::machine::ledger::Ledger;
 use crate::machine::operate::Denial;
 use crate::pairs;
-use crate::policy::Policy;
+use crate::policy::{Permit, Policy};
 use pkread::Reason;
 use std::alloc::Global;
 
 /// Refuses an import that the policy does not permit, with `UnknownImport` or `ImportOffList`.
 pub fn permit(
     alloc: Global,
-    policy: &Policy,
+    policy: &Permit,
     ledger: &Ledger,
     named: Named<'_>,
 ) -> Result<(), Denial>
     ensures ok { OnOk result (
-        ruled (policy_of policy.now) (named_asked ledger.now.texts named.entry)
+        ruled (permit_of policy.now) (named_asked ledger.now.texts named.entry)
         ≡ Ok (Some (named_asked ledger.now.texts named.entry))) }
-    ensures err { IfErr result (λ d. IsDenied (ruled (policy_of policy.now)
+    ensures err { IfErr result (λ d. IsDenied (ruled (permit_of policy.now)
         (named_asked ledger.now.texts named.entry)) d ⊎ IsForMemory d) }
 {
-    if let Policy::AnyImport = policy {
+    if permits_all(policy) {
         return Ok(());
     }
     match named {
@@ -41,25 +42,35 @@ pub fn permit(
     }
 }
 
+/// Whether the policy permits every import.
+fn permits_all(policy: &Permit) -> bool
+    ensures { result ≡ is_none (permit_of policy.now) }
+{
+    match policy {
+        Permit::By(Policy::AnyImport) => true,
+        _ => false,
+    }
+}
+
 /// Whether the policy permits the pair.
-fn permits(policy: &Policy, module_name: &str, name: &str) -> bool
-    ensures { permitted (policy_of policy.now) module_name.now name.now
+fn permits(policy: &Permit, module_name: &str, name: &str) -> bool
+    ensures { permitted (permit_of policy.now) module_name.now name.now
         ≡ if result then Ok (Some (AskedPair module_name.now name.now))
         else Err (OffList module_name.now name.now) }
 {
     match policy {
-        Policy::Listed(list) => list.contains(module_name, name),
-        Policy::Pairs(pairs) => pairs::have(pairs, module_name.as_bytes(), name.as_bytes()),
-        Policy::Sorted(pairs) => pairs::found(pairs, module_name.as_bytes(), name.as_bytes()),
-        Policy::AnyImport => true,
+        Permit::By(Policy::Listed(list)) => list.contains(module_name, name),
+        Permit::By(Policy::AnyImport) => true,
+        Permit::Pairs(pairs) => pairs::have(pairs, module_name.as_bytes(), name.as_bytes()),
+        Permit::Sorted(pairs) => pairs::found(pairs, module_name.as_bytes(), name.as_bytes()),
     }
 }
 
 /// Refuses a pair that the policy does not permit, with a copy of the pair.
-fn permit_pair(alloc: Global, policy: &Policy, module_name: &str, name: &str) -> Result<(), Denial>
-    ensures ok { OnOk result (permitted (policy_of policy.now) module_name.now name.now
+fn permit_pair(alloc: Global, policy: &Permit, module_name: &str, name: &str) -> Result<(), Denial>
+    ensures ok { OnOk result (permitted (permit_of policy.now) module_name.now name.now
         ≡ Ok (Some (AskedPair module_name.now name.now))) }
-    ensures err { IfErr result (λ d. IsDenied (permitted (policy_of policy.now) module_name.now
+    ensures err { IfErr result (λ d. IsDenied (permitted (permit_of policy.now) module_name.now
         name.now) d ⊎ IsForMemory d) }
 {
     if permits(policy, module_name, name) {

@@ -1,7 +1,7 @@
 use Rattle.std.proofs.Common.{◌∙◌, Some, ap, option_map, sym}
 use Rattle.pkops.specs.Inst.{instruction_of}
 use Rattle.pkcheck.specs.Knowledge.{Knowledge}
-use Rattle.pkcheck.specs.Import.{asked_shown, policy_of}
+use Rattle.pkcheck.specs.Import.{asked_shown, permit_of}
 use Rattle.pkcheck.specs.View.{View}
 use Rattle.pkcheck.proofs.StepParts.Longest.{longest}
 use Rattle.pkcheck.proofs.StepParts.CoveredStep.{denied, fails, goes_on}
@@ -13,7 +13,7 @@ returns-in-Ok-clause-step c =
     let g = c.in-Ok.ensures.ok in
     let k : Knowledge = c.advance.new.held.knowledge in
     let fresh = ap (λ (v : View). v.refused) c.self.view_is ∙ c.requires.well in
-    goes_on (policy_of c.args.policy.now) (instruction_of c.args.inst.now) c.args.self.now _
+    goes_on (permit_of c.args.policy.now) (instruction_of c.args.inst.now) c.args.self.now _
     c.in-Ok.moved (
       record { after = k; import = g.0 },
       rw (← c.self.view_is) g.1,
@@ -36,7 +36,7 @@ returns-in-Ok-clause-texts c =
     let g = c.in-Ok.ensures.ok in
     rw (← c.self.view_is) (c.in-Ok.ensures.texts ∙ texts_by_setting c.self.inside.terms.old_strings
     (instruction_of c.args.inst.now) c.self.inside.held.texts
-    (not_raised c.self.inside.terms.old_strings (policy_of c.args.policy.now)
+    (not_raised c.self.inside.terms.old_strings (permit_of c.args.policy.now)
     c.self.inside.terms.limits
     (instruction_of c.args.inst.now) c.self.inside.held.knowledge _ g.1))
 
@@ -44,9 +44,9 @@ pub returns-in-Err-clause-step : goal.returns-in-Err-clause-step
 returns-in-Err-clause-step c =
     let kept = c.in-Err.ensures.kept in
     let (v, long) = longest c.args.policy.now in
-    fails (policy_of c.args.policy.now) (instruction_of c.args.inst.now) c.args.self.now _
+    fails (permit_of c.args.policy.now) (instruction_of c.args.inst.now) c.args.self.now _
     c.in-Err.reason v long c.requires.admitted c.requires.well
-    (denied (policy_of c.args.policy.now) (instruction_of c.args.inst.now) c.args.self.now _ _
+    (denied (permit_of c.args.policy.now) (instruction_of c.args.inst.now) c.args.self.now _ _
     (option_map asked_shown c.advance.new.off)
     (rw (← c.self.view_is) (λ j. record {
       knowledge = (kept j).knowledge;

@@ -3,7 +3,7 @@ use Rattle.std.proofs.lemmas.Result.{err_from_is_err_and}
 use Rattle.pkops.specs.Inst.{instruction_of}
 use Rattle.pkcheck.specs.declared.effect.Gives.TheVariants.{Makes, MakesIntOrBool, MakesText}
 use Rattle.pkcheck.specs.Effects.{Moves, effect_as, effect_of}
-use Rattle.pkcheck.specs.Import.{policy_of}
+use Rattle.pkcheck.specs.Import.{permit_of}
 use Rattle.pkcheck.specs.Runs.{Plain, Text, int_or_bool, text}
 use Rattle.pkcheck.proofs.StepParts.GoesOn.{denied_by, move_denied, unnamed_goes}
 use Rattle.pkcheck.proofs.StepParts.PushedObjects.{not_pushed, of_action}
@@ -13,7 +13,7 @@ pub returns-in_err-make-in-Makes-clause-err : goal.returns-in_err-make-in-Makes-
 returns-in_err-make-in-Makes-clause-err c =
     let q = err_from_is_err_and c.from_residual.result c.from_residual.ensures.1 in
     rw (q.1, q.2, c.requires.none)
-    (not_pushed c.args.terms.now.old_strings (policy_of c.args.policy.now)
+    (not_pushed c.args.terms.now.old_strings (permit_of c.args.policy.now)
     c.args.terms.now.limits (instruction_of c.args.inst.now) c.args.held.now.knowledge
     (Makes c.in-Makes.class) (Some (Plain c.in-Makes.class))
     (of_action c.args.terms.now.old_strings (instruction_of c.args.inst.now) _ _ _
@@ -27,7 +27,7 @@ returns-in_err-make-in-MakesIntOrBool-clause-err c =
     let q = err_from_is_err_and c.from_residual-in_err-make-in-MakesIntOrBool.result
     c.from_residual-in_err-make-in-MakesIntOrBool.ensures.1 in
     rw (q.1, q.2, c.requires.none)
-    (not_pushed c.args.terms.now.old_strings (policy_of c.args.policy.now)
+    (not_pushed c.args.terms.now.old_strings (permit_of c.args.policy.now)
     c.args.terms.now.limits (instruction_of c.args.inst.now) c.args.held.now.knowledge
     MakesIntOrBool
     (Some (Plain (int_or_bool (instruction_of c.args.inst.now))))
@@ -42,7 +42,7 @@ returns-in_err-make_text-in-MakesText-clause-err c =
     let q = err_from_is_err_and c.from_residual-in_err-make_text-in-MakesText.result
     c.from_residual-in_err-make_text-in-MakesText.ensures.1 in
     rw (q.1, q.2, c.requires.none)
-    (not_pushed c.args.terms.now.old_strings (policy_of c.args.policy.now)
+    (not_pushed c.args.terms.now.old_strings (permit_of c.args.policy.now)
     c.args.terms.now.limits (instruction_of c.args.inst.now) c.args.held.now.knowledge MakesText
     (Some (Text (text (instruction_of c.args.inst.now))))
     (of_action c.args.terms.now.old_strings (instruction_of c.args.inst.now) _ _ _
@@ -56,20 +56,20 @@ returns-in_err-read_copy-in-ReadsOldString-clause-err c =
     let q = err_from_is_err_and c.from_residual-in_err-read_copy-in-ReadsOldString.result
     c.from_residual-in_err-read_copy-in-ReadsOldString.ensures.1 in
     rw (q.1, q.2, c.requires.none)
-    (c.in_err-read_copy-in-ReadsOldString.ensures.err (policy_of c.args.policy.now))
+    (c.in_err-read_copy-in-ReadsOldString.ensures.err (permit_of c.args.policy.now))
 
 pub returns-in_err-apply-in-Moves-clause-err : goal.returns-in_err-apply-in-Moves-clause-err
 returns-in_err-apply-in-Moves-clause-err c =
     let q = err_from_is_err_and c.from_residual-in_err-apply-in-Moves.result
     c.from_residual-in_err-apply-in-Moves.ensures.1 in
     rw (q.1, q.2, c.requires.none)
-    (denied_by c.args.terms.now.old_strings (policy_of c.args.policy.now)
+    (denied_by c.args.terms.now.old_strings (permit_of c.args.policy.now)
     c.args.terms.now.limits (instruction_of c.args.inst.now) c.args.held.now.knowledge
     (Moves c.in-Moves.what) (record { reason = c.in_err-apply-in-Moves.field-0.0; pair = None })
     (of_action c.args.terms.now.old_strings (instruction_of c.args.inst.now) _ _ _
     c.op-op.ensures.op
     c.action_of.ensures.effect c.action_of.ensures.old c.in-Moves.is refl)
-    (move_denied (policy_of c.args.policy.now) c.args.terms.now.limits
+    (move_denied (permit_of c.args.policy.now) c.args.terms.now.limits
     (instruction_of c.args.inst.now) c.args.held.now.knowledge c.in-Moves.what
     c.in_err-apply-in-Moves.field-0.0 c.in_err-apply-in-Moves.ensures.err.1))
 
@@ -79,14 +79,14 @@ returns-in_err-operate-in-Operates-clause-err c =
     let q = err_from_is_err_and c.from_residual-in_err-operate-in-Operates.result
     c.from_residual-in_err-operate-in-Operates.ensures.1 in
     rw (q.1, q.2, c.requires.none)
-    (denied_by c.args.terms.now.old_strings (policy_of c.args.policy.now)
+    (denied_by c.args.terms.now.old_strings (permit_of c.args.policy.now)
     c.args.terms.now.limits (instruction_of c.args.inst.now) c.args.held.now.knowledge
     (effect_of c.op-op.result) (record {
       reason = c.in_err-operate-in-Operates.field-0.0;
       pair = None;
     }) (of_action c.args.terms.now.old_strings (instruction_of c.args.inst.now) _ _ _
     c.op-op.ensures.op c.action_of.ensures.effect c.action_of.ensures.old c.in-Operates.is refl)
-    (c.in_err-operate-in-Operates.ensures.err (policy_of c.args.policy.now)
+    (c.in_err-operate-in-Operates.ensures.err (permit_of c.args.policy.now)
     (instruction_of c.args.inst.now)))
 
 pub returns-in_ok-operate-in-Operates-clause-ok : goal.returns-in_ok-operate-in-Operates-clause-ok
@@ -96,9 +96,9 @@ returns-in_ok-operate-in-Operates-clause-ok c =
     (instruction_of c.args.inst.now) _ _ _ c.op-op.ensures.op c.action_of.ensures.effect
     c.action_of.ensures.old c.in-Operates.is refl in
     let room = c.in_ok-operate-in-Operates.ensures.room in
-    rw same (unnamed_goes (policy_of c.args.policy.now) c.args.terms.now.limits
+    rw same (unnamed_goes (permit_of c.args.policy.now) c.args.terms.now.limits
     (instruction_of c.args.inst.now) c.args.held.now.knowledge c.operate.new.self.knowledge
     c.args.held.now.imports c.operate.new.self.imports (effect_of c.op-op.result)
     c.in-Operates.ensures.well (c.in_ok-operate-in-Operates.ensures.ok
-    (policy_of c.args.policy.now) (instruction_of c.args.inst.now)) room.0
+    (permit_of c.args.policy.now) (instruction_of c.args.inst.now)) room.0
     (omega (arith, room.1, c.requires.room.1)))

@@ -2,7 +2,7 @@ use Rattle.std.proofs.Common.{append-nil, arith, length, refl, ap, subst, sym, �
 use Rattle.std.proofs.Common.{◌≡◌, ◌≤◌, ℕ, [], ◌∷◌}
 use Rattle.std.proofs.lemmas.List.{length-append, length-drop}
 use Rattle.pkops.specs.Inst.{instruction_of}
-use Rattle.pkcheck.specs.Import.{policy_of}
+use Rattle.pkcheck.specs.Import.{permit_of}
 use Rattle.pkcheck.specs.Private.Lent.{heard_before}
 use Rattle.pkcheck.specs.Reports.{report, told_of}
 use Rattle.pkcheck.proofs.Wholes.InTurn.{Along, IsInside, along_more, along_none, all_passed}
@@ -12,7 +12,7 @@ use Rattle.pkcheck.proofs.session.Session.hear_all_lent.Goals as goal
 
 pub instructions-init : goal.instructions-init
 instructions-init g c =
-    let policy = policy_of c.args.policy.now in
+    let policy = permit_of c.args.policy.now in
     let bytes = c.args.bytes.now in
     let inside = c.inside-inside.result.now in
     let before = c.args.self.now in
@@ -57,6 +57,15 @@ pub overflow_sub-count : goal.overflow_sub-count
 overflow_sub-count g c =
     let h = c.instructions.invariant.along in
     omega (arith, ap length h.left, length-drop h.count c.inside-inside.result.now)
+
+pub take_inside-requires : goal.take_inside-requires
+take_inside-requires g c some =
+    let same = c.instructions.invariant.frame in
+    let e = c.inside-inside.ensures in
+    let whole = is_inside c.self.inside.frames c.args.bytes.now c.inside-inside.result.now e.outside
+    e.inside in
+    let few = whole.few (λ none. some (same ∙ none)) in
+    omega (arith, same, few)
 
 pub overflow_add-end : goal.overflow_add-end
 overflow_add-end g c =

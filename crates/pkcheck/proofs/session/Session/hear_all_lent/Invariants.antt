@@ -1,5 +1,5 @@
 use Rattle.std.proofs.Common.{◌≡◌, List, length}
-use Rattle.pkcheck.specs.Import.{policy_of}
+use Rattle.pkcheck.specs.Import.{permit_of}
 use Rattle.pkcheck.specs.Private.Lent.{HearsMore}
 use Rattle.pkcheck.specs.Reports.{Report}
 use Rattle.pkcheck.proofs.Wholes.InTurn.{Along}
@@ -10,7 +10,7 @@ invariant-instructions g l = record {
   frame : l.self-inside.frames ≡ l.initial.self-inside.frames;
   hears : List Report;
   along : Along g.A.Audience.holding
-      (policy_of l.fn.policy) l.fn.at l.fn.bytes l.inside l.fn.self l.rest
+      (permit_of l.fn.policy) l.fn.at l.fn.bytes l.inside l.fn.self l.rest
       l.self-inside.machine hears;
   heard : HearsMore g.A.Audience.hears l.initial.audience l.audience hears;
 }

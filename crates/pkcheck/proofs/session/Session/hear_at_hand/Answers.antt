@@ -1,7 +1,7 @@
 use Rattle.std.proofs.Common.{◌+◌, ap, append-nil, arith, inl, inr, refl, subst, sym, ◌∙◌}
 use Rattle.pkread.specs.AtHand.{beyond}
 use Rattle.pkread.specs.ReaderCalls.{state}
-use Rattle.pkcheck.specs.Import.{policy_of}
+use Rattle.pkcheck.specs.Import.{permit_of}
 use Rattle.pkcheck.proofs.Wholes.InTurn.{pass_within, stops_within}
 use Rattle.pkcheck.proofs.session.Session.hear_at_hand.Goals as goal
 
@@ -22,7 +22,7 @@ hear_all_lent-requires-clause-room g c =
 pub advance-requires-clause-within : goal.advance-requires-clause-within
 advance-requires-clause-within g c =
     let ok = (let h = rw c.in-Ok-Ok.field-0-is at c.in-Ok-Ok.ensures.ok in h) in
-    let few = pass_within g.A.Audience.holding (policy_of c.args.policy.now) _ c.in-Some.bytes.now
+    let few = pass_within g.A.Audience.holding (permit_of c.args.policy.now) _ c.in-Some.bytes.now
     c.args.self.now ok.0 c.hear_all_lent.new.self c.in-Ok-Ok.passed ok.1 ok.2 in
     let hand = c.in-Some.ensures.within in
     omega (arith, few, hand)
@@ -30,7 +30,7 @@ advance-requires-clause-within g c =
 pub advance-requires-clause-room : goal.advance-requires-clause-room
 advance-requires-clause-room g c =
     let ok = (let h = rw c.in-Ok-Ok.field-0-is at c.in-Ok-Ok.ensures.ok in h) in
-    let few = pass_within g.A.Audience.holding (policy_of c.args.policy.now) _ c.in-Some.bytes.now
+    let few = pass_within g.A.Audience.holding (permit_of c.args.policy.now) _ c.in-Some.bytes.now
     c.args.self.now ok.0 c.hear_all_lent.new.self c.in-Ok-Ok.passed ok.1 ok.2 in
     let room = c.in-Some.ensures.next.within in
     omega (arith, few, room)

@@ -2,7 +2,7 @@ use Rattle.std.proofs.Common.{IfErr, IfOk, subst}
 use Rattle.pkcheck.specs.Effects.{effect_of}
 use Rattle.pkcheck.specs.Private.Steps.{IsStepFault}
 use Rattle.pkcheck.specs.Private.Denials.{Proceeds, pair_denied}
-use Rattle.pkcheck.specs.Import.{policy_of}
+use Rattle.pkcheck.specs.Import.{permit_of}
 use Rattle.pkcheck.specs.Knowledge.{learn}
 use Rattle.pkcheck.specs.Private.Slots.{remembered, resolved, seen}
 use Rattle.pkops.specs.Inst.{instruction_of}
@@ -23,12 +23,12 @@ returns-clause-ok c =
     let new = c.operate_named.new in
     rw (← c.self.view_is)
     (subst (λ o. IfOk c.operate_named.result
-    (Proceeds (learn (policy_of c.args.policy.now) (effect_of o) (instruction_of c.args.inst.now)
+    (Proceeds (learn (permit_of c.args.policy.now) (effect_of o) (instruction_of c.args.inst.now)
     (resolved old.ledger.texts (record { entries = old.stack; memo = old.memo })))
     (resolved new.ledger.texts (record { entries = new.stack; memo = old.memo }))
     old.ledger.asked new.ledger.asked)) c.op.ensures.op
     (remembered_on c.operate_named.result old.ledger.texts new.ledger.texts old.memo
-    (λ b m. Proceeds (learn (policy_of c.args.policy.now) (effect_of c.op.result)
+    (λ b m. Proceeds (learn (permit_of c.args.policy.now) (effect_of c.op.result)
     (instruction_of c.args.inst.now) (record {
       entries = seen old.ledger.texts old.stack;
       memo = remembered old.ledger.texts old.memo;
@@ -43,7 +43,7 @@ pub returns-clause-err : goal.returns-clause-err
 returns-clause-err c =
     let old = c.self.inside in
     rw (← c.self.view_is)
-    (subst (λ o. IfErr c.operate_named.result (λ d. IsStepFault (policy_of c.args.policy.now)
+    (subst (λ o. IfErr c.operate_named.result (λ d. IsStepFault (permit_of c.args.policy.now)
     c.args.terms.now.limits (effect_of o) (instruction_of c.args.inst.now)
     (resolved old.ledger.texts (record { entries = old.stack; memo = old.memo }))
     d.reason (pair_denied d))) c.op.ensures.op

@@ -1,7 +1,7 @@
 use Rattle.std.proofs.Common.{◌∙◌, Some, inl, inr, length, map, refl, sym}
 use Rattle.std.proofs.lemmas.Result.{err_from_is_err_and}
 use Rattle.pkcheck.specs.Knowledge.{WrongClass, NotText}
-use Rattle.pkcheck.specs.Import.{policy_of}
+use Rattle.pkcheck.specs.Import.{permit_of}
 use Rattle.pkcheck.specs.Private.Noted.{named_asked}
 use Rattle.pkcheck.specs.Private.Slots.{known}
 use Rattle.pkcheck.proofs.StepParts.Judged.{judged_wrong, judged_err, judged_ok, may_name}
@@ -12,7 +12,7 @@ use Rattle.pkcheck.proofs.machine.operate.named.permitted_name.Goals.{in_default
 pub returns-then-receiver_fault-clause-err : goal.returns-then-receiver_fault-clause-err
 returns-then-receiver_fault-clause-err c i spelled = inl (
   WrongClass,
-  judged_wrong (policy_of c.args.request.now.policy.now)
+  judged_wrong (permit_of c.args.request.now.policy.now)
       c.args.request.now.operation.names c.args.request.now.operation.gives i
       (map (known c.args.ledger.now.texts) c.args.operands.now)
       (sym (c.if-receiver_fault.ensures c.args.ledger.now.texts)),
@@ -26,7 +26,7 @@ returns-in_err-named-clause-err c =
     rw (p.1, p.2) (λ i spelled. let a = c.in_err-named.ensures.err i c.args.ledger.now.texts in
     inl (
       NotText,
-      judged_err (policy_of c.args.request.now.policy.now) c.args.request.now.operation.names
+      judged_err (permit_of c.args.request.now.policy.now) c.args.request.now.operation.names
           c.args.request.now.operation.gives i
           (map (known c.args.ledger.now.texts) c.args.operands.now)
           (sym (c.if-receiver_fault.ensures c.args.ledger.now.texts)) NotText a.0,
@@ -42,7 +42,7 @@ returns-in_err-permit-clause-err c =
     let asks = rw c.in-Some.is at c.in_ok-named.ensures.ok i spelled c.args.ledger.now.texts in
     elim c.in_err-permit.ensures.err [
       | inl d ↦ inl
-          (rw (judged_ok (policy_of c.args.request.now.policy.now)
+          (rw (judged_ok (permit_of c.args.request.now.policy.now)
           c.args.request.now.operation.names c.args.request.now.operation.gives i
           (map (known c.args.ledger.now.texts) c.args.operands.now)
           (sym (c.if-receiver_fault.ensures c.args.ledger.now.texts))
@@ -58,7 +58,7 @@ returns-in_err-permit-clause-err c =
 pub returns-clause-ok : goal.returns-clause-ok
 returns-clause-ok c i spelled =
     let asks = c.in_ok-named.ensures.ok i spelled c.args.ledger.now.texts in
-    let judges = judged_ok (policy_of c.args.request.now.policy.now)
+    let judges = judged_ok (permit_of c.args.request.now.policy.now)
     c.args.request.now.operation.names c.args.request.now.operation.gives i
     (map (known c.args.ledger.now.texts) c.args.operands.now)
     (sym (c.if-receiver_fault.ensures c.args.ledger.now.texts)) _ asks in

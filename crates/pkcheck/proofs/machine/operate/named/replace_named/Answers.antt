@@ -3,7 +3,7 @@ use Rattle.std.proofs.lemmas.Result.{err_from_is_err_and}
 use Rattle.pkops.specs.declared.Op.TheVariants as op
 use Rattle.pkops.specs.Spelling.{Nothing, instruction}
 use Rattle.pkcheck.specs.Private.Slots.{seen}
-use Rattle.pkcheck.specs.Import.{policy_of}
+use Rattle.pkcheck.specs.Import.{permit_of}
 use Rattle.pkcheck.specs.Private.Noted.{named_asked}
 use Rattle.pkcheck.proofs.NotedImports.{are_numbered, listed_before}
 use Rattle.pkcheck.proofs.Places.{length_below}
@@ -27,7 +27,7 @@ returns-in_err-found c =
       kept = (refl, refl);
       err = λ i named memo. inl (within_denied _ c.args.terms.now.limits 0
           (record { reason = c.in_err-found.field-0.0; pair = None })
-          (lack_denied (policy_of c.args.request.now.policy.now) o.takes o.names o.gives i
+          (lack_denied (permit_of c.args.request.now.policy.now) o.takes o.names o.gives i
           (record { entries = seen texts entries; memo = memo }) c.in_err-found.field-0.0
           (found_lacks texts o.takes entries c.requires.sees c.in_err-found.field-0.0
           c.in_err-found.ensures.err)));
@@ -51,7 +51,7 @@ returns-in_err-named c =
           let d = rw c.operands-operands.ensures at (c.in_err-named.ensures.err i named) in
           elim d [
             | inl e ↦ inl (within_denied _ c.args.terms.now.limits 0 c.in_err-named.field-0.0
-                (judged_denied (policy_of c.args.request.now.policy.now) o.takes o.names o.gives i
+                (judged_denied (permit_of c.args.request.now.policy.now) o.takes o.names o.gives i
                 (record { entries = seen texts entries; memo = memo }) _ c.in_err-named.field-0.0
                 found e))
             | inr e ↦ inr (inl e.0, e.1)
@@ -101,7 +101,7 @@ returns-in_err-is_import c =
           let fits = rw c.operands-operands.ensures at (c.in_ok-named.ensures.ok i named) in
           inr (
             inl
-                (judged_name (policy_of c.args.request.now.policy.now) o.names o.gives i _ _ _
+                (judged_name (permit_of c.args.request.now.policy.now) o.names o.gives i _ _ _
                 failed.1 fits),
             (failed.2, refl),
           );
@@ -122,7 +122,7 @@ returns-in-Ok c =
           let put = put_seen texts texts (same_table texts) c.value_of-value.result _
           (value i) _ is in
           rw listed.0
-          (does_pass (policy_of c.args.request.now.policy.now) o.takes o.names o.gives i
+          (does_pass (permit_of c.args.request.now.policy.now) o.takes o.names o.gives i
           (record { entries = seen texts entries; memo = memo }) _ texts c.in_ok-named.named found
           fits (seen texts c.give.new.stack) c.args.ledger.now.asked _ c.in_ok-is_import.is_import
           (ap (seen texts) c.in-Ok.ensures.ok ∙ put) refl listed.1);
@@ -156,7 +156,7 @@ returns-in-Err c =
       );
       err = λ i named memo.
           let fits = rw c.operands-operands.ensures at (c.in_ok-named.ensures.ok i named) in
-          unroomed (policy_of c.args.request.now.policy.now) o.takes o.names o.gives i
+          unroomed (permit_of c.args.request.now.policy.now) o.takes o.names o.gives i
           (record { entries = seen texts entries; memo = memo }) _ texts c.in_ok-named.named found
           fits texts c.value_of-value.result (c.value_of-value.ensures texts i)
           c.args.terms.now.limits c.in-Err.reason c.in-Err.ensures.err.1

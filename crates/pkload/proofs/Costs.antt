@@ -1,0 +1,257 @@
+-- A check that ends because a pickle exceeds a limit.
+use Rattle.std.proofs.Common.{◌≡◌, ◌+◌, ◌<◌, ℕ, false, List, [], ◌∷◌, ◌++◌, length}
+use Rattle.std.proofs.Common.{append-nil, append_assoc, Option, None, Some, refl, sym, ap, subst}
+use Rattle.std.proofs.Common.{Result, Ok}
+use Rattle.std.proofs.Common.{◌∙◌, arith}
+use Rattle.std.proofs.lemmas.List.Elements.{All-head, All-tail, All-cons, All-nil}
+use Rattle.std.specs.Io.KnownBytes.{Consumes, prepend_known}
+use Rattle.std.specs.Prelude.{All, ◌≢◌}
+use Rattle.pkops.specs.Limits.{Bounds}
+use Rattle.pkops.specs.Payloads.{payload_limit}
+use Rattle.pkops.specs.Spelling.{Instruction, spelling}
+use Rattle.pkread.specs.Admission.{IsAllowedBy}
+use Rattle.pkread.specs.Rows.{Sight, Takes}
+use Rattle.pkread.specs.Sequence.{spellings}
+use Rattle.pkread.specs.declared.Reason.{Reason}
+use Rattle.pkcheck.specs.Accepted.{AcceptedFrom}
+use Rattle.pkcheck.specs.Heard.{refused_instruction}
+use Rattle.pkcheck.specs.Knowledge.{Asked, Policy}
+use Rattle.pkcheck.specs.Refused.{RefusedFrom, Why, reading, judging, growing}
+use Rattle.pkcheck.specs.Reports.{AreReportsBehind, Report}
+use Rattle.pkcheck.specs.RowOfPickles.{begins, bytes_of_all}
+use Rattle.pkcheck.specs.RowRuns.{Afresh, Beginning, Behind, Pickle}
+use Rattle.pkcheck.specs.RunFaults.{IsFaultless}
+use Rattle.pkcheck.specs.Runs.{Raised, Stopped, Stuck, WentOn, start}
+use Rattle.pkcheck.specs.Shape.{Breach, and_then}
+use Rattle.pkcheck.specs.ThreeEnds.{StoppedFrom}
+use Rattle.pkcheck.specs.WholeRuns.{Ended, EndedBy, Reached, run_as}
+use Rattle.pkcheck.specs.declared.loading.Loading.{Loading}
+use Rattle.pkcheck.specs.declared.old_strings.OldStrings.{OldStrings}
+use Rattle.pkload.proofs.Exceeding.{none_at, over_along, refused_place}
+use Rattle.pkload.proofs.Loading.{IsReady, all_good, billed_more, made_ready}
+use Rattle.pkload.proofs.Metered.{fits_ready}
+use Rattle.pkload.proofs.Tolds.{NoneBehindStop, none_behind}
+use Rattle.pkload.proofs.Whole.{bill_bounds_runs}
+use Rattle.pkload.specs.Bill.{Bill, all_billed, bill_before, billed}
+use Rattle.pkload.specs.Costly.{EndsAbove, ExceedsIn}
+use Rattle.pkload.specs.Laws.{EndsBilled}
+use Rattle.pkload.specs.Private.Meter.{Fits, IsOver}
+use Rattle.pkload.specs.Private.Told.{Metering, ready}
+use Rattle.pkload.specs.Tolls.{Exceeds}
+use Rattle.pkload.specs.Weighed.{InEachNewRun}
+use Rattle.pkload.specs.declared.tolls.Excess.{Excess}
+use Rattle.pkload.specs.declared.tolls.Excess.TheVariants.{OutOfMemory}
+use Rattle.pkload.specs.declared.tolls.Tolls.{Tolls}
+
+-- ---- bytes
+
+consumes_none : (o : Option (List ℕ)) → Consumes o o []
+consumes_none None = tt
+consumes_none (Some xs) = refl
+
+consumes_front : (o n : Option (List ℕ)) (xs ys : List ℕ) → Consumes o n (xs ++ ys)
+    → Consumes o (prepend_known ys n) xs
+consumes_front None n xs ys h = tt
+consumes_front (Some zs) None xs ys h = absurd h
+consumes_front (Some zs) (Some ns) xs ys h = h ∙ append_assoc xs ys ns
+
+pub takes_none : (here : Sight) → Takes here here []
+takes_none here = record { bytes = consumes_none here.left; count = refl }
+
+-- the source before these bytes were taken
+abbrev before_bytes : List ℕ → Sight → Sight
+before_bytes ys new = record { left = prepend_known ys new.left; failures = new.failures }
+
+takes_front : (old new : Sight) (xs ys : List ℕ) → Takes old new (xs ++ ys)
+    → Takes old (before_bytes ys new) xs
+takes_front old new xs ys h =
+    record { bytes = consumes_front old.left new.left xs ys h.bytes; count = h.count }
+
+spellings_parts : (is js : List Instruction)
+    → spellings (is ++ js) ≡ spellings is ++ spellings js
+spellings_parts [] js = refl
+spellings_parts (i ∷ is) js = ap (λ bytes. spelling i ++ bytes) (spellings_parts is js)
+    ∙ sym (append_assoc (spelling i) (spellings is) (spellings js))
+
+all_front : (limits : Bounds) (is js : List Instruction)
+    → All (IsAllowedBy (payload_limit limits)) (is ++ js)
+    → All (IsAllowedBy (payload_limit limits)) is
+all_front limits [] js h = All-nil (IsAllowedBy (payload_limit limits))
+all_front limits (i ∷ is) js h =
+    All-cons (IsAllowedBy (payload_limit limits)) i is
+    (All-head (IsAllowedBy (payload_limit limits)) i (is ++ js) h)
+    (all_front limits is js (All-tail (IsAllowedBy (payload_limit limits)) i (is ++ js) h))
+
+-- ---- runs
+
+ends_above : (excess : Excess) (tolls : Tolls) (bill : Bill) (n : ℕ) (e : Ended)
+    → EndsBilled bill n e → Exceeds excess tolls bill.tally bill.memory
+    → EndsAbove excess tolls bill.memory n e
+ends_above excess tolls bill n (Reached s) h w =
+    subst (λ tally. Exceeds excess tolls tally bill.memory) (sym h.tally) w
+ends_above excess tolls bill n (EndedBy (Stopped r s)) h w =
+    subst (λ tally. Exceeds excess tolls tally bill.memory) (sym h.tally) w
+ends_above excess tolls bill n (EndedBy (Raised s)) h w = tt
+ends_above excess tolls bill n (EndedBy (WentOn s)) h w = absurd h
+ends_above excess tolls bill n (EndedBy (Stuck b)) h w = absurd h
+
+runs_above : (excess : Excess) (tolls : Tolls) (bill : Bill) (setting : OldStrings)
+    (beginning : Beginning) (is : List Instruction)
+    → InEachNewRun setting beginning is (EndsBilled bill)
+    → Exceeds excess tolls bill.tally bill.memory
+    → InEachNewRun setting beginning is (EndsAbove excess tolls bill.memory)
+runs_above excess tolls bill setting Afresh is h w = λ os v.
+    ends_above excess tolls bill 0 (run_as setting is os start) (h os v) w
+runs_above excess tolls bill setting (Behind ps) is h w = λ earlier first os f r v.
+    ends_above excess tolls bill (length first.events) (run_as setting is os first)
+    (h earlier first os f r v) w
+
+billed_with : (is : List Instruction) (i : Instruction) (x : Result Bill Breach)
+    (b c d : Bill) → x ≡ Ok b → all_billed is b ≡ Ok c → billed i c ≡ Ok d
+    → and_then x (all_billed (is ++ i ∷ [])) ≡ Ok d
+billed_with is i x b c d e h k = ap (λ y. and_then y (all_billed (is ++ i ∷ []))) e
+    ∙ billed_more is (i ∷ []) b ∙ ap (λ y. and_then y (all_billed (i ∷ []))) h
+    ∙ ap (λ y. and_then y (all_billed [])) k
+
+module _ (loading : Loading) (policy : Policy) (limits : Bounds) where
+  abbrev pub AreReports : List Pickle → List Instruction → List Report → Type 0
+  AreReports before = AreReportsBehind false loading.old_strings (begins loading.memo before)
+      (length (bytes_of_all before)) []
+
+  -- ---- the accepted instructions at which a check ends
+
+  -- the check accepted these at the start of a pickle that follows those before, and told of them
+  pub record Part (before : List Pickle) (here : Sight) (rs : List Report) : Type 0 where
+    pub instructions : List Instruction
+    pub there : Sight
+    pub admitted : All (IsAllowedBy (payload_limit limits)) instructions
+    pub faultless : IsFaultless loading.old_strings (begins loading.memo before) policy limits
+        instructions
+    pub bytes : Takes here there (spellings instructions)
+    pub none : NoneBehindStop instructions
+    pub told : AreReports before instructions rs
+
+  pub part_of_accepted : (before : List Pickle) (here there : Sight) (taken : ℕ)
+      (imports : List Asked) (rs : List Report)
+      (a : AcceptedFrom loading.old_strings (begins loading.memo before) policy limits here there
+      taken imports) → AreReports before a.instructions rs → Part before here rs
+  part_of_accepted before here there taken imports rs a h =
+      let s = a.sequence.stops in
+      record {
+        instructions = a.instructions;
+        there = there;
+        admitted = a.sequence.each;
+        faultless = a.faultless;
+        bytes = a.bytes;
+        none = subst NoneBehindStop (sym s.2) (none_behind s.0 s.1 s.4);
+        told = h;
+      }
+
+  pub part_of_stopped : (before : List Pickle) (here new : Sight) (rs : List Report)
+      (s : StoppedFrom loading.old_strings (begins loading.memo before) policy limits here new)
+      → AreReports before s.instructions rs → Part before here rs
+  part_of_stopped before here new rs s h = record {
+    instructions = s.instructions;
+    there = before_bytes (spellings (s.instruction ∷ [])) new;
+    admitted = all_front limits s.instructions (s.instruction ∷ []) s.admitted;
+    faultless = s.faultless;
+    bytes = takes_front here new (spellings s.instructions) (spellings (s.instruction ∷ []))
+        (subst (Takes here new) (spellings_parts s.instructions (s.instruction ∷ [])) s.bytes);
+    none = none_at s.instructions s.goes_on;
+    told = h;
+  }
+
+  module _ (tolls : Tolls) (excess : Excess) (at : ℕ) (n : Metering) where
+    abbrev Over : List Report → Metering → Type 0
+    Over = IsOver loading.memo tolls excess at n
+
+    -- what is refused later wasn't told
+    not_told : (before : List Pickle) (is : List Instruction) (here new : Sight) (place : ℕ)
+        (reason : Reason) (pair : Option Asked)
+        (why : Why loading.old_strings (begins loading.memo before) policy limits is here new place
+        reason pair) (earlier rs : List Report) (m : Metering)
+        → AreReports before (is ++ refused_instruction why) rs → Over (earlier ++ rs) m
+        → at < length (bytes_of_all before) + length (spellings is) → AreReports before is rs
+    not_told before is here new place reason pair (reading f) earlier rs m h o below =
+        subst (λ l. AreReports before l rs) (append-nil is) h
+    not_told before is here new place reason pair (judging f) earlier rs m h o below =
+        absurd (omega (
+          arith,
+          refused_place loading.memo tolls excess at n loading.old_strings
+              (begins loading.memo before) (length (bytes_of_all before)) is f.instruction earlier
+              rs m h o,
+          below,
+        ))
+    not_told before is here new place reason pair (growing f) earlier rs m h o below =
+        absurd (omega (
+          arith,
+          refused_place loading.memo tolls excess at n loading.old_strings
+              (begins loading.memo before) (length (bytes_of_all before)) is f.instruction earlier
+              rs m h o,
+          below,
+        ))
+
+    pub part_of_refused : (before : List Pickle) (here new : Sight) (place : ℕ) (reason : Reason)
+        (pair : Option Asked)
+        (r : RefusedFrom (length (bytes_of_all before)) loading.old_strings
+        (begins loading.memo before) policy limits here new place reason pair)
+        (earlier rs : List Report) (m : Metering)
+        → AreReports before (r.instructions ++ refused_instruction r.why) rs
+        → Over (earlier ++ rs) m → at < place → Part before here rs
+    part_of_refused before here new place reason pair r earlier rs m h o below = record {
+      instructions = r.instructions;
+      there = r.here;
+      admitted = r.admitted;
+      faultless = r.faultless;
+      bytes = r.bytes;
+      none = none_at r.instructions r.goes_on;
+      told = not_told before r.instructions r.here new place reason pair r.why earlier rs m h o
+          (subst (λ k. at < k) r.place below);
+    }
+
+    -- ---- the pickle that is too much
+
+    over_ready : (rs : List Report) (m : Metering) → (ready loading.memo m).bill.ended ≡ false
+        → Over rs m → Over rs (ready loading.memo m)
+    over_ready [] m e o = o
+    over_ready (r ∷ []) m e o =
+        (o.0, λ ne. (made_ready tolls loading r m e ∙ (o.1 ne).0, (o.1 ne).1))
+    over_ready (r ∷ s ∷ rs) m e o = (o.0, made_ready tolls loading r m e ∙ o.1, o.2, o.3)
+
+    abbrev pub IsIn : Sight → List Pickle → Type 0
+    IsIn here before = (n.pickle ≡ length before)
+        × ExceedsIn loading policy limits tolls here before at excess
+
+    pub over_in : excess ≢ OutOfMemory → (before : List Pickle) (here : Sight) (rs : List Report)
+        (m : Metering) → Part before here rs → IsReady tolls loading before m → Fits tolls m
+        → Over rs m → IsIn here before
+    over_in ne before here rs m p r w o =
+        let k = over_along loading.memo tolls excess at n loading.old_strings
+        (begins loading.memo before) (length (bytes_of_all before)) ne [] p.instructions rs
+        (ready loading.memo m) p.told (all_good limits p.instructions p.admitted) p.none r.going
+        (fits_ready tolls loading.memo m.bill.ended m w) (over_ready rs m r.going o) in (
+          k.pickle ∙ r.pickle,
+          record {
+            instructions = k.front;
+            last = k.last;
+            goes_on = k.goes_on;
+            admitted = subst (All (IsAllowedBy (payload_limit limits))) k.parts p.admitted;
+            faultless = subst (IsFaultless loading.old_strings (begins loading.memo before) policy
+                limits) k.parts p.faultless;
+            there = p.there;
+            bytes = subst (λ is. Takes here p.there (spellings is)) k.parts p.bytes;
+            place = k.place;
+            earlier = k.earlier;
+            so_far = ap (λ x. and_then x (all_billed k.front)) r.bill ∙ k.so_far;
+            within = k.within;
+            bill = n.bill;
+            adds = k.adds;
+            exceeds = k.exceeds;
+            runs = runs_above excess tolls n.bill loading.old_strings
+                (begins loading.memo before) (k.front ++ k.last ∷ [])
+                (bill_bounds_runs loading.old_strings (begins loading.memo before)
+                (k.front ++ k.last ∷ []) n.bill (billed_with k.front k.last
+                (bill_before (begins loading.memo before)) (ready loading.memo m).bill k.earlier
+                n.bill r.bill k.so_far k.adds)) k.exceeds;
+          },
+        )

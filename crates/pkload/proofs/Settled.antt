@@ -1,0 +1,151 @@
+-- What the audience that keeps the bill says where a check ends.
+use Rattle.std.proofs.Common.{◌≡◌, ◌<◌, false, List, [], None, Some, Result, Ok, Err}
+use Rattle.std.proofs.Common.{IfOk, sym, ap, subst}
+use Rattle.std.specs.Prelude.{◌≢◌, IfErr, MatchResult, option_map}
+use Rattle.pkops.specs.Limits.{Bounds}
+use Rattle.pkread.specs.Rows.{Sight}
+use Rattle.pkcheck.specs.Import.{asked_shown}
+use Rattle.pkcheck.specs.Knowledge.{Policy}
+use Rattle.pkcheck.specs.Reports.{Report}
+use Rattle.pkcheck.specs.RowRuns.{sequences_of}
+use Rattle.pkcheck.specs.ThreeEnds.{AcceptedAndTold, RefusedAndTold, StopsTold}
+use Rattle.pkcheck.specs.declared.check_loop.Extent.{Extent}
+use Rattle.pkcheck.specs.declared.check_loop.Extent.TheVariants.{OnePickle, ToTheEnd}
+use Rattle.pkcheck.specs.declared.check_loop.RefusedPickle.{RefusedPickle}
+use Rattle.pkcheck.specs.declared.loading.Loading.{Loading}
+use Rattle.pkcheck.specs.declared.row_of_pickles.YesAll.{YesAll}
+use Rattle.pkload.proofs.Ends.{accepted_over, refused_over, stopped_over}
+use Rattle.pkload.proofs.Loading.{at_first, begins_ready, begins_within, last_is, pickle_within}
+use Rattle.pkload.proofs.Loading.{rows_within}
+use Rattle.pkload.specs.Costly.{CostsTooMuch}
+use Rattle.pkload.specs.Loading.{AcceptedWithBill, AcceptedWithin, IsRefused, IsRightLoading}
+use Rattle.pkload.specs.Loading.{bill_of}
+use Rattle.pkload.specs.Private.Meter.{AllFit, IsOver, Meter, Meters, StopsFor}
+use Rattle.pkload.specs.Private.Settled.{IsBilledAs, IsCostlyBy}
+use Rattle.pkload.specs.Private.Told.{all_metered}
+use Rattle.pkload.specs.declared.checking.Costly.{Costly}
+use Rattle.pkload.specs.declared.checking.YesWithBill.{YesWithBill}
+use Rattle.pkload.specs.declared.tolls.Excess.{Excess}
+use Rattle.pkload.specs.declared.tolls.Excess.TheVariants.{OutOfMemory}
+use Rattle.pkload.specs.declared.tolls.Tolls.{Tolls}
+
+module _ (loading : Loading) (policy : Policy) (limits : Bounds) (tolls : Tolls) (old new : Sight)
+    (x : Meter) (memo_is : x.memo ≡ loading.memo) (tolls_are : x.tolls ≡ tolls)
+    (begun : x.metering ≡ at_first) (none : x.excess ≡ None) where
+  -- the limit that was exceeded is exceeded by what was told from the start
+  over_first : (y : Meter) (rs : List Report) (e : Excess) → Meters x y rs → y.excess ≡ Some e
+      → IsOver loading.memo tolls e y.at y.metering rs at_first
+  over_first y rs e told k =
+      subst (λ memo. IsOver memo tolls e y.at y.metering rs at_first) memo_is
+      (subst (λ t. IsOver x.memo t e y.at y.metering rs at_first) tolls_are
+      (subst (IsOver x.memo x.tolls e y.at y.metering rs) begun (told.over e none k)))
+
+  is_metered : (y : Meter) (rs : List Report) → Meters x y rs → y.excess ≡ None
+      → all_metered loading.memo rs at_first ≡ Ok y.metering
+  is_metered y rs told e = subst (λ k. all_metered k rs at_first ≡ Ok y.metering) memo_is
+      (subst (λ m. all_metered x.memo rs m ≡ Ok y.metering) begun (told.is e))
+
+  all_fit : (y : Meter) (rs : List Report) → Meters x y rs → y.excess ≡ None
+      → AllFit loading.memo tolls rs at_first
+  all_fit y rs told e = subst (λ k. AllFit k tolls rs at_first) memo_is
+      (subst (λ t. AllFit x.memo t rs at_first) tolls_are
+      (subst (AllFit x.memo x.tolls rs) begun (told.fits e)))
+
+  with_last : (y : Meter) (extent : Extent) (accepted : YesAll) (billed : YesWithBill)
+      → IsBilledAs y (Ok accepted) (Ok billed)
+      → (right : AcceptedWithin loading policy limits tolls old new extent accepted)
+      → bill_of loading policy limits tolls old new extent accepted right ≡ Some y.metering.bill
+      → AcceptedWithBill loading policy limits tolls old new extent billed
+  with_last y extent accepted billed same right last =
+      subst (λ a. (r : AcceptedWithin loading policy limits tolls old new extent a)
+      → bill_of loading policy limits tolls old new extent a r ≡ Some y.metering.bill
+      → AcceptedWithBill loading policy limits tolls old new extent billed) same.0
+      (λ r e. record {
+        right = r;
+        bill = y.metering.bill;
+        last = e;
+        tally = same.1;
+        memory = same.2;
+      }) right last
+
+  -- the limit that is named is exceeded, unless the bill couldn't be kept
+  abbrev pub IsRightCostly : Extent → Costly → Type 0
+  IsRightCostly extent costly = costly.excess ≢ OutOfMemory
+      → CostsTooMuch loading policy limits tolls old extent costly.pickle costly.at costly.excess
+
+  abbrev IsToldTo : Extent → List Report → Result YesAll RefusedPickle → Type 0
+  IsToldTo extent rs answer = MatchResult answer
+      (λ yes. AcceptedAndTold false loading policy limits old new extent yes.taken yes.pickles
+      yes.imports rs)
+      (λ refused. RefusedAndTold false loading policy limits old new extent refused.pickle
+      refused.no.at refused.no.reason (option_map asked_shown refused.no.pair) refused.imports rs)
+
+  right_loading : (y : Meter) (rs : List Report) (extent : Extent)
+      (answer : Result YesAll RefusedPickle) (billed : Result YesWithBill RefusedPickle)
+      → Meters x y rs → IsToldTo extent rs answer → IsBilledAs y answer billed
+      → IfOk billed (λ _. y.excess ≡ None)
+      → IsRightLoading loading policy limits tolls old new extent billed
+  right_loading y rs ToTheEnd (Ok accepted) (Ok billed) told h same e =
+      let row = rows_within tolls loading policy limits h.0.row [] old new rs at_first y.metering
+      h.0.each h.1 (begins_ready tolls loading) (begins_within tolls loading)
+      (is_metered y rs told e) (all_fit y rs told e) in
+      with_last y ToTheEnd accepted billed same (h.0, row.0)
+      (last_is tolls loading h.0.row [] y.metering
+      (λ none. h.0.is_row.some (ap sequences_of none)) row)
+  right_loading y rs OnePickle (Ok accepted) (Ok billed) told h same e =
+      let one = pickle_within tolls loading limits 0 [] h.0.instructions rs at_first y.metering
+      h.0.sequence h.1 (begins_ready tolls loading) (begins_within tolls loading)
+      (is_metered y rs told e) (all_fit y rs told e) in
+      with_last y OnePickle accepted billed same (h.0, one.costs) (ap Some one.same)
+  right_loading y rs ToTheEnd (Err refused) (Err refusal) told h same e =
+      subst (λ r. IsRefused loading policy limits tolls old new ToTheEnd r) (sym same) h.right
+  right_loading y rs OnePickle (Err refused) (Err refusal) told h same e =
+      subst (λ r. IsRefused loading policy limits tolls old new OnePickle r) (sym same) h.0
+  right_loading y rs extent (Ok accepted) (Err refusal) told h same e = absurd same
+  right_loading y rs extent (Err refused) (Ok billed) told h same e = absurd same
+
+  pub settled_loading : {E : Type 0} (y : Meter) (rs : List Report) (extent : Extent)
+      (settled : Result (Result YesWithBill RefusedPickle) E)
+      (answer : Result YesAll RefusedPickle) → Meters x y rs → IsToldTo extent rs answer
+      → IfOk settled (IsBilledAs y answer)
+      → IfOk settled (λ billed. IfOk billed (λ _. y.excess ≡ None))
+      → IfOk settled (IsRightLoading loading policy limits tolls old new extent)
+  settled_loading y rs extent (Ok billed) answer told h same e =
+      right_loading y rs extent answer billed told h same e
+  settled_loading y rs extent (Err costly) answer told h same e = tt
+
+  by_answer : (y : Meter) (rs : List Report) (extent : Extent)
+      (answer : Result YesAll RefusedPickle) (costly : Costly) → Meters x y rs
+      → IsToldTo extent rs answer → IsCostlyBy y answer costly → costly.excess ≢ OutOfMemory
+      → CostsTooMuch loading policy limits tolls old extent y.metering.pickle y.at costly.excess
+  by_answer y rs extent (Ok accepted) costly told h k ne =
+      accepted_over loading policy limits tolls costly.excess y.at y.metering ne old new extent
+      accepted.taken accepted.pickles accepted.imports rs h
+      (over_first y rs costly.excess told k.excess)
+  by_answer y rs extent (Err refused) costly told h k ne =
+      refused_over loading policy limits tolls costly.excess y.at y.metering ne old new extent
+      refused.pickle refused.no.at refused.no.reason (option_map asked_shown refused.no.pair)
+      refused.imports rs h (subst (λ at. at < refused.no.at) k.at k.later)
+      (over_first y rs costly.excess told k.excess)
+
+  pub settled_over : {A : Type 0} (y : Meter) (rs : List Report) (extent : Extent)
+      (settled : Result A Costly) (answer : Result YesAll RefusedPickle) → Meters x y rs
+      → IsToldTo extent rs answer → IfErr settled (IsCostlyBy y answer)
+      → IfErr settled (IsRightCostly extent)
+  settled_over y rs extent (Ok a) answer told h k = tt
+  settled_over y rs extent (Err costly) answer told h k = λ ne.
+      subst (λ at. CostsTooMuch loading policy limits tolls old extent costly.pickle at
+      costly.excess) (sym k.at)
+      (subst (λ pickle. CostsTooMuch loading policy limits tolls old extent pickle y.at
+      costly.excess) (sym k.pickle) (by_answer y rs extent answer costly told h k ne))
+
+  pub stopped_right : (z : Meter) (extent : Extent) (excess : Excess) (costly : Costly)
+      → StopsTold false loading policy limits old new Meters
+      (λ before after told error. StopsFor before after error) x z extent excess
+      → costly ≡ record { pickle = z.metering.pickle; at = z.at; excess = excess }
+      → IsRightCostly extent costly
+  stopped_right z extent excess costly h same = subst (IsRightCostly extent) (sym same) (λ ne.
+      subst (λ m. CostsTooMuch loading policy limits tolls old extent m.metering.pickle m.at
+      excess) (sym h.5.same)
+      (stopped_over loading policy limits tolls excess h.2.at h.2.metering ne old new extent h.0
+      h.1 h.3 (over_first h.2 h.0 excess h.4 h.5.named)))

@@ -1,0 +1,11 @@
+use Rattle.std.proofs.Common.{Ok, ap}
+use Rattle.pkcheck.proofs.StepParts.Errs.{ok_on}
+use Rattle.pkcheck.specs.Shape.{and_then}
+use Rattle.pkload.proofs.moves.pop_mark.Goals as goal
+
+pub returns : goal.returns
+returns c = ok_on _ _ c.take_slice.result
+    (λ found.
+    let h = found _ _ c.none-above.ensures.of c.none-above.ensures.tally in
+    ap (λ x. and_then x (λ taken. Ok (record { entries = taken.below; memo = c.args.memo.now })))
+    h.is) c.take_slice.ensures.of

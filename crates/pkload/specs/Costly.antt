@@ -1,0 +1,75 @@
+-- What it means that a pickle exceeds a limit on what loading costs.
+use Rattle.std.specs.Prelude.{◌≡◌, ◌+◌, ◌++◌, ◌∷◌, [], ⊤, ℕ, All, List, Ok, length}
+use Rattle.pkops.specs.Limits.{Bounds}
+use Rattle.pkops.specs.Payloads.{payload_limit}
+use Rattle.pkops.specs.Spelling.{Instruction}
+use Rattle.pkread.specs.Admission.{IsAllowedBy}
+use Rattle.pkread.specs.Rows.{Sight, Takes}
+use Rattle.pkread.specs.Sequence.{NoStop, spellings}
+use Rattle.pkcheck.specs.Knowledge.{Policy}
+use Rattle.pkcheck.specs.RowOfPickles.{AreAccepted, begins, bytes_of_all}
+use Rattle.pkcheck.specs.RowRuns.{Pickle}
+use Rattle.pkcheck.specs.RunFaults.{IsFaultless}
+use Rattle.pkcheck.specs.Runs.{Raised, Stopped, Stuck, WentOn}
+use Rattle.pkcheck.specs.Shape.{and_then}
+use Rattle.pkcheck.specs.WholeRuns.{Ended, EndedBy, Reached}
+use Rattle.pkcheck.specs.declared.check_loop.Extent.{Extent}
+use Rattle.pkcheck.specs.declared.check_loop.Extent.TheVariants.{OnePickle}
+use Rattle.pkcheck.specs.declared.loading.Loading.{Loading}
+use Rattle.pkload.specs.Bill.{Bill, all_billed, bill_before, billed}
+use Rattle.pkload.specs.Loading.{KeepWithin}
+use Rattle.pkload.specs.Tolls.{Exceeds, KeepsWithin}
+use Rattle.pkload.specs.Weighed.{InEachNewRun, tally_since}
+use Rattle.pkload.specs.declared.tolls.Excess.{Excess}
+use Rattle.pkload.specs.declared.tolls.Tolls.{Tolls}
+
+-- a run that gets past the instruction counts what the reason says, behind earlier pickles
+abbrev pub EndsAbove : Excess → Tolls → (memory earlier : ℕ) → Ended → Type 0
+EndsAbove excess tolls memory earlier (Reached state) =
+    Exceeds excess tolls (tally_since earlier state.events) memory
+EndsAbove excess tolls memory earlier (EndedBy (Stopped result state)) =
+    Exceeds excess tolls (tally_since earlier state.events) memory
+EndsAbove excess tolls memory earlier (EndedBy (Raised state)) = ⊤
+EndsAbove excess tolls memory earlier (EndedBy (WentOn state)) = ⊥
+EndsAbove excess tolls memory earlier (EndedBy (Stuck breach)) = ⊥
+
+-- an instruction at this offset, of the pickle that follows these, exceeds a limit
+pub record ExceedsIn (loading : Loading) (policy : Policy) (limits : Bounds) (tolls : Tolls)
+    (here : Sight) (before : List Pickle) (at : ℕ) (excess : Excess) : Type 0 where
+  -- the instructions of the pickle before this one, and this one, of which only it may be STOP
+  pub instructions : List Instruction
+  pub last : Instruction
+  pub goes_on : NoStop instructions
+  -- the check accepts them: each is good, admitted and within the limit of its opcode, and none has
+  -- a fault
+  pub admitted : All (IsAllowedBy (payload_limit limits)) (instructions ++ last ∷ [])
+  pub faultless : IsFaultless loading.old_strings (begins loading.memo before) policy limits
+      (instructions ++ last ∷ [])
+  -- the bytes begin with what spells them
+  pub there : Sight
+  pub bytes : Takes here there (spellings (instructions ++ last ∷ []))
+  pub place : at ≡ length (bytes_of_all before) + length (spellings instructions)
+  -- the bill of those before it keeps within the limits
+  pub earlier : Bill
+  pub so_far : and_then (bill_before (begins loading.memo before)) (all_billed instructions)
+      ≡ Ok earlier
+  pub within : KeepsWithin tolls earlier.tally earlier.memory
+  -- with it the bill exceeds the limit that is named, and none that is tried earlier
+  pub bill : Bill
+  pub adds : billed last earlier ≡ Ok bill
+  pub exceeds : Exceeds excess tolls bill.tally bill.memory
+  -- and so do the events of each run that gets past it and whose answers are new objects
+  pub runs : InEachNewRun loading.old_strings (begins loading.memo before)
+      (instructions ++ last ∷ []) (EndsAbove excess tolls bill.memory)
+
+-- the pickle with this index, counted from 0, exceeds a limit at this offset
+pub record CostsTooMuch (loading : Loading) (policy : Policy) (limits : Bounds) (tolls : Tolls)
+    (old : Sight) (extent : Extent) (pickle at : ℕ) (excess : Excess) : Type 0 where
+  -- those before it were accepted, and each keeps within the limits
+  pub before : List Pickle
+  pub here : Sight
+  pub each : AreAccepted loading policy limits old here [] before
+  pub kept : KeepWithin loading tolls [] before
+  pub number : pickle ≡ length before
+  pub alone : extent ≡ OnePickle → before ≡ []
+  pub over : ExceedsIn loading policy limits tolls here before at excess

@@ -1,0 +1,121 @@
+//! The bill of one pickle of a row after the other.
+
+ghost use Rattle.std.specs.Prelude.{◌≡◌, IfOk, OnOk, Ok, false, true};
+ghost use Rattle.pkops.specs.Inst.{instruction_of};
+ghost use Rattle.pkcheck.specs.Reports.{Skipped, Whole};
+ghost use Rattle.pkload.specs.Bill.{no_bill};
+ghost use Rattle.pkload.specs.Private.Told.{metered_told, next_if, ready};
+
+use crate::halt::Halt;
+use crate::machine::Machine;
+use crate::tally::Tally;
+use pkcheck::Memo;
+use pkops::{Inst, Op};
+use std::alloc::Global;
+use std::marker::Model;
+
+/// The bill of a pickle, and the number of the pickle.
+pub struct Metering {
+    machine: Machine,
+    pickle: u64,
+}
+
+impl Drop for Metering {
+    fn drop(self) {
+        let Metering {
+            machine: _machine,
+            pickle: _pickle,
+        } = self;
+    }
+}
+
+impl Model for Metering {
+    ghost use Rattle.pkload.specs.Private.Told.{Metering as View};
+
+    ghost Value = { View };
+
+    ghost view = { λ m. record { pickle = m.pickle; bill = m.machine } };
+}
+
+impl Metering {
+    /// The bill of the first pickle at its first instruction. Allocates nothing.
+    pub fn new(alloc: Global) -> Metering
+        ensures { result ≡ record { pickle = 0; bill = no_bill } }
+    {
+        Metering {
+            machine: Machine::new(alloc),
+            pickle: 0,
+        }
+    }
+
+    /// The number of the pickle.
+    pub fn pickle(&self) -> u64
+        ensures { result ≡ self.now.pickle }
+    {
+        self.pickle
+    }
+
+    /// What was counted.
+    #[inline]
+    pub fn tally(&self) -> Tally
+        ensures { result ≡ self.now.bill.tally }
+    {
+        self.machine.tally()
+    }
+
+    /// The memory that loading takes.
+    #[inline]
+    pub fn memory(&self) -> u64
+        ensures { result ≡ self.now.bill.memory }
+    {
+        self.machine.memory()
+    }
+
+    /// Begins the next pickle, if one has ended.
+    #[inline(always)]
+    fn begin(&mut self, memo: Memo) -> Result<(), Halt>
+        ensures { OnOk result (self.new ≡ ready memo self.old) }
+    {
+        if self.machine.ended() {
+            return self.begin_next(memo);
+        }
+        Ok(())
+    }
+
+    /// Begins the next pickle.
+    #[inline(never)]
+    fn begin_next(&mut self, memo: Memo) -> Result<(), Halt>
+        ensures { OnOk result (self.new ≡ next_if true memo self.old) }
+    {
+        if self.pickle == u64::MAX {
+            return Err(Halt::Lost);
+        }
+        self.pickle += 1;
+        self.machine.begin_next(memo);
+        Ok(())
+    }
+
+    /// Bills an instruction that is told whole. Returns whether it may have counted keys.
+    #[inline(always)]
+    pub fn bill(&mut self, memo: Memo, inst: &Inst<'_>) -> Result<bool, Halt>
+        ensures billed { OnOk result (metered_told memo (Whole (instruction_of inst.now)) self.old
+            ≡ Ok self.new) }
+        ensures counted { IfOk result (λ counted. counted ≡ false
+            → self.new.bill.tally ≡ (ready memo self.old).bill.tally) }
+    {
+        self.begin(memo)?;
+        self.machine.step(inst)
+    }
+
+    /// Bills an instruction whose payload is skipped. Returns false, since it counts no key.
+    pub fn bill_skipped(&mut self, memo: Memo, op: Op, count: u64) -> Result<bool, Halt>
+        ensures billed { OnOk result (metered_told memo (Skipped op count) self.old
+            ≡ Ok self.new) }
+        ensures counted { IfOk result (λ counted. counted ≡ false
+            → self.new.bill.tally ≡ (ready memo self.old).bill.tally) }
+    {
+        self.begin(memo)?;
+        self.machine.step_skipped(op, count)?;
+        Ok(false)
+    }
+}

@@ -1,0 +1,46 @@
+"""A guarded load in one call."""
+
+from ._guard import Guard
+from ._lists import AllowList
+
+TYPE_CHECKING = False
+if TYPE_CHECKING:
+    from typing import Any, Iterable, Optional
+
+    from ._limits import Limits
+
+
+def loads(
+    data: "Any",
+    allow: AllowList,
+    *,
+    limits: "Optional[Limits]" = None,
+    old_strings: str = "unknown",
+    fix_imports: bool = False,
+    encoding: "Optional[str]" = None,
+    errors: "Optional[str]" = None,
+    buffers: "Optional[Iterable[Any]]" = None,
+) -> "Any":
+    """`pickle.loads` for untrusted input: short for `Guard(allow, ..).loads(data, ..)`.
+
+    Raises Refused if the pickle is refused, MoreBytes if more bytes follow it, and otherwise what
+    `pickle.loads` raises. A buffer other than `bytes` is copied first, so that exactly the checked
+    bytes are loaded.
+    """
+    if limits is None and old_strings == "unknown" and fix_imports is False:
+        guard = _plain_guard(allow)
+    else:
+        guard = Guard(allow, limits=limits, old_strings=old_strings, fix_imports=fix_imports)
+    if encoding is None and errors is None and buffers is None:
+        return guard.loads(data)
+    return guard.loads(data, encoding=encoding, errors=errors, buffers=buffers)
+
+
+def _plain_guard(allow: AllowList) -> "Guard":
+    """The guard of a list without other settings, which the list caches."""
+    if isinstance(allow, AllowList) and allow._guard is not None:
+        held: Guard = allow._guard
+        return held
+    guard = Guard(allow)
+    allow._guard = guard
+    return guard

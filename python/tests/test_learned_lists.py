@@ -1,0 +1,165 @@
+"""A list is made from a log of what pickles asked for, or from trusted pickles."""
+
+import contextlib
+import pickle
+import unittest
+
+import storklocker
+from storklocker import AllowList, Guard, _learning
+from test_learning import EARLY, NOTHING, UNLISTED, Learning, named
+
+
+class Lists(Learning):
+    def test_a_list_from_a_log(self):
+        guard = NOTHING.learning(self.log, enforce=True)
+        for data in (UNLISTED, UNLISTED, named("builtins", "eval"), named("shop.models", "Order")):
+            with contextlib.suppress(storklocker.Refused), guard.context("key\x1b[2J"):
+                guard.loads(data)
+        _learning._write_all()
+        status, out, _ = self.run_command("learn", "--from-log", self.log)
+        self.assertEqual(status, 0)
+        allow = AllowList.from_text(out)
+        self.assertEqual([*allow], [("collections", "Counter"), ("shop.models", "Order")])
+        Guard(allow)
+        self.assertRegex(out, r'"Counter",  # asked 2 times, \d{4}-\d\d-\d\d for key\\x1b\[2J to')
+        self.assertRegex(out, r'# "eval",  # asked once, .* Dangerous: ')
+        status, out, _ = self.run_command("learn", "--from-log", self.log, "--from-log", self.log)
+        self.assertIn("asked 4 times", out)
+        self.assertEqual(self.run_command("learn")[0], 2)
+        self.assertEqual(self.run_command("learn", "--from-log", self.folder / "none")[0], 2)
+
+    def test_no_list_permits_everything_by_learning(self):
+        from storklocker._meant import EVERYTHING
+        from storklocker.scanning.dangers import known
+
+        names = {*EVERYTHING, ("os", "path.os.system"), ("m", "f.__globals__")}
+        names |= {tuple(row.rpartition(".")[::2]) for row, it in known().rows.items()
+                  if it.severity == "danger" and "*" not in row and "." in row}
+        trusted = self.folder / "trusted.pickle"
+        trusted.write_bytes(b"\x80\x04" + b"".join(named(*pair)[2:-2] for pair in sorted(names))
+                            + named("shop", "Order")[2:])
+        status, out, _ = self.run_command("learn", trusted)
+        self.assertEqual((status, [*AllowList.from_text(out)]), (0, [("shop", "Order")]))
+        self.assertGreater(len(names), 150)
+        for module, name in names:
+            self.assertIn(f'  # "{name}",  # ', out)
+        self.assertIn("storklocker.classes.ByValue", out)
+
+    def test_gadgets_under_the_lists_of_plausible_users(self):
+        """Each needs a name that permits everything. A list that was learned lacks it; a guard
+        refuses the list that has it without a word; and a substitute refuses the call.
+        """
+        import operator
+
+        import test_substitutes as its
+        from storklocker._meant import EVERYTHING
+
+        job = its.name(its.HERE, "Job")
+        inner = its.call(its.attribute(its.attribute(its.attribute(job, "run"), "__globals__"),
+                                       "get"), its.text("os"))
+        module = its.call(its.getter("run.__globals__.get", job), its.text("os"))
+        called = its.call(
+            its.name("operator", "methodcaller"), its.text("system"), its.text("true")
+        )
+        bound = its.name("functools", "partial") + its.name(its.HERE, "runs") + b"\x85R"
+        state = b"(" + its.name(its.HERE, "runs") + b")}" + its.text("command") + its.text("true")
+        for trusted, gadget in (
+            ([its.Job().run, its.Color.RED], its.attribute(inner, "system")),
+            ([operator.attrgetter("name"), its.Job()], its.getter("system", module)),
+            ([operator.methodcaller("run"), operator.attrgetter("name"), its.Job()],
+             its.call(called, module)),
+            ([its.functools.partial(its.runs), its.runs], bound + state + b"sNtb)R"),
+        ):
+            files = []
+            for number, value in enumerate(trusted):
+                files.append(self.folder / str(number))
+                files[-1].write_bytes(pickle.dumps(value, 4))
+            data = its.whole(gadget)
+            learned = AllowList.from_text(self.run_command("learn", *files)[1])
+            with self.assertRaises(storklocker.Refused):
+                Guard(learned).loads(data)
+            every = its.learned(*trusted)
+            self.assertTrue(storklocker.check(data, every))
+            with self.assertRaisesRegex(ValueError, "permits everything"):
+                Guard(every)
+            said = {pair: its.SAID[pair] for pair in every if pair in EVERYTHING}
+            said = {**said, **({("functools", "partial"): its.substitutes.partial({its.runs: []})}
+                               if ("functools", "partial") in every else {})}
+            allow = AllowList(every, substitutes=said)
+            with self.assertRaises(storklocker.Misused):
+                Guard(AllowList.from_text(allow.to_text())).loads(data)
+            with storklocker.installed(Guard(allow)), self.assertRaises(storklocker.Unlisted):
+                EARLY(data)
+
+    def test_lint_names_the_base_class(self):
+        path = self.folder / "list.toml"
+        path.write_text('version = 1\n[imports]\nbuiltins = ["getattr"]\n')
+        status, out, _ = self.run_command("lint", path)
+        self.assertEqual((status, "storklocker.classes.ByValue" in out), (1, True))
+        path.write_text(path.read_text() + '[substitutes]\n"builtins.getattr" = "a of b.C"\n')
+        self.assertNotIn("ByValue", self.run_command("lint", path)[1])
+
+    def test_diff(self):
+        old, new = self.folder / "old.toml", self.folder / "new.toml"
+        old.write_text('version = 2\n[imports]\na = ["b", "c"]\n[limits]\nstack = 5\n')
+        new.write_text(
+            'version = 2\n[imports]\na = ["c"]\nbuiltins = ["getattr", "eval"]\n"x.y" = ["C.d"]\n'
+            '[substitutes]\n"builtins.getattr" = "members of x.y.C"\n'
+            '"builtins.eval" = "dangerous"\n'
+        )
+        self.assertEqual(self.run_command("list", "diff", old, old), (0, "", ""))
+        status, out, _ = self.run_command("list", "diff", old, new)
+        self.assertEqual(status, 1)
+        lines = out.splitlines()
+        self.assertEqual(lines[0], "- a.b")
+        self.assertTrue(lines[1].startswith("+ builtins.eval  Dangerous: "), lines)
+        self.assertEqual(lines[3], "+ x.y:C.d")
+        self.assertIn("- limit stack = 5", lines)
+        self.assertIn("+ substitute builtins.eval = dangerous", lines)
+        self.assertIn("+ substitute builtins.getattr = members of x.y.C", lines)
+        self.assertEqual(self.run_command("list", "diff", old, self.folder / "none")[0], 2)
+
+    def test_add_keeps_all_else(self):
+        path = self.folder / "list.toml"
+        words = "collections.deque", "a.b:C.d"
+        self.assertEqual(self.run_command("list", "add", path, *words)[0], 0)
+        text = 'version = 1  # of ours\n\n[imports]\n# why\n'
+        text += 'collections = [\n    "deque",  # jobs\n]\n'
+        path.write_text(text + "datetime = ['date']\n[limits]\n".replace("[limits]\n", ""))
+        path.chmod(0o640)
+        words = ("list", "add", path, "collections.OrderedDict", "datetime.datetime", "x.Y", "x.Y")
+        self.assertEqual(self.run_command(*words), (0, "", ""))
+        made = path.read_text()
+        for line in text.splitlines():
+            self.assertIn(line, made)
+        wanted = [("collections", "OrderedDict"), ("collections", "deque"), ("datetime", "date"),
+                  ("datetime", "datetime"), ("x", "Y")]
+        self.assertEqual([*AllowList.from_file(path)], wanted)
+        self.assertEqual(path.stat().st_mode & 0o777, 0o640)
+        self.run_command(*words)
+        self.assertEqual(path.read_text(), made)
+
+    def test_add_wants_a_word_for_danger(self):
+        path = self.folder / "list.toml"
+        status, _, errors = self.run_command("list", "add", path, "builtins.eval", "a.b")
+        self.assertEqual((status, [*AllowList.from_file(path)]), (1, [("a", "b")]))
+        self.assertIn("builtins.eval isn't added. Dangerous: ", errors)
+        words = ("list", "add", "--dangerous", path, "builtins.eval", "os.remove")
+        self.assertEqual(self.run_command(*words)[0], 0)
+        self.assertEqual(len(Guard(AllowList.from_file(path)).allow), 3)
+        self.run_command("list", "add", "--dangerous", path, "builtins.exec")
+        self.assertEqual(len(Guard(AllowList.from_file(path)).allow), 4)
+
+    def test_add_gives_up_on_an_odd_layout(self):
+        path = self.folder / "list.toml"
+        for text in ("version = 1\nimports = {a = ['b']}\n", "version = 1\nimports.a = ['b']\n",
+                     'version = 1\n[imports]\n"\\u0061" = ["b"]\n'):
+            path.write_text(text)
+            status, _, errors = self.run_command("list", "add", path, "a.c")
+            self.assertEqual((status, path.read_text()), (2, text), errors)
+            self.assertIn("by hand", errors)
+        self.assertEqual(self.run_command("list", "add", path, "nothing")[0], 2)
+
+
+if __name__ == "__main__":
+    unittest.main()
