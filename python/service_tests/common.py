@@ -18,6 +18,8 @@ from storklocker.metrics import CountingGuard
 
 HERE = Path(__file__).resolve().parent
 GOOD, HOSTILE = 1000, 50
+PATIENCE = 120
+"""Seconds that something takes at most on a busy machine; a wait ends when it is there."""
 LISTED = [
     ("datetime", "datetime"),
     ("decimal", "Decimal"),
@@ -103,9 +105,9 @@ class Control:
                 finally:
                     os._exit(0)
             os.waitpid(child, 0)
-        self.assert_all_ran(self.shapes)
+        self.assert_all_ran(self.shapes, 0)
 
-    def assert_all_ran(self, names, seconds=0):
+    def assert_all_ran(self, names, seconds=PATIENCE):
         """Asserts that each of these leaves its mark in time, so that the table is one."""
         for _ in range(10 * seconds + 1):
             left = [name for name in names if not os.path.lexists(self.folder / name)]
@@ -159,11 +161,11 @@ def redis_server(folder):
         yield port
     finally:
         server.terminate()
-        server.wait(10)
+        server.wait(PATIENCE)
 
 
 def _wait_for(port, server):
-    for _ in range(100):
+    for _ in range(20 * PATIENCE):
         if server.poll() is not None:
             raise RuntimeError("redis-server ended")
         with contextlib.suppress(OSError), socket.create_connection(("127.0.0.1", port), 1):

@@ -101,12 +101,12 @@ def control(log):
         for data in table.shapes.values():
             publish(celery_app.app, second_protocol(data))
         with common.process(*WORDS, log=log, C_FORCE_ROOT="1"):
-            table.assert_all_ran(table.shapes, 20)
+            table.assert_all_ran(table.shapes)
     with common.table() as table:
         for data in table.shapes.values():
             publish(celery_app.app, first_protocol(data), protocol=1)
         with common.process(*WORDS, log=log, C_FORCE_ROOT="1"):
-            table.assert_all_ran(table.shapes, 20)
+            table.assert_all_ran(table.shapes)
     with common.table() as table:
         table.runs_all(lambda data: read_result(celery_app.app, data))
     del os.environ["PLAIN"], __import__("sys").modules["celery_app"]
@@ -136,9 +136,9 @@ def try_worker(celery_app, log, refused):
         odd = [publish(app, data) for data in MISSHAPEN][0]
         silent = publish(app, common.hostile(0), ignore_result=True)
         results += [celery_app.finish.delay(common.good(it)) for it in range(half)]
-        values = [result.get(timeout=120) for result in results]
+        values = [result.get(timeout=common.PATIENCE) for result in results]
         tell_everyone(app)
-        assert celery_app.add.delay(2, 3).get(timeout=30) == 5
+        assert celery_app.add.delay(2, 3).get(timeout=common.PATIENCE) == 5
         assert worker.poll() is None, log.read_text()
         for name in [*names, *named, *first]:
             said = raised(app.AsyncResult(name))
@@ -187,7 +187,7 @@ def tell_everyone(app):
 def raised(result):
     """The exception that a client gets for a task, with its class."""
     try:
-        return repr(result.get(timeout=30))
+        return repr(result.get(timeout=common.PATIENCE))
     except Exception as error:
         return f"{type(error).__name__}: {error}"
 
@@ -223,7 +223,7 @@ def try_waiting(celery_app):
         app.backend.client.set(key, data)
         app.backend.client.publish(key, data)
     app.backend.store_result(good.id, "good", "SUCCESS")
-    assert good.get(timeout=20) == "good"
+    assert good.get(timeout=common.PATIENCE) == "good"
     for result in bad[:-1]:
         assert raised(result).split(":")[0] in ("DecodeError", "SecurityError"), raised(result)
     lost = app.AsyncResult(str(uuid.uuid4()))  # told only after the connection was lost
@@ -259,7 +259,7 @@ def try_queues(celery_app):
         send(result, data, **raw)
     meta = {"task_id": good.id, "status": "SUCCESS", "result": 5, "traceback": None, "children": []}
     send(good, meta, serializer="pickle")
-    assert good.get(timeout=20) == 5
+    assert good.get(timeout=common.PATIENCE) == 5
     assert all(raised(result).startswith("DecodeError") for result in bad)
     assert {refusal.context["id"] for refusal in told} == {result.id for result in bad}
     send(early, TABLE["eval"], **raw)
@@ -341,7 +341,7 @@ def try_kombu(port):
             queue.put(common.good(number))
         queue.consumer.on_decode_error = refuse
         for number in range(common.GOOD):
-            message = queue.get(timeout=5)
+            message = queue.get(timeout=common.PATIENCE)
             assert message.payload == common.good(number)
             message.ack()
         queue.close()

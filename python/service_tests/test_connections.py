@@ -85,7 +85,7 @@ def control(log):
         for data in table.shapes.values():
             client = connected(port, lambda place, _, **key: connection.Client(place, **key))
             client.send_bytes(data)
-        table.assert_all_ran(table.shapes, 30)
+        table.assert_all_ran(table.shapes)
 
 
 def try_connection(port):
@@ -205,7 +205,7 @@ def ask(address, serializer, kind):
 
 def connected(port, make=guarded.Client):
     """The client, once the server listens."""
-    for _ in range(200):
+    for _ in range(20 * common.PATIENCE):
         try:
             return make(("127.0.0.1", port), common.guard(), authkey=b"key")
         except ConnectionRefusedError:

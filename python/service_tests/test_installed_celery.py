@@ -46,7 +46,7 @@ def try_worker(celery_app, log, refused):
         test_celery.tell_everyone(app)
         failed = celery_app.fail.delay("why")
         results += [celery_app.finish.delay(common.good(number)) for number in range(100)]
-        values = [result.get(timeout=120) for result in results]
+        values = [result.get(timeout=common.PATIENCE) for result in results]
         assert values == [*range(1, 101), *map(common.good, range(100))]
         assert "KeyError" in test_celery.raised(failed)
         assert worker.poll() is None, log.read_text()

@@ -118,7 +118,7 @@ def control(port, log):
         queue = rq.Queue("plain", connection=connection)
         hostile_jobs(queue, connection, table.shapes, table.folder)
         with common.process("-c", PLAIN, str(port), log=log) as worker:
-            assert worker.wait(240) == 0, log.read_text()
+            assert worker.wait(2 * common.PATIENCE) == 0, log.read_text()
         table.assert_all_ran([*table.shapes, *named(table.folder), *FIELDS[2:]])
 
 
@@ -137,7 +137,7 @@ def work(kind, count, port, log):
     told = log.with_suffix(".told")
     told.touch()
     with common.process("-c", WORKER, str(port), kind, str(told), log=log) as worker:
-        assert worker.wait(240) == 0, log.read_text()
+        assert worker.wait(2 * common.PATIENCE) == 0, log.read_text()
     done = queue.job_class.fetch_many([job.id for job in good], connection)
     half = count // 2
     results = [it.return_value() for it in done]
