@@ -1,0 +1,162 @@
+//! The map, in three parts.
+
+ghost use Rattle.std.specs.BTreeMap.{insert_entry, is_at};
+ghost use Rattle.std.specs.Map.{lookup};
+ghost use Rattle.std.specs.Ordering.{nat_cmp};
+ghost use Rattle.std.specs.Prelude.{◌≡◌, ◌↔◌, [], length, IsTrue, OnErr, OnOk};
+
+use std::alloc::{AllocError, Global};
+use std::collections::BTreeMap;
+use std::marker::Model;
+
+/// Values by number. A contract sees the entries as they stand in a `BTreeMap`, by rising number.
+///
+/// Where each new number is the one behind the last, a value takes no more than its place in a
+/// vector, and storing it or finding it takes a few instructions, whatever the first number is.
+#[derive(Drop)]
+pub struct NumberedMap<V> {
+    /// The entries of numbers below `first`.
+    low: BTreeMap<u32, V>,
+    /// The number that was stored first.
+    first: u32,
+    /// The values of the numbers from `first` on that were stored in order.
+    ordered: Vec<V>,
+    /// The entries of greater numbers.
+    rest: BTreeMap<u32, V>,
+}
+
+impl<V> Model for NumberedMap<V> {
+    ghost use Rattle.std.specs.List.{enumerate_from};
+    ghost use Rattle.std.specs.Prelude.{ℕ, List, ◌++◌};
+    ghost use Rattle.pkbase.specs.Parts.{AreParts};
+
+    ghost Value = { List (ℕ × V) };
+
+    ghost view = { λ m. m.low.entries
+        ++ (enumerate_from m.first m.ordered.items ++ m.rest.entries) };
+
+    ghost invariant = { λ m. AreParts m.low.entries m.first m.ordered.items m.rest.entries };
+}
+
+impl<V: Copy> NumberedMap<V> {
+    /// An empty map. Allocates nothing.
+    pub fn new(alloc: Global) -> NumberedMap<V>
+        ensures { result ≡ [] }
+    {
+        NumberedMap {
+            low: BTreeMap::new(alloc),
+            first: 0,
+            ordered: Vec::new(alloc),
+            rest: BTreeMap::new(alloc),
+        }
+    }
+
+    /// Removes all entries, and keeps the memory of those that were stored in order.
+    pub fn clear(&mut self)
+        ensures { self.new ≡ [] }
+    {
+        self.low.clear();
+        self.ordered.clear();
+        self.rest.clear();
+    }
+
+    /// The number of entries.
+    #[inline]
+    pub fn len(&self) -> u64
+        ensures { result ≡ length self.now }
+    {
+        self.low.len() as u64 + self.rest.len() as u64 + self.ordered.len() as u64
+    }
+
+    /// Whether there is no entry.
+    #[inline]
+    pub fn is_empty(&self) -> bool
+        ensures { IsTrue result ↔ (self.now ≡ []) }
+    {
+        self.len() == 0
+    }
+
+    /// The value of a number.
+    #[inline(always)]
+    pub fn get(&self, number: u32) -> Option<V>
+        ensures { result ≡ lookup (is_at (nat_cmp number)) self.now }
+    {
+        if number < self.first {
+            return found(&self.low, number);
+        }
+        let place = (number - self.first) as usize;
+        if place < self.ordered.len() {
+            return Some(self.ordered[place]);
+        }
+        found(&self.rest, number)
+    }
+
+    /// Stores a value under a number. It replaces the value that was there.
+    #[inline(always)]
+    pub fn store(&mut self, number: u32, value: V) -> Result<(), AllocError>
+        ensures ok { OnOk result (self.new ≡ insert_entry nat_cmp self.old number value) }
+        ensures err { OnErr result (self.new ≡ self.old) }
+    {
+        let next = u64::from(self.first) + self.ordered.len() as u64;
+        if u64::from(number) == next && self.rest.is_empty() {
+            return match self.ordered.push(value) {
+                Ok(()) => Ok(()),
+                Err(_) => Err(AllocError),
+            };
+        }
+        self.store_apart(number, value)
+    }
+
+    /// Stores a value under a number that isn't the next in order.
+    #[inline(never)]
+    fn store_apart(&mut self, number: u32, value: V) -> Result<(), AllocError>
+        ensures ok { OnOk result (self.new ≡ insert_entry nat_cmp self.old number value) }
+        ensures err { OnErr result (self.new ≡ self.old) }
+    {
+        if self.is_empty() {
+            return self.begin(number, value);
+        }
+        if number < self.first {
+            return put(&mut self.low, number, value);
+        }
+        let place = (number - self.first) as usize;
+        if place < self.ordered.len() {
+            self.ordered[place] = value;
+            return Ok(());
+        }
+        put(&mut self.rest, number, value)
+    }
+
+    /// Stores the first entry.
+    fn begin(&mut self, number: u32, value: V) -> Result<(), AllocError>
+        requires { self.old ≡ [] }
+        ensures ok { OnOk result (self.new ≡ insert_entry nat_cmp self.old number value) }
+        ensures err { OnErr result (self.new ≡ self.old) }
+    {
+        self.first = number;
+        match self.ordered.push(value) {
+            Ok(()) => Ok(()),
+            Err(_) => Err(AllocError),
+        }
+    }
+}
+
+/// The value of a number in a tree.
+#[inline(never)]
+fn found<V: Copy>(tree: &BTreeMap<u32, V>, number: u32) -> Option<V>
+    ensures { result ≡ lookup (is_at (nat_cmp number)) tree.now.entries }
+{
+    tree.get(&number).copied()
+}
+
+/// Stores a value under a number in a tree.
+fn put<V: Copy>(tree: &mut BTreeMap<u32, V>, number: u32, value: V) -> Result<(), AllocError>
+    ensures ok { OnOk result (tree.new.entries
+        ≡ insert_entry nat_cmp tree.old.entries number value) }
+    ensures err { OnErr result (tree.new.entries ≡ tree.old.entries) }
+{
+    match tree.insert(number, value) {
+        Ok(_) => Ok(()),
+        Err(_) => Err(AllocError),
+    }
+}

@@ -1,0 +1,64 @@
+//! A map in which each part is in use.
+
+use crate::NumberedMap;
+use std::test::Fail;
+
+/// What is stored, in turn: in order from 5 on, below that, again, far above, and in between.
+const STORED: [(u32, u16); 10] = [
+    (5, 50),
+    (6, 60),
+    (7, 70),
+    (3, 30),
+    (6, 61),
+    (100, 1),
+    (8, 80),
+    (3, 31),
+    (100, 2),
+    (0, 9),
+];
+
+/// What a Python dict holds then.
+const FOUND: [(u32, Option<u16>); 11] = [
+    (0, Some(9)),
+    (1, None),
+    (3, Some(31)),
+    (4, None),
+    (5, Some(50)),
+    (6, Some(61)),
+    (7, Some(70)),
+    (8, Some(80)),
+    (9, None),
+    (100, Some(2)),
+    (u32::MAX, None),
+];
+
+#[test]
+fn numbers_are_stored_in_and_out_of_order(rt: HostRuntime) -> Result<(), Fail> {
+    let mut map = NumberedMap::new(rt.alloc());
+    assert!(rt; map.is_empty());
+    for (number, value) in STORED {
+        map.store(number, value)?;
+    }
+    for (number, value) in FOUND {
+        assert_eq!(rt; map.get(number), value);
+    }
+    assert_eq!(rt; map.len(), 7);
+    Ok(())
+}
+
+#[test]
+fn a_cleared_map_begins_anew(rt: HostRuntime) -> Result<(), Fail> {
+    let mut map = NumberedMap::new(rt.alloc());
+    for (number, value) in STORED {
+        map.store(number, value)?;
+    }
+    map.clear();
+    assert!(rt; map.is_empty());
+    assert_eq!(rt; map.get(5), None);
+    map.store(u32::MAX, 7)?;
+    map.store(0, 8)?;
+    assert_eq!(rt; map.get(u32::MAX), Some(7));
+    assert_eq!(rt; map.get(0), Some(8));
+    assert_eq!(rt; map.len(), 2);
+    Ok(())
+}
