@@ -29,6 +29,12 @@ def renamed(pair: "Pair") -> "Pair":
     return (tables.IMPORT_MAPPING.get(pair[0], pair[0]), pair[1])
 
 
+def modules_of(module: str) -> "List[str]":
+    """The modules of Python 3 that have the names of one of Python 2."""
+    moved = [new for (old, _), (new, _) in tables.NAME_MAPPING.items() if old == module]
+    return [*moved, tables.IMPORT_MAPPING.get(module, module)]
+
+
 @functools.lru_cache(maxsize=None)
 def _backwards() -> "Tuple[Dict[Pair, List[Pair]], Dict[str, List[str]]]":
     """The two tables, inverted."""

@@ -27,6 +27,7 @@ from test_scanning import GOOD, tarred, zipped
 
 RUNS = b"cposix\nsystem\n(S'echo a hostile pickle ran'\ntR."
 EVIL = b"\x80\x02" + RUNS
+HDF5 = b"\x89HDF\r\n\x1a\n"
 SECONDS = 4
 """The most processor time for a file of at most a megabyte: twice what a quiet machine takes."""
 
@@ -340,7 +341,9 @@ class Readings(unittest.TestCase):
             "arrays": npy("'<i8'", b"", 1, "(0,)") * 9000, "bz2": bz2.compress(bytes(200 << 20)),
             "digits": with_record(b"1" * 400_000),
             "no records": with_record(b"2 " * 200_000 + b"=").replace(b" comment=", b"2 2 2 2 2"),
-            "words": b"\x89HDF\r\n\x1a\n" + (b"c" * 99 + b"\n") * 10_000,
+            "words": HDF5 + (b"c" * 99 + b"\n") * 10_000, "lines": HDF5 + b"V" * 1_000_000,
+            "modules": HDF5 + b"\x8c\x02os" * 250_000, "tails": HDF5 + b"\x8c\x02osV" * 190_000,
+            "imports": HDF5 + b"\x8c\x02osN0\x93" * 140_000, "NULs": HDF5 + b"cos\0" * 250_000,
             "endless": tar(header(b"a", -512), b"") * 2,
         }
         for name, data in made.items():

@@ -4,6 +4,7 @@
     readings.py     what the readers that people use would get to; all_readings.py lists them
     pickles.py, npys.py, tars.py, packed.py, zips.py, zip_layout.py, checkpoints.py, stores.py and
     shelves.py      the rule of each reader
+    trails.py       pickles in stores, from the middle on
     places.py, beside.py, checkpoint_places.py
                     the file beside another that says where its values are
     source.py       bytes that several readers look at

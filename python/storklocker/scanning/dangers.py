@@ -12,7 +12,7 @@ from typing import Container, Dict, FrozenSet, Iterable, Iterator, List, Optiona
 
 from .. import lists
 from .._lists import AllowList
-from .._names import renamed
+from .._names import RENAMED, modules_of, renamed
 from .known import HARMLESS, Known, Row
 from .report import LONGEST, Finding, Pair, shown
 from .severity import DANGER, WARNING
@@ -63,6 +63,30 @@ def judged(module: str, name: str) -> Optional[Row]:
     """What is known of a name; None if nobody has judged it."""
     is_short = len(module) + len(name) <= _SHORT  # so that hostile ones don't fill the memory
     return _judged_before(module, name) if is_short else _judged(module, name)
+
+
+def is_harmful(module: str, name: str) -> bool:
+    """Whether a name is known to do harm."""
+    row = judged(module, name)
+    return row is not None and row.severity != HARMLESS
+
+
+@functools.lru_cache(maxsize=4096)
+def is_suspect(text: str) -> bool:
+    """Whether something harmful can be imported by a text, as the module or as the name."""
+    module = text.partition("\0")[0]
+    if module.partition(".")[0].encode() not in suspect_heads() and "." not in module:
+        return False
+    new = modules_of(module) if module in RENAMED else ()
+    leads = any(map(known().leads, (module, *new)))
+    return leads or is_harmful(module, "?") or is_harmful("?", text)
+
+
+@functools.lru_cache(maxsize=None)
+def suspect_heads() -> FrozenSet[bytes]:
+    """The first words of all texts for which `is_suspect` is true, but for some with dots."""
+    modules = {name.partition(".")[0] for name in (*known().modules(), *RENAMED)}
+    return frozenset(word.encode() for word in modules | _INWARDS)
 
 
 def _judged(module: str, name: str) -> Optional[Row]:

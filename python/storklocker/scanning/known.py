@@ -2,7 +2,7 @@
 
 from __future__ import annotations
 
-from typing import Dict, Iterator, List, NamedTuple, Optional, Tuple
+from typing import Dict, Iterator, List, NamedTuple, Optional, Set, Tuple
 
 HARMLESS = "harmless"
 _SAME, _ALIAS, _LEADS = "same", "alias", "leads"
@@ -29,6 +29,7 @@ class Known:
     def __init__(self, text: str) -> None:
         self.rows: Dict[str, Row] = {}
         self._same: Dict[str, str] = {}
+        self._fronts: Set[str] = set()
         self._under: Dict[str, Row] = {}
         self._begun: List[Tuple[str, Row]] = []
         for header, lines in _sections(text):
@@ -38,7 +39,10 @@ class Known:
         kind, _, why = header[1:].partition("] ")
         kind = kind.rstrip("]")
         if kind in (_SAME, _ALIAS):
-            self._same.update((line.split()[0], line.split()[1]) for line in lines)
+            for line in lines:
+                name, same = line.split()[:2]
+                self._same[name] = same
+                self._fronts.update(_fronts_of(name))
         elif kind == "danger":
             for name, example in _examples(lines):
                 self._put(name, Row(kind, why, example))
@@ -52,6 +56,8 @@ class Known:
 
     def _put(self, name: str, row: Row) -> None:
         self.rows.setdefault(name, row)
+        if row.severity != HARMLESS:
+            self._fronts.update(_fronts_of(name))
         if name.endswith(".*"):
             self._under.setdefault(name[:-2], row)
         elif name.endswith("*"):
@@ -75,6 +81,28 @@ class Known:
                 return self._under[front]
             end = max(front.rfind("."), 0)
         return None
+
+    def modules(self) -> Iterator[str]:
+        """The modules for which `leads` is true, and what they are in; not all that are in these.
+        """
+        yield from self._fronts
+        yield from self._same
+
+    def leads(self, module: str) -> bool:
+        """Whether a harmful name that is listed by itself is in a module, or in what is in it."""
+        if module in self._fronts:
+            return True
+        for front in _fronts_of(f"{module}.", _WORDS):
+            if front in self._same:
+                return self.leads(self._same[front] + module[len(front) :])
+        return False
+
+
+def _fronts_of(name: str, most: int = -1) -> Iterator[str]:
+    """What the name is in, from the module that is next to it on."""
+    while "." in name and most:
+        name, most = name.rpartition(".")[0], most - 1
+        yield name
 
 
 def _sections(text: str) -> Iterator[Tuple[str, List[str]]]:

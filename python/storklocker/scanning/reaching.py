@@ -52,7 +52,7 @@ _NUMBERS = frozenset(b"IFLpg")
 _NUMERALS = b" \t\r\f\v0123456789abcdefoxlABCDEFOXL_.+-"
 _ASCII = bytes(range(128))
 _WORDS = frozenset((b"nan", b"inf", b"infinity"))
-_SIZES = {-2: 1, -3: 4, -4: 4, -5: 8}
+SIZES = {-2: 1, -3: 4, -4: 4, -5: 8}
 """The length of a count, by the constant that `pickletools` uses for it."""
 _MODULE = re.compile(r"[\w-]+(\.[\w-]+)*")
 """What can be the name of a module. No reader gets beyond an import of anything else."""
@@ -63,7 +63,7 @@ def _lengths() -> Dict[int, int]:
     return {ord(it.code): 0 if it.arg is None else it.arg.n for it in pickletools.opcodes}
 
 
-_LENGTHS = _lengths()
+LENGTHS = _lengths()
 
 
 def is_module(name: Optional[str]) -> bool:
@@ -107,7 +107,7 @@ def reached(source: Source, at: int, reason: Optional[Reason], begin: int = 0) -
     is_registered = False
     for _ in range(_INSTRUCTIONS):
         code = walk.take(1)
-        if not code or code[0] not in _LENGTHS:
+        if not code or code[0] not in LENGTHS:
             return _STOPPED
         if code == b".":  # numbers that look like a pickle don't end with it
             return _STOPPED if is_registered and walk.at < source.size else _UNKNOWN
@@ -163,7 +163,7 @@ class _Walk:
 
     def is_passed(self, code: int) -> bool:
         """Skips the argument of an instruction. Returns whether a reader may get past it."""
-        length = _LENGTHS[code]
+        length = LENGTHS[code]
         if code not in _KEPT and code not in _TEXTS:
             self._texts.clear()
         if length >= 0:
@@ -172,7 +172,7 @@ class _Walk:
             if code in _PAIRS:
                 self._line()
             return self._is_line_passed(code)
-        size = _SIZES[length]
+        size = SIZES[length]
         count = int.from_bytes(self.take(size), "little", signed=length == -3)
         if code in _TEXTS:
             text = self._source.read(self.at, count) if 0 <= count <= _LONGEST else b"\xff"
@@ -221,7 +221,7 @@ class _Walk:
         if self.at > self._source.size:
             return False
         if code in _NUMBERS:
-            return _is_number(line.partition(b"\0")[0])
+            return is_number(line.partition(b"\0")[0])
         if code == ord("P"):
             return not line.translate(None, _ASCII)
         text = line.strip()
@@ -245,6 +245,6 @@ def _is_utf8(text: bytes) -> bool:
         return False
 
 
-def _is_number(text: bytes) -> bool:
+def is_number(text: bytes) -> bool:
     """Whether a reader may accept the text as a number."""
     return not text.translate(None, _NUMERALS) or text.strip().lower().lstrip(b"+-") in _WORDS

@@ -15,11 +15,11 @@ from typing import TYPE_CHECKING, Deque, Dict, Iterator, List, Sequence, Tuple
 
 from .._reasons import Reason
 from .budget import Budget
-from .dangers import judged
-from .known import HARMLESS
-from .names import NOTHING, imports_within
+from .dangers import is_harmful, is_suspect, suspect_heads
+from .names import NOTHING, Imports, imports_within
 from .readings import Found, Piece, Place, Reading
 from .source import BLOCK, Source, in_memory
+from .trails import Trail, Trails, texts_in
 
 if TYPE_CHECKING:
     from .._lists import Names
@@ -38,8 +38,15 @@ _BEGINNINGS = tuple(
 """PROTO, the front of a dict or a list of protocol 0, or an import, which may begin anywhere in a
 word. A pattern each, because the search for a first byte is fast.
 """
-_LONGEST = 512
+_NULS = tuple(re.compile(code + rb"(?=([A-Za-z_]\w{0,30})[.\0])") for code in (b"c", b"i"))
+_WITH_NUL, _NAME = re.compile(rb"(%b)\0" % _WORD), re.compile(rb"%b\n" % _WORD)
+"""An import whose module Python finds by what stands in front of a NUL: its first word, all of it,
+and the line with the name.
+"""
+_LONGEST = 1024
 """More bytes than these patterns match."""
+_NEAR = 64
+"""How many bytes in front of a trail are tried as the beginning of its pickle."""
 _STEP, _FIRST, _MOST, _FOOTER = 1 << 16, 1 << 12, 1 << 20, 1 << 20
 _MAGICS: Dict[str, List[Tuple[int, bytes]]] = {
     "HDF5": [(at, b"\x89HDF\r\n\x1a\n") for at in (0, *(512 << power for power in range(48)))],
@@ -80,13 +87,36 @@ def searched(place: Place, kind: str, known: Sequence[Tuple[int, int]] = ()) -> 
     in their order.
     """
     source, end, left = place.source, 0, Deque(known)
-    for at in _beginnings(source, place.budget):
+    trails = Trails(source, place.budget)
+    for at, is_text in _beginnings(source, place.budget):
         while left and left[0][0] <= at:
             end = max(end, left.popleft()[1])
-        if at >= end and is_pickle(source, at):
-            rest = source.part(at, source.size)
-            end = at + ((yield Piece(f"{place.path}!at {at}", kind, rest, True, 1)) or 0)
+        for trail in trails.followed(at):
+            yield _piece(place, kind, _start_of(trail, place))
+        if is_text and (at >= end or trails.is_at(at)):
+            trails.begin(at)
+        elif not is_text and at >= end and is_pickle(source, at):
+            end = at + ((yield _piece(place, kind, at)) or 0)
+    for trail in trails.followed(source.size):
+        yield _piece(place, kind, _start_of(trail, place))
     return True
+
+
+def _piece(place: Place, kind: str, at: int) -> Piece:
+    rest = place.source.part(at, place.source.size)
+    return Piece(f"{place.path}!at {at}", kind, rest, True, 1)
+
+
+def _start_of(trail: Trail, place: Place) -> int:
+    """Where the pickle begins that a trail is in: the first place that shows what it imports, or
+    else where the trail begins.
+    """
+    first = trail.starts[0]
+    for at in [*trail.starts, *range(first - 1, max(0, first - _NEAR) - 1, -1)]:
+        place.budget.spend_time()
+        if any(map(_is_harmful, _imports_at(place.source, at).names)):
+            return at
+    return first
 
 
 def _has_one(source: Source, magics: List[Tuple[int, bytes]]) -> bool:
@@ -107,40 +137,63 @@ def _schemas(source: Source) -> Iterator[Source]:
         yield in_memory(io.BytesIO(base64.b64decode(text[: len(text) // 4 * 4])))
 
 
-def _beginnings(source: Source, budget: Budget) -> Iterator[int]:
-    """The places that look like the beginning of a pickle."""
+def _beginnings(source: Source, budget: Budget) -> Iterator[Tuple[int, bool]]:
+    """The places that look like the beginning of a pickle, or like a text in one: whether it is a
+    text.
+    """
     for start in range(0, source.size, _STEP):
         block = source.read(start, _STEP + _LONGEST)
         budget.spend_time()
-        places = sorted(it.start() for begun in _BEGINNINGS for it in begun.finditer(block))
-        for at in itertools.takewhile(lambda at: at < _STEP, places):
+        places = [(it.start(), False) for begun in _BEGINNINGS for it in begun.finditer(block)]
+        places += [(at, False) for at in _imports_with_nul(block)]
+        places += [(at, True) for at in texts_in(block)]
+        places.sort()
+        for at, is_text in itertools.takewhile(lambda it: it[0] < _STEP, places):
             budget.spend_time()
-            yield start + at
+            yield start + at, is_text
+
+
+def _imports_with_nul(block: bytes) -> Iterator[int]:
+    heads = suspect_heads()
+    for begun in _NULS:
+        line = 0
+        for front in begun.finditer(block):
+            at = front.end()
+            if at >= line:
+                line = block.find(b"\n", at) + 1 or len(block)
+            module = _WITH_NUL.match(block, at) if front.group(1) in heads else None
+            if module and _NAME.match(block, line) and is_suspect(module.group(1).decode()):
+                yield front.start()
 
 
 def is_pickle(source: Source, at: int) -> bool:
     """Whether a pickle there is accepted, or imports something; without a PROTO in front, something
     that is known to do harm, because texts have lines that look like imports.
     """
+    found = _imports_at(source, at)
+    if found.verdict or not found.is_complete:
+        return True
+    is_claimed = source.read(at, 1) == b"\x80"
+    return bool(found.names) if is_claimed else any(map(_is_harmful, found.names))
+
+
+def _imports_at(source: Source, at: int) -> Imports:
+    """What a pickle there imports, or some of it."""
     size = _FIRST
     while True:
         data = source.read(at, size)
         found = imports_within(data, NOTHING)
         is_cut = found.verdict.reason is Reason.Truncated and len(data) == size < _MOST
         if found.verdict or not is_cut or found.names:
-            break
+            return found
         size *= 16
-    if found.verdict or not found.is_complete:
-        return True
-    return bool(found.names) if data[:1] == b"\x80" else any(map(_is_harmful, found.names))
 
 
 def _is_harmful(names: "Names") -> bool:
     module, name = names
     if module is None or name is None:
         return False
-    row = judged(module.decode("utf-8", "replace"), name.decode("utf-8", "replace"))
-    return row is not None and row.severity != HARMLESS
+    return is_harmful(module.decode("utf-8", "replace"), name.decode("utf-8", "replace"))
 
 
 STORES: Dict[str, Reading] = {name: _reading(name) for name in _MAGICS}
