@@ -18,7 +18,7 @@ LATER = {"_strptime", "encodings", "stringprep", "unicodedata", "locale", "gc",
 """Modules that the standard library imports on first use."""
 RUN = {
     "os.system", "os.exec", "os.posix_spawn", "os.spawn", "os.startfile", "pty.spawn",
-    "subprocess.Popen", "ctypes.dlopen", "os.link", "os.symlink", "code.__new__",
+    "subprocess.Popen", "ctypes.dlopen", "os.link", "os.symlink",
 }
 WRITTEN = {"os.mkdir", "os.rename", "os.truncate", "sqlite3.connect"}
 COMPILERS = (
@@ -96,6 +96,8 @@ def _is_foul(event, arguments):
         return tuple(arguments) not in Watch.pairs and not _caller().endswith(Watch.readers)
     if event == "import":
         return arguments[0].partition(".")[0] not in Watch.modules
+    if event == "code.__new__":
+        return not _caller().startswith("<frozen importlib")  # (3.9 and before tell of imports)
     if event == "exec":
         return not os.path.exists(arguments[0].co_filename) and not _caller().endswith(COMPILERS)
     if event == "open":

@@ -64,12 +64,22 @@ def content(chosen):
     return bytes(chosen.randrange(256) for _ in range(chosen.randrange(60)))
 
 
+def _begun(front, compression):
+    """A zip file to add to, behind other bytes."""
+    made = io.BytesIO(front)
+    try:
+        return made, zipfile.ZipFile(made, "a", compression)
+    except ValueError:  # 3.9 and before take these bytes for the end of an archive
+        return _begun(b"", compression)
+
+
 def zipped(data, chosen, name=None):
-    made = io.BytesIO()
+    front = b""
     if chosen.random() < 0.1:
-        made.write(chosen.choice((b"#!x\n", b"\0" * 512, b"PK\x05\x06" + b"\n" * 18, b"MZ")))
+        front = chosen.choice((b"#!x\n", b"\0" * 512, b"PK\x05\x06" + b"\n" * 18, b"MZ"))
     kinds = (zipfile.ZIP_STORED, zipfile.ZIP_DEFLATED, zipfile.ZIP_BZIP2, zipfile.ZIP_LZMA)
-    with zipfile.ZipFile(made, "a", chosen.choice(kinds[:2] * 4 + kinds)) as archive:
+    made, archive = _begun(front, chosen.choice(kinds[:2] * 4 + kinds))
+    with archive:
         if chosen.random() < 0.4:
             archive.writestr("archive/version", "3\n")
         name = name or chosen.choice(("archive/data.pkl", "a.pkl", "a.npy", "x", "d/", "é"))
