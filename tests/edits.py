@@ -1,8 +1,9 @@
 #!/usr/bin/env python3
 """Wrong versions of the code that the prover must refuse: must-fail edits.
 
-The gate tries those in `crates/NAME/must-fail` each time. Those in `crates/NAME/edits` show what
-others show too: a tenth of them, chosen by the digest of the sources, joins them in each gate.
+The gate tries those in `crates/NAME/must-fail` each time, and a tenth of those in
+`crates/NAME/edits`, chosen by the digest of the sources. The first edit of a crate costs a check of
+the whole crate, so a tenth is of as few crates as it takes.
 
     tests/edits.py                  checks that each edit can still be applied
     tests/edits.py try [NAME ..]    tries all in `edits` of these crates, or of all of them
@@ -21,10 +22,10 @@ import signal
 import subprocess
 import sys
 import tempfile
-from typing import Iterator, List, Sequence
+from typing import Iterator, List, Sequence, Tuple
 
 ROOT = pathlib.Path(__file__).resolve().parent.parent
-MOST = 100
+MOST = 50
 SHARE = 10
 # What a check takes of the memory, in bytes.
 CHECK = 5 << 30
@@ -80,9 +81,9 @@ def chosen() -> List[pathlib.Path]:
     """A tenth of the edits, others for each state of the sources."""
     ran = subprocess.run([ROOT / "release/sources", "program"], check=True, stdout=subprocess.PIPE)
 
-    def place(edit: pathlib.Path) -> bytes:
-        named = f"{edit.parent.parent.name}/{edit.name}".encode()
-        return hashlib.sha256(ran.stdout + named).digest()
+    def place(edit: pathlib.Path) -> Tuple[bytes, bytes]:
+        crate, name = (hashlib.sha256(ran.stdout + os.fsencode(it)) for it in edit.parts[-3::2])
+        return crate.digest(), name.digest()
 
     others = sorted(edits_in("edits"), key=place)
     return others[: -(-len(others) // SHARE)]
