@@ -1,6 +1,6 @@
 """`storklocker scan` of URLs on a cluster of two workers: 100,000 files of memory://, a worker
 killed in the middle, a file that kills each of its workers, a second run that continues, and a
-server of http://.
+server of http://. A supervisor starts a worker again that ended, as that of a real cluster does.
 """
 
 import contextlib
@@ -10,6 +10,8 @@ import os
 import pickle
 import signal
 import sqlite3
+import subprocess
+import sys
 import tempfile
 import threading
 from pathlib import Path
@@ -60,14 +62,45 @@ def scan_or_die(isolated, file):
     return SCAN(isolated, file)
 
 
+@contextlib.contextmanager
+def supervised(address):
+    """Two workers, each of which is started again when it ends. (A nanny gives its worker only some
+    seconds to come back, and then closes, which leaves a busy machine without workers.)
+    """
+    words = ["-m", "distributed.cli.dask_worker", address, "--no-nanny", "--nthreads", "1"]
+    words = [sys.executable, "-W", "ignore", *words, "--no-dashboard", "--local-directory"]
+    quiet = {**os.environ, "DASK_LOGGING__DISTRIBUTED": "error"}
+    is_over, folder = threading.Event(), tempfile.TemporaryDirectory()
+
+    def supervise():
+        while not is_over.is_set():
+            worker = subprocess.Popen([*words, folder.name], env=quiet)
+            while worker.poll() is None and not is_over.wait(0.1):
+                pass
+            worker.kill()
+            worker.wait()
+
+    threads = [threading.Thread(target=supervise) for _ in range(2)]
+    for thread in threads:
+        thread.start()
+    try:
+        yield
+    finally:
+        is_over.set()
+        for thread in threads:
+            thread.join()
+        folder.cleanup()
+
+
 def run():
     """The test."""
     from distributed import Client, LocalCluster
 
     with LocalCluster(
-        n_workers=2, threads_per_worker=1, host="127.0.0.1", dashboard_address=None
-    ) as local, Client(local, set_as_default=False) as client:
+        n_workers=0, host="127.0.0.1", dashboard_address=None
+    ) as local, Client(local, set_as_default=False) as client, supervised(local.scheduler_address):
         client.register_worker_callbacks(fill)
+        client.wait_for_workers(2, timeout=common.PATIENCE)
         fill()
         address = local.scheduler_address
         reports = scanned(BASE, cluster=address, kill=client)

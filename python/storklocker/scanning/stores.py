@@ -112,7 +112,8 @@ def _start_of(trail: Trail, place: Place) -> int:
     else where the trail begins.
     """
     first = trail.starts[0]
-    for at in [*trail.starts, *range(first - 1, max(0, first - _NEAR) - 1, -1)]:
+    near = range(first - 1, max(0, first - _NEAR) - 1, -1)
+    for at in itertools.chain(trail.starts, near):
         place.budget.spend_time()
         if any(map(_is_harmful, _imports_at(place.source, at).names)):
             return at

@@ -90,7 +90,8 @@ class Trail:
     """
 
     def __init__(self, start: int, text: str) -> None:
-        self.starts, self.seen = [start], {text}
+        self.starts: List[int] = [start]
+        self.seen: Set[str] = {text}
         self.texts: Tuple[_Text, ...] = ()
 
     def join(self, other: Trail) -> None:
