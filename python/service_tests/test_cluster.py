@@ -3,6 +3,7 @@ killed in the middle, a file that kills each of its workers, a second run that c
 server of http://. A supervisor starts a worker again that ended, as that of a real cluster does.
 """
 
+import asyncio
 import contextlib
 import functools
 import http.server
@@ -112,6 +113,7 @@ def run():
         deadly(address)
         over_http(address)
     without_workers()
+    late_answers()
     common.nothing_ran()
 
 
@@ -160,6 +162,41 @@ def without_workers():
             assert "no worker for" in str(error), error
         else:
             raise AssertionError("what scanned the files?")
+
+
+class Late:
+    """A future that is done right after a wait for it has ended."""
+
+    def __init__(self, status, outcome):
+        self.status, self._outcome, self._waits = status, outcome, 0
+
+    def done(self):
+        return True
+
+    def exception(self):
+        return self._outcome
+
+    def result(self, timeout):
+        self._waits += 1
+        if self._waits == 1 or isinstance(self._outcome, TimeoutError):
+            raise asyncio.TimeoutError("timed out")
+        if isinstance(self._outcome, Exception):
+            raise self._outcome
+        return self._outcome
+
+
+def late_answers():
+    """An answer, or an error, that comes between a wait and the look whether it is there."""
+    client = mock.Mock(**{"nthreads.return_value": {"worker": 1}})
+    asked = cluster._Cluster(client, Question())
+    assert asked._result(Late("finished", ["answer"])) == ["answer"]
+    for error in (ValueError("of the worker"), TimeoutError("of the worker")):
+        try:
+            asked._result(Late("error", error))
+        except type(error) as raised:
+            assert raised is error, raised
+        else:
+            raise AssertionError("no error is raised")
 
 
 def resumed(alone, address):

@@ -111,9 +111,10 @@ class _Cluster:
             try:
                 answer: Answer = future.result(timeout=_PAUSE)
                 return answer
-            except asyncio.TimeoutError:
-                if future.done():  # it is the worker's
-                    raise
+            except asyncio.TimeoutError:  # it may be the worker's, or too early
+                if future.status == "error":
+                    error: BaseException = future.exception()
+                    raise error from None
                 lonely = 0 if self._client.nthreads() else lonely + 1
         raise TimeoutError(f"no worker for {_PAUSE * _PAUSES:.0f} seconds")
 
