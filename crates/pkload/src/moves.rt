@@ -6,7 +6,7 @@ ghost use Rattle.pkcheck.specs.Shape.{moved};
 use crate::gathering::take_slice;
 use crate::halt::Halt;
 use crate::keying::Keying;
-use crate::memo::Memo;
+use crate::memo::{self, Memo};
 use crate::operands::Operands;
 use crate::stack::Stack;
 use crate::tally::Tally;
@@ -48,14 +48,27 @@ fn duplicate(stack: &mut Stack, memo: &Memo) -> Result<(), Halt>
 
 /// Stores the top under a number.
 #[inline(always)]
-fn store(stack: &Stack, memo: &mut Memo, number: u64) -> Result<(), Halt>
+fn store(stack: &Stack, memo: &mut Memo, number: u32) -> Result<(), Halt>
     ensures { OnOk result
         (moved Move.Stores number (record { entries = stack.now; memo = memo.old })
         ≡ Ok (record { entries = stack.now; memo = memo.new })) }
 {
     match stack.top() {
-        Some(heft) => memo.store(number, heft),
+        Some(heft) => memo::store(memo, number, heft),
         None => Err(Halt::Lost),
+    }
+}
+
+/// Stores the top under the next number.
+#[inline(always)]
+fn store_next(stack: &Stack, memo: &mut Memo) -> Result<(), Halt>
+    ensures { OnOk result
+        (moved Move.StoresNext 0 (record { entries = stack.now; memo = memo.old })
+        ≡ Ok (record { entries = stack.now; memo = memo.new })) }
+{
+    match u32::try_from(memo.len()) {
+        Ok(next) => store(stack, memo, next),
+        Err(_) => Err(Halt::OutOfMemory),
     }
 }
 
@@ -84,11 +97,8 @@ pub fn apply(stack: &mut Stack, memo: &mut Memo, what: Move, number: u32) -> Res
         Move::Pops => pop(stack, memo),
         Move::PopsMark => pop_mark(stack, memo),
         Move::Duplicates => duplicate(stack, memo),
-        Move::Stores => store(stack, memo, u64::from(number)),
-        Move::StoresNext => {
-            let next = memo.len();
-            store(stack, memo, next)
-        }
+        Move::Stores => store(stack, memo, number),
+        Move::StoresNext => store_next(stack, memo),
         Move::Fetches => fetch(stack, memo, number),
         Move::Passes => Ok(()),
         Move::Extends => Err(Halt::Lost),

@@ -1,10 +1,10 @@
 use Rattle.std.proofs.Common.{[], arith}
-use Rattle.pkcheck.proofs.StepParts.Errs.{ok_on}
+use Rattle.std.proofs.lemmas.Result.{on_ok_weaker}
 use Rattle.pkload.proofs.Taking.{count_items}
 use Rattle.pkload.proofs.gathering.take.Goals as goal
 
 pub returns-in-Objects-clause-of : goal.returns-in-Objects-clause-of
-returns-in-Objects-clause-of c = rw c.in-Objects.is (ok_on _ _ c.take_objects.result
+returns-in-Objects-clause-of c = rw c.in-Objects.is (on_ok_weaker c.take_objects.result
     (λ found keying tally a t.
     let h = found keying tally a t in
     let n = count_items c.in-Objects.count _ _ [] h.hefts h.is in

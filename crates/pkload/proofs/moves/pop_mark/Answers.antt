@@ -1,10 +1,10 @@
 use Rattle.std.proofs.Common.{Ok, ap}
-use Rattle.pkcheck.proofs.StepParts.Errs.{ok_on}
+use Rattle.std.proofs.lemmas.Result.{on_ok_weaker}
 use Rattle.pkcheck.specs.Shape.{and_then}
 use Rattle.pkload.proofs.moves.pop_mark.Goals as goal
 
 pub returns : goal.returns
-returns c = ok_on _ _ c.take_slice.result
+returns c = on_ok_weaker c.take_slice.result
     (λ found.
     let h = found _ _ c.none-above.ensures.of c.none-above.ensures.tally in
     ap (λ x. and_then x (λ taken. Ok (record { entries = taken.below; memo = c.args.memo.now })))
