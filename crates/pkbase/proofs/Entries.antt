@@ -199,3 +199,11 @@ module _ {A : Type 0} where
       (rw (append-nil (enumerate_from first xs ++ (n, v) ∷ []))
       (put_rest low first xs [] parts n v (omega arith)))
   put_next low first xs (r ∷ rest) parts n v none e = absurd (omega (arith, none))
+
+  module _ (low : List (ℕ × A)) (xs ys : List A) (rest : List (ℕ × A)) (n : ℕ) where
+    pub put_first : (v : A) → low ≡ [] → xs ≡ [] → rest ≡ [] → ys ≡ xs ++ v ∷ []
+        → entries low n ys rest ≡ insert_entry nat_cmp [] n v
+    put_first v a b d e = rw (e, a, b, d) refl
+
+    pub still_none : low ≡ [] → xs ≡ [] → rest ≡ [] → ys ≡ xs → entries low n ys rest ≡ []
+    still_none a b d e = rw (e, a, b, d) refl

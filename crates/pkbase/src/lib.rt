@@ -6,7 +6,9 @@
 #![tactic(auto)]
 
 mod numbered_map;
+mod pile;
 #[cfg(test)]
 mod tests;
 
 pub use numbered_map::NumberedMap;
+pub use pile::Pile;

@@ -5,6 +5,7 @@ ghost use Rattle.std.specs.Map.{lookup};
 ghost use Rattle.std.specs.Ordering.{nat_cmp};
 ghost use Rattle.std.specs.Prelude.{◌≡◌, ◌↔◌, [], length, IsTrue, OnErr, OnOk};
 
+use crate::pile::Pile;
 use std::alloc::{AllocError, Global};
 use std::collections::BTreeMap;
 use std::marker::Model;
@@ -20,7 +21,7 @@ pub struct NumberedMap<V> {
     /// The number that was stored first.
     first: u32,
     /// The values of the numbers from `first` on that were stored in order.
-    ordered: Vec<V>,
+    ordered: Pile<V>,
     /// The entries of greater numbers.
     rest: BTreeMap<u32, V>,
 }
@@ -33,9 +34,9 @@ impl<V> Model for NumberedMap<V> {
     ghost Value = { List (ℕ × V) };
 
     ghost view = { λ m. m.low.entries
-        ++ (enumerate_from m.first m.ordered.items ++ m.rest.entries) };
+        ++ (enumerate_from m.first m.ordered ++ m.rest.entries) };
 
-    ghost invariant = { λ m. AreParts m.low.entries m.first m.ordered.items m.rest.entries };
+    ghost invariant = { λ m. AreParts m.low.entries m.first m.ordered m.rest.entries };
 }
 
 impl<V: Copy> NumberedMap<V> {
@@ -46,7 +47,7 @@ impl<V: Copy> NumberedMap<V> {
         NumberedMap {
             low: BTreeMap::new(alloc),
             first: 0,
-            ordered: Vec::new(alloc),
+            ordered: Pile::new(alloc),
             rest: BTreeMap::new(alloc),
         }
     }
@@ -86,7 +87,7 @@ impl<V: Copy> NumberedMap<V> {
         }
         let place = (number - self.first) as usize;
         if place < self.ordered.len() {
-            return Some(self.ordered[place]);
+            return Some(self.ordered.entries()[place]);
         }
         found(&self.rest, number)
     }
@@ -99,10 +100,7 @@ impl<V: Copy> NumberedMap<V> {
     {
         let next = u64::from(self.first) + self.ordered.len() as u64;
         if u64::from(number) == next && self.rest.is_empty() {
-            return match self.ordered.push(value) {
-                Ok(()) => Ok(()),
-                Err(_) => Err(AllocError),
-            };
+            return self.ordered.push(value);
         }
         self.store_apart(number, value)
     }
@@ -121,7 +119,7 @@ impl<V: Copy> NumberedMap<V> {
         }
         let place = (number - self.first) as usize;
         if place < self.ordered.len() {
-            self.ordered[place] = value;
+            self.ordered.set(place, value);
             return Ok(());
         }
         put(&mut self.rest, number, value)
@@ -134,10 +132,7 @@ impl<V: Copy> NumberedMap<V> {
         ensures err { OnErr result (self.new ≡ self.old) }
     {
         self.first = number;
-        match self.ordered.push(value) {
-            Ok(()) => Ok(()),
-            Err(_) => Err(AllocError),
-        }
+        self.ordered.push(value)
     }
 }
 

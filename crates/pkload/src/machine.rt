@@ -41,7 +41,7 @@ pub struct Machine {
     memo: Memo,
     tally: Tally,
     memory: u64,
-    highest: u64,
+    highest: u32,
     ended: bool,
 }
 
@@ -194,7 +194,7 @@ impl Machine {
         ensures tally { OnOk result (self.new.tally ≡ self.old.tally) }
     {
         let number = inst.memo_number().unwrap_or(0);
-        let kept = number_kept(what, number, &self.memo);
+        let kept = number_kept(what, number, &self.memo)?;
         let highest = kept.max(self.highest);
         self.memory = after_move(what, highest - self.highest, self.memory)?;
         self.highest = highest;

@@ -1,6 +1,6 @@
 //! The memo: what the objects stored under numbers cost.
 
-ghost use Rattle.std.specs.Prelude.{◌≡◌, OnOk};
+ghost use Rattle.std.specs.Prelude.{◌≡◌, length, IfOk, OnOk};
 ghost use Rattle.pkcheck.specs.Shape.{stored};
 
 use crate::halt::Halt;
@@ -9,6 +9,18 @@ use pkbase::NumberedMap;
 
 /// What the stored objects cost, by number.
 pub type Memo = NumberedMap<Packed>;
+
+/// The next number, if it has 32 bits.
+#[inline(always)]
+pub fn next_number(memo: &Memo) -> Result<u32, Halt>
+    ensures { IfOk result (λ next. next ≡ length memo.now) }
+{
+    let next = memo.len();
+    if next > u64::from(u32::MAX) {
+        return Err(Halt::OutOfMemory);
+    }
+    Ok(next as u32)
+}
 
 /// Stores what an object costs.
 #[inline(always)]

@@ -14,7 +14,7 @@ ghost use Rattle.pkload.specs.Private.Billing.{bare_memory, reading_memory};
 ghost use Rattle.pkload.specs.Private.Told.{bytes_before, skipped_memory};
 
 use crate::halt::Halt;
-use crate::memo::Memo;
+use crate::memo::{self, Memo};
 use pkcheck::effect::Move;
 use pkops::{Arg, Inst, Op, spells_itself};
 
@@ -210,28 +210,25 @@ pub fn after_stop(memory: u64) -> Result<u64, Halt>
 
 /// The memo number under which a move stores, otherwise 0.
 #[inline(always)]
-pub fn number_kept(what: Move, number: u32, memo: &Memo) -> u64
-    ensures { (entries : List (Entry Heft)) → result ≡ number_kept what number
-        (record { entries = entries; memo = memo.now }) }
+pub fn number_kept(what: Move, number: u32, memo: &Memo) -> Result<u32, Halt>
+    ensures { IfOk result (λ kept. (entries : List (Entry Heft)) → kept ≡ number_kept what number
+        (record { entries = entries; memo = memo.now })) }
 {
     match what {
-        Move::Stores => u64::from(number),
-        Move::StoresNext => memo.len(),
-        _ => 0,
+        Move::Stores => Ok(number),
+        Move::StoresNext => memo::next_number(memo),
+        _ => Ok(0),
     }
 }
 
 /// The memory after a move that stores under a number so far above the highest before.
 #[inline(always)]
-pub fn after_move(what: Move, grown: u64, memory: u64) -> Result<u64, Halt>
+pub fn after_move(what: Move, grown: u32, memory: u64) -> Result<u64, Halt>
     ensures { IfOk result (λ sum. sum ≡ memory + move_memory what grown) }
 {
-    if grown > MOST {
-        return Err(Halt::Lost);
-    }
     let more = match what {
         Move::PushesMark => 32,
-        Move::Stores | Move::StoresNext => 32 + 16 * grown,
+        Move::Stores | Move::StoresNext => 32 + 16 * u64::from(grown),
         _ => 16,
     };
     plus(memory, more)

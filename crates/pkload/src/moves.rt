@@ -66,10 +66,8 @@ fn store_next(stack: &Stack, memo: &mut Memo) -> Result<(), Halt>
         (moved Move.StoresNext 0 (record { entries = stack.now; memo = memo.old })
         ≡ Ok (record { entries = stack.now; memo = memo.new })) }
 {
-    match u32::try_from(memo.len()) {
-        Ok(next) => store(stack, memo, next),
-        Err(_) => Err(Halt::OutOfMemory),
-    }
+    let next = memo::next_number(memo)?;
+    store(stack, memo, next)
 }
 
 /// Pushes the memo entry of a number.

@@ -7,12 +7,13 @@ ghost use Rattle.pkload.specs.Private.Shown.{entry_of};
 
 use crate::halt::Halt;
 use crate::packed::Packed;
+use pkbase::Pile;
 use std::alloc::Global;
 use std::marker::Model;
 
 /// The stack, with four bytes for each entry. The last one is on top.
 pub struct Stack {
-    codes: Vec<u32>,
+    codes: Pile<u32>,
 }
 
 /// The code of a mark: that of an imported object whose hash isn't salted, which doesn't exist.
@@ -32,7 +33,7 @@ impl Model for Stack {
 
     ghost Value = { List (Entry Heft) };
 
-    ghost view = { λ s. shown s.codes.items [] };
+    ghost view = { λ s. shown s.codes [] };
 }
 
 impl Stack {
@@ -41,7 +42,7 @@ impl Stack {
         ensures { result ≡ [] }
     {
         Stack {
-            codes: Vec::new(alloc),
+            codes: Pile::new(alloc),
         }
     }
 
@@ -103,7 +104,7 @@ impl Stack {
         if count == 0 {
             return None;
         }
-        let code = self.codes[count - 1];
+        let code = self.codes.entries()[count - 1];
         if code == MARK {
             return None;
         }

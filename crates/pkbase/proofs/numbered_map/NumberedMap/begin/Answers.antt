@@ -1,13 +1,13 @@
-use Rattle.std.proofs.Common.{◌<◌, ◌≤◌, ◌∙◌, ap, arith, length, refl}
+use Rattle.std.proofs.Common.{◌<◌, ◌≤◌, ◌∙◌, ap, arith, length}
 use Rattle.std.proofs.lemmas.List.Elements.{All-nil}
-use Rattle.pkbase.proofs.Entries.{no_entries}
+use Rattle.std.proofs.lemmas.Result.{on_err_weaker, on_ok_weaker}
+use Rattle.pkbase.proofs.Entries.{no_entries, put_first, still_none}
 use Rattle.pkbase.proofs.numbered_map.NumberedMap.begin.Goals as goal
-use Rattle.pkbase.proofs.numbered_map.NumberedMap.begin.Goals.{in-Ok, in-Err}
 
 pub invariant_of-self : goal.invariant_of-self
 invariant_of-self g c =
     let m = c.self.inside in
-    let none = no_entries m.low.entries m.first m.ordered.items m.rest.entries
+    let none = no_entries m.low.entries m.first m.ordered m.rest.entries
     (c.self.view_is ∙ c.requires) in
     let empty = ap length none.1 in
     rw (none.0, none.2) record {
@@ -19,19 +19,19 @@ invariant_of-self g c =
 pub returns-clause-ok : goal.returns-clause-ok
 returns-clause-ok g c =
     let m = c.self.inside in
-    let none = no_entries m.low.entries m.first m.ordered.items m.rest.entries
+    let none = no_entries m.low.entries m.first m.ordered m.rest.entries
     (c.self.view_is ∙ c.requires) in
-    elim c.match-push.branch [
-      | in-Ok w ↦ rw (w.result-is, none.0, none.2, w.in-Ok.ensures.items, none.1, c.requires) refl
-      | in-Err w ↦ rw w.result-is tt
-    ]
+    rw c.requires
+    (on_ok_weaker c.push.result
+    (put_first m.low.entries m.ordered _ m.rest.entries c.args.number c.args.value none.0 none.1
+    none.2) c.push.ensures.ok)
 
 pub returns-clause-err : goal.returns-clause-err
 returns-clause-err g c =
     let m = c.self.inside in
-    let none = no_entries m.low.entries m.first m.ordered.items m.rest.entries
+    let none = no_entries m.low.entries m.first m.ordered m.rest.entries
     (c.self.view_is ∙ c.requires) in
-    elim c.match-push.branch [
-      | in-Ok w ↦ rw w.result-is tt
-      | in-Err w ↦ rw (w.result-is, none.0, none.2, w.in-Err.ensures.items, none.1, c.requires) refl
-    ]
+    rw c.requires
+    (on_err_weaker c.push.result
+    (still_none m.low.entries m.ordered _ m.rest.entries c.args.number none.0 none.1 none.2)
+    c.push.ensures.err)

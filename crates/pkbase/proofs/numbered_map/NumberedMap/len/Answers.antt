@@ -24,8 +24,8 @@ overflow_add-result-2 g c =
 pub returns : goal.returns
 returns g c =
     let m = c.self.inside in
-    let all = length-entries m.low.entries m.first m.ordered.items m.rest.entries in
+    let all = length-entries m.low.entries m.first m.ordered m.rest.entries in
     let sum : c.len.result + c.len-2.result + c.len-3.result
-    ≡ length (entries m.low.entries m.first m.ordered.items m.rest.entries) =
+    ≡ length (entries m.low.entries m.first m.ordered m.rest.entries) =
     omega (arith, all, c.len.ensures.len, c.len-2.ensures.len, c.len-3.ensures) in
     rw (← c.self.view_is) sum

@@ -32,14 +32,14 @@ returns-then-number-self-clause-ok g c =
     rw (← c.self.view_is)
     (on_ok_weaker c.put.result
     (λ h. rw h
-    (put_low m.low.entries m.first m.ordered.items m.rest.entries c.self.invariant
+    (put_low m.low.entries m.first m.ordered m.rest.entries c.self.invariant
     c.args.number c.args.value (omega arith))) c.put.ensures.ok)
 
 pub returns-then-place-len-clause-ok : goal.returns-then-place-len-clause-ok
 returns-then-place-len-clause-ok g c =
     let m = c.self.inside in
-    rw (← c.self.view_is)
-    (put_ordered m.low.entries m.first m.ordered.items m.rest.entries c.self.invariant
+    rw (← c.self.view_is, c.set.ensures)
+    (put_ordered m.low.entries m.first m.ordered m.rest.entries c.self.invariant
     c.args.number (c.args.number - m.first) c.args.value (omega arith) (omega arith))
 
 pub invariant_of-self-2 : goal.invariant_of-self-2
@@ -61,5 +61,5 @@ returns-clause-ok g c =
     rw (← c.self.view_is)
     (on_ok_weaker c.put-2.result
     (λ h. rw h
-    (put_rest m.low.entries m.first m.ordered.items m.rest.entries c.self.invariant
+    (put_rest m.low.entries m.first m.ordered m.rest.entries c.self.invariant
     c.args.number c.args.value (omega arith))) c.put-2.ensures.ok)
