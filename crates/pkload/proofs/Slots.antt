@@ -1,6 +1,8 @@
 -- How the view of the stack changes with its codes.
 use Rattle.std.proofs.Common.{◌≡◌, ℕ, suc, List, [], ◌∷◌, ◌++◌, length, take}
 use Rattle.std.proofs.Common.{Bool, true, false, cond, nat_eq, get_or, refl, sym, ap, ◌∙◌, arith}
+use Rattle.std.proofs.Common.{Option, Some, None, ◌↔◌, ◌<◌}
+use Rattle.std.specs.Option.{IsSome, MatchOption, option_to_list}
 use Rattle.std.proofs.Math.Seq.{take-length, take-suc}
 use Rattle.std.proofs.lemmas.Bool.{eqb-true}
 use Rattle.pkcheck.specs.Shape.{Entry, Item, Mark}
@@ -20,6 +22,14 @@ shown_last xs n d e =
     ap (λ l. shown l [])
     (sym (take-length xs) ∙ ap (λ k. take k xs) e ∙ take-suc xs n d (omega (arith, e)))
     ∙ shown_append (take n xs) (get_or xs n d ∷ []) []
+
+-- the last code was on top
+pub popped : (r : Option ℕ) (xs ys : List ℕ) → xs ≡ ys ++ option_to_list r
+    → (IsSome r ↔ (0 < length xs))
+    → MatchOption r (shown xs [] ≡ []) (λ code. shown xs [] ≡ entry_of code ∷ shown ys [])
+popped None [] ys e some = refl
+popped None (x ∷ xs) ys e some = let found : false ≡ true = some.1 (omega arith) in cc
+popped (Some code) xs ys e some = ap (λ l. shown l []) e ∙ shown_append ys (code ∷ []) []
 
 object_of : (code : ℕ) → (code ≡ 2 → ⊥) → entry_of code ≡ Item (unpacked code)
 object_of code h = by_flag (nat_eq code 2) refl

@@ -87,7 +87,6 @@ impl Stack {
 
     /// Removes the topmost entry, and returns its code.
     #[inline(always)]
-    #[tactic(auto, using(crate::proofs::Slots::shown_append))]
     pub fn pop(&mut self) -> Option<u32>
         ensures { MatchOption result (self.old ≡ []) (λ code. self.old ≡ entry_of code ∷ self.new) }
     {
