@@ -1,2 +1,4 @@
+pub mod Exported
 pub mod Exports
 pub mod Passed
+pub mod Reported

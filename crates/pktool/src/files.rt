@@ -1,16 +1,21 @@
 //! The files that a command reads.
+ghost use Rattle.std.specs.Prelude.{◌≡◌, IfOk, IfSome};
+ghost use Rattle.pktool.specs.Answers.{HasContent, IsListIn};
+ghost use Rattle.pktool.specs.Blocks.{failed_reads, unpulled};
+
 use crate::blocks::Blocks;
 use crate::fault::Fault;
+use crate::host::Host;
 use pkcheck::{Allow, AllowError};
 use std::alloc::Global;
-use std::fs::File;
 use std::io::{ErrorKind, Read};
-use std::rt::Files;
-use std::{fs, io, str};
+use std::{io, str};
 
 /// The list in a file.
-pub fn read_list<'a, R: Files>(rt: &R, alloc: Global, path: &'a str) -> Result<Allow, Fault<'a>> {
-    let Ok(mut file) = fs::open(rt, path) else {
+pub fn read_list<'a, H: Host>(host: &H, alloc: Global, path: &'a str) -> Result<Allow, Fault<'a>>
+    ensures { IfOk result (IsListIn (H.content host.now path.now)) }
+{
+    let Ok(mut file) = host.open(path) else {
         return Err(Fault::Unread(path));
     };
     let Some(bytes) = read_rest(alloc, &mut file, path)? else {
@@ -31,7 +36,10 @@ pub fn read_rest<'a, F: Read>(
     alloc: Global,
     file: &mut F,
     path: &'a str,
-) -> Result<Option<Vec<u8>>, Fault<'a>> {
+) -> Result<Option<Vec<u8>>, Fault<'a>>
+    ensures { IfOk result (λ found. IfSome found (λ bytes.
+        HasContent (F.remaining file.old) bytes.items)) }
+{
     let mut bytes = Vec::new(alloc);
     match file.read_to_end(&mut bytes) {
         Ok(_) => Ok(Some(bytes)),
@@ -43,10 +51,10 @@ pub fn read_rest<'a, F: Read>(
 }
 
 /// A file as a source of bytes, read in blocks.
-pub fn open_source<R: Files<File = File>>(
-    rt: &R,
-    alloc: Global,
-    path: &str,
-) -> io::Result<Blocks<File>> {
-    Ok(Blocks::new(alloc, fs::open(rt, path)?)?)
+pub fn open_source<H: Host>(host: &H, alloc: Global, path: &str) -> io::Result<Blocks<H::Input>>
+    ensures left { IfOk result (λ source.
+        unpulled H.Input.remaining source ≡ H.content host.now path.now) }
+    ensures failures { IfOk result (λ source. failed_reads source ≡ 0) }
+{
+    Ok(Blocks::new(alloc, host.open(path)?)?)
 }

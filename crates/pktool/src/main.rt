@@ -11,6 +11,7 @@ mod exporting;
 mod fault;
 mod files;
 mod gathering;
+mod host;
 mod naming;
 mod optimizing;
 mod passing;

@@ -1,6 +1,5 @@
 //! Files that are created or replaced as a whole.
 use crate::naming::{partial_name, real_name};
-use crate::optimizing::Place;
 use pkopt::Form;
 use std::alloc::Global;
 use std::fs::{File, Metadata, OpenFile, OpenOptions, Permissions};
@@ -25,7 +24,7 @@ const NOT_GROUP: u32 = 0o707;
 /// How many names are tried for the unfinished file.
 const MOST_NAMES: u32 = 100;
 
-/// An output file, created or replaced as a whole, with content made from an input.
+/// Creates or replaces the file at a path as a whole, with a form made from an input.
 ///
 /// A regular file, also one behind a symbolic link, is replaced atomically: whenever the process
 /// ends, the name refers to the old file or to the complete new one. The new file gets the old
@@ -33,42 +32,26 @@ const MOST_NAMES: u32 = 100;
 /// only its owner can read it. Access control lists and extended attributes are not kept, and other
 /// hard links keep the old content. Anything else, such as a pipe or a device, is written in place,
 /// but never if it is the input.
-#[derive(Drop)]
-pub struct NewFile<'a, R> {
-    rt: &'a R,
+pub fn put_form<R: Files<File = File>>(
+    rt: &R,
     alloc: Global,
-    path: &'a str,
-    input: &'a File,
-}
-
-impl<'a, R> NewFile<'a, R> {
-    /// The file at this path. Nothing is created yet.
-    pub fn new(rt: &'a R, alloc: Global, path: &'a str, input: &'a File) -> NewFile<'a, R> {
-        NewFile {
-            rt,
-            alloc,
-            path,
-            input,
-        }
-    }
-}
-
-impl<'a, R: Files<File = File>> Place for NewFile<'a, R> {
-    fn put(&mut self, form: &Form<'_>) -> io::Result<()> {
-        // Opened without truncation: this shows what is there, and whether it may be written.
-        match OpenOptions::new().write(true).open(self.rt, self.path) {
-            Ok(old) => {
-                if old.metadata()?.is_file() {
-                    replace(self.rt, self.alloc, self.path, &old, form)
-                } else {
-                    write_in_place(old, self.input, form)
-                }
+    path: &str,
+    input: &File,
+    form: &Form<'_>,
+) -> io::Result<()> {
+    // Opened without truncation: this shows what is there, and whether it may be written.
+    match OpenOptions::new().write(true).open(rt, path) {
+        Ok(old) => {
+            if old.metadata()?.is_file() {
+                replace(rt, alloc, path, &old, form)
+            } else {
+                write_in_place(old, input, form)
             }
-            Err(error) => match error.kind() {
-                ErrorKind::NotFound => create(self.rt, self.alloc, self.path, form),
-                _ => Err(error),
-            },
         }
+        Err(error) => match error.kind() {
+            ErrorKind::NotFound => create(rt, alloc, path, form),
+            _ => Err(error),
+        },
     }
 }
 

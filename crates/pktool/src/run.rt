@@ -1,21 +1,27 @@
 //! Runs a whole command over the files and streams of the host.
-ghost use Rattle.std.specs.Prelude.{◌≤◌};
+ghost use Rattle.std.specs.Prelude.{◌≡◌, ◌<◌, ◌≤◌, IfOk, map};
+ghost use Rattle.std.specs.Io.Buffered.{writer_contents, writer_inner};
+ghost use Rattle.std.specs.Io.KnownBytes.{Appends, Keeps};
+ghost use Rattle.pkread.specs.Printed.{refusal_text};
+ghost use Rattle.pkread.specs.Rows.{sight};
+ghost use Rattle.pkprint.specs.Verdict.{no_line};
+ghost use Rattle.pktool.specs.Answers.{AreImports, IsAnswer, IsAnswerTo, IsCheck, IsExport};
+ghost use Rattle.pktool.specs.Answers.{IsListing, IsOptimization, IsShown, IsVerdictOn};
+ghost use Rattle.pktool.specs.Ends.{HasAnswer, Reports, Stays, Writes};
 
 use crate::exporting::json_to;
 use crate::fault::{Fault, unwritten, write_fault};
 use crate::files::{open_source, read_list, read_rest};
+use crate::host::{Host, NewFile};
 use crate::optimizing::{Unoptimized, optimize_to};
-use crate::replacing::NewFile;
 use pkargs::{Job, Pickles, Usage, command_of};
-use pkcheck::{Loading, OldStrings, Policy};
+use pkcheck::{Allow, Loading, OldStrings, Policy};
 use pkops::Limits;
 use pkprint::{Outcome, check_all_loaded_to, check_to, dis_to, imports_to, write_no};
-use pkread::{Reason, Refusal};
+use pkread::{Reason, Refusal, Source};
 use std::alloc::Global;
-use std::fs;
-use std::fs::File;
-use std::io::Write;
-use std::rt::Files;
+use std::io;
+use std::io::{BufWriter, Write};
 
 /// The answer is a yes, or help that was requested.
 const DONE: u8 = 0;
@@ -33,35 +39,42 @@ const NO_MEMORY: Refusal = Refusal {
 /// Runs a command line, whose first word is the program's name, and returns the status: 0 for a yes
 /// or for help that was requested, 1 for a no, 2 for a fault.
 ///
-/// The answer goes to `out`, which is flushed, and faults go to `err`. Faults are detected in this
+/// The answer goes to `out`, which is flushed, and faults go to `err`. With the status 0 or 1 the
+/// writer behind `out` has what `out` held before and then the answer. Faults are detected in this
 /// order: the command line, the list, the file that is read, the answer, the file that is written.
 /// Failing to write the answer is a fault, also if `out` is a closed pipe. Failing to write to
 /// `err` changes nothing.
-pub fn run<R: Files<File = File>, O: Write, E: Write>(
-    rt: &R,
+pub fn run<H: Host, O: Write + Drop, E: Write>(
+    host: &H,
     alloc: Global,
     words: &[&str],
-    out: &mut O,
+    out: &mut BufWriter<O>,
     err: &mut E,
 ) -> u8
-    ensures { result ≤ 2 }
+    ensures status { result ≤ 2 }
+    ensures answered { result < 2
+        → Reports (writer_contents O.contents out.old) (O.contents (writer_inner out.new))
+        (IsAnswer (H.content host.now) (map (λ word. word.now) words.now)) result }
 {
     match command_of(alloc, words) {
-        Ok(job) => status_of(done(rt, alloc, &job, out), out, err),
+        Ok(job) => status_of(done(host, alloc, &job, out), out, err),
         Err(usage) => status_of(shown(usage, out), out, err),
     }
 }
 
 /// Runs a job over the files of the host.
-fn done<'a, R: Files<File = File>, O: Write>(
-    rt: &R,
+fn done<'a, H: Host, O: Write>(
+    host: &H,
     alloc: Global,
     job: &'a Job,
     out: &mut O,
-) -> Result<Outcome, Fault<'a>> {
+) -> Result<Outcome, Fault<'a>>
+    ensures { IfOk result (Writes (O.contents out.old) (O.contents out.new)
+        (IsAnswerTo (H.content host.now) job.now)) }
+{
     match job {
-        Job::Dis { file } => dis_file(rt, alloc, file.as_str(), out),
-        Job::Imports { file } => imports_file(rt, alloc, file.as_str(), out),
+        Job::Dis { file } => dis_file(host, alloc, file.as_str(), out),
+        Job::Imports { file } => imports_file(host, alloc, file.as_str(), out),
         Job::Check {
             allow,
             old,
@@ -74,11 +87,11 @@ fn done<'a, R: Files<File = File>, O: Write>(
                 pickles: *pickles,
                 file: file.as_str(),
             };
-            check_file(rt, alloc, &check, out)
+            check_file(host, alloc, &check, out)
         }
-        Job::Json { file } => json_file(rt, alloc, file.as_str(), out),
+        Job::Json { file } => json_file(host, alloc, file.as_str(), out),
         Job::Optimize { file, out: to } => {
-            optimize_file(rt, alloc, file.as_str(), to.as_str(), out)
+            optimize_file(host, alloc, file.as_str(), to.as_str(), out)
         }
     }
 }
@@ -94,42 +107,63 @@ struct Check<'a> {
 
 /// `check --allow LIST [--old-strings OBJECT] [--all [--one-unpickler]] FILE`, under the limits of
 /// the list.
-fn check_file<'a, R: Files<File = File>, O: Write>(
-    rt: &R,
+fn check_file<'a, H: Host, O: Write>(
+    host: &H,
     alloc: Global,
     check: &Check<'a>,
     out: &mut O,
-) -> Result<Outcome, Fault<'a>> {
-    let list = read_list(rt, alloc, check.allow)?;
-    let Ok(mut source) = open_source(rt, alloc, check.file) else {
+) -> Result<Outcome, Fault<'a>>
+    ensures { IfOk result (Writes (O.contents out.old) (O.contents out.new)
+        (IsCheck (H.content host.now check.now.allow.now) check.now.old check.now.pickles
+        (H.content host.now check.now.file.now))) }
+{
+    let list = read_list(host, alloc, check.allow)?;
+    let Ok(mut source) = open_source(host, alloc, check.file) else {
         return Err(Fault::Unread(check.file));
     };
-    let policy = Policy::Listed(&list);
-    let limits = list.limits();
-    let written = match check.pickles {
-        Pickles::First => check_to(alloc, &mut source, &policy, &limits, out, check.old),
-        Pickles::Row(memo) => {
-            let loading = Loading {
-                memo,
-                old_strings: check.old,
-            };
-            check_all_loaded_to(alloc, &mut source, &policy, &limits, out, loading)
-        }
-    };
-    match written {
+    match check_source(alloc, &mut source, &list, check, out) {
         Ok(outcome) => Ok(outcome),
         Err(error) => Err(unwritten(&error)),
     }
 }
 
+/// The answer about the pickles in a source that the words of a check ask for.
+fn check_source<R: Source, O: Write>(
+    alloc: Global,
+    source: &mut R,
+    list: &Allow,
+    check: &Check<'_>,
+    out: &mut O,
+) -> Result<Outcome, io::Error>
+    ensures { IfOk result (Writes (O.contents out.old) (O.contents out.new)
+        (IsVerdictOn list.now check.now.old check.now.pickles
+        (sight R.left R.failures source.old))) }
+{
+    let policy = Policy::Listed(list);
+    let limits = list.limits();
+    match check.pickles {
+        Pickles::First => check_to(alloc, source, &policy, &limits, out, check.old),
+        Pickles::Row(memo) => {
+            let loading = Loading {
+                memo,
+                old_strings: check.old,
+            };
+            check_all_loaded_to(alloc, source, &policy, &limits, out, loading)
+        }
+    }
+}
+
 /// `dis FILE`.
-fn dis_file<'a, R: Files<File = File>, O: Write>(
-    rt: &R,
+fn dis_file<'a, H: Host, O: Write>(
+    host: &H,
     alloc: Global,
     file: &'a str,
     out: &mut O,
-) -> Result<Outcome, Fault<'a>> {
-    let Ok(mut source) = open_source(rt, alloc, file) else {
+) -> Result<Outcome, Fault<'a>>
+    ensures { IfOk result (Writes (O.contents out.old) (O.contents out.new)
+        (IsListing (H.content host.now file.now))) }
+{
+    let Ok(mut source) = open_source(host, alloc, file) else {
         return Err(Fault::Unread(file));
     };
     match dis_to(alloc, &mut source, &Limits::STANDARD, out) {
@@ -139,13 +173,16 @@ fn dis_file<'a, R: Files<File = File>, O: Write>(
 }
 
 /// `imports FILE`.
-fn imports_file<'a, R: Files<File = File>, O: Write>(
-    rt: &R,
+fn imports_file<'a, H: Host, O: Write>(
+    host: &H,
     alloc: Global,
     file: &'a str,
     out: &mut O,
-) -> Result<Outcome, Fault<'a>> {
-    let Ok(mut source) = open_source(rt, alloc, file) else {
+) -> Result<Outcome, Fault<'a>>
+    ensures { IfOk result (Writes (O.contents out.old) (O.contents out.new)
+        (AreImports (H.content host.now file.now))) }
+{
+    let Ok(mut source) = open_source(host, alloc, file) else {
         return Err(Fault::Unread(file));
     };
     match imports_to(alloc, &mut source, &Limits::STANDARD, out) {
@@ -155,37 +192,53 @@ fn imports_file<'a, R: Files<File = File>, O: Write>(
 }
 
 /// `json FILE`.
-fn json_file<'a, R: Files<File = File>, O: Write>(
-    rt: &R,
+fn json_file<'a, H: Host, O: Write>(
+    host: &H,
     alloc: Global,
     file: &'a str,
     out: &mut O,
-) -> Result<Outcome, Fault<'a>> {
-    let Ok(mut source) = open_source(rt, alloc, file) else {
+) -> Result<Outcome, Fault<'a>>
+    ensures { IfOk result (Writes (O.contents out.old) (O.contents out.new)
+        (IsExport (H.content host.now file.now))) }
+{
+    let Ok(mut source) = open_source(host, alloc, file) else {
         return Err(Fault::Unread(file));
     };
     match json_to(alloc, &mut source, &Limits::STANDARD, out) {
-        Ok(Outcome::Unread) => Err(Fault::Unread(file)),
-        Ok(outcome) => Ok(outcome),
+        Ok(outcome) => exported(outcome, file),
         Err(error) => Err(unwritten(&error)),
     }
 }
 
+/// The outcome of an export with an answer. Without one, the file could not be read.
+fn exported<'a>(outcome: Outcome, file: &'a str) -> Result<Outcome, Fault<'a>>
+    ensures { IfOk result (λ same. (same ≡ outcome) × HasAnswer outcome) }
+{
+    match outcome {
+        Outcome::Done => Ok(Outcome::Done),
+        Outcome::Refused => Ok(Outcome::Refused),
+        Outcome::Unread => Err(Fault::Unread(file)),
+    }
+}
+
 /// `optimize FILE OUT`.
-fn optimize_file<'a, R: Files<File = File>, O: Write>(
-    rt: &R,
+fn optimize_file<'a, H: Host, O: Write>(
+    host: &H,
     alloc: Global,
     file: &'a str,
     to: &'a str,
     out: &mut O,
-) -> Result<Outcome, Fault<'a>> {
-    let Ok(mut input) = fs::open(rt, file) else {
+) -> Result<Outcome, Fault<'a>>
+    ensures { IfOk result (Writes (O.contents out.old) (O.contents out.new)
+        (IsOptimization (H.content host.now file.now))) }
+{
+    let Ok(mut input) = host.open(file) else {
         return Err(Fault::Unread(file));
     };
     let Some(bytes) = read_rest(alloc, &mut input, file)? else {
         return refused(NO_MEMORY, out);
     };
-    let mut place = NewFile::new(rt, alloc, to, &input);
+    let mut place = NewFile::new(host, alloc, to, &input);
     match optimize_to(alloc, bytes.as_slice(), &Limits::STANDARD, &mut place, out) {
         Ok(outcome) => Ok(outcome),
         Err(Unoptimized::Unmade) => Err(Fault::Unmade(to)),
@@ -194,7 +247,10 @@ fn optimize_file<'a, R: Files<File = File>, O: Write>(
 }
 
 /// Reports a refusal.
-fn refused<'a, O: Write>(refusal: Refusal, out: &mut O) -> Result<Outcome, Fault<'a>> {
+fn refused<'a, O: Write>(refusal: Refusal, out: &mut O) -> Result<Outcome, Fault<'a>>
+    ensures { IfOk result (λ outcome. (outcome ≡ Outcome.Refused)
+        × Appends (O.contents out.old) (O.contents out.new) (no_line (refusal_text refusal))) }
+{
     match write_no(&refusal, out) {
         Ok(()) => Ok(Outcome::Refused),
         Err(error) => Err(unwritten(&error)),
@@ -202,7 +258,9 @@ fn refused<'a, O: Write>(refusal: Refusal, out: &mut O) -> Result<Outcome, Fault
 }
 
 /// Shows the text that was requested; any other usage is a fault.
-fn shown<'a, O: Write>(usage: Usage, out: &mut O) -> Result<Outcome, Fault<'a>> {
+fn shown<'a, O: Write>(usage: Usage, out: &mut O) -> Result<Outcome, Fault<'a>>
+    ensures { IfOk result (Writes (O.contents out.old) (O.contents out.new) (IsShown usage)) }
+{
     match usage {
         Usage::Asked(text) => match out.write_all(text.as_bytes()) {
             Ok(()) => Ok(Outcome::Done),
@@ -214,8 +272,14 @@ fn shown<'a, O: Write>(usage: Usage, out: &mut O) -> Result<Outcome, Fault<'a>> 
 }
 
 /// The status of a command that ended. Flushes its answer, or reports its fault.
-fn status_of<O: Write, E: Write>(ended: Result<Outcome, Fault<'_>>, out: &mut O, err: &mut E) -> u8
-    ensures { result ≤ 2 }
+fn status_of<O: Write + Drop, E: Write>(
+    ended: Result<Outcome, Fault<'_>>,
+    out: &mut BufWriter<O>,
+    err: &mut E,
+) -> u8
+    ensures status { result ≤ 2 }
+    ensures stays { result < 2 → Stays ended.entry
+        (writer_contents O.contents out.old) (O.contents (writer_inner out.new)) result }
 {
     match flushed(ended, out) {
         Ok(Outcome::Done) => DONE,
@@ -229,10 +293,13 @@ fn status_of<O: Write, E: Write>(ended: Result<Outcome, Fault<'_>>, out: &mut O,
 }
 
 /// Flushes an answer, which counts only then.
-fn flushed<'a, O: Write>(
+fn flushed<'a, O: Write + Drop>(
     ended: Result<Outcome, Fault<'a>>,
-    out: &mut O,
-) -> Result<Outcome, Fault<'a>> {
+    out: &mut BufWriter<O>,
+) -> Result<Outcome, Fault<'a>>
+    ensures { IfOk result (λ outcome. (ended.entry ≡ Ok outcome)
+        × Keeps (writer_contents O.contents out.old) (O.contents (writer_inner out.new))) }
+{
     let outcome = ended?;
     match out.flush() {
         Ok(()) => Ok(outcome),

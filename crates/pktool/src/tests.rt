@@ -12,7 +12,7 @@ use crate::run::run;
 use crate::words::words_of;
 use std::env::FillError;
 use std::fs::File;
-use std::io::{ErrorKind, Write};
+use std::io::{BufWriter, ErrorKind, Write};
 use std::process::Abort;
 use std::rt::{Env, Files};
 use std::test::Fail;
@@ -72,6 +72,19 @@ fn enter_folder(rt: &(impl Env + Files)) -> io::Result<()> {
     env::set_current_dir(rt, "out/files")
 }
 
+/// Runs a command, whose answer goes to a writer through a buffer, and returns its status.
+fn run_to<O: Write, E: Write>(
+    rt: &(impl AllocGlobal + Files<File = File>),
+    words: &[&str],
+    out: &mut O,
+    err: &mut E,
+) -> u8 {
+    match BufWriter::new(rt.alloc(), out) {
+        Ok(mut out) => run(rt, rt.alloc(), words, &mut out, err),
+        Err(_) => u8::MAX,
+    }
+}
+
 /// Runs a command, and compares its status and output.
 fn expect(
     rt: &(impl Abort + AllocGlobal + Files<File = File>),
@@ -83,7 +96,7 @@ fn expect(
     let mut written = Vec::new(rt.alloc());
     let mut told = Vec::new(rt.alloc());
     assert_eq!(rt;
-        run(rt, rt.alloc(), words, &mut written, &mut told),
+        run_to(rt, words, &mut written, &mut told),
         status,
         "{words:?}"
     );
@@ -172,7 +185,7 @@ fn reads_words(rt: HostRuntime) {
         let mut written = Vec::new(rt.alloc());
         let mut told = Vec::new(rt.alloc());
         assert_eq!(rt;
-            run(&rt, rt.alloc(), words, &mut written, &mut told),
+            run_to(&rt, words, &mut written, &mut told),
             status,
             "{words:?}"
         );
@@ -260,11 +273,7 @@ fn tells_a_failed_write(rt: HostRuntime) -> Result<(), Fail> {
     ] {
         let mut out = Failing { room };
         let mut told = Vec::new(rt.alloc());
-        assert_eq!(rt;
-            run(&rt, rt.alloc(), words, &mut out, &mut told),
-            2,
-            "{room}"
-        );
+        assert_eq!(rt; run_to(&rt, words, &mut out, &mut told), 2, "{room}");
         assert_eq!(rt;
             told.as_slice(),
             b"cannot write standard output\n".as_slice(),
@@ -274,13 +283,7 @@ fn tells_a_failed_write(rt: HostRuntime) -> Result<(), Fail> {
     let mut written = Vec::new(rt.alloc());
     let mut err = Failing { room: 0 };
     assert_eq!(rt;
-        run(
-            &rt,
-            rt.alloc(),
-            ["pktool"].as_slice(),
-            &mut written,
-            &mut err
-        ),
+        run_to(&rt, ["pktool"].as_slice(), &mut written, &mut err),
         2
     );
     Ok(())

@@ -1,6 +1,5 @@
 //! Listings and imports, to the byte.
-use crate::run::run;
-use crate::tests::{enter_folder, expect};
+use crate::tests::{enter_folder, expect, run_to};
 use std::io::{ErrorKind, Write};
 use std::test::Fail;
 use std::{fs, io};
@@ -126,11 +125,7 @@ fn tells_a_closed_pipe(rt: HostRuntime) -> Result<(), Fail> {
         ["pktool", "--help"].as_slice(),
     ] {
         let mut told = Vec::new(rt.alloc());
-        assert_eq!(rt;
-            run(&rt, rt.alloc(), words, &mut Closed, &mut told),
-            2,
-            "{words:?}"
-        );
+        assert_eq!(rt; run_to(&rt, words, &mut Closed, &mut told), 2, "{words:?}");
         assert_eq!(rt;
             told.as_slice(),
             b"cannot write standard output\n".as_slice(),

@@ -1,0 +1,144 @@
+-- What each command answers about the files that it reads: the text for standard output, and the
+-- outcome. A host reveals the bytes of a file, as `Some`, or it doesn't.
+use Rattle.std.specs.Prelude.{◌≡◌, ℕ, ◌⊎◌, List, length, codes, string_bytes, IfSome}
+use Rattle.std.specs.Prelude.{Option, Some, None, Result, Ok}
+use Rattle.serde_json.specs.Data.{Data}
+use Rattle.pkops.specs.Limits.{Bounds, holding_all, standard}
+use Rattle.pkread.specs.Printed.{refusal_text}
+use Rattle.pkread.specs.Rows.{Sight}
+use Rattle.pkread.specs.declared.Refusal.{Refusal}
+use Rattle.pkread.specs.declared.Reason.TheVariants as reason
+use Rattle.pkcheck.specs.Allow.{document_of, limits_of, lists}
+use Rattle.pkcheck.specs.Answered.{IsRightAnswer}
+use Rattle.pkcheck.specs.Heard.{Heard, IsRightAndHeard}
+use Rattle.pkcheck.specs.ListFile.{list_of}
+use Rattle.pkcheck.specs.RowOfPickles.{IsRightOfRow}
+use Rattle.pkcheck.specs.declared.Allow.{Allow}
+use Rattle.pkcheck.specs.declared.Loading.{Loading}
+use Rattle.pkcheck.specs.declared.OldStrings.{OldStrings}
+use Rattle.pkcheck.specs.declared.OldStrings.TheVariants.{Unknown}
+use Rattle.pkcheck.specs.declared.Yes.{Yes}
+use Rattle.pkcheck.specs.declared.No.{No}
+use Rattle.pkcheck.specs.declared.YesAll.{YesAll}
+use Rattle.pkcheck.specs.declared.NoAll.{NoAll}
+use Rattle.pkopt.specs.Answer.{IsNotOptimized, Optimizes, TakesAsChecked}
+use Rattle.pkjson.specs.Export.{IsNotExported, IsValueOf}
+use Rattle.pkjson.specs.declared.ExportError.{ExportError}
+use Rattle.pkargs.specs.Command.{AsksForJob, AsksForNone}
+use Rattle.pkargs.specs.declared.Job.{Job}
+use Rattle.pkargs.specs.declared.Job.TheVariants as job
+use Rattle.pkargs.specs.declared.Pickles.{Pickles}
+use Rattle.pkargs.specs.declared.Pickles.TheVariants.{First, Row}
+use Rattle.pkargs.specs.declared.Usage.{Usage}
+use Rattle.pkargs.specs.declared.Usage.TheVariants as usage
+use Rattle.pkprint.specs.Imports.{imports_text}
+use Rattle.pkprint.specs.Listing.{listing}
+use Rattle.pkprint.specs.Verdict.{no_line, outcome_of, outcome_of_row, row_line, verdict_line}
+use Rattle.pkprint.specs.declared.Outcome.{Outcome}
+use Rattle.pkprint.specs.declared.Outcome.TheVariants.{Done, Refused, Unread}
+use Rattle.pktool.specs.Json.{error_line, value_line}
+use Rattle.pktool.specs.Optimized.{sizes_line}
+
+-- these are the bytes of the file, if the host reveals them
+abbrev pub HasContent : Option (List ℕ) → List ℕ → Type 0
+HasContent content bytes = IfSome content (λ known. bytes ≡ known)
+
+-- the view of a file that was opened, and of which nothing was read
+abbrev pub opened : Option (List ℕ) → Sight
+opened content = record { left = content; failures = 0 }
+
+-- the file is a list file, and this is its list
+abbrev pub IsListIn : Option (List ℕ) → Allow → Type 0
+IsListIn content list =
+    (text : List ℕ) × HasContent content text × (list_of text ≡ Ok (document_of list))
+
+-- `dis FILE`
+abbrev pub IsListing : Option (List ℕ) → List ℕ → Outcome → Type 0
+IsListing file text outcome =
+    (new : Sight) × (answer : Result Yes No) × (heard : List Heard)
+    × IsRightAndHeard None (holding_all standard) (opened file) new answer heard
+    × (text ≡ listing answer heard) × (outcome ≡ outcome_of answer)
+
+-- `imports FILE`
+abbrev pub AreImports : Option (List ℕ) → List ℕ → Outcome → Type 0
+AreImports file text outcome =
+    (new : Sight) × (answer : Result Yes No)
+    × IsRightAnswer Unknown None standard (opened file) new answer
+    × (text ≡ imports_text answer) × (outcome ≡ outcome_of answer)
+
+-- the line about one pickle, read from such a source under this list
+abbrev pub IsVerdict : Allow → OldStrings → Sight → List ℕ → Outcome → Type 0
+IsVerdict list setting old text outcome =
+    (new : Sight) × (answer : Result Yes No)
+    × IsRightAnswer setting (Some (lists list)) (limits_of list) old new answer
+    × (text ≡ verdict_line answer) × (outcome ≡ outcome_of answer)
+
+-- the line about a row of pickles
+abbrev pub IsRowVerdict : Allow → Loading → Sight → List ℕ → Outcome → Type 0
+IsRowVerdict list loading old text outcome =
+    (new : Sight) × (answer : Result YesAll NoAll)
+    × IsRightOfRow loading (Some (lists list)) (limits_of list) old new answer
+    × (text ≡ row_line answer) × (outcome ≡ outcome_of_row answer)
+
+-- the line about the pickles that are asked for
+abbrev pub IsVerdictOn : Allow → OldStrings → Pickles → Sight → List ℕ → Outcome → Type 0
+IsVerdictOn list setting First = IsVerdict list setting
+IsVerdictOn list setting (Row memo) =
+    IsRowVerdict list (record { memo = memo; old_strings = setting })
+
+-- `check --allow LIST [--old-strings OBJECT] [--all [--one-unpickler]] FILE`
+abbrev pub IsCheck : Option (List ℕ) → OldStrings → Pickles → Option (List ℕ) → List ℕ → Outcome
+    → Type 0
+IsCheck allow setting pickles file text outcome =
+    (list : Allow) × IsListIn allow list
+    × IsVerdictOn list setting pickles (opened file) text outcome
+
+-- `json FILE`
+abbrev pub IsExport : Option (List ℕ) → List ℕ → Outcome → Type 0
+IsExport file text Done =
+    (bytes : List ℕ) × HasContent file bytes
+    × (v : Data) × IsValueOf standard bytes v × (text ≡ value_line v)
+IsExport file text Refused =
+    (bytes : List ℕ) × HasContent file bytes
+    × (error : ExportError) × IsNotExported standard bytes error × (text ≡ error_line error)
+IsExport file text Unread = ⊥
+
+-- the refusal if there is no memory for the content of a file
+abbrev pub no_memory : Refusal
+no_memory = record { at = 0; reason = reason.OutOfMemory }
+
+-- `optimize FILE OUT`
+abbrev pub IsOptimization : Option (List ℕ) → List ℕ → Outcome → Type 0
+IsOptimization file text Done =
+    (bytes : List ℕ) × HasContent file bytes
+    × (form : List ℕ) × Optimizes standard bytes form
+    × (taken : ℕ) × TakesAsChecked standard bytes taken
+    × (text ≡ sizes_line taken (length form))
+IsOptimization file text Refused =
+    (text ≡ no_line (refusal_text no_memory))
+    ⊎ ((bytes : List ℕ) × HasContent file bytes
+    × (refusal : Refusal) × IsNotOptimized standard bytes refusal
+    × (text ≡ no_line (refusal_text refusal)))
+IsOptimization file text Unread = ⊥
+
+-- the text and the outcome are those of the right answer to a job, given the content of each path
+abbrev pub IsAnswerTo :
+    (List ℕ → Option (List ℕ)) → Job → List ℕ → Outcome → Type 0
+IsAnswerTo content (job.Dis file) = IsListing (content (string_bytes file))
+IsAnswerTo content (job.Imports file) = AreImports (content (string_bytes file))
+IsAnswerTo content (job.Check allow setting pickles file) =
+    IsCheck (content (string_bytes allow)) setting pickles (content (string_bytes file))
+IsAnswerTo content (job.Json file) = IsExport (content (string_bytes file))
+IsAnswerTo content (job.Optimize file out) = IsOptimization (content (string_bytes file))
+
+-- the text that a command line asked for
+abbrev pub IsShown : Usage → List ℕ → Outcome → Type 0
+IsShown (usage.Asked shown) text Done = text ≡ string_bytes shown
+IsShown _ text outcome = ⊥
+
+-- the answer to a command line: to its job; or, if it has none, the help or the version
+abbrev pub IsAnswer :
+    (List ℕ → Option (List ℕ)) → List (List ℕ) → List ℕ → Outcome → Type 0
+IsAnswer content words text outcome =
+    ((asked : Job) × AsksForJob words asked × IsAnswerTo content asked text outcome)
+    ⊎ (AsksForNone words × (outcome ≡ Done))
