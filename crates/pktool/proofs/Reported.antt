@@ -1,5 +1,5 @@
 -- What was written by a command, and what its status says of it.
-use Rattle.std.proofs.Common.{◌≡◌, ℕ, List, ◌++◌, Option, Some, None, Result, Ok, Err, refl, ◌∙◌}
+use Rattle.std.proofs.Common.{◌≡◌, ℕ, List, Option, Some, None, Result, Ok, Err, refl, ◌∙◌}
 use Rattle.std.proofs.Common.{inl, inr, subst}
 use Rattle.std.specs.Prelude.{◌⊎◌, length, IfOk}
 use Rattle.std.specs.Io.KnownBytes.{Appends, Keeps}

@@ -1,9 +1,9 @@
 -- What each command answers about the files that it reads: the text for standard output, and the
 -- outcome. A host reveals the bytes of a file, as `Some`, or it doesn't.
-use Rattle.std.specs.Prelude.{◌≡◌, ℕ, ◌⊎◌, List, length, codes, string_bytes, IfSome}
+use Rattle.std.specs.Prelude.{◌≡◌, ℕ, ◌⊎◌, List, length, string_bytes, IfSome}
 use Rattle.std.specs.Prelude.{Option, Some, None, Result, Ok}
 use Rattle.serde_json.specs.Data.{Data}
-use Rattle.pkops.specs.Limits.{Bounds, holding_all, standard}
+use Rattle.pkops.specs.Limits.{holding_all, standard}
 use Rattle.pkread.specs.Printed.{refusal_text}
 use Rattle.pkread.specs.Rows.{Sight}
 use Rattle.pkread.specs.declared.Refusal.{Refusal}
