@@ -1,10 +1,27 @@
 /* The C API of storklocker.h. It wraps proved functions that take no null pointers: it replaces
-   null by a valid address, and converts settings to this library's version. Of an answer it decides
-   only the limit on memo numbers of a list file that names none. */
+   null by a valid address, converts settings to this library's version, and asks for costs only
+   where they are limited. Of an answer it decides only the limit on memo numbers of a list file
+   that names none. */
 #include "storklocker.h"
 
 #include <stdlib.h>
 #include <string.h>
+
+/* The sizes of settings and verdicts without costs: those of earlier versions, and of pkguard. */
+#define SETTINGS_SIZE offsetof(struct storklocker_settings, levels)
+#define VERDICT_SIZE offsetof(struct storklocker_verdict, levels)
+
+/* Limits on what loading costs, and a bill, as pkguard has them. */
+struct costs {
+    uint32_t levels, weight;
+    uint64_t work, clash, memory;
+    uint32_t builds;
+    uint32_t all; /* 1: all pickles up to the end of the bytes; 0: the first alone */
+};
+struct bill {
+    uint32_t levels, weight;
+    uint64_t work, clash, memory;
+};
 
 /* Exported by the crate pkguard. */
 extern __typeof__(storklocker_check_pairs) pkguard_check_pairs;
@@ -12,6 +29,10 @@ extern __typeof__(storklocker_check_list) pkguard_check_list;
 extern __typeof__(storklocker_check_row) pkguard_check_row;
 extern __typeof__(storklocker_read_list) pkguard_read_list;
 extern __typeof__(storklocker_imports) pkguard_imports;
+extern uint32_t pkguard_check_loading(
+    const struct storklocker_pair *, size_t, const struct storklocker_settings *,
+    const struct costs *, const uint8_t *, size_t, uint8_t *, size_t, struct storklocker_verdict *,
+    struct bill *);
 
 /* A valid address in place of null. Its length is 0, so nothing is read or written there. */
 static void *or_nothing(const void *given) {
@@ -19,16 +40,46 @@ static void *or_nothing(const void *given) {
     return given != NULL ? (void *)given : &nothing;
 }
 
-/* The settings that the caller's header has, with standard values for the others. */
+/* Whether the settings are those of this version. */
+static int are_of_this_version(const struct storklocker_settings *given) {
+    return given != NULL && given->size == sizeof *given;
+}
+
+/* The size by which pkguard knows that it supports the settings, otherwise 0. */
+static uint64_t size_of(const struct storklocker_settings *given) {
+    return given == NULL || are_of_this_version(given) || given->size == SETTINGS_SIZE
+        ? SETTINGS_SIZE
+        : 0;
+}
+
+/* The settings that the caller's header has, with standard values for the others. Their size is
+   that of pkguard. */
 static struct storklocker_settings settings_of(const struct storklocker_settings *given) {
     struct storklocker_settings settings = STORKLOCKER_STANDARD;
-    if (given != NULL && given->size == sizeof settings)
-        return *given; /* of this version, which is copied faster */
-    if (given != NULL) {
-        memcpy(&settings, given, given->size < sizeof settings ? given->size : sizeof settings);
-        settings.size = given->size;
-    }
+    if (are_of_this_version(given))
+        settings = *given;
+    else if (given != NULL && given->size == SETTINGS_SIZE)
+        memcpy(&settings, given, SETTINGS_SIZE);
+    settings.size = settings.unused == 0 ? size_of(given) : 0;
     return settings;
+}
+
+static int limit_costs(const struct storklocker_settings *own) {
+    return own->levels != UINT32_MAX || own->weight != UINT32_MAX || own->work != UINT64_MAX
+        || own->clash != UINT64_MAX || own->memory != UINT64_MAX || own->builds != 1;
+}
+
+/* Writes the bill to the verdict of a caller whose header has it. */
+static void tell(
+    const struct storklocker_settings *given, struct bill bill,
+    struct storklocker_verdict *verdict) {
+    if (!are_of_this_version(given) || verdict == NULL)
+        return;
+    verdict->levels = bill.levels;
+    verdict->weight = bill.weight;
+    verdict->work = bill.work;
+    verdict->clash = bill.clash;
+    verdict->memory = bill.memory;
 }
 
 const char *storklocker_version(void) {
@@ -40,7 +91,8 @@ const char *storklocker_reason_text(uint32_t reason) {
         "", "Source", "Truncated", "UnknownOpcode", "BadArgument", "TooLarge", "ExtensionCode",
         "UnsupportedProtocol", "BrokenFrame", "MissingMark", "MissingItem", "MissingMemo",
         "OddItems", "WrongClass", "NotText", "UnknownImport", "ImportOffList", "LeftOver",
-        "OutOfMemory", "NotAscii"};
+        "OutOfMemory", "NotAscii", "DeepKey", "HeavyKeys", "ManyKeys", "MuchMemory",
+        "BuildsImport"};
     return texts[reason < sizeof texts / sizeof *texts ? reason : 0];
 }
 
@@ -52,15 +104,37 @@ const char *storklocker_fault_text(uint32_t fault) {
     return texts[fault < sizeof texts / sizeof *texts ? fault : 0];
 }
 
+/* Checks the first pickle, or all. */
+static uint32_t check(
+    const struct storklocker_pair *pairs, size_t count, const struct storklocker_settings *settings,
+    const uint8_t *pickles, size_t length, uint8_t *room, size_t room_length,
+    struct storklocker_verdict *verdict, int all) {
+    struct storklocker_settings own = settings_of(settings);
+    struct storklocker_verdict untold;
+    struct storklocker_verdict *told = verdict ? verdict : &untold;
+    struct bill bill = {0};
+    uint32_t status;
+    pairs = or_nothing(pairs);
+    pickles = or_nothing(pickles);
+    room = or_nothing(room);
+    if (limit_costs(&own)) {
+        struct costs costs = {
+            own.levels, own.weight, own.work, own.clash, own.memory, own.builds, (uint32_t)all};
+        status = pkguard_check_loading(
+            pairs, count, &own, &costs, pickles, length, room, room_length, told, &bill);
+    } else if (all)
+        status = pkguard_check_row(pairs, count, &own, pickles, length, room, room_length, told);
+    else
+        status = pkguard_check_pairs(pairs, count, &own, pickles, length, room, room_length, told);
+    tell(settings, bill, verdict);
+    return status;
+}
+
 uint32_t storklocker_check_pairs(
     const struct storklocker_pair *pairs, size_t count, const struct storklocker_settings *settings,
     const uint8_t *pickle, size_t pickle_length, uint8_t *room, size_t room_length,
     struct storklocker_verdict *verdict) {
-    struct storklocker_settings own = settings_of(settings);
-    struct storklocker_verdict untold;
-    return pkguard_check_pairs(
-        or_nothing(pairs), count, &own, or_nothing(pickle), pickle_length, or_nothing(room),
-        room_length, verdict ? verdict : &untold);
+    return check(pairs, count, settings, pickle, pickle_length, room, room_length, verdict, 0);
 }
 
 uint32_t storklocker_check_list(
@@ -69,6 +143,9 @@ uint32_t storklocker_check_list(
     struct storklocker_verdict *verdict) {
     struct storklocker_settings own = settings_of(settings);
     struct storklocker_verdict untold;
+    if (limit_costs(&own))
+        own.size = 0; /* pkguard would not limit them */
+    tell(settings, (struct bill){0}, verdict);
     return pkguard_check_list(
         or_nothing(list), list_length, &own, or_nothing(pickle), pickle_length, or_nothing(room),
         room_length, verdict ? verdict : &untold);
@@ -78,11 +155,7 @@ uint32_t storklocker_check_row(
     const struct storklocker_pair *pairs, size_t count, const struct storklocker_settings *settings,
     const uint8_t *pickles, size_t pickles_length, uint8_t *room, size_t room_length,
     struct storklocker_verdict *verdict) {
-    struct storklocker_settings own = settings_of(settings);
-    struct storklocker_verdict untold;
-    return pkguard_check_row(
-        or_nothing(pairs), count, &own, or_nothing(pickles), pickles_length, or_nothing(room),
-        room_length, verdict ? verdict : &untold);
+    return check(pairs, count, settings, pickles, pickles_length, room, room_length, verdict, 1);
 }
 
 /* Whether a list file that was read has `numbers` among its limits, -1 if an allocation is refused.
@@ -93,6 +166,7 @@ static int has_numbers(const uint8_t *list, size_t length) {
     struct storklocker_settings own = STORKLOCKER_STANDARD;
     struct storklocker_verdict verdict = {0};
     uint64_t unwanted;
+    own.size = SETTINGS_SIZE;
     uint8_t *other = malloc(length);
     if (other == NULL)
         return -1;
@@ -115,11 +189,13 @@ uint32_t storklocker_read_list(
     const uint8_t *list, size_t list_length, uint8_t *room, size_t room_length,
     struct storklocker_settings *limits, uint64_t *wanted, struct storklocker_verdict *verdict) {
     const struct storklocker_settings standard = STORKLOCKER_STANDARD;
-    struct storklocker_settings own = settings_of(limits);
+    struct storklocker_settings own = standard;
     struct storklocker_verdict untold;
     uint64_t unwanted;
+    tell(limits, (struct bill){0}, verdict);
     verdict = verdict ? verdict : &untold;
     wanted = wanted ? wanted : &unwanted;
+    own.size = size_of(limits);
     pkguard_read_list(
         or_nothing(list), list_length, or_nothing(room), room_length, &own, wanted, verdict);
     if (verdict->status == STORKLOCKER_YES && own.numbers == UINT32_MAX)
@@ -127,13 +203,17 @@ uint32_t storklocker_read_list(
         case 0:
             own.numbers = standard.numbers;
             break;
-        case -1:
-            *wanted = 0;
-            *verdict = (struct storklocker_verdict){
+        case -1: {
+            const struct storklocker_verdict lacking = {
                 .status = STORKLOCKER_NO_LIST, .reason = STORKLOCKER_LIST_OUT_OF_MEMORY};
+            memcpy(verdict, &lacking, VERDICT_SIZE);
+            *wanted = 0;
         }
-    if (limits != NULL && verdict->status == STORKLOCKER_YES)
+        }
+    if (limits != NULL && verdict->status == STORKLOCKER_YES) {
+        own.size = limits->size;
         memcpy(limits, &own, own.size);
+    }
     return verdict->status;
 }
 
@@ -143,6 +223,7 @@ uint32_t storklocker_imports(
     struct storklocker_settings own = settings_of(settings);
     struct storklocker_verdict untold;
     uint64_t unwanted;
+    tell(settings, (struct bill){0}, verdict);
     return pkguard_imports(
         &own, or_nothing(pickle), pickle_length, or_nothing(room), room_length,
         wanted ? wanted : &unwanted, verdict ? verdict : &untold);

@@ -20,7 +20,10 @@ _USUAL: "Any" = ...
 OLD_STRINGS = ("unknown", "ascii", "bytes")
 """How Python 2 strings may be decoded; the index is the number in storklocker.h."""
 
-_SETTINGS = struct.Struct("=6Q4I")
+_SETTINGS = struct.Struct("=6Q4I2I3Q2I")
+
+_WITHOUT_COSTS = (UNBOUND, UNBOUND, *[(1 << 64) - 1] * 3, 1, 0)
+"""The fields for limits on what loading costs, without limits."""
 
 
 class Limits(namedtuple("Limits", "counted stack memo passed numbers large")):
@@ -102,4 +105,4 @@ def packed(limits: Limits, old_strings: str, keeps_memo: bool) -> bytes:
     """The bytes of a `struct storklocker_settings`, for sorted pairs."""
     *numbers, large = limits_of(*limits)
     words = (OLD_STRINGS.index(old_strings), keeps_memo, large, True)
-    return _SETTINGS.pack(_SETTINGS.size, *numbers, *words)
+    return _SETTINGS.pack(_SETTINGS.size, *numbers, *words, *_WITHOUT_COSTS)

@@ -2,7 +2,8 @@
  * Checks untrusted pickles, from C and from languages that call C. Link with -lstorklocker.
  *
  * Status 0 means that the pickle is accepted: whatever its objects do when it is loaded, it imports
- * only listed pairs and leaves exactly one object. The check executes no part of it.
+ * only listed pairs and leaves exactly one object. The check executes no part of it. If the
+ * settings limit what loading costs, it is within these limits too.
  *
  * Arguments. A pointer parameter may be null if its length is 0. Null settings are the standard
  * ones, and nothing is written to a null `verdict`, `wanted` or `limits`. The two pointers inside a
@@ -81,11 +82,25 @@ struct storklocker_settings {
                              refused.
                              0: the pairs are in any order, and a miss of the binary search falls
                              back to a scan */
+    /* What loading a pickle may cost; the standard is no limit. Keys are those of dicts and the
+       items of sets. An object weighs 1, an int in digits or bytes an eighth of these more, a text
+       or bytes a 64th of its bytes more, and a tuple or frozenset the weights of its items more.
+       What a call or an import gives weighs 1, whatever its hash costs. Weights are counted up to
+       1,048,575 and levels up to 1,023: a limit of at least that many is none. */
+    uint32_t levels;      /* levels of tuples in a key; UINT32_MAX */
+    uint32_t weight;      /* the weight of a key; UINT32_MAX */
+    uint64_t work;        /* the weight of all keys together; UINT64_MAX */
+    uint64_t clash;       /* the weight of all keys but texts, bytes and answers, which alone can
+                             be made to collide; UINT64_MAX */
+    uint64_t memory;      /* bytes that loading takes, by estimate; UINT64_MAX */
+    uint32_t builds;      /* 0: BUILD may not take an object that an import gave; 1 */
+    uint32_t unused;      /* must be 0 */
 };
 
 #define STORKLOCKER_STANDARD \
     {sizeof(struct storklocker_settings), 16777216, 1000000, 1000000, 16777216, 1000000, \
-     STORKLOCKER_OLD_UNKNOWN, STORKLOCKER_MEMO_FRESH, 0, 0}
+     STORKLOCKER_OLD_UNKNOWN, STORKLOCKER_MEMO_FRESH, 0, 0, UINT32_MAX, UINT32_MAX, UINT64_MAX, \
+     UINT64_MAX, UINT64_MAX, 1, 0}
 
 /* The answer of the checker. Fields that do not apply to its status are 0. */
 struct storklocker_verdict {
@@ -100,6 +115,13 @@ struct storklocker_verdict {
     uint64_t module_length; /* the lengths of the pair's module and name in bytes; both are at */
     uint64_t name_length;   /* the front of `room`, one after the other, if both fit */
     uint64_t pickles;       /* the number of accepted pickles; 1 for a single accepted pickle */
+    /* The bill: status 0, where the settings limit costs, what loading the last pickle costs. It is
+       written only for settings of this version's size, and not for null ones. */
+    uint32_t levels;        /* the levels of tuples in the deepest key */
+    uint32_t weight;        /* the weight of the heaviest key */
+    uint64_t work;          /* the weight of all keys together */
+    uint64_t clash;         /* the weight of all keys but texts, bytes and answers */
+    uint64_t memory;        /* the bytes that loading takes, by estimate */
 };
 
 enum storklocker_status {
@@ -130,7 +152,13 @@ enum storklocker_reason {
     STORKLOCKER_IMPORT_OFF_LIST = 16,
     STORKLOCKER_LEFT_OVER = 17,
     STORKLOCKER_OUT_OF_MEMORY = 18,
-    STORKLOCKER_NOT_ASCII = 19
+    STORKLOCKER_NOT_ASCII = 19,
+    /* by the limits on costs, in the order in which they are tried */
+    STORKLOCKER_DEEP_KEY = 20,     /* a key has more levels than `levels` */
+    STORKLOCKER_HEAVY_KEYS = 21,   /* a key weighs more than `weight`, or all more than `work` */
+    STORKLOCKER_MANY_KEYS = 22,    /* keys that can be made to collide weigh more than `clash` */
+    STORKLOCKER_MUCH_MEMORY = 23,  /* loading takes more bytes than `memory` */
+    STORKLOCKER_BUILDS_IMPORT = 24 /* BUILD takes an object that an import gave */
 };
 
 /* Why a list file cannot be read. The numbers never change. */
@@ -158,8 +186,8 @@ const char *storklocker_fault_text(uint32_t fault);
 
 /* Checks the pickle at the front of the bytes under pairs. Bytes after its STOP are ignored. If the
    pairs are sorted by module and then by name, byte for byte, a listed pair is found in logarithmic
-   time; any other order gives the same answer, unless `sorted` is set. Never returns
-   STORKLOCKER_NO_LIST. */
+   time; any other order gives the same answer, unless `sorted` is set. A check with limits on costs
+   takes several times as long. Never returns STORKLOCKER_NO_LIST. */
 uint32_t storklocker_check_pairs(
     const struct storklocker_pair *pairs, size_t pair_count,
     const struct storklocker_settings *settings,
@@ -169,7 +197,8 @@ uint32_t storklocker_check_pairs(
 
 /* Like storklocker_check_pairs, with the text of a list file, which is parsed on every call; to
    parse it once, use storklocker_read_list. Each limit is the smaller of the list's and the
-   settings'. The `large` and `sorted` of the settings are ignored. */
+   settings'. The `large` and `sorted` of the settings are ignored. A limit on costs is
+   STORKLOCKER_USAGE: read the list, and check under its pairs. */
 uint32_t storklocker_check_list(
     const uint8_t *list, size_t list_length,
     const struct storklocker_settings *settings,
@@ -214,7 +243,8 @@ uint32_t storklocker_read_list(
    refused, and only the reason tells of them. An import whose pair the pickle doesn't reveal has
    UINT64_MAX for both lengths, and no bytes. Check `wanted` against a bound before you allocate: a
    pickle of a megabyte may need gigabytes, because a text that it names a thousand times is copied a
-   thousand times. At STORKLOCKER_USAGE, `wanted` is 0. Never returns STORKLOCKER_NO_LIST. */
+   thousand times. At STORKLOCKER_USAGE, `wanted` is 0. Limits on costs are ignored. Never returns
+   STORKLOCKER_NO_LIST. */
 uint32_t storklocker_imports(
     const struct storklocker_settings *settings,
     const uint8_t *pickle, size_t pickle_length,

@@ -1,6 +1,7 @@
 /* The C library as a C program calls it: nulls, settings of another size, rows, lists, imports, and
    each allocation refused. Linked with refusing.c under sanitizers; prints what is wrong. */
 #include <pthread.h>
+#include <stddef.h>
 #include <stdio.h>
 #include <stdlib.h>
 #include <string.h>
@@ -11,6 +12,9 @@
 
 #define BYTES(text) (const uint8_t *)text, sizeof text - 1
 #define EIGHT(digit) digit "\0\0\0\0\0\0\0"
+/* 65 bytes whose key takes as long to hash as 2 ** 31 objects */
+#define TWICE "2\x86" "2\x86" "2\x86" "2\x86" "2\x86"
+#define DOUBLED "})" TWICE TWICE TWICE TWICE TWICE TWICE "Ns."
 #define IS(fact) ((fact) ? (void)0 : wrong(__LINE__, #fact))
 /* calls of two pairs, which tell `verdict` */
 #define CHECK(pairs, settings, text) \
@@ -57,7 +61,7 @@ static void nulls(void) {
 
 /* Settings of another size are told so, and no byte of them beyond that size is read. */
 static void sizes(void) {
-    const uint64_t others[] = {0, 1, 8, 9, 40, 63, 65, 128, UINT64_MAX};
+    const uint64_t others[] = {0, 1, 8, 9, 40, 63, 65, 72, 96, 103, 105, 128, UINT64_MAX};
     for (size_t k = 0; k < sizeof others / sizeof *others; k++) {
         size_t held = others[k] < 8 ? 8 : others[k] < 128 ? (size_t)others[k] : 128;
         struct storklocker_settings *given = calloc(1, held);
@@ -176,12 +180,136 @@ static void numbers_of_lists(void) {
     }
 }
 
+/* Each limit on costs: what is accepted without it is refused, and one more is enough. */
+static void costs(void) {
+    static const struct {
+        struct storklocker_settings settings;
+        const char *pickle;
+        uint32_t reason;
+        uint64_t at;
+    } limited[] = {
+#define LIMITED(levels, weight, work, clash, memory, builds) \
+    {sizeof(struct storklocker_settings), 16777216, 1000000, 1000000, 16777216, 1000000, 0, 0, 0, \
+     0, levels, weight, work, clash, memory, builds, 0}
+#define NONE32 UINT32_MAX
+#define NONE UINT64_MAX
+        {LIMITED(2, NONE32, NONE, NONE, NONE, 1), "})\x85\x85Ns.", STORKLOCKER_DEEP_KEY, 5},
+        {LIMITED(3, NONE32, NONE, NONE, NONE, 1), "})\x85\x85Ns.", 0, 0},
+        {LIMITED(NONE32, 1000000, NONE, NONE, NONE, 1), DOUBLED, STORKLOCKER_HEAVY_KEYS, 63},
+        {LIMITED(NONE32, 1048575, NONE, NONE, NONE, 1), DOUBLED, 0, 0},
+        {LIMITED(NONE32, NONE32, 1, NONE, NONE, 1), "}(NNNNu.", STORKLOCKER_HEAVY_KEYS, 6},
+        {LIMITED(NONE32, NONE32, 2, NONE, NONE, 1), "}(NNNNu.", 0, 0},
+        {LIMITED(NONE32, NONE32, NONE, 3, NONE, 1), "\x8f(NNNN\x90.", STORKLOCKER_MANY_KEYS, 6},
+        {LIMITED(NONE32, NONE32, NONE, 4, NONE, 1), "\x8f(NNNN\x90.", 0, 0},
+        {LIMITED(NONE32, NONE32, NONE, NONE, 743, 1), "](\x8f\x8f" "e.",
+         STORKLOCKER_MUCH_MEMORY, 5},
+        {LIMITED(NONE32, NONE32, NONE, NONE, 744, 1), "](\x8f\x8f" "e.", 0, 0},
+        {LIMITED(NONE32, NONE32, NONE, NONE, NONE, 0), "ca\nb\n}b.", STORKLOCKER_BUILDS_IMPORT,
+         6},
+        {LIMITED(NONE32, NONE32, NONE, NONE, NONE, 0), "ca\nb\n)R}b.", 0, 0},
+    };
+    for (size_t k = 0; k < sizeof limited / sizeof *limited; k++) {
+        const struct storklocker_settings *limits = &limited[k].settings;
+        const uint8_t *pickle = (const uint8_t *)limited[k].pickle;
+        size_t length = strlen(limited[k].pickle);
+        struct storklocker_verdict verdict, free;
+        IS(storklocker_check_pairs(listed, 2, NULL, pickle, length, NULL, 0, &free) == 0);
+        storklocker_check_pairs(listed, 2, limits, pickle, length, NULL, 0, &verdict);
+        if (verdict.status != (limited[k].reason != 0) || verdict.reason != limited[k].reason
+            || verdict.at != limited[k].at || verdict.taken != (verdict.status ? 0 : free.taken))
+            wrong((int)k, "limited");
+        storklocker_check_row(listed, 2, limits, pickle, length, NULL, 0, &verdict);
+        if (verdict.reason != limited[k].reason || verdict.at != limited[k].at)
+            wrong((int)k, "limited in a row");
+    }
+}
+
+/* The bill of the last pickle, which is told where costs are limited and for a yes alone. */
+static void bills(void) {
+    static const struct storklocker_settings limits = LIMITED(9, 9, 9, 9, 9999, 0);
+    struct storklocker_settings given = limits;
+    struct storklocker_verdict verdict;
+    uint8_t room[9] = "rrrrrrrr";
+    IS(CHECK(listed, &limits, "}K\1)\x85\x85s.") == STORKLOCKER_YES);
+    IS(verdict.levels == 0 && verdict.weight == 1 && verdict.work == 1 && verdict.clash == 1);
+    IS(verdict.memory == 512 && verdict.taken == 8 && verdict.pickles == 1);
+    IS(CHECK(listed, &limits, "})\x85NsN.") == STORKLOCKER_NO);
+    IS(verdict.reason == STORKLOCKER_LEFT_OVER && verdict.weight == 0 && verdict.memory == 0);
+    IS(CHECK(listed, &standard, "})\x85Ns.") == STORKLOCKER_YES && verdict.weight == 0);
+    IS(CHECK_ROW(&limits, "}K\1Ns.})\x85Ns.") == STORKLOCKER_YES && verdict.pickles == 2);
+    IS(verdict.levels == 2 && verdict.weight == 2 && verdict.work == 2 && verdict.clash == 2);
+    given.levels = 1;
+    IS(CHECK_ROW(&given, "}K\1Ns.})\x85Ns.") == STORKLOCKER_NO && verdict.pickles == 1);
+    IS(verdict.reason == STORKLOCKER_DEEP_KEY && verdict.at == 10 && verdict.weight == 0);
+    /* what is refused first */
+    IS(CHECK_ROW(&given, "})\x85Ns0cos\nx\n.") == STORKLOCKER_NO && verdict.at == 4);
+    IS(verdict.reason == STORKLOCKER_DEEP_KEY && is_same(room, "rrrrrrrr", 8));
+    IS(CHECK_ROW(&given, "cos\nx\n0})\x85Ns.") == STORKLOCKER_NO && verdict.at == 0);
+    IS(verdict.reason == STORKLOCKER_IMPORT_OFF_LIST && is_same(room, "osxrrrrr", 8));
+    IS(CHECK_ROW(&given, "])\x85Ns.") == STORKLOCKER_NO && verdict.at == 4);
+    IS(verdict.reason == STORKLOCKER_WRONG_CLASS);
+}
+
+/* What can't be kept is told so: unknown numbers, and limits on costs beside the text of a list. */
+static void unkept(void) {
+    struct storklocker_settings given = standard;
+    struct storklocker_verdict verdict;
+    uint8_t room[8];
+    given.builds = 2;
+    IS(CHECK(listed, &given, "N.") == STORKLOCKER_USAGE);
+    given.builds = 0;
+    IS(CHECK(listed, &given, "N.") == STORKLOCKER_YES);
+    IS(storklocker_check_list(BYTES("x"), &given, BYTES("N."), room, 8, &verdict) == 3);
+    IS(storklocker_imports(&given, BYTES("cx\ny\n}b."), room, 8, NULL, &verdict) == 0);
+    given = standard;
+    given.unused = 1;
+    IS(CHECK(listed, &given, "N.") == STORKLOCKER_USAGE);
+    IS(CHECK_ROW(&given, "N.") == STORKLOCKER_USAGE);
+    given = standard;
+    given.work = 7;
+    given.row_memo = 2;
+    IS(CHECK(listed, &given, "N.") == STORKLOCKER_USAGE);
+    IS(storklocker_read_list(BYTES("version = 1\n[imports]"), room, 8, &given, NULL, NULL) == 0);
+    IS(given.size == sizeof given && given.work == UINT64_MAX && given.levels == UINT32_MAX);
+    IS(given.builds == 1 && given.unused == 0);
+}
+
+/* A caller whose header has no costs: no byte of its settings and verdicts beyond them is used. */
+static void older(void) {
+    size_t size = offsetof(struct storklocker_settings, levels);
+    size_t told = offsetof(struct storklocker_verdict, levels);
+    struct storklocker_settings *given = malloc(size);
+    struct storklocker_verdict *verdict = malloc(told);
+    if (given == NULL || verdict == NULL)
+        exit(2);
+    memcpy(given, &standard, size);
+    given->size = size;
+    IS(storklocker_check_pairs(listed, 2, given, BYTES(DOUBLED), NULL, 0, verdict) == 0);
+    IS(storklocker_check_pairs(listed, 2, NULL, BYTES(DOUBLED), NULL, 0, verdict) == 0);
+    IS(storklocker_check_row(listed, 2, given, BYTES(DOUBLED "N."), NULL, 0, verdict) == 0);
+    IS(verdict->taken == 67 && verdict->pickles == 2);
+    IS(storklocker_imports(given, BYTES(DOUBLED), NULL, 0, NULL, verdict) == STORKLOCKER_YES);
+    IS(storklocker_read_list(BYTES("version = 1\n[imports]"), NULL, 0, given, NULL, verdict) == 0);
+    IS(given->size == size && given->stack == 1000000 && given->numbers == 1000000);
+    for (long count = 0; count < 100; count++) {
+        grant(count);
+        storklocker_read_list(
+            BYTES("version = 1\n[imports]\nnumbers = []"), NULL, 0, given, NULL, verdict);
+        grant(-1);
+        IS(verdict->status == 0 || verdict->reason == STORKLOCKER_LIST_OUT_OF_MEMORY);
+    }
+    free(given);
+    free(verdict);
+}
+
 /* The texts of numbers. */
 static void texts(void) {
     IS(strcmp(storklocker_reason_text(STORKLOCKER_IMPORT_OFF_LIST), "ImportOffList") == 0);
     IS(strcmp(storklocker_reason_text(STORKLOCKER_NOT_ASCII), "NotAscii") == 0);
     IS(strcmp(storklocker_fault_text(STORKLOCKER_LIST_SHAPE_LIMIT), "Shape(Limit)") == 0);
-    IS(storklocker_reason_text(0)[0] == 0 && storklocker_reason_text(20)[0] == 0);
+    IS(strcmp(storklocker_reason_text(STORKLOCKER_DEEP_KEY), "DeepKey") == 0);
+    IS(strcmp(storklocker_reason_text(STORKLOCKER_BUILDS_IMPORT), "BuildsImport") == 0);
+    IS(storklocker_reason_text(0)[0] == 0 && storklocker_reason_text(25)[0] == 0);
     IS(storklocker_fault_text(0)[0] == 0 && storklocker_fault_text(UINT32_MAX)[0] == 0);
 }
 
@@ -201,8 +329,9 @@ static void lists(size_t less) {
     IS(storklocker_read_list(BYTES(list), room, length, &limits, &wanted, &verdict) == 0);
     IS(wanted == 62 && verdict.status == 0 && verdict.imports == 0);
     IS(is_same(room, less ? "\0\0\0\0\0\0\0\0\0" : pairs, less ? 9 : length));
-    IS(limits.size == 64 && limits.stack == 5 && limits.numbers == 9 && limits.large == 1);
-    IS(limits.memo == 4294967295 && limits.passed == 16777216 && limits.sorted == 0);
+    IS(limits.size == sizeof limits && limits.stack == 5 && limits.numbers == 9);
+    IS(limits.large == 1 && limits.memo == 4294967295);
+    IS(limits.passed == 16777216 && limits.sorted == 0);
     IS(storklocker_read_list(BYTES("version = 3"), room, length, &limits, &wanted, &verdict) == 2);
     IS(verdict.reason == STORKLOCKER_LIST_VERSION && wanted == 0 && limits.stack == 5);
     free(room);
@@ -230,7 +359,12 @@ static void imports(size_t less) {
 }
 
 static uint32_t call(int number, struct storklocker_verdict *verdict) {
+    struct storklocker_settings billed = standard;
     uint8_t room[64];
+    billed.builds = 0;
+    if (number == 3)
+        return storklocker_check_row(
+            listed, 2, &billed, BYTES("ca\nb\n.]q\1.(ca\nb\nt."), room, 64, verdict);
     if (number == 0)
         return storklocker_check_row(
             listed, 2, NULL, BYTES("ca\nb\n.]q\1.(ca\nb\nt."), room, 64, verdict);
@@ -243,9 +377,10 @@ static uint32_t call(int number, struct storklocker_verdict *verdict) {
 /* Each allocation refused in turn: want of memory, or the answer with ample memory. */
 static void refused(void) {
     static const uint32_t wants[] = {
-        STORKLOCKER_OUT_OF_MEMORY, STORKLOCKER_LIST_OUT_OF_MEMORY, STORKLOCKER_OUT_OF_MEMORY};
-    for (int number = 0; number < 3; number++) {
-        struct storklocker_verdict ample, verdict;
+        STORKLOCKER_OUT_OF_MEMORY, STORKLOCKER_LIST_OUT_OF_MEMORY, STORKLOCKER_OUT_OF_MEMORY,
+        STORKLOCKER_OUT_OF_MEMORY};
+    for (int number = 0; number < 4; number++) {
+        struct storklocker_verdict ample = {0}, verdict = {0};
         int is_refused = 1;
         IS(call(number, &ample) == STORKLOCKER_YES);
         for (long count = 0; is_refused && count < 1000; count++) {
@@ -291,6 +426,10 @@ int main(void) {
     numbers();
     settings();
     numbers_of_lists();
+    costs();
+    bills();
+    unkept();
+    older();
     texts();
     rows();
     for (size_t less = 0; less < 2; less++) {

@@ -60,7 +60,8 @@ class Library(unittest.TestCase):
         user = self.folder / "user.cc"
         user.write_text(
             '#include "storklocker.h"\n'
-            "static_assert(sizeof(storklocker_settings) == 64, \"\");\n"
+            "static_assert(sizeof(storklocker_settings) == 104, \"\");\n"
+            "static_assert(sizeof(storklocker_verdict) == 96, \"\");\n"
             "const storklocker_settings standard = STORKLOCKER_STANDARD;\n"
         )
         words = [COMPILER, "-x", "c++", "-std=c++11", "-c", "-o", str(self.folder / "user.o")]

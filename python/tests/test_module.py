@@ -23,6 +23,7 @@ REASONS = (
     "BrokenFrame MissingMark MissingItem MissingMemo OddItems WrongClass NotText UnknownImport "
     "ImportOffList LeftOver OutOfMemory NotAscii"
 ).split()
+EXCESSES = "DeepKey HeavyKeys ManyKeys MuchMemory BuildsImport".split()
 FAULTS = (
     "Syntax Shape(Version) Shape(TopKey) Shape(Imports) Shape(Module) Shape(Name) Version "
     "OutOfMemory Shape(Limits) Shape(LimitKey) Shape(Limit)"
@@ -54,6 +55,14 @@ def fields_of_crate(file, name):
     return re.findall(r"pub (\w+): (.*),", body)
 
 
+def fields_of_library(name):
+    """Names and types of the fields of a structure that the C code shares with the crate."""
+    code = (PYTHON / "storklocker.c").read_text()
+    body = re.search(rf"struct {name} \{{(.*?)\n\}};", code, re.S)[1]
+    lines = re.findall(r"uint(\d+)_t ([\w, ]+);", body)
+    return [(field, f"u{bits}") for bits, fields in lines for field in fields.split(", ")]
+
+
 def fields_of_header(name):
     body = re.search(rf"struct {name} \{{(.*?)\n\}};", HEADER, re.S)[1]
     return [(field, f"u{bits}") for bits, field in re.findall(r"uint(\d+)_t (\w+);", body)]
@@ -65,7 +74,7 @@ class Numbers(unittest.TestCase):
         self.assertEqual(LIST_FAULTS, dict(zip(range(1, 99), FAULTS)))
 
     def test_header_has_them(self):
-        reasons = {constant_of(name): k for k, name in enumerate(REASONS, 1)}
+        reasons = {constant_of(name): k for k, name in enumerate(REASONS + EXCESSES, 1)}
         self.assertEqual(numbers_in("reason"), reasons)
         faults = {f"LIST_{constant_of(name)}": k for k, name in enumerate(FAULTS, 1)}
         self.assertEqual(numbers_in("fault"), faults)
@@ -75,7 +84,7 @@ class Numbers(unittest.TestCase):
 
     def test_library_prints_them(self):
         code = (PYTHON / "storklocker.c").read_text()
-        for kind, names in (("reason", REASONS), ("fault", FAULTS)):
+        for kind, names in (("reason", REASONS + EXCESSES), ("fault", FAULTS)):
             body = re.search(rf"storklocker_{kind}_text.*?= {{(.*?)}};", code, re.S)[1]
             self.assertEqual(re.findall(r'"(.*?)"', body), ["", *names])
 
@@ -83,6 +92,10 @@ class Numbers(unittest.TestCase):
         code = (GUARD / "src" / "codes.rt").read_text()
         reasons = re.findall(r"Reason::(\w+)(?:\(_\))? => (\d+),", code)
         self.assertEqual([(name, int(k)) for name, k in reasons], list(zip(REASONS, range(1, 99))))
+        excesses = [
+            (name, int(k)) for name, k in re.findall(r"Excess::(\w+) => (\d+),", code)
+        ]
+        self.assertEqual(excesses, [*zip(EXCESSES, range(20, 99)), ("OutOfMemory", 18)])
         faults = re.findall(r"AllowError::(\w+)(?:\(Where::(\w+)\))? => (\d+),", code)
         named = [(f"{name}({part})" if part else name, int(k)) for name, part, k in faults]
         self.assertEqual(named, list(zip(FAULTS, range(1, 99))))
@@ -98,11 +111,16 @@ class Numbers(unittest.TestCase):
         self.assertEqual([(name, int(k)) for k, name in rows], list(zip(REASONS, range(1, 99))))
 
     def test_header_and_crate_have_the_same_fields(self):
-        for file, name, header in (
-            ("pkguard/src/verdict.rt", "Verdict", "storklocker_verdict"),
-            ("pkguard/src/settings.rt", "Settings", "storklocker_settings"),
-        ):
-            self.assertEqual(fields_of_crate(file, name), fields_of_header(header))
+        verdict = fields_of_crate("pkguard/src/verdict.rt", "Verdict")
+        bill = fields_of_crate("pkguard/src/costs.rt", "Bill")
+        self.assertEqual(verdict + bill, fields_of_header("storklocker_verdict"))
+        settings = fields_of_crate("pkguard/src/settings.rt", "Settings")
+        *costs, extent = fields_of_crate("pkguard/src/costs.rt", "Costs")
+        self.assertEqual(
+            [*settings, *costs, ("unused", "u32")], fields_of_header("storklocker_settings")
+        )
+        library = fields_of_library("costs"), fields_of_library("bill")
+        self.assertEqual(library, ([*costs, extent], bill))
 
     def test_settings_are_packed_as_the_header_has_them(self):
         fields = fields_of_header("storklocker_settings")
@@ -113,6 +131,8 @@ class Numbers(unittest.TestCase):
         wanted = {**limits._asdict(), "size": struct.calcsize(shape), "sorted": 1}
         wanted.update(old_strings=numbers_in("old_strings")["OLD_BYTES"])
         wanted.update(row_memo=numbers_in("row_memo")["MEMO_KEPT"])
+        wanted.update(dict.fromkeys(("levels", "weight"), (1 << 32) - 1))
+        wanted.update(dict.fromkeys(("work", "clash", "memory"), (1 << 64) - 1), builds=1, unused=0)
         self.assertEqual(dict(zip((name for name, _ in fields), given)), wanted)
 
 

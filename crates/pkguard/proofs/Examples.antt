@@ -1,11 +1,18 @@
 -- Worked rows of what is told to C.
 use Rattle.std.proofs.Common.{◌≡◌, [], ◌∷◌, ◌++◌, refl}
-use Rattle.std.specs.Prelude.{codes, replicate}
+use Rattle.std.specs.Prelude.{codes, replicate, None, Some, false, true}
 use Rattle.toml.specs.Data.{string, array, no_items, item, no_members, member}
 use Rattle.pkcheck.specs.Knowledge.{AskedPair, AskedUnknown}
+use Rattle.pkcheck.specs.declared.Extent.TheVariants.{OnePickle, ToTheEnd}
+use Rattle.pkcheck.specs.declared.OldStrings.TheVariants.{Bytes}
+use Rattle.pkload.specs.declared.Excess.TheVariants.{BuildsImport, HeavyKeys, OutOfMemory}
 use Rattle.pkguard.specs.Encoding.{encoded_all, wanted_by}
 use Rattle.pkguard.specs.Guard.{placed}
 use Rattle.pkguard.specs.Listed.{pairs_at}
+use Rattle.pkguard.specs.Loading.{bill_of, extent_by, old_strings_with, tolls_by}
+use Rattle.pkguard.specs.Loading.{verdict_of_excess}
+use Rattle.pkguard.specs.declared.costs.Costs.{Costs}
+use Rattle.pkguard.specs.declared.settings.Settings.{Settings}
 
 -- `os.system` and an import that isn't known
 pair_encoded :
@@ -34,3 +41,84 @@ fits = refl
 
 too_long : placed (1 ∷ 2 ∷ []) (7 ∷ []) ≡ 7 ∷ []
 too_long = refl
+
+-- limits on costs, of which one pickle or all are checked, and which BUILD keeps or not
+few : Costs
+few = record {
+  levels = 2;
+  weight = 4;
+  work = 6;
+  clash = 3;
+  memory = 1_000;
+  builds = 0;
+  all = 0;
+}
+
+few_limit :
+    tolls_by few
+    ≡ record { levels = 2; weight = 4; work = 6; clash = 3; memory = 1_000; builds = false }
+few_limit = refl
+
+builds_may : (tolls_by (record few { builds = 1 })).builds ≡ true
+builds_may = refl
+
+first_alone : extent_by few ≡ OnePickle
+first_alone = refl
+
+all_of_them : extent_by (record few { all = 1 }) ≡ ToTheEnd
+all_of_them = refl
+
+-- flags are 0 or 1
+some : Settings
+some = record {
+  size = 64;
+  counted = 1;
+  stack = 1;
+  memo = 1;
+  passed = 1;
+  numbers = 1;
+  old_strings = 2;
+  row_memo = 0;
+  large = 0;
+  sorted = 0;
+}
+
+few_served : old_strings_with some few ≡ Some Bytes
+few_served = refl
+
+two_builds : old_strings_with some (record few { builds = 2 }) ≡ None
+two_builds = refl
+
+two_all : old_strings_with some (record few { all = 2 }) ≡ None
+two_all = refl
+
+old_size : old_strings_with (record some { size = 56 }) few ≡ None
+old_size = refl
+
+-- a key that is too heavy at the offset 63 of the third pickle, and a bill that couldn't be kept
+heavy :
+    verdict_of_excess 63 HeavyKeys 2
+    ≡ record {
+      status = 1;
+      reason = 21;
+      number = 0;
+      has_pair = 0;
+      at = 63;
+      taken = 0;
+      imports = 0;
+      module_length = 0;
+      name_length = 0;
+      pickles = 2;
+    }
+heavy = refl
+
+last_reason : (verdict_of_excess 0 BuildsImport 0).reason ≡ 24
+last_reason = refl
+
+lost : (verdict_of_excess 0 OutOfMemory 0).reason ≡ 18
+lost = refl
+
+billed :
+    bill_of (record { levels = 3; weight = 7; work = 9; clash = 8; builds = true }) 560
+    ≡ record { levels = 3; weight = 7; work = 9; clash = 8; memory = 560 }
+billed = refl

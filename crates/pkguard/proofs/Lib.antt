@@ -1,3 +1,4 @@
 pub mod Pieces
 pub mod Unpaired
+pub mod Judging
 pub mod Examples

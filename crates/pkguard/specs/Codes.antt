@@ -5,6 +5,8 @@ use Rattle.pkread.specs.declared.Reason.TheVariants as reason
 use Rattle.pkcheck.specs.declared.AllowError.{AllowError}
 use Rattle.pkcheck.specs.declared.AllowError.TheVariants as fault
 use Rattle.pkcheck.specs.declared.Where.TheVariants as part
+use Rattle.pkload.specs.declared.Excess.{Excess}
+use Rattle.pkload.specs.declared.Excess.TheVariants as excess
 
 -- the number of each reason, from 1 on
 abbrev pub reason_code : Reason → ℕ
@@ -27,6 +29,16 @@ reason_code reason.ImportOffList = 16
 reason_code reason.LeftOver = 17
 reason_code reason.OutOfMemory = 18
 reason_code reason.NotAscii = 19
+
+-- the number of each limit on what loading costs, from 20 on; a refused allocation has the number of
+-- that reason
+abbrev pub excess_code : Excess → ℕ
+excess_code excess.DeepKey = 20
+excess_code excess.HeavyKeys = 21
+excess_code excess.ManyKeys = 22
+excess_code excess.MuchMemory = 23
+excess_code excess.BuildsImport = 24
+excess_code excess.OutOfMemory = 18
 
 -- the number that a reason carries: a code byte, a protocol or a memo number; otherwise 0
 abbrev pub reason_number : Reason → ℕ

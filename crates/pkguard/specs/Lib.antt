@@ -3,5 +3,6 @@ pub mod Settings
 pub mod Encoding
 pub mod Listed
 pub mod Guard
+pub mod Loading
 -- internal definitions, which need not be trusted
 pub mod Private

@@ -1,2 +1,3 @@
 -- Definitions that only private functions cite. They need not be trusted.
 pub mod Written
+pub mod Judged

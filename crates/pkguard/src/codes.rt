@@ -1,9 +1,10 @@
 //! The numbers that C sees. They never change, because C programs are compiled with them. A new
 //! reason or error gets the next free number, whatever its position in the order.
 ghost use Rattle.std.specs.Prelude.{◌≡◌};
-ghost use Rattle.pkguard.specs.Codes.{fault_code, reason_code, reason_number};
+ghost use Rattle.pkguard.specs.Codes.{excess_code, fault_code, reason_code, reason_number};
 
 use pkcheck::{AllowError, Where};
+use pkload::Excess;
 use pkread::Reason;
 
 /// The number of a reason.
@@ -30,6 +31,20 @@ pub fn reason_code(reason: Reason) -> u32
         Reason::LeftOver => 17,
         Reason::OutOfMemory => 18,
         Reason::NotAscii => 19,
+    }
+}
+
+/// The number of a limit on what loading costs. A refused allocation has the number of that reason.
+pub fn excess_code(excess: Excess) -> u32
+    ensures { result ≡ excess_code excess }
+{
+    match excess {
+        Excess::DeepKey => 20,
+        Excess::HeavyKeys => 21,
+        Excess::ManyKeys => 22,
+        Excess::MuchMemory => 23,
+        Excess::BuildsImport => 24,
+        Excess::OutOfMemory => 18,
     }
 }
 

@@ -12,9 +12,13 @@
 #![tactic(auto)]
 
 mod codes;
+mod costing;
+mod costs;
 mod encoding;
 mod list;
 mod settings;
+#[cfg(test)]
+mod tests;
 mod verdict;
 
 ghost use Rattle.std.specs.Prelude.{◌≡◌, ◌≢◌, ◌≤◌, None, Some};
@@ -25,6 +29,8 @@ ghost use Rattle.pkguard.specs.Guard.{Under};
 ghost use Rattle.pkguard.specs.Settings.{PermitsPairs, Sets, limits_by, limits_within};
 ghost use Rattle.pkguard.specs.Settings.{listed_by, loading_by};
 
+pub use costing::pkguard_check_loading;
+pub use costs::{Bill, Costs};
 use pkcheck::laws::halving;
 use pkcheck::{Loading, OldStrings, Pair, Permit, Policy, check_all_loaded, check_with_imports};
 use pkops::Limits;

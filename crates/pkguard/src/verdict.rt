@@ -3,9 +3,11 @@ ghost use Rattle.std.specs.Prelude.{◌≡◌, ◌++◌, length, option_map};
 ghost use Rattle.pkcheck.specs.Import.{asked_shown};
 ghost use Rattle.pkguard.specs.Guard.{placed, verdict_of_fault, verdict_of_no, verdict_of_yes};
 ghost use Rattle.pkguard.specs.Guard.{names_placed, nothing_told, verdict_behind, verdict_of_usage};
+ghost use Rattle.pkguard.specs.Loading.{verdict_of_excess};
 
-use crate::codes::{fault_code, reason_code, reason_number};
+use crate::codes::{excess_code, fault_code, reason_code, reason_number};
 use pkcheck::{AllowError, Asked, Imports, No};
+use pkload::Costly;
 
 /// A verdict for C. Fields that do not apply to its status are 0.
 #[repr(C)]
@@ -119,10 +121,19 @@ fn of_no_alone(no: &No) -> Verdict
     ensures { result ≡ verdict_behind no.now.at no.now.reason 0 }
 {
     Verdict {
-        status: 1,
-        reason: reason_code(no.reason),
         number: reason_number(no.reason),
-        at: no.at,
+        ..of_refusal(no.at, reason_code(no.reason))
+    }
+}
+
+/// The verdict for a refusal at this place, with the number of its reason.
+fn of_refusal(place: u64, code: u32) -> Verdict
+    ensures { result ≡ record nothing_told { status = 1; reason = code; at = place } }
+{
+    Verdict {
+        status: 1,
+        reason: code,
+        at: place,
         ..NOTHING
     }
 }
@@ -135,6 +146,19 @@ pub fn of_no_with_imports(no: &No, imports: &Imports) -> Verdict
     Verdict {
         imports: imports.len() as u64,
         ..of_no_alone(no)
+    }
+}
+
+/// The verdict for an instruction that exceeds a limit on costs.
+pub fn of_excess(costly: &Costly) -> Verdict
+    ensures told { result
+        ≡ verdict_of_excess costly.now.at costly.now.excess costly.now.pickle }
+    ensures place { result.at ≡ costly.now.at }
+    ensures count { result.pickles ≡ costly.now.pickle }
+{
+    Verdict {
+        pickles: costly.pickle,
+        ..of_refusal(costly.at, excess_code(costly.excess))
     }
 }
 
