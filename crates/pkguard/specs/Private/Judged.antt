@@ -21,12 +21,12 @@ use Rattle.pkguard.specs.Loading.{verdict_of_excess}
 module _ (loading : Loading) (policy : Policy) (limits : Bounds) (pickles : List ℕ) where
   -- one pickle or a row is accepted
   abbrev pub IsAccepted : Extent → YesAll → Type 0
-  IsAccepted OnePickle yes =
+  IsAccepted OnePickle answer =
       (rest : List ℕ) × Accepted loading.old_strings policy limits (memory pickles) (memory rest)
-      yes.taken yes.imports × (yes.pickles ≡ 1)
-  IsAccepted ToTheEnd yes =
-      (rest : List ℕ) × AcceptedRow loading policy limits (memory pickles) (memory rest) yes.taken
-      yes.pickles yes.imports
+      answer.taken answer.imports × (answer.pickles ≡ 1)
+  IsAccepted ToTheEnd answer =
+      (rest : List ℕ) × AcceptedRow loading policy limits (memory pickles) (memory rest) answer.taken
+      answer.pickles answer.imports
 
   -- one pickle or a pickle of a row is refused
   abbrev pub IsRefused : Extent → NoAll → Type 0
@@ -43,9 +43,9 @@ TellsExcess costly verdict = verdict ≡ verdict_of_excess costly.at costly.exce
 
 -- the verdict and the bill, where the check accepts
 abbrev pub TellsYes : YesAll → Result Bill Costly → (before after : Bill) → Verdict → Type 0
-TellsYes yes (Ok sum) before after verdict =
-    (verdict ≡ verdict_of_yes yes.taken (length yes.imports) yes.pickles) × (after ≡ sum)
-TellsYes yes (Err costly) before after verdict =
+TellsYes answer (Ok sum) before after verdict =
+    (verdict ≡ verdict_of_yes answer.taken (length answer.imports) answer.pickles) × (after ≡ sum)
+TellsYes answer (Err costly) before after verdict =
     TellsExcess costly verdict × (after ≡ before)
 
 -- the verdict is that of the check
