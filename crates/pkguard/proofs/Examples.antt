@@ -43,7 +43,7 @@ too_long : placed (1 ∷ 2 ∷ []) (7 ∷ []) ≡ 7 ∷ []
 too_long = refl
 
 -- limits on costs, of which one pickle or all are checked, and which BUILD keeps or not
-few : Costs
+abbrev few : Costs
 few = record {
   levels = 2;
   weight = 4;
@@ -69,7 +69,7 @@ all_of_them : extent_by (record few { all = 1 }) ≡ ToTheEnd
 all_of_them = refl
 
 -- flags are 0 or 1
-some : Settings
+abbrev some : Settings
 some = record {
   size = 64;
   counted = 1;

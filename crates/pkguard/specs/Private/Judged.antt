@@ -1,5 +1,5 @@
 -- How the answers of the check and of the costs become a verdict.
-use Rattle.std.specs.Prelude.{◌≡◌, ◌<◌, ◌≤◌, ◌⊎◌, ℕ, List, length, Option, option_map, Result}
+use Rattle.std.specs.Prelude.{◌≡◌, ◌<◌, ◌⊎◌, ℕ, List, length, option_map, Result}
 use Rattle.std.specs.Prelude.{Ok, Err}
 use Rattle.pkops.specs.Limits.{Bounds}
 use Rattle.pkcheck.specs.Accepted.{Accepted}
