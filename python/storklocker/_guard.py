@@ -353,6 +353,8 @@ class Guard(Loads):
         if self._has_substitutes:
             loads: Any = _later("_substitutes").loads
             is_old, own = self._has_old_names(data), self._allow
+            if self._on_refusal is None:
+                return loads(data, own, is_old, encoding=encoding, errors=errors, buffers=buffers)
             with _later("_telling").Misuses(self, data):
                 return loads(data, own, is_old, encoding=encoding, errors=errors, buffers=buffers)
         if self._enforce and b"b" in data:

@@ -4,7 +4,6 @@ from __future__ import annotations
 
 import functools
 import importlib
-import weakref
 from typing import Any, Callable
 
 from ._answers import Misused
@@ -50,15 +49,22 @@ class Remembering(Substitute):
     __slots__ = ()
 
     def within(self, reader: Any) -> Substitute:
-        call, held = self._call, weakref.ref(reader)  # (the reader's memo may hold the substitute)
+        return _Within(self.name, self._call, reader.itself)
 
-        def within(*given: Any) -> Any:
-            its = held()
-            if its is None:
-                raise Misused(f"{self.name} is called after the pickle was loaded")
-            return call(its, *given)
 
-        return Substitute(self.name, within)
+class _Within(Substitute):
+    """A substitute as one reader's pickle has it."""
+
+    __slots__ = ("_reader",)
+
+    def __init__(self, name: str, call: Callable[..., Any], reader: Callable[[], Any]) -> None:
+        self.name, self.role, self._call, self._reader = name, 0, call, reader
+
+    def __call__(self, *given: Any) -> Any:
+        reader = self._reader()
+        if reader is None:
+            raise Misused(f"{self.name} is called after the pickle was loaded")
+        return self._call(reader, *given)
 
 
 @functools.lru_cache(maxsize=None)

@@ -15,17 +15,16 @@ import functools
 import pickle
 import sys
 import types
+import weakref
 from typing import (
     Any,
     Callable,
     Dict,
     FrozenSet,
     Iterable,
-    Iterator,
     List,
     Optional,
     Tuple,
-    cast,
 )
 
 from . import _arrays, _builtins, _names
@@ -41,6 +40,8 @@ Piece = Tuple[bytes, int, int]
 _REAL = (pickle.NONE + pickle.NONE + pickle.TUPLE3 + pickle.BINPERSID, 0, 4)
 """The piece that makes the object on the top a real one."""
 
+_DEFAULTS = {"encoding": "ASCII", "errors": "strict", "buffers": None}
+"""What a reader takes as if it were given nothing, only slower."""
 _IS_LENT = pickle.Unpickler is not getattr(pickle, "_Unpickler", None)
 """Whether the reader takes bytes that are lent: that in C does, that in Python doesn't."""
 
@@ -51,17 +52,23 @@ class Feed:
     def __init__(self) -> None:
         self._pieces: List[Piece] = []
         self._data, self._at, self._end = b"", 0, 0
+        self._view = memoryview(b"")
 
     def fill(self, data: bytes, at: int, real_at: Iterable[int]) -> None:
         """Gives it the pickle at an offset, with names that become real at some."""
-        self._pieces = list(_pieces_of(data, at, real_at))[::-1]
+        self._pieces = _pieces_of(data, at, real_at)[::-1]
+        self._begin()
+
+    def _begin(self) -> None:
+        """Begins the next piece."""
         self._data, self._at, self._end = self._pieces.pop()
+        self._view = memoryview(self._data)
 
     def peek(self, count: int, /) -> memoryview:
         """All that is left of a piece."""
         while self._at == self._end and self._pieces:
-            self._data, self._at, self._end = self._pieces.pop()
-        return memoryview(self._data)[self._at : self._end]
+            self._begin()
+        return self._view[self._at : self._end]
 
     def read(self, count: int, /) -> Any:
         taken = self.peek(count)[:count]
@@ -78,22 +85,24 @@ class Feed:
         return self._data[begin : self._at]
 
 
-def _pieces_of(data: bytes, at: int, real_at: Iterable[int]) -> Iterator[Piece]:
+def _pieces_of(data: bytes, at: int, real_at: Iterable[int]) -> List[Piece]:
     """The pieces of a respelled pickle: bytes, and the part of them that counts."""
+    pieces: List[Piece] = []
     for place in real_at:
-        yield from _respelled(data, at, place)
-        yield _REAL
+        _respell(pieces, data, at, place)
+        pieces.append(_REAL)
         at = place
-    yield from _respelled(data, at, len(data))
+    _respell(pieces, data, at, len(data))
+    return pieces
 
 
-def _respelled(data: bytes, at: int, stop: int) -> Iterator[Piece]:
+def _respell(pieces: List[Piece], data: bytes, at: int, stop: int) -> None:
     end = -1
     while at != end:
         spelled, end, past = respelled(data, at, stop)
-        yield (data, at, end) if spelled is None else (spelled, 0, len(spelled))
+        pieces.append((data, at, end) if spelled is None else (spelled, 0, len(spelled)))
         if past > end:
-            yield (data, end, past)
+            pieces.append((data, end, past))
         at = past
 
 
@@ -118,6 +127,8 @@ class Reader(pickle.Unpickler):
         """What judges the state of an object in `unbuilt`, and gives the one to be set."""
         self.looked = 0
         """The number of memo entries that were searched."""
+        self.itself = weakref.ref(self)
+        """It, for what its memo may hold."""
 
     def loaded(self, data: bytes, at: int, is_old: bool) -> Any:
         """The object of the accepted pickle at an offset. `is_old`: whether its names are those of
@@ -130,7 +141,8 @@ class Reader(pickle.Unpickler):
         return made
 
     def find_class(self, module: str, name: str, /) -> Any:
-        substitute = self.own.get((module, name)) or TABLE.get((module, name))
+        pair = module, name
+        substitute = self.own[pair] if pair in self.own else TABLE.get(pair)
         if substitute is None:
             it = super().find_class(module, name)
             substitute = _by_object().get(id(it))
@@ -139,12 +151,16 @@ class Reader(pickle.Unpickler):
         return substitute.within(self)
 
     def persistent_load(self, asked: Any, /) -> Any:
-        if type(asked) is tuple and len(asked) == 2:
-            _build(self, cast(Tuple[Any, Any], asked))
-            return asked[0]
-        if type(asked) is tuple and len(asked) == 3:
-            return asked[0].real() if isinstance(asked[0], Substitute) else asked[0]
-        return self.persistent(asked[0] if type(asked) is tuple else asked)
+        if type(asked) is not tuple:
+            return self.persistent(asked)
+        if len(asked) == 2:
+            if "numpy" not in sys.modules or not _arrays.is_built(self, asked):
+                _build(self, asked)
+        elif len(asked) != 3:
+            return self.persistent(asked[0])
+        elif isinstance(asked[0], Substitute):
+            return asked[0].real()
+        return asked[0]
 
     def copied_memo(self) -> Dict[int, Any]:
         """A copy of the memo."""
@@ -171,6 +187,8 @@ def loads(data: bytes, allow: AllowList, is_old: bool, **named: Any) -> Any:
     """The object of a pickle that is accepted under the list. `is_old`: whether its names are those
     of Python 2.
     """
+    if named == _DEFAULTS:
+        named = {}
     return (_Renaming if is_old else Reader)(allow, **named).loaded(data, 0, is_old)
 
 
@@ -212,10 +230,8 @@ _IMPORTED = (
 )
 
 
-def _build(reader: Reader, asked: Tuple[Any, Any]) -> None:
+def _build(reader: Reader, asked: Tuple[Any, ...]) -> None:
     """Sets the state of an object as BUILD does, unless it is known to do harm."""
-    if "numpy" in sys.modules and _arrays.is_built(reader, asked):
-        return
     receiver, state = asked
     if isinstance(receiver, functools.partial) and ("functools", "partial") in reader.own:
         if reader.unbuilt.pop(id(receiver), None) is not receiver:

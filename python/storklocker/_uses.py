@@ -8,6 +8,7 @@ does harm; and a pickle with any other is refused before any of it is loaded.
 from __future__ import annotations
 
 import functools
+import itertools
 from typing import Dict, FrozenSet, List, Mapping, Optional, Tuple
 
 from . import _names
@@ -23,6 +24,31 @@ _MOST = 1 << 10
 """More than the names that `uses.c` numbers, and what it divides a role by."""
 
 
+class _Numbers:
+    """Numbers the pairs that have substitutes."""
+
+    __slots__ = ("of", "_next")
+
+    def __init__(self) -> None:
+        self.of: Dict[Pair, int] = {}
+        self._next = itertools.count(1)
+
+    def number(self, pair: Pair, role: Optional[int]) -> int:
+        """The number and the role of a pair; 0 without a role."""
+        if role is None:
+            return 0
+        number = self.of.get(pair) or self.of.setdefault(pair, next(self._next))
+        if number >= _MOST:
+            raise Misused("the pickle writes the names that have substitutes in too many ways")
+        return number + role * _MOST
+
+
+_SHARED = _Numbers()
+"""The numbers of pairs that have the same substitute under all lists."""
+_ROOM = _MOST // 2
+"""How many numbers must be left of these for a reader that is made."""
+
+
 class Uses:
     """Follows the pickles that one reader loads."""
 
@@ -31,11 +57,13 @@ class Uses:
     def __init__(self, own: Mapping[Pair, Substitute], wrappers: FrozenSet[Pair]) -> None:
         self.is_whole = True
         """Whether each instruction of the last pickle was followed."""
-        self._own = dict.fromkeys(wrappers, IS_WRAPPER)
-        for pair in own:
-            self._own[pair] = own[pair].role
+        self._own: Dict[Pair, int] = {}
+        if own or wrappers:
+            self._own = dict.fromkeys(wrappers, IS_WRAPPER)
+            self._own.update((pair, own[pair].role) for pair in own)
         self._kept = begin_uses()
-        self._numbers: Dict[Pair, int] = {}
+        is_shared = not self._own and len(_SHARED.of) < _ROOM
+        self._numbers = _SHARED if is_shared else _Numbers()
         self._is_old = False
 
     def real_at(self, data: bytes, at: int, is_old: bool) -> List[int]:
@@ -43,9 +71,12 @@ class Uses:
         pickle at an offset. Raises Misused if the pickle has another name as a value.
         """
         self._is_old = is_old
-        places, self.is_whole, number, place = uses(self._kept, data, at, self._number_of)
+        number_of = self._number_of
+        if self._numbers is _SHARED:
+            number_of = _shared_old if is_old else _shared_new
+        places, self.is_whole, number, place = uses(self._kept, data, at, number_of)
         if place >= 0:
-            pair = list(self._numbers)[number - 1]
+            pair = next(pair for pair, its in self._numbers.of.items() if its == number)
             raise Misused(
                 f"{'.'.join(pair)} is a value at byte {place:,}: it is loaded through a substitute,"
                 " which can be called, but doesn't stay in what is loaded"
@@ -57,28 +88,29 @@ class Uses:
         """The number and the role of what an import asks for, given the instructions that push the
         names; 0 if that has no substitute.
         """
-        pair = _pair_of(module, name, self._is_old)
-        role = self._own[pair] if pair in self._own else _role_of(pair)
-        if role is None:
-            return 0
-        number = self._numbers.setdefault(pair, len(self._numbers) + 1)
-        if number == _MOST:
-            raise Misused("the pickle writes the names that have substitutes in too many ways")
-        return number + role * _MOST
+        pair, role = _asked(module, name, self._is_old)
+        return self._numbers.number(pair, self._own.get(pair, role))
 
 
 @functools.lru_cache(maxsize=4096)
-def _pair_of(module: bytes, name: bytes, is_old: bool) -> Pair:
-    """What is imported by the names that these instructions push."""
+def _shared_new(module: bytes, name: bytes) -> int:
+    return _SHARED.number(*_asked(module, name, False))
+
+
+@functools.lru_cache(maxsize=4096)
+def _shared_old(module: bytes, name: bytes) -> int:
+    return _SHARED.number(*_asked(module, name, True))
+
+
+@functools.lru_cache(maxsize=4096)
+def _asked(module: bytes, name: bytes, is_old: bool) -> Tuple[Pair, Optional[int]]:
+    """What is imported by the names that these instructions push, and the role of the substitute
+    that it has under all lists.
+    """
     if module[:1] == b"c":
         first, second = module[1:-1].decode().split("\n")
     else:
         first, second = _loads(module + b"."), _loads(name + b".")
-    return _names.renamed((first, second)) if is_old else (first, second)
-
-
-@functools.lru_cache(maxsize=4096)
-def _role_of(pair: Pair) -> Optional[int]:
-    """The role of the substitute that a name has under all lists."""
+    pair = _names.renamed((first, second)) if is_old else (first, second)
     substitute = substitute_of(pair)
-    return None if substitute is None else substitute.role
+    return pair, None if substitute is None else substitute.role
