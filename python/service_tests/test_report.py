@@ -81,7 +81,7 @@ def fits(browser, width, height):
     assert browser.execute_script("return document.documentElement.scrollWidth") <= width
     advice = found(browser, ".advice")[0].rect
     assert advice["y"] + advice["height"] < height, advice
-    assert "the list refuses them" in found(browser, "h1")[0].text
+    assert "Don't load the refused files" in found(browser, "h1")[0].text
     for cell in found(browser, ".verdict, .number"):
         height = browser.execute_script(HEIGHT, cell)
         assert height < 30, (width, cell.text, height)

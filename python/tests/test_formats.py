@@ -15,7 +15,9 @@ import test_scanning
 from common import IMPORTED_FROM, needs
 from storklocker.scanning import condensing
 from storklocker.scanning.command import command_parser
+from storklocker.scanning.formats import table
 from storklocker.scanning.html import FOUND, page
+from storklocker.scanning.judging import Question, reports_of
 from storklocker.scanning.report import NO_PICKLE, Finding, Report
 from test_scanning import BAD, GOOD, npy, zipped
 
@@ -149,6 +151,34 @@ class Terminals(unittest.TestCase):
         self.assertEqual(more, f"storklocker scan {folder} --recursive --format html")
         last = self.shown("scan", self.folder / "f" / "good").strip().splitlines()[-1]
         self.assertEqual(last, "nothing was found in 1 file")
+
+    @needs("/dev/pts/ptmx")
+    def test_notes(self):
+        folder = self.folder / "notes"
+        folder.mkdir()
+        (folder / "a").write_bytes(b"\x80\x04cnobody\nknows\n.")
+        last = self.shown("scan", folder).strip().splitlines()[-1]
+        self.assertIn("1 with names that nobody has judged: in 1 of 1 file, all in", last)
+        (folder / "link").symlink_to("nowhere")
+        last = self.shown("scan", folder).strip().splitlines()[-1]
+        self.assertIn("2 with notes: in 2 of 2 files, all in", last)
+
+
+class Looks(unittest.TestCase):
+    def test_the_worst_finding_is_counted(self):
+        """Without a list, what runs code in front of a fault is dangerous, not only unreadable."""
+        ran = b"\x80\x04cos\nsystem\n."
+        for data in (ran, ran[:-1] + b"N.", ran[:-1] + b"\xff"):
+            *_, totals = table(reports_of("x", io.BytesIO(data), Question()))
+            self.assertEqual(totals, "1 dangerous", data)
+
+    def test_many_names_are_folded(self):
+        for count in (8, 9, 50):
+            data = b"\x80\x04" + b"".join(b"cm%d\nn\n0" % it for it in range(count)) + b"N."
+            text = "".join(page(reports_of("x", io.BytesIO(data), Question()), "1"))
+            self.assertEqual("more lines</summary>" in text, count > 8)
+            for number in range(count):
+                self.assertIn(f"<li><code>m{number}.n</code>", text)
 
 
 class Sizes(unittest.TestCase):

@@ -32,8 +32,10 @@ def table(reports: Iterable[Report], names_all: bool = False) -> Iterator[str]:
 def _word(report: Report) -> str:
     """The status; without a list, how bad the worst finding is."""
     worst = report.findings[0].severity if report.findings else ""
-    if report.status == UNJUDGED and worst in (DANGER, UNREADABLE, WARNING):
-        return "dangerous" if worst == DANGER else worst
+    if worst == DANGER and report.status in (UNJUDGED, UNREADABLE):
+        return "dangerous"
+    if report.status == UNJUDGED and worst in (UNREADABLE, WARNING):
+        return worst
     return report.status
 
 

@@ -13,15 +13,17 @@ from .severity import DANGER, KINDS, NOTE, REFUSED, SEVERITIES, UNREADABLE, WARN
 
 FOUND, OTHERS = 5000, 2000
 """The most rows of files and members with findings, and of others."""
+_SHOWN = 8
+"""The most findings of a kind, and imports, of a row that are shown before it is opened."""
 _NONE = "none"
 _WORDS = {
     REFUSED: "refused", DANGER: "dangerous", UNREADABLE: "unreadable", WARNING: "warnings",
     NOTE: "notes", _NONE: "nothing found",
 }
 _TITLES = {
-    REFUSED: "Don't load these files: the list refuses them",
-    DANGER: "Don't load these files: they run code",
-    UNREADABLE: "Don't load these files: they can't be read to their end",
+    REFUSED: "Don't load the refused files: the list doesn't permit what they do",
+    DANGER: "Don't load the dangerous files: they run code",
+    UNREADABLE: "Don't load the unreadable files: what is in the rest of them isn't known",
     WARNING: "Nothing is known to run code, but some names do more than hold data",
     NOTE: "Nothing is known to run code, but some names have not been judged",
     _NONE: "Nothing was found",
@@ -136,7 +138,7 @@ def _what(report: Report) -> str:
         for pair in report.imports
     ]
     if names and report.status != NO_PICKLE:
-        is_open = " open" if len(names) < 9 else ""
+        is_open = " open" if len(names) <= _SHOWN else ""
         parts.append(f"<details{is_open}><summary>{_imports(len(names))}</summary>")
         parts.append(f"{', '.join(names)}</details>")
     if report.listing:
@@ -159,7 +161,10 @@ def _told(name: str, findings: List[Finding], why: str) -> str:
         example = f" Example: <code>{_text(finding.example)}</code>" if finding.example else ""
         if code or said:
             lines.append(f"<li>{code}{said}{example}")
-    listed = f"<ul>{''.join(lines)}</ul>" if lines else ""
+    listed = f"<ul>{''.join(lines[:_SHOWN])}</ul>" if lines else ""
+    if len(lines) > _SHOWN:
+        listed += f"<details><summary>{len(lines) - _SHOWN} more lines</summary>"
+        listed += f"<ul>{''.join(lines[_SHOWN:])}</ul></details>"
     title = f"<b class={kind.severity}>{_text(kind.title)}.</b>"
     return f"<div class=finding>{title}{listed}<p class=do>{_marked(kind.advice)}</p></div>"
 

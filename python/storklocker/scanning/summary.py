@@ -18,8 +18,9 @@ _FOLDERS = 10_000
 """The most folders whose findings are counted."""
 _WORDS = {
     REFUSED: "refused", DANGER: "dangerous", UNREADABLE: "unreadable", WARNING: "with warnings",
-    NOTE: "with names that nobody has judged",
+    NOTE: "with notes",
 }
+_UNKNOWN = "with names that nobody has judged"
 
 
 def counted(fail_on: str) -> FrozenSet[str]:
@@ -40,6 +41,7 @@ class Summary:
         self._counted = counted(fail_on)
         self.is_found = self.is_unread = False
         self._found: "Counter[str]" = Counter()
+        self._notes: "Counter[str]" = Counter()
         self._folders: "Counter[str]" = Counter()
         self._file = ""
         self._is_noted = False
@@ -62,6 +64,8 @@ class Summary:
         if not worst:
             return
         self._found[worst] += 1
+        if worst == NOTE:
+            self._notes.update({it.kind for it in report.findings})
         folder = os.path.dirname(report.file) or "."
         if not self._is_noted and (folder in self._folders or len(self._folders) < _FOLDERS):
             self._folders[folder] += 1
@@ -71,7 +75,8 @@ class Summary:
         """What was found, where most of it is, and the command that shows more."""
         if not self._found:
             return f"nothing was found in {_files(self.files)}"
-        kinds = [f"{self._found[it]:,} {_WORDS[it]}" for it in SEVERITIES if self._found[it]]
+        words = {**_WORDS, NOTE: _UNKNOWN} if set(self._notes) == {"unknown-import"} else _WORDS
+        kinds = [f"{self._found[it]:,} {words[it]}" for it in SEVERITIES if self._found[it]]
         folder, count = self._folders.most_common(1)[0]
         files = sum(self._folders.values())
         where = f"most in {folder} ({count:,})" if len(self._folders) > 1 else f"all in {folder}"
