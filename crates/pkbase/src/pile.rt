@@ -63,7 +63,7 @@ impl<T: Copy> Pile<T> {
     }
 
     /// Replaces the entry at an index.
-    #[inline(always)]
+    #[inline]
     pub fn set(&mut self, index: usize, entry: T)
         requires { index < length self.old }
         ensures { self.new ≡ set self.old index entry }
@@ -72,7 +72,7 @@ impl<T: Copy> Pile<T> {
     }
 
     /// Appends an entry.
-    #[inline(always)]
+    #[inline]
     pub fn push(&mut self, entry: T) -> Result<(), AllocError>
         ensures ok { OnOk result (self.new ≡ self.old ++ entry ∷ []) }
         ensures err { OnErr result (self.new ≡ self.old) }
@@ -90,7 +90,7 @@ impl<T: Copy> Pile<T> {
     }
 
     /// Removes the last entry, and returns it.
-    #[inline(always)]
+    #[inline]
     pub fn pop(&mut self) -> Option<T>
         ensures entries { self.old ≡ self.new ++ option_to_list result }
         ensures some { IsSome result ↔ (0 < length self.old) }
