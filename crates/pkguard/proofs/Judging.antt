@@ -80,12 +80,16 @@ module _ (loading : Loading) (policy : Policy) (limits : Bounds) (tolls : Tolls)
     where
       at : ℕ
       at = all.no.at
+
       why : Reason
       why = all.no.reason
+
       pair : Option Asked
       pair = option_map asked_shown all.no.pair
+
       denial : Verdict
       denial = verdict_of_no at why pair all.pickle
+
       by_extent : (extent : Extent) → IsRefused loading policy limits pickles extent all
           → IsNoAtAnyCost loading policy limits pickles room after extent denial
       by_extent OnePickle (rest, refused, none) = record {
@@ -157,16 +161,22 @@ module _ (loading : Loading) (policy : Policy) (limits : Bounds) (tolls : Tolls)
   refused_no all (Err costly) after verdict refused exceeds (inr (earlier, told, same)) =
       inr (subst (λ a. IsCostly loading policy limits tolls extent pickles room a verdict)
       (sym same) (told_excess costly verdict names denial exceeds told
-      (inr (subst (λ a. costly.at < a) (sym (at_of_no at why pair all.pickle)) earlier,
-      told_no all names denial refused (refl, refl)))))
+      (inr (
+        subst (λ a. costly.at < a) (sym (at_of_no at why pair all.pickle)) earlier,
+        told_no all names denial refused (refl, refl),
+      ))))
     where
       at : ℕ
       at = all.no.at
+
       why : Reason
       why = all.no.reason
+
       pair : Option Asked
       pair = option_map asked_shown all.no.pair
+
       denial : Verdict
       denial = verdict_of_no at why pair all.pickle
+
       names : List ℕ
       names = names_placed pair room
