@@ -150,7 +150,9 @@ class Trails(unittest.TestCase):
         for text in ("posix", "numpy._core", "__builtin__", "os\0x", "__globals__", "a.__main__",
                      "x.__class__.y", "ctypes.util"):
             self.assertTrue(is_suspect(text), text)
-        for text in ("", "text", "date", "a.b", "collections.abc.x", "Os"):
+        prose = "os. It is. " * 20
+        version = "v1.2.3.4.5.6.7.8.9.0"
+        for text in ("", "text", "date", "a.b", "collections.abc.x", "Os", version, prose):
             self.assertFalse(is_suspect(text), text)
 
 

@@ -7,6 +7,7 @@ may be just as harmful, so it is a finding too.
 from __future__ import annotations
 
 import functools
+import re
 from pathlib import Path
 from typing import Container, Dict, FrozenSet, Iterable, Iterator, List, Optional, Tuple
 
@@ -32,6 +33,8 @@ _MAKING = (".__init__", ".__new__", ".__call__")
 _KINDS = {DANGER: "dangerous-import", WARNING: "risky-import"}
 _INNER = Row(DANGER, "It reaches into an object, and from there any object of the interpreter.")
 _MAIN = Row(WARNING, "The import of this module runs it as a command.")
+_DOTTED = re.compile(r"[^\W\d][\w-]*(\.[^\W\d][\w-]*)*")
+"""A name with dots, as no sentences are."""
 _INWARDS = frozenset(
     "__base__ __bases__ __builtins__ __class__ __closure__ __code__ __dict__ __func__"
     " __getattribute__ __globals__ __import__ __loader__ __mro__ __self__ __spec__ __subclasses__"
@@ -75,7 +78,11 @@ def is_harmful(module: str, name: str) -> bool:
 def is_suspect(text: str) -> bool:
     """Whether something harmful can be imported by a text, as the module or as the name."""
     module = text.partition("\0")[0]
-    if module.partition(".")[0].encode() not in suspect_heads() and "." not in module:
+    if "." not in module:
+        is_name = module.encode("utf-8", "replace") in suspect_heads()
+    else:
+        is_name = _DOTTED.fullmatch(module) is not None
+    if not is_name:
         return False
     new = modules_of(module) if module in RENAMED else ()
     leads = any(map(known().leads, (module, *new)))
