@@ -40,7 +40,8 @@ class Import(namedtuple("Import", "module name")):
 def imports(
     data: bytes, *, limits: Optional[Limits] = None, old_strings: str = "unknown"
 ) -> List[Import]:
-    """The imports of the pickle in any run, in order, each as often as it is made.
+    """The imports of the pickle in any run, in order, each as often as it is made. Limits on what
+    loading costs are ignored.
 
     An import that the pickle doesn't reveal is `Import(None, None)`. Raises Refused if no list
     makes the pickle acceptable.

@@ -7,7 +7,7 @@ import struct
 TYPE_CHECKING = False
 if TYPE_CHECKING:
     from collections import namedtuple
-    from typing import Any, Tuple
+    from typing import Any, Optional, Tuple
 else:
     from ._answers import namedtuple
 
@@ -22,11 +22,19 @@ OLD_STRINGS = ("unknown", "ascii", "bytes")
 
 _SETTINGS = struct.Struct("=6Q4I2I3Q2I")
 
-_WITHOUT_COSTS = (UNBOUND, UNBOUND, *[(1 << 64) - 1] * 3, 1, 0)
-"""The fields for limits on what loading costs, without limits."""
+_COSTS = {
+    **dict.fromkeys(("levels", "weight"), UNBOUND),
+    **dict.fromkeys(("work", "clash", "memory"), (1 << 64) - 1),
+}
+"""The limits on what loading costs, each with the number that stands for none in storklocker.h."""
 
 
-class Limits(namedtuple("Limits", "counted stack memo passed numbers large")):
+class Limits(
+    namedtuple(
+        "Limits",
+        "counted stack memo passed numbers large levels weight work clash memory",
+    )
+):
     """The limits of a check. Immutable.
 
     A limit above its greatest value means that value.
@@ -41,6 +49,20 @@ class Limits(namedtuple("Limits", "counted stack memo passed numbers large")):
         loading process allocate 64 GB.
     large: as `large = true` in a list file, makes 4,294,967,295 the default and the greatest value
         of counted, stack and memo.
+
+    The others limit what loading a pickle costs, whatever its objects do; None, the default, is no
+    limit. Keys are those of dicts and the items of sets. An object weighs 1, an int in digits or
+    bytes an eighth of these more, a text or bytes a 64th of its bytes more, and a tuple or
+    frozenset the weights of its items more. What a call or an import gives weighs 1, whatever its
+    hash costs. A check with such limits takes several times as long.
+
+    levels: levels of tuples in a key, each of which hashing descends by calls in C. From 1,023 on,
+        a limit is none.
+    weight: the weight of a key. From 1,048,575 on, a limit is none.
+    work: the weight of all keys of a pickle together.
+    clash: the weight of all keys but texts, bytes, and what calls and imports give: of those that
+        can be made to collide.
+    memory: bytes that loading takes, by estimate.
     """
 
     __slots__ = ()
@@ -51,6 +73,11 @@ class Limits(namedtuple("Limits", "counted stack memo passed numbers large")):
     passed: int
     numbers: int
     large: bool
+    levels: "Optional[int]"
+    weight: "Optional[int]"
+    work: "Optional[int]"
+    clash: "Optional[int]"
+    memory: "Optional[int]"
 
     def __new__(
         cls,
@@ -61,6 +88,11 @@ class Limits(namedtuple("Limits", "counted stack memo passed numbers large")):
         passed: int = 16_777_216,
         numbers: int = 1_000_000,
         large: bool = False,
+        levels: "Optional[int]" = None,
+        weight: "Optional[int]" = None,
+        work: "Optional[int]" = None,
+        clash: "Optional[int]" = None,
+        memory: "Optional[int]" = None,
     ) -> "Limits":
         many, few = (UNBOUND, UNBOUND) if flag("large", large) else (16_777_216, 1_000_000)
         return super().__new__(
@@ -71,6 +103,10 @@ class Limits(namedtuple("Limits", "counted stack memo passed numbers large")):
             number("passed", passed),
             number("numbers", numbers),
             large,
+            *(
+                None if given is None else number(name, given)
+                for name, given in zip(_COSTS, (levels, weight, work, clash, memory))
+            ),
         )
 
     def __reduce__(self) -> "Tuple[Any, ...]":
@@ -93,16 +129,43 @@ def number(name: str, given: int) -> int:
     return int(given)
 
 
-def limits_of(counted: int, stack: int, memo: int, passed: int, numbers: int, large: int) -> Limits:
+def limits_of(
+    counted: int,
+    stack: int,
+    memo: int,
+    passed: int,
+    numbers: int,
+    large: int,
+    *costs: "Optional[int]",
+) -> Limits:
     """Limits with these values."""
     return Limits(
-        counted=counted, stack=stack, memo=memo, passed=passed, numbers=numbers, large=bool(large)
+        counted=counted,
+        stack=stack,
+        memo=memo,
+        passed=passed,
+        numbers=numbers,
+        large=bool(large),
+        **dict(zip(_COSTS, costs)),
     )
+
+
+def least(one: Limits, other: Limits) -> Limits:
+    """The smaller of each two limits."""
+    both: "Any" = [
+        min((it for it in pair if it is not None), default=None) for pair in zip(one, other)
+    ]
+    return limits_of(*both)
 
 
 @functools.lru_cache(maxsize=64)
 def packed(limits: Limits, old_strings: str, keeps_memo: bool) -> bytes:
     """The bytes of a `struct storklocker_settings`, for sorted pairs."""
-    *numbers, large = limits_of(*limits)
-    words = (OLD_STRINGS.index(old_strings), keeps_memo, large, True)
-    return _SETTINGS.pack(_SETTINGS.size, *numbers, *words, *_WITHOUT_COSTS)
+    counted, stack, memo, passed, numbers, large, *costs = limits_of(*limits)
+    return _SETTINGS.pack(
+        _SETTINGS.size,
+        *(counted, stack, memo, passed, numbers),
+        *(OLD_STRINGS.index(old_strings), keeps_memo, large, True),
+        *(most if it is None else min(it, most) for it, most in zip(costs, _COSTS.values())),
+        *(True, False),
+    )

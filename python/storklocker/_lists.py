@@ -6,7 +6,7 @@ from types import MappingProxyType
 
 from . import _names
 from ._answers import LIST_FAULTS, ListFault
-from ._limits import OLD_STRINGS, Limits, limits_of, packed
+from ._limits import OLD_STRINGS, Limits, least, limits_of, packed
 from ._storklocker import Pairs as _Pairs
 from ._storklocker import pairs_of, read_list
 
@@ -276,7 +276,7 @@ def within(one: "Optional[Limits]", other: "Optional[Limits]") -> "Optional[Limi
     """The limits that apply where both do, each of them or None."""
     if one is None or other is None:
         return one or other
-    return limits_of(*(min(mine, its) for mine, its in zip(one, other)))
+    return least(one, other)
 
 
 def _bytes_of(text: str) -> bytes:

@@ -25,3 +25,8 @@ class Reason(enum.IntEnum):
     LeftOver = 17
     OutOfMemory = 18
     NotAscii = 19
+    DeepKey = 20
+    HeavyKeys = 21
+    ManyKeys = 22
+    MuchMemory = 23
+    BuildsImport = 24

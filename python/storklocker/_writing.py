@@ -33,10 +33,10 @@ def _lines(allow: AllowList) -> Iterator[str]:
     if allow.limits is not None:
         yield from ("", "[limits]")
         for limit, value in zip(allow.limits._fields, allow.limits):
-            if not isinstance(value, bool):
+            if isinstance(value, bool):
+                yield from [f"{limit} = true"] if value else []
+            elif value is not None:
                 yield f"{limit} = {value}"
-            elif value:
-                yield f"{limit} = true"
     if allow._meant is not None:
         from ._sections import said_of
 

@@ -70,7 +70,8 @@ def fields_of_header(name):
 
 class Numbers(unittest.TestCase):
     def test_they_are_frozen(self):
-        self.assertEqual({it.name: it.value for it in Reason}, dict(zip(REASONS, range(1, 99))))
+        reasons = dict(zip(REASONS + EXCESSES, range(1, 99)))
+        self.assertEqual({it.name: it.value for it in Reason}, reasons)
         self.assertEqual(LIST_FAULTS, dict(zip(range(1, 99), FAULTS)))
 
     def test_header_has_them(self):
@@ -126,13 +127,15 @@ class Numbers(unittest.TestCase):
         fields = fields_of_header("storklocker_settings")
         letters = {"u64": "Q", "u32": "I"}
         shape = "@" + "".join(letters[bits] for _, bits in fields)
-        limits = Limits(counted=1, stack=2, memo=3, passed=4, numbers=5, large=True)
+        limits = Limits(
+            counted=1, stack=2, memo=3, passed=4, numbers=5, large=True, weight=6, work=7
+        )
         given = struct.unpack(shape, packed(limits, "bytes", True))
         wanted = {**limits._asdict(), "size": struct.calcsize(shape), "sorted": 1}
         wanted.update(old_strings=numbers_in("old_strings")["OLD_BYTES"])
         wanted.update(row_memo=numbers_in("row_memo")["MEMO_KEPT"])
-        wanted.update(dict.fromkeys(("levels", "weight"), (1 << 32) - 1))
-        wanted.update(dict.fromkeys(("work", "clash", "memory"), (1 << 64) - 1), builds=1, unused=0)
+        wanted.update(levels=(1 << 32) - 1, clash=(1 << 64) - 1, memory=(1 << 64) - 1)
+        wanted.update(builds=1, unused=0)
         self.assertEqual(dict(zip((name for name, _ in fields), given)), wanted)
 
 

@@ -238,6 +238,11 @@ class LimitsOfAll(unittest.TestCase):
             for number in ("1", 1.5, b"1", None):
                 with self.subTest(word=word), self.assertRaisesRegex(TypeError, f"^{word} must"):
                     Limits(**{word: number})
+        for word in ("levels", "weight", "work", "clash", "memory"):
+            with self.subTest(word=word), self.assertRaisesRegex(ValueError, f"^{word} must"):
+                Limits(**{word: -1})
+            with self.subTest(word=word), self.assertRaisesRegex(TypeError, f"^{word} must"):
+                Limits(**{word: 1.5})
         with self.assertRaises(TypeError):
             Limits(heap=1)
         with self.assertRaises(ValueError):
