@@ -37,6 +37,12 @@ _OTHERS = [
     (rb"\x89HDF", "HDF5 data"),
     (rb"\s*[\[{\"]", "JSON or another text"),
 ]
+_COSTS = {
+    Reason.DeepKey: "a key has more levels of tuples than the limit levels",
+    Reason.HeavyKeys: "a key weighs more than the limit weight, or all keys more than work",
+    Reason.ManyKeys: "keys that can be made to collide weigh more than the limit clash",
+    Reason.MuchMemory: "loading takes more bytes than the limit memory",
+}
 _NO_PICKLE = (
     Reason.UnknownOpcode,
     Reason.MissingItem,
@@ -61,6 +67,8 @@ def hint_of(
         return _of_limit(read(at, 32), limits)
     if verdict.reason is Reason.BadArgument:
         return _of_argument(read(at, _LOOKED_AT))
+    if verdict.reason in _COSTS:
+        return f"{_COSTS[verdict.reason]}: Limits(..) of the guard sets it"
     if verdict.reason is Reason.NotAscii:
         return 'old_strings="bytes" reads such strings as bytes'
     return ""

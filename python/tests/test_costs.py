@@ -59,6 +59,7 @@ class Costs(unittest.TestCase):
                 refuse()
             self.assertIs(raised.exception.reason, Reason.HeavyKeys)
             self.assertEqual(raised.exception.verdict.at, 63)
+            self.assertIn("more than the limit weight", raised.exception.hint)
         self.assertLess(time.perf_counter() - start, 5)
 
     def test_each_limit(self):

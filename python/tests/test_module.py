@@ -109,7 +109,8 @@ class Numbers(unittest.TestCase):
     def test_formats_have_them(self):
         text = (ROOT / "docs" / "FORMATS.md").read_text()
         rows = re.findall(r"^\| (\d+) \| ([A-Z]\w+)(?:\(\w+\))? \|", text, re.M)
-        self.assertEqual([(name, int(k)) for k, name in rows], list(zip(REASONS, range(1, 99))))
+        wanted = list(zip(REASONS + EXCESSES, range(1, 99)))
+        self.assertEqual([(name, int(k)) for k, name in rows], wanted)
 
     def test_header_and_crate_have_the_same_fields(self):
         verdict = fields_of_crate("pkguard/src/verdict.rt", "Verdict")
