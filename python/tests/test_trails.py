@@ -13,6 +13,7 @@ import struct
 import tempfile
 import unittest
 
+import storklocker
 import test_readings
 from storklocker import AllowList
 from storklocker.scanning.dangers import is_suspect, known, suspect_heads
@@ -113,6 +114,20 @@ class Trails(unittest.TestCase):
                 folder.cleanup()
         if not tried:
             self.skipTest("no module of dbm")
+
+    def test_a_value_that_bytes_of_another_cover(self):
+        begun, count = b"\x80\x04B", 0
+        plain = b"cos\ngetpid\n."
+        for hostile in (b"\x80\x02" + plain, plain, MODULE + b"\x94" + NAME + b"\x94\x93."):
+            for _ in range(2):  # the second time with the length that the first has shown
+                values = (b"N.", hostile, begun + struct.pack("<I", count))
+                data, read = self.sqlite(*values)
+                at = data.rindex(begun)
+                count = data.rindex(b"N.") + 1 - (at + 7)
+            self.assertIs(pickle.loads(read[1]), os.getpid)
+            whole = storklocker.check(data[at:], AllowList([]))
+            self.assertTrue(whole and whole.taken > count, hostile)
+            self.check(data, True, hostile)
 
     def test_what_is_imported_is_named(self):
         for said in ("memo", "far apart", "things taken away from below"):

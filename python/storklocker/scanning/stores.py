@@ -95,6 +95,8 @@ def searched(place: Place, kind: str, known: Sequence[Tuple[int, int]] = ()) -> 
             yield _piece(place, kind, _start_of(trail, place))
         if is_text and (at >= end or trails.is_at(at)):
             trails.begin(at)
+        elif not is_text and at < end and _is_harm(source, at):
+            yield _piece(place, kind, at)  # (what seems to be in another may be a value of its own)
         elif not is_text and at >= end and is_pickle(source, at):
             end = at + ((yield _piece(place, kind, at)) or 0)
     for trail in trails.followed(source.size):
@@ -115,7 +117,7 @@ def _start_of(trail: Trail, place: Place) -> int:
     near = range(first - 1, max(0, first - _NEAR) - 1, -1)
     for at in itertools.chain(trail.starts, near):
         place.budget.spend_time()
-        if any(map(_is_harmful, _imports_at(place.source, at).names)):
+        if _is_harm(place.source, at):
             return at
     return first
 
@@ -165,6 +167,11 @@ def _imports_with_nul(block: bytes) -> Iterator[int]:
             module = _WITH_NUL.match(block, at) if front.group(1) in heads else None
             if module and _NAME.match(block, line) and is_suspect(module.group(1).decode()):
                 yield front.start()
+
+
+def _is_harm(source: Source, at: int) -> bool:
+    """Whether a pickle there imports something that is known to do harm."""
+    return any(map(_is_harmful, _imports_at(source, at).names))
 
 
 def is_pickle(source: Source, at: int) -> bool:
