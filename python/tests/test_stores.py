@@ -1,6 +1,7 @@
 """`scan` on files of databases, HDF5, Arrow and Parquet with pickles in them."""
 
 import base64
+import contextlib
 import importlib
 import pathlib
 import pickle
@@ -16,6 +17,17 @@ from test_readings import EVIL, RUNS, reports
 
 GOOD = [pickle.dumps([1, "text", {"a": 2.5}], protocol) for protocol in (2, 4)]
 SHELVES = ("dbm.gnu", "dbm.ndbm", "dbm.sqlite3")
+
+
+def shelf_modules():
+    """The modules of `dbm` that are here, by their names. Skips the test if there is none."""
+    found = {}
+    for name in SHELVES:
+        with contextlib.suppress(ImportError):
+            found[name] = importlib.import_module(name)
+    if not found:
+        raise unittest.SkipTest("no module of dbm")
+    return found
 
 
 class Stores(unittest.TestCase):
@@ -53,13 +65,7 @@ class Stores(unittest.TestCase):
             self.check(self.sqlite(*GOOD, value), "SQLite", True)
 
     def test_shelves(self):
-        tried = 0
-        for name in SHELVES:
-            try:
-                module = importlib.import_module(name)
-            except ImportError:
-                continue
-            tried += 1
+        for name, module in shelf_modules().items():
             for value, is_evil in (([1, 2], False), (print, True)):
                 path = str(self.folder / "shelf")
                 with shelve.Shelf(module.open(path, "c")) as shelf:
@@ -71,8 +77,6 @@ class Stores(unittest.TestCase):
                 self.check(data, kinds[name], is_evil)
                 for path in self.folder.iterdir():
                     path.unlink()
-        if not tried:
-            self.skipTest("no module of dbm")
 
     @needs("module:tables")
     def test_pytables(self):
