@@ -47,7 +47,7 @@ def wrong_counts(document: Document) -> Iterator[Fault]:
 
 def wrong_crates(document: Document) -> Iterator[Fault]:
     """Lists of ported crates that differ from the crates' own."""
-    rows = re.findall(r"(?m)^(\w+).*?: (.*)$", text_of("crates.txt"))
+    rows = re.findall(r"(?m)^(\w+).*?:(.*)$", text_of("crates.txt"))
     ported = {name for _, names in rows for name in names.split()} - {own for own, _ in rows}
     for line, match in found_in(document, r"ported crates((?:[\s,]+(?:and\s+)?`\w+`)+)"):
         told = set(re.findall(r"`(\w+)`", match[1]))

@@ -147,8 +147,8 @@ module _ (loading : Loading) (policy : Policy) (limits : Bounds) (tolls : Tolls)
   accepted_no answer (Err costly) before after verdict accepted exceeds (told, same) status =
       inr (told_excess costly verdict room
       (verdict_of_yes answer.taken (length answer.imports) answer.pickles) exceeds told
-      (inl (told_yes answer (verdict_of_yes answer.taken (length answer.imports) answer.pickles) accepted
-      refl)))
+      (inl (told_yes answer (verdict_of_yes answer.taken (length answer.imports) answer.pickles)
+      accepted refl)))
 
   pub refused_no : (all : NoAll) (cost : Result Bill Costly) (after : List ℕ) (verdict : Verdict)
       → IsRefused loading policy limits pickles extent all → IfErr cost IsExceeded

@@ -30,8 +30,8 @@ reason_code reason.LeftOver = 17
 reason_code reason.OutOfMemory = 18
 reason_code reason.NotAscii = 19
 
--- the number of each limit on what loading costs, from 20 on; a refused allocation has the number of
--- that reason
+-- the number of each limit on what loading costs, from 20 on; a refused allocation has the number
+-- of that reason
 abbrev pub excess_code : Excess → ℕ
 excess_code excess.DeepKey = 20
 excess_code excess.HeavyKeys = 21

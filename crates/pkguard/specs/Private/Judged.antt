@@ -25,8 +25,8 @@ module _ (loading : Loading) (policy : Policy) (limits : Bounds) (pickles : List
       (rest : List ℕ) × Accepted loading.old_strings policy limits (memory pickles) (memory rest)
       answer.taken answer.imports × (answer.pickles ≡ 1)
   IsAccepted ToTheEnd answer =
-      (rest : List ℕ) × AcceptedRow loading policy limits (memory pickles) (memory rest) answer.taken
-      answer.pickles answer.imports
+      (rest : List ℕ) × AcceptedRow loading policy limits (memory pickles) (memory rest)
+      answer.taken answer.pickles answer.imports
 
   -- one pickle or a pickle of a row is refused
   abbrev pub IsRefused : Extent → NoAll → Type 0
