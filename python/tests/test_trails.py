@@ -9,6 +9,7 @@ import pickle
 import shelve
 import sqlite3
 import struct
+import sys
 import tempfile
 import unittest
 
@@ -48,12 +49,15 @@ HIDDEN = {
     "a pickle that is accepted by itself in the middle":
         MODULE + b"\x94" + NAME + b"\x94\x80\x04\x8c\x01a\x940h\0h\1\x93.",
     "a name with dots": b"\x8c\x05shlex\x940\x80\x04\x8c\x09os.getpid\x940h\0h\1\x93.",
-    "a module with a NUL": b"\x8c\x06os\0abcN0" + NAME + b"\x93.",
     "a module of Python 2": b"\x8c\x0b__builtin__\x940\x8c\x05print\x940h\0h\1\x93.",
 }
 """Values that get `os.getpid` or `print` from a real reader."""
+if sys.version_info >= (3, 11):  # `os` is frozen, and found by what stands in front of a NUL
+    HIDDEN["a module with a NUL"] = b"\x8c\x06os\0abcN0" + NAME + b"\x93."
 
 
+MOST = {"dbm.ndbm": 1000, "dbm.sqlite3": 4000}
+"""The most bytes that a module of dbm takes, or doesn't cut into pages."""
 GDBM = b"\xce\x9aW\x13" + bytes(60)
 RUN = (os.getpid, print)
 
@@ -94,7 +98,7 @@ class Trails(unittest.TestCase):
     def test_shelves(self):
         for name, module in shelf_modules().items():
             for said, value in HIDDEN.items():
-                if name == "dbm.ndbm" and len(value) > 1000:  # more than it takes
+                if len(value) > MOST.get(name, len(value)):
                     continue
                 folder = tempfile.TemporaryDirectory(dir=self.path.parent)
                 with shelve.Shelf(module.open(f"{folder.name}/shelf", "c")) as shelf:
