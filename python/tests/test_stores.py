@@ -1,6 +1,7 @@
 """`scan` on files of databases, HDF5, Arrow and Parquet with pickles in them."""
 
 import base64
+import colorsys
 import contextlib
 import importlib
 import pathlib
@@ -10,9 +11,10 @@ import sqlite3
 import tempfile
 import unittest
 
+import storklocker
 import test_readings
 from common import needs
-from storklocker import AllowList
+from storklocker import AllowList, Reason
 from test_readings import EVIL, RUNS, reports
 
 GOOD = [pickle.dumps([1, "text", {"a": 2.5}], protocol) for protocol in (2, 4)]
@@ -63,6 +65,19 @@ class Stores(unittest.TestCase):
         large = b"\x80\x02B" + (9000).to_bytes(4, "little") + bytes(9000) + b"0" + RUNS
         for value in (EVIL, RUNS, b"(" + RUNS, large, pickle.dumps(print, 4)):
             self.check(self.sqlite(*GOOD, value), "SQLite", True)
+
+    def test_frames_that_end_inside_an_argument(self):
+        """`pickle.loads` runs what nobody has judged, behind a frame that readers of files misread.
+        """
+        value = b"\x80\x04\x95%b\x8c\x04text0ccolorsys\nrgb_to_hls\n(K\0K\0K\0tR."
+        for length in (1, 2, 5):
+            framed = value % length.to_bytes(8, "little")
+            self.assertEqual(pickle.loads(framed), colorsys.rgb_to_hls(0, 0, 0))
+            verdict = storklocker.check(framed, AllowList([]))
+            self.assertIs(verdict.reason, Reason.BrokenFrame)
+            self.check(self.sqlite(*GOOD, framed), "SQLite", True)
+        cut = pickle.dumps(["text" * 9, "other" * 9], 4)[:40]
+        self.check(self.sqlite(*GOOD, cut), "SQLite", False)
 
     def test_shelves(self):
         for name, module in shelf_modules().items():

@@ -11,13 +11,14 @@ last line without a line feed, and imports for an INST before it looks for its m
 
 from __future__ import annotations
 
+import io
 import pickletools
 import re
 from typing import Dict, List, NamedTuple, Optional
 
 from .._reasons import Reason
 from .report import Pair
-from .source import BLOCK, Source
+from .source import BLOCK, Source, in_memory
 
 READERS_STOP = frozenset(
     (
@@ -140,6 +141,22 @@ def _is_in_frame(source: Source, at: int, begin: int) -> bool:
         if not walk.is_passed(code[0]):
             return True
     return True
+
+
+def without_frames(data: bytes) -> bytes:
+    """The pickle at the front without its FRAMEs, up to where it can't be followed; what stands
+    there and behind it stays.
+    """
+    walk, begin, parts = _Walk(in_memory(io.BytesIO(data)), 0), 0, []
+    for _ in range(_INSTRUCTIONS):
+        at = walk.at
+        code = walk.take(1)
+        if not code or code == b"." or code[0] not in LENGTHS or not walk.is_passed(code[0]):
+            break
+        if code == _FRAME:
+            parts.append(data[begin:at])
+            begin = walk.at
+    return b"".join((*parts, data[begin:]))
 
 
 class _Walk:

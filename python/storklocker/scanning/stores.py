@@ -17,6 +17,7 @@ from .._reasons import Reason
 from .budget import Budget
 from .dangers import is_harmful, is_suspect, suspect_heads
 from .names import NOTHING, Imports, imports_within
+from .reaching import without_frames
 from .readings import Found, Piece, Place, Reading
 from .source import BLOCK, Source, in_memory
 from .trails import Trail, Trails, texts_in
@@ -182,7 +183,14 @@ def is_pickle(source: Source, at: int) -> bool:
     if found.verdict or not found.is_complete:
         return True
     is_claimed = source.read(at, 1) == b"\x80"
+    if is_claimed and found.verdict.reason is Reason.BrokenFrame and not found.names:
+        found = _imports_at(_unframed(source, at), 0)
     return bool(found.names) if is_claimed else any(map(_is_harmful, found.names))
+
+
+def _unframed(source: Source, at: int) -> Source:
+    """A pickle there without its FRAMEs, of which `pickle.loads` wants no more than the bytes."""
+    return in_memory(io.BytesIO(without_frames(source.read(at, _MOST))))
 
 
 def _imports_at(source: Source, at: int) -> Imports:
