@@ -69,7 +69,8 @@ class Stores(unittest.TestCase):
     def test_frames_that_end_inside_an_argument(self):
         """`pickle.loads` runs what nobody has judged, behind a frame that readers of files misread.
         """
-        value = b"\x80\x04\x95%b\x8c\x04text0ccolorsys\nrgb_to_hls\n(K\0K\0K\0tR."
+        texts = b"\x8c\x08colorsys\x940\x8c\x0argb_to_hls\x940h\0h\x01\x93"
+        value = b"\x80\x04\x95%b\x8c\x04text0" + texts + b"(K\0K\0K\0tR."
         for length in (1, 2, 5):
             framed = value % length.to_bytes(8, "little")
             self.assertEqual(pickle.loads(framed), colorsys.rgb_to_hls(0, 0, 0))
