@@ -179,7 +179,7 @@ fn cost_of(alloc: Global, order: &Order<'_>, pickles: &[u8]) -> Result<Bill, Cos
         (memory pickles.now) order.now.terms.extent costly.pickle costly.at costly.excess) }
 {
     let mut source = Memory::new(pickles);
-    let any = Policy::AnyImport;
+    let any = Permit::By(Policy::AnyImport);
     match check_loading(alloc, &mut source, &any, &order.terms, &order.tolls) {
         Ok(Ok(billed)) => Ok(costs::bill_of(&billed.tally, billed.memory)),
         Ok(Err(refused)) => Err(Costly {

@@ -2,7 +2,7 @@
 
 ghost use Rattle.std.specs.Prelude.{◌≡◌, ◌≢◌, IfErr, IfOk, None};
 ghost use Rattle.pkread.specs.Rows.{sight};
-ghost use Rattle.pkcheck.specs.Import.{policy_of};
+ghost use Rattle.pkcheck.specs.Import.{permit_of};
 ghost use Rattle.pkload.specs.Costly.{CostsTooMuch};
 ghost use Rattle.pkload.specs.Loading.{IsRightLoading};
 ghost use Rattle.pkload.specs.Private.Settled.{IsBilledAs, IsCostlyBy};
@@ -11,7 +11,7 @@ ghost use Rattle.pkload.specs.Tolls.{unlimited};
 use crate::meter::Meter;
 use crate::tally::Tally;
 use crate::tolls::{Excess, Tolls};
-use pkcheck::{Permit, Policy, RefusedPickle, Terms, YesAll, check_pickles};
+use pkcheck::{Permit, RefusedPickle, Terms, YesAll, check_pickles};
 use pkread::Source;
 use std::alloc::Global;
 
@@ -51,15 +51,15 @@ pub struct Costly {
 pub fn check_loading<R: Source>(
     alloc: Global,
     source: &mut R,
-    policy: &Policy<'_>,
+    permit: &Permit<'_>,
     terms: &Terms,
     tolls: &Tolls,
 ) -> Result<Result<YesWithBill, RefusedPickle>, Costly>
-    ensures answer { IfOk result (IsRightLoading terms.now.loading (policy_of policy.now)
+    ensures answer { IfOk result (IsRightLoading terms.now.loading (permit_of permit.now)
         terms.now.limits tolls.now (sight R.left R.failures source.old)
         (sight R.left R.failures source.new) terms.now.extent) }
     ensures costly { IfErr result (λ costly. costly.excess ≢ Excess.OutOfMemory
-        → CostsTooMuch terms.now.loading (policy_of policy.now) terms.now.limits tolls.now
+        → CostsTooMuch terms.now.loading (permit_of permit.now) terms.now.limits tolls.now
         (sight R.left R.failures source.old) terms.now.extent costly.pickle costly.at
         costly.excess) }
     // Without limits, only an allocation can be refused, or a sum not fit.
@@ -67,7 +67,7 @@ pub fn check_loading<R: Source>(
         → IfErr result (λ costly. costly.excess ≡ Excess.OutOfMemory) }
 {
     let mut meter = Meter::new(alloc, tolls, terms.loading.memo);
-    match check_pickles(alloc, source, &Permit::By(*policy), terms, &mut meter) {
+    match check_pickles(alloc, source, permit, terms, &mut meter) {
         Ok(answer) => settled(answer, &meter),
         Err(excess) => Err(costly_at(&meter, excess)),
     }

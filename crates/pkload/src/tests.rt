@@ -1,7 +1,7 @@
 //! Worked pickles, with what their keys cost.
 
 use crate::{Costly, Excess, Tally, Tolls, check_loading};
-use pkcheck::{Extent, Loading, Memo, OldStrings, Policy, Terms};
+use pkcheck::{Extent, Loading, Memo, OldStrings, Permit, Policy, Terms};
 use pkops::Limits;
 use pkread::{Memory, Reason};
 use std::test::Fail;
@@ -38,7 +38,8 @@ fn terms(memo: Memo, extent: Extent) -> Terms {
 
 fn answer_in(rt: &HostRuntime, bytes: &[u8], tolls: &Tolls, terms: &Terms) -> Answer {
     let mut source = Memory::new(bytes);
-    let answer = check_loading(rt.alloc(), &mut source, &Policy::AnyImport, terms, tolls);
+    let permit = Permit::By(Policy::AnyImport);
+    let answer = check_loading(rt.alloc(), &mut source, &permit, terms, tolls);
     match answer {
         Ok(Ok(billed)) => Answer::Yes(billed.yes.taken),
         Ok(Err(refused)) => Answer::No(refused.no.at, refused.no.reason),
@@ -121,8 +122,8 @@ fn each_pickle_of_a_row_begins_anew(rt: HostRuntime) {
 fn a_yes_carries_the_bill_of_the_last_pickle(rt: HostRuntime) {
     let row = terms(Memo::Fresh, Extent::ToTheEnd);
     let mut source = Memory::new(b"})\x85Ns.}K\x01)\x85\x85s.");
-    let policy = Policy::AnyImport;
-    let bill = match check_loading(rt.alloc(), &mut source, &policy, &row, &few()) {
+    let permit = Permit::By(Policy::AnyImport);
+    let bill = match check_loading(rt.alloc(), &mut source, &permit, &row, &few()) {
         Ok(Ok(billed)) => Some((billed.tally, billed.memory)),
         Ok(Err(_refused)) => None,
         Err(_costly) => None,
