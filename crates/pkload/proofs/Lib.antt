@@ -9,6 +9,7 @@ pub mod Loading
 pub mod Exceeding
 pub mod Costs
 pub mod Ends
+pub mod Refusals
 pub mod Settled
 -- the machine
 pub mod Slots

@@ -2,7 +2,7 @@
 use Rattle.std.proofs.Common.{◌≡◌, ℕ, suc, true, false, List, [], ◌∷◌, ◌++◌, length}
 use Rattle.std.proofs.Common.{Option, None, Some, Result, Ok, Err}
 use Rattle.std.proofs.Common.{IfOk, refl, sym, ap, subst, ◌∙◌, arith}
-use Rattle.std.proofs.Common.{length-append}
+use Rattle.std.proofs.Common.{append-nil, append_assoc, length-append}
 use Rattle.std.specs.Prelude.{All, ◌≢◌, ⊤}
 use Rattle.std.proofs.lemmas.List.Elements.{All-head, All-tail, All-cons, All-nil}
 use Rattle.pkops.specs.Contents.{IsGood}
@@ -288,6 +288,10 @@ module _ (tolls : Tolls) (loading : Loading) where
   RowWithin before ps n = (kept : KeepWithin loading tolls before ps)
       × IsLast (last_bill loading tolls before ps kept) n
 
+  -- likewise, and the next pickle begins with this
+  abbrev pub RowReady : List Pickle → List Pickle → Metering → Type 0
+  RowReady before ps n = (row : RowWithin before ps n) × IsReady (before ++ ps) n × Fits tolls n
+
   row_more : (p : Pickle) (ps before : List Pickle)
       (costs : CostsWithin setting (begins memo before) tolls p.instructions)
       (k n : Metering) (rs : List Report) → costs.bill ≡ k.bill
@@ -304,8 +308,15 @@ module _ (tolls : Tolls) (loading : Loading) where
       (old new : Sight) (rs : List Report) (m n : Metering)
       → AreAccepted loading policy limits old new before ps
       → AreReportsOf false loading before ps rs → IsReady before m → Fits tolls m
-      → all_metered memo rs m ≡ Ok n → AllFit memo tolls rs m → RowWithin before ps n
-  rows_within policy limits [] before old new rs m n a h r w e f = (tt, tt)
+      → all_metered memo rs m ≡ Ok n → AllFit memo tolls rs m → RowReady before ps n
+  rows_within policy limits [] before old new rs m n a h r w e f =
+      let same : m ≡ n =
+      ap (metering_in m) (subst (λ l. all_metered memo l m ≡ Ok n) h e) in (
+        (tt, tt),
+        subst (IsReady (before ++ [])) same
+            (subst (λ b. IsReady b m) (sym (append-nil before)) r),
+        subst (Fits tolls) same w,
+      )
   rows_within policy limits (p ∷ ps) before old new rs m n a h r w e f =
       let e' : all_metered memo (h.0 ++ h.1) m ≡ Ok n =
       subst (λ l. all_metered memo l m ≡ Ok n) h.2 e in
@@ -316,9 +327,12 @@ module _ (tolls : Tolls) (loading : Loading) where
       let one = pickle_within limits (length (bytes_of_all before)) before p.instructions h.0 m
       s.middle (subst (IsSequence (payload_limit limits)) a.1.1 a.1.0.sequence) h.3 r w s.first
       g.0 in
-      row_more p ps before one.costs s.middle n h.1 one.same h.4 s.then
-      (rows_within policy limits ps (before ++ p ∷ []) a.0 new h.1 s.middle n a.2 h.4
-      (ready_next before p m s.middle r one) one.fits s.then (g.1 s.middle s.first))
+      let rest = rows_within policy limits ps (before ++ p ∷ []) a.0 new h.1 s.middle n a.2 h.4
+      (ready_next before p m s.middle r one) one.fits s.then (g.1 s.middle s.first) in (
+        row_more p ps before one.costs s.middle n h.1 one.same h.4 s.then rest.0,
+        subst (λ b. IsReady b n) (append_assoc before (p ∷ []) ps) rest.1,
+        rest.2,
+      )
 
   pub last_is : (ps before : List Pickle) (n : Metering) → ps ≢ [] → (h : RowWithin before ps n)
       → last_bill loading tolls before ps h.0 ≡ Some n.bill

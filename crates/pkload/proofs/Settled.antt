@@ -1,7 +1,8 @@
 -- What the audience that keeps the bill says where a check ends.
-use Rattle.std.proofs.Common.{◌≡◌, ◌<◌, false, List, [], None, Some, Result, Ok, Err}
-use Rattle.std.proofs.Common.{IfOk, sym, ap, subst}
-use Rattle.std.specs.Prelude.{◌≢◌, IfErr, MatchResult, option_map}
+use Rattle.std.proofs.Common.{◌≡◌, ◌≤◌, ◌<◌, ℕ, false, List, [], Option, None, Some}
+use Rattle.std.proofs.Common.{Result, Ok, Err, IfOk, refl, sym, ap, subst}
+use Rattle.std.specs.Option.{MatchOption}
+use Rattle.std.specs.Prelude.{◌≢◌, ⊤, IfErr, MatchResult, option_map}
 use Rattle.pkops.specs.Limits.{Bounds}
 use Rattle.pkread.specs.Rows.{Sight}
 use Rattle.pkcheck.specs.Import.{asked_shown}
@@ -14,14 +15,16 @@ use Rattle.pkcheck.specs.declared.check_loop.Extent.TheVariants.{OnePickle, ToTh
 use Rattle.pkcheck.specs.declared.check_loop.RefusedPickle.{RefusedPickle}
 use Rattle.pkcheck.specs.declared.loading.Loading.{Loading}
 use Rattle.pkcheck.specs.declared.row_of_pickles.YesAll.{YesAll}
+use Rattle.pkload.proofs.Costs.{takes_none}
 use Rattle.pkload.proofs.Ends.{accepted_over, refused_over, stopped_over}
 use Rattle.pkload.proofs.Loading.{at_first, begins_ready, begins_within, last_is, pickle_within}
 use Rattle.pkload.proofs.Loading.{rows_within}
+use Rattle.pkload.proofs.Refusals.{NoneIn, refused_within}
 use Rattle.pkload.specs.Costly.{CostsTooMuch}
 use Rattle.pkload.specs.Loading.{AcceptedWithBill, AcceptedWithin, IsRefused, IsRightLoading}
 use Rattle.pkload.specs.Loading.{bill_of}
 use Rattle.pkload.specs.Private.Meter.{AllFit, IsOver, Meter, Meters, StopsFor}
-use Rattle.pkload.specs.Private.Settled.{IsBilledAs, IsCostlyBy}
+use Rattle.pkload.specs.Private.Settled.{IsBilledAs, IsCostlyBy, NoneBefore}
 use Rattle.pkload.specs.Private.Told.{all_metered}
 use Rattle.pkload.specs.declared.checking.Costly.{Costly}
 use Rattle.pkload.specs.declared.checking.YesWithBill.{YesWithBill}
@@ -50,6 +53,12 @@ module _ (loading : Loading) (policy : Policy) (limits : Bounds) (tolls : Tolls)
   all_fit y rs told e = subst (λ k. AllFit k tolls rs at_first) memo_is
       (subst (λ t. AllFit x.memo t rs at_first) tolls_are
       (subst (AllFit x.memo x.tolls rs) begun (told.fits e)))
+
+  none_before : (y : Meter) (rs : List Report) (place : ℕ) (excess : Option Excess)
+      → Meters x y rs → y.excess ≡ excess → MatchOption excess ⊤ (λ _. place ≤ y.at)
+      → NoneIn loading tolls place y.at y.metering rs excess
+  none_before y rs place None told e h = (is_metered y rs told e, all_fit y rs told e)
+  none_before y rs place (Some excess) told e h = (h, over_first y rs excess told e)
 
   with_last : (y : Meter) (extent : Extent) (accepted : YesAll) (billed : YesWithBill)
       → IsBilledAs y (Ok accepted) (Ok billed)
@@ -80,39 +89,58 @@ module _ (loading : Loading) (policy : Policy) (limits : Bounds) (tolls : Tolls)
       (λ refused. RefusedAndTold false loading policy limits old new extent refused.pickle
       refused.no.at refused.no.reason (option_map asked_shown refused.no.pair) refused.imports rs)
 
+  right_refusal : (y : Meter) (rs : List Report) (extent : Extent) (refused : RefusedPickle)
+      → IsToldTo extent rs (Err refused)
+      → NoneIn loading tolls refused.no.at y.at y.metering rs y.excess
+      → IsRefused loading policy limits tolls old new extent refused
+  right_refusal y rs ToTheEnd refused h none = let k = refused_within loading tolls policy limits
+      h.right.before old h.right.here new refused.no.at refused.no.reason
+      (option_map asked_shown refused.no.pair) h.right.refused h.earlier h.last y.at y.metering
+      y.excess h.right.each h.of_pickles h.behind
+      (subst (λ l. NoneIn loading tolls refused.no.at y.at y.metering l y.excess) h.all none) in
+      (h.right, k.0, k.1)
+  right_refusal y rs OnePickle refused h none = (
+    h.0,
+    (refused_within loading tolls policy limits [] old old new refused.no.at refused.no.reason
+        (option_map asked_shown refused.no.pair) h.0.refused [] rs y.at y.metering y.excess
+        (takes_none old) refl h.1 none).1,
+  )
+
   right_loading : (y : Meter) (rs : List Report) (extent : Extent)
       (answer : Result YesAll RefusedPickle) (billed : Result YesWithBill RefusedPickle)
       → Meters x y rs → IsToldTo extent rs answer → IsBilledAs y answer billed
       → IfOk billed (λ _. y.excess ≡ None)
+      → IfErr billed (λ refusal. NoneBefore refusal.no.at y)
       → IsRightLoading loading policy limits tolls old new extent billed
-  right_loading y rs ToTheEnd (Ok accepted) (Ok billed) told h same e =
+  right_loading y rs ToTheEnd (Ok accepted) (Ok billed) told h same e q =
       let row = rows_within tolls loading policy limits h.0.row [] old new rs at_first y.metering
       h.0.each h.1 (begins_ready tolls loading) (begins_within tolls loading)
       (is_metered y rs told e) (all_fit y rs told e) in
-      with_last y ToTheEnd accepted billed same (h.0, row.0)
+      with_last y ToTheEnd accepted billed same (h.0, row.0.0)
       (last_is tolls loading h.0.row [] y.metering
-      (λ none. h.0.is_row.some (ap sequences_of none)) row)
-  right_loading y rs OnePickle (Ok accepted) (Ok billed) told h same e =
+      (λ none. h.0.is_row.some (ap sequences_of none)) row.0)
+  right_loading y rs OnePickle (Ok accepted) (Ok billed) told h same e q =
       let one = pickle_within tolls loading limits 0 [] h.0.instructions rs at_first y.metering
       h.0.sequence h.1 (begins_ready tolls loading) (begins_within tolls loading)
       (is_metered y rs told e) (all_fit y rs told e) in
       with_last y OnePickle accepted billed same (h.0, one.costs) (ap Some one.same)
-  right_loading y rs ToTheEnd (Err refused) (Err refusal) told h same e =
-      subst (λ r. IsRefused loading policy limits tolls old new ToTheEnd r) (sym same) h.right
-  right_loading y rs OnePickle (Err refused) (Err refusal) told h same e =
-      subst (λ r. IsRefused loading policy limits tolls old new OnePickle r) (sym same) h.0
-  right_loading y rs extent (Ok accepted) (Err refusal) told h same e = absurd same
-  right_loading y rs extent (Err refused) (Ok billed) told h same e = absurd same
+  right_loading y rs extent (Err refused) (Err refusal) told h same e q =
+      subst (λ r. IsRefused loading policy limits tolls old new extent r) (sym same)
+      (right_refusal y rs extent refused h (none_before y rs refused.no.at y.excess told refl
+      (subst (λ r. NoneBefore r.no.at y) same q)))
+  right_loading y rs extent (Ok accepted) (Err refusal) told h same e q = absurd same
+  right_loading y rs extent (Err refused) (Ok billed) told h same e q = absurd same
 
   pub settled_loading : {E : Type 0} (y : Meter) (rs : List Report) (extent : Extent)
       (settled : Result (Result YesWithBill RefusedPickle) E)
       (answer : Result YesAll RefusedPickle) → Meters x y rs → IsToldTo extent rs answer
       → IfOk settled (IsBilledAs y answer)
       → IfOk settled (λ billed. IfOk billed (λ _. y.excess ≡ None))
+      → IfOk settled (λ billed. IfErr billed (λ refusal. NoneBefore refusal.no.at y))
       → IfOk settled (IsRightLoading loading policy limits tolls old new extent)
-  settled_loading y rs extent (Ok billed) answer told h same e =
-      right_loading y rs extent answer billed told h same e
-  settled_loading y rs extent (Err costly) answer told h same e = tt
+  settled_loading y rs extent (Ok billed) answer told h same e q =
+      right_loading y rs extent answer billed told h same e q
+  settled_loading y rs extent (Err costly) answer told h same e q = tt
 
   by_answer : (y : Meter) (rs : List Report) (extent : Extent)
       (answer : Result YesAll RefusedPickle) (costly : Costly) → Meters x y rs

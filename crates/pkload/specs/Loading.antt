@@ -51,6 +51,14 @@ KeepWithin loading tolls before (pickle ∷ pickles) =
     CostsWithin loading.old_strings (begins loading.memo before) tolls pickle.instructions
     × KeepWithin loading tolls (before ++ pickle ∷ []) pickles
 
+-- the instructions before the refused one keep within the limits
+pub record StaysWithin (loading : Loading) (tolls : Tolls) (before : List Pickle)
+    (instructions : List Instruction) : Type 0 where
+  pub bill : Bill
+  pub billed : and_then (bill_before (begins loading.memo before)) (all_billed instructions)
+      ≡ Ok bill
+  pub within : KeepsWithin tolls bill.tally bill.memory
+
 -- the bill of the last of these pickles
 abbrev pub last_bill : (loading : Loading) (tolls : Tolls) (before pickles : List Pickle)
     → KeepWithin loading tolls before pickles → Option Bill
@@ -86,16 +94,20 @@ module _ (loading : Loading) (policy : Policy) (limits : Bounds) (tolls : Tolls)
       pub tally : accepted.tally ≡ bill.tally
       pub memory : accepted.memory ≡ bill.memory
 
-    -- a pickle was refused, whatever it costs
+    -- a pickle was refused, and all that precedes the refused instruction keeps within the limits
     abbrev pub IsRefused : Extent → RefusedPickle → Type 0
     IsRefused ToTheEnd refused =
-        RefusedInRow loading policy limits old new refused.pickle refused.no.at refused.no.reason
-        (option_map asked_shown refused.no.pair)
+        (right : RefusedInRow loading policy limits old new refused.pickle refused.no.at
+        refused.no.reason (option_map asked_shown refused.no.pair))
+        × KeepWithin loading tolls [] right.before
+        × StaysWithin loading tolls right.before right.refused.instructions
     IsRefused OnePickle refused =
-        RefusedWithImports 0 loading.old_strings (begins loading.memo []) policy limits old new
-        refused.no.at refused.no.reason (option_map asked_shown refused.no.pair) refused.imports
+        (right : RefusedWithImports 0 loading.old_strings (begins loading.memo []) policy limits
+        old new refused.no.at refused.no.reason (option_map asked_shown refused.no.pair)
+        refused.imports)
+        × StaysWithin loading tolls [] right.refused.instructions
 
-    -- the answer is that of the check, and accepted pickles keep within the limits
+    -- the answer is that of the check, and what it accepts keeps within the limits
     abbrev pub IsRightLoading : Extent → Result YesWithBill RefusedPickle → Type 0
     IsRightLoading extent answer =
         MatchResult answer (AcceptedWithBill extent) (IsRefused extent)

@@ -5,7 +5,7 @@ ghost use Rattle.pkread.specs.Rows.{sight};
 ghost use Rattle.pkcheck.specs.Import.{permit_of};
 ghost use Rattle.pkload.specs.Costly.{CostsTooMuch};
 ghost use Rattle.pkload.specs.Loading.{IsRightLoading};
-ghost use Rattle.pkload.specs.Private.Settled.{IsBilledAs, IsCostlyBy};
+ghost use Rattle.pkload.specs.Private.Settled.{IsBilledAs, IsCostlyBy, NoneBefore};
 ghost use Rattle.pkload.specs.Tolls.{unlimited};
 
 use crate::meter::Meter;
@@ -41,6 +41,7 @@ pub struct Costly {
 /// is yes, then in every run whose calls and imports answer new objects, each key is at most as
 /// deep and as heavy as `tolls` allow, all keys of a pickle together cost at most the limits, and
 /// BUILD never takes an imported object unless it may. A yes carries the bill of the last pickle.
+/// A refusal says that all that precedes the refused instruction keeps within the limits.
 ///
 /// # Errors
 ///
@@ -112,6 +113,8 @@ fn settled(
 ) -> Result<Result<YesWithBill, RefusedPickle>, Costly>
     ensures same { IfOk result (IsBilledAs meter.now answer) }
     ensures none { IfOk result (λ settled. IfOk settled (λ _. meter.now.excess ≡ None)) }
+    ensures refused { IfOk result (λ settled. IfErr settled (λ refused.
+        NoneBefore refused.no.at meter.now)) }
     ensures costly { IfErr result (IsCostlyBy meter.now answer) }
     ensures unlimited { meter.now.tolls ≡ unlimited
         → IfErr result (λ costly. costly.excess ≡ Excess.OutOfMemory) }

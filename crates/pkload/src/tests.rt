@@ -36,15 +36,24 @@ fn terms(memo: Memo, extent: Extent) -> Terms {
     }
 }
 
-fn answer_in(rt: &HostRuntime, bytes: &[u8], tolls: &Tolls, terms: &Terms) -> Answer {
+fn answer_under(
+    rt: &HostRuntime,
+    permit: &Permit<'_>,
+    bytes: &[u8],
+    tolls: &Tolls,
+    terms: &Terms,
+) -> Answer {
     let mut source = Memory::new(bytes);
-    let permit = Permit::By(Policy::AnyImport);
-    let answer = check_loading(rt.alloc(), &mut source, &permit, terms, tolls);
+    let answer = check_loading(rt.alloc(), &mut source, permit, terms, tolls);
     match answer {
         Ok(Ok(billed)) => Answer::Yes(billed.yes.taken),
         Ok(Err(refused)) => Answer::No(refused.no.at, refused.no.reason),
         Err(Costly { at, excess, .. }) => Answer::Costs(at, excess),
     }
+}
+
+fn answer_in(rt: &HostRuntime, bytes: &[u8], tolls: &Tolls, terms: &Terms) -> Answer {
+    answer_under(rt, &Permit::By(Policy::AnyImport), bytes, tolls, terms)
 }
 
 fn answer_of(rt: &HostRuntime, bytes: &[u8], tolls: &Tolls) -> Answer {
@@ -89,6 +98,43 @@ fn keys_cost_what_the_bill_says(rt: HostRuntime) {
     for (bytes, at, reason) in REFUSED_FIRST {
         assert_eq!(rt; answer_of(&rt, bytes, &few()), Answer::No(at, reason));
     }
+}
+
+const IMPORT_BEHIND_EXCESS: &[u8] = b"})\x85\x85Ns0cm\nf\n.";
+
+const IMPORT_BEFORE_EXCESS: &[u8] = b"cm\nf\n0})\x85\x85Ns.";
+
+#[test]
+fn the_first_of_a_refusal_and_an_excess_is_told(rt: HostRuntime) {
+    let (any, none) = (Permit::By(Policy::AnyImport), Permit::Pairs(&[]));
+    let terms = terms(Memo::Fresh, Extent::OnePickle);
+    let answer = |permit: &Permit<'_>, bytes: &[u8], tolls: &Tolls| {
+        answer_under(&rt, permit, bytes, tolls, &terms)
+    };
+    let unlimited = Tolls::unlimited();
+    let behind = IMPORT_BEHIND_EXCESS;
+    assert_eq!(rt; answer(&any, behind, &unlimited), Answer::Yes(14));
+    assert_eq!(rt;
+        answer(&none, behind, &unlimited),
+        Answer::No(7, Reason::ImportOffList)
+    );
+    assert_eq!(rt;
+        answer(&any, behind, &few()),
+        Answer::Costs(5, Excess::DeepKey)
+    );
+    assert_eq!(rt;
+        answer(&none, behind, &few()),
+        Answer::Costs(5, Excess::DeepKey)
+    );
+    let before = IMPORT_BEFORE_EXCESS;
+    assert_eq!(rt;
+        answer(&any, before, &few()),
+        Answer::Costs(12, Excess::DeepKey)
+    );
+    assert_eq!(rt;
+        answer(&none, before, &few()),
+        Answer::No(0, Reason::ImportOffList)
+    );
 }
 
 #[test]

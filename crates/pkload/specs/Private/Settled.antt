@@ -1,5 +1,6 @@
 -- What is known of the bill where a check ends.
-use Rattle.std.specs.Prelude.{◌≡◌, ◌<◌, ⊤, Result, Ok, Err, Some}
+use Rattle.std.specs.Prelude.{◌≡◌, ◌≤◌, ◌<◌, ⊤, ℕ, Result, Ok, Err, Some}
+use Rattle.std.specs.Option.{MatchOption}
 use Rattle.pkcheck.specs.declared.check_loop.RefusedPickle.{RefusedPickle}
 use Rattle.pkcheck.specs.declared.row_of_pickles.YesAll.{YesAll}
 use Rattle.pkload.specs.Private.Meter.{Meter}
@@ -18,6 +19,10 @@ IsBilledAs meter _ _ = ⊥
 abbrev pub IsRefusedLater : Costly → Result YesAll RefusedPickle → Type 0
 IsRefusedLater costly (Ok accepted) = ⊤
 IsRefusedLater costly (Err refused) = costly.at < refused.no.at
+
+-- no limit is exceeded before this place
+abbrev pub NoneBefore : ℕ → Meter → Type 0
+NoneBefore place meter = MatchOption meter.excess ⊤ (λ _. place ≤ meter.at)
 
 -- the audience knows of this limit
 pub record IsCostlyBy (meter : Meter) (answer : Result YesAll RefusedPickle) (costly : Costly)

@@ -8,7 +8,7 @@ returns-in-Ok-clause-answer g c = let h = c.in-Ok.ensures.answer in
     c.args.terms.now.limits c.args.tolls.now _ _ c.new-meter.result c.new-meter.ensures.memo
     c.new-meter.ensures.tolls c.new-meter.ensures.metering c.new-meter.ensures.none
     c.check_pickles.new.audience h.0 c.args.terms.now.extent c.settled.result c.in-Ok.answer h.2
-    h.1 c.settled.ensures.same c.settled.ensures.none
+    h.1 c.settled.ensures.same c.settled.ensures.none c.settled.ensures.refused
 
 pub returns-in-Ok-clause-costly : goal.returns-in-Ok-clause-costly
 returns-in-Ok-clause-costly g c = let h = c.in-Ok.ensures.answer in
