@@ -6,6 +6,7 @@ pub mod Whole
 pub mod Metered
 pub mod Tolds
 pub mod Loading
+pub mod Staying
 pub mod Exceeding
 pub mod Costs
 pub mod Ends

@@ -26,7 +26,7 @@ use Rattle.pkload.specs.Tally.{IsAtMost}
 use Rattle.pkload.specs.Weighed.{AnswersAreNew, IfStopped, IfWentOn, RowIsNew, tally_since}
 
 -- the bill, if there is one, counts at least this
-abbrev AtLeast : Tally → Result Bill Breach → Type 0
+abbrev pub AtLeast : Tally → Result Bill Breach → Type 0
 AtLeast t (Ok b) = IsAtMost t b.tally
 AtLeast t (Err r) = ⊤
 
@@ -74,7 +74,7 @@ next_at_least is t (Ok b) on h = across t b (all_billed is b) h (on b)
 next_at_least is t (Err r) on h = tt
 
 -- no instruction takes back what was counted
-all_at_least : (is : List Instruction) (b : Bill) → AtLeast b.tally (all_billed is b)
+pub all_at_least : (is : List Instruction) (b : Bill) → AtLeast b.tally (all_billed is b)
 all_at_least [] b = at_most_itself b.tally
 all_at_least (i ∷ is) b =
     next_at_least is b.tally (billed i b) (all_at_least is) (billed_at_least i b)

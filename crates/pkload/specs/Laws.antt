@@ -1,5 +1,5 @@
 -- What the bill says about runs.
-use Rattle.std.specs.Prelude.{◌≡◌, ℕ, List, [], Ok, Some, slice_get}
+use Rattle.std.specs.Prelude.{◌≡◌, ◌++◌, ℕ, List, [], Ok, Some, slice_get}
 use Rattle.pkops.specs.Limits.{Bounds}
 use Rattle.pkops.specs.Spelling.{Instruction}
 use Rattle.pkread.specs.Rows.{Sight}
@@ -12,6 +12,7 @@ use Rattle.pkcheck.specs.declared.loading.Loading.{Loading}
 use Rattle.pkcheck.specs.declared.old_strings.OldStrings.{OldStrings}
 use Rattle.pkcheck.specs.declared.row_of_pickles.YesAll.{YesAll}
 use Rattle.pkload.specs.Loading.{AcceptedWithin}
+use Rattle.pkload.specs.declared.tolls.Excess.{Excess}
 use Rattle.pkload.specs.declared.tolls.Tolls.{Tolls}
 use Rattle.pkcheck.specs.Covers.{Alike}
 use Rattle.pkcheck.specs.RowRuns.{Beginning}
@@ -21,6 +22,7 @@ use Rattle.pkcheck.specs.WholeRuns.{Ended, Reached, EndedBy}
 use Rattle.pkload.specs.Bill.{Bill, all_billed, bill_before}
 use Rattle.pkload.specs.Heft.{Heft}
 use Rattle.pkload.specs.Tally.{IsAtMost}
+use Rattle.pkload.specs.Tolls.{Exceeds, KeepsWithin}
 use Rattle.pkload.specs.Weighed.{InEachNewRun, account_of, tally_since}
 
 -- the object with this number costs this
@@ -50,6 +52,17 @@ BillBoundsRuns =
     (setting : OldStrings) (beginning : Beginning) (instructions : List Instruction) (bill : Bill)
     → and_then (bill_before beginning) (all_billed instructions) ≡ Ok bill
     → InEachNewRun setting beginning instructions (EndsBilled bill)
+
+-- what exceeds a limit exceeds it however the pickle goes on
+abbrev pub ExcessStays : Type 0
+ExcessStays =
+    (excess : Excess) (tolls : Tolls) (beginning : Beginning) (front more : List Instruction)
+    (bill after : Bill)
+    → and_then (bill_before beginning) (all_billed front) ≡ Ok bill
+    → Exceeds excess tolls bill.tally bill.memory
+    → and_then (bill_before beginning) (all_billed (front ++ more)) ≡ Ok after
+    → KeepsWithin tolls after.tally after.memory
+    → ⊥
 
 module _ (loading : Loading) (policy : Policy) (limits : Bounds) (old new : Sight) where
   -- pickles are accepted whatever loading costs

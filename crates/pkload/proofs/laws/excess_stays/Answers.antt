@@ -1,0 +1,5 @@
+use Rattle.pkload.proofs.Staying.{excess_stays}
+use Rattle.pkload.proofs.laws.excess_stays.Goals as goal
+
+pub returns : goal.returns
+returns c = excess_stays
