@@ -124,12 +124,11 @@ static PyObject *loads(PyObject *self, PyObject *const *given, Py_ssize_t count,
     uint64_t imports;
     PyObject *no = refusal_of(list, given[0], &imports), *made = NULL;
     Py_DECREF(list);
-    Py_ssize_t build = no == Py_None && imports > 0 && !is_substituting ? build_in(given[0]) : -1;
-    if (no == Py_None && ((is_substituting && imports > 0) || build >= 0))
+    if (no == Py_None && is_substituting && imports > 0)
         made = PyObject_CallMethod(self, "_loads_accepted", "O", given[0]);
-    else if (no == Py_None && build == -1) /* what imports nothing can't call or change anything */
+    else if (no == Py_None) /* what imports nothing can't call anything */
         made = loaded(own, given[0]);
-    else if (no != NULL && no != Py_None)
+    else if (no != NULL)
         made = PyObject_CallMethod(self, "_loads_refused", "OO", given[0], no);
     Py_XDECREF(no);
     return made;

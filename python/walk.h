@@ -32,14 +32,6 @@ PyObject *followed(PyObject *module, PyObject *args);
 PyObject *begin_uses(PyObject *module, PyObject *args);
 PyObject *uses(PyObject *module, PyObject *args);
 
-/* Follow accepted pickles, and find a BUILD that takes an imported object. `build_in` returns its
-   offset in the pickle at the front of the bytes; their length if it can't follow that; -1 if there
-   is none; -2 after an error. `build_of_import` takes bytes, and returns the same; or also what
-   `begin_builds` made for the pickles of one memo, and the offsets between which the next ones are. */
-Py_ssize_t build_in(PyObject *data);
-PyObject *begin_builds(PyObject *module, PyObject *args);
-PyObject *build_of_import(PyObject *module, PyObject *args);
-
 /* The length of the instruction that begins the bytes, or 0 if it isn't complete. */
 size_t length_of(const uint8_t *bytes, size_t length);
 

@@ -54,7 +54,8 @@ class Guard(Loads):
     pickled and sent to workers (if `on_refusal` can be).
 
     allow: the AllowList.
-    limits: Limits in addition to those of the list.
+    limits: Limits in addition to those of the list. What loading costs is limited by default;
+        `Limits(levels=None, weight=None, work=None)` limits none of it.
     old_strings: how Python 2 strings are decoded, as for `check`. With "ascii" and "bytes" pickles
         are also loaded that way, and a different `encoding` or `errors` raises ValueError.
     fix_imports: whether pickles of protocols 0 to 2 use the module names of Python 2. A pair is
@@ -66,6 +67,9 @@ class Guard(Loads):
         what a list is missing.
     max_bytes: the most bytes that a `load` reads of one pickle; a longer one is refused as
         TooLarge. The default is 1 GiB.
+    build: what BUILD, which sets attributes, may take: "made", the default, no object that an
+        import gave, so that a pickle changes no listed class or function; "any" permits that too,
+        but under a list with names that have substitutes.
     """
 
     PickleError = pickle.PickleError
@@ -88,6 +92,7 @@ class Guard(Loads):
         "_on_refusal",
         "_enforce",
         "_max_bytes",
+        "_build",
         "_is_plain",
         "_has_substitutes",
         "_new",
@@ -107,8 +112,9 @@ class Guard(Loads):
         on_refusal: "Optional[Callable[[Refusal], Any]]" = None,
         enforce: bool = True,
         max_bytes: int = MAX_BYTES,
+        build: str = "made",
     ) -> None:
-        settings = settings_of(allow, limits, old_strings)
+        settings = settings_of(allow, limits, old_strings, build)
         if on_refusal is not None and not callable(on_refusal):
             raise TypeError(f"on_refusal must be callable, not {on_refusal!r}")
         self._allow = allow
@@ -118,6 +124,7 @@ class Guard(Loads):
         self._on_refusal = on_refusal
         self._enforce = flag("enforce", enforce)
         self._max_bytes = number("max_bytes", max_bytes)
+        self._build = build
         _later("_meant").require(allow)
         self._has_substitutes = has_substitutes(allow)
         is_plain = not fix_imports and old_strings != "bytes"
@@ -357,15 +364,16 @@ class Guard(Loads):
                 return loads(data, own, is_old, encoding=encoding, errors=errors, buffers=buffers)
             with _later("_telling").Misuses(self, data):
                 return loads(data, own, is_old, encoding=encoding, errors=errors, buffers=buffers)
-        if self._enforce and b"b" in data:
-            _later("_builds").refuse(self, data)
         read: Any = _loads
         if self._has_old_names(data):
             from ._unpickler import loads_renaming as read
         return read(data, fix_imports=False, encoding=encoding, errors=errors, buffers=buffers)
 
 
-_SETTINGS = ("limits", "old_strings", "fix_imports", "on_refusal", "enforce", "max_bytes")
+_SETTINGS = (
+    *("limits", "old_strings", "fix_imports", "on_refusal", "enforce", "max_bytes"),
+    "build",
+)
 
 
 def _guard_of(kind: "Type[Guard]", allow: AllowList, *settings: "Any") -> Guard:

@@ -7,10 +7,10 @@ can be said.
 from __future__ import annotations
 
 import re
-from typing import Callable, Tuple
+from typing import Callable, Dict, Tuple
 
 from ._answers import Verdict
-from ._limits import Limits
+from ._limits import Limits, said
 from ._reasons import Reason
 
 _LOOKED_AT = 1 << 16
@@ -38,11 +38,13 @@ _OTHERS = [
     (rb"\s*[\[{\"]", "JSON or another text"),
 ]
 _COSTS = {
-    Reason.DeepKey: "a key has more levels of tuples than the limit levels",
-    Reason.HeavyKeys: "a key weighs more than the limit weight, or all keys more than work",
-    Reason.ManyKeys: "keys that can be made to collide weigh more than the limit clash",
-    Reason.MuchMemory: "loading takes more bytes than the limit memory",
+    Reason.DeepKey: {"levels": "a key has more levels of tuples than"},
+    Reason.HeavyKeys: {"weight": "a key weighs more than", "work": "all keys weigh more than"},
+    Reason.ManyKeys: {"clash": "keys that can be made to collide weigh more than"},
+    Reason.MuchMemory: {"memory": "loading takes more bytes than"},
 }
+"""What a pickle exceeds, by the limits that its reason may be of."""
+CHANGES = "BUILD would change what the pickle imports, for all that use it"
 _NO_PICKLE = (
     Reason.UnknownOpcode,
     Reason.MissingItem,
@@ -57,7 +59,7 @@ def hint_of(
     """The hint for a refusal under these limits, or an empty text. `read(at, count)` returns bytes
     of what was checked, of which the verdict counts the first as `start`.
     """
-    at, front = verdict.at - start, read(0, 8)
+    at, front, limits = verdict.at - start, read(0, 8), said(limits)
     for pattern, what in _OTHERS:
         if re.match(pattern, front):
             return f"these bytes are no pickle, but look like {what}"
@@ -68,10 +70,23 @@ def hint_of(
     if verdict.reason is Reason.BadArgument:
         return _of_argument(read(at, _LOOKED_AT))
     if verdict.reason in _COSTS:
-        return f"{_COSTS[verdict.reason]}: Limits(..) of the guard sets it"
+        return _of_costs(_COSTS[verdict.reason], limits)
+    if verdict.reason is Reason.BuildsImport:
+        return f'{CHANGES}: build="any" permits it'
     if verdict.reason is Reason.NotAscii:
         return 'old_strings="bytes" reads such strings as bytes'
     return ""
+
+
+def _of_costs(asked: Dict[str, str], limits: Limits) -> str:
+    held = {name: getattr(limits, name) for name in asked}
+    what = [
+        f"{words} the limit {name}, {held[name]:,}"
+        for name, words in asked.items()
+        if held[name] is not None
+    ]
+    named = ", ".join(f"{name}=.." for name in asked if held[name] is not None)
+    return f"{', or '.join(what)}: Limits({named}) of the guard raises it"
 
 
 def _of_argument(instruction: bytes) -> str:

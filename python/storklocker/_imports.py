@@ -3,6 +3,7 @@
 from __future__ import annotations
 
 from ._answers import Refused
+from ._limits import without_costs
 from ._lists import STANDARD, AllowList, records, settings_of, with_room
 from ._storklocker import imports as _imports
 from ._storklocker import verdict
@@ -98,7 +99,7 @@ def _first_missing(data: bytes, allow: AllowList, settings: Optional[bytes]) -> 
     takes a check under a longer list.
     """
     listed, room = allow, MOST_NAMES
-    own = settings if settings is not None else settings_of(allow, None, "unknown")
+    own = without_costs(settings or settings_of(allow, None, "unknown"))
     for _ in range(_FEW):
         pair = verdict(data, listed, own).pair
         room -= 0 if pair is None else len(pair[0]) + len(pair[1])

@@ -7,7 +7,7 @@ import struct
 TYPE_CHECKING = False
 if TYPE_CHECKING:
     from collections import namedtuple
-    from typing import Any, Optional, Tuple
+    from typing import Any, Dict, Optional, Tuple
 else:
     from ._answers import namedtuple
 
@@ -22,11 +22,24 @@ OLD_STRINGS = ("unknown", "ascii", "bytes")
 
 _SETTINGS = struct.Struct("=6Q4I2I3Q2I")
 
-_COSTS = {
-    **dict.fromkeys(("levels", "weight"), UNBOUND),
-    **dict.fromkeys(("work", "clash", "memory"), (1 << 64) - 1),
+_MOST = (1 << 64) - 1
+COSTS = {
+    "levels": (1_000, UNBOUND),
+    "weight": (1_000_000, UNBOUND),
+    "work": (100_000_000, _MOST),
+    "clash": (None, _MOST),
+    "memory": (None, _MOST),
 }
-"""The limits on what loading costs, each with the number that stands for none in storklocker.h."""
+"""The limits on what loading costs, each with its default and the number that stands for none in
+storklocker.h.
+"""
+UNSAID = (_USUAL,) * len(COSTS)
+"""The costs of a list file, which says nothing of them: the guard's limits apply, or the defaults.
+"""
+NO_COSTS: "Dict[str, Any]" = dict.fromkeys(COSTS)
+"""The words that ask `Limits` for no limit on what loading costs."""
+BUILDS = ("made", "any")
+"""What BUILD may take; the index is the number in storklocker.h."""
 
 
 class Limits(
@@ -50,19 +63,21 @@ class Limits(
     large: as `large = true` in a list file, makes 4,294,967,295 the default and the greatest value
         of counted, stack and memo.
 
-    The others limit what loading a pickle costs, whatever its objects do; None, the default, is no
-    limit. Keys are those of dicts and the items of sets. An object weighs 1, an int in digits or
-    bytes an eighth of these more, a text or bytes a 64th of its bytes more, and a tuple or
-    frozenset the weights of its items more. What a call or an import gives weighs 1, whatever its
-    hash costs. A check with such limits takes several times as long.
+    The others limit what loading a pickle costs, whatever its objects do; None is no limit. Keys
+    are those of dicts and the items of sets. An object weighs 1, an int in digits or bytes an
+    eighth of these more, a text or bytes a 64th of its bytes more, and a tuple or frozenset the
+    weights of its items more. What a call or an import gives weighs 1, whatever its hash costs. A
+    check with such limits takes several times as long: `Limits(levels=None, weight=None,
+    work=None)` has none. Say so once, to the guard or to the call that checks; a list file leaves
+    them to these.
 
-    levels: levels of tuples in a key, each of which hashing descends by calls in C. From 1,023 on,
-        a limit is none.
-    weight: the weight of a key. From 1,048,575 on, a limit is none.
-    work: the weight of all keys of a pickle together.
+    levels: levels of tuples in a key, each of which hashing descends by calls in C; default 1,000.
+        From 1,023 on, a limit is none.
+    weight: the weight of a key; default 1,000,000. From 1,048,575 on, a limit is none.
+    work: the weight of all keys of a pickle together; default 100,000,000.
     clash: the weight of all keys but texts, bytes, and what calls and imports give: of those that
-        can be made to collide.
-    memory: bytes that loading takes, by estimate.
+        can be made to collide; default None.
+    memory: bytes that loading takes, by estimate; default None.
     """
 
     __slots__ = ()
@@ -88,11 +103,11 @@ class Limits(
         passed: int = 16_777_216,
         numbers: int = 1_000_000,
         large: bool = False,
-        levels: "Optional[int]" = None,
-        weight: "Optional[int]" = None,
-        work: "Optional[int]" = None,
-        clash: "Optional[int]" = None,
-        memory: "Optional[int]" = None,
+        levels: "Optional[int]" = _USUAL,
+        weight: "Optional[int]" = _USUAL,
+        work: "Optional[int]" = _USUAL,
+        clash: "Optional[int]" = _USUAL,
+        memory: "Optional[int]" = _USUAL,
     ) -> "Limits":
         many, few = (UNBOUND, UNBOUND) if flag("large", large) else (16_777_216, 1_000_000)
         return super().__new__(
@@ -103,10 +118,7 @@ class Limits(
             number("passed", passed),
             number("numbers", numbers),
             large,
-            *(
-                None if given is None else number(name, given)
-                for name, given in zip(_COSTS, (levels, weight, work, clash, memory))
-            ),
+            *map(_cost, COSTS, (levels, weight, work, clash, memory)),
         )
 
     def __reduce__(self) -> "Tuple[Any, ...]":
@@ -129,6 +141,12 @@ def number(name: str, given: int) -> int:
     return int(given)
 
 
+def _cost(name: str, given: "Optional[int]") -> "Optional[int]":
+    """A limit on costs: a number, or None for no limit."""
+    given = COSTS[name][0] if given is _USUAL else given
+    return None if given is None else number(name, given)
+
+
 def limits_of(
     counted: int,
     stack: int,
@@ -138,34 +156,51 @@ def limits_of(
     large: int,
     *costs: "Optional[int]",
 ) -> Limits:
-    """Limits with these values."""
-    return Limits(
+    """Limits with these values. Costs may be unsaid."""
+    made = Limits(
         counted=counted,
         stack=stack,
         memo=memo,
         passed=passed,
         numbers=numbers,
         large=bool(large),
-        **dict(zip(_COSTS, costs)),
+        **dict(zip(COSTS, costs)),
     )
+    return Limits._make((*made[: -len(costs)], *costs)) if _USUAL in costs else made
+
+
+def said(limits: Limits) -> Limits:
+    """The limits, with defaults in place of costs that are unsaid."""
+    named = {name: it for name, it in zip(limits._fields, limits) if it is not _USUAL}
+    return Limits(**named)
 
 
 def least(one: Limits, other: Limits) -> Limits:
     """The smaller of each two limits."""
-    both: "Any" = [
-        min((it for it in pair if it is not None), default=None) for pair in zip(one, other)
-    ]
-    return limits_of(*both)
+    return limits_of(*map(_lesser, one, other))
+
+
+def _lesser(one: "Any", other: "Any") -> "Any":
+    """The smaller limit. None is no limit, and what is unsaid yields to all else."""
+    given = [it for it in (one, other) if it is not _USUAL]
+    return min((it for it in given if it is not None), default=None) if given else _USUAL
 
 
 @functools.lru_cache(maxsize=64)
-def packed(limits: Limits, old_strings: str, keeps_memo: bool) -> bytes:
+def packed(limits: Limits, old_strings: str, keeps_memo: bool, build: str) -> bytes:
     """The bytes of a `struct storklocker_settings`, for sorted pairs."""
-    counted, stack, memo, passed, numbers, large, *costs = limits_of(*limits)
+    counted, stack, memo, passed, numbers, large, *costs = said(limits)
+    mosts = [most for _, most in COSTS.values()]
     return _SETTINGS.pack(
         _SETTINGS.size,
         *(counted, stack, memo, passed, numbers),
         *(OLD_STRINGS.index(old_strings), keeps_memo, large, True),
-        *(most if it is None else min(it, most) for it, most in zip(costs, _COSTS.values())),
-        *(True, False),
+        *(most if it is None else min(it, most) for it, most in zip(costs, mosts)),
+        *(BUILDS.index(build), False),
     )
+
+
+def without_costs(settings: bytes) -> bytes:
+    """The settings, with no limit on what loading costs."""
+    kept = _SETTINGS.unpack(settings)[: -len(COSTS) - 2]
+    return _SETTINGS.pack(*kept, *(most for _, most in COSTS.values()), True, False)

@@ -6,7 +6,7 @@ from types import MappingProxyType
 
 from . import _names
 from ._answers import LIST_FAULTS, ListFault
-from ._limits import OLD_STRINGS, Limits, least, limits_of, packed
+from ._limits import BUILDS, OLD_STRINGS, UNSAID, Limits, least, limits_of, packed, said
 from ._storklocker import Pairs as _Pairs
 from ._storklocker import pairs_of, read_list
 
@@ -44,7 +44,8 @@ class AllowList(_Pairs):
     It supports iteration in order, `in`, `len`, `|`, `==` and `hash`. It can be copied, pickled and
     shared by threads. Lookup takes logarithmic time, so a long list costs little. `limits` are
     those of its list file, which apply to every check under it; None if that names none, and for a
-    list made from pairs.
+    list made from pairs. A list file has no limits on what loading costs: the defaults of `Limits`
+    apply, unless the limits of the guard or the call say otherwise.
 
     A pair permits only itself: `("os", "path")` doesn't permit `("os", "path.join")`. A class or a
     function stands for the pair by which a pickle names it. The pair of one in a class, such as
@@ -92,7 +93,7 @@ class AllowList(_Pairs):
         limits: "Optional[Limits]",
         settings: "Optional[bytes]" = None,
     ) -> "AllowList":
-        own = packed(STANDARD if limits is None else limits, "unknown", False)
+        own = packed(STANDARD if limits is None else limits, "unknown", False, "made")
         made = pairs_of(cls, tuple(sorted(set(pairs))), settings or own)
         made._limits = limits
         made._loaded = made._fixed = made._guard = made._meant = None
@@ -108,17 +109,17 @@ class AllowList(_Pairs):
         if not isinstance(text, (str, bytes, bytearray)):
             raise TypeError(f"the text of a list file must be str or bytes, not {type(text)!r}")
         data = _bytes_of(text) if isinstance(text, str) else bytes(text)
-        said: "Tuple[Any, Any]" = ({}, ())
+        meant: "Tuple[Any, Any]" = ({}, ())
         if b"substitutes" in data:
             from ._sections import split
 
-            data, said = split(data)
+            data, meant = split(data)
         (fault, numbers), room = with_room(lambda size: read_list(data, size))
         if fault != 0:
             raise _fault_of(data, LIST_FAULTS[fault])
         pairs = ((module or b"", name or b"") for module, name in records(room))
-        limits = limits_of(*numbers) if _has_limits(data) else None
-        return cls._saying(cls._of(pairs, limits), *said)
+        limits = limits_of(*numbers, *UNSAID) if _has_limits(data) else None
+        return cls._saying(cls._of(pairs, limits), *meant)
 
     @classmethod
     def from_file(cls, file: "Union[str, os.PathLike[str]]") -> "AllowList":
@@ -149,7 +150,7 @@ class AllowList(_Pairs):
     @property
     def limits(self) -> "Optional[Limits]":
         """The limits of its list file; None if there are none."""
-        return self._limits
+        return None if self._limits is None else said(self._limits)
 
     def __iter__(self) -> "Iterator[Pair]":
         for module, name in self._pairs:
@@ -198,12 +199,12 @@ class AllowList(_Pairs):
         shown = [repr(pair) for pair, _ in zip(self, range(4))]
         if len(self) > len(shown):
             shown.append(f"... {len(self) - len(shown)} more")
-        limits = "" if self._limits is None else f" within {self._limits!r}"
+        limits = "" if self.limits is None else f" within {self.limits!r}"
         return f"AllowList([{', '.join(shown)}]){limits}"
 
     def __reduce__(self) -> "Tuple[Any, ...]":
-        said = () if self._meant is None else tuple(self._meant)
-        return (_list_of, (type(self), self._pairs, self._limits, *said))
+        meant = () if self._meant is None else tuple(self._meant)
+        return (_list_of, (type(self), self._pairs, self._limits, *meant))
 
     def _under(self, settings: bytes) -> "AllowList":
         """The list with these settings for the calls that name none."""
@@ -266,9 +267,9 @@ def _list_of(
     kind: "Type[AllowList]",
     pairs: "Tuple[Tuple[bytes, bytes], ...]",
     limits: "Optional[Limits]",
-    *said: "Any",
+    *meant: "Any",
 ) -> AllowList:
-    return kind._saying(kind._of(pairs, limits), *(said or ({}, ())))
+    return kind._saying(kind._of(pairs, limits), *(meant or ({}, ())))
 
 
 @functools.lru_cache(maxsize=64)
@@ -349,7 +350,11 @@ def with_room(
 
 
 def settings_of(
-    allow: AllowList, limits: "Optional[Limits]", old_strings: str, keeps_memo: bool = False
+    allow: AllowList,
+    limits: "Optional[Limits]",
+    old_strings: str,
+    build: str = "made",
+    keeps_memo: bool = False,
 ) -> bytes:
     """The settings of a check as the library reads them. The limits of the list apply too."""
     if not isinstance(allow, AllowList):
@@ -358,7 +363,9 @@ def settings_of(
         raise TypeError(f"limits must be a storklocker.Limits or None, not {type(limits)!r}")
     if old_strings not in OLD_STRINGS:
         raise ValueError(f"old_strings must be 'unknown', 'ascii' or 'bytes', not {old_strings!r}")
-    return packed(within(limits, allow._limits) or STANDARD, old_strings, keeps_memo)
+    if build not in BUILDS:
+        raise ValueError(f"build must be 'made' or 'any', not {build!r}")
+    return packed(within(limits, allow._limits) or STANDARD, old_strings, keeps_memo, build)
 
 
 def records(room: bytes) -> "Iterator[Names]":

@@ -20,6 +20,7 @@ def loads(
     encoding: "Optional[str]" = None,
     errors: "Optional[str]" = None,
     buffers: "Optional[Iterable[Any]]" = None,
+    build: str = "made",
 ) -> "Any":
     """`pickle.loads` for untrusted input: short for `Guard(allow, ..).loads(data, ..)`.
 
@@ -27,10 +28,11 @@ def loads(
     `pickle.loads` raises. A buffer other than `bytes` is copied first, so that exactly the checked
     bytes are loaded.
     """
-    if limits is None and old_strings == "unknown" and fix_imports is False:
+    if limits is None and old_strings == "unknown" and fix_imports is False and build == "made":
         guard = _plain_guard(allow)
     else:
-        guard = Guard(allow, limits=limits, old_strings=old_strings, fix_imports=fix_imports)
+        words: "Any" = {"limits": limits, "old_strings": old_strings, "fix_imports": fix_imports}
+        guard = Guard(allow, build=build, **words)
     if encoding is None and errors is None and buffers is None:
         return guard.loads(data)
     return guard.loads(data, encoding=encoding, errors=errors, buffers=buffers)

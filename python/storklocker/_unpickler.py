@@ -11,8 +11,7 @@ from typing import TYPE_CHECKING, Any, Dict, Iterable, Optional, Set, Type
 
 from . import _names
 from ._answers import Verdict
-from ._builds import Builds
-from ._checking import check_row
+from ._checking import JUDGING, check_row
 from ._reading import FIRST_BLOCK, block_of, can_step_back, too_long
 from ._reasons import Reason
 from ._storklocker import verdict, walked
@@ -94,7 +93,6 @@ class GuardedUnpickler(pickle.Unpickler):
         self._accepted: Dict[bool, int] = {}  # the pickles accepted with and without old names
         self._kinds: Set[bool] = set()  # whether there are pickles with and without old names
         self._shift: Optional[int] = None  # the offset in the file minus that in these bytes
-        self._builds = Builds()
 
     def load(self) -> Any:
         """The object of the next pickle in the file."""
@@ -134,10 +132,7 @@ class GuardedUnpickler(pickle.Unpickler):
             raise pickle.UnpicklingError("a load of this Unpickler failed: create a new one")
         self._find_place()
         try:
-            end = self.guard._admitted(self._admitted)
-            if self.guard._enforce and not self.guard._has_substitutes:
-                self._builds.refuse(self.guard, self._bytes, self._taken, end)
-            return end
+            return self.guard._admitted(self._admitted)
         except BaseException:  # also an interrupt: the next `load` starts from the same byte
             self._put_back()
             raise
@@ -207,9 +202,8 @@ class GuardedUnpickler(pickle.Unpickler):
         allow = guard._old if is_old else guard._new
         if self._pickles == 0:
             return verdict(data, allow, None)
-        return check_row(
-            data, allow, one_unpickler=True, limits=guard._limits, old_strings=guard._old_strings
-        )
+        words: Any = {name: getattr(guard, f"_{name}") for name in JUDGING}
+        return check_row(data, allow, one_unpickler=True, **words)
 
     def _find_place(self) -> None:
         """Drops what was read ahead if the file is no longer at the end of the last pickle."""

@@ -9,6 +9,7 @@ import stat
 from pathlib import Path
 from typing import Any, Dict, Iterator, List, Union
 
+from ._limits import UNSAID
 from ._lists import AllowList
 
 _LONGEST = 100
@@ -32,11 +33,9 @@ def _lines(allow: AllowList) -> Iterator[str]:
         yield from row_of(module, names)
     if allow.limits is not None:
         yield from ("", "[limits]")
-        for limit, value in zip(allow.limits._fields, allow.limits):
-            if isinstance(value, bool):
-                yield from [f"{limit} = true"] if value else []
-            elif value is not None:
-                yield f"{limit} = {value}"
+        *numbers, large = allow.limits[: -len(UNSAID)]
+        yield from (f"{limit} = {it}" for limit, it in zip(allow.limits._fields, numbers))
+        yield from ["large = true"] if large else []
     if allow._meant is not None:
         from ._sections import said_of
 

@@ -3,7 +3,7 @@ test_cpython.py.
 
 The tests run twice: with the module `pickle`, where the pairs that they import are noted, and with
 a guard under these pairs. Each that passes with the one passes with the other, but for the ones
-below.
+below. No pickle that they load is refused for what loading it costs.
 """
 
 import io
@@ -12,6 +12,7 @@ import sys
 import unittest
 
 import storklocker
+from storklocker._limits import NO_COSTS
 from storklocker._meant import EVERYTHING
 from storklocker import _names
 from test import pickletester
@@ -42,6 +43,8 @@ NOT_COVERED = {
     "test_unicode": "a text with a lone surrogate is refused",
 }
 pairs = set()
+pickles = {}
+"""Those that `pickle.loads` loads, in their order."""
 
 
 class Noting(pickle.Unpickler):
@@ -66,7 +69,9 @@ class Plain:
     def loads(self, data, **named):
         if isinstance(data, str):
             raise TypeError("no bytes")
-        return Noting(io.BytesIO(data), **named).load()
+        made = Noting(io.BytesIO(data), **named).load()
+        pickles[bytes(data)] = None
+        return made
 
 
 def cases(module):
@@ -165,6 +170,9 @@ def main():
     listed = [pair for pair in pairs if all(pair)]
     meant = [".".join(pair) for pair in EVERYTHING.intersection(listed)]
     guard = storklocker.Guard(storklocker.AllowList(listed, dangerous=meant), fix_imports=True)
+    free = guard._like(limits=storklocker.Limits(**NO_COSTS), build="any")
+    accepted = [data for data in pickles if free.check(data)]
+    costly = [data for data in accepted if not guard.check(data)]
     _, guarded, _ = ran(guard)
     wrong = []
     for name in sorted(guarded):
@@ -180,6 +188,7 @@ def main():
         f"{count} tests, {len(left)} left out by CPython, {len(plain)} fail with pickle too, "
         f"{len(wrong)} differ"
     )
+    print(f"{len(accepted)} pickles, {len(costly)} cost too much: {[it[:99] for it in costly]}")
     return 1 if wrong else 0
 
 

@@ -211,12 +211,21 @@ class Substitutes(unittest.TestCase):
             b"\x80\x03cbuiltins\nbytearray\n" + large,
             b"\x80\x03cbuiltins\nbytes\n" + large,
             b"\x80\x03c_codecs\nencode\n\x8c\x02\xc3\xa9\x8c\x04idna\x86R.",
-            b"\x80\x03ctest_bounds\nOwn\n}\x8c\x01a\x8c\x01bsb.",
-            b"\x80\x03cbuiltins\nbytes\n}\x8c\x01a\x8c\x01bsb.",
         ):
             for load in (self.GUARD.loads, lambda it: self.GUARD.load(Piped(it))):
                 with self.subTest(pickled=pickled), self.assertRaises(Misused):
                     load(pickled)
+
+    def test_what_is_imported_stays_as_it_is(self):
+        permitting = Guard(self.GUARD.allow, build="any")
+        for pickled in (
+            b"\x80\x03ctest_bounds\nOwn\n}\x8c\x01a\x8c\x01bsb.",
+            b"\x80\x03cbuiltins\nbytes\n}\x8c\x01a\x8c\x01bsb.",
+        ):
+            for guard, error in ((self.GUARD, storklocker.Refused), (permitting, Misused)):
+                for load in (guard.loads, lambda it: guard.load(Piped(it))):
+                    with self.subTest(pickled=pickled), self.assertRaises(error):
+                        load(pickled)
         self.assertNotIn("a", vars(Own))
 
     def test_states_are_set_as_pickle_sets_them(self):

@@ -1,6 +1,8 @@
 """No pickle changes what it imports, however a guard reads it."""
 
+import copy
 import io
+import logging
 import pickle
 import random
 import sys
@@ -8,8 +10,11 @@ import types
 import unittest
 
 import storklocker
-from storklocker import AllowList, Guard, Misused
-from storklocker._builds import changes_an_import
+from storklocker import AllowList, Guard, Misused, Reason, Refused
+from storklocker.contrib import _rows
+from streams import Piped
+
+logging.getLogger("storklocker").setLevel(logging.ERROR)
 
 
 class Job:
@@ -64,6 +69,15 @@ HONEST = {
 }
 
 
+INSTALLED = (
+    lambda data: pickle.loads(data),
+    lambda data: pickle._loads(data),
+    lambda data: pickle.load(io.BytesIO(data)),
+    lambda data: pickle.Unpickler(io.BytesIO(data)).load(),
+    lambda data: pickle._Unpickler(io.BytesIO(data)).load(),
+)
+
+
 class Changes(unittest.TestCase):
     def setUp(self):
         module = types.ModuleType("job_program")
@@ -77,12 +91,16 @@ class Changes(unittest.TestCase):
             on_refusal=self.told.append,
         )
 
+    def permitting(self):
+        return Guard(self.guard.allow, on_refusal=self.told.append, build="any")
+
     def is_changed(self):
         return self.module.resize() != "resize a.png" or self.module.Job().run() != "run"
 
-    def loaders(self):
-        guard = self.guard
-        old = Guard(guard.allow, fix_imports=True, on_refusal=self.told.append)
+    def loaders(self, guard=None):
+        guard = guard or self.guard
+        words = {"build": guard._build, "on_refusal": self.told.append}
+        old = Guard(guard.allow, fix_imports=True, **words)
         yield guard.loads
         yield lambda data: guard.loads(bytearray(data))
         yield lambda data: guard.loads(data, encoding="latin1")
@@ -93,38 +111,94 @@ class Changes(unittest.TestCase):
         yield lambda data: guard.Unpickler(io.BufferedReader(io.BytesIO(data))).load()
         yield lambda data: type("Own", (guard.Unpickler,), {})(io.BytesIO(data)).load()
 
-    def test_without_a_guard_each_does_harm(self):
+    def test_without_the_rule_each_does_harm(self):
         for what, data in HOSTILE.items():
-            with self.subTest(what=what):
-                self.assertTrue(self.guard.check(data).accepted)
-                self.setUp()
-                pickle.loads(data)
-                self.assertTrue(self.is_changed())
+            for number, _ in enumerate(self.loaders(self.permitting())):
+                with self.subTest(what=what, number=number):
+                    self.setUp()
+                    guard = self.permitting()
+                    self.assertTrue(guard.check(data).accepted)
+                    list(self.loaders(guard))[number](data)
+                    self.assertTrue(self.is_changed())
+                    self.assertEqual(self.told, [])
 
     def test_each_way_to_load(self):
         for what, data in HOSTILE.items():
-            for load in self.loaders():
-                with self.subTest(what=what, load=load):
-                    with self.assertRaises(Misused) as raised:
+            for number, load in enumerate(self.loaders()):
+                with self.subTest(what=what, number=number):
+                    with self.assertRaises(Refused) as raised:
                         load(data)
                     self.assertFalse(self.is_changed())
-                    self.assertIn("BUILD at byte", str(raised.exception))
-                    self.assertEqual(self.told.pop().misused, str(raised.exception))
+                    error = raised.exception
+                    self.assertIs(error.reason, Reason.BuildsImport)
+                    self.assertEqual(data[error.at : error.at + 1], b"b")
+                    self.assertIn('build="any" permits it', error.hint)
+                    self.assertEqual(self.told.pop().verdict, error.verdict)
                     self.assertEqual(self.told, [])
+
+    def test_each_check(self):
+        for what, data in HOSTILE.items():
+            for build, reason in (("made", Reason.BuildsImport), ("any", None)):
+                guard = Guard(self.guard.allow, build=build)
+                for verdict in (
+                    storklocker.check(data, guard.allow, build=build),
+                    storklocker.check_row(data, guard.allow, build=build),
+                    storklocker.check_row(data, guard.allow, one_unpickler=True, build=build),
+                    guard.check(data),
+                ):
+                    with self.subTest(what=what, build=build):
+                        self.assertIs(verdict.reason, reason)
+        self.assertIs(storklocker.check(data, guard.allow).reason, Reason.BuildsImport)
+
+    def test_the_function(self):
+        data = HOSTILE["method of a class"]
+        with self.assertRaises(Refused):
+            storklocker.loads(data, self.guard.allow)
+        self.assertFalse(self.is_changed())
+        storklocker.loads(data, self.guard.allow, build="any")
+        self.assertTrue(self.is_changed())
+
+    def test_adapters(self):
+        data = HOSTILE["method of a class"]
+        for guard, is_accepted in ((self.guard, False), (self.permitting(), True)):
+            (row,) = _rows.loaded([("a", data)], guard)
+            self.assertEqual((row.accepted, self.is_changed()), (is_accepted, is_accepted))
+
+    def test_other_guards_keep_the_rule(self):
+        data = HOSTILE["method of a class"]
+        for guard in (self.guard, self.permitting()):
+            guard = guard._like(on_refusal=None)
+            for other in (copy.copy(guard), pickle.loads(pickle.dumps(guard)),
+                          guard.learning("unused", enforce=True)):
+                self.assertEqual(bool(other.check(data)), guard._build == "any")
+
+    def test_wrong_values(self):
+        for wrong in ("none", None, True):
+            for call in (Guard, lambda allow, build: storklocker.check(b"N.", allow, build=build)):
+                with self.assertRaises(ValueError):
+                    call(self.guard.allow, build=wrong)
+
+    def test_under_a_list_with_substitutes(self):
+        allow = self.guard.allow | AllowList([("builtins", "bytearray")])
+        for build, error in (("made", Refused), ("any", Misused)):
+            for data in HOSTILE.values():
+                for load in self.loaders(Guard(allow, build=build)):
+                    with self.assertRaises(error):
+                        load(data)
+                    self.assertFalse(self.is_changed())
 
     def test_installed(self):
         with storklocker.installed(self.guard):
             for data in HOSTILE.values():
-                for load in (
-                    pickle.loads,
-                    pickle._loads,
-                    lambda data: pickle.load(io.BytesIO(data)),
-                    lambda data: pickle.Unpickler(io.BytesIO(data)).load(),
-                    lambda data: pickle._Unpickler(io.BytesIO(data)).load(),
-                ):
-                    with self.assertRaises(Misused):
+                for load in INSTALLED:
+                    with self.assertRaises(Refused):
                         load(data)
         self.assertFalse(self.is_changed())
+        for load in INSTALLED:
+            self.setUp()
+            with storklocker.installed(self.permitting()):
+                load(HOSTILE["method of a class"])
+            self.assertTrue(self.is_changed())
 
     def test_what_pickles_hold(self):
         for what, data in HONEST.items():
@@ -134,21 +208,33 @@ class Changes(unittest.TestCase):
 
     def test_the_memo_of_an_earlier_pickle(self):
         first, second = whole(name("Job"), b"\x94"), whole(b"h\x00", METHOD, b"b")
-        reader = self.guard.Unpickler(io.BytesIO(first + whole(b"N") + second))
-        self.assertIs(reader.load(), self.module.Job)
-        self.assertIsNone(reader.load())
-        for _ in range(2):
-            with self.assertRaises(Misused) as raised:
-                reader.load()
-        self.assertIn(f"byte {len(second) - 2}", str(raised.exception))
-        plain = pickle.Unpickler(io.BytesIO(first + second))
-        plain.load(), plain.load()
-        self.assertTrue(self.is_changed())
+        data = first + whole(b"N") + second
+        for kind in (io.BytesIO, Piped):
+            reader = self.guard.Unpickler(kind(data))
+            self.assertIs(reader.load(), self.module.Job)
+            self.assertIsNone(reader.load())
+            for _ in range(2 if kind is io.BytesIO else 1):
+                with self.assertRaises(Refused) as raised:
+                    reader.load()
+                self.assertIs(raised.exception.reason, Reason.BuildsImport)
+                self.assertEqual(raised.exception.at, len(data) - 2)
+            self.assertFalse(self.is_changed())
+            reader = self.permitting().Unpickler(kind(data))
+            reader.load(), reader.load(), reader.load()
+            self.assertTrue(self.is_changed())
+            self.setUp()
+
+    def test_a_row_of_one_unpickler(self):
+        data = whole(name("Job"), b"\x94") + whole(b"h\x00", METHOD, b"b")
+        for build, pickles in (("made", 1), ("any", 2)):
+            row = storklocker.check_row(data, self.guard.allow, one_unpickler=True, build=build)
+            self.assertEqual((row.accepted, row.pickles), (build == "any", pickles))
 
     def test_a_report_changes_nothing_that_is_loaded(self):
-        guard = Guard(self.guard.allow, enforce=False)
+        guard = Guard(self.guard.allow, enforce=False, on_refusal=self.told.append)
         guard.loads(HOSTILE["method of a class"])
         self.assertTrue(self.is_changed())
+        self.assertIs(self.told[0].verdict.reason, Reason.BuildsImport)
 
 
 class Imported:
@@ -213,12 +299,12 @@ def made(chance, allow):
     data = b"\x80\x04"
     while len(data) < 40:
         part = chance.choice(PARTS)
-        said = storklocker.check(data + part, allow)
+        said = storklocker.check(data + part, allow, build="any")
         if said.reason is storklocker.Reason.Truncated:
             data += part
     for end in (b".", b"0" * 30 + b"N.", b"t.", b"lt."):
         for tail in (end, b"(" + end):
-            if storklocker.check(data + tail, allow):
+            if storklocker.check(data + tail, allow, build="any"):
                 return data + tail
     return made(chance, allow)
 
@@ -231,7 +317,9 @@ class Random(unittest.TestCase):
             reader = Oracle(io.BytesIO(data))
             reader.load()
             seen[reader.is_changed] += 1
-            self.assertEqual(changes_an_import(data), reader.is_changed, data)
+            verdict = storklocker.check(data, allow)
+            self.assertEqual(not verdict, reader.is_changed, data)
+            self.assertIn(verdict.reason, (None, Reason.BuildsImport))
         self.assertGreater(min(seen.values()), 50, seen)
 
 

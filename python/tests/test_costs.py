@@ -1,15 +1,29 @@
-"""Limits on what loading costs, off by default."""
+"""Limits on what loading costs, which are on by default."""
 
+import ast
+import asyncio
+import copy
 import io
+import logging
+import os
 import pickle
+import tempfile
 import time
 import unittest
+from pathlib import Path
 
 import storklocker
+from common import ROOT, SEEDS
 from storklocker import AllowList, Guard, Limits, Reason, Refused
 from storklocker._lists import within
+from storklocker.contrib import _rows, shelve
+from streams import Piped
 
+LIBRARY = Path(os.__file__).parent
+logging.getLogger("storklocker").setLevel(logging.ERROR)
 NOTHING = AllowList([])
+FREE = Limits(levels=None, weight=None, work=None)
+LISTED = "version = 2\n[imports]\n[limits]\nstack = 1000\n"
 
 
 def doubled(times):
@@ -18,6 +32,8 @@ def doubled(times):
 
 
 ATTACK = doubled(30)
+MILD = doubled(20)
+"""An attack that a test can afford to load."""
 DEEP = b"}" + b")" + b"\x85" * 5_000 + b"Ns."
 LIMITED = [
     ("levels", 1_000, DEEP, Reason.DeepKey, len(DEEP) - 2),
@@ -29,46 +45,156 @@ LIMITED = [
 """A limit that a pickle exceeds, the pickle, the reason, and where."""
 
 
+def only(**limits):
+    """These limits on costs alone."""
+    return Limits(**{**dict.fromkeys(("levels", "weight", "work")), **limits})
+
+
 def seconds_of(data):
     start = time.perf_counter()
     pickle.loads(data)
     return time.perf_counter() - start
 
 
-class Costs(unittest.TestCase):
+def from_shelf(guard, data):
+    with tempfile.TemporaryDirectory() as folder:
+        with shelve.open(Path(folder) / "jobs", guard) as shelf:
+            shelf.dict[b"a"] = data
+            return shelf["a"]
+
+
+def from_row(guard, data):
+    (row,) = _rows.loaded([("key", data)], guard)
+    if not row.accepted:
+        guard.loads(data)
+    return row.value
+
+
+def second_of(guard, data):
+    """The second pickle of an Unpickler."""
+    reader = guard.Unpickler(io.BytesIO(b"N." + data))
+    reader.load()
+    return reader.load()
+
+
+WAYS = {
+    "loads": lambda guard, data: guard.loads(data),
+    "loads of a buffer": lambda guard, data: guard.loads(bytearray(data)),
+    "loads with words": lambda guard, data: guard.loads(data, encoding="latin1"),
+    "loads_async": lambda guard, data: asyncio.run(guard.loads_async(data)),
+    "loads_async in a thread": lambda guard, data: asyncio.run(
+        guard.loads_async(data[:-1] + b"B\0\0\1\0" + b"a" * 65_536 + b"0.")
+    ),
+    "load": lambda guard, data: guard.load(io.BytesIO(data)),
+    "load from a buffer": lambda guard, data: guard.load(io.BufferedReader(io.BytesIO(data))),
+    "load in pieces": lambda guard, data: guard.load(Piped(data)),
+    "Unpickler": lambda guard, data: guard.Unpickler(io.BytesIO(data)).load(),
+    "Unpickler in pieces": lambda guard, data: guard.Unpickler(Piped(data)).load(),
+    "Unpickler, second pickle": second_of,
+    "the function": lambda guard, data: storklocker.loads(data, guard.allow, limits=guard._limits),
+    "a shelf": from_shelf,
+    "rows": from_row,
+}
+INSTALLED = {
+    "installed loads": lambda data: pickle.loads(data),
+    "installed load": lambda data: pickle.load(io.BytesIO(data)),
+    "installed Unpickler": lambda data: pickle.Unpickler(io.BytesIO(data)).load(),
+    "installed _Unpickler": lambda data: pickle._Unpickler(io.BytesIO(data)).load(),
+}
+GUARDS = {
+    "plain": Guard,
+    "old names": lambda allow, **named: Guard(allow, fix_imports=True, **named),
+    "substitutes": lambda allow, **named: Guard(allow | AllowList([bytearray]), **named),
+    "a list file": lambda allow, **named: Guard(AllowList.from_text(LISTED), **named),
+}
+
+
+class Defaults(unittest.TestCase):
     def test_the_attack_works_without_limits(self):
         self.assertEqual(len(ATTACK), 65)
-        self.assertTrue(storklocker.check(ATTACK, NOTHING))
-        self.assertTrue(storklocker.check(ATTACK, NOTHING, limits=Limits()))
+        self.assertTrue(storklocker.check(ATTACK, NOTHING, limits=FREE))
         few = min(seconds_of(doubled(12)) for _ in range(5))
-        many = min(seconds_of(doubled(20)) for _ in range(3))
+        many = min(seconds_of(MILD) for _ in range(3))
         self.assertGreater(many, 20 * few)
-        self.assertEqual(len(Guard(NOTHING).loads(doubled(20))), 1)
 
-    def test_the_attack_is_refused_within_limits(self):
-        limits = Limits(weight=1_000_000)
-        verdict = storklocker.check(ATTACK, NOTHING, limits=limits)
-        self.assertEqual(str(verdict), "no at 63: HeavyKeys")
+    def test_each_way_in(self):
+        for kind, make in GUARDS.items():
+            guard, free = make(NOTHING), make(NOTHING, limits=FREE)
+            for way, load in WAYS.items():
+                if way == "the function" and kind == "old names":
+                    continue
+                for data, reason in ((ATTACK, "HeavyKeys"), (DEEP, "DeepKey")):
+                    with self.subTest(kind=kind, way=way, reason=reason):
+                        with self.assertRaises(Refused) as raised:
+                            load(guard, data)
+                        self.assertEqual(raised.exception.reason.name, reason)
+                with self.subTest(kind=kind, way=way):
+                    self.assertEqual(len(load(free, MILD)), 1)
+
+    def test_an_installed_guard(self):
+        for words in ({}, {"limits": FREE}):
+            with storklocker.installed(Guard(NOTHING, **words)):
+                for way, load in INSTALLED.items():
+                    with self.subTest(way=way):
+                        if words:
+                            self.assertEqual(len(load(MILD)), 1)
+                            continue
+                        with self.assertRaises(Refused):
+                            load(ATTACK)
+
+    def test_each_check(self):
+        for words, answer in (({}, "no at 63: HeavyKeys"), ({"limits": FREE}, "yes: 65 bytes")):
+            for said in (
+                storklocker.check(ATTACK, NOTHING, **words),
+                storklocker.check_row(ATTACK, NOTHING, **words),
+                storklocker.check_row(ATTACK, NOTHING, one_unpickler=True, **words),
+                Guard(NOTHING, **words).check(ATTACK),
+                Guard(NOTHING, fix_imports=True, **words).check(ATTACK),
+            ):
+                self.assertTrue(str(said).replace("in pickle 0 ", "").startswith(answer), said)
+            self.assertEqual(_rows.checked([("a", ATTACK)], Guard(NOTHING, **words))[0].accepted,
+                             "limits" in words)
+
+    def test_it_takes_no_time(self):
         start = time.perf_counter()
-        for refuse in (
-            lambda: Guard(NOTHING, limits=limits).loads(ATTACK),
-            lambda: Guard(NOTHING, limits=limits).load(io.BytesIO(ATTACK)),
-            lambda: storklocker.loads(ATTACK, NOTHING, limits=limits),
-        ):
-            with self.assertRaises(Refused) as raised:
-                refuse()
-            self.assertIs(raised.exception.reason, Reason.HeavyKeys)
-            self.assertEqual(raised.exception.verdict.at, 63)
-            self.assertIn("more than the limit weight", raised.exception.hint)
-        self.assertLess(time.perf_counter() - start, 5)
+        for load in WAYS.values():
+            with self.assertRaises(Refused):
+                load(Guard(NOTHING), ATTACK)
+        self.assertLess(time.perf_counter() - start, 5)  # (the load takes 15 seconds)
 
+    def test_a_guard_that_only_reports(self):
+        told = []
+        guard = Guard(NOTHING, enforce=False, on_refusal=told.append)
+        self.assertEqual(len(guard.loads(MILD)), 1)
+        self.assertIs(told[0].verdict.reason, Reason.HeavyKeys)
+
+    def test_what_a_guard_makes_has_its_limits(self):
+        for guard in (Guard(NOTHING), Guard(NOTHING, limits=FREE)):
+            for other in (
+                copy.copy(guard), copy.deepcopy(guard), pickle.loads(pickle.dumps(guard)),
+                guard.learning("unused", enforce=True), guard._for_children(),
+            ):
+                with self.subTest(guard=guard):
+                    self.assertEqual(bool(other.check(ATTACK)), bool(guard.check(ATTACK)))
+
+    def test_an_honest_pickle_is_loaded(self):
+        guard = Guard(NOTHING)
+        for value in ({(1, "a", (2.0, None)): [1 << 90]}, {"b" * 900: "c"}, [{1: {}}] * 9):
+            for protocol in range(pickle.HIGHEST_PROTOCOL + 1):
+                self.assertEqual(guard.loads(pickle.dumps(value, protocol)), value)
+        sets = {frozenset("ab"): {1, 2, (3, 4)}}
+        self.assertEqual(guard.loads(pickle.dumps(sets, 4)), sets)
+
+
+class Numbers(unittest.TestCase):
     def test_each_limit(self):
         for name, limit, data, reason, at in LIMITED:
             with self.subTest(name=name):
-                self.assertTrue(storklocker.check(data, NOTHING))
-                verdict = storklocker.check(data, NOTHING, limits=Limits(**{name: limit}))
+                limits = only(**{name: limit})
+                self.assertTrue(storklocker.check(data, NOTHING, limits=FREE))
+                verdict = storklocker.check(data, NOTHING, limits=limits)
                 self.assertEqual((verdict.reason, verdict.at), (reason, at))
-                row = storklocker.check_row(b"N." + data, NOTHING, limits=Limits(**{name: limit}))
+                row = storklocker.check_row(b"N." + data, NOTHING, limits=limits)
                 self.assertEqual((row.reason, row.at, row.pickles), (reason, at + 2, 1))
 
     def test_one_more_is_enough(self):
@@ -84,40 +210,113 @@ class Costs(unittest.TestCase):
                 less = Limits(**{name: least - 1})
                 self.assertFalse(storklocker.check(data, NOTHING, limits=less))
 
+    def test_the_defaults(self):
+        held = Limits()._asdict()
+        wanted = {"levels": 1_000, "weight": 1_000_000, "work": 100_000_000}
+        self.assertEqual({name: held[name] for name in wanted}, wanted)
+        self.assertEqual((held["clash"], held["memory"]), (None, None))
+        level = b"})" + b"\x85" * 998
+        self.assertTrue(storklocker.check(level + b"\x85Ns.", NOTHING))
+        self.assertFalse(storklocker.check(level + b"\x85\x85Ns.", NOTHING))
+
     def test_greater_numbers_are_no_limits(self):
+        most = 2**64 - 1
         for name in ("levels", "weight", "work", "clash", "memory"):
-            self.assertTrue(storklocker.check(ATTACK, NOTHING, limits=Limits(**{name: 2**64 - 1})))
-
-    def test_what_real_data_takes(self):
-        limits = Limits(levels=1_000, weight=1_000_000, work=100_000_000)
-        guard = Guard(NOTHING, limits=limits)
-        for value in ({(1, "a", (2.0, None)): [1 << 90]}, {"b" * 900: "c"}, [{1: {}}] * 9):
-            for protocol in range(pickle.HIGHEST_PROTOCOL + 1):
-                self.assertEqual(guard.loads(pickle.dumps(value, protocol)), value)
-        sets = {frozenset("ab"): {1, 2, (3, 4)}}
-        self.assertEqual(guard.loads(pickle.dumps(sets, 4)), sets)
-
-    def test_imports_and_missing_ignore_them(self):
-        data = b"ca\nb\n0" + ATTACK
-        limits = Limits(weight=1)
-        self.assertEqual(storklocker.imports(data, limits=limits), [("a", "b")])
-        self.assertEqual(storklocker.missing(data, NOTHING, limits=limits), [("a", "b")])
-
-    def test_a_refusal_that_comes_first_is_told(self):
-        limits = Limits(weight=1)
-        data = b"ca\nb\n0" + ATTACK
-        verdict = storklocker.check(data, NOTHING, limits=limits)
-        self.assertEqual((verdict.reason, verdict.at), (Reason.ImportOffList, 0))
-        self.assertEqual(verdict.missing, (("a", "b"),))
-        data = ATTACK[:-1] + b"0ca\nb\n."
-        verdict = storklocker.check(data, NOTHING, limits=limits)
-        self.assertEqual((verdict.reason, verdict.at, verdict.missing), (Reason.HeavyKeys, 63, ()))
+            limits = only(**{name: most})
+            self.assertTrue(storklocker.check(ATTACK, NOTHING, limits=limits))
 
     def test_the_smaller_limit_applies(self):
         one, other = Limits(levels=4, work=9), Limits(work=7, clash=8)
         both = Limits(levels=4, work=7, clash=8)
         self.assertEqual(within(one, other), both)
         self.assertEqual(within(other, one), both)
+        self.assertEqual(within(FREE, Limits()), Limits())
+
+    def test_wrong_values(self):
+        for wrong, error in ((-1, ValueError), (2**64, ValueError), ("9", TypeError)):
+            for name in ("levels", "weight", "work", "clash", "memory"):
+                with self.assertRaises(error):
+                    Limits(**{name: wrong})
+
+
+class Lists(unittest.TestCase):
+    """A list file says nothing of costs, whatever else it limits."""
+
+    def test_the_guard_decides(self):
+        listed = AllowList.from_text(LISTED)
+        for allow in (listed, listed | NOTHING, NOTHING | listed, listed | listed):
+            self.assertEqual(allow.limits, Limits(stack=1000))
+            for it in (allow, pickle.loads(pickle.dumps(allow)), copy.deepcopy(allow)):
+                self.assertEqual(it, allow)
+                self.assertFalse(storklocker.check(ATTACK, it))
+                self.assertFalse(storklocker.check(ATTACK, it, limits=it.limits))
+                self.assertTrue(storklocker.check(ATTACK, it, limits=FREE))
+                marks = b"(" * 1000 + b"N."
+                verdict = storklocker.check(marks, it, limits=FREE)
+                self.assertIs(verdict.reason, Reason.TooLarge)
+
+    def test_it_is_written_as_it_was_read(self):
+        listed = AllowList.from_text(LISTED)
+        self.assertNotIn("levels", listed.to_text())
+        self.assertEqual(AllowList.from_text(listed.to_text()), listed)
+
+
+class Imports(unittest.TestCase):
+    def test_imports_and_missing_ignore_them(self):
+        data = b"ca\nb\n0" + ATTACK
+        for limits in (None, Limits(weight=1)):
+            self.assertEqual(storklocker.imports(data, limits=limits), [("a", "b")])
+            self.assertEqual(storklocker.missing(data, NOTHING, limits=limits), [("a", "b")])
+
+    def test_names_that_are_many_ignore_them(self):
+        from storklocker import _imports
+
+        data, most = ATTACK[:-1] + b"0ca\nb\ncc\nd\n\x86.", _imports.MOST_NAMES
+        _imports.MOST_NAMES = 8
+        self.addCleanup(setattr, _imports, "MOST_NAMES", most)
+        found, is_cut = _imports.missing_of(data * 1000, NOTHING, None)
+        self.assertEqual(found[:2], [("a", "b"), ("c", "d")])
+
+    def test_a_refusal_that_comes_first_is_told(self):
+        data = b"ca\nb\n0" + ATTACK
+        verdict = storklocker.check(data, NOTHING)
+        self.assertEqual((verdict.reason, verdict.at), (Reason.ImportOffList, 0))
+        self.assertEqual(verdict.missing, (("a", "b"),))
+        data = ATTACK[:-1] + b"0ca\nb\n."
+        verdict = storklocker.check(data, NOTHING)
+        self.assertEqual((verdict.reason, verdict.at, verdict.missing), (Reason.HeavyKeys, 63, ()))
+
+
+class Hints(unittest.TestCase):
+    def test_it_names_the_limit(self):
+        for data, limits, hint in (
+            (DEEP, None, "more levels of tuples than the limit levels, 1,000: Limits(levels=..)"),
+            (ATTACK, None, "than the limit weight, 1,000,000, or all keys weigh more than the limit"
+             " work, 100,000,000: Limits(weight=.., work=..)"),
+            (ATTACK, only(work=5), "all keys weigh more than the limit work, 5: Limits(work=..)"),
+            (ATTACK, only(clash=5), "the limit clash, 5"),
+            (b"]" * 99 + b"." , only(memory=5), "more bytes than the limit memory, 5"),
+        ):
+            for allow in (NOTHING, AllowList.from_text(LISTED)):
+                with self.assertRaises(Refused) as raised:
+                    Guard(allow, limits=limits).loads(data)
+                self.assertIn(hint, raised.exception.hint)
+
+
+class Real(unittest.TestCase):
+    def test_what_picklers_write_is_accepted(self):
+        """`test_cpython` does the same for the pickles of CPython's own tests."""
+        data = [path.read_bytes() for path in (ROOT / "examples" / "pickles").iterdir()]
+        trees = [ast.parse(path.read_bytes()) for path in sorted(LIBRARY.glob("[a-f]*.py"))]
+        data += [pickle.dumps(tree, protocol) for tree in trees for protocol in (2, 4)]
+        count = 0
+        for it in (*SEEDS, *data):
+            pairs = storklocker.check(it, NOTHING, limits=FREE).missing
+            allow = AllowList([pair for pair in pairs if pair.name])
+            if storklocker.check(it, allow, limits=FREE, build="any"):
+                count += 1
+                self.assertEqual(str(storklocker.check(it, allow))[:3], "yes", it[:200])
+        self.assertGreater(count, 100)
 
 
 if __name__ == "__main__":

@@ -16,3 +16,4 @@ class CPython(unittest.TestCase):
         print(ran.stdout)
         self.assertEqual(ran.returncode, 0, ran.stdout + ran.stderr)
         self.assertRegex(ran.stdout, r"(?m)^[1-9]\d\d tests, .* 0 differ$")
+        self.assertRegex(ran.stdout, r"(?m)^[2-9]\d\d\d pickles, 0 cost too much")

@@ -16,7 +16,7 @@ from common import ARCHIVE, BY_PAIRS, COMPILER, GUARD, INCLUDE, PACKAGE, PYTHON,
 from common import needs, python
 from storklocker import AllowList, Limits, Reason, _storklocker
 from storklocker._answers import LIST_FAULTS
-from storklocker._limits import packed
+from storklocker._limits import NO_COSTS, packed, without_costs
 
 REASONS = (
     "Source Truncated UnknownOpcode BadArgument TooLarge ExtensionCode UnsupportedProtocol "
@@ -131,13 +131,20 @@ class Numbers(unittest.TestCase):
         limits = Limits(
             counted=1, stack=2, memo=3, passed=4, numbers=5, large=True, weight=6, work=7
         )
-        given = struct.unpack(shape, packed(limits, "bytes", True))
+        for number, build in enumerate(("made", "any")):
+            given = struct.unpack(shape, packed(limits, "bytes", True, build))
+            self.assertEqual(given[-2:], (number, 0))
         wanted = {**limits._asdict(), "size": struct.calcsize(shape), "sorted": 1}
         wanted.update(old_strings=numbers_in("old_strings")["OLD_BYTES"])
         wanted.update(row_memo=numbers_in("row_memo")["MEMO_KEPT"])
-        wanted.update(levels=(1 << 32) - 1, clash=(1 << 64) - 1, memory=(1 << 64) - 1)
+        wanted.update(clash=(1 << 64) - 1, memory=(1 << 64) - 1)
         wanted.update(builds=1, unused=0)
         self.assertEqual(dict(zip((name for name, _ in fields), given)), wanted)
+        free = struct.unpack(shape, packed(Limits(**NO_COSTS), "unknown", False, "any"))
+        none = [(1 << 32) - 1] * 2 + [(1 << 64) - 1] * 3 + [1, 0]
+        self.assertEqual(list(free[-7:]), none)
+        held = packed(limits._replace(**NO_COSTS), "ascii", True, "any")
+        self.assertEqual(without_costs(packed(limits, "ascii", True, "made")), held)
 
 
 class Module(unittest.TestCase):
@@ -165,14 +172,14 @@ class Module(unittest.TestCase):
 
     def test_it_is_as_short_as_it_was_promised(self):
         promised = {"_storklocker.c": 300, "pairs.c": 90, "loads.c": 160, "audit.c": 35}
-        promised.update({"walk.c": 145, "builds.c": 200, "uses.c": 390, "cutting.c": 215})
+        promised.update({"walk.c": 145, "uses.c": 390, "cutting.c": 215})
         for name, most in promised.items():
             lines = (PYTHON / name).read_text().splitlines()
             self.assertLessEqual(len(lines), most)
             self.assertLessEqual(max(map(len, lines)), 100)
 
     def test_what_it_does_not_take(self):
-        settings = packed(Limits(), "unknown", False)
+        settings = packed(Limits(), "unknown", False, "made")
         for given in (b"", settings + b"\0", bytearray(settings), 5):
             for call in (
                 lambda: _storklocker.verdict(b"N.", BY_PAIRS, given),

@@ -18,6 +18,7 @@ from pathlib import Path
 from typing import Any, List, Optional, Tuple, Union
 
 from .. import AllowList, Guard
+from .._checking import JUDGING
 from .._storklocker import walked
 from ..scanning.following import NotFollowed
 from ..scanning.joblib_cutting import WRAPPERS, Cut, Cutter
@@ -97,7 +98,7 @@ def _check(pickled: bytes, guard: Guard) -> None:
     """Checks a pickle whose arrays were cut out, in which joblib's wrapper is a class of ours."""
     if guard not in _LISTING:
         allow = guard.allow | AllowList(WRAPPERS)
-        words = {name: getattr(guard, f"_{name}") for name in ("limits", "old_strings")}
+        words = {name: getattr(guard, f"_{name}") for name in JUDGING}
         _LISTING[guard] = Guard(allow, fix_imports=guard._fix_imports, **words)
     verdict = _LISTING[guard]._listed_for(pickled)._refusal(pickled)
     if verdict is not None:

@@ -6,7 +6,6 @@ import sys
 from types import FrameType
 from typing import TYPE_CHECKING, Any, Dict, Iterable, Optional, Tuple, Type
 
-from .._builds import changes_an_import
 from .checked_file import CheckedFile
 from .holders import ORIGINALS
 from .joblib_reader import is_joblib, load_of
@@ -43,7 +42,7 @@ def _loads_of(state: State) -> Any:
         if trust is not None and trust.is_open or not state.is_active:
             return _loads(data, **named) if named else _loads(data)
         if is_bound and not named and type(data) is bytes and len(data) < _SMALL:
-            if refusal(data) is None and not changes_an_import(data):  # whoever asks
+            if refusal(data) is None:  # whoever asks
                 return _loads(data, fix_imports=False)
         if is_own(sys._getframe(1), state.own):
             with trusted():

@@ -80,7 +80,7 @@ def _judged(piece: Piece, row: Row, question: Question, place: Place) -> Report:
         why = row.refusal.line(64)
         if row.number:
             why = why.replace("no at", f"no in pickle {row.number} at", 1)
-        limits = within(WIDE, question.allow.limits if question.allow is not None else None)
+        limits = within(WIDE, question.allow._limits if question.allow is not None else None)
         hint = hint_of(row.refusal, piece.source.read, limits or WIDE)
         why += f" ({hint})" if hint else ""
         if question.allow is not None or not _is_text(piece, row):

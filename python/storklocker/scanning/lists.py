@@ -9,6 +9,7 @@ from pathlib import Path
 from typing import Any, Dict, Iterator, List, Tuple
 
 from .._answers import ListFault
+from .._limits import UNSAID
 from .._lists import AllowList
 from .._meant import EVERYTHING, Meant
 from .._meant import of as meant_in
@@ -84,8 +85,10 @@ def _rows(what: str, old: Dict[str, str], new: Dict[str, str]) -> Iterator[str]:
 
 
 def _limits_of(allow: AllowList) -> Dict[str, str]:
-    held: Any = allow.limits or ()
-    return {name: str(value) for name, value in zip(getattr(held, "_fields", ()), held)}
+    if allow.limits is None:
+        return {}
+    held = allow.limits[: -len(UNSAID)]
+    return {name: str(value) for name, value in zip(allow.limits._fields, held)}
 
 
 def _said_by(meant: Meant) -> Dict[str, str]:

@@ -5,7 +5,7 @@ from __future__ import annotations
 from typing import TYPE_CHECKING, Dict, NamedTuple, Optional, Tuple
 
 from .._answers import Verdict
-from .._limits import Limits
+from .._limits import NO_COSTS, Limits
 from .._lists import AllowList, records, settings_of
 from .._reasons import Reason
 from .._storklocker import imports as _imports
@@ -16,7 +16,7 @@ if TYPE_CHECKING:
     from .._lists import Names
 
 NOTHING = AllowList(())
-WIDE = Limits(passed=1 << 40)
+WIDE = Limits(passed=1 << 40, **NO_COSTS)
 """The limits of a scan: of payloads that are passed over, any length."""
 _ROOM = 1 << 22
 """The least bytes of names that are taken from a pickle; for a larger pickle, its size."""

@@ -8,7 +8,7 @@ from typing import TYPE_CHECKING, Dict, Optional, Tuple
 
 from .._answers import Verdict
 from .._checking import check, check_row
-from .._limits import UNBOUND, Limits
+from .._limits import NO_COSTS, UNBOUND, Limits
 from .._lists import AllowList
 from .._reasons import Reason
 from .budget import Budget, TooMuch
@@ -29,7 +29,7 @@ _ONE_BY_ONE = 1000
 """How many pickles of a row are looked at one by one, before the rest is tried in one call."""
 _CLAIM = re.compile(rb"\x80[\x02-\x05]")
 """How pickles of protocol 2 and later begin. Those of 0 and 1 have no PROTO, but fonts have it."""
-_WIDEST = Limits(passed=1 << 40, numbers=UNBOUND, large=True)
+_WIDEST = Limits(passed=1 << 40, numbers=UNBOUND, large=True, **NO_COSTS)
 """No limits: where a reader must stop, whatever it has room for."""
 _IMPORTING = (Reason.ImportOffList, Reason.UnknownImport, Reason.ExtensionCode)
 
@@ -158,7 +158,7 @@ class Row:
     def _judge(self, data: bytes, found: Verdict) -> None:
         """Keeps the first refusal under the list; without one, the one with every import permitted.
         """
-        under = found if self._allow is None else check(data, self._allow, limits=WIDE)
+        under = found if self._allow is None else check(data, self._allow, limits=WIDE, build="any")
         if not under:
             self.number, self.refused = self.pickles, (data, self.taken)
             self.refusal = under._replace(at=self.taken + under.at)
@@ -172,8 +172,8 @@ class Row:
             return False
         data = self._source.read(self.taken, left)
         names = [(module, name) for module, name in self.names if module is not None and name]
-        limits = None if self._allow is None else self._allow.limits
-        verdict = check_row(data, AllowList._of(names, limits), limits=WIDE)
+        limits = None if self._allow is None else self._allow._limits
+        verdict = check_row(data, AllowList._of(names, limits), limits=WIDE, build="any")
         if not verdict:
             return False
         self.pickles += verdict.pickles
@@ -200,7 +200,7 @@ def row_of(piece: Piece, allow: Optional[AllowList], budget: Budget) -> Optional
 
 
 def _may_be_pickle(piece: Piece, front: bytes) -> bool:
-    verdict = check(front, NOTHING, limits=_WIDEST)
+    verdict = check(front, NOTHING, limits=_WIDEST, build="any")
     if verdict or verdict.reason in _IMPORTING:
         return True
     is_cut = verdict.reason is Reason.Truncated and len(front) < piece.source.size
