@@ -113,7 +113,7 @@ fn the_first_of_a_refusal_and_an_excess_is_told(rt: HostRuntime) {
     };
     let unlimited = Tolls::unlimited();
     let behind = IMPORT_BEHIND_EXCESS;
-    assert_eq!(rt; answer(&any, behind, &unlimited), Answer::Yes(14));
+    assert_eq!(rt; answer(&any, behind, &unlimited), Answer::Yes(13));
     assert_eq!(rt;
         answer(&none, behind, &unlimited),
         Answer::No(7, Reason::ImportOffList)
@@ -129,7 +129,7 @@ fn the_first_of_a_refusal_and_an_excess_is_told(rt: HostRuntime) {
     let before = IMPORT_BEFORE_EXCESS;
     assert_eq!(rt;
         answer(&any, before, &few()),
-        Answer::Costs(12, Excess::DeepKey)
+        Answer::Costs(11, Excess::DeepKey)
     );
     assert_eq!(rt;
         answer(&none, before, &few()),
