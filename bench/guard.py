@@ -159,12 +159,14 @@ def many(count: int) -> List[Tuple[str, str]]:
 def pickles(storklocker: ModuleType, asked: argparse.Namespace) -> List[Figure]:
     """Prints a row for each size."""
     few = storklocker.AllowList(PAIRS)
-    guard, checks, loads = storklocker.Guard(few), [], []
+    free = {"limits": storklocker.Limits(levels=None, weight=None, work=None), "build": "any"}
+    guard, other = storklocker.Guard(few), storklocker.Guard(few, **free)
+    checks, loads, others = [], [], []
     print(
         "| Pickle | `pickle.loads` | `check` | `guard.loads` | beside `pickle.loads` "
-        "| `storklocker.loads` |"
+        "| `storklocker.loads` | without limits on costs: `check` | `guard.loads` | beside |"
     )
-    print("|---|---|---|---|---|---|")
+    print("|---|---|---|---|---|---|---|---|---|")
     sizes = [
         (b"N.", asked.calls),
         (job(6), asked.calls),
@@ -177,21 +179,27 @@ def pickles(storklocker: ModuleType, asked: argparse.Namespace) -> List[Figure]:
             lambda: storklocker.check(data, few),
             lambda: guard.loads(data),
             lambda: storklocker.loads(data, few),
+            lambda: other.check(data),
+            lambda: other.loads(data),
         ]
         times = in_turns(calls, asked.rounds, max(1, count))
         checks.append(program.ratio(times[1], times[0]))
         loads.append(program.ratio(times[2], times[0]))
-        bare, check, guarded, loaded = (min(it) for it in times)
+        others.append(program.ratio(times[5], times[0]))
+        bare, check, guarded, loaded, free_check, free_load = (min(it) for it in times)
         print(
             f"| {len(data):,} bytes | {bare:,.2f} | {check:,.2f} | {guarded:,.2f} "
-            f"| {loads[-1]:.2f} | {loaded:,.2f} |"
+            f"| {loads[-1]:.2f} | {loaded:,.2f} "
+            f"| {free_check:,.2f} | {free_load:,.2f} | {others[-1]:.2f} |"
         )
         if asked.process:
-            print(f"| the same, a process | | {process(data, asked.rounds):,.0f} | | | |")
+            print(f"| the same, a process | | {process(data, asked.rounds):,.0f} |" + " |" * 6)
     return [
         Figure("check of 198 bytes, in microseconds", REFERENCE * checks[1], 2.5),
-        Figure("guarded load of 198 bytes, times bare", loads[1], 1.6),
+        Figure("guarded load of 198 bytes, times bare", loads[1], 1.75),
         Figure("guarded load of 340 kB, times bare", loads[3], 1.4),
+        Figure("guarded load of 198 bytes without limits on costs, times bare", others[1], 1.6),
+        Figure("guarded load of 340 kB without limits on costs, times bare", others[3], 1.4),
     ]
 
 

@@ -3,16 +3,16 @@
 import resource
 import subprocess
 import sys
-from typing import Tuple, Union
+from typing import Any, Tuple, Union
 
 import storklocker
 
 MEMORY = 1 << 30
 
 
-def answer(data: bytes, *pairs: Tuple[str, str]) -> str:
+def answer(data: bytes, *pairs: Tuple[str, str], **settings: Any) -> str:
     """The verdict on a pickle under a list of these pairs."""
-    return str(storklocker.check(data, storklocker.AllowList(pairs)))
+    return str(storklocker.check(data, storklocker.AllowList(pairs), **settings))
 
 
 def load(data: bytes, then: str = "", seconds: int = 2) -> Tuple[Union[int, str], ...]:

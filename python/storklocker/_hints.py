@@ -10,7 +10,7 @@ import re
 from typing import Callable, Dict, Tuple
 
 from ._answers import Verdict
-from ._limits import Limits, said
+from ._limits import Limits
 from ._reasons import Reason
 
 _LOOKED_AT = 1 << 16
@@ -59,7 +59,7 @@ def hint_of(
     """The hint for a refusal under these limits, or an empty text. `read(at, count)` returns bytes
     of what was checked, of which the verdict counts the first as `start`.
     """
-    at, front, limits = verdict.at - start, read(0, 8), said(limits)
+    at, front = verdict.at - start, read(0, 8)
     for pattern, what in _OTHERS:
         if re.match(pattern, front):
             return f"these bytes are no pickle, but look like {what}"

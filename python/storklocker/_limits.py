@@ -33,9 +33,6 @@ COSTS = {
 """The limits on what loading costs, each with its default and the number that stands for none in
 storklocker.h.
 """
-UNSAID = (_USUAL,) * len(COSTS)
-"""The costs of a list file, which says nothing of them: the guard's limits apply, or the defaults.
-"""
 NO_COSTS: "Dict[str, Any]" = dict.fromkeys(COSTS)
 """The words that ask `Limits` for no limit on what loading costs."""
 BUILDS = ("made", "any")
@@ -68,8 +65,8 @@ class Limits(
     eighth of these more, a text or bytes a 64th of its bytes more, and a tuple or frozenset the
     weights of its items more. What a call or an import gives weighs 1, whatever its hash costs. A
     check with such limits takes several times as long: `Limits(levels=None, weight=None,
-    work=None)` has none. Say so once, to the guard or to the call that checks; a list file leaves
-    them to these.
+    work=None)` has none. Say so once, to the list or to the guard: of two such limits, one at its
+    default yields to the other, and otherwise the smaller applies. A list file has none of them.
 
     levels: levels of tuples in a key, each of which hashing descends by calls in C; default 1,000.
         From 1,023 on, a limit is none.
@@ -103,11 +100,11 @@ class Limits(
         passed: int = 16_777_216,
         numbers: int = 1_000_000,
         large: bool = False,
-        levels: "Optional[int]" = _USUAL,
-        weight: "Optional[int]" = _USUAL,
-        work: "Optional[int]" = _USUAL,
-        clash: "Optional[int]" = _USUAL,
-        memory: "Optional[int]" = _USUAL,
+        levels: "Optional[int]" = 1_000,
+        weight: "Optional[int]" = 1_000_000,
+        work: "Optional[int]" = 100_000_000,
+        clash: "Optional[int]" = None,
+        memory: "Optional[int]" = None,
     ) -> "Limits":
         many, few = (UNBOUND, UNBOUND) if flag("large", large) else (16_777_216, 1_000_000)
         return super().__new__(
@@ -118,7 +115,10 @@ class Limits(
             number("passed", passed),
             number("numbers", numbers),
             large,
-            *map(_cost, COSTS, (levels, weight, work, clash, memory)),
+            *(
+                None if given is None else number(name, given)
+                for name, given in zip(COSTS, (levels, weight, work, clash, memory))
+            ),
         )
 
     def __reduce__(self) -> "Tuple[Any, ...]":
@@ -141,12 +141,6 @@ def number(name: str, given: int) -> int:
     return int(given)
 
 
-def _cost(name: str, given: "Optional[int]") -> "Optional[int]":
-    """A limit on costs: a number, or None for no limit."""
-    given = COSTS[name][0] if given is _USUAL else given
-    return None if given is None else number(name, given)
-
-
 def limits_of(
     counted: int,
     stack: int,
@@ -156,8 +150,8 @@ def limits_of(
     large: int,
     *costs: "Optional[int]",
 ) -> Limits:
-    """Limits with these values. Costs may be unsaid."""
-    made = Limits(
+    """Limits with these values, and the defaults of those that are left out."""
+    return Limits(
         counted=counted,
         stack=stack,
         memo=memo,
@@ -166,30 +160,24 @@ def limits_of(
         large=bool(large),
         **dict(zip(COSTS, costs)),
     )
-    return Limits._make((*made[: -len(costs)], *costs)) if _USUAL in costs else made
-
-
-def said(limits: Limits) -> Limits:
-    """The limits, with defaults in place of costs that are unsaid."""
-    named = {name: it for name, it in zip(limits._fields, limits) if it is not _USUAL}
-    return Limits(**named)
 
 
 def least(one: Limits, other: Limits) -> Limits:
-    """The smaller of each two limits."""
-    return limits_of(*map(_lesser, one, other))
+    """The smaller of each two limits. On costs, one at its default yields to the other."""
+    return limits_of(*map(_lesser, one._fields, one, other))
 
 
-def _lesser(one: "Any", other: "Any") -> "Any":
-    """The smaller limit. None is no limit, and what is unsaid yields to all else."""
-    given = [it for it in (one, other) if it is not _USUAL]
-    return min((it for it in given if it is not None), default=None) if given else _USUAL
+def _lesser(name: str, one: "Optional[int]", other: "Optional[int]") -> "Any":
+    usual = COSTS[name][0] if name in COSTS else None
+    if usual is not None and usual in (one, other):
+        return other if one == usual else one
+    return min((it for it in (one, other) if it is not None), default=None)
 
 
 @functools.lru_cache(maxsize=64)
 def packed(limits: Limits, old_strings: str, keeps_memo: bool, build: str) -> bytes:
     """The bytes of a `struct storklocker_settings`, for sorted pairs."""
-    counted, stack, memo, passed, numbers, large, *costs = said(limits)
+    counted, stack, memo, passed, numbers, large, *costs = limits_of(*limits)
     mosts = [most for _, most in COSTS.values()]
     return _SETTINGS.pack(
         _SETTINGS.size,

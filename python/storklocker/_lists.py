@@ -6,7 +6,7 @@ from types import MappingProxyType
 
 from . import _names
 from ._answers import LIST_FAULTS, ListFault
-from ._limits import BUILDS, OLD_STRINGS, UNSAID, Limits, least, limits_of, packed, said
+from ._limits import BUILDS, OLD_STRINGS, Limits, least, limits_of, packed
 from ._storklocker import Pairs as _Pairs
 from ._storklocker import pairs_of, read_list
 
@@ -42,10 +42,7 @@ class AllowList(_Pairs):
         AllowList.from_file("list.toml")
 
     It supports iteration in order, `in`, `len`, `|`, `==` and `hash`. It can be copied, pickled and
-    shared by threads. Lookup takes logarithmic time, so a long list costs little. `limits` are
-    those of its list file, which apply to every check under it; None if that names none, and for a
-    list made from pairs. A list file has no limits on what loading costs: the defaults of `Limits`
-    apply, unless the limits of the guard or the call say otherwise.
+    shared by threads. Lookup takes logarithmic time, so a long list costs little.
 
     A pair permits only itself: `("os", "path")` doesn't permit `("os", "path.join")`. A class or a
     function stands for the pair by which a pickle names it. The pair of one in a class, such as
@@ -55,6 +52,9 @@ class AllowList(_Pairs):
     substitutes: what a guard loads in place of some of the pairs: see `storklocker.substitutes`.
     dangerous: pairs or dotted names that permit everything, such as "builtins.getattr", and are
         meant. A guard accepts no list with one that has no substitute and isn't named here.
+    limits: Limits that apply to every check under the list, as those of a list file do; None if it
+        has none. `Limits(levels=None, weight=None, work=None)` limits nothing of what loading
+        costs, which a list file can't say.
     """
 
     # (PyPy gives the base class a `__weakref__`)
@@ -74,8 +74,10 @@ class AllowList(_Pairs):
         *,
         substitutes: "Mapping[Any, Substitute]" = MappingProxyType({}),
         dangerous: "Iterable[Union[str, Pair]]" = (),
+        limits: "Optional[Limits]" = None,
     ) -> "AllowList":
-        return cls._saying(cls._of(_encoded(pairs), None), substitutes, dangerous)
+        own = _limits_in(limits)
+        return cls._saying(cls._of(_encoded(pairs), own), substitutes, dangerous)
 
     @classmethod
     def _saying(cls, made: "AllowList", substitutes: "Any", dangerous: "Any") -> "AllowList":
@@ -109,17 +111,17 @@ class AllowList(_Pairs):
         if not isinstance(text, (str, bytes, bytearray)):
             raise TypeError(f"the text of a list file must be str or bytes, not {type(text)!r}")
         data = _bytes_of(text) if isinstance(text, str) else bytes(text)
-        meant: "Tuple[Any, Any]" = ({}, ())
+        said: "Tuple[Any, Any]" = ({}, ())
         if b"substitutes" in data:
             from ._sections import split
 
-            data, meant = split(data)
+            data, said = split(data)
         (fault, numbers), room = with_room(lambda size: read_list(data, size))
         if fault != 0:
             raise _fault_of(data, LIST_FAULTS[fault])
         pairs = ((module or b"", name or b"") for module, name in records(room))
-        limits = limits_of(*numbers, *UNSAID) if _has_limits(data) else None
-        return cls._saying(cls._of(pairs, limits), *meant)
+        limits = limits_of(*numbers) if _has_limits(data) else None
+        return cls._saying(cls._of(pairs, limits), *said)
 
     @classmethod
     def from_file(cls, file: "Union[str, os.PathLike[str]]") -> "AllowList":
@@ -149,8 +151,8 @@ class AllowList(_Pairs):
 
     @property
     def limits(self) -> "Optional[Limits]":
-        """The limits of its list file; None if there are none."""
-        return None if self._limits is None else said(self._limits)
+        """The limits that it has; None if there are none."""
+        return self._limits
 
     def __iter__(self) -> "Iterator[Pair]":
         for module, name in self._pairs:
@@ -199,12 +201,12 @@ class AllowList(_Pairs):
         shown = [repr(pair) for pair, _ in zip(self, range(4))]
         if len(self) > len(shown):
             shown.append(f"... {len(self) - len(shown)} more")
-        limits = "" if self.limits is None else f" within {self.limits!r}"
+        limits = "" if self._limits is None else f" within {self._limits!r}"
         return f"AllowList([{', '.join(shown)}]){limits}"
 
     def __reduce__(self) -> "Tuple[Any, ...]":
-        meant = () if self._meant is None else tuple(self._meant)
-        return (_list_of, (type(self), self._pairs, self._limits, *meant))
+        said = () if self._meant is None else tuple(self._meant)
+        return (_list_of, (type(self), self._pairs, self._limits, *said))
 
     def _under(self, settings: bytes) -> "AllowList":
         """The list with these settings for the calls that name none."""
@@ -267,9 +269,9 @@ def _list_of(
     kind: "Type[AllowList]",
     pairs: "Tuple[Tuple[bytes, bytes], ...]",
     limits: "Optional[Limits]",
-    *meant: "Any",
+    *said: "Any",
 ) -> AllowList:
-    return kind._saying(kind._of(pairs, limits), *(meant or ({}, ())))
+    return kind._saying(kind._of(pairs, limits), *(said or ({}, ())))
 
 
 @functools.lru_cache(maxsize=64)
@@ -349,6 +351,13 @@ def with_room(
         size = wanted
 
 
+def _limits_in(given: "Optional[Limits]") -> "Optional[Limits]":
+    """An argument that must be limits or None."""
+    if given is not None and not isinstance(given, Limits):
+        raise TypeError(f"limits must be a storklocker.Limits or None, not {type(given)!r}")
+    return given
+
+
 def settings_of(
     allow: AllowList,
     limits: "Optional[Limits]",
@@ -359,8 +368,7 @@ def settings_of(
     """The settings of a check as the library reads them. The limits of the list apply too."""
     if not isinstance(allow, AllowList):
         raise TypeError(f"allow must be a storklocker.AllowList, not {type(allow)!r}")
-    if limits is not None and not isinstance(limits, Limits):
-        raise TypeError(f"limits must be a storklocker.Limits or None, not {type(limits)!r}")
+    _limits_in(limits)
     if old_strings not in OLD_STRINGS:
         raise ValueError(f"old_strings must be 'unknown', 'ascii' or 'bytes', not {old_strings!r}")
     if build not in BUILDS:

@@ -32,7 +32,7 @@ def _hint_for(guard: Guard, verdict: Verdict, data: bytes, start: int) -> str:
     """What to do about a refusal that isn't about a name."""
     if verdict.taken or len(data) >= guard._max_bytes:
         return f"it is longer than the guard's max_bytes, {guard._max_bytes:,}"
-    limits = within(guard._limits, guard._allow._limits) or STANDARD
+    limits = within(guard._limits, guard._allow.limits) or STANDARD
     return hint_of(verdict, lambda at, count: data[at : at + count], limits, start)
 
 

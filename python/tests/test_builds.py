@@ -3,6 +3,7 @@
 import copy
 import io
 import logging
+import os
 import pickle
 import random
 import sys
@@ -169,7 +170,7 @@ class Changes(unittest.TestCase):
         for guard in (self.guard, self.permitting()):
             guard = guard._like(on_refusal=None)
             for other in (copy.copy(guard), pickle.loads(pickle.dumps(guard)),
-                          guard.learning("unused", enforce=True)):
+                          guard.learning(os.devnull, enforce=True)):
                 self.assertEqual(bool(other.check(data)), guard._build == "any")
 
     def test_wrong_values(self):

@@ -22,6 +22,7 @@ from streams import Piped
 LIBRARY = Path(os.__file__).parent
 logging.getLogger("storklocker").setLevel(logging.ERROR)
 NOTHING = AllowList([])
+FREE_OF = ("levels", "weight", "work")
 FREE = Limits(levels=None, weight=None, work=None)
 LISTED = "version = 2\n[imports]\n[limits]\nstack = 1000\n"
 
@@ -172,7 +173,7 @@ class Defaults(unittest.TestCase):
         for guard in (Guard(NOTHING), Guard(NOTHING, limits=FREE)):
             for other in (
                 copy.copy(guard), copy.deepcopy(guard), pickle.loads(pickle.dumps(guard)),
-                guard.learning("unused", enforce=True), guard._for_children(),
+                guard.learning(os.devnull, enforce=True), guard._for_children(),
             ):
                 with self.subTest(guard=guard):
                     self.assertEqual(bool(other.check(ATTACK)), bool(guard.check(ATTACK)))
@@ -230,7 +231,9 @@ class Numbers(unittest.TestCase):
         both = Limits(levels=4, work=7, clash=8)
         self.assertEqual(within(one, other), both)
         self.assertEqual(within(other, one), both)
-        self.assertEqual(within(FREE, Limits()), Limits())
+        self.assertEqual(within(FREE, Limits(levels=900)), within(Limits(levels=900), FREE))
+        self.assertEqual(within(FREE, Limits(levels=900)), only(levels=900))
+        self.assertEqual(within(Limits(clash=5), Limits(clash=3)).clash, 3)
 
     def test_wrong_values(self):
         for wrong, error in ((-1, ValueError), (2**64, ValueError), ("9", TypeError)):
@@ -240,9 +243,38 @@ class Numbers(unittest.TestCase):
 
 
 class Lists(unittest.TestCase):
-    """A list file says nothing of costs, whatever else it limits."""
+    def test_who_wants_no_limit_says_so_once(self):
+        some, free = Limits(stack=1000), Limits(stack=1000, **dict.fromkeys(FREE_OF))
+        for listed, given, is_free in (
+            (None, None, False), (None, some, False), (some, None, False), (some, some, False),
+            (None, free, True), (free, None, True), (some, free, True), (free, some, True),
+            (free, free, True), (free, Limits(weight=999_999), False),
+            (Limits(weight=999_999), free, False),
+        ):
+            with self.subTest(listed=listed, given=given):
+                allow = AllowList([], limits=listed)
+                self.assertEqual(allow.limits, listed)
+                guard = Guard(allow, limits=given)
+                for it in (guard, pickle.loads(pickle.dumps(guard)), copy.deepcopy(guard)):
+                    self.assertEqual(it.check(ATTACK).accepted, is_free)
+                self.assertEqual(
+                    storklocker.check(ATTACK, allow, limits=given).accepted, is_free
+                )
+                if is_free:
+                    self.assertEqual(len(guard.loads(MILD)), 1)
+                    self.assertEqual(len(guard.Unpickler(io.BytesIO(MILD)).load()), 1)
+        with self.assertRaises(TypeError):
+            AllowList([], limits={"levels": None})
 
-    def test_the_guard_decides(self):
+    def test_it_can_ask_for_more(self):
+        for listed, given in (({}, {"levels": 1_010}), ({"levels": 1_010}, {})):
+            allow = AllowList([], limits=Limits(**listed))
+            for levels, is_accepted in ((1_009, True), (1_011, False)):
+                data = b"})" + b"\x85" * (levels - 1) + b"Ns."
+                verdict = storklocker.check(data, allow, limits=Limits(**given))
+                self.assertEqual(verdict.accepted, is_accepted)
+
+    def test_a_list_file_leaves_it_to_the_guard(self):
         listed = AllowList.from_text(LISTED)
         for allow in (listed, listed | NOTHING, NOTHING | listed, listed | listed):
             self.assertEqual(allow.limits, Limits(stack=1000))
@@ -259,6 +291,10 @@ class Lists(unittest.TestCase):
         listed = AllowList.from_text(LISTED)
         self.assertNotIn("levels", listed.to_text())
         self.assertEqual(AllowList.from_text(listed.to_text()), listed)
+        made = AllowList([("a", "b")], limits=Limits(stack=9))
+        self.assertEqual(AllowList.from_text(made.to_text()), made)
+        with self.assertRaisesRegex(ValueError, "no list file limits what loading costs"):
+            AllowList([], limits=FREE).to_text()
 
 
 class Imports(unittest.TestCase):

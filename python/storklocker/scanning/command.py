@@ -16,12 +16,13 @@ from .._lists import has_substitutes
 from .._writing import quoted
 from . import formats
 from .choosing import Choice
+from .costs import KINDS
 from .dangers import import_findings, list_findings
 from .files import Files, is_url
 from .judging import Question
 from .learning import Learned
 from .lists import add_commands, list_of
-from .report import NO_PICKLE, Finding, Report, shown
+from .report import ACCEPTED, NO_PICKLE, Finding, Report, shown
 from .scan import Means, scan
 from .severity import DANGER, NOTE, REFUSED, WARNING
 from .summary import FAIL_ON, Summary, counted
@@ -34,7 +35,8 @@ _STATUSES = """exit status:
        this --fail-on of `scan` on:
          refused  the list refuses it: the default with --allow, and what `check` goes by
          danger   it imports a name that runs code or writes files: the default without --allow
-         warning  it imports a name that reads files, reaches the network or changes the process
+         warning  it imports a name that reads files, reaches the network or changes the process;
+                  or a guard refuses it by default, because of what loading it costs or changes
          note     it imports a name that nobody has judged
          never    nothing counts
   2    something couldn't be read to its end, is packed in an unknown way, or readers differ about
@@ -143,7 +145,9 @@ def _add_scan(commands: "argparse._SubParsersAction[argparse.ArgumentParser]") -
 
 
 def _add_check(commands: "argparse._SubParsersAction[argparse.ArgumentParser]") -> None:
-    it = commands.add_parser("check", help="says whether files import only listed names")
+    it = commands.add_parser(
+        "check", help="says whether files import only listed names, within what a guard permits"
+    )
     it.add_argument("paths", nargs="+", metavar="FILE", help="a file, or - for standard input")
     it.add_argument("--allow", metavar="LIST", required=True, help=_LIST)
     it.set_defaults(run=_check)
@@ -252,14 +256,17 @@ def _status(told: Summary) -> int:
 def _check(asked: argparse.Namespace) -> int:
     told, allow, status = Summary(REFUSED), list_of(asked.allow), YES
     for path in asked.paths:
-        is_pickle = False
+        is_pickle = is_costly = False
         with _files_of(argparse.Namespace(paths=[path])) as files:
             for report in told.heard(scan(files, Question(allow))):
                 is_named = len(asked.paths) > 1 or report.path != report.file
                 front = f"{shown(report.path)}: " if is_named else ""
-                print(front + (shown(report.why, 1000) or report.status))
+                costly = [it.why for it in report.findings if it.kind in KINDS.values()]
+                why = f"no: {costly[0]}" if costly and report.status == ACCEPTED else report.why
+                print(front + (shown(why, 1000) or report.status))
                 is_pickle |= report.status != NO_PICKLE
-        status = status if is_pickle else NO
+                is_costly |= bool(costly)
+        status = status if is_pickle and not is_costly else NO
     return _status(told) or status
 
 

@@ -8,6 +8,7 @@ from typing import BinaryIO, Dict, Iterator, List, NamedTuple, Optional, Tuple
 from .._hints import hint_of
 from .._lists import AllowList, within
 from .budget import UNPACKED, Budget, TooMuch
+from .costs import cost_finding
 from .dangers import import_findings
 from .joblib_files import WRAPPER_NAMES, without_arrays
 from .listing import listing
@@ -80,7 +81,7 @@ def _judged(piece: Piece, row: Row, question: Question, place: Place) -> Report:
         why = row.refusal.line(64)
         if row.number:
             why = why.replace("no at", f"no in pickle {row.number} at", 1)
-        limits = within(WIDE, question.allow._limits if question.allow is not None else None)
+        limits = within(WIDE, question.allow.limits if question.allow is not None else None)
         hint = hint_of(row.refusal, piece.source.read, limits or WIDE)
         why += f" ({hint})" if hint else ""
         if question.allow is not None or not _is_text(piece, row):
@@ -89,6 +90,8 @@ def _judged(piece: Piece, row: Row, question: Question, place: Place) -> Report:
             status = KINDS[kind].severity
             findings.append(Finding(kind, why))
     findings += _cut_findings(row, imports)
+    if row.costly is not None:
+        findings.append(cost_finding(row.costly, row.costly_number))
     report = Report(
         piece.path,
         _kind_of(piece, row),

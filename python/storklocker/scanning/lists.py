@@ -9,7 +9,7 @@ from pathlib import Path
 from typing import Any, Dict, Iterator, List, Tuple
 
 from .._answers import ListFault
-from .._limits import UNSAID
+from .._limits import COSTS
 from .._lists import AllowList
 from .._meant import EVERYTHING, Meant
 from .._meant import of as meant_in
@@ -87,7 +87,7 @@ def _rows(what: str, old: Dict[str, str], new: Dict[str, str]) -> Iterator[str]:
 def _limits_of(allow: AllowList) -> Dict[str, str]:
     if allow.limits is None:
         return {}
-    held = allow.limits[: -len(UNSAID)]
+    held = allow.limits[: -len(COSTS)]
     return {name: str(value) for name, value in zip(allow.limits._fields, held)}
 
 

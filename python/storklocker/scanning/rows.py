@@ -8,10 +8,11 @@ from typing import TYPE_CHECKING, Dict, Optional, Tuple
 
 from .._answers import Verdict
 from .._checking import check, check_row
-from .._limits import NO_COSTS, UNBOUND, Limits
+from .._limits import UNBOUND, Limits
 from .._lists import AllowList
 from .._reasons import Reason
 from .budget import Budget, TooMuch
+from .costs import KINDS, LIMITS, exceeded
 from .names import NOTHING, WIDE, Imports, imports_within, refused_with
 from .reaching import READERS_STOP, is_module, reached
 from .readings import Piece, is_text
@@ -29,8 +30,8 @@ _ONE_BY_ONE = 1000
 """How many pickles of a row are looked at one by one, before the rest is tried in one call."""
 _CLAIM = re.compile(rb"\x80[\x02-\x05]")
 """How pickles of protocol 2 and later begin. Those of 0 and 1 have no PROTO, but fonts have it."""
-_WIDEST = Limits(passed=1 << 40, numbers=UNBOUND, large=True, **NO_COSTS)
-"""No limits: where a reader must stop, whatever it has room for."""
+_WIDEST = Limits(passed=1 << 40, numbers=UNBOUND, large=True)
+"""Limits on costs alone: where a reader must stop, whatever it has room for, or may never stop."""
 _IMPORTING = (Reason.ImportOffList, Reason.UnknownImport, Reason.ExtensionCode)
 
 
@@ -42,6 +43,8 @@ class Row:
     is_complete: whether these are all.
     refusal: the verdict on the first that is refused, with its offset in the piece.
     number: the index of that one, counted from 0.
+    costly: the verdict on the first that a guard refuses whatever it imports, likewise.
+    costly_number: the index of that one.
     pickles, taken: the number of accepted pickles, and their length in bytes.
     is_reached: whether a reader may get to an import or to STOP in the refused one.
     stop: the offset in the piece at which every reader stops in the refused one, perhaps behind the
@@ -58,7 +61,8 @@ class Row:
         self.names: Dict["Names", None] = {}
         self.is_complete, self.is_reached, self.is_cut = True, False, False
         self.refusal: Optional[Verdict] = None
-        self.number = self.pickles = self.taken = self.stop = 0
+        self.costly: Optional[Verdict] = None
+        self.number = self.costly_number = self.pickles = self.taken = self.stop = 0
         self.refused: Tuple[bytes, int] = (b"", 0)
         self.too_much: Optional[TooMuch] = None
         self.raw = ""
@@ -93,6 +97,8 @@ class Row:
         is_listed = found.is_complete and all(map(self._listed._has, names))
         if not (verdict and is_listed) and self.refusal is None:
             self._judge(data, verdict)
+        if self.costly is None:
+            self._look_at_costs(data, names)
         self.names.update(names)
         if not verdict:
             return False
@@ -163,17 +169,23 @@ class Row:
             self.number, self.refused = self.pickles, (data, self.taken)
             self.refusal = under._replace(at=self.taken + under.at)
 
+    def _look_at_costs(self, data: bytes, names: Dict["Names", None]) -> None:
+        """Keeps the verdict on a pickle that a guard refuses whatever it imports."""
+        found = exceeded(data, names)
+        if found is not None:
+            self.costly, self.costly_number = found._replace(at=self.taken + found.at), self.pickles
+
     def _are_all_accepted(self) -> bool:
-        """Whether all pickles that are left import nothing new, by one call. So a long row costs
-        little; and if something new is in it, that is looked for one by one.
+        """Whether all pickles that are left import nothing new and cost little, by one call. So a
+        long row takes little time; and if something new is in it, that is looked for one by one.
         """
         left = self._source.size - self.taken
         if left > min(_WHOLE, self._budget.row_bytes):
             return False
         data = self._source.read(self.taken, left)
         names = [(module, name) for module, name in self.names if module is not None and name]
-        limits = None if self._allow is None else self._allow._limits
-        verdict = check_row(data, AllowList._of(names, limits), limits=WIDE, build="any")
+        limits = None if self._allow is None else self._allow.limits
+        verdict = check_row(data, AllowList._of(names, limits), limits=LIMITS)
         if not verdict:
             return False
         self.pickles += verdict.pickles
@@ -194,14 +206,13 @@ def row_of(piece: Piece, allow: Optional[AllowList], budget: Budget) -> Optional
         return None
     if not is_claimed and row.refusal is not None:
         row.forget_impossible()
-    if is_claimed or row.refusal is None or row.names or row.is_reached or not row.is_complete:
-        return row
-    return None
+    is_reached = bool(row.names) or row.is_reached or not row.is_complete or row.costly is not None
+    return row if is_claimed or row.refusal is None or is_reached else None
 
 
 def _may_be_pickle(piece: Piece, front: bytes) -> bool:
-    verdict = check(front, NOTHING, limits=_WIDEST, build="any")
-    if verdict or verdict.reason in _IMPORTING:
+    verdict = check(front, NOTHING, limits=_WIDEST)
+    if verdict or verdict.reason in _IMPORTING or verdict.reason in KINDS:
         return True
     is_cut = verdict.reason is Reason.Truncated and len(front) < piece.source.size
     return bool(reached(piece.source, verdict.at, None if is_cut else verdict.reason))

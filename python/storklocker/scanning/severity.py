@@ -86,6 +86,17 @@ KINDS: Dict[str, Kind] = {
         "The pickle imports a name that does more than hold data",
         "Load it only if you know why it needs this name, and trust where it comes from.",
     ),
+    "costly-keys": Kind(
+        WARNING,
+        "Loading the pickle may take the reader's time or crash it",
+        "Load it only through a guard, which refuses it. If you trust where it comes from, `Limits`"
+        " of the guard raise what it may cost.",
+    ),
+    "changed-import": Kind(
+        WARNING,
+        "The pickle changes what it imports, for all that use it",
+        "Don't load it: no pickler writes such a pickle, and a guard refuses it.",
+    ),
     "wildcard": Kind(
         WARNING,
         "The list has a wildcard, which permits nothing",

@@ -1,0 +1,165 @@
+"""What `storklocker scan` and `check` say of files that cost their reader too much, or that change
+what they import.
+"""
+
+import contextlib
+import importlib
+import io
+import pickle
+import tempfile
+import unittest
+import zipfile
+from pathlib import Path
+
+import storklocker
+from common import needs
+from storklocker import AllowList
+from storklocker.scanning import rows
+from storklocker.scanning.command import main
+from storklocker.scanning.judging import Question, reports_of
+
+ATTACK = b"})" + b"2\x86" * 30 + b"Ns."
+DEEP = b"})" + b"\x85" * 5_000 + b"Ns."
+CHANGE = b"\x80\x04ccollections\nOrderedDict\n}\x8c\x01aNsb."
+LISTED = AllowList([("collections", "OrderedDict")])
+FOUND = {
+    "attack": (ATTACK, "costly-keys", "the key at byte 63 has more parts than the limit weight"),
+    "deep tuple": (DEEP, "costly-keys", "at byte 5,003 has more levels of tuples than the limit"),
+    "BUILD": (CHANGE, "changed-import", "BUILD would change what the pickle imports"),
+    "claimed": (b"\x80\x04" + ATTACK, "costly-keys", "the key at byte 65"),
+    "cut": (ATTACK[:-1], "costly-keys", "the key at byte 63"),
+    "broken": (b"\x80\x04" + ATTACK[:-1] + b"\xff", "costly-keys", "the key at byte 65"),
+    "left over": (b"\x80\x04N" + ATTACK, "costly-keys", "the key at byte 66"),
+    "in a row": (b"N." * 3 + ATTACK + b"N.", "costly-keys", "in pickle 3, the key at byte 69"),
+    "in a long row": (b"N." * 2_500 + ATTACK, "costly-keys", "in pickle 2500, the key at byte"),
+    "behind an import": (
+        b"cos\nsystem\n0" + ATTACK, "costly-keys", "the key at byte 75 has more parts"
+    ),
+}
+
+
+def findings(data, allow=None, name="a.pickle"):
+    reports = list(reports_of(name, io.BytesIO(data), Question(allow)))
+    return [(it.kind, it.severity, it.why) for report in reports for it in report.findings]
+
+
+def zipped(data):
+    out = io.BytesIO()
+    with zipfile.ZipFile(out, "w") as file:
+        file.writestr("archive/data.pkl", data)
+    return out.getvalue()
+
+
+class Findings(unittest.TestCase):
+    def test_each_is_a_warning(self):
+        for allow in (None, LISTED):
+            for what, (data, kind, why) in FOUND.items():
+                for whole in (data, zipped(data)):
+                    with self.subTest(what=what, allow=allow):
+                        found = [it for it in findings(whole, allow) if it[0] == kind]
+                        ((_, severity, said),) = found
+                        self.assertEqual(severity, "warning")
+                        self.assertIn(why, said)
+
+    def test_a_list_with_limits_says_the_same(self):
+        text = "version = 2\n[imports]\n[limits]\nstack = 1000\n"
+        self.assertEqual(len(findings(ATTACK, AllowList.from_text(text))), 1)
+
+    def test_what_is_within_the_limits_is_none(self):
+        for data in (
+            b"})" + b"2\x86" * 18 + b"Ns.",
+            b"})" + b"\x85" * 999 + b"Ns.",
+            b"\x80\x04ccollections\nOrderedDict\n)R}\x8c\x01aNsb.",
+            b"N." * 2_500,
+        ):
+            for allow in (None, LISTED):
+                self.assertEqual(findings(data, allow), [])
+
+    def test_without_the_look_they_are_none(self):
+        """The control: nothing else in a scan finds them."""
+        look = rows.exceeded
+        rows.exceeded = lambda data, names: None
+        self.addCleanup(setattr, rows, "exceeded", look)
+        for what in ("attack", "deep tuple", "BUILD"):
+            self.assertEqual(findings(FOUND[what][0], LISTED), [])
+
+    def test_each_pickle_is_looked_at_once(self):
+        look, seen = rows.exceeded, []
+        rows.exceeded = lambda data, names: seen.append(data) or look(data, names)
+        self.addCleanup(setattr, rows, "exceeded", look)
+        findings(b"N." * 3 + pickle.dumps(["a" * 99] * 10_000, 4))
+        self.assertEqual(len(seen), 4)
+
+
+class Command(unittest.TestCase):
+    def setUp(self):
+        folder = tempfile.TemporaryDirectory()
+        self.addCleanup(folder.cleanup)
+        self.folder = Path(folder.name)
+        LISTED.to_file(self.folder / "list.toml")
+
+    def ran(self, *words):
+        out = io.StringIO()
+        with contextlib.redirect_stdout(out):
+            status = main([*words])
+        return status, out.getvalue()
+
+    def test_scan(self):
+        path = self.folder / "a.pickle"
+        path.write_bytes(ATTACK)
+        listed = ("--allow", str(self.folder / "list.toml"))
+        for words, status in (
+            ((), 0), (("--fail-on", "warning"), 1), (listed, 0),
+            ((*listed, "--fail-on", "warning"), 1), (("--fail-on", "danger"), 0),
+        ):
+            for form in ("table", "json", "sarif", "html", "junit"):
+                found, said = self.ran("scan", str(path), *words, "--format", form)
+                self.assertEqual(found, status, (words, form))
+                self.assertIn("the limit weight, 1,000,000", said)
+
+    def test_check_answers_as_a_guard_does(self):
+        path, listed = self.folder / "a.pickle", str(self.folder / "list.toml")
+        guard = storklocker.Guard(LISTED)
+        for data in (ATTACK, DEEP, CHANGE, pickle.dumps({(1, 2): 3})):
+            path.write_bytes(data)
+            status, said = self.ran("check", str(path), "--allow", listed)
+            is_accepted = guard.check(data).accepted
+            self.assertEqual((status, said[:3]), (0, "yes") if is_accepted else (1, "no:"))
+
+
+def large_values():
+    """Honest values of libraries, by name."""
+    numpy, pandas = map(importlib.import_module, ("numpy", "pandas"))
+    ensemble = importlib.import_module("sklearn.ensemble")
+    text = importlib.import_module("sklearn.feature_extraction.text")
+    chance = numpy.random.default_rng(7)
+    numbers = chance.random((2_000, 20))
+    words = [" ".join(map(str, row)) for row in chance.integers(0, 20_000, (2_000, 20))]
+    index = pandas.MultiIndex.from_product([range(300), range(300)], names=["a", "b"])
+    yield "arrays", {name: chance.random(200_000) for name in "abc"}
+    yield "objects", numpy.array([(k, str(k)) for k in range(100_000)], dtype=object)
+    yield "frame", pandas.DataFrame({"x": range(90_000), "y": list(map(str, range(90_000)))}, index)
+    yield "categories", pandas.Series(list(map(str, range(60_000)))).astype("category")
+    yield "forest", ensemble.RandomForestRegressor(20).fit(numbers, numbers[:, 0])
+    yield "vocabulary", text.CountVectorizer().fit(words)
+    yield "keys", {(k, (str(k), k / 2)): {k} for k in range(200_000)}
+
+
+class Honest(unittest.TestCase):
+    @needs("module:pandas", "module:sklearn", "module:joblib")
+    def test_large_files_of_libraries(self):
+        joblib = importlib.import_module("joblib")
+        for what, value in large_values():
+            files = {protocol: pickle.dumps(value, protocol) for protocol in (2, 4)}
+            files["joblib"] = out = io.BytesIO()
+            joblib.dump(value, out)
+            files["joblib"] = out.getvalue()
+            for form, data in files.items():
+                with self.subTest(what=what, form=form):
+                    self.assertGreater(len(data), 100_000)
+                    kinds = {kind for kind, _, _ in findings(data)}
+                    self.assertFalse(kinds & {"costly-keys", "changed-import", "too-much"}, kinds)
+
+
+if __name__ == "__main__":
+    unittest.main()
