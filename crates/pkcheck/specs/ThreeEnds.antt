@@ -65,7 +65,7 @@ module _ (holding : Bool) (loading : Loading) (policy : Policy) (limits : Bounds
     AcceptedAndTold OnePickle taken pickles imports rs =
         (right : AcceptedFrom loading.old_strings (begins loading.memo []) policy limits old new
         taken imports)
-        × AreReports right.instructions rs
+        × AreReports right.instructions rs × (pickles ≡ 1)
 
     -- a pickle of a row was refused, and the audience was told of all that was read
     pub record RefusedRow (pickle at : ℕ) (reason : Reason) (pair : Option Asked)
@@ -91,6 +91,7 @@ module _ (holding : Bool) (loading : Loading) (policy : Policy) (limits : Bounds
         (right : RefusedWithImports 0 loading.old_strings (begins loading.memo []) policy limits old
         new at reason pair imports)
         × AreReports (right.refused.instructions ++ refused_instruction right.refused.why) rs
+        × (pickle ≡ 0)
 
     -- the audience failed in a row when it was told of this, and before of all instructions before
     pub record StoppedRow (rs : List Report) (failed : Report) : Type 0 where

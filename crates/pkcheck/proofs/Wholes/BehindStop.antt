@@ -61,16 +61,16 @@ module _ (holding : Bool) (loading : Loading) (policy : Policy) (limits : Bounds
       hears first pickles apart kept s t frame m now g
 
   pub accepts_alone : e ≡ OnePickle → (new : Sight) (taken number : ℕ) (imports : List Asked)
-      → new ≡ s.source → taken ≡ s.taken → imports ≡ m.imports
+      → new ≡ s.source → taken ≡ s.taken → imports ≡ m.imports → number ≡ 1
       → Accepted taken number imports new
-  accepts_alone is new taken number imports same count lists = record {
+  accepts_alone is new taken number imports same count lists one = record {
     reports = g.earlier ++ g.last;
     right = subst (λ x. AcceptedAndTold holding loading policy limits old new x taken number imports
         (g.earlier ++ g.last)) (sym is)
         (alone_told holding loading policy limits old g.here g.origin pickles apart g.before
         g.row g.earlier g.of_pickles g.read g.asked s frame m g.checked
         (subst (λ x. IsAlone x old g.here g.before) is g.alone) new taken number imports
-        sequence_here same count lists g.last g.behind);
+        sequence_here same count lists g.last g.behind one);
     told = g.heard;
     counts = ap (λ z. z.failures) same ∙ none_failed_here;
   }

@@ -195,15 +195,16 @@ module _ (holding : Bool) (loading : Loading) (policy : Policy) (limits : Bounds
               h.from_is behind);
         }
     refused_told OnePickle alone more at why pair new q r imports lists last behind =
-        as_first (λ n b o rs. (right : RefusedWithImports n loading.old_strings b policy limits o
-        new at why pair imports) × AreReportsBehind holding loading.old_strings b n []
+        let first = as_first (λ n b o rs. (right : RefusedWithImports n loading.old_strings b policy
+        limits o new at why pair imports) × AreReportsBehind holding loading.old_strings b n []
         (right.refused.instructions ++ refused_instruction right.refused.why) rs) alone last (
           record {
             refused = r.0;
             before = imports_here at why pair new q r imports lists;
           },
           subst (λ z. Behind z last) (sym r.1) behind,
-        )
+        ) in
+        (first.0, first.1, h.number ∙ ap length alone.1)
 
     -- the audience failed at this instruction
     module _ (t : ReaderState) (at : ℕ) (i : Instruction) (new : Sight)
@@ -259,13 +260,15 @@ module _ (holding : Bool) (loading : Loading) (policy : Policy) (limits : Bounds
     pub alone_told : (here ≡ old) × (before ≡ []) → (new : Sight) (taken number : ℕ)
         (imports : List Asked) → IsSequence (payload_limit limits) p → new ≡ s.source
         → taken ≡ s.taken → imports ≡ m.imports → (last : List Report) → Behind p last
+        → number ≡ 1
         → AcceptedAndTold holding loading policy limits old new OnePickle taken number imports
         (earlier ++ last)
-    alone_told alone new taken number imports sequence same count lists last behind =
+    alone_told alone new taken number imports sequence same count lists last behind one =
         let first = at_first alone.1 in
         let a = accepted loading.old_strings policy limits here origin p asked s still_open m
         checked new taken imports sequence same (omega (arith, count, first))
         (lists ∙ own_imports alone.1) in
-        as_first (λ n b o rs. (right : AcceptedFrom loading.old_strings b policy limits o new taken
-        imports) × AreReportsBehind holding loading.old_strings b n [] right.instructions rs) alone
-        last (a.0, subst (λ z. Behind z last) (sym a.1) behind)
+        let told = as_first (λ n b o rs. (right : AcceptedFrom loading.old_strings b policy limits o
+        new taken imports) × AreReportsBehind holding loading.old_strings b n [] right.instructions
+        rs) alone last (a.0, subst (λ z. Behind z last) (sym a.1) behind) in
+        (told.0, told.1, one)

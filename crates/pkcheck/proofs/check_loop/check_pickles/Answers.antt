@@ -205,7 +205,8 @@ returns-in-OnePickle-clause-answer g c =
     c.alone.result.taken
     c.alone.result.pickles c.alone.result.imports
     (seen_so _ now now c.in_ok-turned.ensures.none refl)
-    (c.alone.ensures.taken ∙ c.taken-taken.ensures) c.alone.ensures.imports in
+    (c.alone.ensures.taken ∙ c.taken-taken.ensures) c.alone.ensures.imports
+    c.alone.ensures.pickles in
     let y = accepted_as _ _ _ _ _ _ _ _ _ _ _ _ _ x _ (search rules) in
     (y.reports, y.right, y.told)
 
