@@ -10,10 +10,11 @@ import pickle
 import tempfile
 import time
 import unittest
+import zipfile
 from pathlib import Path
 
 import storklocker
-from common import ROOT, SEEDS
+from common import ROOT, SEEDS, needs
 from storklocker import AllowList, Guard, Limits, Reason, Refused
 from storklocker._lists import within
 from storklocker.contrib import _rows, shelve
@@ -55,6 +56,14 @@ def seconds_of(data):
     start = time.perf_counter()
     pickle.loads(data)
     return time.perf_counter() - start
+
+
+def zipped(name, data):
+    """An archive as `torch.save` writes it."""
+    out = io.BytesIO()
+    with zipfile.ZipFile(out, "w") as file:
+        file.writestr(name, data)
+    return out.getvalue()
 
 
 def from_shelf(guard, data):
@@ -142,6 +151,27 @@ class Defaults(unittest.TestCase):
                             continue
                         with self.assertRaises(Refused):
                             load(ATTACK)
+
+    @needs("module:numpy")
+    def test_files_of_libraries(self):
+        from storklocker.contrib import joblib, numpy, torch
+
+        header = b"\x93NUMPY\1\0v\0" + b"{'descr': '|O', 'fortran_order': False, 'shape': (), }"
+        header = header.ljust(127) + b"\n"
+        for load in (
+            lambda guard, data: joblib.load_joblib(data, guard),
+            lambda guard, data: numpy.load_npy(header + data, guard),
+            lambda guard, data: torch.check_archive(zipped("a/data.pkl", data), guard),
+            lambda guard, data: torch.check_legacy(b"N." * 4 + data, guard),
+        ):
+            for data in (ATTACK, DEEP):
+                with self.assertRaises(Refused) as raised:
+                    load(Guard(NOTHING), data)
+                self.assertIn(raised.exception.reason, (Reason.HeavyKeys, Reason.DeepKey))
+            try:
+                load(Guard(NOTHING, limits=FREE), MILD)
+            except pickle.UnpicklingError as error:
+                self.assertEqual(str(error), "the pickle is no array: dict")
 
     def test_each_check(self):
         for words, answer in (({}, "no at 63: HeavyKeys"), ({"limits": FREE}, "yes: 65 bytes")):
