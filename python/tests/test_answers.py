@@ -9,6 +9,7 @@ import unittest
 
 import storklocker
 from common import BY_PAIRS, BY_TEXT, LIST_TEXT, PROGRAM, ROOT, SEEDS
+from storklocker._limits import NO_COSTS
 
 EXAMPLES = ROOT / "examples"
 # Too large to lie beside the others: examples/run-all makes it too.
@@ -102,9 +103,10 @@ class Agreement(unittest.TestCase):
                 file.write_bytes(data)
                 old_strings = ("unknown", "ascii", "bytes")[number % 3]
                 ran = subprocess.run([*words, old_strings], capture_output=True, text=True)
-                # (the program has no limit of memo numbers, the package has)
-                limits = storklocker.Limits(numbers=0xFFFFFFFF)
-                verdict = storklocker.check(data, BY_PAIRS, limits=limits, old_strings=old_strings)
+                # (the program has no limit of memo numbers and of costs, the package has)
+                limits = storklocker.Limits(numbers=0xFFFFFFFF, **NO_COSTS)
+                named = {"limits": limits, "old_strings": old_strings, "build": "any"}
+                verdict = storklocker.check(data, BY_PAIRS, **named)
                 self.assertEqual(f"{verdict}\n", ran.stdout, data)
                 self.assertEqual(ran.returncode, 0 if verdict else 1, data)
                 self.assertEqual(

@@ -25,6 +25,7 @@ LISTED = [
     ("_codecs", "encode"), ("collections", "OrderedDict"), ("datetime", "datetime"), ("m", "f")
 ]
 ALLOW = storklocker.AllowList(LISTED)
+FREE = storklocker.Limits(levels=None, weight=None, work=None)
 MODULE = re.compile(r"[^\W\d]\w*(\.[^\W\d]\w*)*")
 SECONDS, MEMORY = 2, 1 << 30
 """What a scan may take, and all of this program: a reader takes 16 bytes for each memo number."""
@@ -73,7 +74,9 @@ def asked_by(base, data):
 
 def faults_of(data):
     """What is wrong with the answers about an input."""
-    is_accepted = bool(storklocker.check(data, ALLOW))
+    is_accepted = bool(storklocker.check(data, ALLOW, limits=FREE, build="any"))
+    if storklocker.check(data, ALLOW) and not is_accepted:
+        yield "accepted within limits on costs, and refused without"
     began = time.process_time()
     reports = list(reports_of("input", io.BytesIO(data), Question(ALLOW)))
     if time.process_time() - began > SECONDS:
