@@ -173,6 +173,18 @@ static PyObject *row_verdict(PyObject *module, PyObject *const *given, Py_ssize_
     return is_parsed ? answered(&r, storklocker_check_row, NULL) : NULL;
 }
 
+static PyObject *bill(PyObject *module, PyObject *const *given, Py_ssize_t count) {
+    struct request r;
+    struct storklocker_verdict v;
+    uint8_t room[ROOM];
+    if (!parse(module, given, count, 3, &r))
+        return NULL;
+    ask(storklocker_check_pairs, &r, room, ROOM, &v);
+    if (v.status != STORKLOCKER_YES)
+        Py_RETURN_NONE;
+    return Py_BuildValue("IIKKK", v.levels, v.weight, v.work, v.clash, v.memory);
+}
+
 PyObject *refusal_of(PyObject *pairs, PyObject *data, uint64_t *imports) {
     struct request r = {.data = data, .allow = pairs, .made = Py_None};
     r.list = (const Pairs *)pairs;
@@ -255,6 +267,8 @@ static PyMethodDef methods[] = {
      "The Verdict of the pickle at the front of the bytes."},
     {"row_verdict", AS_C_FUNCTION(row_verdict), METH_FASTCALL,
      "The RowVerdict of all pickles in the bytes."},
+    {"bill", AS_C_FUNCTION(bill), METH_FASTCALL,
+     "What loading an accepted pickle costs, if the settings limit costs; None if it is refused."},
     {"imports", AS_C_FUNCTION(imports), METH_FASTCALL,
      "The Verdict with every import permitted, bytes needed, and the imports."},
     {"read_list", read_list, METH_VARARGS, "Fault or 0, limits, bytes needed, and the pairs."},

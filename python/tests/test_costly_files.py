@@ -23,8 +23,8 @@ DEEP = b"})" + b"\x85" * 5_000 + b"Ns."
 CHANGE = b"\x80\x04ccollections\nOrderedDict\n}\x8c\x01aNsb."
 LISTED = AllowList([("collections", "OrderedDict")])
 FOUND = {
-    "attack": (ATTACK, "costly-keys", "the key at byte 63 has more parts than the limit weight"),
-    "deep tuple": (DEEP, "costly-keys", "at byte 5,003 has more levels of tuples than the limit"),
+    "attack": (ATTACK, "costly-keys", "byte 63 weighs more than the limit weight, 1,000,000"),
+    "deep tuple": (DEEP, "costly-keys", "at byte 5,003 has more levels than the limit levels"),
     "BUILD": (CHANGE, "changed-import", "BUILD would change what the pickle imports"),
     "claimed": (b"\x80\x04" + ATTACK, "costly-keys", "the key at byte 65"),
     "cut": (ATTACK[:-1], "costly-keys", "the key at byte 63"),
@@ -33,7 +33,7 @@ FOUND = {
     "in a row": (b"N." * 3 + ATTACK + b"N.", "costly-keys", "in pickle 3, the key at byte 69"),
     "in a long row": (b"N." * 2_500 + ATTACK, "costly-keys", "in pickle 2500, the key at byte"),
     "behind an import": (
-        b"cos\nsystem\n0" + ATTACK, "costly-keys", "the key at byte 75 has more parts"
+        b"cos\nsystem\n0" + ATTACK, "costly-keys", "the key at byte 75 weighs more"
     ),
 }
 
@@ -64,6 +64,20 @@ class Findings(unittest.TestCase):
     def test_a_list_with_limits_says_the_same(self):
         text = "version = 2\n[imports]\n[limits]\nstack = 1000\n"
         self.assertEqual(len(findings(ATTACK, AllowList.from_text(text))), 1)
+
+    def test_the_bill(self):
+        """Of a key of so many levels: one and the tuples, each of one object or of a pair."""
+        for data, bill in (
+            (ATTACK, "levels 31, weight 1,048,575+, work 1,048,575+"),
+            (DEEP, "levels 1,023+, weight 5,001, work 5,001"),
+            (b"})" + b"\x85" * 1_005 + b"Ns.", "levels 1,006, weight 1,006, work 1,006"),
+        ):
+            for whole in (data, b"N." * 3 + data):
+                ((_, _, why),) = findings(whole)
+                self.assertTrue(why.endswith(f"; bill: {bill}"), why)
+                self.assertLessEqual(len(why), 200)
+        ((_, _, why), *_) = findings(FOUND["broken"][0])[::-1]
+        self.assertNotIn("bill", why)
 
     def test_what_is_within_the_limits_is_none(self):
         for data in (

@@ -4,14 +4,14 @@ much, or whose BUILD changes what it imports.
 
 from __future__ import annotations
 
-from typing import TYPE_CHECKING, Iterable, Optional
+from typing import TYPE_CHECKING, Iterable, NamedTuple, Optional
 
 from .._answers import Verdict
 from .._hints import CHANGES
 from .._limits import Limits
 from .._lists import AllowList, settings_of
 from .._reasons import Reason
-from .._storklocker import verdict
+from .._storklocker import bill, verdict
 from .names import NOTHING, WIDE
 from .report import Finding
 
@@ -20,34 +20,60 @@ if TYPE_CHECKING:
 
 LIMITS = Limits(passed=WIDE.passed)
 """The limits of a scan, and on what loading costs the default ones."""
+COSTLY = "costly-keys"
 KINDS = {
-    Reason.DeepKey: "costly-keys",
-    Reason.HeavyKeys: "costly-keys",
+    Reason.DeepKey: COSTLY,
+    Reason.HeavyKeys: COSTLY,
     Reason.BuildsImport: "changed-import",
 }
 """The kinds of findings, by the reason for which a guard refuses the pickle."""
 
 _SETTINGS = settings_of(NOTHING, LIMITS, "unknown")
+_COUNTING = settings_of(NOTHING, WIDE._replace(memory=(1 << 64) - 2), "unknown", "any")
+"""Settings under which costs are counted, and none is too much."""
+_LEVELS, _WEIGHT = 1_023, 1_048_575
+"""As far as levels and weights are counted."""
 _WHY = {
-    Reason.DeepKey: "the key at byte {at:,} has more levels of tuples than the limit levels,"
-    " {levels:,}: hashing it takes stack for each, which may crash the reader",
-    Reason.HeavyKeys: "the key at byte {at:,} has more parts than the limit weight, {weight:,}, or"
-    " all keys so far more than work, {work:,}: hashing them may keep the reader busy for days",
+    Reason.DeepKey: "the key at byte {at:,} has more levels than the limit levels, {levels:,}:"
+    " hashing it may overflow the reader's stack",
+    Reason.HeavyKeys: "the key at byte {at:,} weighs more than the limit weight, {weight:,}, or all"
+    " keys more than work, {work:,}: they may take days to hash",
     Reason.BuildsImport: CHANGES + ", at byte {at:,}",
 }
 
 
-def exceeded(data: bytes, names: Iterable[Names]) -> Optional[Verdict]:
-    """The verdict on the pickle at the front of the bytes, whose imports are these, if a guard
-    refuses it whatever is listed.
+class Exceeded(NamedTuple):
+    """Why a guard refuses a pickle whatever is listed: the verdict, and what loading it costs."""
+
+    verdict: Verdict
+    bill: str
+    """Empty if it isn't known, because the pickle is broken behind that place."""
+
+
+def exceeded(data: bytes, names: Iterable[Names]) -> Optional[Exceeded]:
+    """Why a guard refuses the pickle at the front of the bytes, whose imports are these, whatever
+    is listed; None if it doesn't.
     """
     pairs = [(module, name) for module, name in names if module is not None and name]
-    found = verdict(data, AllowList._of(pairs, None, _SETTINGS), None)
-    return found if found.reason in KINDS else None
+    allow = AllowList._of(pairs, None, _SETTINGS)
+    found = verdict(data, allow, None)
+    return Exceeded(found, _bill_of(data, allow)) if found.reason in KINDS else None
 
 
-def cost_finding(found: Verdict, number: int) -> Finding:
-    """The finding on such a verdict, on the pickle with this index in a row."""
-    assert found.reason is not None
-    why = _WHY[found.reason].format(at=found.at, **LIMITS._asdict())
-    return Finding(KINDS[found.reason], f"in pickle {number}, {why}" if number else why)
+def _bill_of(data: bytes, allow: AllowList) -> str:
+    costs = bill(data, allow, _COUNTING)
+    if costs is None:
+        return ""
+    levels, weight, work, _, _ = costs
+    deeper = "+" * (levels == _LEVELS)
+    more = "+" * (weight == _WEIGHT)
+    return f"; bill: levels {levels:,}{deeper}, weight {weight:,}{more}, work {work:,}{more}"
+
+
+def cost_finding(found: Exceeded, start: int, number: int) -> Finding:
+    """The finding on the pickle that begins at an offset, and has this index in a row."""
+    reason = found.verdict.reason
+    assert reason is not None
+    why = _WHY[reason].format(at=start + found.verdict.at, **LIMITS._asdict())
+    why += found.bill if KINDS[reason] == COSTLY else ""
+    return Finding(KINDS[reason], f"in pickle {number}, {why}" if number else why)

@@ -91,7 +91,7 @@ def _judged(piece: Piece, row: Row, question: Question, place: Place) -> Report:
             findings.append(Finding(kind, why))
     findings += _cut_findings(row, imports)
     if row.costly is not None:
-        findings.append(cost_finding(row.costly, row.costly_number))
+        findings.append(cost_finding(row.costly, row.costly_at, row.costly_number))
     report = Report(
         piece.path,
         _kind_of(piece, row),

@@ -12,7 +12,7 @@ from .._limits import UNBOUND, Limits
 from .._lists import AllowList
 from .._reasons import Reason
 from .budget import Budget, TooMuch
-from .costs import KINDS, LIMITS, exceeded
+from .costs import KINDS, LIMITS, Exceeded, exceeded
 from .names import NOTHING, WIDE, Imports, imports_within, refused_with
 from .reaching import READERS_STOP, is_module, reached
 from .readings import Piece, is_text
@@ -43,8 +43,8 @@ class Row:
     is_complete: whether these are all.
     refusal: the verdict on the first that is refused, with its offset in the piece.
     number: the index of that one, counted from 0.
-    costly: the verdict on the first that a guard refuses whatever it imports, likewise.
-    costly_number: the index of that one.
+    costly: why a guard refuses the first that it refuses whatever is listed.
+    costly_at, costly_number: the offset of that one in the piece, and its index.
     pickles, taken: the number of accepted pickles, and their length in bytes.
     is_reached: whether a reader may get to an import or to STOP in the refused one.
     stop: the offset in the piece at which every reader stops in the refused one, perhaps behind the
@@ -61,8 +61,9 @@ class Row:
         self.names: Dict["Names", None] = {}
         self.is_complete, self.is_reached, self.is_cut = True, False, False
         self.refusal: Optional[Verdict] = None
-        self.costly: Optional[Verdict] = None
-        self.number = self.costly_number = self.pickles = self.taken = self.stop = 0
+        self.costly: Optional[Exceeded] = None
+        self.costly_at = self.costly_number = 0
+        self.number = self.pickles = self.taken = self.stop = 0
         self.refused: Tuple[bytes, int] = (b"", 0)
         self.too_much: Optional[TooMuch] = None
         self.raw = ""
@@ -98,7 +99,8 @@ class Row:
         if not (verdict and is_listed) and self.refusal is None:
             self._judge(data, verdict)
         if self.costly is None:
-            self._look_at_costs(data, names)
+            self.costly = exceeded(data, names)
+            self.costly_at, self.costly_number = self.taken, self.pickles
         self.names.update(names)
         if not verdict:
             return False
@@ -168,12 +170,6 @@ class Row:
         if not under:
             self.number, self.refused = self.pickles, (data, self.taken)
             self.refusal = under._replace(at=self.taken + under.at)
-
-    def _look_at_costs(self, data: bytes, names: Dict["Names", None]) -> None:
-        """Keeps the verdict on a pickle that a guard refuses whatever it imports."""
-        found = exceeded(data, names)
-        if found is not None:
-            self.costly, self.costly_number = found._replace(at=self.taken + found.at), self.pickles
 
     def _are_all_accepted(self) -> bool:
         """Whether all pickles that are left import nothing new and cost little, by one call. So a
