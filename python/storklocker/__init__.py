@@ -22,8 +22,9 @@ A `Guard` replaces the module `pickle`: it has `load`, `loads`, `dump`, `dumps`,
     install, trusted     one guard for every load of this interpreter, and what stays as before
 
 An accepted pickle is safe in every run of the pickle machine: each import is on the list, each step
-finds what it needs, and exactly one object is left. This doesn't mean that the listed names are
-harmless, or that loading succeeds. See docs/PYTHON.md.
+finds what it needs, and exactly one object is left. By default it is also within `Limits` on what
+its keys cost, and its BUILD changes nothing that an import gave. This doesn't mean that the listed
+names are harmless, or that loading succeeds. See docs/PYTHON.md.
 """
 
 # In these modules annotations are in quotes, because importing `__future__` would take 0.2 ms.
