@@ -104,6 +104,7 @@ module _ (loading : Loading) (policy : Policy) (limits : Bounds) (tolls : Tolls)
     (refused_within loading tolls policy limits [] old old new refused.no.at refused.no.reason
         (option_map asked_shown refused.no.pair) h.0.refused [] rs y.at y.metering y.excess
         (takes_none old) refl h.1 none).1,
+    h.2,
   )
 
   right_loading : (y : Meter) (rs : List Report) (extent : Extent)
@@ -123,7 +124,7 @@ module _ (loading : Loading) (policy : Policy) (limits : Bounds) (tolls : Tolls)
       let one = pickle_within tolls loading limits 0 [] h.0.instructions rs at_first y.metering
       h.0.sequence h.1 (begins_ready tolls loading) (begins_within tolls loading)
       (is_metered y rs told e) (all_fit y rs told e) in
-      with_last y OnePickle accepted billed same (h.0, one.costs) (ap Some one.same)
+      with_last y OnePickle accepted billed same (h.0, one.costs, h.2) (ap Some one.same)
   right_loading y rs extent (Err refused) (Err refusal) told h same e q =
       subst (λ r. IsRefused loading policy limits tolls old new extent r) (sym same)
       (right_refusal y rs extent refused h (none_before y rs refused.no.at y.excess told refl

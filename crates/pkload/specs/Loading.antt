@@ -79,6 +79,7 @@ module _ (loading : Loading) (policy : Policy) (limits : Bounds) (tolls : Tolls)
         (right : AcceptedFrom loading.old_strings (begins loading.memo []) policy limits old new
         accepted.taken accepted.imports)
         × CostsWithin loading.old_strings (begins loading.memo []) tolls right.instructions
+        × (accepted.pickles ≡ 1)
 
     -- the bill of the last of the accepted pickles
     abbrev pub bill_of : (extent : Extent) (accepted : YesAll) → AcceptedWithin extent accepted
@@ -105,7 +106,7 @@ module _ (loading : Loading) (policy : Policy) (limits : Bounds) (tolls : Tolls)
         (right : RefusedWithImports 0 loading.old_strings (begins loading.memo []) policy limits
         old new refused.no.at refused.no.reason (option_map asked_shown refused.no.pair)
         refused.imports)
-        × StaysWithin loading tolls [] right.refused.instructions
+        × StaysWithin loading tolls [] right.refused.instructions × (refused.pickle ≡ 0)
 
     -- the answer is that of the check, and what it accepts keeps within the limits
     abbrev pub IsRightLoading : Extent → Result YesWithBill RefusedPickle → Type 0
