@@ -1,4 +1,3 @@
 pub mod Pieces
 pub mod Unpaired
-pub mod Judging
 pub mod Examples

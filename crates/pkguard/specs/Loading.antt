@@ -1,14 +1,17 @@
 -- What the verdicts for C say of the cost of loading.
-use Rattle.std.specs.Prelude.{◌≡◌, ◌≢◌, ◌<◌, ◌==◌, ◌&&◌, ◌⊎◌, ℕ, Bool, List, nat_le, if◌then◌else◌}
-use Rattle.std.specs.Prelude.{Option, Some, None}
+use Rattle.std.specs.Prelude.{◌≡◌, ◌≢◌, ◌==◌, ◌&&◌, ◌⊎◌, ℕ, Bool, List, length, nat_le}
+use Rattle.std.specs.Prelude.{Option, Some, None, if◌then◌else◌, option_map}
 use Rattle.pkops.specs.Limits.{Bounds}
+use Rattle.pkcheck.specs.Import.{asked_shown}
 use Rattle.pkcheck.specs.Knowledge.{Policy}
 use Rattle.pkcheck.specs.declared.Extent.{Extent}
 use Rattle.pkcheck.specs.declared.Extent.TheVariants.{OnePickle, ToTheEnd}
 use Rattle.pkcheck.specs.declared.Loading.{Loading}
 use Rattle.pkcheck.specs.declared.OldStrings.{OldStrings}
+use Rattle.pkcheck.specs.declared.RefusedPickle.{RefusedPickle}
 use Rattle.pkload.specs.Costly.{CostsTooMuch}
-use Rattle.pkload.specs.Loading.{AcceptedWithBill}
+use Rattle.pkload.specs.Loading.{AcceptedWithBill, IsRefused}
+use Rattle.pkload.specs.declared.Costly.{Costly}
 use Rattle.pkload.specs.declared.Excess.{Excess}
 use Rattle.pkload.specs.declared.Excess.TheVariants.{OutOfMemory}
 use Rattle.pkload.specs.declared.Tally.{Tally}
@@ -19,8 +22,8 @@ use Rattle.pkguard.specs.declared.costs.Costs.{Costs}
 use Rattle.pkguard.specs.declared.settings.Settings.{Settings}
 use Rattle.pkguard.specs.declared.verdict.Verdict.{Verdict}
 use Rattle.pkguard.specs.Codes.{excess_code}
-use Rattle.pkguard.specs.Guard.{IsNo, IsNoOfRow, IsYes, IsYesOfRow, memory, nothing_told}
-use Rattle.pkguard.specs.Guard.{verdict_of_usage}
+use Rattle.pkguard.specs.Guard.{memory, names_placed, nothing_told, verdict_of_no}
+use Rattle.pkguard.specs.Guard.{verdict_of_usage, verdict_of_yes}
 use Rattle.pkguard.specs.Settings.{old_strings_in}
 
 -- the limits of a check
@@ -75,59 +78,52 @@ verdict_of_excess at excess pickles = record nothing_told {
   pickles = pickles;
 }
 
-module _ (loading : Loading) (policy : Policy) (limits : Bounds) (pickles before after : List ℕ)
-  where
-    -- one pickle or a row is accepted, whatever loading costs
-    abbrev pub IsYesAtAnyCost : Extent → Verdict → Type 0
-    IsYesAtAnyCost OnePickle verdict =
-        IsYes loading.old_strings policy limits pickles before after verdict
-    IsYesAtAnyCost ToTheEnd verdict = IsYesOfRow loading policy limits pickles before after verdict
+-- how many pickles were accepted, where a check says so of a row
+abbrev pub accepted_in : Extent → ℕ → ℕ
+accepted_in OnePickle pickles = 1
+accepted_in ToTheEnd pickles = pickles
 
-    -- one pickle or a pickle of a row is refused, whatever loading costs
-    abbrev pub IsNoAtAnyCost : Extent → Verdict → Type 0
-    IsNoAtAnyCost OnePickle verdict =
-        IsNo loading.old_strings policy limits pickles before after verdict
-    IsNoAtAnyCost ToTheEnd verdict = IsNoOfRow loading policy limits pickles before after verdict
+-- how many pickles were accepted before the refused one, where a check says so of a row
+abbrev pub before_in : Extent → ℕ → ℕ
+before_in OnePickle pickle = 0
+before_in ToTheEnd pickle = pickle
 
--- whatever the pickles import, what loading each of them costs is within the limits, and this is
--- the bill of the last
-pub record IsBilled (loading : Loading) (limits : Bounds) (tolls : Tolls) (extent : Extent)
-    (pickles : List ℕ) (bill : Bill) : Type 0 where
-  pub rest : List ℕ
-  pub accepted : YesWithBill
-  pub within : AcceptedWithBill loading None limits tolls (memory pickles) (memory rest) extent
-      accepted
-  pub told : bill ≡ bill_of accepted.tally accepted.memory
+module _ (loading : Loading) (policy : Policy) (limits : Bounds) (tolls : Tolls) (extent : Extent)
+    (pickles before after : List ℕ) (verdict : Verdict) where
+  -- the pickles are accepted, what loading each of them costs is within the limits, and this is the
+  -- bill of the last
+  pub record IsYesWithBill (bill : Bill) : Type 0 where
+    pub rest : List ℕ
+    pub accepted : YesWithBill
+    pub within : AcceptedWithBill loading policy limits tolls (memory pickles) (memory rest) extent
+        accepted
+    pub told : verdict ≡ verdict_of_yes accepted.yes.taken (length accepted.yes.imports)
+        (accepted_in extent accepted.yes.pickles)
+    pub billed : bill ≡ bill_of accepted.tally accepted.memory
+    pub room : after ≡ before
 
--- the pickles are accepted, and what loading each of them costs is within the limits
-pub record IsYesWithBill (loading : Loading) (policy : Policy) (limits : Bounds) (tolls : Tolls)
-    (extent : Extent) (pickles before after : List ℕ) (verdict : Verdict) (bill : Bill)
-    : Type 0 where
-  pub yes : IsYesAtAnyCost loading policy limits pickles before after extent verdict
-  pub costs : IsBilled loading limits tolls extent pickles bill
+  -- a pickle is refused, and the instructions before that keep within the limits
+  pub record IsNoWithin : Type 0 where
+    pub rest : List ℕ
+    pub refusal : RefusedPickle
+    pub refused : IsRefused loading policy limits tolls (memory pickles) (memory rest) extent
+        refusal
+    pub told : verdict ≡ verdict_of_no refusal.no.at refusal.no.reason
+        (option_map asked_shown refusal.no.pair) (before_in extent refusal.pickle)
+    pub room : after ≡ names_placed (option_map asked_shown refusal.no.pair) before
 
--- a pickle exceeds a limit on costs, whatever it imports, at an instruction before which nothing is
--- refused. A reason of OutOfMemory says no more than that the bill couldn't be kept
-pub record IsCostly (loading : Loading) (policy : Policy) (limits : Bounds) (tolls : Tolls)
-    (extent : Extent) (pickles before after : List ℕ) (verdict : Verdict) : Type 0 where
-  pub excess : Excess
-  pub exceeds : excess ≢ OutOfMemory → CostsTooMuch loading None limits tolls (memory pickles)
-      extent verdict.pickles verdict.at excess
-  pub told : verdict ≡ verdict_of_excess verdict.at excess verdict.pickles
-  pub room : after ≡ before
-  -- at any cost the pickles are accepted, or what is refused comes later
-  pub names : List ℕ
-  pub otherwise : Verdict
-  pub passes : IsYesAtAnyCost loading policy limits pickles before names extent otherwise
-      ⊎ ((verdict.at < otherwise.at)
-      × IsNoAtAnyCost loading policy limits pickles before names extent otherwise)
+  -- a pickle exceeds a limit on costs, at an instruction that the check accepts. A reason of
+  -- OutOfMemory says no more than that the bill couldn't be kept
+  pub record IsCostly : Type 0 where
+    pub costly : Costly
+    pub exceeds : costly.excess ≢ OutOfMemory → CostsTooMuch loading policy limits tolls
+        (memory pickles) extent costly.pickle costly.at costly.excess
+    pub told : verdict ≡ verdict_of_excess costly.at costly.excess costly.pickle
+    pub room : after ≡ before
 
--- a pickle is refused, or exceeds a limit on costs
-abbrev pub IsNoOrCostly : Loading → Policy → Bounds → Tolls → Extent
-    → (pickles before after : List ℕ) → Verdict → Type 0
-IsNoOrCostly loading policy limits tolls extent pickles before after verdict =
-    IsNoAtAnyCost loading policy limits pickles before after extent verdict
-    ⊎ IsCostly loading policy limits tolls extent pickles before after verdict
+  -- a pickle is refused, or exceeds a limit on costs
+  abbrev pub IsNoOrCostly : Type 0
+  IsNoOrCostly = IsNoWithin ⊎ IsCostly
 
 -- the settings or the limits on costs are not supported
 pub record IsUsageWith (settings : Settings) (costs : Costs) (before after : List ℕ)

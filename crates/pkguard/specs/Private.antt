@@ -1,3 +1,2 @@
 -- Definitions that only private functions cite. They need not be trusted.
 pub mod Written
-pub mod Judged

@@ -1,21 +1,17 @@
 //! Checks pickles, and bounds what loading them costs.
-ghost use Rattle.std.specs.Prelude.{◌≡◌, ◌≢◌, ◌≤◌, IfErr, IfOk, MatchResult, None, Some};
+ghost use Rattle.std.specs.Prelude.{◌≡◌, ◌≢◌, ◌≤◌, Some};
 ghost use Rattle.pkcheck.specs.Import.{permit_of};
-ghost use Rattle.pkload.specs.Costly.{CostsTooMuch};
-ghost use Rattle.pkguard.specs.Guard.{memory, names_placed};
-ghost use Rattle.pkguard.specs.Loading.{IsBilled, IsNoOrCostly, IsUsageWith, IsYesWithBill};
-ghost use Rattle.pkguard.specs.Loading.{SetsWith, extent_by, nothing_billed, tolls_by};
-ghost use Rattle.pkguard.specs.Private.Judged.{IsAccepted, IsRefused, TellsNo, TellsYes};
+ghost use Rattle.pkguard.specs.Loading.{IsNoOrCostly, IsUsageWith, IsYesWithBill};
+ghost use Rattle.pkguard.specs.Loading.{SetsWith, accepted_in, before_in, extent_by};
+ghost use Rattle.pkguard.specs.Loading.{nothing_billed, tolls_by};
 ghost use Rattle.pkguard.specs.Settings.{PermitsPairs, limits_by, listed_by, loading_by};
 
 use crate::costs::{self, Bill, Costs};
 use crate::settings::{self, Settings};
 use crate::verdict::{self, Verdict};
 use pkcheck::laws::halving;
-use pkcheck::{
-    Extent, NoAll, Pair, Permit, Policy, Terms, YesAll, check_all_loaded, check_with_imports,
-};
-use pkload::{Costly, Excess, Tolls, check_loading};
+use pkcheck::{Extent, Pair, Permit, Terms};
+use pkload::{Tolls, check_loading};
 use pkread::Memory;
 use std::alloc::Global;
 
@@ -23,8 +19,7 @@ use std::alloc::Global;
 /// they are the one at the front of `pickles` or all up to its end. If they are accepted, `bill`
 /// says what loading the last of them costs; otherwise it is empty.
 ///
-/// The costs hold whatever is imported. A limit that an instruction exceeds is told unless
-/// something is refused there or before.
+/// A limit that an instruction exceeds is told unless something is refused there or before.
 #[unsafe(no_mangle)]
 pub extern "C" fn pkguard_check_loading(
     alloc: Global,
@@ -97,120 +92,41 @@ fn judged(
         order.now.terms.extent pickles.now room.old room.new result }
     ensures nothing { result.status ≢ 0 → bill.new ≡ bill.old }
 {
-    let cost = cost_of(alloc, order, pickles);
-    match checked(alloc, order, pickles) {
-        Ok(yes) => of_accepted(&yes, &cost, bill),
-        Err(all) => of_refused(&all, &cost, room),
-    }
-}
-
-/// The answer of the check at any cost.
-fn checked(alloc: Global, order: &Order<'_>, pickles: &[u8]) -> Result<YesAll, NoAll>
-    ensures { MatchResult result
-        (IsAccepted order.now.terms.loading (permit_of order.now.permit) order.now.terms.limits
-        pickles.now order.now.terms.extent)
-        (IsRefused order.now.terms.loading (permit_of order.now.permit) order.now.terms.limits
-        pickles.now order.now.terms.extent) }
-{
-    match order.terms.extent {
-        Extent::OnePickle => checked_alone(alloc, order, pickles),
-        Extent::ToTheEnd => checked_row(alloc, order, pickles),
-    }
-}
-
-/// The answer of the check for the pickle at the front, at any cost.
-fn checked_alone(alloc: Global, order: &Order<'_>, pickles: &[u8]) -> Result<YesAll, NoAll>
-    ensures { MatchResult result
-        (IsAccepted order.now.terms.loading (permit_of order.now.permit) order.now.terms.limits
-        pickles.now Extent.OnePickle)
-        (IsRefused order.now.terms.loading (permit_of order.now.permit) order.now.terms.limits
-        pickles.now Extent.OnePickle) }
-{
-    let Terms {
-        limits,
-        loading,
-        ..
-    } = &order.terms;
+    let Order {
+        permit,
+        terms,
+        tolls,
+    } = order;
     let mut source = Memory::new(pickles);
-    match check_with_imports(
-        alloc,
-        &mut source,
-        &order.permit,
-        limits,
-        loading.old_strings,
-    ) {
-        Ok(yes) => Ok(YesAll {
-            taken: yes.taken,
-            pickles: 1,
-            imports: yes.imports,
-        }),
-        Err(refused) => Err(NoAll {
-            pickle: 0,
-            no: refused.no,
-        }),
-    }
-}
-
-/// The answer of the check for all pickles, at any cost.
-fn checked_row(alloc: Global, order: &Order<'_>, pickles: &[u8]) -> Result<YesAll, NoAll>
-    ensures { MatchResult result
-        (IsAccepted order.now.terms.loading (permit_of order.now.permit) order.now.terms.limits
-        pickles.now Extent.ToTheEnd)
-        (IsRefused order.now.terms.loading (permit_of order.now.permit) order.now.terms.limits
-        pickles.now Extent.ToTheEnd) }
-{
-    let mut source = Memory::new(pickles);
-    check_all_loaded(
-        alloc,
-        &mut source,
-        &order.permit,
-        &order.terms.limits,
-        order.terms.loading,
-    )
-}
-
-/// The bill of the last pickle, whatever is imported, or the first limit that is exceeded. If even
-/// so a pickle is refused, nothing is known of the costs.
-fn cost_of(alloc: Global, order: &Order<'_>, pickles: &[u8]) -> Result<Bill, Costly>
-    ensures bill { IfOk result (IsBilled order.now.terms.loading order.now.terms.limits
-        order.now.tolls order.now.terms.extent pickles.now) }
-    ensures costly { IfErr result (λ costly. costly.excess ≢ Excess.OutOfMemory
-        → CostsTooMuch order.now.terms.loading None order.now.terms.limits order.now.tolls
-        (memory pickles.now) order.now.terms.extent costly.pickle costly.at costly.excess) }
-{
-    let mut source = Memory::new(pickles);
-    let any = Permit::By(Policy::AnyImport);
-    match check_loading(alloc, &mut source, &any, &order.terms, &order.tolls) {
-        Ok(Ok(billed)) => Ok(costs::bill_of(&billed.tally, billed.memory)),
-        Ok(Err(refused)) => Err(Costly {
-            pickle: refused.pickle,
-            at: refused.no.at,
-            excess: Excess::OutOfMemory,
-        }),
-        Err(costly) => Err(costly),
-    }
-}
-
-/// The verdict for pickles that are accepted at any cost.
-fn of_accepted(yes: &YesAll, cost: &Result<Bill, Costly>, bill: &mut Bill) -> Verdict
-    ensures bound { result.status ≤ 1 }
-    ensures told { TellsYes yes.now cost.now bill.old bill.new result }
-{
-    match cost {
-        Ok(sum) => {
-            *bill = *sum;
-            verdict::of_yes(yes.taken, &yes.imports, yes.pickles)
+    match check_loading(alloc, &mut source, permit, terms, tolls) {
+        Ok(Ok(billed)) => {
+            *bill = costs::bill_of(&billed.tally, billed.memory);
+            let pickles = accepted_in(terms.extent, billed.yes.pickles);
+            verdict::of_yes(billed.yes.taken, &billed.yes.imports, pickles)
         }
-        Err(costly) => verdict::of_excess(costly),
+        Ok(Err(refused)) => {
+            verdict::of_no(&refused.no, before_in(terms.extent, refused.pickle), room)
+        }
+        Err(costly) => verdict::of_excess(&costly),
     }
 }
 
-/// The verdict for pickles that are refused at any cost.
-fn of_refused(all: &NoAll, cost: &Result<Bill, Costly>, room: &mut [u8]) -> Verdict
-    ensures told { TellsNo all.now cost.now room.old room.new result }
+/// How many pickles were accepted, where a check says so of a row.
+fn accepted_in(extent: Extent, pickles: u64) -> u64
+    ensures { result ≡ accepted_in extent pickles }
 {
-    match cost {
-        Err(costly) if costly.at < all.no.at => verdict::of_excess(costly),
-        _ => verdict::of_no(&all.no, all.pickle, room),
+    match extent {
+        Extent::OnePickle => 1,
+        Extent::ToTheEnd => pickles,
+    }
+}
+
+/// How many pickles were accepted before the refused one, where a check says so of a row.
+fn before_in(extent: Extent, pickle: u64) -> u64
+    ensures { result ≡ before_in extent pickle }
+{
+    match extent {
+        Extent::OnePickle => 0,
+        Extent::ToTheEnd => pickle,
     }
 }
