@@ -78,16 +78,6 @@ verdict_of_excess at excess pickles = record nothing_told {
   pickles = pickles;
 }
 
--- how many pickles were accepted, where a check says so of a row
-abbrev pub accepted_in : Extent → ℕ → ℕ
-accepted_in OnePickle pickles = 1
-accepted_in ToTheEnd pickles = pickles
-
--- how many pickles were accepted before the refused one, where a check says so of a row
-abbrev pub before_in : Extent → ℕ → ℕ
-before_in OnePickle pickle = 0
-before_in ToTheEnd pickle = pickle
-
 module _ (loading : Loading) (policy : Policy) (limits : Bounds) (tolls : Tolls) (extent : Extent)
     (pickles before after : List ℕ) (verdict : Verdict) where
   -- the pickles are accepted, what loading each of them costs is within the limits, and this is the
@@ -98,7 +88,7 @@ module _ (loading : Loading) (policy : Policy) (limits : Bounds) (tolls : Tolls)
     pub within : AcceptedWithBill loading policy limits tolls (memory pickles) (memory rest) extent
         accepted
     pub told : verdict ≡ verdict_of_yes accepted.yes.taken (length accepted.yes.imports)
-        (accepted_in extent accepted.yes.pickles)
+        accepted.yes.pickles
     pub billed : bill ≡ bill_of accepted.tally accepted.memory
     pub room : after ≡ before
 
@@ -109,7 +99,7 @@ module _ (loading : Loading) (policy : Policy) (limits : Bounds) (tolls : Tolls)
     pub refused : IsRefused loading policy limits tolls (memory pickles) (memory rest) extent
         refusal
     pub told : verdict ≡ verdict_of_no refusal.no.at refusal.no.reason
-        (option_map asked_shown refusal.no.pair) (before_in extent refusal.pickle)
+        (option_map asked_shown refusal.no.pair) refusal.pickle
     pub room : after ≡ names_placed (option_map asked_shown refusal.no.pair) before
 
   -- a pickle exceeds a limit on costs, at an instruction that the check accepts. A reason of

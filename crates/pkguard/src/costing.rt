@@ -2,15 +2,14 @@
 ghost use Rattle.std.specs.Prelude.{◌≡◌, ◌≢◌, ◌≤◌, Some};
 ghost use Rattle.pkcheck.specs.Import.{permit_of};
 ghost use Rattle.pkguard.specs.Loading.{IsNoOrCostly, IsUsageWith, IsYesWithBill};
-ghost use Rattle.pkguard.specs.Loading.{SetsWith, accepted_in, before_in, extent_by};
-ghost use Rattle.pkguard.specs.Loading.{nothing_billed, tolls_by};
+ghost use Rattle.pkguard.specs.Loading.{SetsWith, extent_by, nothing_billed, tolls_by};
 ghost use Rattle.pkguard.specs.Settings.{PermitsPairs, limits_by, listed_by, loading_by};
 
 use crate::costs::{self, Bill, Costs};
 use crate::settings::{self, Settings};
 use crate::verdict::{self, Verdict};
 use pkcheck::laws::halving;
-use pkcheck::{Extent, Pair, Permit, Terms};
+use pkcheck::{Pair, Permit, Terms};
 use pkload::{Tolls, check_loading};
 use pkread::Memory;
 use std::alloc::Global;
@@ -101,32 +100,9 @@ fn judged(
     match check_loading(alloc, &mut source, permit, terms, tolls) {
         Ok(Ok(billed)) => {
             *bill = costs::bill_of(&billed.tally, billed.memory);
-            let pickles = accepted_in(terms.extent, billed.yes.pickles);
-            verdict::of_yes(billed.yes.taken, &billed.yes.imports, pickles)
+            verdict::of_yes(billed.yes.taken, &billed.yes.imports, billed.yes.pickles)
         }
-        Ok(Err(refused)) => {
-            verdict::of_no(&refused.no, before_in(terms.extent, refused.pickle), room)
-        }
+        Ok(Err(refused)) => verdict::of_no(&refused.no, refused.pickle, room),
         Err(costly) => verdict::of_excess(&costly),
-    }
-}
-
-/// How many pickles were accepted, where a check says so of a row.
-fn accepted_in(extent: Extent, pickles: u64) -> u64
-    ensures { result ≡ accepted_in extent pickles }
-{
-    match extent {
-        Extent::OnePickle => 1,
-        Extent::ToTheEnd => pickles,
-    }
-}
-
-/// How many pickles were accepted before the refused one, where a check says so of a row.
-fn before_in(extent: Extent, pickle: u64) -> u64
-    ensures { result ≡ before_in extent pickle }
-{
-    match extent {
-        Extent::OnePickle => 0,
-        Extent::ToTheEnd => pickle,
     }
 }

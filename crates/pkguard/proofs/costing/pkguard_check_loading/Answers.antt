@@ -1,0 +1,9 @@
+use Rattle.std.proofs.Common.{rules}
+use Rattle.pkguard.proofs.costing.pkguard_check_loading.Goals as goal
+use Rattle.pkguard.proofs.costing.pkguard_check_loading.Goals.{in-None, in-Some}
+
+pub returns-clause-no : goal.returns-clause-no
+returns-clause-no c = elim c.match-old_strings_with.branch [
+  | in-None w ↦ search rules
+  | in-Some w ↦ search rules
+]
