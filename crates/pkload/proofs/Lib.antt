@@ -15,5 +15,6 @@ pub mod Settled
 -- the machine
 pub mod Slots
 pub mod Taking
+pub mod Lights
 -- worked rows
 mod Rows

@@ -1,7 +1,8 @@
 //! What the bill does at each opcode.
 
 ghost use Rattle.std.specs.Prelude.{◌≡◌};
-ghost use Rattle.pkload.specs.Private.Billing.{action_of};
+ghost use Rattle.pkcheck.specs.Effects.{effect_of};
+ghost use Rattle.pkload.specs.Private.Billing.{action_in, action_of};
 
 use pkcheck::effect::{Move, SliceRule, Takes};
 use pkops::Op;
@@ -13,6 +14,20 @@ pub enum Action {
     Makes(u64),
     /// Pushes a new object that is made of the argument.
     Reads,
+    /// Pushes a text in UTF-8.
+    Texts,
+    /// Takes one object, two or three, and pushes a tuple of them.
+    TiesOne,
+    TiesTwo,
+    TiesThree,
+    /// Appends the top to the list below it.
+    Appends,
+    /// Appends a slice to the list below it.
+    AppendsSlice,
+    /// Puts a key and a value into the dict below them.
+    Sets,
+    /// Puts a slice of keys and values into the dict below it.
+    SetsSlice,
     /// Takes objects and pushes a new one.
     Gives(Takes),
     /// Takes objects and leaves the first.
@@ -32,7 +47,7 @@ pub enum Action {
 }
 
 /// The action of an opcode.
-#[inline]
+#[inline(always)]
 pub fn action_of(op: Op) -> Action
     ensures { result ≡ action_of op }
 {
@@ -40,6 +55,28 @@ pub fn action_of(op: Op) -> Action
         Op::None | Op::NewTrue | Op::NewFalse | Op::BinInt1 => Action::Makes(16),
         Op::BinInt | Op::BinInt2 | Op::BinFloat => Action::Makes(48),
         Op::EmptyList | Op::EmptyDict => Action::Makes(96),
+        Op::ShortBinUnicode | Op::BinUnicode | Op::BinUnicode8 => Action::Texts,
+        Op::Tuple1 => Action::TiesOne,
+        Op::Tuple2 => Action::TiesTwo,
+        Op::Tuple3 => Action::TiesThree,
+        Op::Append => Action::Appends,
+        Op::Appends => Action::AppendsSlice,
+        Op::SetItem => Action::Sets,
+        Op::SetItems => Action::SetsSlice,
+        Op::Mark => Action::Marks,
+        Op::Get | Op::BinGet | Op::LongBinGet => Action::Fetches,
+        Op::Put | Op::BinPut | Op::LongBinPut => Action::Stores,
+        Op::Memoize => Action::StoresNext,
+        _ => rare_action_of(op),
+    }
+}
+
+/// The action of an opcode by its effect.
+#[inline]
+pub fn rare_action_of(op: Op) -> Action
+    ensures { result ≡ action_in (effect_of op) }
+{
+    match op {
         Op::Tuple1 | Op::BinPersid | Op::ReadonlyBuffer => Action::Gives(Takes::Objects(1)),
         Op::Tuple2 | Op::Reduce | Op::NewObj | Op::StackGlobal => {
             Action::Gives(Takes::Objects(2))

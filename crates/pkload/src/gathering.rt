@@ -1,17 +1,19 @@
 //! Takes operands from the stack.
 
-ghost use Rattle.std.specs.Prelude.{◌≡◌, ◌≤◌, [], List, OnOk, None};
+ghost use Rattle.std.specs.Prelude.{◌≡◌, ◌≤◌, [], List, IfOk, OnOk, None, suc};
 ghost use Rattle.pkcheck.specs.Shape.{breaks, items, slice};
 ghost use Rattle.pkload.specs.Heft.{Heft};
 ghost use Rattle.pkload.specs.Private.Billing.{HasOperands, HasReceiver, HasTaken};
+ghost use Rattle.pkload.specs.Private.Billing.{HasPairs, HasSlice};
 ghost use Rattle.pkload.specs.Private.Gathered.{AreOf, IsTallied};
 ghost use Rattle.pkload.specs.declared.keying.Keying.{Keying as Keys};
 ghost use Rattle.pkload.specs.declared.tally.Tally.{Tally as Counted};
 
 use crate::halt::Halt;
 use crate::operands::Operands;
-use crate::packed::Packed;
+use crate::packed::{LIGHT, LIGHT_SALTED, Packed};
 use crate::stack::{MARK, Stack};
+use crate::tally::Tally;
 use pkcheck::effect::{SliceRule, Takes};
 
 /// Takes one more object, which may be a key.
@@ -79,6 +81,59 @@ pub fn take_slice(stack: &mut Stack, taken: &mut Operands) -> Result<(), Halt>
         taken.add(Packed::from_code(code))?;
     }
     Err(Halt::Lost)
+}
+
+/// Takes the objects above the topmost mark, and the mark. Returns their number.
+#[inline(always)]
+pub fn drop_slice(stack: &mut Stack) -> Result<u64, Halt>
+    ensures { IfOk result (HasSlice stack.old stack.new) }
+{
+    let before = stack.len();
+    'objects: while let Some(code) = stack.pop() {
+        if code == MARK {
+            return Ok((before - stack.len() - 1) as u64);
+        }
+    }
+    Err(Halt::Lost)
+}
+
+/// Takes the keys and values above the topmost mark, and the mark, and counts the keys. Returns
+/// the number of keys and values. Most keys are small ints or short texts, which are only numbered.
+#[inline(always)]
+pub fn take_pairs(stack: &mut Stack, tally: &mut Tally) -> Result<u64, Halt>
+    ensures { IfOk result (HasPairs stack.old stack.new tally.old tally.new) }
+{
+    let before = stack.len();
+    let mut plain: u64 = 0;
+    let mut salted: u64 = 0;
+    'pairs: while let Some(code) = stack.pop() {
+        if code == MARK {
+            tally.add_lights(plain, salted)?;
+            return Ok((before - stack.len() - 1) as u64);
+        }
+        let Some(key) = stack.pop_object() else {
+            return Err(Halt::Lost);
+        };
+        if key.code() == LIGHT {
+            plain += 1;
+        } else if key.code() == LIGHT_SALTED {
+            salted += 1;
+        } else {
+            tally.add(key)?;
+        }
+    }
+    Err(Halt::Lost)
+}
+
+/// So many objects, and one more.
+#[inline(always)]
+pub fn with_receiver(count: u64) -> Result<u64, Halt>
+    ensures { IfOk result (λ all. all ≡ suc count) }
+{
+    if count == u64::MAX {
+        return Err(Halt::Lost);
+    }
+    Ok(count + 1)
 }
 
 /// Takes the receiver of a slice.

@@ -1,35 +1,32 @@
 //! The machine that keeps the bill.
 
-ghost use Rattle.std.specs.Prelude.{◌≡◌, ◌≤◌, ◌++◌, [], List, IfOk, Ok, OnOk, false};
+ghost use Rattle.std.specs.Prelude.{◌≡◌, [], IfOk, Ok, OnOk, false};
 ghost use Rattle.pkops.specs.Inst.{instruction_of};
 ghost use Rattle.pkcheck.specs.Effects.{effect_of};
 ghost use Rattle.pkcheck.specs.Reports.{Skipped};
-ghost use Rattle.pkcheck.specs.Shape.{operands, put, top};
+ghost use Rattle.pkcheck.specs.Shape.{top};
 ghost use Rattle.pkload.specs.Bill.{billed, billed_by, no_bill, stop_billed};
-ghost use Rattle.pkload.specs.Heft.{Heft, heft_of};
+ghost use Rattle.pkload.specs.Heft.{heft_of};
 ghost use Rattle.pkload.specs.Memory.{operation_memory};
-ghost use Rattle.pkload.specs.Private.Billing.{CountsKeys, heft_pushed, light, operated_on};
-ghost use Rattle.pkload.specs.Private.Billing.{by_move, pushed};
-ghost use Rattle.pkload.specs.Private.Gathered.{AreOf};
+ghost use Rattle.pkload.specs.Private.Billing.{by_move, light, pushed};
 ghost use Rattle.pkload.specs.Private.Told.{next_in, told_billed};
 
-use crate::action::{Action, action_of};
-use crate::gathering::take;
+mod operating;
+
+use crate::action::{Action, action_of, rare_action_of};
 use crate::halt::Halt;
-use crate::keying::Keying;
-use crate::making::{builds_import, made, made_plain};
+use crate::making::made_plain;
 use crate::memo::Memo;
 use crate::memory::{
-    after_move, after_operation, after_reading, after_skipped, after_stop, argument_bytes,
-    bytes_before, number_kept, plus,
+    after_move, after_reading, after_skipped, after_stop, argument_bytes, bytes_before,
+    number_kept, plus,
 };
 use crate::moves::apply;
-use crate::operands::Operands;
 use crate::packed::Packed;
 use crate::stack::Stack;
 use crate::tally::Tally;
 use pkcheck::Memo as Between;
-use pkcheck::effect::{Move, Takes};
+use pkcheck::effect::Move;
 use pkops::{Inst, Op};
 use std::alloc::Global;
 use std::marker::Model;
@@ -126,54 +123,30 @@ impl Machine {
         self.ended = false;
     }
 
-    /// Pushes a new object that weighs one and takes this much memory.
+    /// Pushes a new object that weighs one and takes this much memory. Returns false.
     #[inline(always)]
-    fn make(&mut self, more: u64) -> Result<(), Halt>
+    fn make(&mut self, more: u64) -> Result<bool, Halt>
         ensures { OnOk result (self.new ≡ pushed light more self.old) }
     {
+        self.stack.push(Packed::new(1, 0, false, false))?;
         self.memory = plus(self.memory, more)?;
-        self.stack.push(Packed::new(1, 0, false, false))
+        Ok(false)
     }
 
-    /// As `read`. It reads a copy of the instruction: passing the address of the original would
-    /// force it into memory in every step.
-    #[inline(always)]
-    fn read_copy(&mut self, inst: &Inst<'_>) -> Result<(), Halt>
-        ensures { OnOk result (self.new ≡ pushed (heft_of (instruction_of inst.now) [])
-            (operation_memory (instruction_of inst.now) 0) self.old) }
-    {
-        let copy = Inst::known(inst.op(), inst.arg());
-        self.read(&copy)
-    }
-
-    /// Pushes a new object that is made of the argument.
-    #[inline(never)]
-    fn read(&mut self, inst: &Inst<'_>) -> Result<(), Halt>
+    /// Pushes a new object that is made of the argument. Returns false.
+    fn read(&mut self, inst: &Inst<'_>) -> Result<bool, Halt>
         ensures { OnOk result (self.new ≡ pushed (heft_of (instruction_of inst.now) [])
             (operation_memory (instruction_of inst.now) 0) self.old) }
     {
         let op = inst.op();
         let bytes = argument_bytes(inst);
         self.memory = after_reading(op, bytes, self.memory)?;
-        self.stack.push(made_plain(op, bytes.len() as u64))
+        self.stack.push(made_plain(op, bytes.len() as u64))?;
+        Ok(false)
     }
 
-    /// Executes an operation on objects.
-    #[inline(never)]
-    fn operate(&mut self, op: Op, takes: Takes, leaves: bool) -> Result<(), Halt>
-        ensures { OnOk result (CountsKeys op takes → operated_on leaves op self.old
-            (operands takes self.old.shape.entries) ≡ Ok self.new) }
-    {
-        let mut taken = Operands::none(Keying::of(op), self.tally);
-        take(&mut self.stack, takes, &mut taken)?;
-        self.memory = after_operation(op, taken.count, self.memory)?;
-        self.tally = taken.tally.building(builds_import(op, &taken));
-        push_result(&mut self.stack, op, leaves, &taken)
-    }
-
-    /// Takes the result.
-    #[inline(never)]
-    fn finish(&mut self) -> Result<(), Halt>
+    /// Takes the result. Returns false.
+    fn finish(&mut self) -> Result<bool, Halt>
         ensures tally { OnOk result (self.new.tally ≡ self.old.tally) }
         ensures billed { OnOk result (stop_billed self.old (top self.old.shape.entries)
             ≡ Ok self.new) }
@@ -183,32 +156,23 @@ impl Machine {
         };
         self.memory = after_stop(self.memory)?;
         self.ended = true;
-        Ok(())
+        Ok(false)
     }
 
-    /// Executes a move.
+    /// Executes a move. Returns false.
     #[inline(always)]
-    fn go(&mut self, what: Move, inst: &Inst<'_>) -> Result<(), Halt>
+    fn go(&mut self, what: Move, inst: &Inst<'_>) -> Result<bool, Halt>
         ensures billed { OnOk result (by_move what (instruction_of inst.now) self.old
             ≡ Ok self.new) }
         ensures tally { OnOk result (self.new.tally ≡ self.old.tally) }
     {
         let number = inst.memo_number().unwrap_or(0);
         let kept = number_kept(what, number, &self.memo)?;
+        apply(&mut self.stack, &mut self.memo, what, number)?;
         let highest = kept.max(self.highest);
         self.memory = after_move(what, highest - self.highest, self.memory)?;
         self.highest = highest;
-        apply(&mut self.stack, &mut self.memo, what, number)
-    }
-
-    /// As `go`, out of line, for moves that are rare.
-    #[inline(never)]
-    fn go_slowly(&mut self, what: Move, inst: &Inst<'_>) -> Result<(), Halt>
-        ensures billed { OnOk result (by_move what (instruction_of inst.now) self.old
-            ≡ Ok self.new) }
-        ensures tally { OnOk result (self.new.tally ≡ self.old.tally) }
-    {
-        self.go(what, inst)
+        Ok(false)
     }
 
     /// Bills an instruction with this opcode and so many bytes, whose payload is skipped.
@@ -238,6 +202,10 @@ impl Machine {
     }
 
     /// Does what the opcode says. Returns whether it may have counted keys.
+    ///
+    /// What is rare is out of line, and so are most operations: in a function that would grow large
+    /// the compiler inlines nothing. It takes a copy of the instruction, since passing the address
+    /// of the original would force that into memory in every step.
     #[inline(always)]
     fn act(&mut self, inst: &Inst<'_>) -> Result<bool, Halt>
         ensures billed { OnOk result (billed_by (effect_of (instruction_of inst.now).op)
@@ -246,42 +214,41 @@ impl Machine {
             → self.new.tally ≡ self.old.tally) }
     {
         match action_of(inst.op()) {
-            Action::Makes(more) => self.make(more)?,
-            Action::Fetches => self.go(Move::Fetches, inst)?,
-            Action::StoresNext => self.go(Move::StoresNext, inst)?,
-            Action::Stores => self.go(Move::Stores, inst)?,
-            Action::Marks => self.go(Move::PushesMark, inst)?,
-            Action::Gives(takes) => {
-                self.operate(inst.op(), takes, false)?;
-                return Ok(true);
-            }
-            Action::Leaves(takes) => {
-                self.operate(inst.op(), takes, true)?;
-                return Ok(true);
-            }
-            Action::Reads => self.read_copy(inst)?,
-            Action::Moves(what) => {
+            Action::Makes(more) => self.make(more),
+            Action::Fetches => self.go(Move::Fetches, inst),
+            Action::StoresNext => self.go(Move::StoresNext, inst),
+            Action::Stores => self.go(Move::Stores, inst),
+            Action::Marks => self.go(Move::PushesMark, inst),
+            Action::Texts => self.read_text(argument_bytes(inst)),
+            Action::TiesOne => self.tie_one(),
+            Action::TiesTwo => self.tie_two(),
+            Action::TiesThree => self.tie_three(),
+            Action::Appends => self.append(),
+            Action::AppendsSlice => self.append_slice(),
+            Action::Sets => self.set(),
+            Action::SetsSlice => self.set_slice(),
+            _ => {
                 let copy = Inst::known(inst.op(), inst.arg());
-                self.go_slowly(what, &copy)?
+                self.act_rarely(&copy)
             }
-            Action::Stops => self.finish()?,
         }
-        Ok(false)
     }
-}
 
-/// Pushes what an operation on objects leaves: its receiver, or a new object.
-#[inline]
-fn push_result(stack: &mut Stack, op: Op, leaves: bool, taken: &Operands) -> Result<(), Halt>
-    requires { taken.now.weights ≤ 1_048_575 }
-    ensures { OnOk result ((hefts : List Heft) → AreOf hefts taken.now
-        → stack.new ≡ put (heft_pushed leaves op hefts) hefts ++ stack.old) }
-{
-    if !leaves {
-        return stack.push(made(op, taken));
+    /// Does what a rare opcode says. Returns whether it may have counted keys.
+    #[inline(never)]
+    fn act_rarely(&mut self, inst: &Inst<'_>) -> Result<bool, Halt>
+        ensures billed { OnOk result (billed_by (effect_of (instruction_of inst.now).op)
+            (instruction_of inst.now) self.old ≡ Ok self.new) }
+        ensures counted { IfOk result (λ counted. counted ≡ false
+            → self.new.tally ≡ self.old.tally) }
+    {
+        match rare_action_of(inst.op()) {
+            Action::Gives(takes) => self.operate(inst.op(), takes, false),
+            Action::Leaves(takes) => self.operate(inst.op(), takes, true),
+            Action::Reads => self.read(inst),
+            Action::Moves(what) => self.go(what, inst),
+            Action::Stops => self.finish(),
+            _ => Err(Halt::Lost),
+        }
     }
-    if taken.is_empty {
-        return Ok(());
-    }
-    stack.push(taken.first)
 }

@@ -1,6 +1,6 @@
 //! What an operation makes of its operands.
 
-ghost use Rattle.std.specs.Prelude.{◌≡◌, ◌≤◌, [], List};
+ghost use Rattle.std.specs.Prelude.{◌≡◌, ◌+◌, ◌/◌, ◌≤◌, [], List, false, min, true};
 ghost use Rattle.pkload.specs.Heft.{Heft, answers_other, heft_made, holds_operands};
 ghost use Rattle.pkload.specs.Heft.{imports_object, makes_long, makes_salted, makes_string};
 ghost use Rattle.pkload.specs.Heft.{makes_tuple, payload_weight};
@@ -111,6 +111,37 @@ pub fn made(op: Op, taken: &Operands) -> Packed
     };
     let weight = weight_of(op, taken);
     Packed::new(weight, depth, makes_salted(op), imports_object(op))
+}
+
+/// What a text of so many bytes costs.
+#[inline(always)]
+pub fn made_text(size: u64) -> Packed
+    ensures { result ≡ record {
+      weight = min 1_048_575 (1 + size / 64);
+      depth = 0;
+      salted = true;
+      imported = false;
+    } }
+{
+    let own = (size / 64).min(1_048_574) as u32;
+    Packed::new(1 + own, 0, true, false)
+}
+
+/// What a tuple costs whose items together weigh this much, and the deepest of them is this deep.
+#[inline(always)]
+pub fn tied(held: u32, deepest: u32) -> Packed
+    requires held { held ≤ 4_194_304 }
+    requires deepest { deepest ≤ 1_023 }
+    ensures { result ≡ record {
+      weight = min 1_048_575 (1 + held);
+      depth = min 1_023 (1 + deepest);
+      salted = false;
+      imported = false;
+    } }
+{
+    let weight = (1 + held).min(1_048_575);
+    let depth = (1 + deepest).min(1_023);
+    Packed::new(weight, depth, false, false)
 }
 
 /// What the object of an instruction without operands costs.

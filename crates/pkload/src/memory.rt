@@ -2,7 +2,7 @@
 
 ghost use Rattle.std.specs.Char.{is_ascii};
 ghost use Rattle.std.specs.List.{filter, list_all};
-ghost use Rattle.std.specs.Prelude.{◌≡◌, ◌+◌, ◌≤◌, IfOk, List, length, ltb};
+ghost use Rattle.std.specs.Prelude.{◌≡◌, ◌+◌, ◌*◌, ◌≤◌, IfOk, List, length, ltb};
 ghost use Rattle.pkops.specs.Inst.{instruction_of};
 ghost use Rattle.pkcheck.specs.Shape.{Entry};
 ghost use Rattle.pkload.specs.Heft.{Heft};
@@ -40,6 +40,7 @@ fn are_below(bytes: &[u8], limit: u8) -> bool
 }
 
 /// Whether all bytes are ASCII.
+#[inline(always)]
 fn are_ascii(bytes: &[u8]) -> bool
     ensures { result ≡ list_all is_ascii bytes.now }
 {
@@ -72,6 +73,7 @@ fn character_width(bytes: &[u8]) -> u64
 }
 
 /// The memory of a text in UTF-8.
+#[inline(always)]
 fn text_memory(bytes: &[u8]) -> u64
     requires { length bytes.now ≤ 1_125_899_906_842_624 }
     ensures value { result ≡ text_memory bytes.now }
@@ -80,6 +82,17 @@ fn text_memory(bytes: &[u8]) -> u64
     if are_ascii(bytes) {
         return 64 + bytes.len() as u64;
     }
+    wide_memory(bytes)
+}
+
+/// The memory of a text in UTF-8 that isn't ASCII.
+#[inline(never)]
+fn wide_memory(bytes: &[u8]) -> u64
+    requires { length bytes.now ≤ 1_125_899_906_842_624 }
+    ensures value { result ≡ 88 + character_width bytes.now * length (filter begins_character
+        bytes.now) }
+    ensures small { result ≤ 9_007_199_254_740_992 }
+{
     88 + character_width(bytes) * characters(bytes) as u64
 }
 
@@ -198,6 +211,17 @@ pub fn after_reading(op: Op, bytes: &[u8], memory: u64) -> Result<u64, Halt>
     let held = held_memory(op, 0);
     let written = written_memory(op, bytes);
     plus(memory, 16 + (own + (held + written)))
+}
+
+/// The memory after an instruction that makes a text of these bytes.
+#[inline(always)]
+pub fn after_text(bytes: &[u8], memory: u64) -> Result<u64, Halt>
+    ensures { IfOk result (λ sum. sum ≡ memory + (16 + text_memory bytes.now)) }
+{
+    if bytes.len() as u64 > MOST {
+        return Err(Halt::Lost);
+    }
+    plus(memory, 16 + text_memory(bytes))
 }
 
 /// The memory after STOP.

@@ -1,6 +1,6 @@
 //! The audience that keeps the bill.
 
-ghost use Rattle.std.specs.Prelude.{◌≡◌, MatchOption, None};
+ghost use Rattle.std.specs.Prelude.{◌≡◌, ◌≤◌, IsTrue, MatchOption, None, Ok, false};
 ghost use Rattle.pkload.specs.Bill.{no_bill};
 ghost use Rattle.pkload.specs.Private.Meter.{IsExcessBy, IsUnlimited, IsWithinBy};
 ghost use Rattle.pkload.specs.Tolls.{unlimited};
@@ -111,8 +111,20 @@ impl Meter {
     }
 }
 
-/// The first limit that the bill exceeds. Without keys counted it can only be the memory's.
+/// Whether no key was counted and the memory is within its limit, as after most instructions.
 #[inline(always)]
+fn is_within(tolls: &Tolls, metering: &Metering, counted: Result<bool, Halt>) -> bool
+    ensures { IsTrue result → (counted ≡ Ok false)
+        × (metering.now.bill.memory ≤ tolls.now.memory) }
+{
+    match counted {
+        Ok(false) => metering.memory() <= tolls.memory,
+        _ => false,
+    }
+}
+
+/// The first limit that the bill exceeds. Without keys counted it can only be the memory's.
+#[inline(never)]
 fn excess_of(tolls: &Tolls, metering: &Metering, counted: Result<bool, Halt>) -> Option<Excess>
     ensures excess { MatchOption result (IsWithinBy counted tolls.now metering.now)
         (λ excess. IsExcessBy counted excess tolls.now metering.now) }
@@ -147,8 +159,11 @@ impl Audience for Meter {
         if let Some(excess) = self.excess {
             return Err(excess);
         }
-        self.at = at;
         let counted = self.metering.bill(self.memo, inst);
+        if is_within(&self.tolls, &self.metering, counted) {
+            return Ok(());
+        }
+        self.at = at;
         self.excess = excess_of(&self.tolls, &self.metering, counted);
         Ok(())
     }

@@ -11,6 +11,12 @@ pub struct Packed {
     code: u32,
 }
 
+/// The code of an object that weighs one, with an unsalted hash, such as a small int.
+pub const LIGHT: u32 = 4096;
+
+/// The code of an object that weighs one, with a salted hash, such as a short text.
+pub const LIGHT_SALTED: u32 = 4097;
+
 impl Model for Packed {
     ghost use Rattle.std.proofs.Common.{ap};
     ghost use Rattle.pkload.specs.Private.Packed.{packed, packed_unpacked, unpacked};

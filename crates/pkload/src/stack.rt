@@ -1,6 +1,6 @@
 //! The stack: marks, and what objects cost.
 
-ghost use Rattle.std.specs.Prelude.{◌≡◌, [], ◌∷◌, List, IfSome, MatchOption, OnOk};
+ghost use Rattle.std.specs.Prelude.{◌≡◌, [], ◌∷◌, List, length, IfSome, MatchOption, OnOk};
 ghost use Rattle.pkcheck.specs.Shape.{Entry, Item, Mark};
 ghost use Rattle.pkload.specs.Heft.{Heft};
 ghost use Rattle.pkload.specs.Private.Shown.{entry_of};
@@ -44,6 +44,14 @@ impl Stack {
         Stack {
             codes: Pile::new(alloc),
         }
+    }
+
+    /// The number of entries.
+    #[inline(always)]
+    pub fn len(&self) -> usize
+        ensures { result ≡ length self.now }
+    {
+        self.codes.len()
     }
 
     /// Removes all entries.
@@ -108,6 +116,21 @@ impl Stack {
             return None;
         }
         Some(Packed::from_code(code))
+    }
+
+    /// Puts an object in place of the topmost entry.
+    #[inline(always)]
+    pub fn replace(&mut self, heft: Packed) -> Result<(), Halt>
+        ensures { OnOk result ((entry : Entry Heft) (below : List (Entry Heft))
+            → self.old ≡ entry ∷ below → self.new ≡ Item heft ∷ below) }
+    {
+        let code = heft.code();
+        let count = self.codes.len();
+        if code == MARK || count == 0 {
+            return Err(Halt::Lost);
+        }
+        self.codes.set(count - 1, code);
+        Ok(())
     }
 
     /// Removes the topmost entry, which must be an object.

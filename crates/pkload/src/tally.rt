@@ -1,9 +1,11 @@
 //! What the keys of a pickle cost together.
 
 ghost use Rattle.std.specs.Prelude.{◌≡◌, ◌+◌, IfOk, OnOk};
+ghost use Rattle.pkload.specs.Private.Gathered.{with_lights};
 ghost use Rattle.pkload.specs.Tally.{building, no_tally, with_key};
 
 use crate::halt::Halt;
+use crate::memory;
 use crate::packed::Packed;
 
 /// What the keys of dicts and the items of sets cost, and whether BUILD takes an imported object.
@@ -47,7 +49,7 @@ impl Tally {
     }
 
     /// Counts one more key.
-    #[inline]
+    #[inline(always)]
     pub(crate) fn add(&mut self, key: Packed) -> Result<(), Halt>
         ensures { OnOk result (self.new ≡ with_key self.old key) }
     {
@@ -57,6 +59,18 @@ impl Tally {
         self.clash = plus(self.clash, clash)?;
         self.levels = self.levels.max(key.depth());
         self.weight = self.weight.max(weight);
+        Ok(())
+    }
+
+    /// Counts keys that weigh one, so many with an unsalted hash and so many with a salted one.
+    #[inline]
+    pub(crate) fn add_lights(&mut self, plain: u64, salted: u64) -> Result<(), Halt>
+        ensures { OnOk result (self.new ≡ with_lights plain salted self.old) }
+    {
+        let all = memory::plus(plain, salted)?;
+        self.work = memory::plus(self.work, all)?;
+        self.clash = memory::plus(self.clash, plain)?;
+        self.weight = self.weight.max(if all > 0 { 1 } else { 0 });
         Ok(())
     }
 }

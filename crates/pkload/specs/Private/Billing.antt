@@ -1,6 +1,6 @@
 -- What the machine does at an opcode.
-use Rattle.std.specs.Prelude.{◌≡◌, ◌+◌, ℕ, Bool, true, false, List, ◌∷◌, ◌++◌, length, Option}
-use Rattle.std.specs.Prelude.{Some, None, Result, Ok, zero}
+use Rattle.std.specs.Prelude.{◌≡◌, ◌+◌, ◌/◌, ◌∷◌, ◌++◌, ℕ, Bool, true, false, List, [], length}
+use Rattle.std.specs.Prelude.{min, Option, Some, None, Result, Ok, zero}
 use Rattle.pkops.specs.declared.Op.{Op}
 use Rattle.pkops.specs.declared.Op.TheVariants as op
 use Rattle.pkops.specs.Operands.{memo_number}
@@ -11,11 +11,12 @@ use Rattle.pkcheck.specs.declared.effect.Move.TheVariants.{PushesMark, Stores, S
 use Rattle.pkcheck.specs.declared.effect.Takes.{Takes}
 use Rattle.pkcheck.specs.declared.effect.Takes.TheVariants.{Objects}
 use Rattle.pkcheck.specs.Effects.{Effect, Operates, Moves, Stops, Raises, effect_of}
-use Rattle.pkcheck.specs.Shape.{Breach, Entry, Item, Taken, and_then, moved, operands, put}
+use Rattle.pkcheck.specs.Shape.{Breach, Entry, Item, Taken, and_then, is_even, moved, operands}
+use Rattle.pkcheck.specs.Shape.{put, slice}
 use Rattle.pkload.specs.Bill.{Bill, move_billed}
-use Rattle.pkload.specs.Heft.{Heft, heft_made}
+use Rattle.pkload.specs.Heft.{Heft, heft_made, most_weight}
 use Rattle.pkload.specs.Memory.{held_memory, number_kept, plain_memory, written_memory}
-use Rattle.pkload.specs.Keys.{keys_of}
+use Rattle.pkload.specs.Keys.{every_other, keys_of}
 use Rattle.pkload.specs.Private.Gathered.{AreOf, IsTallied, Obeys, keying_of, keys_taken}
 use Rattle.pkload.specs.Tally.{with_keys, with_operation}
 use Rattle.pkload.specs.declared.action.Action.{Action}
@@ -42,7 +43,9 @@ action_in (Moves move) = action.Moves move
 action_in Stops = action.Stops
 action_in Raises = action.Stops
 
--- the action of an opcode: objects that weigh one, have no argument and cost this much memory
+-- the action of an opcode. The most frequent have actions of their own: objects that weigh one,
+-- have no argument and cost this much memory, texts, tuples of few items, and what fills lists and
+-- dicts
 abbrev pub action_of : Op → Action
 action_of op.None = action.Makes 16
 action_of op.NewTrue = action.Makes 16
@@ -53,6 +56,16 @@ action_of op.BinInt2 = action.Makes 48
 action_of op.BinFloat = action.Makes 48
 action_of op.EmptyList = action.Makes 96
 action_of op.EmptyDict = action.Makes 96
+action_of op.ShortBinUnicode = action.Texts
+action_of op.BinUnicode = action.Texts
+action_of op.BinUnicode8 = action.Texts
+action_of op.Tuple1 = action.TiesOne
+action_of op.Tuple2 = action.TiesTwo
+action_of op.Tuple3 = action.TiesThree
+action_of op.Append = action.Appends
+action_of op.Appends = action.AppendsSlice
+action_of op.SetItem = action.Sets
+action_of op.SetItems = action.SetsSlice
 action_of o = action_in (effect_of o)
 
 -- the bill after a new object is pushed
@@ -68,6 +81,15 @@ pushed heft more bill = record {
 -- an object that weighs one
 abbrev pub light : Heft
 light = record { weight = 1; depth = 0; salted = false; imported = false }
+
+-- a text of these bytes
+abbrev pub text_heft : List ℕ → Heft
+text_heft bytes = record {
+  weight = min most_weight (1 + length bytes / 64);
+  depth = 0;
+  salted = true;
+  imported = false;
+}
 
 -- the object that an operation on objects pushes; None if it leaves its receiver
 abbrev pub heft_pushed : Bool → Op → List Heft → Option Heft
@@ -124,6 +146,22 @@ pub record HasOperands (keying : Keying) (tally : Tally) (takes : Takes)
   pub of : AreOf hefts o
   pub obeys : Obeys takes hefts
   pub tally_is : o.tally ≡ with_keys tally (keys_taken keying takes hefts)
+
+-- the slice was found, with these entries below it and so many objects in it
+pub record HasSlice (entries below : List (Entry Heft)) (count : ℕ) : Type 0 where
+  pub hefts : List Heft
+  pub is : slice entries [] ≡ Ok (record { operands = hefts; below = below })
+  pub count_is : length hefts ≡ count
+
+-- the slice was found, with these entries below it and so many keys and values in it, and the keys
+-- were counted
+pub record HasPairs (entries below : List (Entry Heft)) (tally counted : Tally) (count : ℕ)
+    : Type 0 where
+  pub hefts : List Heft
+  pub is : slice entries [] ≡ Ok (record { operands = hefts; below = below })
+  pub count_is : length hefts ≡ count
+  pub even : is_even hefts ≡ true
+  pub counted_is : counted ≡ with_keys tally (every_other hefts)
 
 -- the receiver was found, and this was gathered of all
 pub record HasReceiver (found : Result (Taken Heft) Breach) (below : List (Entry Heft))

@@ -1,5 +1,5 @@
 -- What is gathered of operands, from the top down.
-use Rattle.std.specs.Prelude.{◌≡◌, min, List, [], ◌∷◌, length, Bool, true, false, not}
+use Rattle.std.specs.Prelude.{◌≡◌, ◌+◌, ℕ, max, min, List, [], ◌∷◌, length, Bool, true, false, not}
 use Rattle.std.specs.Prelude.{if◌then◌else◌, None}
 use Rattle.pkcheck.specs.Shape.{breaks, is_even}
 use Rattle.pkcheck.specs.declared.effect.Takes.{Takes}
@@ -45,6 +45,14 @@ keys_in Pairs hefts =
 abbrev pub keys_taken : Keying → Takes → List Heft → List Heft
 keys_taken keying (SliceAndReceiver rule) hefts = keys_in keying (behind_first hefts)
 keys_taken keying takes hefts = keys_in keying hefts
+
+-- the tally with so many keys that weigh one, with an unsalted hash or a salted one
+abbrev pub with_lights : ℕ → ℕ → Tally → Tally
+with_lights plain salted tally = record tally {
+  weight = max tally.weight (min 1 (plain + salted));
+  work = tally.work + (plain + salted);
+  clash = tally.clash + plain;
+}
 
 -- the operands are as many as the operation takes, or obey its rule
 abbrev pub Obeys : Takes → List Heft → Type 0
