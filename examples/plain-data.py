@@ -61,6 +61,8 @@ def around(number: int) -> List[int]:
     return [number - 1, number, number + 1]
 
 
+LONG = '"' + "a" * 65_000  # a text with an escape that several pieces of output have parts of
+
 WORDS = [
     0,
     1,
@@ -110,6 +112,7 @@ PLAIN: List[object] = [
     ["text"] * 300,
     "x" * 300,
     "\u20ac" * 10_000,
+    {LONG: [LONG, LONG, *[None] * 30_000]},
     [
         {
             "id": i,

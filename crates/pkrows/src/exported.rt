@@ -3,7 +3,6 @@
 use pkjson::{ExportError, export, export_text, export_to};
 use pkops::{Limits, Op};
 use pkread::{Reason, Refusal};
-use std::alloc::Global;
 use std::test::Fail;
 
 const VALUES: [(&[u8], &str); 12] = [
@@ -47,17 +46,6 @@ const REFUSED: [(&[u8], ExportError); 8] = [
     ),
 ];
 
-/// A first byte, the others repeated, and STOP.
-fn repeated(alloc: Global, first: u8, others: &[u8], count: usize) -> Result<Vec<u8>, Fail> {
-    let mut bytes = Vec::new(alloc);
-    bytes.push(first)?;
-    for _ in 0..count {
-        bytes.extend_from_slice(others)?;
-    }
-    bytes.push(b'.')?;
-    Ok(bytes)
-}
-
 #[test]
 fn values(rt: HostRuntime) -> Result<(), Fail> {
     for (bytes, wanted) in VALUES {
@@ -87,77 +75,5 @@ fn refusals(rt: HostRuntime) -> Result<(), Fail> {
         }
         assert!(rt; out.is_empty());
     }
-    Ok(())
-}
-
-/// Appends a text some times.
-fn add(to: &mut Vec<u8>, text: &[u8], times: usize) -> Result<(), Fail> {
-    for _ in 0..times {
-        to.extend_from_slice(text)?;
-    }
-    Ok(())
-}
-
-/// A text of 70,001 characters as a key and as two items of its list, which has 30,000 others. Its
-/// first character is escaped in JSON.
-#[test]
-fn pieces(rt: HostRuntime) -> Result<(), Fail> {
-    let mut pickle = Vec::new(rt.alloc());
-    add(&mut pickle, b"X\x71\x11\x01\0\"", 1)?;
-    add(&mut pickle, b"a", 70_000)?;
-    add(&mut pickle, b"q\x000}h\0](h\0h\0", 1)?;
-    add(&mut pickle, b"N", 30_000)?;
-    add(&mut pickle, b"es.", 1)?;
-    let mut text = Vec::new(rt.alloc());
-    add(&mut text, b"\"\\\"", 1)?;
-    add(&mut text, b"a", 70_000)?;
-    add(&mut text, b"\"", 1)?;
-    let mut wanted = Vec::new(rt.alloc());
-    for before in ["{", ":[", ","] {
-        add(&mut wanted, before.as_bytes(), 1)?;
-        add(&mut wanted, &text, 1)?;
-    }
-    add(&mut wanted, b",null", 30_000)?;
-    add(&mut wanted, b"]}", 1)?;
-    let mut out = Vec::new(rt.alloc());
-    export_to(rt.alloc(), &pickle, &Limits::STANDARD, &mut out)??;
-    assert!(rt; out == wanted);
-    Ok(())
-}
-
-#[test]
-fn depth(rt: HostRuntime) -> Result<(), Fail> {
-    let deep = repeated(rt.alloc(), b')', b"\x85", 99)?;
-    let value = export(rt.alloc(), &deep, &Limits::STANDARD)?;
-    let text = value.to_string(rt.alloc())?;
-    let mut wanted = Vec::new(rt.alloc());
-    wanted.resize(100, b'[')?;
-    wanted.resize(200, b']')?;
-    assert_eq!(rt; text.as_bytes(), wanted.as_slice());
-    let deeper = repeated(rt.alloc(), b')', b"\x85", 100)?;
-    match export(rt.alloc(), &deeper, &Limits::STANDARD) {
-        Ok(_) => panic!(rt; "a value"),
-        Err(error) => assert_eq!(rt; error, ExportError::TooDeep),
-    }
-    Ok(())
-}
-
-#[test]
-fn sizes(rt: HostRuntime) -> Result<(), Fail> {
-    for (count, wanted) in [
-        (19, ExportError::TooMany),
-        (99, ExportError::TooMany),
-        (100, ExportError::TooDeep),
-    ] {
-        let bytes = repeated(rt.alloc(), b')', b"2\x86", count)?;
-        match export(rt.alloc(), &bytes, &Limits::STANDARD) {
-            Ok(_) => panic!(rt; "a value"),
-            Err(error) => assert_eq!(rt; error, wanted),
-        }
-    }
-    let bytes = repeated(rt.alloc(), b')', b"2\x86", 18)?;
-    let value = export(rt.alloc(), &bytes, &Limits::STANDARD)?;
-    let text = value.to_string(rt.alloc())?;
-    assert_eq!(rt; text.len(), 1_310_717);
     Ok(())
 }
