@@ -61,8 +61,6 @@ def around(number: int) -> List[int]:
     return [number - 1, number, number + 1]
 
 
-LONG = '"' + "a" * 65_000  # a text with an escape that several pieces of output have parts of
-
 WORDS = [
     0,
     1,
@@ -112,7 +110,6 @@ PLAIN: List[object] = [
     ["text"] * 300,
     "x" * 300,
     "\u20ac" * 10_000,
-    {LONG: [LONG, LONG, *[None] * 30_000]},
     [
         {
             "id": i,
@@ -146,8 +143,16 @@ NOT_PLAIN: List[Tuple[object, str, Optional[Set[str]]]] = [
 ]
 
 
-# Pickles as bytes: the greatest depth and one more, and the most values by doubling and more.
+LONG = '"' + "a" * 70_000  # longer than the pieces in which the text is written
+
+# Pickles as bytes: the greatest depth and one more, the most values by doubling and more, and a long
+# text as a key and as two items of its list.
 ROWS = [
+    (
+        b"X\x71\x11\x01\0%bq\x000}h\0](h\0h\0%bes." % (LONG.encode(), b"N" * 30_000),
+        0,
+        json.dumps({LONG: [LONG, LONG, *[None] * 30_000]}, separators=(",", ":")),
+    ),
     (b")" + b"\x85" * 99 + b".", 0, "[" * 100 + "]" * 100),
     (b")" + b"\x85" * 100 + b".", 1, "no: TooDeep"),
     (b")" + b"2\x86" * 18 + b".", 0, json.dumps(doubled(18), separators=(",", ":"))),
