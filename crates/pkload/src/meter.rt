@@ -1,11 +1,10 @@
 //! The audience that keeps the bill.
 
-ghost use Rattle.std.specs.Prelude.{◌≡◌, ◌≤◌, IsTrue, MatchOption, None, Ok, false};
+ghost use Rattle.std.specs.Prelude.{◌≡◌, IfErr, MatchOption, None, OnOk, Some, false, ltb};
 ghost use Rattle.pkload.specs.Bill.{no_bill};
-ghost use Rattle.pkload.specs.Private.Meter.{IsExcessBy, IsUnlimited, IsWithinBy};
-ghost use Rattle.pkload.specs.Tolls.{unlimited};
+ghost use Rattle.pkload.specs.Private.Meter.{Fits, IsUnlimited};
+ghost use Rattle.pkload.specs.Tolls.{Exceeds, unlimited};
 
-use crate::halt::Halt;
 use crate::metering::Metering;
 use crate::tally::Tally;
 use crate::tolls::{Excess, Tolls};
@@ -82,6 +81,21 @@ impl Meter {
         self.excess
     }
 
+    /// The first limit that was exceeded, as an error. It is out of line: otherwise the compiler
+    /// keeps for each instruction whether there is one.
+    #[inline(never)]
+    fn stop(&self) -> Result<(), Excess>
+        ensures ok { OnOk result (self.now.excess ≡ None) }
+        ensures err { IfErr result (λ excess. self.now.excess ≡ Some excess) }
+        ensures unlimited { self.now.tolls ≡ unlimited
+            → IfErr result (λ excess. excess ≡ Excess.OutOfMemory) }
+    {
+        match self.excess {
+            Some(excess) => Err(excess),
+            None => Ok(()),
+        }
+    }
+
     /// The number of the pickle that the instruction is in.
     pub fn pickle(&self) -> u64
         ensures { result ≡ self.now.metering.pickle }
@@ -103,7 +117,7 @@ impl Meter {
         self.metering.memory()
     }
 
-    /// The offset of the instruction that was told last, or that exceeded a limit.
+    /// The offset of the instruction that exceeded a limit, if one did.
     pub fn at(&self) -> u64
         ensures { result ≡ self.now.at }
     {
@@ -111,30 +125,23 @@ impl Meter {
     }
 }
 
-/// Whether no key was counted and the memory is within its limit, as after most instructions.
-#[inline(always)]
-fn is_within(tolls: &Tolls, metering: &Metering, counted: Result<bool, Halt>) -> bool
-    ensures { IsTrue result → (counted ≡ Ok false)
-        × (metering.now.bill.memory ≤ tolls.now.memory) }
+/// The first limit that the bill exceeds.
+#[inline(never)]
+fn excess_of_keys(tolls: &Tolls, metering: &Metering) -> Option<Excess>
+    ensures excess { MatchOption result (Fits tolls.now metering.now) (λ excess. Exceeds excess
+        tolls.now metering.now.bill.tally metering.now.bill.memory) }
+    ensures unlimited { tolls.now ≡ unlimited → result ≡ None }
 {
-    match counted {
-        Ok(false) => metering.memory() <= tolls.memory,
-        _ => false,
-    }
+    tolls.excess_of(&metering.tally(), metering.memory())
 }
 
-/// The first limit that the bill exceeds. Without keys counted it can only be the memory's.
-#[inline(never)]
-fn excess_of(tolls: &Tolls, metering: &Metering, counted: Result<bool, Halt>) -> Option<Excess>
-    ensures excess { MatchOption result (IsWithinBy counted tolls.now metering.now)
-        (λ excess. IsExcessBy counted excess tolls.now metering.now) }
-    ensures unlimited { tolls.now ≡ unlimited → IsUnlimited result }
+/// Whether the memory exceeds its limit. It is all that can do so if no key was counted.
+#[inline(always)]
+fn takes_too_much(tolls: &Tolls, metering: &Metering) -> bool
+    ensures value { result ≡ ltb tolls.now.memory metering.now.bill.memory }
+    ensures unlimited { tolls.now ≡ unlimited → result ≡ false }
 {
-    match counted {
-        Ok(false) => tolls.excess_of_memory(metering.memory()),
-        Ok(true) => tolls.excess_of(&metering.tally(), metering.memory()),
-        Err(_) => Some(Excess::OutOfMemory),
-    }
+    metering.memory() > tolls.memory
 }
 
 impl Audience for Meter {
@@ -156,25 +163,39 @@ impl Audience for Meter {
 
     #[inline(always)]
     fn tell(&mut self, at: u64, inst: &Inst<'_>, _marks: usize) -> Result<(), Excess> {
-        if let Some(excess) = self.excess {
-            return Err(excess);
+        if let Some(_) = self.excess {
+            return self.stop();
         }
-        let counted = self.metering.bill(self.memo, inst);
-        if is_within(&self.tolls, &self.metering, counted) {
+        let Ok(counted) = self.metering.bill(self.memo, inst) else {
+            self.at = at;
+            self.excess = Some(Excess::OutOfMemory);
+            return Ok(());
+        };
+        if counted {
+            self.at = at;
+            self.excess = excess_of_keys(&self.tolls, &self.metering);
             return Ok(());
         }
-        self.at = at;
-        self.excess = excess_of(&self.tolls, &self.metering, counted);
+        if takes_too_much(&self.tolls, &self.metering) {
+            self.at = at;
+            self.excess = Some(Excess::MuchMemory);
+        }
         Ok(())
     }
 
     fn tell_skipped(&mut self, at: u64, op: Op, length: u64, _marks: usize) -> Result<(), Excess> {
-        if let Some(excess) = self.excess {
-            return Err(excess);
+        if let Some(_) = self.excess {
+            return self.stop();
         }
-        self.at = at;
-        let counted = self.metering.bill_skipped(self.memo, op, length);
-        self.excess = excess_of(&self.tolls, &self.metering, counted);
+        let Ok(()) = self.metering.bill_skipped(self.memo, op, length) else {
+            self.at = at;
+            self.excess = Some(Excess::OutOfMemory);
+            return Ok(());
+        };
+        if takes_too_much(&self.tolls, &self.metering) {
+            self.at = at;
+            self.excess = Some(Excess::MuchMemory);
+        }
         Ok(())
     }
 

@@ -107,15 +107,13 @@ impl Metering {
         self.machine.step(inst)
     }
 
-    /// Bills an instruction whose payload is skipped. Returns false, since it counts no key.
-    pub fn bill_skipped(&mut self, memo: Memo, op: Op, count: u64) -> Result<bool, Halt>
+    /// Bills an instruction whose payload is skipped, which counts no key.
+    pub fn bill_skipped(&mut self, memo: Memo, op: Op, count: u64) -> Result<(), Halt>
         ensures billed { OnOk result (metered_told memo (Skipped op count) self.old
             ≡ Ok self.new) }
-        ensures counted { IfOk result (λ counted. counted ≡ false
-            → self.new.bill.tally ≡ (ready memo self.old).bill.tally) }
+        ensures tally { OnOk result (self.new.bill.tally ≡ (ready memo self.old).bill.tally) }
     {
         self.begin(memo)?;
-        self.machine.step_skipped(op, count)?;
-        Ok(false)
+        self.machine.step_skipped(op, count)
     }
 }

@@ -93,17 +93,4 @@ impl Tolls {
         }
         None
     }
-
-    /// `MuchMemory` if so much memory exceeds its limit.
-    #[inline(always)]
-    pub(crate) fn excess_of_memory(&self, memory: u64) -> Option<Excess>
-        ensures excess { MatchOption result (memory ≤ self.now.memory)
-            (λ excess. (excess ≡ Excess.MuchMemory) × (self.now.memory < memory)) }
-        ensures unlimited { self.now ≡ unlimited → result ≡ None }
-    {
-        if memory > self.memory {
-            return Some(Excess::MuchMemory);
-        }
-        None
-    }
 }

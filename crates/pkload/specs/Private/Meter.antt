@@ -1,15 +1,14 @@
 -- What the audience that keeps the bill knows.
 use Rattle.std.proofs.Common.{◌≡◌, ℕ, List, [], ◌∷◌, ◌++◌, Option, None, Some, Result, Ok, Err}
 use Rattle.std.proofs.Common.{IfOk, refl, ap, subst, sym, ◌∙◌}
-use Rattle.std.specs.Prelude.{⊤, ◌≢◌, ◌≤◌, ◌<◌, Bool, true, false}
-use Rattle.pkcheck.specs.Reports.{Report, Told}
+use Rattle.std.specs.Prelude.{⊤, ◌≢◌}
+use Rattle.pkcheck.specs.Reports.{Report}
 use Rattle.pkcheck.specs.Shape.{Breach, and_then}
 use Rattle.pkcheck.specs.declared.loading.Memo.{Memo}
-use Rattle.pkload.specs.Private.Told.{Metering, all_metered, metered, metered_told}
+use Rattle.pkload.specs.Private.Told.{Metering, all_metered, metered}
 use Rattle.pkload.specs.Tolls.{Exceeds, KeepsWithin, unlimited}
 use Rattle.pkload.specs.declared.tolls.Excess.{Excess}
-use Rattle.pkload.specs.declared.halt.Halt.{Halt}
-use Rattle.pkload.specs.declared.tolls.Excess.TheVariants.{MuchMemory, OutOfMemory}
+use Rattle.pkload.specs.declared.tolls.Excess.TheVariants.{OutOfMemory}
 use Rattle.pkload.specs.declared.tolls.Tolls.{Tolls}
 
 -- the number of the pickle and its bill, the limits, how the memo is kept between pickles, and the
@@ -21,10 +20,6 @@ pub record Meter : Type 0 where
   pub excess : Option Excess
   pub at : ℕ
 
--- what was told is billed
-abbrev pub IsBilled : Told → Meter → Meter → Type 0
-IsBilled t x y = metered_told x.memo t x.metering ≡ Ok y.metering
-
 -- what was metered keeps within the limits
 abbrev pub Fits : Tolls → Metering → Type 0
 Fits tolls m = KeepsWithin tolls m.bill.tally m.bill.memory
@@ -33,18 +28,6 @@ Fits tolls m = KeepsWithin tolls m.bill.tally m.bill.memory
 abbrev pub IsUnlimited : Option Excess → Type 0
 IsUnlimited None = ⊤
 IsUnlimited (Some excess) = excess ≡ OutOfMemory
-
--- what is found to be within the limits: all, or the memory if no key was counted
-abbrev pub IsWithinBy : Result Bool Halt → Tolls → Metering → Type 0
-IsWithinBy (Ok true) tolls m = Fits tolls m
-IsWithinBy (Ok false) tolls m = m.bill.memory ≤ tolls.memory
-IsWithinBy (Err halt) tolls m = ⊥
-
--- which limit is found to be exceeded
-abbrev pub IsExcessBy : Result Bool Halt → Excess → Tolls → Metering → Type 0
-IsExcessBy (Ok true) excess tolls m = Exceeds excess tolls m.bill.tally m.bill.memory
-IsExcessBy (Ok false) excess tolls m = (excess ≡ MuchMemory) × (tolls.memory < m.bill.memory)
-IsExcessBy (Err halt) excess tolls m = excess ≡ OutOfMemory
 
 -- what was metered fits after each report
 abbrev pub AllFit : Memo → Tolls → List Report → Metering → Type 0
