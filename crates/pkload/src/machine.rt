@@ -8,13 +8,13 @@ ghost use Rattle.pkcheck.specs.Shape.{top};
 ghost use Rattle.pkload.specs.Bill.{billed, billed_by, no_bill, stop_billed};
 ghost use Rattle.pkload.specs.Heft.{heft_of};
 ghost use Rattle.pkload.specs.Memory.{operation_memory};
-ghost use Rattle.pkload.specs.Private.Billing.{by_move, light, pushed};
+ghost use Rattle.pkload.specs.Private.Billing.{IfBilled, by_move, light, pushed};
 ghost use Rattle.pkload.specs.Private.Told.{next_in, told_billed};
 
 mod operating;
 
 use crate::action::{Action, action_of, rare_action_of};
-use crate::halt::Halt;
+use crate::halt::{Billing, Halt};
 use crate::making::made_plain;
 use crate::memo::Memo;
 use crate::memory::{
@@ -188,48 +188,47 @@ impl Machine {
         self.stack.push(made_plain(op, size))
     }
 
-    /// Bills an instruction. Returns whether it may have counted keys.
+    /// Bills an instruction.
     #[inline(always)]
-    pub fn step(&mut self, inst: &Inst<'_>) -> Result<bool, Halt>
-        ensures billed { OnOk result (billed (instruction_of inst.now) self.old ≡ Ok self.new) }
-        ensures counted { IfOk result (λ counted. counted ≡ false
-            → self.new.tally ≡ self.old.tally) }
+    pub fn step(&mut self, inst: &Inst<'_>) -> Billing
+        ensures billed { IfBilled result (billed (instruction_of inst.now) self.old
+            ≡ Ok self.new) }
+        ensures counted { result ≡ Billing.Plain → self.new.tally ≡ self.old.tally }
     {
         if self.ended {
-            return Err(Halt::Lost);
+            return Billing::Failed;
         }
         self.act(inst)
     }
 
-    /// Does what the opcode says. Returns whether it may have counted keys.
+    /// Does what the opcode says.
     ///
     /// What is rare is out of line, and so are most operations: in a function that would grow large
     /// the compiler inlines nothing. It takes a copy of the instruction, since passing the address
     /// of the original would force that into memory in every step.
     #[inline(always)]
-    fn act(&mut self, inst: &Inst<'_>) -> Result<bool, Halt>
-        ensures billed { OnOk result (billed_by (effect_of (instruction_of inst.now).op)
+    fn act(&mut self, inst: &Inst<'_>) -> Billing
+        ensures billed { IfBilled result (billed_by (effect_of (instruction_of inst.now).op)
             (instruction_of inst.now) self.old ≡ Ok self.new) }
-        ensures counted { IfOk result (λ counted. counted ≡ false
-            → self.new.tally ≡ self.old.tally) }
+        ensures counted { result ≡ Billing.Plain → self.new.tally ≡ self.old.tally }
     {
         match action_of(inst.op()) {
-            Action::Makes(more) => self.make(more),
-            Action::Fetches => self.go(Move::Fetches, inst),
-            Action::StoresNext => self.go(Move::StoresNext, inst),
-            Action::Stores => self.go(Move::Stores, inst),
-            Action::Marks => self.go(Move::PushesMark, inst),
-            Action::Texts => self.read_text(argument_bytes(inst)),
-            Action::TiesOne => self.tie_one(),
-            Action::TiesTwo => self.tie_two(),
-            Action::TiesThree => self.tie_three(),
-            Action::Appends => self.append(),
-            Action::AppendsSlice => self.append_slice(),
-            Action::Sets => self.set(),
-            Action::SetsSlice => self.set_slice(),
+            Action::Makes(more) => Billing::of(self.make(more)),
+            Action::Fetches => Billing::of(self.go(Move::Fetches, inst)),
+            Action::StoresNext => Billing::of(self.go(Move::StoresNext, inst)),
+            Action::Stores => Billing::of(self.go(Move::Stores, inst)),
+            Action::Marks => Billing::of(self.go(Move::PushesMark, inst)),
+            Action::Texts => Billing::of(self.read_text(argument_bytes(inst))),
+            Action::TiesOne => Billing::of(self.tie_one()),
+            Action::TiesTwo => Billing::of(self.tie_two()),
+            Action::TiesThree => Billing::of(self.tie_three()),
+            Action::Appends => Billing::of(self.append()),
+            Action::AppendsSlice => Billing::of(self.append_slice()),
+            Action::Sets => Billing::of(self.set()),
+            Action::SetsSlice => Billing::of(self.set_slice()),
             _ => {
                 let copy = Inst::known(inst.op(), inst.arg());
-                self.act_rarely(&copy)
+                Billing::of(self.act_rarely(&copy))
             }
         }
     }

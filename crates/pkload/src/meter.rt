@@ -2,9 +2,11 @@
 
 ghost use Rattle.std.specs.Prelude.{◌≡◌, IfErr, MatchOption, None, OnOk, Some, false, ltb};
 ghost use Rattle.pkload.specs.Bill.{no_bill};
+ghost use Rattle.pkload.specs.Private.Billing.{IfBilled};
 ghost use Rattle.pkload.specs.Private.Meter.{Fits, IsUnlimited};
 ghost use Rattle.pkload.specs.Tolls.{Exceeds, unlimited};
 
+use crate::halt::Billing;
 use crate::metering::Metering;
 use crate::tally::Tally;
 use crate::tolls::{Excess, Tolls};
@@ -125,13 +127,17 @@ impl Meter {
     }
 }
 
-/// The first limit that the bill exceeds.
+/// The first limit that the bill exceeds, if it could be kept.
 #[inline(never)]
-fn excess_of_keys(tolls: &Tolls, metering: &Metering) -> Option<Excess>
-    ensures excess { MatchOption result (Fits tolls.now metering.now) (λ excess. Exceeds excess
-        tolls.now metering.now.bill.tally metering.now.bill.memory) }
-    ensures unlimited { tolls.now ≡ unlimited → result ≡ None }
+fn excess_of_keys(tolls: &Tolls, metering: &Metering, billing: Billing) -> Option<Excess>
+    ensures excess { IfBilled billing (MatchOption result (Fits tolls.now metering.now)
+        (λ excess. Exceeds excess tolls.now metering.now.bill.tally metering.now.bill.memory)) }
+    ensures failed { billing ≡ Billing.Failed → result ≡ Some Excess.OutOfMemory }
+    ensures unlimited { tolls.now ≡ unlimited → IsUnlimited result }
 {
+    if matches!(billing, Billing::Failed) {
+        return Some(Excess::OutOfMemory);
+    }
     tolls.excess_of(&metering.tally(), metering.memory())
 }
 
@@ -166,20 +172,16 @@ impl Audience for Meter {
         if let Some(_) = self.excess {
             return self.stop();
         }
-        let Ok(counted) = self.metering.bill(self.memo, inst) else {
-            self.at = at;
-            self.excess = Some(Excess::OutOfMemory);
-            return Ok(());
-        };
-        if counted {
-            self.at = at;
-            self.excess = excess_of_keys(&self.tolls, &self.metering);
+        let billing = self.metering.bill(self.memo, inst);
+        if billing.is_plain() {
+            if takes_too_much(&self.tolls, &self.metering) {
+                self.at = at;
+                self.excess = Some(Excess::MuchMemory);
+            }
             return Ok(());
         }
-        if takes_too_much(&self.tolls, &self.metering) {
-            self.at = at;
-            self.excess = Some(Excess::MuchMemory);
-        }
+        self.at = at;
+        self.excess = excess_of_keys(&self.tolls, &self.metering, billing);
         Ok(())
     }
 

@@ -4,9 +4,10 @@ ghost use Rattle.std.specs.Prelude.{◌≡◌, IfOk, OnOk, Ok, false, true};
 ghost use Rattle.pkops.specs.Inst.{instruction_of};
 ghost use Rattle.pkcheck.specs.Reports.{Skipped, Whole};
 ghost use Rattle.pkload.specs.Bill.{no_bill};
+ghost use Rattle.pkload.specs.Private.Billing.{IfBilled};
 ghost use Rattle.pkload.specs.Private.Told.{metered_told, next_if, ready};
 
-use crate::halt::Halt;
+use crate::halt::{Billing, Halt};
 use crate::machine::Machine;
 use crate::tally::Tally;
 use pkcheck::Memo;
@@ -95,15 +96,17 @@ impl Metering {
         Ok(())
     }
 
-    /// Bills an instruction that is told whole. Returns whether it may have counted keys.
+    /// Bills an instruction that is told whole.
     #[inline(always)]
-    pub fn bill(&mut self, memo: Memo, inst: &Inst<'_>) -> Result<bool, Halt>
-        ensures billed { OnOk result (metered_told memo (Whole (instruction_of inst.now)) self.old
-            ≡ Ok self.new) }
-        ensures counted { IfOk result (λ counted. counted ≡ false
-            → self.new.bill.tally ≡ (ready memo self.old).bill.tally) }
+    pub fn bill(&mut self, memo: Memo, inst: &Inst<'_>) -> Billing
+        ensures billed { IfBilled result (metered_told memo (Whole (instruction_of inst.now))
+            self.old ≡ Ok self.new) }
+        ensures counted { result ≡ Billing.Plain
+            → self.new.bill.tally ≡ (ready memo self.old).bill.tally }
     {
-        self.begin(memo)?;
+        let Ok(()) = self.begin(memo) else {
+            return Billing::Failed;
+        };
         self.machine.step(inst)
     }
 

@@ -1,6 +1,6 @@
 -- What the machine does at an opcode.
 use Rattle.std.specs.Prelude.{◌≡◌, ◌+◌, ◌/◌, ◌∷◌, ◌++◌, ℕ, Bool, true, false, List, [], length}
-use Rattle.std.specs.Prelude.{min, Option, Some, None, Result, Ok, zero}
+use Rattle.std.specs.Prelude.{⊤, min, Option, Some, None, Result, Ok, zero}
 use Rattle.pkops.specs.declared.Op.{Op}
 use Rattle.pkops.specs.declared.Op.TheVariants as op
 use Rattle.pkops.specs.Operands.{memo_number}
@@ -21,6 +21,8 @@ use Rattle.pkload.specs.Private.Gathered.{AreOf, IsTallied, Obeys, keying_of, ke
 use Rattle.pkload.specs.Tally.{with_keys, with_operation}
 use Rattle.pkload.specs.declared.action.Action.{Action}
 use Rattle.pkload.specs.declared.action.Action.TheVariants as action
+use Rattle.pkload.specs.declared.halt.Billing.{Billing}
+use Rattle.pkload.specs.declared.halt.Billing.TheVariants.{Plain, WithKeys, Failed}
 use Rattle.pkload.specs.declared.keying.Keying.{Keying}
 use Rattle.pkload.specs.declared.operands.Operands.{Operands}
 use Rattle.pkload.specs.declared.tally.Tally.{Tally}
@@ -124,6 +126,12 @@ abbrev pub by_move : Move → Instruction → Bill → Result Bill Breach
 by_move move i bill =
     move_billed move (number_kept move (memo_number i) bill.shape) bill
     (moved move (memo_number i) bill.shape)
+
+-- this holds if the instruction is billed
+abbrev pub IfBilled : Billing → Type 0 → Type 0
+IfBilled Plain p = p
+IfBilled WithKeys p = p
+IfBilled Failed p = ⊤
 
 -- the keys among the operands that the operation of this opcode takes are those of the opcode
 abbrev pub CountsKeys : Op → Takes → Type 0
