@@ -22,6 +22,8 @@ ATTACK = b"})" + b"2\x86" * 30 + b"Ns."
 DEEP = b"})" + b"\x85" * 5_000 + b"Ns."
 CHANGE = b"\x80\x04ccollections\nOrderedDict\n}\x8c\x01aNsb."
 LISTED = AllowList([("collections", "OrderedDict")])
+LOOKS = ("exceeded", "exceeded_in_row")
+KINDS = ("costly-keys", "changed-import")
 FOUND = {
     "attack": (ATTACK, "costly-keys", "byte 63 weighs more than the limit weight, 1,000,000"),
     "deep tuple": (DEEP, "costly-keys", "at byte 5,003 has more levels than the limit levels"),
@@ -91,18 +93,94 @@ class Findings(unittest.TestCase):
 
     def test_without_the_look_they_are_none(self):
         """The control: nothing else in a scan finds them."""
-        look = rows.exceeded
-        rows.exceeded = lambda data, names: None
-        self.addCleanup(setattr, rows, "exceeded", look)
+        for name in LOOKS:
+            self.addCleanup(setattr, rows, name, getattr(rows, name))
+            setattr(rows, name, lambda data, names: None)
         for what in ("attack", "deep tuple", "BUILD"):
             self.assertEqual(findings(FOUND[what][0], LISTED), [])
 
-    def test_each_pickle_is_looked_at_once(self):
-        look, seen = rows.exceeded, []
-        rows.exceeded = lambda data, names: seen.append(data) or look(data, names)
-        self.addCleanup(setattr, rows, "exceeded", look)
-        findings(b"N." * 3 + pickle.dumps(["a" * 99] * 10_000, 4))
-        self.assertEqual(len(seen), 4)
+    def test_which_limit_is_passed(self):
+        key = b"\x80\x04)" + b"2\x86" * 18 + b"\x940"
+        for data, said in (
+            (key + b"}(" + b"h\x00N" * 400 + b"u.", "all keys weigh more than the limit work"),
+            (key + b"}h\x002\x86Ns.", "the key at byte 47 weighs more than the limit weight"),
+        ):
+            ((_, _, why),) = findings(data)
+            self.assertIn(said, why)
+            ((_, _, why),) = findings(data[:-1])[-1:]
+            self.assertIn(said, why)
+
+    def test_what_is_said_is_short(self):
+        """However far in the file: a report cuts longer texts."""
+        far = b"X" + (1 << 20).to_bytes(4, "little") + bytes(1 << 20)
+        key = b")" + b"2\x86" * 18
+        work = key + b"\x940}(" + b"h\x00N" * 400 + b"u."
+        for attack in (ATTACK, DEEP, work):
+            data = b"\x80\x04N." * 99_000 + b"\x80\x04" + far + b"0" + attack
+            ((_, _, why),) = findings(data)
+            self.assertIn("in pickle 99000, ", why)
+            self.assertIn("; bill: ", why)
+            self.assertLessEqual(len(why), 200)
+
+
+class Rows(unittest.TestCase):
+    """Small pickles are looked at many at once."""
+
+    def looks(self, data):
+        """The findings, and how many looks they took."""
+        seen = []
+        for name in LOOKS:
+            look = getattr(rows, name)
+            self.addCleanup(setattr, rows, name, look)
+            setattr(rows, name, lambda *given, look=look: seen.append(given) or look(*given))
+        return findings(data), len(seen)
+
+    def test_a_look_at_many(self):
+        small = b"".join(b"\x80\x04cm%d\nn%d\n." % (k, k) for k in range(8_000))
+        _, looks = self.looks(small)
+        self.assertLessEqual(looks, 8)
+        self.addCleanup(setattr, rows, "_AT_ONCE", rows._AT_ONCE)
+        rows._AT_ONCE = 0  # the control
+        _, looks = self.looks(small)
+        self.assertGreaterEqual(looks, 8_000)
+
+    def test_a_large_one_is_looked_at_once(self):
+        found, looks = self.looks(b"N." * 3 + pickle.dumps(["a" * 99] * 40_000, 4))
+        self.assertEqual((found, looks), ([], 2))
+
+    def test_one_among_many(self):
+        """One that costs much has none of the others looked at one by one."""
+        for attack in (ATTACK, DEEP):
+            for behind in (b"", ATTACK, b"N." * 9_000 + ATTACK):
+                found, looks = self.looks(b"N." * 30_000 + attack + behind)
+                ((_, _, why),) = found
+                self.assertIn("in pickle 30000, ", why)
+                self.assertLessEqual(looks, 4)
+
+    def test_behind_what_no_list_permits(self):
+        """An import without a name, and one of more names than are taken from a pickle."""
+        text = b"X" + (20_000).to_bytes(4, "little") + b"a" * 20_000
+        many = b"\x80\x04" + text + b"\x94(" + b"h\x00h\x00\x93" * 5_000 + b"t0."
+        for front in (b"\x80\x04\x8c\x02os\x8c\x00\x93.", many):
+            found = findings(b"\x80\x04N." + front + b"\x80\x04" + ATTACK)
+            ((_, _, why),) = [it for it in found if it[0] == "costly-keys"]
+            self.assertIn("in pickle 2, ", why)
+
+    def test_the_place_in_any_part(self):
+        large = b"\x80\x04]" + b"N0" * 40_000 + b"."
+        self.addCleanup(setattr, rows, "_AT_ONCE", rows._AT_ONCE)
+        for rows._AT_ONCE in (0, 100, rows._AT_ONCE):
+            for attack, at in ((ATTACK, 63), (DEEP, 5_003), (CHANGE, len(CHANGE) - 2)):
+                for count in (0, 1, 9, 200):
+                    for last in (b"", large, CHANGE, b"\xff"):
+                        front = large * (count == 9)
+                        front += b"".join(b"cm%d\nn\n." % k for k in range(count))
+                        found = [it for it in findings(front + attack + last) if it[0] in KINDS]
+                        with self.subTest(parts=rows._AT_ONCE, at=at, count=count, last=last[:9]):
+                            ((_, _, why),) = found
+                            self.assertIn(f"byte {len(front) + at:,}", why)
+                            number = count + (count == 9)
+                            self.assertEqual(why.startswith(f"in pickle {number}, "), number > 0)
 
 
 class Command(unittest.TestCase):

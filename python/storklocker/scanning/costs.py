@@ -4,14 +4,14 @@ much, or whose BUILD changes what it imports.
 
 from __future__ import annotations
 
-from typing import TYPE_CHECKING, Iterable, NamedTuple, Optional
+from typing import TYPE_CHECKING, Iterable, NamedTuple, Optional, Tuple
 
 from .._answers import Verdict
 from .._hints import CHANGES
 from .._limits import Limits
 from .._lists import AllowList, settings_of
 from .._reasons import Reason
-from .._storklocker import bill, verdict
+from .._storklocker import bill, row_verdict, verdict, walked
 from .names import NOTHING, WIDE
 from .report import Finding
 
@@ -31,21 +31,24 @@ KINDS = {
 _SETTINGS = settings_of(NOTHING, LIMITS, "unknown")
 _COUNTING = settings_of(NOTHING, WIDE._replace(memory=(1 << 64) - 2), "unknown", "any")
 """Settings under which costs are counted, and none is too much."""
+_WEIGHING = settings_of(NOTHING, LIMITS._replace(work=None), "unknown")
 _LEVELS, _WEIGHT = 1_023, 1_048_575
 """As far as levels and weights are counted."""
 _WHY = {
     Reason.DeepKey: "the key at byte {at:,} has more levels than the limit levels, {levels:,}:"
     " hashing it may overflow the reader's stack",
-    Reason.HeavyKeys: "the key at byte {at:,} weighs more than the limit weight, {weight:,}, or all"
-    " keys more than work, {work:,}: they may take days to hash",
+    Reason.HeavyKeys: "the key at byte {at:,} weighs more than the limit weight, {weight:,}:"
+    " hashing it may take days",
     Reason.BuildsImport: CHANGES + ", at byte {at:,}",
 }
+_WORK = "at byte {at:,} all keys weigh more than the limit work, {work:,}: hashing them takes long"
 
 
 class Exceeded(NamedTuple):
     """Why a guard refuses a pickle whatever is listed: the verdict, and what loading it costs."""
 
     verdict: Verdict
+    why: str
     bill: str
     """Empty if it isn't known, because the pickle is broken behind that place."""
 
@@ -54,10 +57,33 @@ def exceeded(data: bytes, names: Iterable[Names]) -> Optional[Exceeded]:
     """Why a guard refuses the pickle at the front of the bytes, whose imports are these, whatever
     is listed; None if it doesn't.
     """
-    pairs = [(module, name) for module, name in names if module is not None and name]
-    allow = AllowList._of(pairs, None, _SETTINGS)
+    allow = _permitting(names)
     found = verdict(data, allow, None)
-    return Exceeded(found, _bill_of(data, allow)) if found.reason in KINDS else None
+    if found.reason not in KINDS:
+        return None
+    why = _WHY[found.reason]
+    if found.reason is Reason.HeavyKeys and verdict(data, allow, _WEIGHING).at != found.at:
+        why = _WORK
+    return Exceeded(found, why, _bill_of(data, allow) if KINDS[found.reason] == COSTLY else "")
+
+
+def exceeded_in_row(data: bytes, names: Iterable[Names]) -> Optional[Tuple[Exceeded, int, int]]:
+    """Why a guard refuses the first of these pickles that it refuses whatever is listed, its offset
+    and its index; None if there is none, or another one is refused before it.
+    """
+    found = row_verdict(data, _permitting(names), None)
+    if found.reason not in KINDS:
+        return None
+    at = 0
+    for _ in range(found.pickles):
+        at, _ = walked(data, at)
+    first = exceeded(data[at:], names)
+    return None if first is None else (first, at, found.pickles)
+
+
+def _permitting(names: Iterable[Names]) -> AllowList:
+    pairs = [(module, name) for module, name in names if module is not None and name]
+    return AllowList._of(pairs, None, _SETTINGS)
 
 
 def _bill_of(data: bytes, allow: AllowList) -> str:
@@ -74,6 +100,5 @@ def cost_finding(found: Exceeded, start: int, number: int) -> Finding:
     """The finding on the pickle that begins at an offset, and has this index in a row."""
     reason = found.verdict.reason
     assert reason is not None
-    why = _WHY[reason].format(at=start + found.verdict.at, **LIMITS._asdict())
-    why += found.bill if KINDS[reason] == COSTLY else ""
+    why = found.why.format(at=start + found.verdict.at, **LIMITS._asdict()) + found.bill
     return Finding(KINDS[reason], f"in pickle {number}, {why}" if number else why)

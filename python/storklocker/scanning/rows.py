@@ -4,7 +4,7 @@ from __future__ import annotations
 
 import itertools
 import re
-from typing import TYPE_CHECKING, Dict, Optional, Tuple
+from typing import TYPE_CHECKING, Dict, Iterable, Optional, Tuple
 
 from .._answers import Verdict
 from .._checking import check, check_row
@@ -12,7 +12,7 @@ from .._limits import UNBOUND, Limits
 from .._lists import AllowList
 from .._reasons import Reason
 from .budget import Budget, TooMuch
-from .costs import KINDS, LIMITS, Exceeded, exceeded
+from .costs import KINDS, LIMITS, Exceeded, exceeded, exceeded_in_row
 from .names import NOTHING, WIDE, Imports, imports_within, refused_with
 from .reaching import READERS_STOP, is_module, reached
 from .readings import Piece, is_text
@@ -28,6 +28,10 @@ that is checked in one call.
 """
 _ONE_BY_ONE = 1000
 """How many pickles of a row are looked at one by one, before the rest is tried in one call."""
+_AT_ONCE = 1 << 16
+"""How many bytes of small pickles are looked at for costs by one call: a call for each would take
+as long as all the rest.
+"""
 _CLAIM = re.compile(rb"\x80[\x02-\x05]")
 """How pickles of protocol 2 and later begin. Those of 0 and 1 have no PROTO, but fonts have it."""
 _WIDEST = Limits(passed=1 << 40, numbers=UNBOUND, large=True)
@@ -63,6 +67,8 @@ class Row:
         self.refusal: Optional[Verdict] = None
         self.costly: Optional[Exceeded] = None
         self.costly_at = self.costly_number = 0
+        self._uncosted: Tuple[int, int] = (0, 0)  # the offset and index from which on to look
+        self._recent: Dict["Names", None] = {}  # what they import
         self.number = self.pickles = self.taken = self.stop = 0
         self.refused: Tuple[bytes, int] = (b"", 0)
         self.too_much: Optional[TooMuch] = None
@@ -73,6 +79,7 @@ class Row:
                 pass
         except TooMuch as error:
             self.too_much = error
+        self._find_costly()
 
     def _is_more(self) -> bool:
         """Whether another pickle is to be read one by one."""
@@ -92,21 +99,52 @@ class Row:
         verdict = found.verdict
         if self._goes_on_behind(found):
             self.taken += verdict.at + 1
+            self._uncosted = (self.taken, self.pickles)
             return True
         names = dict.fromkeys((*found.names, *self._refused(verdict, found)))
         self.is_complete &= found.is_complete
         is_listed = found.is_complete and all(map(self._listed._has, names))
         if not (verdict and is_listed) and self.refusal is None:
             self._judge(data, verdict)
-        if self.costly is None:
-            self.costly = exceeded(data, names)
-            self.costly_at, self.costly_number = self.taken, self.pickles
+        self._look_at_costs(data, found, names)
         self.names.update(names)
         if not verdict:
             return False
         self.pickles += 1
         self.taken += verdict.taken
         return True
+
+    def _look_at_costs(self, data: bytes, found: Imports, names: Dict["Names", None]) -> None:
+        """Looks at what the next pickle costs, or leaves it for later if it is a small one, all of
+        whose imports a list can permit: another would end the look at many.
+        """
+        verdict = found.verdict
+        is_listable = found.is_complete and all(name for _, name in names)
+        if verdict and verdict.taken < _AT_ONCE and is_listable:
+            if self.taken - self._uncosted[0] > _AT_ONCE:
+                self._find_costly()
+            self._recent.update(names)
+            return
+        self._find_costly()
+        if self.costly is None:
+            self.costly = exceeded(data, names)
+            self.costly_at, self.costly_number = self.taken, self.pickles
+        self._uncosted = (self.taken + verdict.taken, self.pickles + 1)
+
+    def _find_costly(self) -> None:
+        """Looks at what the small pickles cost that were accepted since the last look."""
+        (at, number), names = self._uncosted, self._recent
+        self._uncosted, self._recent = (self.taken, self.pickles), {}
+        if self.costly is not None or at >= self.taken:
+            return
+        self._find_costly_in(self._source.read(at, self.taken - at), names, at, number)
+
+    def _find_costly_in(self, data: bytes, names: Iterable["Names"], at: int, number: int) -> None:
+        """Looks at what these accepted pickles cost, which begin at an offset, with an index."""
+        found = exceeded_in_row(data, names)
+        if found is not None:
+            self.costly, behind, index = found
+            self.costly_at, self.costly_number = at + behind, number + index
 
     def _goes_on_behind(self, found: Imports) -> bool:
         """Whether all readers end in a text, with one of several objects and no import."""
@@ -175,17 +213,23 @@ class Row:
         """Whether all pickles that are left import nothing new and cost little, by one call. So a
         long row takes little time; and if something new is in it, that is looked for one by one.
         """
+        self._find_costly()
         left = self._source.size - self.taken
         if left > min(_WHOLE, self._budget.row_bytes):
             return False
         data = self._source.read(self.taken, left)
         names = [(module, name) for module, name in self.names if module is not None and name]
         limits = None if self._allow is None else self._allow.limits
-        verdict = check_row(data, AllowList._of(names, limits), limits=LIMITS)
+        allow, asked = AllowList._of(names, limits), LIMITS if self.costly is None else WIDE
+        verdict = check_row(data, allow, limits=asked, build="made" if asked is LIMITS else "any")
+        if verdict.reason in KINDS and self.costly is None:
+            self._find_costly_in(data, names, self.taken, self.pickles)
+            verdict = check_row(data, allow, limits=WIDE, build="any")
         if not verdict:
             return False
         self.pickles += verdict.pickles
         self.taken += verdict.taken
+        self._uncosted = (self.taken, self.pickles)
         return True
 
 
