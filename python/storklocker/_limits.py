@@ -71,7 +71,8 @@ class Limits(
 
     levels: levels of tuples in a key, each of which hashing descends by calls in C; default 1,000.
         From 1,023 on, a limit is none.
-    weight: the weight of a key; default 1,000,000. From 1,048,575 on, a limit is none.
+    weight: the weight of a key; default 1,000,000. From 1,048,575 on, a limit is none, and a
+        heavier key counts as that in `work`.
     work: the weight of all keys of a pickle together; default 100,000,000.
     clash: the weight of all keys but texts, bytes, and what calls and imports give: of those that
         can be made to collide; default None.

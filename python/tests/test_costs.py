@@ -120,6 +120,14 @@ GUARDS = {
 
 
 class Defaults(unittest.TestCase):
+    def test_weight_is_counted_up_to_a_bound(self):
+        """So `work` alone doesn't bound what a key costs."""
+        for work, is_accepted in ((1_048_574, False), (1_048_575, True), (100_000_000, True)):
+            limits = Limits(weight=None, work=work)
+            verdict = storklocker.check(doubled(40), NOTHING, limits=limits)
+            self.assertIs(verdict.accepted, is_accepted)
+        self.assertFalse(storklocker.check(doubled(40), NOTHING))  # the control
+
     def test_the_attack_works_without_limits(self):
         self.assertEqual(len(ATTACK), 65)
         self.assertTrue(storklocker.check(ATTACK, NOTHING, limits=FREE))
