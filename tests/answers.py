@@ -7,6 +7,8 @@ import rows
 
 FILE, LIST, OUT = "file.pickle", "list.toml", "out.pickle"
 BEFORE = b"what stood there before"
+# A longer line of JSON is written in pieces of so many bytes.
+PIECE = 65_536
 
 
 @dataclasses.dataclass(frozen=True)
@@ -60,7 +62,9 @@ def wants_memory(row: rows.Row, own: Answer, answer: Answer) -> bool:
         words |= {f"cannot write {OUT}"}
     if row.command == "json":
         told = answer.status, answer.out, answer.err
-        return told == (1, "no: OutOfMemory\n", "") or is_fault(answer, words)
+        is_cut = len(own.out) > PIECE and own.out.startswith(answer.out) and own.out != answer.out
+        whole = dataclasses.replace(answer, out="") if is_cut else answer
+        return told == (1, "no: OutOfMemory\n", "") or is_fault(whole, words)
     return is_fault(answer, words) or is_refusal(row, own, answer, "OutOfMemory")
 
 

@@ -14,7 +14,7 @@ import os
 import pathlib
 import sys
 import tempfile
-from typing import Callable, Counter, List, Optional, Tuple
+from typing import Callable, Counter, List, Optional, Set, Tuple
 
 import answers
 import program
@@ -92,6 +92,7 @@ def tried(row: rows.Row) -> Tried:
     BENCH.lay(row)
     own, wrong = own_answer(BENCH, row)
     counts: Counter[str] = collections.Counter()
+    unread: Set[str] = set()
     for kind, every, is_said in KINDS:
         first, was_refused = 1, True
         while was_refused and not wrong:
@@ -101,9 +102,12 @@ def tried(row: rows.Row) -> Tried:
                 counts["its own answer"] += 1
             elif was_refused and is_said(row, own, answer):
                 counts[answer.brief()] += 1
+                unread |= {answer.out} if kind == "read" else set()
             elif was_refused or answer != own:
                 wrong = f"{which}: {answer}, and its own is {own}"
             first += 1
+    if row.unread and row.unread not in unread:
+        wrong = wrong or f"no refused read has the answer {row.unread!r}, but {unread}"
     if not counts:
         wrong = wrong or "nothing could be refused"
     if not wrong and len(row.pickle) <= MOST_BY_BYTES:

@@ -23,6 +23,8 @@ class Row:
     said: Optional[str] = None
     result: Optional[bytes] = None
     options: Tuple[str, ...] = ()
+    # what it says, among other things, as its reads are refused in turn
+    unread: Optional[str] = None
 
 
 MARKED = """\
@@ -47,6 +49,18 @@ CALL = """\
    12: 2e STOP
 highest protocol: 2
 """
+QUOTED = """\
+    0: 43 SHORT_BINBYTES "\\x22\\x00\\x5c"
+    5: 2e STOP
+highest protocol: 3
+"""
+SIGNED = """\
+    0: 4a BININT -2
+    5: 47 BINFLOAT <3ff8000000000000>
+   14: 30 POP
+   15: 2e STOP
+highest protocol: 1
+"""
 
 DIS = [
     ("28 8c 01 61 4b 01 64 2e", 0, MARKED),
@@ -54,6 +68,9 @@ DIS = [
     ("80 02 63 6d 0a 66 0a 8a 01 ff 85 52 2e", 0, CALL),
     ("82 05 2e", 1, "no at 0: ExtensionCode\n"),
     ("4e 8c 05 61", 1, "    0: 4e NONE\nno at 1: Truncated\n"),
+    ("43 03 22 00 5c 2e", 0, QUOTED),
+    ("28 8c 01 22 4b 01 64 2e", 0, MARKED.replace('"a"', r'"\x22"')),
+    ("4a fe ff ff ff 47 3f f8 00 00 00 00 00 00 30 2e", 0, SIGNED),
 ]
 
 IMPORTS = [
@@ -81,6 +98,22 @@ OPTIMIZE = [
         "95 02 00 00 00 00 00 00 00 4e 2e",
         "11 bytes to 11 bytes\n",
     ),
+    (
+        "80 04 95 02 00 00 00 00 00 00 00 4e 2e",
+        "80 04 95 02 00 00 00 00 00 00 00 4e 2e",
+        "13 bytes to 13 bytes\n",
+    ),
+    (
+        "80 04 95 03 00 00 00 00 00 00 00 4e 94 2e",
+        "80 04 95 02 00 00 00 00 00 00 00 4e 2e",
+        "14 bytes to 13 bytes\n",
+    ),
+    (
+        "80 04 95 0a 00 00 00 00 00 00 00 5d 94 4e 71 01 61 68 01 30 2e",
+        "80 04 95 09 00 00 00 00 00 00 00 5d 4e 71 00 61 68 00 30 2e",
+        "21 bytes to 20 bytes\n",
+    ),
+    ("4e 2e 4e", "4e 2e", "2 bytes to 2 bytes\n"),
 ]
 
 JSON = [
@@ -96,8 +129,39 @@ JSON = [
     ("7d 8c 01 61 4b 01 73 8c 01 61 4b 02 73 2e", 0, '{"a":2}\n'),
     ("7d 4b 01 4e 73 2e", 1, "no at 4: Key\n"),
     ("43 00 30 4e 2e", 1, "no at 0: NotPlain(SHORT_BINBYTES)\n"),
+    ("4e", 1, "no at 1: Truncated\n"),
+    ("4e 2e 4e", 0, "null\n"),
     ("29" + "85" * 99 + "2e", 0, "[" * 100 + "]" * 100 + "\n"),
     ("29" + "85" * 100 + "2e", 1, "no: TooDeep\n"),
+    # a line that is written in pieces
+    ("5d 28" + "4e" * 20_000 + "65 2e", 0, "[" + ",".join(["null"] * 20_000) + "]\n"),
+]
+
+# Checks whose answers are written in pieces, or that a failed read ends between two pickles.
+LONG = 20_000
+NOTHING = "version = 1\n[imports]\n"
+OFF_LIST = f'no at 0: ImportOffList("m","{LONG * "f"}")\n'
+CHECKS = [
+    Row("a long name off the list", "check", b"cm\n" + LONG * b"f" + b"\n.", NOTHING, 1, OFF_LIST),
+    Row(
+        "a pickle whose row breaks off",
+        "check",
+        b"N.",
+        NOTHING,
+        0,
+        "yes: 2 bytes, 1 pickles, 0 imports\n",
+        options=("--all",),
+        unread="no in pickle 1 at 2: Source\n",
+    ),
+    Row(
+        "rows that one Unpickler reads",
+        "check",
+        b"N\x94.h\0.",
+        NOTHING,
+        0,
+        "yes: 6 bytes, 2 pickles, 0 imports\n",
+        options=("--all", "--one-unpickler"),
+    ),
 ]
 
 
@@ -138,4 +202,4 @@ def unknown() -> List[Row]:
 
 
 def every() -> List[Row]:
-    return checks() + others() + unknown()
+    return checks() + CHECKS + others() + unknown()

@@ -17,8 +17,6 @@ mod optimizing;
 mod passing;
 mod replacing;
 mod run;
-#[cfg(test)]
-mod tests;
 mod words;
 
 use crate::fault::{Fault, write_fault};

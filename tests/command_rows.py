@@ -1,0 +1,220 @@
+"""Rows of commands: the words, the files where it runs, and all that it says and leaves there."""
+import dataclasses
+import pathlib
+import re
+from typing import Iterator, List, Mapping, Tuple
+
+import rows
+
+WORDS = pathlib.Path(__file__).resolve().parent / "words.txt"
+FILE, LIST, OUT = "file.pickle", "list.toml", "out.pickle"
+Files = Mapping[str, bytes]
+
+
+@dataclasses.dataclass(frozen=True)
+class Row:
+    """A command, the files that it finds, its answer, and the files that it makes or changes."""
+
+    words: Tuple[bytes, ...]
+    status: int
+    out: bytes
+    err: bytes = b""
+    files: Files = dataclasses.field(default_factory=dict)
+    left: Files = dataclasses.field(default_factory=dict)
+    name: bytes = b"pktool"
+
+
+def row_of(line: str, status: int, said: str, files: Files, left: Files = {}) -> Row:
+    """A row whose words have no blanks. With status 2 it is standard error that says something."""
+    words, text = tuple(line.encode().split()), said.encode()
+    return Row(words, status, *((b"", text) if status == 2 else (text, b"")), files, left)
+
+
+# ---- lists and checks
+
+LISTED = b'version = 1\n[imports]\ncollections = ["OrderedDict"]\n'
+NOTHING = b"version = 1\n[imports]\n"
+ONE_PAIR = b'version = 1\n[imports]\na = ["b"]\n'
+STACK_OF_ONE = b"version = 2\nimports = {}\nlimits = { stack = 1 }\n"
+DICT = b"ccollections\nOrderedDict\n)R."
+
+CHECKS: List[Tuple[bytes, str, bytes, int, str]] = [
+    (LISTED, "", DICT, 0, "yes: 28 bytes, 1 imports"),
+    (LISTED, "", DICT + b"N", 0, "yes: 28 bytes, 1 imports"),
+    (NOTHING, "", DICT, 1, 'no at 0: ImportOffList("collections","OrderedDict")'),
+    (
+        NOTHING,
+        "",
+        b'\x8c\x01"\x8c\x02\xc3\xa9\x93.',
+        1,
+        r'no at 7: ImportOffList("\x22","\xc3\xa9")',
+    ),
+    (NOTHING, "", b"\xff", 1, "no at 0: UnknownOpcode(255)"),
+    (NOTHING, "", b"NN.", 1, "no at 2: LeftOver"),
+    (STACK_OF_ONE, "", b"NN.", 1, "no at 1: TooLarge"),
+    # rows of pickles
+    (ONE_PAIR, "--all", b"N.N.", 0, "yes: 4 bytes, 2 pickles, 0 imports"),
+    (ONE_PAIR, "--all", b"N..", 1, "no in pickle 1 at 2: MissingItem"),
+    (ONE_PAIR, "--all", b"N\x94.h\0.", 1, "no in pickle 1 at 3: MissingMemo(0)"),
+    (ONE_PAIR, "--all", b"", 1, "no in pickle 0 at 0: Truncated"),
+    (ONE_PAIR, "--all", b"ca\nb\n.ca\nb\n.", 0, "yes: 12 bytes, 2 pickles, 2 imports"),
+    (ONE_PAIR, "--all", b"N.ca\nc\n.", 1, 'no in pickle 1 at 2: ImportOffList("a","c")'),
+    # a pickle may name what an earlier one memoized
+    (ONE_PAIR, "--all --one-unpickler", b"N\x94.h\0.", 0, "yes: 6 bytes, 2 pickles, 0 imports"),
+    (ONE_PAIR, "--all --one-unpickler", b"N\x94.h\1.", 1, "no in pickle 1 at 3: MissingMemo(1)"),
+    (
+        ONE_PAIR,
+        "--all --one-unpickler",
+        b"Vos\n\x940Vsystem\n\x94.Va\n\x940Vb\n\x940h\0h\1\x93.",
+        1,
+        'no in pickle 1 at 30: ImportOffList("os","system")',
+    ),
+    (
+        NOTHING,
+        "--all --old-strings unknown",
+        b"N.U\x01\xe9.",
+        0,
+        "yes: 6 bytes, 2 pickles, 0 imports",
+    ),
+    (NOTHING, "--all --old-strings ascii", b"N.U\x01\xe9.", 1, "no in pickle 1 at 2: NotAscii"),
+]
+
+# A pickle, and its check when Python 2 strings become anything, texts, and bytes.
+OLD_STRINGS: List[Tuple[bytes, Tuple[str, str, str]]] = [
+    (
+        b"U\x01aU\x01b\x93.",
+        ("no at 6: UnknownImport", "yes: 8 bytes, 1 imports", "no at 6: NotText"),
+    ),
+    (
+        b"U\x01\xe9.",
+        ("yes: 4 bytes, 0 imports", "no at 0: NotAscii", "yes: 4 bytes, 0 imports"),
+    ),
+    (
+        b"S'\\x61'\nU\x01b\x93.",
+        ("no at 11: UnknownImport", "yes: 13 bytes, 1 imports", "no at 11: NotText"),
+    ),
+    (b"U\0Na.", ("yes: 5 bytes, 0 imports", "no at 3: WrongClass", "no at 3: WrongClass")),
+]
+
+NO_LISTS = [
+    (b"version =", "Syntax"),
+    (b"# \xff\n", "Syntax"),
+    (b"imports = {}\n", "Shape(Version)"),
+    (b"version = 2\n", "Shape(Imports)"),
+    (b"version = 3\n", "Version"),
+    (b"version = 1\nlimits = {}\n", "Shape(TopKey)"),
+    (b"version = 1\n", "Shape(Imports)"),
+    (b"version = 1\nimports = { a = 1 }", "Shape(Module)"),
+    (b"version = 1\nimports = { a = [1] }", "Shape(Name)"),
+    (b"version = 2\nimports = {}\nlimits = 1", "Shape(Limits)"),
+    (b"version = 2\nimports = {}\nlimits = { heap = 1 }", "Shape(LimitKey)"),
+    (b"version = 2\nimports = {}\nlimits = { stack = 1000001 }", "Shape(Limit)"),
+]
+
+# The code of a payload of 200,000 bytes, by its opcode.
+LONG_4, LONG_8 = b"\x40\x0d\x03\0", b"\x40\x0d\x03\0\0\0\0\0"
+
+# The start of a pickle, the bytes of a payload that follow, its end, and its check.
+PAYLOADS: List[Tuple[bytes, int, bytes, int, str]] = [
+    (b"B" + LONG_4, 200_000, b".", 0, "yes: 200006 bytes, 0 imports"),
+    (b"\x8e" + LONG_8, 200_000, b"0N.", 0, "yes: 200012 bytes, 0 imports"),
+    (b"\x96" + LONG_8, 200_000, b"0ca\nb\n.", 1, 'no at 200010: ImportOffList("a","b")'),
+    # exactly a block behind the first one, and a byte less
+    (b"B\xfb\xff\x01\0", 131_067, b".", 0, "yes: 131073 bytes, 0 imports"),
+    (b"B\xfa\xff\x01\0", 131_066, b".", 0, "yes: 131072 bytes, 0 imports"),
+    # the file ends at the payload's end, before it, and within the first block
+    (b"B" + LONG_4, 200_000, b"", 1, "no at 200005: Truncated"),
+    (b"B" + LONG_4, 199_999, b"", 1, "no at 0: Truncated"),
+    (b"B" + LONG_4, 60_000, b"", 1, "no at 0: Truncated"),
+    (b"B" + LONG_4, 0, b"", 1, "no at 0: Truncated"),
+]
+
+
+def check_of(allow: bytes, options: str, pickle: bytes, status: int, said: str) -> Row:
+    line = f"check --allow {LIST} {options} {FILE}"
+    return row_of(line, status, f"{said}\n", {LIST: allow, FILE: pickle})
+
+
+def checks() -> Iterator[Row]:
+    for check in CHECKS:
+        yield check_of(*check)
+    for pickle, answers in OLD_STRINGS:
+        for word, said in zip(("unknown", "ascii", "bytes"), answers):
+            status = int(not said.startswith("yes"))
+            yield check_of(ONE_PAIR, f"--old-strings {word}", pickle, status, said)
+    for allow, reason in NO_LISTS:
+        yield check_of(allow, "", DICT, 2, f"list: {reason}")
+    for start, count, end, status, said in PAYLOADS:
+        yield check_of(NOTHING, "", start + count * b"." + end, status, said)
+    two = 2 * (b"B" + LONG_4 + 200_001 * b".")
+    yield check_of(NOTHING, "--all", two, 0, "yes: 400012 bytes, 2 pickles, 0 imports")
+    yield check_of(NOTHING, "--all", two[:400_010], 1, "no in pickle 1 at 200006: Truncated")
+
+
+# ---- files that can't be opened, read or written
+
+# A folder can be opened, but not read.
+OPENED = [
+    (f"check --allow {LIST} .", 1, "no at 0: Source\n"),
+    (f"check --allow {LIST} none", 2, "cannot read none\n"),
+    ("check --allow . none", 2, "cannot read .\n"),
+    ("check --allow no-list none", 2, "cannot read no-list\n"),
+    ("dis none", 2, "cannot read none\n"),
+    ("imports none", 2, "cannot read none\n"),
+    ("json none", 2, "cannot read none\n"),
+    ("json .", 2, "cannot read .\n"),
+    (f"optimize broken {OUT}", 1, "no at 1: Truncated\n"),
+    ("optimize broken .", 1, "no at 1: Truncated\n"),
+    ("optimize none .", 2, "cannot read none\n"),
+    (f"optimize . {OUT}", 2, "cannot read .\n"),
+    (f"optimize {FILE} .", 2, "cannot write .\n"),
+    (f"optimize {FILE} none/a", 2, "cannot write none/a\n"),
+]
+
+
+def opened() -> Iterator[Row]:
+    files = {LIST: NOTHING, FILE: b"N.", "broken": b"N", OUT: b"before"}
+    for line, status, said in OPENED:
+        yield row_of(line, status, said, files)
+
+
+# ---- the other commands
+
+
+def others() -> Iterator[Row]:
+    """The rows of rows.py. A form goes to a new file, over an old one, and over its own pickle."""
+    for it in rows.others():
+        status, said = it.status or 0, it.said or ""
+        if it.result is None:
+            yield row_of(f"{it.command} {FILE}", status, said, {FILE: it.pickle})
+            continue
+        old = {FILE: it.pickle}
+        made, line = {OUT: it.result}, f"optimize {FILE} {OUT}"
+        yield row_of(line, status, said, old, made)
+        yield row_of(line, status, said, {**old, OUT: b"before"}, made)
+        yield row_of(f"optimize {FILE} {FILE}", status, said, old, {FILE: it.result})
+    # a name that is taken is skipped, and the next one is used
+    taken = {FILE: b"N.", OUT: b"before", f"{OUT}.partial": b"mine"}
+    yield row_of(f"optimize {FILE} {OUT}", 0, "2 bytes to 2 bytes\n", taken, {OUT: b"N."})
+
+
+# ---- words
+
+
+def words() -> Iterator[Row]:
+    """The command lines of words.txt, which shows what each says, and its status."""
+    text = WORDS.read_text("utf-8")
+    found = re.findall(r"(?ms)^\$ pktool(.*?)\n(.*?)^\[(\d)\]\n", text)
+    assert len(found) == len(re.findall(r"(?m)^\$ ", text)), "a line without a status"
+    for line, said, status in found:
+        row = row_of(line, int(status), said, {})
+        yield row
+        if not row.words:
+            # what Linux makes of no words at all, not even a name
+            yield dataclasses.replace(row, name=b"")
+    yield Row((b"\xff",), 2, b"", b"a word of the command line is not UTF-8\n")
+    yield Row((b"dis", b"\xff"), 2, b"", b"a word of the command line is not UTF-8\n")
+
+
+def every() -> List[Row]:
+    return [*words(), *checks(), *opened(), *others()]
