@@ -145,8 +145,8 @@ NOT_PLAIN: List[Tuple[object, str, Optional[Set[str]]]] = [
 
 LONG = '"' + "a" * 70_000  # longer than the pieces in which the text is written
 
-# Pickles as bytes: the greatest depth and one more, the most values by doubling and more, and a long
-# text as a key and as two items of its list.
+# Pickles as bytes: a long text as a key and as two items of its list, the greatest depth and one
+# more, the most values by doubling and more.
 ROWS = [
     (
         b"X\x71\x11\x01\0%bq\x000}h\0](h\0h\0%bes." % (LONG.encode(), b"N" * 30_000),
