@@ -64,7 +64,7 @@ class Limits(
     are those of dicts and the items of sets. An object weighs 1, an int in digits or bytes an
     eighth of these more, a text or bytes a 64th of its bytes more, and a tuple or frozenset the
     weights of its items more. What a call or an import gives weighs 1, whatever its hash costs. A
-    check with such limits, or with `build="made"`, takes several times as long.
+    check with such limits, or with `build="made"`, takes twice as long or more.
     `Limits(levels=None, weight=None, work=None)` has none. Say so once, to the list or to the
     guard: of two such limits, one at its default yields to the other, and otherwise the smaller
     applies. A list file has none of them.
