@@ -187,7 +187,7 @@ const char *storklocker_fault_text(uint32_t fault);
 /* Checks the pickle at the front of the bytes under pairs. Bytes after its STOP are ignored. If the
    pairs are sorted by module and then by name, byte for byte, a listed pair is found in logarithmic
    time; any other order gives the same answer, unless `sorted` is set. A check with limits on costs
-   takes several times as long. Never returns STORKLOCKER_NO_LIST. */
+   takes twice as long or more. Never returns STORKLOCKER_NO_LIST. */
 uint32_t storklocker_check_pairs(
     const struct storklocker_pair *pairs, size_t pair_count,
     const struct storklocker_settings *settings,
