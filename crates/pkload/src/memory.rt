@@ -1,6 +1,5 @@
 //! The memory that loading takes.
 
-ghost use Rattle.std.specs.Char.{is_ascii};
 ghost use Rattle.std.specs.List.{filter, list_all};
 ghost use Rattle.std.specs.Prelude.{◌≡◌, ◌+◌, ◌*◌, ◌≤◌, IfOk, List, length, ltb};
 ghost use Rattle.pkops.specs.Inst.{instruction_of};
@@ -16,7 +15,7 @@ ghost use Rattle.pkload.specs.Private.Told.{bytes_before, skipped_memory};
 use crate::halt::Halt;
 use crate::memo::{self, Memo};
 use pkcheck::effect::Move;
-use pkops::{Arg, Inst, Op, spells_itself};
+use pkops::{Arg, Inst, Op, is_ascii, spells_itself};
 
 /// So much more than any memory that sums of some of them fit 64 bits.
 const MOST: u64 = 1_125_899_906_842_624;
@@ -37,14 +36,6 @@ fn are_below(bytes: &[u8], limit: u8) -> bool
     ensures { result ≡ list_all (λ byte. ltb byte limit) bytes.now }
 {
     bytes.iter().all(|byte| *byte < limit)
-}
-
-/// Whether all bytes are ASCII.
-#[inline(always)]
-fn are_ascii(bytes: &[u8]) -> bool
-    ensures { result ≡ list_all is_ascii bytes.now }
-{
-    bytes.iter().all(|byte| byte.is_ascii())
 }
 
 /// The number of bytes that are the first of a character.
@@ -79,7 +70,7 @@ fn text_memory(bytes: &[u8]) -> u64
     ensures value { result ≡ text_memory bytes.now }
     ensures small { result ≤ 9_007_199_254_740_992 }
 {
-    if are_ascii(bytes) {
+    if is_ascii(bytes) {
         return 64 + bytes.len() as u64;
     }
     wide_memory(bytes)

@@ -1,6 +1,7 @@
 -- The test of each kind of contents, and its rule.
 pub mod Numerals
 pub mod Floats
+pub mod EachByte
 pub mod Names
 pub mod OldStringsSpelled
 pub mod OldStringsLoop

@@ -25,6 +25,7 @@ pub use arg::Arg;
 pub use codes::op_of_byte;
 pub use contents::Rule;
 pub use contents::escapes::spells_itself;
+pub use contents::name::is_ascii;
 pub use contents::utf8::is_utf8;
 pub use fault::Fault;
 pub use found::Scan;

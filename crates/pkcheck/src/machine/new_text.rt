@@ -11,13 +11,12 @@ ghost use Rattle.pkcheck.specs.Private.Spelled.{IsSpelled};
 ghost use Rattle.pkcheck.specs.Runs.{text};
 
 use crate::machine::ledger::Ledger;
-use crate::machine::old_text::is_ascii;
 use crate::machine::packed::Packed;
 use crate::machine::stack::Stack;
 use crate::machine::terms::Terms;
 use crate::machine::texts::text_spelled;
 use pkops::laws::{plain_line_is_text, text_is_named};
-use pkops::{Arg, Inst, Limits, Op, spells_itself};
+use pkops::{Arg, Inst, Limits, Op, is_ascii, spells_itself};
 use pkread::Reason;
 
 /// Adds a text to the table, and pushes its number.

@@ -8,7 +8,7 @@ ghost use Rattle.pkops.specs.OldBytes.{old_bytes};
 ghost use Rattle.pkops.specs.Spelling.{Counted, Line, instruction};
 ghost use Rattle.pkcheck.specs.Private.Spelled.{IsSpelled};
 
-use pkops::{Arg, Inst, Op, old_bytes_of};
+use pkops::{Arg, Inst, Op, is_ascii, old_bytes_of};
 use std::alloc::{AllocError, Global};
 
 /// Whether the Python 2 string of an instruction is ASCII.
@@ -59,11 +59,4 @@ fn has_ascii(alloc: Global, inst: &Inst<'_>) -> Result<bool, AllocError>
         Some(bytes) => Ok(is_ascii(&bytes)),
         None => Ok(is_ascii(&[])),
     }
-}
-
-/// Whether all bytes are ASCII.
-pub fn is_ascii(bytes: &[u8]) -> bool
-    ensures { result ≡ list_all is_ascii bytes.now }
-{
-    bytes.iter().all(|byte| byte.is_ascii())
 }

@@ -36,12 +36,14 @@ pub fn read_text(alloc: Global, line: &[u8]) -> Result<Option<String>, AllocErro
 }
 
 /// Whether a line of UNICODE is ASCII without a backslash, as most are. Such a line is its own text
-/// (`laws::plain_line_is_text`).
+/// (`laws::plain_line_is_text`). It looks at every byte, as `is_ascii` does.
 #[inline]
 pub fn spells_itself(line: &[u8]) -> bool
     ensures { result ≡ list_all is_plain_ascii line.now }
 {
-    line.iter().all(|byte| byte.is_ascii() && *byte != b'\\')
+    line.iter().fold(true, |plain, byte| {
+        plain & (byte.is_ascii() & (*byte != b'\\'))
+    })
 }
 
 /// The text of a plain line.

@@ -8,9 +8,6 @@ use crate::contents::name::is_ascii;
 /// The length from which on `simdutf8` is faster than `std`.
 const LONG: usize = 40;
 
-/// The length up to which ASCII is found fastest byte by byte.
-const SHORT: usize = 16;
-
 /// Whether the bytes are UTF-8. Long ones are checked without byte shuffles, because the shipped
 /// libraries also run on processors that lack them.
 #[inline]
@@ -20,7 +17,7 @@ pub fn is_utf8(bytes: &[u8]) -> bool
     if bytes.len() >= LONG {
         return simdutf8::is_utf8_baseline(bytes);
     }
-    if bytes.len() <= SHORT && is_ascii(bytes) {
+    if is_ascii(bytes) {
         return true;
     }
     match str::from_utf8(bytes) {
