@@ -1,17 +1,19 @@
 #!/usr/bin/env python3
 """Wrong versions of the code that the prover must refuse: must-fail edits.
 
-The gate tries those in `crates/NAME/must-fail` each time, and a tenth of those in
-`crates/NAME/edits`, chosen by the digest of the sources. The first edit of a crate costs a check of
-the whole crate, so a tenth is of as few crates as it takes.
+An edit names the function whose contract it breaks, and is tried by the proof of that function. The
+gate tries those in `crates/NAME/must-fail` each time, and a tenth of those in `crates/NAME/edits`,
+chosen by the digest of the sources.
 
     tests/edits.py                  checks that each edit can still be applied
-    tests/edits.py try [NAME ..]    tries all in `edits` of these crates, or of all of them
-    tests/edits.py gate             runs `rt ci` with a tenth of them beside those in `must-fail`
+    tests/edits.py try [NAME ..]    tries those in both folders of these crates, or of all of them
+    tests/edits.py gate             runs `rt ci`, and then tries those of the gate
 
-The first and the last end with a line `N passed, M failed`. Trying needs the Rattle toolchain.
+Each ends with a line `N passed, M failed`. Trying needs the Rattle toolchain. It takes the
+libraries that `rt` has built here, and builds those that are missing.
 """
 import argparse
+import concurrent.futures
 import contextlib
 import hashlib
 import os
@@ -22,53 +24,73 @@ import signal
 import subprocess
 import sys
 import tempfile
-from typing import Iterator, List, Sequence, Tuple
+from typing import Dict, Iterator, List, NamedTuple, Sequence, Tuple
 
 ROOT = pathlib.Path(__file__).resolve().parent.parent
+# Copies of libraries are links in here, and no tool looks into it.
+ROOM = ROOT / ".git" if (ROOT / ".git").is_dir() else None
 MOST = 50
 SHARE = 10
 # What a check takes of the memory, in bytes.
 CHECK = 5 << 30
-NO_VERDICT = ": BAD EDIT: "
+# A text that the prover can't read, so that no contract is tried.
+UNREAD = re.compile(r"(\./)?(src|specs)/\S+:\d+:\d+: error")
+PLACE = re.compile(r"(note: )?\S+:\d+:\d+: ")
 
 
-def edits_in(folder: str) -> List[pathlib.Path]:
-    return sorted(ROOT.glob(f"crates/*/{folder}/*.edit"))
+class Edit(NamedTuple):
+    crate: str
+    file: pathlib.Path
+    # The name of the function whose contract it breaks, or the end of it, as `rt check` prints it.
+    function: str
+    # The files that it changes, by their paths in the crate.
+    texts: Dict[str, str]
+    # Why it can't be applied, or nothing.
+    fault: str
+
+    def name(self) -> str:
+        return str(self.file.relative_to(ROOT))
 
 
-def fault_of(edit: pathlib.Path) -> str:
-    """Why an edit can't be applied to the crate that it lies in, or nothing."""
-    crate, path, old, changes = edit.parent.parent, "", "", 0
-    texts = {}
-    for line in edit.read_text(encoding="utf-8").splitlines():
+def read_edit(file: pathlib.Path) -> Edit:
+    crate, path, old, function, fault = file.parent.parent, "", "", "", ""
+    texts: Dict[str, str] = {}
+    changes = 0
+    for line in file.read_text(encoding="utf-8").splitlines():
         kind, _, text = line.partition(" ")
-        if kind == "file:":
+        if kind == "function:":
+            function = text
+        elif kind == "file:":
             path = text.strip()
             if path not in texts:
-                file = crate / path
-                texts[path] = file.read_text(encoding="utf-8") if file.is_file() else ""
+                source = crate / path
+                texts[path] = source.read_text(encoding="utf-8") if source.is_file() else ""
         elif kind == "old:":
             old = text
         elif kind == "new:" and path and old:
             found = texts[path].count(old)
             if found != 1:
-                return f"its text is {found} times in {path}, and not once: {old.strip()}"
+                fault = f"its text is {found} times in {path}, and not once: {old.strip()}"
             texts[path] = texts[path].replace(old, text)
             changes += old != text
-    return "" if changes else "it changes nothing"
+    if not changes:
+        fault = "it changes nothing"
+    elif not function:
+        fault = fault or "it names no function"
+    return Edit(crate.name, file, function, texts, fault)
+
+
+def edits_in(folder: str) -> List[Edit]:
+    return [read_edit(it) for it in sorted(ROOT.glob(f"crates/*/{folder}/*.edit"))]
 
 
 def check() -> int:
-    faults = []
     always, others = edits_in("must-fail"), edits_in("edits")
-    for edit in always + others:
-        fault = fault_of(edit)
-        if fault:
-            faults.append(f"{edit.relative_to(ROOT)}: {fault}")
-    kept = {(edit.parent.parent, edit.name) for edit in always}
+    faults = [f"{edit.name()}: {edit.fault}" for edit in always + others if edit.fault]
+    kept = {(edit.crate, edit.file.name) for edit in always}
     for edit in others:
-        if (edit.parent.parent, edit.name) in kept:
-            faults.append(f"{edit.relative_to(ROOT)}: it is in must-fail too")
+        if (edit.crate, edit.file.name) in kept:
+            faults.append(f"{edit.name()}: it is in must-fail too")
     if len(always) > MOST:
         faults.append(f"{len(always)} edits in must-fail, at most {MOST}: move some to edits")
     for fault in faults:
@@ -77,80 +99,158 @@ def check() -> int:
     return 1 if faults else 0
 
 
-def chosen() -> List[pathlib.Path]:
+def chosen() -> List[Edit]:
     """A tenth of the edits, others for each state of the sources."""
     ran = subprocess.run([ROOT / "release/sources", "program"], check=True, stdout=subprocess.PIPE)
 
-    def place(edit: pathlib.Path) -> Tuple[bytes, bytes]:
-        crate, name = (hashlib.sha256(ran.stdout + os.fsencode(it)) for it in edit.parts[-3::2])
-        return crate.digest(), name.digest()
+    def place(edit: Edit) -> bytes:
+        return hashlib.sha256(ran.stdout + os.fsencode(edit.crate + edit.file.name)).digest()
 
     others = sorted(edits_in("edits"), key=place)
     return others[: -(-len(others) // SHARE)]
 
 
-@contextlib.contextmanager
-def beside(edits: Sequence[pathlib.Path]) -> Iterator[None]:
-    """Has copies of the edits in the folders that the prover reads."""
-    copies = [edit.parent.parent / "must-fail" / edit.name for edit in edits]
-    try:
-        for edit, copy in zip(edits, copies):
-            shutil.copyfile(edit, copy)
-        yield
-    finally:
-        for copy in copies:
-            copy.unlink()
-
-
-def lanes() -> str:
+def lanes() -> int:
     """How many checks run side by side, one job each: as many as the processors and the memory
     carry. Left to itself, `rt ci` gives several processors to a library, whose check uses one.
     """
     memory = os.sysconf("SC_PHYS_PAGES") * os.sysconf("SC_PAGE_SIZE")
-    return str(max(1, min(len(os.sched_getaffinity(0)), memory // CHECK)))
+    return max(1, min(len(os.sched_getaffinity(0)), memory // CHECK))
 
 
-def gate() -> int:
-    """Runs `rt ci`. It passes over an edit that it can't apply or read: here that is a failure."""
-    edits = chosen()
-    print(f"{len(edits)} edits beside those in must-fail:", flush=True)
-    for edit in edits:
-        print(f"  {edit.relative_to(ROOT)}", flush=True)
-    unread, last = 0, ""
-    how = {"RT_JOBS": lanes(), **os.environ}
-    with beside(edits), subprocess.Popen(
+def link(source: str, target: str) -> None:
+    try:
+        os.link(source, target)
+    except OSError:  # another file system
+        shutil.copyfile(source, target)
+
+
+def copy_to(room: pathlib.Path) -> None:
+    """Copies the crates and the libraries that are built of them, and no edits."""
+    for file in ("crates.txt", "HANDLES"):
+        shutil.copyfile(ROOT / file, room / file)
+    unread = shutil.ignore_patterns("out", "must-fail", "edits")
+    shutil.copytree(ROOT / "crates", room / "crates", ignore=unread)
+    for library in ROOT.glob("crates/*/out/rlib"):
+        shutil.copytree(library, room / library.relative_to(ROOT), copy_function=link)
+
+
+def checked(crate: pathlib.Path, *options: str) -> Tuple[int, List[str]]:
+    ran = subprocess.run(
+        ["rt", "check", "--jobs", "1", *options],
+        cwd=crate,
+        stdin=subprocess.DEVNULL,
+        stdout=subprocess.PIPE,
+        stderr=subprocess.STDOUT,
+        encoding="utf-8",
+        errors="replace",
+    )
+    return ran.returncode, ran.stdout.splitlines()
+
+
+def try_edit(edit: Edit, crate: pathlib.Path) -> Tuple[bool, str]:
+    """Whether the prover refuses an edit, and what it says."""
+    if edit.fault:
+        return False, edit.fault
+    kept = {path: (crate / path).read_text(encoding="utf-8") for path in edit.texts}
+    for path, text in edit.texts.items():
+        (crate / path).write_text(text, encoding="utf-8")
+    status, lines = checked(crate, "--only", edit.function)
+    by = ""
+    if status == 0 or not any(line.startswith("fn ") for line in lines):
+        # The function has another name, or its contract says too little: does any contract break?
+        by = f", though not by {edit.function}"
+        status, lines = checked(crate)
+    for path, text in kept.items():
+        (crate / path).write_text(text, encoding="utf-8")
+    unread = next((line for line in lines if UNREAD.match(line)), "")
+    if unread:
+        return False, f"the prover can't read it: {unread}"
+    unproved = re.compile(r"fn \S+: (?!proved|no holes)")
+    if status == 1 and any(unproved.match(line) for line in lines):
+        first = next((line for line in lines if PLACE.match(line)), "")
+        return True, f"refused{by}: {first}"
+    return False, "NOT REFUSED" if status == 0 else f"no verdict: {' '.join(lines[-3:])}"
+
+
+def try_in_turn(edits: Sequence[Edit]) -> List[Tuple[bool, str]]:
+    """Tries the edits of a crate, each over what the checks of those before it proved."""
+    with tempfile.TemporaryDirectory(prefix="edits-", dir=ROOM) as room:
+        copy_to(pathlib.Path(room))
+        crate = pathlib.Path(room) / "crates" / edits[0].crate
+        tried = []
+        for edit in edits:
+            refused, said = try_edit(edit, crate)
+            print(f"{edit.name()}: {said[:300]}", flush=True)
+            tried.append((refused, edit.name()))
+        return tried
+
+
+def try_all(edits: Sequence[Edit]) -> int:
+    """Tries edits, several crates side by side, and returns how many of them aren't refused."""
+    crates = sorted({edit.crate for edit in edits})
+    of_crate = [[edit for edit in edits if edit.crate == it] for it in crates]
+    of_crate.sort(key=len, reverse=True)
+    with concurrent.futures.ThreadPoolExecutor(lanes()) as pool:
+        tried = [it for several in pool.map(try_in_turn, of_crate) for it in several]
+    faults = [name for refused, name in tried if not refused]
+    for name in faults:
+        print(f"failed: {name}")
+    return len(faults)
+
+
+@contextlib.contextmanager
+def without_edits() -> Iterator[None]:
+    """Has the edits out of the folders from which `rt ci` would try them with whole crates."""
+    folders = sorted(ROOT.glob("crates/*/must-fail"))
+    with tempfile.TemporaryDirectory(prefix="must-fail-", dir=ROOM) as aside:
+        try:
+            for folder in folders:
+                shutil.move(folder, pathlib.Path(aside) / folder.parent.name)
+            yield
+        finally:
+            for folder in folders:
+                if not folder.exists():
+                    shutil.move(pathlib.Path(aside) / folder.parent.name, folder)
+
+
+def prove_all() -> Tuple[int, int]:
+    """Runs `rt ci`, and returns how much passed and how much failed."""
+    last = ""
+    how = {"RT_JOBS": str(lanes()), **os.environ}
+    with without_edits(), subprocess.Popen(
         ["rt", "ci"], cwd=ROOT, env=how, stdout=subprocess.PIPE, encoding="utf-8", errors="replace"
     ) as running:
         assert running.stdout
         for line in running.stdout:
-            unread += NO_VERDICT in line
-            if last:
-                print(last, flush=True)
-            last = line.rstrip("\n")
+            print(line, end="", flush=True)
+            last = line
     counts = re.match(r"(\d+) passed, (\d+) failed", last)
     passed, failed = map(int, counts.groups()) if counts else (0, 1)
-    print(f"{passed} passed, {failed + unread} failed")
-    return 1 if running.returncode or failed + unread else 0
+    return passed, failed or int(running.returncode != 0)
 
 
-def try_all(names: Sequence[str]) -> int:
-    """Tries the edits in a copy of the repository, which has no others."""
-    with tempfile.TemporaryDirectory(prefix="edits-") as room:
-        copy = pathlib.Path(room)
-        for file in ("crates.txt", "HANDLES"):
-            shutil.copyfile(ROOT / file, copy / file)
-        unread = shutil.ignore_patterns("out", "must-fail", "edits")
-        shutil.copytree(ROOT / "crates", copy / "crates", ignore=unread)
-        wanted = [edit for edit in edits_in("edits") if edit.parent.parent.name in names]
-        for edit in wanted:
-            folder = copy / "crates" / edit.parent.parent.name / "must-fail"
-            folder.mkdir(exist_ok=True)
-            shutil.copyfile(edit, folder / edit.name)
-        return subprocess.run(["rt", "must-fail", *names], cwd=copy).returncode
+def gate() -> int:
+    passed, failed = prove_all()
+    edits = edits_in("must-fail") + chosen()
+    if failed:
+        print("the edits are not tried: what they edit is not proved")
+    else:
+        failed = try_all(edits)
+        passed += len(edits) - failed
+    print(f"{passed} passed, {failed} failed")
+    return 1 if failed else 0
+
+
+def try_those_of(crates: Sequence[str]) -> int:
+    edits = [it for it in edits_in("must-fail") + edits_in("edits") if it.crate in crates]
+    failed = try_all(edits)
+    print(f"{len(edits) - failed} passed, {failed} failed")
+    return 1 if failed else 0
 
 
 def main() -> int:
-    crates = sorted({edit.parent.parent.name for edit in edits_in("edits")})
+    crates = sorted({edit.parent.parent.name for edit in ROOT.glob("crates/*/*/*.edit")})
     parser = argparse.ArgumentParser(description=__doc__.partition("\n")[0])
     parser.add_argument("action", nargs="?", default="check", choices=["check", "try", "gate"])
     parser.add_argument("names", nargs="*", metavar="NAME", help="a crate, with `try`")
@@ -161,7 +261,7 @@ def main() -> int:
     if options.action == "gate":
         return gate()
     if options.action == "try":
-        return try_all(options.names or crates)
+        return try_those_of(options.names or crates)
     return check()
 
 

@@ -248,18 +248,46 @@ class Groups(Copies):
 class Gate(Copies):
     """`.ci/run` with a fake toolchain."""
 
-    def test_edits_and_counts(self) -> None:
-        always = len(list(self.copy.glob("crates/*/must-fail/*.edit")))
-        others = len(list(self.copy.glob("crates/*/edits/*.edit")))
-        count = "ls crates/*/must-fail/*.edit | wc -l"
-        bad = "echo 'rt: must-fail a/b.edit: BAD EDIT: it changes nothing'"
-        self.script(self.fakes / "rt", count, bad, "echo '7 passed, 0 failed'")
+    def edits(self, folder: str) -> List[pathlib.Path]:
+        return sorted(self.copy.glob(f"crates/*/{folder}/*.edit"))
+
+    def gate(self, *lines: str) -> Tuple[int, List[str]]:
+        """Runs the gate; `rt` proves all if it sees no edits, and then tries each by these lines."""
+        self.script(
+            self.fakes / "rt",
+            "[ $1 = ci ] && ls crates/*/must-fail 2>/dev/null && exit 1",
+            "[ $1 = ci ] && echo '7 passed, 0 failed' && exit",
+            *lines,
+            "echo 'note: src/lib.rt:1:1: it is not proved'",
+            "echo 'fn a::b: not proved'",
+            "exit 1",
+        )
         self.script(self.copy / "test", 'echo "words: $*"', "echo 5 passed, 0 failed, 1 skipped")
-        status, lines = self.ran(".ci/run", CC="true")
-        self.assertEqual((status, self.counts(lines)), (1, [12, 1, 1]))
-        self.assertIn(str(always + -(-others // 10)), lines)
-        self.assertIn("words: --install --built", lines)
-        self.assertEqual(len(list(self.copy.glob("crates/*/must-fail/*.edit"))), always)
+        always = self.edits("must-fail")
+        status, printed = self.ran(".ci/run", CC="true")
+        self.assertIn("words: --install --built", printed)
+        self.assertEqual(self.edits("must-fail"), always)
+        return status, printed
+
+    def test_edits_and_counts(self) -> None:
+        status, lines = self.gate()
+        tried = len(self.edits("must-fail")) + -(-len(self.edits("edits")) // 10)
+        self.assertEqual((status, self.counts(lines)), (0, [12 + tried, 0, 1]))
+
+    def test_edits_that_are_not_refused(self) -> None:
+        first, second = self.edits("must-fail")[:2]
+        for edit, name in ((first, "x::not_refused"), (second, "x::not_read")):
+            text = edit.read_text()
+            edit.write_text(re.sub("^function: .*", f"function: {name}", text, flags=re.M))
+        status, lines = self.gate(
+            'case "$5" in',
+            "x::not_refused | '') echo 'fn a::b: proved'; exit ;;",
+            "x::not_read) echo 'src/lib.rt:1:1: error[unknown-field]: no field'; exit 1 ;;",
+            "esac",
+        )
+        self.assertEqual((status, self.counts(lines)[1]), (1, 2))
+        for edit in (first, second):
+            self.assertIn(f"failed: {edit.relative_to(self.copy)}", lines)
 
     def test_an_edit_that_cannot_be_applied(self) -> None:
         edit = next(iter(sorted(self.copy.glob("crates/*/edits/*.edit"))))
