@@ -9,8 +9,8 @@ chosen by the digest of the sources.
     tests/edits.py try [NAME ..]    tries those in both folders of these crates, or of all of them
     tests/edits.py gate             runs `rt ci`, and then tries those of the gate
 
-Each ends with a line `N passed, M failed`. Trying needs the Rattle toolchain. It takes the
-libraries that `rt` has built here, and builds those that are missing.
+Each ends with a line `N passed, M failed`. Trying needs the Rattle toolchain, and the libraries
+that `rt ci` or `rt check` has built here.
 """
 import argparse
 import concurrent.futures
@@ -27,15 +27,14 @@ import tempfile
 from typing import Dict, Iterator, List, NamedTuple, Sequence, Tuple
 
 ROOT = pathlib.Path(__file__).resolve().parent.parent
-# Copies of libraries are links in here, and no tool looks into it.
-ROOM = ROOT / ".git" if (ROOT / ".git").is_dir() else None
 MOST = 50
 SHARE = 10
 # What a check takes of the memory, in bytes.
 CHECK = 5 << 30
 # A text that the prover can't read, so that no contract is tried.
 UNREAD = re.compile(r"(\./)?(src|specs)/\S+:\d+:\d+: error")
-PLACE = re.compile(r"(note: )?\S+:\d+:\d+: ")
+REFUSAL = re.compile(r"(note: )?\S+:\d+:\d+: (error|.*not proved)")
+UNPROVED = re.compile(r"fn \S+: (?!proved|no holes)")
 
 
 class Edit(NamedTuple):
@@ -118,26 +117,44 @@ def lanes() -> int:
     return max(1, min(len(os.sched_getaffinity(0)), memory // CHECK))
 
 
-def link(source: str, target: str) -> None:
-    try:
-        os.link(source, target)
-    except OSError:  # another file system
-        shutil.copyfile(source, target)
+def own_libraries() -> Dict[str, List[str]]:
+    """The libraries that each crate names, of this repository and of the kit."""
+    lines = (ROOT / "crates.txt").read_text(encoding="utf-8").splitlines()
+    rows = [line.partition(":") for line in lines if line and not line.startswith("#")]
+    return {name.split()[0]: libraries.split() for name, _, libraries in rows}
 
 
-def copy_to(room: pathlib.Path) -> None:
-    """Copies the crates and the libraries that are built of them, and no edits."""
-    for file in ("crates.txt", "HANDLES"):
-        shutil.copyfile(ROOT / file, room / file)
-    unread = shutil.ignore_patterns("out", "must-fail", "edits")
-    shutil.copytree(ROOT / "crates", room / "crates", ignore=unread)
-    for library in ROOT.glob("crates/*/out/rlib"):
-        shutil.copytree(library, room / library.relative_to(ROOT), copy_function=link)
+def below(name: str, libraries: Dict[str, List[str]]) -> List[str]:
+    """The crates of this repository that a crate uses, directly or not."""
+    found: List[str] = []
+    for it in libraries[name]:
+        if it in libraries:
+            found += [more for more in [it, *below(it, libraries)] if more not in found]
+    return found
 
 
-def checked(crate: pathlib.Path, *options: str) -> Tuple[int, List[str]]:
+def words_of(name: str) -> List[str]:
+    """The check of a crate over the libraries that `rt ci` has built here: `rattle check --help`.
+    `rt check` would prove these libraries anew.
+    """
+    guide = subprocess.run(["rt", "doc"], check=True, stdout=subprocess.PIPE, encoding="utf-8")
+    kit = pathlib.Path(guide.stdout.strip()).parent
+    libraries = own_libraries()
+    rlibs = {it: ROOT / "crates" / it / "out/rlib" for it in below(name, libraries)}
+    words = [str(kit / "bin/rattle"), "check", "--crate-name", name]
+    is_program = (ROOT / "crates" / name / "src/main.rt").exists()
+    words.append("src/main.rt" if is_program else "src/lib.rt")
+    for it in ["std", *libraries[name]]:
+        words += ["--extern", f"{it}={rlibs.get(it, kit / 'rlibs') / it}.rlib"]
+    for folder in [kit / "rlibs", *rlibs.values()]:
+        words += ["-L", f"dependency={folder}"]
+    words += ["--antt-project", str(kit / "rattle/logic/antt-project.json")]
+    return words + ["--logic-built", str(kit / "logic_built"), "--jobs", "1"]
+
+
+def checked(words: Sequence[str], crate: pathlib.Path) -> Tuple[int, List[str]]:
     ran = subprocess.run(
-        ["rt", "check", "--jobs", "1", *options],
+        words,
         cwd=crate,
         stdin=subprocess.DEVNULL,
         stdout=subprocess.PIPE,
@@ -148,39 +165,42 @@ def checked(crate: pathlib.Path, *options: str) -> Tuple[int, List[str]]:
     return ran.returncode, ran.stdout.splitlines()
 
 
-def try_edit(edit: Edit, crate: pathlib.Path) -> Tuple[bool, str]:
-    """Whether the prover refuses an edit, and what it says."""
+def try_edit(edit: Edit, words: Sequence[str], crate: pathlib.Path) -> Tuple[bool, str]:
+    """Whether the prover refuses an edit of the crate in this folder, and what it says."""
     if edit.fault:
         return False, edit.fault
     kept = {path: (crate / path).read_text(encoding="utf-8") for path in edit.texts}
     for path, text in edit.texts.items():
         (crate / path).write_text(text, encoding="utf-8")
-    status, lines = checked(crate, "--only", edit.function)
+    status, lines = checked([*words, "--only", edit.function], crate)
     by = ""
     if status == 0 or not any(line.startswith("fn ") for line in lines):
         # The function has another name, or its contract says too little: does any contract break?
         by = f", though not by {edit.function}"
-        status, lines = checked(crate)
+        status, lines = checked(words, crate)
     for path, text in kept.items():
         (crate / path).write_text(text, encoding="utf-8")
     unread = next((line for line in lines if UNREAD.match(line)), "")
     if unread:
         return False, f"the prover can't read it: {unread}"
-    unproved = re.compile(r"fn \S+: (?!proved|no holes)")
-    if status == 1 and any(unproved.match(line) for line in lines):
-        first = next((line for line in lines if PLACE.match(line)), "")
+    if status == 1 and any(UNPROVED.match(line) for line in lines):
+        first = next((line for line in lines if REFUSAL.match(line)), "")
         return True, f"refused{by}: {first}"
     return False, "NOT REFUSED" if status == 0 else f"no verdict: {' '.join(lines[-3:])}"
 
 
 def try_in_turn(edits: Sequence[Edit]) -> List[Tuple[bool, str]]:
     """Tries the edits of a crate, each over what the checks of those before it proved."""
-    with tempfile.TemporaryDirectory(prefix="edits-", dir=ROOM) as room:
-        copy_to(pathlib.Path(room))
-        crate = pathlib.Path(room) / "crates" / edits[0].crate
+    name = edits[0].crate
+    words = words_of(name)
+    with tempfile.TemporaryDirectory(prefix="edits-") as room:
+        crate = pathlib.Path(room) / "crate"
+        unread = shutil.ignore_patterns("out", "must-fail", "edits")
+        shutil.copytree(ROOT / "crates" / name, crate, ignore=unread)
+        words += ["--incremental", str(pathlib.Path(room) / "kept")]
         tried = []
         for edit in edits:
-            refused, said = try_edit(edit, crate)
+            refused, said = try_edit(edit, words, crate)
             print(f"{edit.name()}: {said[:300]}", flush=True)
             tried.append((refused, edit.name()))
         return tried
@@ -203,7 +223,7 @@ def try_all(edits: Sequence[Edit]) -> int:
 def without_edits() -> Iterator[None]:
     """Has the edits out of the folders from which `rt ci` would try them with whole crates."""
     folders = sorted(ROOT.glob("crates/*/must-fail"))
-    with tempfile.TemporaryDirectory(prefix="must-fail-", dir=ROOM) as aside:
+    with tempfile.TemporaryDirectory(prefix="must-fail-") as aside:
         try:
             for folder in folders:
                 shutil.move(folder, pathlib.Path(aside) / folder.parent.name)
