@@ -107,8 +107,44 @@ NO_LISTS = [
     (b"version = 1\nimports = { a = 1 }", "Shape(Module)"),
     (b"version = 1\nimports = { a = [1] }", "Shape(Name)"),
     (b"version = 2\nimports = {}\nlimits = 1", "Shape(Limits)"),
-    (b"version = 2\nimports = {}\nlimits = { heap = 1 }", "Shape(LimitKey)"),
-    (b"version = 2\nimports = {}\nlimits = { stack = 1000001 }", "Shape(Limit)"),
+    (b"", "Shape(Version)"),
+    (b'version = "1"', "Shape(Version)"),
+    (b"version = 1.0\n[imports]", "Shape(Version)"),
+    (b"version = 3\nmore = 1", "Version"),
+    (b"version = 1\nmore = 1", "Shape(TopKey)"),
+    (b"version = 1\nimports = 1", "Shape(Imports)"),
+    (b'version = 1\n[imports]\nm = "f"', "Shape(Module)"),
+    (b'version = 1\n[imports]\n"" = ["f"]', "Shape(Module)"),
+    (b'version = 1\n[imports]\nm = [""]', "Shape(Name)"),
+    (b"version = 1\n[imports]\nm = [1]", "Shape(Name)"),
+    (b"version = 1\n[imports]\nb = 1\na = [1]", "Shape(Name)"),
+    (b"version = 1\n[imports]\na = 1\nb = [1]", "Shape(Module)"),
+    (b"version = 2\nlimits = 1", "Shape(Imports)"),
+    (b"version = 2\nimports = {}\nmore = 1", "Shape(TopKey)"),
+    (b"version = 1\nimports = {}\nlimits = {}", "Shape(TopKey)"),
+    (b"version = 2\nimports = { m = 1 }\nlimits = 1", "Shape(Module)"),
+]
+
+# The limits of a list, and its first error: keys are read in the order of their bytes.
+NO_LIMITS = [
+    (b"heap = 1", "Shape(LimitKey)"),
+    (b"stack = 1000001", "Shape(Limit)"),
+    (b"passed = 1099511627777", "Shape(Limit)"),
+    (b"memo = -1", "Shape(Limit)"),
+    (b"memo = 1.0", "Shape(Limit)"),
+    (b"stack = -1, heap = 1", "Shape(LimitKey)"),
+    (b"value = 1, stack = -1", "Shape(Limit)"),
+    (b"large = false", "Shape(Limit)"),
+    (b"large = 1", "Shape(Limit)"),
+    (b'large = "true"', "Shape(Limit)"),
+    (b"heap = 1, large = false", "Shape(LimitKey)"),
+    (b"heap = 1, large = true", "Shape(LimitKey)"),
+    (b"large = false, values = -1, zero = 1", "Shape(Limit)"),
+    (b"counted = -1, heap = 1, large = true", "Shape(Limit)"),
+    (b"large = true, stack = 4294967296", "Shape(Limit)"),
+    (b"large = true, depth = 101", "Shape(Limit)"),
+    (b"numbers = 4294967296", "Shape(Limit)"),
+    (b"numbers = -1", "Shape(Limit)"),
 ]
 
 # The code of a payload of 200,000 bytes, by its opcode.
@@ -142,7 +178,8 @@ def checks() -> Iterator[Row]:
         for word, said in zip(("unknown", "ascii", "bytes"), answers):
             status = int(not said.startswith("yes"))
             yield check_of(ONE_PAIR, f"--old-strings {word}", pickle, status, said)
-    for allow, reason in NO_LISTS:
+    faulty = [(b"version = 2\nimports = {}\nlimits = { %s }" % it, why) for it, why in NO_LIMITS]
+    for allow, reason in NO_LISTS + faulty:
         yield check_of(allow, "", DICT, 2, f"list: {reason}")
     for start, count, end, status, said in PAYLOADS:
         yield check_of(NOTHING, "", start + count * b"." + end, status, said)

@@ -28,7 +28,6 @@ TESTS = [
     "exported::refusals",
     "exported::values",
     "lists::pairs_of_a_list",
-    "lists::the_first_error",
     "opcodes::each_opcode",
     "optimized::in_one_frame",
     "optimized::refused_by_the_check",

@@ -19,6 +19,7 @@ _END = re.compile(r"[ \t]*(?:#[^\n]*)?(?:\r?\n|\Z)")
 _KEY = re.compile(r'[A-Za-z0-9_-]+|"(?:[^"\\\n]|\\.)*"|\'[^\'\n]*\'')
 _LONG_TEXT = re.compile(r'"""(?:[^\\]|\\.)*?"{3,5}|\'\'\'.*?\'{3,5}', re.DOTALL)
 _TEXT = re.compile(r'"(?:[^"\\\n]|\\.)*"|\'[^\'\n]*\'')
+_ESCAPE = re.compile(r'\\(?:[btnfr"\\]|u[0-9A-Fa-f]{4}|U[0-9A-Fa-f]{8}|[ \t]*\r?\n)')
 _WORD = re.compile(r"[^\s,\[\]{}#\"'=]+")
 
 
@@ -71,12 +72,17 @@ class _Reader:
         """The top table."""
         top: Dict[str, _Node] = {}
         table = top
+        begun: Dict[Tuple[str, ...], int] = {}
         self.take(_BLANK)
         while self.at < len(self.text):
             line = self.line()
             if self.sees("["):
                 self.at += 1
-                table = self.table_at(top, self.keys("]"), line)
+                path = self.keys("]")
+                if begun.setdefault(tuple(path), line) != line:
+                    first = begun[tuple(path)]
+                    raise _Stop(line, f"{_shown(path[-1])} is there already, in line {first}")
+                table = self.table_at(top, path, line)
             else:
                 self.pair(table)
             end = _END.match(self.text, self.at)
@@ -137,8 +143,9 @@ class _Reader:
         self.take(_SPACE)
         value = self.value()
         if last in table:
-            first = table[last].line
-            raise _Stop(line, f"{_shown(last)} is there already, in line {first}: write one array")
+            more = ": write one array" if isinstance(value, list) else ""
+            there = f"is there already, in line {table[last].line}"
+            raise _Stop(line, f"{_shown(last)} {there}{more}")
         table[last] = _Node(line, value)
 
     def value(self) -> Any:
@@ -148,10 +155,14 @@ class _Reader:
             return self.inline()
         text = self.take(_LONG_TEXT) or self.take(_TEXT)
         if text:
+            if text[0] == '"' and "\\" in _ESCAPE.sub("", text):
+                raise self.stop("double each backslash, or write the text in single quotes")
             return _Text(_unquoted(text))
         word = self.take(_WORD)
         if not word:
             raise self.stop("a value is missing, or a text isn't closed")
+        if word in ("True", "False"):
+            raise self.stop(f"write {word.lower()}")
         if not _is_value(word):
             raise self.stop(f'quote a text: "{_short(word)}"')
         return _number(word)
@@ -196,10 +207,13 @@ class _Text(str):
 
 def _unread(front: str, is_ended: bool, end: str) -> str:
     """What to write where no key can be read."""
+    if re.match(r"version:? *\d", front):
+        return "write version = 2"
     if not is_ended:
         what = "a table as [imports]" if end == "]" else 'a module as module = ["name"]'
         return f"write {what}"
-    return f'quote it: "{_short(front)}"'
+    bare = front.strip("'\"")
+    return f'quote it: "{_short(bare)}"'
 
 
 def _unquoted(part: str) -> str:
@@ -298,7 +312,8 @@ def _name(top: Dict[str, _Node]) -> Place:
     for module, node in _modules(top):
         for name in node.value if isinstance(node.value, list) else ():
             if not isinstance(name, _Text) or not name:
-                return Place(node.line, f"each name of {_shown(module)} is a text in quotes")
+                what = "a text in quotes, and not empty"
+                return Place(node.line, f"each name of {_shown(module)} is {what}")
     return Place(0, "")
 
 

@@ -238,6 +238,8 @@ static void bills(void) {
     IS(CHECK(listed, &standard, "})\x85Ns.") == STORKLOCKER_YES && verdict.weight == 0);
     IS(CHECK_ROW(&limits, "}K\1Ns.})\x85Ns.") == STORKLOCKER_YES && verdict.pickles == 2);
     IS(verdict.levels == 2 && verdict.weight == 2 && verdict.work == 2 && verdict.clash == 2);
+    IS(CHECK_ROW(&limits, "})\x85Ns.}K\1)\x85\x85s.") == STORKLOCKER_YES && verdict.pickles == 2);
+    IS(verdict.levels == 0 && verdict.work == 1 && verdict.memory == 512);
     given.levels = 1;
     IS(CHECK_ROW(&given, "}K\1Ns.})\x85Ns.") == STORKLOCKER_NO && verdict.pickles == 1);
     IS(verdict.reason == STORKLOCKER_DEEP_KEY && verdict.at == 10 && verdict.weight == 0);

@@ -7,8 +7,6 @@
 
 mod numbered_map;
 mod pile;
-#[cfg(test)]
-mod tests;
 
 pub use numbered_map::NumberedMap;
 pub use pile::Pile;

@@ -17,8 +17,6 @@ mod costs;
 mod encoding;
 mod list;
 mod settings;
-#[cfg(test)]
-mod tests;
 mod verdict;
 
 ghost use Rattle.std.specs.Prelude.{◌≡◌, ◌≢◌, ◌≤◌, None, Some};

@@ -18,8 +18,6 @@ mod operands;
 mod packed;
 mod stack;
 mod tally;
-#[cfg(test)]
-mod tests;
 mod tolls;
 
 pub use checking::{Costly, YesWithBill, check_loading};

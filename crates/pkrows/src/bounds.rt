@@ -6,125 +6,125 @@ use pkops::{
 };
 use std::test::Fail;
 
-#[derive(Clone, Copy, PartialEq, Eq)]
-enum Found {
-    Whole(Op, usize),
-    More,
-    Bad(Fault),
-}
+/// The opcode and the length of an instruction, or what is wrong with it. Neither: more is needed.
+type Found = (Option<Op>, usize, Option<Fault>);
 
 fn read(bytes: &[u8]) -> Found {
     match scan(bytes, &Limits::STANDARD) {
-        Scan::Whole(inst, length) => Found::Whole(inst.op(), length),
-        Scan::More => Found::More,
-        Scan::Bad(fault) => Found::Bad(fault),
+        Scan::Whole(inst, length) => (Some(inst.op()), length, None),
+        Scan::More => MORE,
+        Scan::Bad(fault) => (None, 0, Some(fault)),
     }
 }
 
-const BAD: Found = Found::Bad(Fault::BadArgument);
+const MORE: Found = (None, 0, None);
 
-const LARGE: Found = Found::Bad(Fault::TooLarge);
+const BAD: Found = (None, 0, Some(Fault::BadArgument));
+
+const LARGE: Found = (None, 0, Some(Fault::TooLarge));
+
+const UNKNOWN: Found = (None, 0, Some(Fault::UnknownOpcode(255)));
 
 const CODES: [(&[u8], Found); 7] = [
-    (b"", Found::More),
-    (b"\xff", Found::Bad(Fault::UnknownOpcode(255))),
-    (b"J\xff\xff\xff\xff", Found::Whole(Op::BinInt, 5)),
-    (b"J\xff\xff\xff\xff.", Found::Whole(Op::BinInt, 5)),
-    (b"\x82\x05", Found::Whole(Op::Ext1, 2)),
-    (b"\x82", Found::More),
-    (b"\x80\x06", Found::Whole(Op::Proto, 2)),
+    (b"", MORE),
+    (b"\xff", UNKNOWN),
+    (b"J\xff\xff\xff\xff", (Some(Op::BinInt), 5, None)),
+    (b"J\xff\xff\xff\xff.", (Some(Op::BinInt), 5, None)),
+    (b"\x82\x05", (Some(Op::Ext1), 2, None)),
+    (b"\x82", MORE),
+    (b"\x80\x06", (Some(Op::Proto), 2, None)),
 ];
 
 const SIGNED_COUNTS: [(&[u8], Found); 6] = [
-    (b"T\xff\xff\xff", Found::More),
+    (b"T\xff\xff\xff", MORE),
     (b"T\xff\xff\xff\xff", BAD),
     (b"T\x00\x00\x00\x80", BAD),
     (b"T\xff\xff\xff\x7f", LARGE),
     (b"\x8b\xff\xff\xff\xff", BAD),
-    (b"\x8b\x00\x00\x00\x00", Found::Whole(Op::Long4, 5)),
+    (b"\x8b\x00\x00\x00\x00", (Some(Op::Long4), 5, None)),
 ];
 
 // Counts at the limit of 16,777,216 and above it.
 const COUNTS: [(&[u8], Found); 9] = [
-    (b"B\x00\x00\x00\x01", Found::More),
-    (b"B\x01\x00\x00", Found::More),
+    (b"B\x00\x00\x00\x01", MORE),
+    (b"B\x01\x00\x00", MORE),
     (b"B\x01\x00\x00\x01", LARGE),
     (b"X\x01\x00\x00\x01", LARGE),
-    (b"\x8e\x00\x00\x00\x01\x00\x00\x00\x00", Found::More),
+    (b"\x8e\x00\x00\x00\x01\x00\x00\x00\x00", MORE),
     (b"\x8e\x01\x00\x00\x01\x00\x00\x00\x00", LARGE),
-    (b"\x8e\xff\xff\xff\xff\xff\xff\xff", Found::More),
+    (b"\x8e\xff\xff\xff\xff\xff\xff\xff", MORE),
     (b"\x8e\xff\xff\xff\xff\xff\xff\xff\xff", LARGE),
-    (b"C\xff", Found::More),
+    (b"C\xff", MORE),
 ];
 
 const NUMERALS: [(&[u8], Found); 23] = [
-    (b"I-0", Found::More),
+    (b"I-0", MORE),
     (b"I-0\n", BAD),
     (b"I007\n", BAD),
     (b"I\n", BAD),
     (b"I-\n", BAD),
     (b"I+1\n", BAD),
     (b"I 1\n", BAD),
-    (b"I0\n", Found::Whole(Op::Int, 3)),
-    (b"I00\n", Found::Whole(Op::Int, 4)),
-    (b"I01\n", Found::Whole(Op::Int, 4)),
+    (b"I0\n", (Some(Op::Int), 3, None)),
+    (b"I00\n", (Some(Op::Int), 4, None)),
+    (b"I01\n", (Some(Op::Int), 4, None)),
     (b"I02\n", BAD),
-    (b"I-12\n", Found::Whole(Op::Int, 5)),
+    (b"I-12\n", (Some(Op::Int), 5, None)),
     (b"I12L\n", BAD),
-    (b"L12L\n", Found::Whole(Op::Long, 5)),
-    (b"L12\n", Found::Whole(Op::Long, 4)),
+    (b"L12L\n", (Some(Op::Long), 5, None)),
+    (b"L12\n", (Some(Op::Long), 4, None)),
     (b"L12LL\n", BAD),
     (b"LL\n", BAD),
     (b"L00\n", BAD),
-    (b"g4294967295\n", Found::Whole(Op::Get, 12)),
+    (b"g4294967295\n", (Some(Op::Get), 12, None)),
     (b"g4294967296\n", BAD),
     (b"p-1\n", BAD),
     (b"p00\n", BAD),
-    (b"p0\n", Found::Whole(Op::Put, 3)),
+    (b"p0\n", (Some(Op::Put), 3, None)),
 ];
 
 const FLOATS: [(&[u8], Found); 10] = [
-    (b"F1.5e+10\n", Found::Whole(Op::Float, 9)),
+    (b"F1.5e+10\n", (Some(Op::Float), 9, None)),
     (b"F1.\n", BAD),
     (b"F.5\n", BAD),
     (b"F1e5\n", BAD),
-    (b"F1e-5\n", Found::Whole(Op::Float, 6)),
-    (b"F-inf\n", Found::Whole(Op::Float, 6)),
-    (b"Fnan\n", Found::Whole(Op::Float, 5)),
+    (b"F1e-5\n", (Some(Op::Float), 6, None)),
+    (b"F-inf\n", (Some(Op::Float), 6, None)),
+    (b"Fnan\n", (Some(Op::Float), 5, None)),
     (b"F-\n", BAD),
     (b"F\n", BAD),
-    (b"F007\n", Found::Whole(Op::Float, 5)),
+    (b"F007\n", (Some(Op::Float), 5, None)),
 ];
 
 const TEXTS: [(&[u8], Found); 12] = [
-    (b"V\xe9\n", Found::Whole(Op::Unicode, 3)),
-    (b"V\n", Found::Whole(Op::Unicode, 2)),
-    (b"V\\u0061\n", Found::Whole(Op::Unicode, 8)),
+    (b"V\xe9\n", (Some(Op::Unicode), 3, None)),
+    (b"V\n", (Some(Op::Unicode), 2, None)),
+    (b"V\\u0061\n", (Some(Op::Unicode), 8, None)),
     (b"V\\ud800\n", BAD),
     (b"V\\uDFFF\n", BAD),
-    (b"V\\U0010ffff\n", Found::Whole(Op::Unicode, 12)),
+    (b"V\\U0010ffff\n", (Some(Op::Unicode), 12, None)),
     (b"V\\U00110000\n", BAD),
     (b"V\\n\n", BAD),
     (b"V\\u006\n", BAD),
     (b"\x8c\x01\xe9", BAD),
-    (b"\x8c\x02\xc3\xa9", Found::Whole(Op::ShortBinUnicode, 4)),
+    (b"\x8c\x02\xc3\xa9", (Some(Op::ShortBinUnicode), 4, None)),
     (b"\x8c\x03\xed\xa0\x80", BAD),
 ];
 
 const OLD_STRINGS: [(&[u8], Found); 7] = [
-    (b"S'a'\n", Found::Whole(Op::String, 5)),
+    (b"S'a'\n", (Some(Op::String), 5, None)),
     (b"S'a\n", BAD),
-    (b"S\"it's\"\n", Found::Whole(Op::String, 8)),
+    (b"S\"it's\"\n", (Some(Op::String), 8, None)),
     (b"S'it's'\n", BAD),
     (b"S'\\x6g'\n", BAD),
-    (b"S'\\\\\\'\\n\\x6A'\n", Found::Whole(Op::String, 14)),
+    (b"S'\\\\\\'\\n\\x6A'\n", (Some(Op::String), 14, None)),
     (b"S'\x7f'\n", BAD),
 ];
 
 const NAMES: [(&[u8], Found); 3] = [
     (b"c\nf\n", BAD),
     (b"cm\n\n", BAD),
-    (b"P\n", Found::Whole(Op::PersId, 2)),
+    (b"P\n", (Some(Op::PersId), 2, None)),
 ];
 
 #[test]
@@ -169,8 +169,8 @@ fn lines_at_their_limits(rt: HostRuntime) -> Result<(), Fail> {
         (b'L', b'1', Op::Long, 1_024),
     ] {
         for (length, ended, wanted) in [
-            (most, false, Found::More),
-            (most, true, Found::Whole(op, most + 2)),
+            (most, false, MORE),
+            (most, true, (Some(op), most + 2, None)),
             (most + 1, false, LARGE),
             (most + 1, true, LARGE),
         ] {

@@ -14,10 +14,10 @@ use std::test::Fail;
 
 const LIST: &str = "version = 1\n[imports]\nm = [\"f\"]\n";
 
-fn spelled(policy: &Policy<'_>) -> &'static str {
+fn has_list(policy: &Policy<'_>) -> bool {
     match policy {
-        Policy::Listed(_) => "listed",
-        Policy::AnyImport => "any import",
+        Policy::Listed(_) => true,
+        Policy::AnyImport => false,
     }
 }
 
@@ -27,8 +27,8 @@ fn calls_take_a_policy(rt: HostRuntime) -> Result<(), Fail> {
     let limits = &Limits::STANDARD;
     let allow = Allow::from_toml(rt.alloc(), LIST)?;
     let listed = Policy::Listed(&allow);
-    assert_eq!(rt; spelled(&listed), "listed");
-    assert_eq!(rt; spelled(&Policy::AnyImport), "any import");
+    assert!(rt; has_list(&listed));
+    assert!(rt; !has_list(&Policy::AnyImport));
     let unknown = OldStrings::Unknown;
     let mut source = Pieces::new(pickle, 1);
     let plain = check(rt.alloc(), &mut source, &listed, limits).ok();

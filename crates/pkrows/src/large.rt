@@ -2,7 +2,7 @@
 
 use crate::giving::Filled;
 use crate::judging::{Verdict, judge, judge_each};
-use pkcheck::{Allow, AllowError, Policy, Where};
+use pkcheck::{Allow, Policy};
 use pkops::Limits;
 use pkread::Reason;
 use std::test::Fail;
@@ -61,33 +61,6 @@ fn the_numbers_of_large_limits(rt: HostRuntime) -> Result<(), Fail> {
     assert!(rt; Limits::large(1, 1, 1, 101, 1).is_none());
     assert!(rt; Limits::new(1, 1_000_001, 1, 1, 1).is_none());
     assert!(rt; large.with_numbers(4_294_967_296).is_none());
-    Ok(())
-}
-
-const FIRST_ERRORS: [(&str, Where); 11] = [
-    ("large = false", Where::Limit),
-    ("large = 1", Where::Limit),
-    ("large = \"true\"", Where::Limit),
-    // the keys are checked in the order of their bytes, `large` among them
-    ("heap = 1, large = false", Where::LimitKey),
-    ("heap = 1, large = true", Where::LimitKey),
-    ("large = false, values = -1, zero = 1", Where::Limit),
-    ("counted = -1, heap = 1, large = true", Where::Limit),
-    ("large = true, stack = 4294967296", Where::Limit),
-    ("large = true, depth = 101", Where::Limit),
-    ("numbers = 4294967296", Where::Limit),
-    ("numbers = -1", Where::Limit),
-];
-
-#[test]
-fn the_first_error_of_large_limits(rt: HostRuntime) -> Result<(), Fail> {
-    for (limits, wanted) in FIRST_ERRORS {
-        let text = format!(in rt.alloc(); "version = 2\nimports = {{}}\nlimits = {{ {limits} }}")?;
-        let Err(error) = Allow::from_toml(rt.alloc(), &text) else {
-            return Err(Fail::from("no error"));
-        };
-        assert_eq!(rt; error, AllowError::Shape(wanted), "{text}");
-    }
     Ok(())
 }
 

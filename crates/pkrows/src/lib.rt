@@ -10,6 +10,8 @@ mod bounds;
 #[cfg(test)]
 mod calling;
 #[cfg(test)]
+mod costs;
+#[cfg(test)]
 mod exported;
 #[cfg(test)]
 mod giving;
@@ -27,6 +29,8 @@ mod lists;
 mod loaded_rows;
 #[cfg(test)]
 mod machines;
+#[cfg(test)]
+mod numbered;
 #[cfg(test)]
 mod old_strings;
 #[cfg(test)]

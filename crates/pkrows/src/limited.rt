@@ -1,8 +1,8 @@
-//! Limits from a list file: their values, the first error of invalid ones, and verdicts under them.
+//! Limits from a list file: their values, and verdicts under them.
 
 use crate::giving::Filled;
 use crate::judging::{Verdict, judge, judge_each};
-use pkcheck::{Allow, AllowError, Policy, Where};
+use pkcheck::{Allow, Policy};
 use pkops::Limits;
 use pkread::Reason;
 use std::test::Fail;
@@ -70,57 +70,6 @@ fn the_limit_on_payloads_passed_over(rt: HostRuntime) -> Result<(), Fail> {
     }
     assert!(rt; held.with_passed(1_099_511_627_777).is_none());
     Ok(())
-}
-
-const FIRST_ERRORS: [(&str, Where); 13] = [
-    ("version = 2", Where::Imports),
-    ("version = 2\nlimits = 1", Where::Imports),
-    ("version = 2\nimports = {}\nmore = 1", Where::TopKey),
-    ("version = 1\nimports = {}\nlimits = {}", Where::TopKey),
-    (
-        "version = 2\nimports = { m = 1 }\nlimits = 1",
-        Where::Module,
-    ),
-    ("version = 2\nimports = {}\nlimits = 1", Where::Limits),
-    (
-        "version = 2\nimports = {}\nlimits = { heap = 1 }",
-        Where::LimitKey,
-    ),
-    (
-        "version = 2\nimports = {}\nlimits = { stack = 1000001 }",
-        Where::Limit,
-    ),
-    (
-        "version = 2\nimports = {}\nlimits = { passed = 1099511627777 }",
-        Where::Limit,
-    ),
-    (
-        "version = 2\nimports = {}\nlimits = { memo = -1 }",
-        Where::Limit,
-    ),
-    (
-        "version = 2\nimports = {}\nlimits = { memo = 1.0 }",
-        Where::Limit,
-    ),
-    (
-        "version = 2\nimports = {}\nlimits = { stack = -1, heap = 1 }",
-        Where::LimitKey,
-    ),
-    (
-        "version = 2\nimports = {}\nlimits = { value = 1, stack = -1 }",
-        Where::Limit,
-    ),
-];
-
-#[test]
-fn the_first_error_of_limits(rt: HostRuntime) {
-    for (text, wanted) in FIRST_ERRORS {
-        let Err(error) = Allow::from_toml(rt.alloc(), text) else {
-            assert!(rt; false, "no error: {text}");
-            return;
-        };
-        assert_eq!(rt; error, AllowError::Shape(wanted), "{text}");
-    }
 }
 
 const OVER_ONE_OBJECT: [(&[u8], Verdict); 2] = [

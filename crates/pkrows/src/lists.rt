@@ -1,4 +1,4 @@
-//! List files: what they permit, and the first error of invalid ones.
+//! List files: what they permit, and the texts of their errors.
 
 use pkcheck::{Allow, AllowError, Where};
 use std::test::Fail;
@@ -27,59 +27,6 @@ fn pairs_of_a_list(rt: HostRuntime) -> Result<(), Fail> {
         assert_eq!(rt; allow.contains(module, name), wanted, "{module} {name}");
     }
     Ok(())
-}
-
-const FIRST_ERRORS: [(&str, AllowError); 15] = [
-    ("version = ", AllowError::Syntax),
-    ("", AllowError::Shape(Where::Version)),
-    ("version = \"1\"", AllowError::Shape(Where::Version)),
-    (
-        "version = 1.0\n[imports]",
-        AllowError::Shape(Where::Version),
-    ),
-    ("version = 3", AllowError::Version),
-    ("version = 3\nmore = 1", AllowError::Version),
-    ("version = 1\nmore = 1", AllowError::Shape(Where::TopKey)),
-    ("version = 1", AllowError::Shape(Where::Imports)),
-    (
-        "version = 1\nimports = 1",
-        AllowError::Shape(Where::Imports),
-    ),
-    (
-        "version = 1\n[imports]\nm = \"f\"",
-        AllowError::Shape(Where::Module),
-    ),
-    (
-        "version = 1\n[imports]\n\"\" = [\"f\"]",
-        AllowError::Shape(Where::Module),
-    ),
-    (
-        "version = 1\n[imports]\nm = [\"\"]",
-        AllowError::Shape(Where::Name),
-    ),
-    (
-        "version = 1\n[imports]\nm = [1]",
-        AllowError::Shape(Where::Name),
-    ),
-    (
-        "version = 1\n[imports]\nb = 1\na = [1]",
-        AllowError::Shape(Where::Name),
-    ),
-    (
-        "version = 1\n[imports]\na = 1\nb = [1]",
-        AllowError::Shape(Where::Module),
-    ),
-];
-
-#[test]
-fn the_first_error(rt: HostRuntime) {
-    for (text, wanted) in FIRST_ERRORS {
-        let Err(error) = Allow::from_toml(rt.alloc(), text) else {
-            assert!(rt; false, "no error: {text}");
-            return;
-        };
-        assert_eq!(rt; error, wanted, "{text}");
-    }
 }
 
 #[test]

@@ -1,6 +1,6 @@
 //! A map in which each part is in use.
 
-use crate::NumberedMap;
+use pkbase::NumberedMap;
 use std::test::Fail;
 
 /// What is stored, in turn: in order from 5 on, below that, again, far above, and in between.
