@@ -23,7 +23,7 @@ mod session;
 mod turned;
 mod with_imports;
 
-pub use allow::{Allow, AllowError, Where};
+pub use allow::{Allow, AllowError, CostLimits, Where};
 pub use audience::Audience;
 pub use check_loop::{Extent, RefusedPickle, Terms, check_pickles};
 pub use checking::{No, Yes, check, check_as};

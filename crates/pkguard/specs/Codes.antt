@@ -60,3 +60,6 @@ fault_code fault.OutOfMemory = 8
 fault_code (fault.Shape part.Limits) = 9
 fault_code (fault.Shape part.LimitKey) = 10
 fault_code (fault.Shape part.Limit) = 11
+fault_code (fault.Shape part.Rules) = 12
+fault_code (fault.Shape part.RuleKey) = 13
+fault_code (fault.Shape part.Rule) = 14

@@ -1,6 +1,6 @@
 -- What the verdicts for C mean.
 use Rattle.std.specs.Prelude.{◌≡◌, ◌≢◌, ◌++◌, ◌⊎◌, ℕ, List, length, drop, leb, if◌then◌else◌, codes}
-use Rattle.std.specs.Prelude.{Option, Some, None, Ok, Err}
+use Rattle.std.specs.Prelude.{Option, Some, None, Ok, Err, false, true}
 use Rattle.std.specs.Str.{IsUtf8}
 use Rattle.toml.specs.Data.{Members, get_member}
 use Rattle.toml.specs.Errors.{IsBlank}
@@ -8,7 +8,8 @@ use Rattle.pkops.specs.Limits.{Bounds}
 use Rattle.pkread.specs.Rows.{Sight}
 use Rattle.pkread.specs.declared.Reason.{Reason}
 use Rattle.pkcheck.specs.Knowledge.{Policy, Asked, AskedPair}
-use Rattle.pkcheck.specs.ListFile.{limits_in, list_of, lists_in}
+use Rattle.pkcheck.specs.Allow.{are_unsaid}
+use Rattle.pkcheck.specs.ListFile.{cost_limits_in, limits_in, list_of, lists_in}
 use Rattle.pkcheck.specs.Accepted.{Accepted}
 use Rattle.pkcheck.specs.Refused.{Refused}
 use Rattle.pkcheck.specs.RowOfPickles.{AcceptedRow, RefusedInRow}
@@ -16,6 +17,7 @@ use Rattle.pkcheck.specs.RowRuns.{Afresh}
 use Rattle.pkcheck.specs.WithImports.{RefusedWithImports}
 use Rattle.pkcheck.specs.declared.AllowError.{AllowError}
 use Rattle.pkcheck.specs.declared.AllowError.TheVariants.{Syntax, OutOfMemory}
+use Rattle.pkcheck.specs.declared.CostLimits.{CostLimits}
 use Rattle.pkcheck.specs.declared.Loading.{Loading}
 use Rattle.pkcheck.specs.declared.OldStrings.{OldStrings}
 use Rattle.pkguard.specs.declared.settings.Settings.{Settings}
@@ -202,12 +204,27 @@ pub record IsOfAnotherSize (settings : Settings) (before after : List ℕ) (verd
   pub told : verdict ≡ verdict_of_usage
   pub room : after ≡ before
 
+-- what a list file says of the cost of loading
+abbrev pub costs_in : Members → CostLimits
+costs_in document =
+    cost_limits_in (get_member (codes "limits") document) (get_member (codes "rules") document)
+
+-- the bytes are a list file that limits what loading costs
+pub record IsLimitedList (list before after : List ℕ) (verdict : Verdict) : Type 0 where
+  pub document : Members
+  pub is_list : list_of list ≡ Ok document
+  pub said : are_unsaid (costs_in document) ≡ false
+  pub told : verdict ≡ verdict_of_usage
+  pub room : after ≡ before
+
 -- the policy of a list file's pairs
 abbrev pub policy_in : Members → Policy
 policy_in document = Some (lists_in (get_member (codes "imports") document))
 
--- the bytes are a list file in UTF-8, and P holds for its pairs and limits
+-- the bytes are a list file in UTF-8 that says nothing of the cost of loading, and P holds for its
+-- pairs and limits
 abbrev pub Under : List ℕ → (Policy → Bounds → Type 0) → Type 0
 Under list P =
     (document : Members) × IsUtf8 list × (list_of list ≡ Ok document)
+    × (are_unsaid (costs_in document) ≡ true)
     × P (policy_in document) (limits_in (get_member (codes "limits") document))

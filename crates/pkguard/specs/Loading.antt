@@ -1,9 +1,12 @@
 -- What the verdicts for C say of the cost of loading.
 use Rattle.std.specs.Prelude.{◌≡◌, ◌≢◌, ◌==◌, ◌&&◌, ◌⊎◌, ℕ, Bool, List, length, nat_le}
-use Rattle.std.specs.Prelude.{Option, Some, None, if◌then◌else◌, option_map}
+use Rattle.std.specs.Prelude.{Option, Some, None, if◌then◌else◌, option_map, unwrap_or, Ok}
+use Rattle.toml.specs.Data.{Members}
 use Rattle.pkops.specs.Limits.{Bounds}
 use Rattle.pkcheck.specs.Import.{asked_shown}
 use Rattle.pkcheck.specs.Knowledge.{Policy}
+use Rattle.pkcheck.specs.ListFile.{list_of}
+use Rattle.pkcheck.specs.declared.CostLimits.{CostLimits}
 use Rattle.pkcheck.specs.declared.Extent.{Extent}
 use Rattle.pkcheck.specs.declared.Extent.TheVariants.{OnePickle, ToTheEnd}
 use Rattle.pkcheck.specs.declared.Loading.{Loading}
@@ -22,7 +25,7 @@ use Rattle.pkguard.specs.declared.costs.Costs.{Costs}
 use Rattle.pkguard.specs.declared.settings.Settings.{Settings}
 use Rattle.pkguard.specs.declared.verdict.Verdict.{Verdict}
 use Rattle.pkguard.specs.Codes.{excess_code}
-use Rattle.pkguard.specs.Guard.{memory, names_placed, nothing_told, verdict_of_no}
+use Rattle.pkguard.specs.Guard.{costs_in, memory, names_placed, nothing_told, verdict_of_no}
 use Rattle.pkguard.specs.Guard.{verdict_of_usage, verdict_of_yes}
 use Rattle.pkguard.specs.Settings.{old_strings_in}
 
@@ -35,6 +38,22 @@ tolls_by costs = record {
   clash = costs.clash;
   memory = costs.memory;
   builds = costs.builds == 1;
+}
+
+-- a flag as C has it, or this one
+abbrev pub flag_over : ℕ → Option Bool → ℕ
+flag_over flag (Some said) = if said then 1 else 0
+flag_over flag None = flag
+
+-- the limits that a list file says, and otherwise these
+abbrev pub costs_over : Costs → CostLimits → Costs
+costs_over costs said = record costs {
+  levels = unwrap_or said.levels costs.levels;
+  weight = unwrap_or said.weight costs.weight;
+  work = unwrap_or said.work costs.work;
+  clash = unwrap_or said.clash costs.clash;
+  memory = unwrap_or said.memory costs.memory;
+  builds = flag_over costs.builds said.builds;
 }
 
 -- where a check ends
@@ -121,3 +140,10 @@ pub record IsUsageWith (settings : Settings) (costs : Costs) (before after : Lis
   pub unserved : old_strings_with settings costs ≡ None
   pub told : verdict ≡ verdict_of_usage
   pub room : after ≡ before
+
+-- the bytes are a list file, and what it says of the cost of loading is in place of these limits
+pub record AreCostsOf (list : List ℕ) (before after : Costs) (verdict : Verdict) : Type 0 where
+  pub document : Members
+  pub is_list : list_of list ≡ Ok document
+  pub costs : after ≡ costs_over before (costs_in document)
+  pub told : verdict ≡ nothing_told

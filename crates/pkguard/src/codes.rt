@@ -76,5 +76,8 @@ pub fn fault_code(error: AllowError) -> u32
         AllowError::Shape(Where::Limits) => 9,
         AllowError::Shape(Where::LimitKey) => 10,
         AllowError::Shape(Where::Limit) => 11,
+        AllowError::Shape(Where::Rules) => 12,
+        AllowError::Shape(Where::RuleKey) => 13,
+        AllowError::Shape(Where::Rule) => 14,
     }
 }

@@ -1,11 +1,13 @@
 //! Checks pickles, and bounds what loading them costs.
-ghost use Rattle.std.specs.Prelude.{◌≡◌, ◌≢◌, ◌≤◌, Some};
+ghost use Rattle.std.specs.Prelude.{◌≡◌, ◌≢◌, ◌≤◌, Some, []};
 ghost use Rattle.pkcheck.specs.Import.{permit_of};
-ghost use Rattle.pkguard.specs.Loading.{IsNoOrCostly, IsUsageWith, IsYesWithBill};
+ghost use Rattle.pkguard.specs.Guard.{IsListFault};
+ghost use Rattle.pkguard.specs.Loading.{AreCostsOf, IsNoOrCostly, IsUsageWith, IsYesWithBill};
 ghost use Rattle.pkguard.specs.Loading.{SetsWith, extent_by, nothing_billed, tolls_by};
 ghost use Rattle.pkguard.specs.Settings.{PermitsPairs, limits_by, listed_by, loading_by};
 
 use crate::costs::{self, Bill, Costs};
+use crate::list;
 use crate::settings::{self, Settings};
 use crate::verdict::{self, Verdict};
 use pkcheck::laws::halving;
@@ -64,6 +66,42 @@ pub extern "C" fn pkguard_check_loading(
         }
     };
     out.status
+}
+
+/// Puts what a list file says of the cost of loading in place of these limits.
+#[unsafe(no_mangle)]
+pub extern "C" fn pkguard_list_costs(
+    alloc: Global,
+    list: &[u8],
+    costs: &mut Costs,
+    out: &mut Verdict,
+) -> u32
+    ensures status { result ≡ out.new.status }
+    ensures bound { out.new.status ≤ 2 }
+    ensures never { out.new.status ≢ 1 }
+    ensures read { out.new.status ≡ 0 → AreCostsOf list.now costs.old costs.new out.new }
+    ensures fault { out.new.status ≡ 2 → IsListFault list.now [] [] out.new }
+    ensures same { out.new.status ≢ 0 → costs.new ≡ costs.old }
+{
+    *out = read_costs(alloc, list, costs);
+    out.status
+}
+
+/// The verdict for a list file, whose costs replace these limits.
+fn read_costs(alloc: Global, list: &[u8], costs: &mut Costs) -> Verdict
+    ensures bound { result.status ≤ 2 }
+    ensures never { result.status ≢ 1 }
+    ensures read { result.status ≡ 0 → AreCostsOf list.now costs.old costs.new result }
+    ensures fault { result.status ≡ 2 → IsListFault list.now [] [] result }
+    ensures same { result.status ≢ 0 → costs.new ≡ costs.old }
+{
+    match list::list_from(alloc, list) {
+        Err(error) => verdict::of_fault(error),
+        Ok(allow) => {
+            *costs = costs::costs_over(costs, &allow.cost_limits());
+            verdict::of_list()
+        }
+    }
 }
 
 /// What a check obeys.

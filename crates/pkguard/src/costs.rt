@@ -1,10 +1,10 @@
 //! Limits on what loading costs, and the bill.
 ghost use Rattle.std.specs.Prelude.{◌≡◌};
-ghost use Rattle.pkguard.specs.Loading.{are_served, bill_of, extent_by, nothing_billed};
-ghost use Rattle.pkguard.specs.Loading.{old_strings_with, tolls_by};
+ghost use Rattle.pkguard.specs.Loading.{are_served, bill_of, costs_over, extent_by, flag_over};
+ghost use Rattle.pkguard.specs.Loading.{nothing_billed, old_strings_with, tolls_by};
 
 use crate::settings::{Settings, old_strings_in};
-use pkcheck::{Extent, OldStrings};
+use pkcheck::{CostLimits, Extent, OldStrings};
 use pkload::{Tally, Tolls};
 
 /// Limits on what loading a pickle may cost, for C.
@@ -76,6 +76,32 @@ pub fn tolls_by(costs: &Costs) -> Tolls
         clash: costs.clash,
         memory: costs.memory,
         builds: costs.builds == 1,
+    }
+}
+
+/// The limits that a list file says, and otherwise these.
+pub fn costs_over(costs: &Costs, said: &CostLimits) -> Costs
+    ensures { result ≡ costs_over costs.now said.now }
+{
+    Costs {
+        levels: said.levels.unwrap_or(costs.levels),
+        weight: said.weight.unwrap_or(costs.weight),
+        work: said.work.unwrap_or(costs.work),
+        clash: said.clash.unwrap_or(costs.clash),
+        memory: said.memory.unwrap_or(costs.memory),
+        builds: flag_over(costs.builds, said.builds),
+        all: costs.all,
+    }
+}
+
+/// A flag as C has it, or this one.
+fn flag_over(flag: u32, said: Option<bool>) -> u32
+    ensures { result ≡ flag_over flag said }
+{
+    match said {
+        Some(true) => 1,
+        Some(false) => 0,
+        None => flag,
     }
 }
 

@@ -19,15 +19,15 @@ mod list;
 mod settings;
 mod verdict;
 
-ghost use Rattle.std.specs.Prelude.{◌≡◌, ◌≢◌, ◌≤◌, None, Some};
+ghost use Rattle.std.specs.Prelude.{◌≡◌, ◌≢◌, ◌≤◌, ◌⊎◌, None, Some};
 ghost use Rattle.pkcheck.specs.Import.{permit_of};
 ghost use Rattle.pkguard.specs.Guard.{IsListFault, IsImports, IsImportsBefore, IsListRead};
-ghost use Rattle.pkguard.specs.Guard.{IsNo, IsNoOfRow, IsOfAnotherSize, IsUsage, IsYes, IsYesOfRow};
-ghost use Rattle.pkguard.specs.Guard.{Under};
+ghost use Rattle.pkguard.specs.Guard.{IsLimitedList, IsNo, IsNoOfRow, IsOfAnotherSize, IsUsage};
+ghost use Rattle.pkguard.specs.Guard.{IsYes, IsYesOfRow, Under};
 ghost use Rattle.pkguard.specs.Settings.{PermitsPairs, Sets, limits_by, limits_within};
 ghost use Rattle.pkguard.specs.Settings.{listed_by, loading_by};
 
-pub use costing::pkguard_check_loading;
+pub use costing::{pkguard_check_loading, pkguard_list_costs};
 pub use costs::{Bill, Costs};
 use pkcheck::laws::halving;
 use pkcheck::{Loading, OldStrings, Pair, Permit, Policy, check_all_loaded, check_with_imports};
@@ -81,7 +81,8 @@ pub extern "C" fn pkguard_check_pairs(
 }
 
 /// Like `pkguard_check_pairs`, with the text of a list file, which is parsed on every call. The
-/// limits of the list and of the settings both apply: each limit is the smaller of the two.
+/// limits of the list and of the settings both apply: each limit is the smaller of the two. A list
+/// that limits what loading costs has the status of settings that are not supported.
 #[unsafe(no_mangle)]
 pub extern "C" fn pkguard_check_list(
     alloc: Global,
@@ -101,7 +102,8 @@ pub extern "C" fn pkguard_check_list(
         (limits_within limits settings.now) pickle.now room.old room.new out.new)) }
     ensures fault { out.new.status ≡ 2 → Sets settings.now (λ _.
         IsListFault list.now room.old room.new out.new) }
-    ensures usage { out.new.status ≡ 3 → IsUsage settings.now room.old room.new out.new }
+    ensures usage { out.new.status ≡ 3 → IsUsage settings.now room.old room.new out.new
+        ⊎ IsLimitedList list.now room.old room.new out.new }
 {
     *out = match settings::old_strings_in(settings) {
         None => verdict::of_usage(),
@@ -292,7 +294,7 @@ struct Served<'a> {
     old_strings: OldStrings,
 }
 
-/// The verdict of `check` under a list file.
+/// The verdict of `check` under a list file, which must say nothing of the cost of loading.
 fn listed(
     alloc: Global,
     list: &[u8],
@@ -300,7 +302,7 @@ fn listed(
     pickle: &[u8],
     room: &mut [u8],
 ) -> Verdict
-    ensures bound { result.status ≤ 2 }
+    ensures bound { result.status ≤ 3 }
     ensures yes { result.status ≡ 0 → Under list.now (λ policy limits. IsYes served.now.old_strings
         policy (limits_within limits served.now.settings.now)
         pickle.now room.old room.new result) }
@@ -308,10 +310,14 @@ fn listed(
         policy (limits_within limits served.now.settings.now)
         pickle.now room.old room.new result) }
     ensures fault { result.status ≡ 2 → IsListFault list.now room.old room.new result }
+    ensures usage { result.status ≡ 3 → IsLimitedList list.now room.old room.new result }
 {
     match list::list_from(alloc, list) {
         Err(error) => verdict::of_fault(error),
         Ok(allow) => {
+            if !allow.cost_limits().are_unsaid() {
+                return verdict::of_usage();
+            }
             let terms = Terms {
                 limits: settings::limits_within(served.settings, &allow.limits()),
                 permit: Permit::By(Policy::Listed(&allow)),

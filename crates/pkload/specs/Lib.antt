@@ -10,6 +10,8 @@ pub mod Weighed
 pub mod Tolls
 pub mod Loading
 pub mod Costly
+-- how an excess is printed
+pub mod Printed
 -- what the bill says about runs
 pub mod Laws
 -- what need not be trusted

@@ -1,5 +1,6 @@
 -- Limits on what loading may cost.
-use Rattle.std.specs.Prelude.{◌≡◌, ◌≤◌, ◌<◌, ◌⊎◌, ⊤, ℕ, true, false}
+use Rattle.std.specs.Prelude.{◌≡◌, ◌≤◌, ◌<◌, ◌⊎◌, ⊤, ℕ, true, false, unwrap_or}
+use Rattle.pkcheck.specs.declared.CostLimits.{CostLimits}
 use Rattle.pkload.specs.Tally.{Implies}
 use Rattle.pkload.specs.declared.tally.Tally.{Tally}
 use Rattle.pkload.specs.declared.tolls.Tolls.{Tolls}
@@ -27,6 +28,17 @@ unlimited = record {
   clash = 18_446_744_073_709_551_615;
   memory = 18_446_744_073_709_551_615;
   builds = true;
+}
+
+-- the limits that a list file says, and no others
+abbrev pub tolls_said : CostLimits → Tolls
+tolls_said said = record {
+  levels = unwrap_or said.levels unlimited.levels;
+  weight = unwrap_or said.weight unlimited.weight;
+  work = unwrap_or said.work unlimited.work;
+  clash = unwrap_or said.clash unlimited.clash;
+  memory = unwrap_or said.memory unlimited.memory;
+  builds = unwrap_or said.builds unlimited.builds;
 }
 
 -- each count is at most its limit, and BUILD takes no imported object unless it may

@@ -14,6 +14,7 @@ use crate::tolls::{Excess, Tolls};
 use pkcheck::{Permit, RefusedPickle, Terms, YesAll, check_pickles};
 use pkread::Source;
 use std::alloc::Global;
+use std::fmt;
 
 /// Accepted pickles, with what loading the last of them costs.
 #[derive(Debug, Drop)]
@@ -35,6 +36,19 @@ pub struct Costly {
     pub at: u64,
     /// The limit that it exceeds.
     pub excess: Excess,
+}
+
+/// An excess is printed as `at P: REASON`, as a refusal is.
+impl fmt::Display for Costly {
+    ghost use Rattle.std.specs.Prelude.{Some};
+    ghost use Rattle.pkload.specs.Printed.{costly_text};
+
+    ghost output = { λ costly. Some (costly_text costly) };
+
+    fn fmt<W: fmt::Write>(&self, f: &mut fmt::Formatter<W>) -> fmt::Result {
+        let Costly { at, excess, .. } = *self;
+        write!(f, "at {at}: {excess}")
+    }
 }
 
 /// Checks pickles as [`check_pickles`] does, and bounds what the keys of each cost. If the answer

@@ -1,9 +1,11 @@
 //! Limits on what loading a pickle may cost.
 
 ghost use Rattle.std.specs.Prelude.{◌≡◌, ◌≤◌, ◌<◌, MatchOption, None};
-ghost use Rattle.pkload.specs.Tolls.{Exceeds, KeepsWithin, standard, unlimited};
+ghost use Rattle.pkload.specs.Tolls.{Exceeds, KeepsWithin, standard, tolls_said, unlimited};
 
 use crate::tally::Tally;
+use pkcheck::CostLimits;
+use std::fmt;
 
 /// Limits on what the keys of a pickle may cost. Depths are counted up to 1,023 and weights up to
 /// 1,048,575, so a limit of at least that many is none.
@@ -40,6 +42,24 @@ pub enum Excess {
     OutOfMemory,
 }
 
+impl fmt::Display for Excess {
+    ghost use Rattle.std.specs.Prelude.{Some};
+    ghost use Rattle.pkload.specs.Printed.{excess_name};
+
+    ghost output = { λ excess. Some (excess_name excess) };
+
+    fn fmt<W: fmt::Write>(&self, f: &mut fmt::Formatter<W>) -> fmt::Result {
+        match *self {
+            Excess::DeepKey => f.write_str("DeepKey"),
+            Excess::HeavyKeys => f.write_str("HeavyKeys"),
+            Excess::ManyKeys => f.write_str("ManyKeys"),
+            Excess::MuchMemory => f.write_str("MuchMemory"),
+            Excess::BuildsImport => f.write_str("BuildsImport"),
+            Excess::OutOfMemory => f.write_str("OutOfMemory"),
+        }
+    }
+}
+
 impl Tolls {
     /// The default limits: 1,000 levels, a weight of 1,000,000 for a key and of 100,000,000 for all
     /// keys, no limit on collisions or memory, and no BUILD of an imported object.
@@ -67,6 +87,21 @@ impl Tolls {
             clash: u64::MAX,
             memory: u64::MAX,
             builds: true,
+        }
+    }
+
+    /// The limits that a list file says, and no others.
+    pub fn said(said: &CostLimits) -> Tolls
+        ensures { result ≡ tolls_said said.now }
+    {
+        let none = Tolls::unlimited();
+        Tolls {
+            levels: said.levels.unwrap_or(none.levels),
+            weight: said.weight.unwrap_or(none.weight),
+            work: said.work.unwrap_or(none.work),
+            clash: said.clash.unwrap_or(none.clash),
+            memory: said.memory.unwrap_or(none.memory),
+            builds: said.builds.unwrap_or(none.builds),
         }
     }
 

@@ -1,6 +1,6 @@
 -- No rule of the list file has the fault OutOfMemory.
 use Rattle.std.proofs.Common.{◌≢◌, ◌==◌, ℕ, not, length, Bool, true, false, cond, Option, Some}
-use Rattle.std.proofs.Common.{None, codes}
+use Rattle.std.proofs.Common.{None, codes, is_some}
 use Rattle.std.specs.Str.{bytes_eq}
 use Rattle.toml.specs.Data.{Data, string, integer, float, boolean, datetime, array, table, Members}
 use Rattle.toml.specs.Data.{no_members, member, get_member}
@@ -13,7 +13,7 @@ use Rattle.pkcheck.specs.ListFile.{version_fault, keys_fault, module_fault, modu
 use Rattle.pkcheck.specs.ListFile.{imports_fault, greatest_at, greatest_where, is_large, is_limit}
 use Rattle.pkcheck.specs.ListFile.{is_true_value, key_fault, large_fault, limit_fault}
 use Rattle.pkcheck.specs.ListFile.{each_limit_fault, table_fault, limits_fault, fault_of_document}
-use Rattle.pkcheck.specs.ListFile.{are_names}
+use Rattle.pkcheck.specs.ListFile.{are_names, build_in, each_rule_fault, rule_fault, rules_fault}
 
 abbrev IsOfRule : Option AllowError → Type 0
 IsOfRule fault = fault ≢ Some OutOfMemory
@@ -109,16 +109,42 @@ limits_is (Some (boolean _)) = λ h. cc
 limits_is (Some (datetime _)) = λ h. cc
 limits_is (Some (array _)) = λ h. cc
 
+rule_is : (key : Text) (value : Data) → IsOfRule (rule_fault key value)
+rule_is key value = either (bytes_eq key (codes "build"))
+    (kept_or (is_some (build_in (Some value))) (Shape part.Rule)) (Some (Shape part.RuleKey))
+    (kept_or_is (is_some (build_in (Some value))) (Shape part.Rule) (λ h. cc)) (λ h. cc)
+
+each_rule_is : (rules : Members) → IsOfRule (each_rule_fault rules)
+each_rule_is no_members = λ h. cc
+each_rule_is (member key value rest) =
+    or_else_is (rule_fault key value) (each_rule_fault rest) (rule_is key value)
+    (each_rule_is rest)
+
+rules_is : (value : Option Data) → IsOfRule (rules_fault value)
+rules_is None = λ h. cc
+rules_is (Some (table rules)) = each_rule_is rules
+rules_is (Some (string _)) = λ h. cc
+rules_is (Some (integer _)) = λ h. cc
+rules_is (Some (float _)) = λ h. cc
+rules_is (Some (boolean _)) = λ h. cc
+rules_is (Some (datetime _)) = λ h. cc
+rules_is (Some (array _)) = λ h. cc
+
 pub fault_is : (document : Members) → fault_of_document document ≢ Some OutOfMemory
 fault_is document =
     let version = get_member (codes "version") document in
     let imports = get_member (codes "imports") document in
     let limits = get_member (codes "limits") document in
+    let rules = get_member (codes "rules") document in
     let limited = is_two version in
-    let behind = or_else_is (imports_fault imports) (limits_fault limits) (imports_is imports)
-    (limits_is limits) in
+    let last = or_else_is (limits_fault limits) (rules_fault rules) (limits_is limits)
+    (rules_is rules) in
+    let behind = or_else_is (imports_fault imports)
+    (or_else (limits_fault limits) (rules_fault rules)) (imports_is imports) last in
     or_else_is (version_fault version)
     (or_else (keys_fault limited document)
-    (or_else (imports_fault imports) (limits_fault limits))) (version_is version)
+    (or_else (imports_fault imports) (or_else (limits_fault limits) (rules_fault rules))))
+    (version_is version)
     (or_else_is (keys_fault limited document)
-    (or_else (imports_fault imports) (limits_fault limits)) (keys_is limited document) behind)
+    (or_else (imports_fault imports) (or_else (limits_fault limits) (rules_fault rules)))
+    (keys_is limited document) behind)

@@ -1,12 +1,13 @@
 -- List files as users write them, judged by the definitions.
-use Rattle.std.proofs.Common.{◌≡◌, refl, codes, Bool, true, false, Err, Ok, Result}
+use Rattle.std.proofs.Common.{◌≡◌, refl, codes, Bool, true, false, Err, Ok, Result, None, Some}
 use Rattle.toml.proofs.OnLiterals.{toml_on_literals}
 use Rattle.toml.specs.Data.{Members, get_member}
 use Rattle.pkops.specs.Limits.{Bounds, large, standard}
+use Rattle.pkcheck.specs.declared.allow.costs.CostLimits.{CostLimits}
 use Rattle.pkcheck.specs.declared.allow.error.AllowError.{AllowError}
 use Rattle.pkcheck.specs.declared.allow.error.AllowError.TheVariants.{Syntax, Shape, Version}
 use Rattle.pkcheck.specs.declared.allow.error.Where.TheVariants as part
-use Rattle.pkcheck.specs.ListFile.{Text, limits_in, list_of, lists_in}
+use Rattle.pkcheck.specs.ListFile.{Text, cost_limits_in, limits_in, list_of, lists_in}
 
 no_toml : list_of (codes "version = ") ≡ Err Syntax
 unfolding toml_on_literals
@@ -129,3 +130,84 @@ limited_numbers : limits_read
     ≡ record standard { numbers = 1_000_000 }
 unfolding toml_on_literals
 limited_numbers = refl
+
+-- the rules are judged last, and the table before its keys; version 1 has none
+no_rules_of_one : list_of (codes "version = 1\nimports = {}\nrules = {}")
+    ≡ Err (Shape part.TopKey)
+unfolding toml_on_literals
+no_rules_of_one = refl
+
+limits_before_rules : list_of (codes "version = 2\nimports = {}\nlimits = 1\nrules = 1")
+    ≡ Err (Shape part.Limits)
+unfolding toml_on_literals
+limits_before_rules = refl
+
+no_rules : list_of (codes "version = 2\nimports = {}\nrules = 1") ≡ Err (Shape part.Rules)
+unfolding toml_on_literals
+no_rules = refl
+
+other_rule : list_of (codes "version = 2\nimports = {}\nrules = { call = 1 }")
+    ≡ Err (Shape part.RuleKey)
+unfolding toml_on_literals
+other_rule = refl
+
+other_build : list_of (codes "version = 2\nimports = {}\nrules = { build = \"all\" }")
+    ≡ Err (Shape part.Rule)
+unfolding toml_on_literals
+other_build = refl
+
+-- the limits on costs have their own greatest values
+many_levels : list_of (codes "version = 2\nimports = {}\nlimits = { levels = 4294967296 }")
+    ≡ Err (Shape part.Limit)
+unfolding toml_on_literals
+many_levels = refl
+
+negative_work : list_of (codes "version = 2\nimports = {}\nlimits = { work = -1 }")
+    ≡ Err (Shape part.Limit)
+unfolding toml_on_literals
+negative_work = refl
+
+-- what a list says of the cost of loading
+abbrev nothing_said : CostLimits
+nothing_said = record {
+  levels = None;
+  weight = None;
+  work = None;
+  clash = None;
+  memory = None;
+  builds = None;
+}
+
+abbrev costs_read : Result Members AllowError → CostLimits
+costs_read (Ok list) =
+    cost_limits_in (get_member (codes "limits") list) (get_member (codes "rules") list)
+costs_read (Err error) = nothing_said
+
+no_costs : costs_read (list_of (codes "version = 2\nimports = {}\nlimits = { stack = 1 }"))
+    ≡ nothing_said
+unfolding toml_on_literals
+no_costs = refl
+
+some_costs : costs_read
+    (list_of (codes "version = 2\nimports = {}\nlimits = { levels = 3, work = 7 }"))
+    ≡ record nothing_said { levels = Some 3; work = Some 7 }
+unfolding toml_on_literals
+some_costs = refl
+
+other_costs : costs_read
+    (list_of (codes "version = 2\nimports = {}\nlimits = { weight = 1, clash = 0, memory = 9 }"))
+    ≡ record nothing_said { weight = Some 1; clash = Some 0; memory = Some 9 }
+unfolding toml_on_literals
+other_costs = refl
+
+made_alone : costs_read
+    (list_of (codes "version = 2\nimports = {}\nrules = { build = \"made\" }"))
+    ≡ record nothing_said { builds = Some false }
+unfolding toml_on_literals
+made_alone = refl
+
+any_object : costs_read
+    (list_of (codes "version = 2\nimports = {}\nrules = { build = \"any\" }"))
+    ≡ record nothing_said { builds = Some true }
+unfolding toml_on_literals
+any_object = refl

@@ -9,6 +9,7 @@ ghost use Rattle.pkcheck.specs.ListFile.{limit_fault};
 ghost use Rattle.pkcheck.specs.ListFile.{limit_or, limits_among, limits_at, limits_fault};
 ghost use Rattle.pkcheck.specs.ListFile.{limits_in, table_fault};
 
+use crate::allow::costs::greatest_cost;
 use crate::allow::rules::value_at;
 use crate::allow::{AllowError, Where};
 use pkops::Limits;
@@ -137,7 +138,7 @@ fn greatest_at(most: &Limits, key: &str) -> Option<u64>
     } else if key == "numbers" {
         Some(most.numbers())
     } else {
-        None
+        greatest_cost(key)
     }
 }
 
