@@ -24,6 +24,8 @@ pub mod Going
 pub mod BehindStop
 pub mod Exclusive
 pub mod ExclusiveRows
+pub mod RefusedBehind
 pub mod EachSetting
+pub mod NewRuns
 mod AnswerExamples
 mod RowExamples

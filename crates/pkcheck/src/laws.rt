@@ -4,7 +4,8 @@ ghost use Rattle.pkcheck.specs.ButForLimits.{RefusedForLimits};
 ghost use Rattle.pkcheck.specs.EachSetting.{SoundInEach};
 ghost use Rattle.pkcheck.specs.Ends.{ListedCarriesOver, SameAcross, SameAsItself, SameEitherWay};
 ghost use Rattle.pkcheck.specs.Ends.{SameEvents, WellCarriesOver, WellIsFree};
-ghost use Rattle.pkcheck.specs.Exclusive.{YesExcludesNo, YesOfRowExcludesNo};
+ghost use Rattle.pkcheck.specs.Exclusive.{OneBegins, RefusedBehind, YesExcludesNo, YesOfRowExcludesNo};
+ghost use Rattle.pkcheck.specs.NewRuns.{FaultlessIsRun};
 ghost use Rattle.pkcheck.specs.Pairs.{HalvingIsRight};
 
 use pkops::laws::{growth, one_answer};
@@ -38,6 +39,26 @@ pub fn yes_of_row_excludes_no()
     one_sequence();
 }
 
+/// Bytes that begin with instructions that have no fault are refused only behind these, under the
+/// same policy, limits and setting and behind the same pickles, except for a refused allocation or
+/// a failed read.
+#[inline]
+pub fn refused_behind()
+    ensures { RefusedBehind }
+{
+    growth();
+    one_answer();
+    one_sequence();
+}
+
+/// Of two lists of good instructions with which bytes begin, one begins with the other.
+#[inline]
+pub fn one_begins()
+    ensures { OneBegins }
+{
+    one_sequence();
+}
+
 /// A pickle whose only faults are exceeded limits is refused only for a limit, a refused allocation
 /// or a failed read.
 #[inline]
@@ -68,4 +89,11 @@ pub fn same_ends()
     ensures free { WellIsFree }
     ensures well { WellCarriesOver }
     ensures listed { ListedCarriesOver }
+{}
+
+/// Some run gets past instructions that have no fault and follow accepted pickles, and all that its
+/// operations answer are new objects.
+#[inline]
+pub fn faultless_is_run()
+    ensures { FaultlessIsRun }
 {}

@@ -109,7 +109,7 @@ next_is_new i ns hefts = ap (λ b. cond b (answered_again i (length hefts) hefts
 
 -- ---- tallies only grow
 
-implies_itself : (b : Bool) → Implies b b
+pub implies_itself : (b : Bool) → Implies b b
 implies_itself true = refl
 implies_itself false = tt
 

@@ -17,6 +17,7 @@ use Rattle.pkcheck.specs.Accepted.{AcceptedFrom}
 use Rattle.pkcheck.specs.Heard.{refused_instruction}
 use Rattle.pkcheck.specs.Knowledge.{Asked, Policy}
 use Rattle.pkcheck.specs.Refused.{RefusedFrom, Why, reading, judging, growing}
+use Rattle.pkcheck.specs.NewRuns.{InEachNewRun}
 use Rattle.pkcheck.specs.Reports.{AreReportsBehind, Report}
 use Rattle.pkcheck.specs.RowOfPickles.{begins, bytes_of_all}
 use Rattle.pkcheck.specs.RowRuns.{Afresh, Beginning, Behind, Pickle}
@@ -27,6 +28,7 @@ use Rattle.pkcheck.specs.ThreeEnds.{StoppedFrom}
 use Rattle.pkcheck.specs.WholeRuns.{Ended, EndedBy, Reached, run_as}
 use Rattle.pkcheck.specs.declared.loading.Loading.{Loading}
 use Rattle.pkcheck.specs.declared.old_strings.OldStrings.{OldStrings}
+use Rattle.pkload.proofs.Above.{each_above}
 use Rattle.pkload.proofs.Exceeding.{none_at, over_along, refused_place}
 use Rattle.pkload.proofs.Loading.{IsReady, all_good, billed_more, made_ready}
 use Rattle.pkload.proofs.Metered.{fits_ready}
@@ -38,7 +40,6 @@ use Rattle.pkload.specs.Laws.{EndsBilled}
 use Rattle.pkload.specs.Private.Meter.{Fits, IsOver}
 use Rattle.pkload.specs.Private.Told.{Metering, ready}
 use Rattle.pkload.specs.Tolls.{Exceeds}
-use Rattle.pkload.specs.Weighed.{InEachNewRun}
 use Rattle.pkload.specs.declared.tolls.Excess.{Excess}
 use Rattle.pkload.specs.declared.tolls.Excess.TheVariants.{OutOfMemory}
 use Rattle.pkload.specs.declared.tolls.Tolls.{Tolls}
@@ -73,7 +74,7 @@ spellings_parts [] js = refl
 spellings_parts (i ∷ is) js = ap (λ bytes. spelling i ++ bytes) (spellings_parts is js)
     ∙ sym (append_assoc (spelling i) (spellings is) (spellings js))
 
-all_front : (limits : Bounds) (is js : List Instruction)
+pub all_front : (limits : Bounds) (is js : List Instruction)
     → All (IsAllowedBy (payload_limit limits)) (is ++ js)
     → All (IsAllowedBy (payload_limit limits)) is
 all_front limits [] js h = All-nil (IsAllowedBy (payload_limit limits))
@@ -247,6 +248,9 @@ module _ (loading : Loading) (policy : Policy) (limits : Bounds) where
             bill = n.bill;
             adds = k.adds;
             exceeds = k.exceeds;
+            each = each_above tolls n.bill.memory loading.old_strings k.last excess k.earlier n.bill
+                k.adds k.exceeds.0 (begins loading.memo before) k.front
+                (ap (λ x. and_then x (all_billed k.front)) r.bill ∙ k.so_far);
             runs = runs_above excess tolls n.bill loading.old_strings
                 (begins loading.memo before) (k.front ++ k.last ∷ [])
                 (bill_bounds_runs loading.old_strings (begins loading.memo before)

@@ -8,6 +8,7 @@ use Rattle.pkread.specs.Rows.{Sight}
 use Rattle.pkread.specs.Sequence.{IsSequence, spellings}
 use Rattle.pkread.specs.declared.Reason.{Reason}
 use Rattle.pkcheck.specs.Knowledge.{Asked, Policy}
+use Rattle.pkcheck.specs.NewRuns.{FaultlessIsRun}
 use Rattle.pkcheck.specs.Reports.{Report}
 use Rattle.pkcheck.specs.RowOfPickles.{AreAccepted, IsAcceptedBehind, bytes_of_all}
 use Rattle.pkcheck.specs.RowRuns.{Pickle}
@@ -29,7 +30,7 @@ use Rattle.pkload.specs.declared.tolls.Excess.TheVariants.{OutOfMemory}
 use Rattle.pkload.specs.declared.tolls.Tolls.{Tolls}
 
 module _ (loading : Loading) (policy : Policy) (limits : Bounds) (tolls : Tolls)
-    (excess : Excess) (at : ℕ) (n : Metering) where
+    (excess : Excess) (at : ℕ) (n : Metering) (run : FaultlessIsRun) where
   abbrev Over : List Report → Metering → Type 0
   Over = IsOver loading.memo tolls excess at n
 
@@ -135,6 +136,9 @@ module _ (loading : Loading) (policy : Policy) (limits : Bounds) (tolls : Tolls)
     number = h.over.0;
     alone = λ e. cc e;
     over = h.over.1;
+    some = let o = h.over.1 in
+        run loading policy limits old h.here h.more o.instructions o.last h.each o.goes_on
+        o.admitted o.faultless;
   }
 
   alone : excess ≢ OutOfMemory → (old : Sight) (rs : List Report)
@@ -150,6 +154,8 @@ module _ (loading : Loading) (policy : Policy) (limits : Bounds) (tolls : Tolls)
         number = h.0;
         alone = λ e. refl;
         over = h.1;
+        some = run loading policy limits old old [] h.1.instructions h.1.last (takes_none old)
+            h.1.goes_on h.1.admitted h.1.faultless;
       }
 
   -- the pickles are these, and behind them comes a part of another

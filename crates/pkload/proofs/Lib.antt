@@ -1,8 +1,14 @@
 -- runs and their bills
 pub mod Alike
 pub mod Accounts
+pub mod Readings
+pub mod Weights
+pub mod Exactly
+pub mod Lighter
+pub mod AtLeast
 pub mod Steps
 pub mod Whole
+pub mod Above
 pub mod Metered
 pub mod Tolds
 pub mod Loading

@@ -13,6 +13,7 @@ use Rattle.pkread.specs.Admission.{IsAllowedBy}
 use Rattle.pkread.specs.Rows.{Sight}
 use Rattle.pkread.specs.Sequence.{IsSequence, StopIsLast}
 use Rattle.pkcheck.specs.Knowledge.{Policy}
+use Rattle.pkcheck.specs.NewRuns.{InEachNewRun}
 use Rattle.pkcheck.specs.Reports.{AreReportsBehind, Report}
 use Rattle.pkcheck.specs.RowOfPickles.{AreAccepted, begins, bytes_of_all}
 use Rattle.pkcheck.specs.RowRuns.{Afresh, Beginning, Behind, Pickle, sequences_of}
@@ -36,7 +37,7 @@ use Rattle.pkload.specs.Private.Told.{Metering, all_metered, metered, next_if, n
 use Rattle.pkload.specs.Private.Told.{told_billed, with_bill}
 use Rattle.pkload.specs.Tally.{IsAtMost}
 use Rattle.pkload.specs.Tolls.{IsWithin}
-use Rattle.pkload.specs.Weighed.{InEachNewRun, tally_since}
+use Rattle.pkload.specs.Weighed.{tally_since}
 use Rattle.pkload.specs.declared.tally.Tally.{Tally}
 use Rattle.pkload.specs.declared.tolls.Tolls.{Tolls}
 

@@ -252,3 +252,21 @@ the_bill_of_returned = refl
 the_run_of_returned : (tally_of
     (run returned (Go 9 Foreign ∷ Go 2 Foreign ∷ Go 0 Foreign ∷ []) start)).weight ≡ 2
 the_run_of_returned = refl
+
+-- an old string that isn't decoded may be answered by an earlier object that weighs less
+abbrev old_key : List Instruction
+old_key = as_key (instruction op.BinString (Counted (replicate 64 97)) ∷ [])
+
+the_bill_of_an_old_key : counts old_key ≡ (0, 2, 2, 0)
+the_bill_of_an_old_key = refl
+
+the_run_of_an_old_key : (tally_of (run old_key (Go 0 Foreign ∷ Go 9 Foreign ∷ []) start)).weight
+    ≡ 1
+the_run_of_an_old_key = refl
+
+-- an earlier object that an import answers is imported from then on
+an_import_of_an_earlier_object : (tally_of
+    (run
+    (bare op.EmptyDict ∷ global ∷ bare op.EmptyDict ∷ bare op.Build ∷ bare op.Stop ∷ [])
+    (Go 0 Foreign ∷ Go 9 Foreign ∷ []) start)).builds ≡ true
+an_import_of_an_earlier_object = refl

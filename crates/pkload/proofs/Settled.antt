@@ -7,6 +7,7 @@ use Rattle.pkops.specs.Limits.{Bounds}
 use Rattle.pkread.specs.Rows.{Sight}
 use Rattle.pkcheck.specs.Import.{asked_shown}
 use Rattle.pkcheck.specs.Knowledge.{Policy}
+use Rattle.pkcheck.specs.NewRuns.{FaultlessIsRun}
 use Rattle.pkcheck.specs.Reports.{Report}
 use Rattle.pkcheck.specs.RowRuns.{sequences_of}
 use Rattle.pkcheck.specs.ThreeEnds.{AcceptedAndTold, RefusedAndTold, StopsTold}
@@ -34,7 +35,7 @@ use Rattle.pkload.specs.declared.tolls.Tolls.{Tolls}
 
 module _ (loading : Loading) (policy : Policy) (limits : Bounds) (tolls : Tolls) (old new : Sight)
     (x : Meter) (memo_is : x.memo ≡ loading.memo) (tolls_are : x.tolls ≡ tolls)
-    (begun : x.metering ≡ at_first) (none : x.excess ≡ None) where
+    (begun : x.metering ≡ at_first) (none : x.excess ≡ None) (run : FaultlessIsRun) where
   -- the limit that was exceeded is exceeded by what was told from the start
   over_first : (y : Meter) (rs : List Report) (e : Excess) → Meters x y rs → y.excess ≡ Some e
       → IsOver loading.memo tolls e y.at y.metering rs at_first
@@ -148,11 +149,11 @@ module _ (loading : Loading) (policy : Policy) (limits : Bounds) (tolls : Tolls)
       → IsToldTo extent rs answer → IsCostlyBy y answer costly → costly.excess ≢ OutOfMemory
       → CostsTooMuch loading policy limits tolls old extent y.metering.pickle y.at costly.excess
   by_answer y rs extent (Ok accepted) costly told h k ne =
-      accepted_over loading policy limits tolls costly.excess y.at y.metering ne old new extent
+      accepted_over loading policy limits tolls costly.excess y.at y.metering run ne old new extent
       accepted.taken accepted.pickles accepted.imports rs h
       (over_first y rs costly.excess told k.excess)
   by_answer y rs extent (Err refused) costly told h k ne =
-      refused_over loading policy limits tolls costly.excess y.at y.metering ne old new extent
+      refused_over loading policy limits tolls costly.excess y.at y.metering run ne old new extent
       refused.pickle refused.no.at refused.no.reason (option_map asked_shown refused.no.pair)
       refused.imports rs h (subst (λ at. at < refused.no.at) k.at k.later)
       (over_first y rs costly.excess told k.excess)
@@ -176,5 +177,5 @@ module _ (loading : Loading) (policy : Policy) (limits : Bounds) (tolls : Tolls)
   stopped_right z extent excess costly h same = subst (IsRightCostly extent) (sym same) (λ ne.
       subst (λ m. CostsTooMuch loading policy limits tolls old extent m.metering.pickle m.at
       excess) (sym h.5.same)
-      (stopped_over loading policy limits tolls excess h.2.at h.2.metering ne old new extent h.0
+      (stopped_over loading policy limits tolls excess h.2.at h.2.metering run ne old new extent h.0
       h.1 h.3 (over_first h.2 h.0 excess h.4 h.5.named)))

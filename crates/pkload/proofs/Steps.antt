@@ -1,8 +1,9 @@
--- Each step of a run whose answers are new costs what the step of the bill says.
+-- Each step of a run costs what the step of the bill says, as a reading of the bill means it.
 use Rattle.std.proofs.Common.{◌≡◌, ℕ, ◌+◌, ◌≤◌, Bool, true}
 use Rattle.std.proofs.Common.{false, cond, List, [], ◌∷◌, ◌++◌, length}
 use Rattle.std.proofs.Common.{map, Option, Some, None, Result, Ok, Err, refl, sym, ap, subst, ◌∙◌}
-use Rattle.std.proofs.Common.{arith, length-append, le-ltb}
+use Rattle.std.proofs.Common.{arith, length-append, ltb}
+use Rattle.std.proofs.lemmas.Bool.{ltb-true}
 use Rattle.std.specs.Prelude.{⊤, unwrap_or}
 use Rattle.std.specs.Char.{is_ascii}
 use Rattle.std.specs.List.{list_all}
@@ -24,6 +25,7 @@ use Rattle.pkcheck.specs.declared.old_strings.OldStrings.TheVariants.{Unknown, A
 use Rattle.pkcheck.specs.Covers.{Alike, AlikeCell, AlikeEntry, Pointwise}
 use Rattle.pkcheck.specs.Effects.{Effect, Operates, Moves, Stops, Raises, answers, ascii_string}
 use Rattle.pkcheck.specs.Effects.{effect_as, effect_of, is_old_string, pushes}
+use Rattle.pkcheck.specs.NewRuns.{If}
 use Rattle.pkcheck.specs.Runs.{Did, Event, Foreign, Go, Import, Named, NoImport, NotTexts, Object}
 use Rattle.pkcheck.specs.Runs.{ObjectClass, Outcome, Pair, Raise, Raised, State, Stepped, Stopped}
 use Rattle.pkcheck.specs.Runs.{Stuck, WentOn, answered, asks, class_at, come_of, effect_asks}
@@ -31,36 +33,37 @@ use Rattle.pkcheck.specs.Runs.{gone_on, move_step, named, operate_step, operated
 use Rattle.pkcheck.specs.Runs.{stop_step, with_answer, with_event}
 use Rattle.pkcheck.specs.Shape.{Breach, NoItem, Entry, Item, Shape}
 use Rattle.pkcheck.specs.Shape.{Taken, front, moved, operands, put, top}
-use Rattle.pkload.proofs.Accounts.{along_end, costs_are, kept_at, new_at, next_is_new}
-use Rattle.pkload.proofs.Accounts.{nothing_counted, since_end}
+use Rattle.pkload.proofs.Accounts.{along_end, next_is_new, nothing_counted, since_end}
 use Rattle.pkload.proofs.Alike.{Alike-map, AlikeTaken, AlikeTop, Pointwise-append, SameResult}
 use Rattle.pkload.proofs.Alike.{front_alike, moved_alike, operands_alike, top_alike}
+use Rattle.pkload.proofs.Weights.{again_count, again_some, answers_light, made_some, some_more}
+use Rattle.pkload.proofs.Readings.{AreSome, IsLightAnswer, IsLightGiven, IsLightIn, Reading}
 use Rattle.pkload.specs.Bill.{Bill, billed, billed_by, heft_given, move_billed, operation_billed}
 use Rattle.pkload.specs.Bill.{stop_billed}
-use Rattle.pkload.specs.Heft.{Heft, heft_of}
-use Rattle.pkload.specs.Laws.{Costs}
+use Rattle.pkload.specs.Heft.{Heft, argument_size, heft_of}
 use Rattle.pkload.specs.Memory.{number_kept, operation_memory}
 use Rattle.pkload.specs.Tally.{with_operation}
-use Rattle.pkload.specs.Weighed.{If, IsNew, account_of, heft_at, hefts_with, no_account}
+use Rattle.pkload.specs.Weighed.{account_of, answered_again, heft_at, hefts_with, no_account}
 use Rattle.pkload.specs.Weighed.{tally_since}
 
-module _ (n : ℕ) where
+module _ (r : Reading) (n : ℕ) where
   -- the bill is that of the run behind these events, and the account has each object of the run
   pub record Billed (b : Bill) (s : State) : Type 0 where
-    pub shape : Alike (Costs (account_of s.events).hefts) b.shape s.shape
-    pub tally : tally_since n s.events ≡ b.tally
+    pub shape : Alike (r.Weighs (account_of s.events).hefts) b.shape s.shape
+    pub tally : r.Counts (tally_since n s.events) b.tally
     pub count : length (account_of s.events).hefts ≡ length s.objects
+    pub some : AreSome (account_of s.events).hefts
     pub behind : n ≤ length s.events
 
   abbrev pub StepBilled : Bill → Stepped → Type 0
   StepBilled b (WentOn t) = Billed b t
-  StepBilled b (Raised t) = tally_since n t.events ≡ b.tally
+  StepBilled b (Raised t) = r.Counts (tally_since n t.events) b.tally
   StepBilled b (Stopped r t) = Billed b t × (b.ended ≡ true)
   StepBilled b (Stuck r) = ⊥
 
   abbrev pub IfBilled : Result Bill Breach → Stepped → Type 0
   IfBilled (Ok b) st = StepBilled b st
-  IfBilled (Err r) st = ⊤
+  IfBilled (Err e) st = ⊤
 
   -- the bill after an operation on these operands
   abbrev after : Gives → Instruction → Taken Heft → Bill → Bill
@@ -76,36 +79,30 @@ module _ (n : ℕ) where
   }
 
   -- pushes one more object, of this cost
-  pushed : (hefts : List Heft) (h : Heft) (objects : List Object) (es : List (Entry Heft))
+  pushed : (hefts : List Heft) (another h : Heft) (objects : List Object) (es : List (Entry Heft))
       (fs : List (Entry ℕ)) (ms : List (ℕ × Heft)) (ns : List (ℕ × ℕ))
-      → length hefts ≡ length objects → Pointwise (AlikeEntry (Costs hefts)) es fs
-      → Pointwise (AlikeCell (Costs hefts)) ms ns
-      → Alike (Costs (hefts ++ h ∷ [])) (record { entries = Item h ∷ es; memo = ms })
+      → length hefts ≡ length objects → r.Weighs (hefts ++ another ∷ []) h (length hefts)
+      → Pointwise (AlikeEntry (r.Weighs hefts)) es fs
+      → Pointwise (AlikeCell (r.Weighs hefts)) ms ns
+      → Alike (r.Weighs (hefts ++ another ∷ [])) (record { entries = Item h ∷ es; memo = ms })
       (record { entries = Item (length objects) ∷ fs; memo = ns })
-  pushed hefts h objects es fs ms ns e p q =
-      let old = Alike-map (Costs hefts) (Costs (hefts ++ h ∷ [])) (λ x n g. kept_at hefts h x n g)
+  pushed hefts another h objects es fs ms ns e w p q =
+      let old = Alike-map (r.Weighs hefts) (r.Weighs (hefts ++ another ∷ []))
+      (λ x n g. r.kept hefts another x n g)
       (record { entries = es; memo = ms }) (record { entries = fs; memo = ns })
       (record { entries = p; memo = q }) in
       record {
-        entries = (
-          subst (λ n. Costs (hefts ++ h ∷ []) h n) e (new_at hefts h),
-          old.entries,
-        );
+        entries = (subst (r.Weighs (hefts ++ another ∷ []) h) e w, old.entries);
         memo = old.memo;
       }
 
-  answered_new : (n : ℕ) (c : ObjectClass) (objects : List Object) → length objects ≤ n
-      → answered n c objects ≡ (Some (length objects), with_answer c objects)
-  answered_new n c objects h = ap (λ b. cond b (Some n, objects)
-      (Some (length objects), with_answer c objects)) (le-ltb n (length objects) h)
-
-  -- an answer is new, if there is one
-  abbrev NewIfAnswer : Gives → State → ℕ → Type 0
-  NewIfAnswer Answers s n = length s.objects ≤ n
-  NewIfAnswer gives s n = ⊤
+  -- an answer is one that may come
+  abbrev MayIfAnswer : Gives → Instruction → State → ℕ → ObjectClass → Type 0
+  MayIfAnswer Answers i s n c = r.May i s (Go n c)
+  MayIfAnswer gives i s n c = ⊤
 
   module _ (i : Instruction) (t : Taken Heft) (u : Taken ℕ) (b : Bill) (s : State) (h : Billed b s)
-      (a : AlikeTaken (Costs (account_of s.events).hefts) t u) where
+      (a : AlikeTaken (r.Weighs (account_of s.events).hefts) t u) where
     abbrev hefts : List Heft
     hefts = (account_of s.events).hefts
 
@@ -116,23 +113,24 @@ module _ (n : ℕ) where
     account_then d = along_end no_account s.events (Did i u.operands d)
 
     tally_then : (d : Option ℕ)
-        → tally_since n (s.events ++ Did i u.operands d ∷ [])
-        ≡ with_operation i.op t.operands b.tally
-    tally_then d = since_end n s.events (Did i u.operands d) h.behind
-        ∙ ap (λ hs. with_operation i.op hs (tally_since n s.events))
-        (costs_are hefts t.operands u.operands a.operands)
-        ∙ ap (λ x. with_operation i.op t.operands x) h.tally
+        → r.Counts (tally_since n (s.events ++ Did i u.operands d ∷ []))
+        (with_operation i.op t.operands b.tally)
+    tally_then d = subst (λ run. r.Counts run (with_operation i.op t.operands b.tally))
+        (sym (since_end n s.events (Did i u.operands d) h.behind))
+        (r.counted i.op hefts t.operands u.operands (tally_since n s.events) b.tally a.operands
+        h.tally)
 
     further : (e : Event) → n ≤ length (s.events ++ e ∷ [])
     further e = omega (arith, h.behind, length-append s.events (e ∷ []))
 
+    abbrev another : Heft
+    another = heft_of i (map (heft_at hefts) u.operands)
+
     hefts_then : (account_of (s.events ++ Did i u.operands (Some (length s.objects)) ∷ [])).hefts
-        ≡ hefts ++ heft_of i t.operands ∷ []
+        ≡ hefts ++ another ∷ []
     hefts_then = ap (λ x. x.hefts) (account_then (Some (length s.objects)))
-        ∙ subst (λ n. hefts_with i u.operands (Some n) hefts
-        ≡ hefts ++ heft_of i (map (heft_at hefts) u.operands) ∷ []) h.count
+        ∙ subst (λ n. hefts_with i u.operands (Some n) hefts ≡ hefts ++ another ∷ []) h.count
         (next_is_new i u.operands hefts)
-        ∙ ap (λ hs. hefts ++ heft_of i hs ∷ []) (costs_are hefts t.operands u.operands a.operands)
 
     -- an operation that gives a new object
     new_result : (o : Object)
@@ -151,22 +149,57 @@ module _ (n : ℕ) where
           events = s.events ++ Did i u.operands (Some (length s.objects)) ∷ [];
         })
     new_result o = record {
-      shape = subst (λ hs. Alike (Costs hs) (record {
+      shape = subst (λ hs. Alike (r.Weighs hs) (record {
         entries = Item (heft_of i t.operands) ∷ t.below;
         memo = b.shape.memo;
       }) (record { entries = Item (length s.objects) ∷ u.below; memo = s.shape.memo }))
           (sym hefts_then)
-          (pushed hefts (heft_of i t.operands) s.objects t.below u.below b.shape.memo s.shape.memo
-          h.count a.below h.shape.memo);
+          (pushed hefts another (heft_of i t.operands) s.objects t.below u.below b.shape.memo
+          s.shape.memo h.count (r.made hefts i t.operands u.operands a.operands) a.below
+          h.shape.memo);
       tally = tally_then (Some (length s.objects));
       count = ap length hefts_then ∙ omega (
         arith,
         h.count,
-        length-append hefts (heft_of i t.operands ∷ []),
+        length-append hefts (another ∷ []),
         length-append s.objects (o ∷ []),
       );
+      some = subst AreSome (sym hefts_then) (some_more hefts another h.some (made_some i.op
+          (argument_size i.arg) (map (heft_at hefts) u.operands)));
       behind = further (Did i u.operands (Some (length s.objects)));
     }
+
+    -- an operation that answers an earlier object
+    earlier_result : (number : ℕ) (c : ObjectClass) → IsLightAnswer i.op
+        → r.May i s (Go number c) → ltb number (length s.objects) ≡ true
+        → Billed (after Answers i t b) (record {
+          shape = record { entries = Item number ∷ u.below; memo = s.shape.memo };
+          objects = s.objects;
+          events = s.events ++ Did i u.operands (Some number) ∷ [];
+        })
+    earlier_result number c light w e =
+        let k = r.again hefts i t.operands s number c w h.count
+        (ltb-true number (length s.objects) e) h.some light in
+        let old = Alike-map (r.Weighs hefts) (r.Weighs (answered_again i number hefts)) k.kept
+        (record { entries = t.below; memo = b.shape.memo })
+        (record { entries = u.below; memo = s.shape.memo })
+        (record { entries = a.below; memo = h.shape.memo }) in
+        let same : (account_of (s.events ++ Did i u.operands (Some number) ∷ [])).hefts
+        ≡ answered_again i number hefts =
+        ap (λ x. x.hefts) (account_then (Some number))
+        ∙ ap (λ q. cond q (answered_again i number hefts) (hefts ++ another ∷ []))
+        (ap (ltb number) h.count ∙ e) in
+        record {
+          shape = subst (λ hs. Alike (r.Weighs hs) (record {
+            entries = Item (heft_of i t.operands) ∷ t.below;
+            memo = b.shape.memo;
+          }) (record { entries = Item number ∷ u.below; memo = s.shape.memo }))
+              (sym same) (record { entries = (k.is, old.entries); memo = old.memo });
+          tally = tally_then (Some number);
+          count = ap length same ∙ again_count i number hefts ∙ h.count;
+          some = subst AreSome (sym same) (again_some i number hefts h.some);
+          behind = further (Did i u.operands (Some number));
+        }
 
     -- an operation that leaves its receiver
     leaves : Billed (record {
@@ -181,45 +214,56 @@ module _ (n : ℕ) where
       events = s.events ++ Did i u.operands None ∷ [];
     })
     leaves = record {
-      shape = subst (λ hs. Alike (Costs hs)
+      shape = subst (λ hs. Alike (r.Weighs hs)
           (record { entries = front t.operands ++ t.below; memo = b.shape.memo })
           (record { entries = front u.operands ++ u.below; memo = s.shape.memo }))
           (sym (ap (λ x. x.hefts) (account_then None)))
           (record {
-            entries = Pointwise-append (AlikeEntry (Costs hefts)) (front t.operands)
+            entries = Pointwise-append (AlikeEntry (r.Weighs hefts)) (front t.operands)
                 (front u.operands) t.below u.below
-                (front_alike (Costs hefts) t.operands u.operands a.operands) a.below;
+                (front_alike (r.Weighs hefts) t.operands u.operands a.operands) a.below;
             memo = h.shape.memo;
           });
       tally = tally_then None;
       count = ap (λ x. length x.hefts) (account_then None) ∙ h.count;
+      some = subst AreSome (sym (ap (λ x. x.hefts) (account_then None))) h.some;
       behind = further (Did i u.operands None);
     }
 
-    went_on : (gives : Gives) (n : ℕ) (c : ObjectClass) → NewIfAnswer gives s n
-        → StepBilled (after gives i t b) (gone_on gives i u n c s)
-    went_on (Makes k) n c w = new_result _
-    went_on MakesIntOrBool n c w = new_result _
-    went_on MakesText n c w = new_result _
-    went_on (MayMake k) n c w = new_result _
-    went_on (Leaves k) n c w = leaves
-    went_on Answers n c w = subst (λ x. StepBilled (after Answers i t b) (WentOn (record {
-      shape = record { entries = put x.0 u.operands ++ u.below; memo = s.shape.memo };
-      objects = x.1;
-      events = s.events ++ Did i u.operands x.0 ∷ [];
-    }))) (sym (answered_new n c s.objects w)) (new_result _)
+    by_number : (q : Bool) (number : ℕ) (c : ObjectClass) → IsLightAnswer i.op
+        → r.May i s (Go number c) → ltb number (length s.objects) ≡ q
+        → StepBilled (after Answers i t b) (WentOn (let x = cond {A = Option ℕ × List Object} q
+        (Some number, s.objects) (Some (length s.objects), with_answer c s.objects) in record {
+          shape = record { entries = put x.0 u.operands ++ u.below; memo = s.shape.memo };
+          objects = x.1;
+          events = s.events ++ Did i u.operands x.0 ∷ [];
+        }))
+    by_number true number c light w e = earlier_result number c light w e
+    by_number false number c light w e = new_result _
 
-    comes : (gives : Gives) (o : Outcome) → If (asks gives) (IsNew s o)
+    went_on : (gives : Gives) (number : ℕ) (c : ObjectClass) → IsLightGiven gives i.op
+        → MayIfAnswer gives i s number c
+        → StepBilled (after gives i t b) (gone_on gives i u number c s)
+    went_on (Makes k) number c light w = new_result _
+    went_on MakesIntOrBool number c light w = new_result _
+    went_on MakesText number c light w = new_result _
+    went_on (MayMake k) number c light w = new_result _
+    went_on (Leaves k) number c light w = leaves
+    went_on Answers number c light w =
+        by_number (ltb number (length s.objects)) number c light w refl
+
+    comes : (gives : Gives) (o : Outcome) → IsLightGiven gives i.op
+        → If (asks gives) (r.May i s o)
         → StepBilled (after gives i t b) (come_of (asks gives) gives i u o s)
-    comes (Makes k) o w = went_on (Makes k) 0 Foreign tt
-    comes MakesIntOrBool o w = went_on MakesIntOrBool 0 Foreign tt
-    comes MakesText o w = went_on MakesText 0 Foreign tt
-    comes (MayMake k) Raise w = tally_then None
-    comes (MayMake k) (Go n c) w = went_on (MayMake k) n c tt
-    comes (Leaves k) Raise w = tally_then None
-    comes (Leaves k) (Go n c) w = went_on (Leaves k) n c tt
-    comes Answers Raise w = tally_then None
-    comes Answers (Go n c) w = went_on Answers n c w
+    comes (Makes k) o light w = went_on (Makes k) 0 Foreign tt tt
+    comes MakesIntOrBool o light w = went_on MakesIntOrBool 0 Foreign tt tt
+    comes MakesText o light w = went_on MakesText 0 Foreign tt tt
+    comes (MayMake k) Raise light w = tally_then None
+    comes (MayMake k) (Go number c) light w = went_on (MayMake k) number c tt tt
+    comes (Leaves k) Raise light w = tally_then None
+    comes (Leaves k) (Go number c) light w = went_on (Leaves k) number c tt tt
+    comes Answers Raise light w = tally_then None
+    comes Answers (Go number c) light w = went_on Answers number c light w
 
   -- an import counts nothing
   account_imports : (s : State) (m k : List ℕ)
@@ -229,82 +273,90 @@ module _ (n : ℕ) where
   imports : (b : Bill) (s : State) (m k : List ℕ) → Billed b s
       → Billed b (with_event (Import m k) s)
   imports b s m k h = record {
-    shape = subst (λ x. Alike (Costs x.hefts) b.shape s.shape) (account_imports s m k) h.shape;
-    tally = since_end n s.events (Import m k) h.behind ∙ h.tally;
+    shape = subst (λ x. Alike (r.Weighs x.hefts) b.shape s.shape) (account_imports s m k) h.shape;
+    tally = subst (λ run. r.Counts run b.tally) (sym (since_end n s.events (Import m k) h.behind))
+        h.tally;
     count = subst (λ x. length x.hefts ≡ length s.objects) (account_imports s m k) h.count;
+    some = subst (λ x. AreSome x.hefts) (account_imports s m k) h.some;
     behind = omega (arith, h.behind, length-append s.events (Import m k ∷ []));
   }
 
   operates : (nm : Named) (gives : Gives) (i : Instruction) (t : Taken Heft) (u : Taken ℕ)
-      (b : Bill) (s : State) (o : Outcome) → Billed b s
-      → AlikeTaken (Costs (account_of s.events).hefts) t u → If (asks gives) (IsNew s o)
+      (b : Bill) (s : State) (o : Outcome) → IsLightGiven gives i.op → Billed b s
+      → AlikeTaken (r.Weighs (account_of s.events).hefts) t u → If (asks gives) (r.May i s o)
       → StepBilled (after gives i t b) (operated nm gives i u o s)
-  operates NoImport gives i t u b s o h a w = comes i t u b s h a gives o w
-  operates (Pair m k) gives i t u b s o h a w =
+  operates NoImport gives i t u b s o light h a w = comes i t u b s h a gives o light w
+  operates (Pair m k) gives i t u b s o light h a w =
       comes i t u b (with_event (Import m k) s) (imports b s m k h)
-      (subst (λ x. AlikeTaken (Costs x.hefts) t u) (account_imports s m k) a) gives o
-      (same_new (asks gives) o w)
+      (subst (λ x. AlikeTaken (r.Weighs x.hefts) t u) (account_imports s m k) a) gives o light
+      (same_may (asks gives) w)
     where
-      same_new : (q : Bool) (o : Outcome) → If q (IsNew s o)
-          → If q (IsNew (with_event (Import m k) s) o)
-      same_new true Raise w = w
-      same_new true (Go j c) w = w
-      same_new false o w = w
-  operates NotTexts gives i t u b s o h a w = tally_then i t u b s h a None
+      same_may : (q : Bool) → If q (r.May i s o) → If q (r.May i (with_event (Import m k) s) o)
+      same_may true w = r.behind i s (Import m k) o w
+      same_may false w = w
+  operates NotTexts gives i t u b s o light h a w = tally_then i t u b s h a None
 
   operate_billed : (names : Names) (gives : Gives) (i : Instruction) (b : Bill) (s : State)
-      (o : Outcome) (x : Result (Taken Heft) Breach) (y : Result (Taken ℕ) Breach) → Billed b s
-      → SameResult (AlikeTaken (Costs (account_of s.events).hefts)) x y
-      → If (asks gives) (IsNew s o)
+      (o : Outcome) (x : Result (Taken Heft) Breach) (y : Result (Taken ℕ) Breach)
+      → IsLightGiven gives i.op → Billed b s
+      → SameResult (AlikeTaken (r.Weighs (account_of s.events).hefts)) x y
+      → If (asks gives) (r.May i s o)
       → IfBilled (operation_billed gives i b x) (operate_step names gives i o s y)
-  operate_billed names gives i b s o (Ok t) (Ok u) h a w =
-      operates (named names i (map (class_at s.objects) u.operands)) gives i t u b s o h a w
-  operate_billed names gives i b s o (Err r) y h a w = tt
-  operate_billed names gives i b s o (Ok t) (Err r) h a w = absurd a
+  operate_billed names gives i b s o (Ok t) (Ok u) light h a w =
+      operates (named names i (map (class_at s.objects) u.operands)) gives i t u b s o light h a w
+  operate_billed names gives i b s o (Err e) y light h a w = tt
+  operate_billed names gives i b s o (Ok t) (Err e) light h a w = absurd a
 
   shape_billed : (m : Move) (k : ℕ) (b : Bill) (s : State) (x : Result (Shape Heft) Breach)
       (y : Result (Shape ℕ) Breach) → Billed b s
-      → SameResult (Alike (Costs (account_of s.events).hefts)) x y
+      → SameResult (Alike (r.Weighs (account_of s.events).hefts)) x y
       → IfBilled (move_billed m k b x) (move_step s y)
   shape_billed m k b s (Ok p) (Ok q) h a =
-      record { shape = a; tally = h.tally; count = h.count; behind = h.behind }
-  shape_billed m k b s (Err r) y h a = tt
-  shape_billed m k b s (Ok p) (Err r) h a = absurd a
+      record { shape = a; tally = h.tally; count = h.count; some = h.some; behind = h.behind }
+  shape_billed m k b s (Err e) y h a = tt
+  shape_billed m k b s (Ok p) (Err e) h a = absurd a
 
   result_billed : (b : Bill) (s : State) (x : Result (Heft × List (Entry Heft)) Breach)
       (y : Result (ℕ × List (Entry ℕ)) Breach) → Billed b s
-      → SameResult (AlikeTop (Costs (account_of s.events).hefts)) x y
+      → SameResult (AlikeTop (r.Weighs (account_of s.events).hefts)) x y
       → IfBilled (stop_billed b x) (stop_step s y)
   result_billed b s (Ok p) (Ok q) h a = (
     record {
       shape = record { entries = a.below; memo = h.shape.memo };
       tally = h.tally;
       count = h.count;
+      some = h.some;
       behind = h.behind;
     },
     refl,
   )
-  result_billed b s (Err r) y h a = tt
-  result_billed b s (Ok p) (Err r) h a = absurd a
+  result_billed b s (Err e) y h a = tt
+  result_billed b s (Ok p) (Err e) h a = absurd a
+
+  raises_billed : (i : Instruction) (b : Bill) (s : State) → Billed b s
+      → r.Counts (tally_since n (s.events ++ Did i [] None ∷ [])) b.tally
+  raises_billed i b s h = subst (λ run. r.Counts run b.tally)
+      (sym (since_end n s.events (Did i [] None) h.behind
+      ∙ nothing_counted i.op (tally_since n s.events))) h.tally
 
   performed_billed : (e : Effect) (i : Instruction) (b : Bill) (s : State) (o : Outcome)
-      → Billed b s → If (effect_asks e) (IsNew s o) → IfBilled (billed_by e i b) (perform e i s o)
-  performed_billed (Operates takes names gives) i b s o h w =
+      → IsLightIn e i.op → Billed b s → If (effect_asks e) (r.May i s o)
+      → IfBilled (billed_by e i b) (perform e i s o)
+  performed_billed (Operates takes names gives) i b s o light h w =
       operate_billed names gives i b s o (operands takes b.shape.entries)
-      (operands takes s.shape.entries) h
-      (operands_alike (Costs (account_of s.events).hefts) takes b.shape.entries s.shape.entries
+      (operands takes s.shape.entries) light h
+      (operands_alike (r.Weighs (account_of s.events).hefts) takes b.shape.entries s.shape.entries
       h.shape.entries) w
-  performed_billed (Moves m) i b s o h w =
+  performed_billed (Moves m) i b s o light h w =
       shape_billed m (number_kept m (memo_number i) b.shape) b s
       (moved m (memo_number i) b.shape) (moved m (memo_number i) s.shape) h
-      (moved_alike (Costs (account_of s.events).hefts) m (memo_number i) b.shape s.shape h.shape)
-  performed_billed Stops i b s o h w =
+      (moved_alike (r.Weighs (account_of s.events).hefts) m (memo_number i) b.shape s.shape
+      h.shape)
+  performed_billed Stops i b s o light h w =
       result_billed b s (top b.shape.entries) (top s.shape.entries) h
-      (top_alike (Costs (account_of s.events).hefts) b.shape.entries s.shape.entries
+      (top_alike (r.Weighs (account_of s.events).hefts) b.shape.entries s.shape.entries
       h.shape.entries)
-  performed_billed Raises i b s o h w =
-      since_end n s.events (Did i [] None) h.behind
-      ∙ nothing_counted i.op (tally_since n s.events) ∙ h.tally
+  performed_billed Raises i b s o light h w = raises_billed i b s h
 
   -- ---- the decoding of old strings
 
@@ -317,38 +369,38 @@ module _ (n : ℕ) where
   module _ (i : Instruction) (b : Bill) (s : State) (o : Outcome) (h : Billed b s) where
     -- the step of an effect is billed by the opcode
     abbrev IsBilledAs : Effect → Type 0
-    IsBilledAs e = If (effect_asks e) (IsNew s o)
+    IsBilledAs e = If (effect_asks e) (r.May i s o)
         → IfBilled (billed_by (effect_of i.op) i b) (perform e i s o)
 
     abbrev IsBilledAsOld : Effect → Type 0
-    IsBilledAsOld e = If (effect_asks e) (IsNew s o)
+    IsBilledAsOld e = If (effect_asks e) (r.May i s o)
         → IfBilled (billed_by (answers (Objects 0)) i b) (perform e i s o)
 
     ascii_billed : (plain : Bool)
         → IsBilledAsOld (cond plain (Operates (Objects 0) NoName MakesText) Raises)
-    ascii_billed true w = performed_billed (Operates (Objects 0) NoName MakesText) i b s o h w
-    ascii_billed false w =
-        since_end n s.events (Did i [] None) h.behind
-        ∙ ap (λ t. with_operation i.op [] t) h.tally
+    ascii_billed true w = performed_billed (Operates (Objects 0) NoName MakesText) i b s o tt h w
+    ascii_billed false w = subst
+        (λ said. r.Counts (tally_since n (s.events ++ Did i [] None ∷ [])) said)
+        (sym (nothing_counted i.op b.tally)) (raises_billed i b s h)
 
     old_billed : (e : Effect) (old : Bool) → is_old_string i.op ≡ old → IsBilledAsOld e
         → IsBilledAs (cond old e (effect_of i.op))
     old_billed e true q f w =
         subst (λ x. IfBilled (billed_by x i b) (perform e i s o)) (sym (old_string_answers i.op q))
         (f w)
-    old_billed e false q f w = performed_billed (effect_of i.op) i b s o h w
+    old_billed e false q f w = performed_billed (effect_of i.op) i b s o (answers_light i.op) h w
 
     by_setting : (setting : OldStrings) → IsBilledAs (effect_as setting i)
-    by_setting Unknown w = performed_billed (effect_of i.op) i b s o h w
+    by_setting Unknown w = performed_billed (effect_of i.op) i b s o (answers_light i.op) h w
     by_setting Ascii w =
         old_billed (ascii_string (unwrap_or (old_bytes i) [])) (is_old_string i.op) refl
         (ascii_billed (list_all is_ascii (unwrap_or (old_bytes i) []))) w
     by_setting Bytes w = old_billed (pushes class.Bytes) (is_old_string i.op) refl
-        (λ v. performed_billed (pushes class.Bytes) i b s o h v) w
+        (λ v. performed_billed (pushes class.Bytes) i b s o tt h v) w
 
   -- a step from a state with this bill leads to one with the next bill
   pub step_billed : (setting : OldStrings) (i : Instruction) (b : Bill) (s : State) (o : Outcome)
-      → Billed b s → If (effect_asks (effect_as setting i)) (IsNew s o)
+      → Billed b s → If (effect_asks (effect_as setting i)) (r.May i s o)
       → IfBilled (billed i b) (step_as setting i s o)
   step_billed setting i b s o h w =
       unless_ended b.ended (billed_by (effect_of i.op) i b) (step_as setting i s o)

@@ -7,19 +7,22 @@ use Rattle.pkread.specs.Admission.{IsAllowedBy}
 use Rattle.pkread.specs.Rows.{Sight, Takes}
 use Rattle.pkread.specs.Sequence.{NoStop, spellings}
 use Rattle.pkcheck.specs.Knowledge.{Policy}
+use Rattle.pkcheck.specs.NewRuns.{DecodesNew, GetsPast, InEachDecodedRun, InEachNewRun}
+use Rattle.pkcheck.specs.NewRuns.{InSomeNewRun}
 use Rattle.pkcheck.specs.RowOfPickles.{AreAccepted, begins, bytes_of_all}
 use Rattle.pkcheck.specs.RowRuns.{Pickle}
 use Rattle.pkcheck.specs.RunFaults.{IsFaultless}
-use Rattle.pkcheck.specs.Runs.{Raised, Stopped, Stuck, WentOn}
+use Rattle.pkcheck.specs.Runs.{Outcome, Raised, Stepped, Stopped, Stuck, WentOn, step_as}
 use Rattle.pkcheck.specs.Shape.{and_then}
 use Rattle.pkcheck.specs.WholeRuns.{Ended, EndedBy, Reached}
 use Rattle.pkcheck.specs.declared.check_loop.Extent.{Extent}
 use Rattle.pkcheck.specs.declared.check_loop.Extent.TheVariants.{OnePickle}
 use Rattle.pkcheck.specs.declared.loading.Loading.{Loading}
+use Rattle.pkcheck.specs.declared.old_strings.OldStrings.{OldStrings}
 use Rattle.pkload.specs.Bill.{Bill, all_billed, bill_before, billed}
 use Rattle.pkload.specs.Loading.{KeepWithin}
-use Rattle.pkload.specs.Tolls.{Exceeds, KeepsWithin}
-use Rattle.pkload.specs.Weighed.{InEachNewRun, tally_since}
+use Rattle.pkload.specs.Tolls.{Exceeds, IsExcess, KeepsWithin}
+use Rattle.pkload.specs.Weighed.{tally_since}
 use Rattle.pkload.specs.declared.tolls.Excess.{Excess}
 use Rattle.pkload.specs.declared.tolls.Tolls.{Tolls}
 
@@ -32,6 +35,25 @@ EndsAbove excess tolls memory earlier (EndedBy (Stopped result state)) =
 EndsAbove excess tolls memory earlier (EndedBy (Raised state)) = ⊤
 EndsAbove excess tolls memory earlier (EndedBy (WentOn state)) = ⊥
 EndsAbove excess tolls memory earlier (EndedBy (Stuck breach)) = ⊥
+
+-- the events behind a step count what the reason says, behind earlier pickles
+abbrev pub StepsAbove : Excess → Tolls → (memory earlier : ℕ) → Stepped → Type 0
+StepsAbove excess tolls memory earlier (WentOn state) =
+    IsExcess excess tolls (tally_since earlier state.events) memory
+StepsAbove excess tolls memory earlier (Raised state) =
+    IsExcess excess tolls (tally_since earlier state.events) memory
+StepsAbove excess tolls memory earlier (Stopped result state) =
+    IsExcess excess tolls (tally_since earlier state.events) memory
+StepsAbove excess tolls memory earlier (Stuck breach) = ⊥
+
+-- if the run gets to this instruction, what the reason says is counted behind it, whether it goes
+-- on or raises
+abbrev pub GetsAbove : OldStrings → Instruction → Excess → Tolls → (memory earlier : ℕ) → Ended
+    → Type 0
+GetsAbove setting last excess tolls memory earlier (Reached state) =
+    (outcome : Outcome) → DecodesNew last state outcome
+    → StepsAbove excess tolls memory earlier (step_as setting last state outcome)
+GetsAbove setting last excess tolls memory earlier (EndedBy step) = ⊤
 
 -- an instruction at this offset, of the pickle that follows these, exceeds a limit
 pub record ExceedsIn (loading : Loading) (policy : Policy) (limits : Bounds) (tolls : Tolls)
@@ -58,7 +80,11 @@ pub record ExceedsIn (loading : Loading) (policy : Policy) (limits : Bounds) (to
   pub bill : Bill
   pub adds : billed last earlier ≡ Ok bill
   pub exceeds : Exceeds excess tolls bill.tally bill.memory
-  -- and so do the events of each run that gets past it and whose answers are new objects
+  -- each run that gets to it exceeds the limit that is named, whatever is answered: an earlier
+  -- object in place of a new one only adds. Old strings alone must be decoded to new objects
+  pub each : InEachDecodedRun loading.old_strings (begins loading.memo before) instructions
+      (GetsAbove loading.old_strings last excess tolls bill.memory)
+  -- each run that gets past it and whose answers are new objects exceeds none that is tried earlier
   pub runs : InEachNewRun loading.old_strings (begins loading.memo before)
       (instructions ++ last ∷ []) (EndsAbove excess tolls bill.memory)
 
@@ -73,3 +99,6 @@ pub record CostsTooMuch (loading : Loading) (policy : Policy) (limits : Bounds) 
   pub number : pickle ≡ length before
   pub alone : extent ≡ OnePickle → before ≡ []
   pub over : ExceedsIn loading policy limits tolls here before at excess
+  -- some run gets past it whose answers are new objects
+  pub some : InSomeNewRun loading.old_strings (begins loading.memo before)
+      (over.instructions ++ over.last ∷ []) GetsPast

@@ -15,6 +15,7 @@ use Rattle.pkload.specs.Loading.{AcceptedWithin}
 use Rattle.pkload.specs.declared.tolls.Excess.{Excess}
 use Rattle.pkload.specs.declared.tolls.Tolls.{Tolls}
 use Rattle.pkcheck.specs.Covers.{Alike}
+use Rattle.pkcheck.specs.NewRuns.{InEachNewRun}
 use Rattle.pkcheck.specs.RowRuns.{Beginning}
 use Rattle.pkcheck.specs.Runs.{State, WentOn, Raised, Stopped, Stuck}
 use Rattle.pkcheck.specs.Shape.{and_then}
@@ -23,7 +24,7 @@ use Rattle.pkload.specs.Bill.{Bill, all_billed, bill_before}
 use Rattle.pkload.specs.Heft.{Heft}
 use Rattle.pkload.specs.Tally.{IsAtMost}
 use Rattle.pkload.specs.Tolls.{Exceeds, KeepsWithin}
-use Rattle.pkload.specs.Weighed.{InEachNewRun, account_of, tally_since}
+use Rattle.pkload.specs.Weighed.{account_of, tally_since}
 
 -- the object with this number costs this
 abbrev pub Costs : List Heft → Heft → ℕ → Type 0

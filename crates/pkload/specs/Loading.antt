@@ -7,6 +7,7 @@ use Rattle.pkread.specs.Rows.{Sight}
 use Rattle.pkcheck.specs.Accepted.{AcceptedFrom}
 use Rattle.pkcheck.specs.Import.{asked_shown}
 use Rattle.pkcheck.specs.Knowledge.{Policy}
+use Rattle.pkcheck.specs.NewRuns.{InEachNewRun}
 use Rattle.pkcheck.specs.RowOfPickles.{AcceptedRow, RefusedInRow, begins}
 use Rattle.pkcheck.specs.RowRuns.{Beginning, Pickle}
 use Rattle.pkcheck.specs.Runs.{Raised, Stopped, Stuck, WentOn}
@@ -21,7 +22,7 @@ use Rattle.pkcheck.specs.declared.old_strings.OldStrings.{OldStrings}
 use Rattle.pkcheck.specs.declared.row_of_pickles.YesAll.{YesAll}
 use Rattle.pkload.specs.Bill.{Bill, all_billed, bill_before}
 use Rattle.pkload.specs.Tolls.{IsWithin, KeepsWithin}
-use Rattle.pkload.specs.Weighed.{InEachNewRun, tally_since}
+use Rattle.pkload.specs.Weighed.{tally_since}
 use Rattle.pkload.specs.declared.checking.YesWithBill.{YesWithBill}
 use Rattle.pkload.specs.declared.tolls.Tolls.{Tolls}
 

@@ -11,6 +11,7 @@ ghost use Rattle.pkload.specs.Tolls.{unlimited};
 use crate::meter::Meter;
 use crate::tally::Tally;
 use crate::tolls::{Excess, Tolls};
+use pkcheck::laws::faultless_is_run;
 use pkcheck::{Permit, RefusedPickle, Terms, YesAll, check_pickles};
 use pkread::Source;
 use std::alloc::Global;
@@ -81,6 +82,7 @@ pub fn check_loading<R: Source>(
     ensures unlimited { tolls.now ≡ unlimited
         → IfErr result (λ costly. costly.excess ≡ Excess.OutOfMemory) }
 {
+    faultless_is_run();
     let mut meter = Meter::new(alloc, tolls, terms.loading.memo);
     match check_pickles(alloc, source, permit, terms, &mut meter) {
         Ok(answer) => settled(answer, &meter),

@@ -16,7 +16,7 @@ stops_nowhere (i ∷ p) h =
     (All-head (λ j. j.op ≢ op.Stop) i p h, stops_nowhere p (All-tail (λ j. j.op ≢ op.Stop) i p h))
 
 -- like StopsNowhere, with one more instruction
-last_more : (p : List Instruction) (i : Instruction) → StopsNowhere p → StopsLast (p ++ i ∷ [])
+pub last_more : (p : List Instruction) (i : Instruction) → StopsNowhere p → StopsLast (p ++ i ∷ [])
 last_more [] i h = tt
 last_more (x ∷ []) i h = (h.0, tt)
 last_more (x ∷ y ∷ p) i h = (h.0, last_more (y ∷ p) i h.1)

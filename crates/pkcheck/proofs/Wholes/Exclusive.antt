@@ -344,7 +344,7 @@ module _ (one : OneAnswer) (nothing : (limit : ℕ) → Begun limit []) (front :
           length-append (spelling g.next) (spellings g.after),
         )
 
-    not_why : r ≢ reason.Source → r ≢ reason.OutOfMemory
+    pub not_why : r ≢ reason.Source → r ≢ reason.OutOfMemory
         → Why setting b policy limits q here after at r pair → ⊥
     not_why n m (reading h) = no_row one nothing limits here after tail
         (spellings g.after ++ rest) g.next may is g.bytes h.bytes at h.taken fits h.shown.taken r n

@@ -51,7 +51,7 @@ module _ (setting : OldStrings) (q : List Instruction) where
   not_both : (p : List Instruction) (ps : List (List Instruction)) → [] ≡ p ∷ ps → ⊥
   not_both p ps e = cc
 
-  same_runs : (F : Arrivals → Type 0) (memo : Memo) (xs ys : List Pickle)
+  pub same_runs : (F : Arrivals → Type 0) (memo : Memo) (xs ys : List Pickle)
       → sequences_of xs ≡ sequences_of ys → F (RunsFrom setting (begins memo xs) q)
       → F (RunsFrom setting (begins memo ys) q)
   same_runs F Fresh xs ys e h = h

@@ -45,7 +45,7 @@ cleared t = record t { shape = record { entries = []; memo = t.shape.memo } }
 abbrev pub memo_of : Knowledge → Knowledge
 memo_of k = record { entries = []; memo = k.memo }
 
-covers_cleared : (U : List Object → ℕ → Type 0) (k : Knowledge) (t : State) → CoversBy U k t
+pub covers_cleared : (U : List Object → ℕ → Type 0) (k : Knowledge) (t : State) → CoversBy U k t
     → CoversBy U (memo_of k) (cleared t)
 covers_cleared U k t c = record { entries = tt; memo = c.memo }
 
@@ -139,7 +139,8 @@ module _ (setting : OldStrings) where
 
 -- ---- the end of an accepted pickle
 
-stop_stops : (setting : OldStrings) (i : Instruction) → i.op ≡ op.Stop → effect_as setting i ≡ Stops
+pub stop_stops : (setting : OldStrings) (i : Instruction) → i.op ≡ op.Stop
+    → effect_as setting i ≡ Stops
 stop_stops Unknown i e = rw e refl
 stop_stops Ascii i e = rw e refl
 stop_stops Bytes i e = rw e refl
@@ -149,7 +150,7 @@ never_on : (s u : State) (x : Result (ℕ × List (Entry ℕ)) Breach) → stop_
 never_on s u (Ok t) e = cc
 never_on s u (Err b) e = cc
 
-stop_ends : (e : Effect) (i : Instruction) (s u : State) (o : Outcome) → e ≡ Stops
+pub stop_ends : (e : Effect) (i : Instruction) (s u : State) (o : Outcome) → e ≡ Stops
     → perform e i s o ≡ WentOn u → ⊥
 stop_ends Stops i s u o same h = never_on s u (top s.shape.entries) h
 stop_ends (Operates takes names gives) i s u o same h = cc

@@ -1,0 +1,5 @@
+use Rattle.pkcheck.proofs.Wholes.NewRuns.{faultless_is_run}
+use Rattle.pkcheck.proofs.laws.faultless_is_run.Goals as goal
+
+pub returns : goal.returns
+returns c = faultless_is_run

@@ -1,0 +1,5 @@
+use Rattle.pkcheck.proofs.Wholes.RefusedBehind.{one_begins}
+use Rattle.pkcheck.proofs.laws.one_begins.Goals as goal
+
+pub returns : goal.returns
+returns c = one_begins c.one_sequence.ensures.front

@@ -1,0 +1,73 @@
+-- What exceeds a limit exceeds it in each run that gets there, whatever is answered.
+use Rattle.std.proofs.Common.{◌≡◌, ◌≤◌, ℕ, Bool, true, false, List, length, inl, inr, Ok, refl}
+use Rattle.std.proofs.Common.{subst, arith}
+use Rattle.std.specs.Prelude.{⊤}
+use Rattle.pkops.specs.Spelling.{Instruction}
+use Rattle.pkcheck.specs.Effects.{effect_as}
+use Rattle.pkcheck.specs.NewRuns.{If, InEachDecodedRun}
+use Rattle.pkcheck.specs.RowRuns.{Afresh, Beginning, Behind}
+use Rattle.pkcheck.specs.Runs.{Raised, Stepped, Stopped, Stuck, WentOn, effect_asks, start, step_as}
+use Rattle.pkcheck.specs.Shape.{and_then}
+use Rattle.pkcheck.specs.WholeRuns.{Ended, EndedBy, Reached, run_as}
+use Rattle.pkcheck.specs.declared.old_strings.OldStrings.{OldStrings}
+use Rattle.pkload.proofs.AtLeast.{at_least}
+use Rattle.pkload.proofs.Steps.{IfBilled, StepBilled, step_billed}
+use Rattle.pkload.proofs.Whole.{IfEnds, each_billed}
+use Rattle.pkload.specs.Bill.{Bill, all_billed, bill_before, billed}
+use Rattle.pkload.specs.Costly.{GetsAbove, StepsAbove}
+use Rattle.pkload.specs.Tally.{Implies, IsAtMost}
+use Rattle.pkload.specs.Tolls.{IsExcess}
+use Rattle.pkload.specs.declared.tally.Tally.{Tally}
+use Rattle.pkload.specs.declared.tolls.Excess.{Excess}
+use Rattle.pkload.specs.declared.tolls.Excess.TheVariants.{BuildsImport, DeepKey, HeavyKeys}
+use Rattle.pkload.specs.declared.tolls.Excess.TheVariants.{ManyKeys, MuchMemory, OutOfMemory}
+use Rattle.pkload.specs.declared.tolls.Tolls.{Tolls}
+
+implies_is : (a b : Bool) → Implies a b → a ≡ true → b ≡ true
+implies_is true true h e = refl
+implies_is true false h e = cc
+implies_is false b h e = cc
+
+module _ (tolls : Tolls) (memory : ℕ) where
+  -- what counts more exceeds the same limit
+  pub excess_above : (excess : Excess) (a b : Tally) → IsAtMost a b
+      → IsExcess excess tolls a memory → IsExcess excess tolls b memory
+  excess_above DeepKey a b h e = omega (arith, h.levels, e)
+  excess_above HeavyKeys a b h (inl e) = inl (omega (arith, h.weight, e))
+  excess_above HeavyKeys a b h (inr e) = inr (omega (arith, h.work, e))
+  excess_above ManyKeys a b h e = omega (arith, h.clash, e)
+  excess_above MuchMemory a b h e = e
+  excess_above BuildsImport a b h e = (implies_is a.builds b.builds h.builds e.0, e.1)
+  excess_above OutOfMemory a b h e = e
+
+  module _ (setting : OldStrings) (last : Instruction) (excess : Excess) (earlier bill : Bill)
+      (adds : billed last earlier ≡ Ok bill) (over : IsExcess excess tolls bill.tally memory) where
+    steps_above : (n : ℕ) (st : Stepped) → StepBilled at_least n bill st
+        → StepsAbove excess tolls memory n st
+    steps_above n (WentOn t) h = excess_above excess bill.tally _ h.tally over
+    steps_above n (Raised t) h = excess_above excess bill.tally _ h over
+    steps_above n (Stopped r t) h = excess_above excess bill.tally _ h.0.tally over
+    steps_above n (Stuck b) h = h
+
+    asked : (q : Bool) (P : Type 0) → P → If q P
+    asked true P h = h
+    asked false P h = tt
+
+    gets_above : (n : ℕ) (e : Ended) → IfEnds at_least n (Ok earlier) e
+        → GetsAbove setting last excess tolls memory n e
+    gets_above n (Reached s) h = λ o may.
+        steps_above n (step_as setting last s o)
+        (subst (λ x. IfBilled at_least n x (step_as setting last s o)) adds
+        (step_billed at_least n setting last earlier s o h
+        (asked (effect_asks (effect_as setting last)) _ may)))
+    gets_above n (EndedBy st) h = tt
+
+    pub each_above : (beginning : Beginning) (front : List Instruction)
+        → and_then (bill_before beginning) (all_billed front) ≡ Ok earlier
+        → InEachDecodedRun setting beginning front (GetsAbove setting last excess tolls memory)
+    each_above Afresh front e = λ os w.
+        gets_above 0 (run_as setting front os start)
+        (each_billed at_least setting front earlier Afresh e os w)
+    each_above (Behind ps) front e = λ before first os f v w.
+        gets_above (length first.events) (run_as setting front os first)
+        (each_billed at_least setting front earlier (Behind ps) e before first os f v w)
