@@ -3,11 +3,13 @@
 import base64
 import colorsys
 import contextlib
+import datetime
 import importlib
 import pathlib
 import pickle
 import shelve
 import sqlite3
+import struct
 import tempfile
 import unittest
 
@@ -94,6 +96,26 @@ class Stores(unittest.TestCase):
                 for path in self.folder.iterdir():
                     path.unlink()
 
+    @needs("module:dbm.ndbm")
+    def test_long_values_of_ndbm(self):
+        """Berkeley DB cuts a value into pages, each with a header."""
+        from dbm import ndbm
+
+        long = b"X" + struct.pack("<I", 9_999) + b"a" * 9_999 + b"0"
+        module, name = b"\x8c\x08colorsys\x940", b"\x8c\x0argb_to_hls\x940"
+        hostile = module + long + name + long + b"h\0h\1\x93(K\0K\0K\0tR."
+        honest = pickle.dumps([datetime.date(2026, 1, 1), *map(str, range(9_999))], 4)
+        self.assertEqual(pickle.loads(hostile), colorsys.rgb_to_hls(0, 0, 0))
+        listed = AllowList([("datetime", "date")])
+        for value, is_evil in ((hostile, True), (b"N0" + hostile, True), (honest, False)):
+            path = str(self.folder / "base")
+            with ndbm.open(path, "n") as base:
+                base[b"a"], base[b"b"], base[b"c"] = b"a text", value, honest
+                self.assertEqual(base[b"b"], value)
+            (data,) = self.files()
+            found = reports(data, listed)
+            self.assertEqual(any(it.is_finding for it in found), is_evil, found)
+
     @needs("module:tables")
     def test_pytables(self):
         import tables
@@ -144,7 +166,8 @@ class Stores(unittest.TestCase):
         ):
             (found,) = reports(data)
             self.assertEqual((found.status, found.kind), ("no pickle", kind))
-            self.assertIn("not read as its programs read it", found.why)
+            said = "no value is a pickle" if kind == "SQLite" else "not read as its programs"
+            self.assertIn(said, found.why)
 
 
 if __name__ == "__main__":

@@ -141,12 +141,14 @@ class Trails(unittest.TestCase):
         """SQLite cuts a long value into pages. The words in it are names of modules, too."""
         dates = {"day": datetime.date(2026, 1, 1), "n": decimal.Decimal(1)}
         rows = [{"os": "a", "system": it, "code": f"c{it}", "types": [it]} for it in range(999)]
+        listed = AllowList([("datetime", "date"), ("decimal", "Decimal"), ("_codecs", "encode")])
         dated = [{**row, **dates} for row in rows]
         for value in (rows, [*rows, dates], [*rows, *dated]):
             for protocol in (2, 3, 4, 5):
                 data, (read,) = self.sqlite(pickle.dumps(value, protocol))
                 self.assertEqual(pickle.loads(read), value)
-                self.assertFalse(any(it.is_finding for it in reports(data)), protocol)
+                found = reports(data, listed)
+                self.assertFalse(any(it.is_finding for it in found), protocol)
 
     def test_heads(self):
         """The search knows the first words of all that is harmful."""

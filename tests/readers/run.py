@@ -5,7 +5,8 @@ Each file goes to the real readers in a process of its own (`real.py`), which im
 unlisted, and through `scan`. It fails if a reader asks for a name off the list and scan finds
 nothing; if that name is dangerous and scan without a list would end with status 0; and if a library
 wrote the file, and scan finds something. A file that fails is named by its number and kept in the
-folder --keep. The last line counts the files.
+folder --keep. The last line counts the files. A long run may be done in parts, by --first and
+--files.
 """
 
 import argparse
@@ -143,6 +144,7 @@ def alarms(keep):
 def words_of():
     parser = argparse.ArgumentParser(description=__doc__.splitlines()[0])
     parser.add_argument("--files", type=int, default=100_000)
+    parser.add_argument("--first", type=int, default=0, help="the number of the first file")
     parser.add_argument("--seed", type=int, default=1)
     parser.add_argument("--seconds", type=int, default=1 << 20, help="after which it ends")
     parser.add_argument("--jobs", type=int, default=2, help="pairs of processes")
@@ -162,18 +164,19 @@ def main():
         return 0
     passed, failed = alarms(asked.keep)
     readers, deaths = collections.Counter(), 0
+    end = asked.first + asked.files
     jobs = [
-        (asked.seed, first, min(first + CHUNK, asked.files))
-        for first in range(0, asked.files, CHUNK)
+        (asked.seed, first, min(first + CHUNK, end))
+        for first in range(asked.first, end, CHUNK)
     ]
-    end = time.monotonic() + asked.seconds
+    over = time.monotonic() + asked.seconds
     for count, misses, heard, died in progress.results_of(compared, jobs, "chunks", asked.jobs):
         passed, failed = passed + count - len(misses), failed + len(misses)
         readers, deaths = readers + heard, deaths + died
         for number, names, data in misses:
             (asked.keep / str(number)).write_bytes(data)
             print(f"file {number}: asked for by {', '.join(names)}, and not found", flush=True)
-        if time.monotonic() > end:
+        if time.monotonic() > over:
             print(f"the time is over after {passed + failed:,} files")
             break
     told = ", ".join(f"{name} {count:,}" for name, count in readers.most_common())

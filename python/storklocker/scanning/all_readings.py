@@ -4,6 +4,8 @@ from __future__ import annotations
 
 from typing import Dict
 
+from .berkeley import berkeley_reading
+from .caches import cachelib_reading
 from .checkpoints import records_reading
 from .npys import npy_reading
 from .packed import (
@@ -12,6 +14,7 @@ from .packed import (
 from .pickles import pickle_reading
 from .readings import Reading
 from .shelves import shelf_reading
+from .sqlite_files import sqlite_reading
 from .stores import STORES
 from .tars import tar_reading
 from .zips import zip_reading
@@ -19,6 +22,7 @@ from .zips import zip_reading
 READINGS: Dict[str, Reading] = {
     "dbm.dumb": shelf_reading,  # the first, because it says where the pickles are
     "pickle": pickle_reading,
+    "cachelib": cachelib_reading,
     "distcp": records_reading,
     "npy": npy_reading,
     "tar": tar_reading,
@@ -29,6 +33,8 @@ READINGS: Dict[str, Reading] = {
     "zlib": zlib_reading,
     "ZF": zf_reading,
     "packed file": unknown_reading,
+    "SQLite": sqlite_reading,
+    "Berkeley DB": berkeley_reading,
     **STORES,
     "zip": zip_reading,  # the last, because it leaves out what a member holds
 }

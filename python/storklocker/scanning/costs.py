@@ -8,18 +8,23 @@ from typing import TYPE_CHECKING, Iterable, NamedTuple, Optional, Tuple
 
 from .._answers import Verdict
 from .._hints import CHANGES
-from .._limits import Limits
-from .._lists import AllowList, settings_of
+from .._limits import COSTS, Limits
+from .._lists import STANDARD, AllowList, settings_of
 from .._reasons import Reason
 from .._storklocker import bill, row_verdict, verdict, walked
-from .names import NOTHING, WIDE
+from .names import NOTHING, WIDEST
 from .report import Finding
 
 if TYPE_CHECKING:
     from .._lists import Names
 
-LIMITS = Limits(passed=WIDE.passed)
-"""The limits of a scan, and on what loading costs the default ones."""
+def with_costs(limits: Limits) -> Limits:
+    """The limits, and on what loading costs the default ones."""
+    return limits._replace(**{name: getattr(STANDARD, name) for name in COSTS})
+
+
+LIMITS = with_costs(WIDEST)
+"""Limits on costs alone: where a reader must stop, whatever it has room for, or may never stop."""
 COSTLY = "costly-keys"
 KINDS = {
     Reason.DeepKey: COSTLY,
@@ -29,7 +34,7 @@ KINDS = {
 """The kinds of findings, by the reason for which a guard refuses the pickle."""
 
 _SETTINGS = settings_of(NOTHING, LIMITS, "unknown")
-_COUNTING = settings_of(NOTHING, WIDE._replace(memory=(1 << 64) - 2), "unknown", "any")
+_COUNTING = settings_of(NOTHING, WIDEST._replace(memory=(1 << 64) - 2), "unknown", "any")
 """Settings under which costs are counted, and none is too much."""
 _WEIGHING = settings_of(NOTHING, LIMITS._replace(work=None), "unknown")
 _LEVELS, _WEIGHT = 1_023, 1_048_575

@@ -12,13 +12,12 @@ from .costs import cost_finding
 from .dangers import import_findings
 from .joblib_files import WRAPPER_NAMES, without_arrays
 from .listing import listing
-from .names import WIDE
 from .readings import Beside, Nothing, Piece, Place, Unread, examine, is_text, nothing
 from .report import (
     ACCEPTED, LONGEST, NO_PICKLE, UNJUDGED, Finding, Pair, Report, sorted_findings, unreadable
 )
 from .rows import Row, row_of
-from .severity import KINDS, REFUSED, UNREADABLE
+from .severity import KINDS, NOTE, REFUSED, UNREADABLE
 from .source import Source, source_of
 
 
@@ -64,11 +63,21 @@ def _reports_at(place: Place, question: Question) -> Iterator[Report]:
                 continue
             if WRAPPER_NAMES.intersection(row.names):
                 it, row = without_arrays(it, row, question.allow, budget)
+            if it.is_remnant and row.refusal is not None and not _counts(row, question.allow):
+                continue
             answer = row.taken
             yield _judged(it, row, question, place)
             if row.too_much is not None:
                 raise row.too_much
         budget.reports += 1
+
+
+def _counts(row: Row, allow: Optional[AllowList]) -> bool:
+    """Whether an import of a broken pickle is off the list; without one, known to do harm."""
+    if allow is not None:
+        return not (row.is_complete and all(map(allow._has, row.names)))
+    found = import_findings(map(_pair_of, row.names))
+    return not row.is_complete or any(finding.severity != NOTE for finding in found)
 
 
 def _judged(piece: Piece, row: Row, question: Question, place: Place) -> Report:
@@ -81,8 +90,9 @@ def _judged(piece: Piece, row: Row, question: Question, place: Place) -> Report:
         why = row.refusal.line(64)
         if row.number:
             why = why.replace("no at", f"no in pickle {row.number} at", 1)
-        limits = within(WIDE, question.allow.limits if question.allow is not None else None)
-        hint = hint_of(row.refusal, piece.source.read, limits or WIDE)
+        own = None if question.allow is None else question.allow.limits
+        limits = row.limits(piece.source.size)
+        hint = hint_of(row.refusal, piece.source.read, within(limits, own) or limits)
         why += f" ({hint})" if hint else ""
         if question.allow is not None or not _is_text(piece, row):
             is_refused = question.allow is not None and not (piece.is_cut and not missing)

@@ -5,8 +5,8 @@ from __future__ import annotations
 from typing import TYPE_CHECKING, Dict, NamedTuple, Optional, Tuple
 
 from .._answers import Verdict
-from .._limits import NO_COSTS, Limits
-from .._lists import AllowList, records, settings_of
+from .._limits import NO_COSTS, UNBOUND, Limits
+from .._lists import STANDARD, AllowList, records, settings_of
 from .._reasons import Reason
 from .._storklocker import imports as _imports
 from .budget import Budget
@@ -17,10 +17,23 @@ if TYPE_CHECKING:
 
 NOTHING = AllowList(())
 WIDE = Limits(passed=1 << 40, **NO_COSTS)
-"""The limits of a scan: of payloads that are passed over, any length."""
+"""The limits under a list that has none: those of a guard, but for payloads that are passed over,
+which may have any length.
+"""
+WIDEST = WIDE._replace(**dict.fromkeys(("counted", "stack", "memo", "numbers"), UNBOUND), large=True)
+"""Under a list with limits, just these."""
 _ROOM = 1 << 22
 """The least bytes of names that are taken from a pickle; for a larger pickle, its size."""
 _FIRST = 4096
+
+
+def limits_under(allow: Optional[AllowList], size: int) -> Limits:
+    """The limits of a scan of so many bytes. Without a list, only a memo number may be too large:
+    no pickler writes one that is greater than the bytes in front of it.
+    """
+    if allow is not None:
+        return WIDE if allow.limits is None else WIDEST
+    return WIDEST._replace(numbers=max(size, STANDARD.numbers))
 
 
 class Imports(NamedTuple):
@@ -49,7 +62,7 @@ def length_at(source: Source, at: int, budget: Budget) -> int:
     """The length of the pickle at an offset; 0 if no list makes it acceptable."""
     size = BLOCK
     while True:
-        verdict = imports_within(source.read(at, size), NOTHING).verdict
+        verdict = imports_within(source.read(at, size), NOTHING, WIDEST).verdict
         budget.spend_time()
         is_cut = verdict.reason is Reason.Truncated and size < source.size - at
         if not is_cut:

@@ -2,7 +2,8 @@
 
 from __future__ import annotations
 
-from .readings import Found, Place
+from .caches import packed_behind
+from .readings import Found, Place, examine
 from .stores import is_pickle
 
 _TORCH = b"\x80\x02\x8a\nl\xfc\x9cF\xf9 j\xa8P\x19."
@@ -17,6 +18,12 @@ def pickle_reading(place: Place) -> Found:
         return False
     if place.is_raw and not is_pickle(place.source, 0):
         return False
+    packed = packed_behind(place.source)
+    if packed:
+        yield place.piece(place.around, most=1)
+        rest = place.source.part(packed, place.source.size)
+        yield from examine(place.inside("", rest, "behind a pickle"))
+        return True
     if not place.source.front().startswith(_TORCH):
         taken = yield place.piece(place.around)
         return taken is not None

@@ -31,6 +31,8 @@ class Piece(NamedTuple):
     """How many pickles the reader loads of the row; 0: all."""
     is_cut: bool = False
     """Whether bytes are missing at its end, which is reported."""
+    is_remnant: bool = False
+    """Whether it may be what is left of another: if it is broken, only its imports count."""
 
 
 class Unread(NamedTuple):
@@ -99,9 +101,8 @@ Reading = Callable[[Place], Found]
 _SEARCHED = "looked through for pickles, not read as its programs read it"
 _ONLY = {
     "npy": "numbers only",
-    **dict.fromkeys(
-        ("HDF5", "SQLite", "GDBM", "Berkeley DB", "LMDB", "Arrow", "Parquet"), _SEARCHED
-    ),
+    "SQLite": "no value is a pickle, as it stands",
+    **dict.fromkeys(("HDF5", "GDBM", "Berkeley DB", "LMDB", "Arrow", "Parquet"), _SEARCHED),
 }
 """What is in a file that a reader takes, and in which it finds no pickle."""
 

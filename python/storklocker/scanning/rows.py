@@ -8,16 +8,18 @@ from typing import TYPE_CHECKING, Dict, Iterable, Optional, Tuple
 
 from .._answers import Verdict
 from .._checking import check, check_row
-from .._limits import UNBOUND, Limits
 from .._lists import AllowList
 from .._reasons import Reason
 from .budget import Budget, TooMuch
-from .costs import KINDS, LIMITS, Exceeded, exceeded, exceeded_in_row
-from .names import NOTHING, WIDE, Imports, imports_within, refused_with
+from .costs import KINDS, LIMITS, Exceeded, exceeded, exceeded_in_row, with_costs
+from .names import (
+    NOTHING, WIDEST, Imports, imports_within, limits_under, refused_with
+)
 from .reaching import READERS_STOP, is_module, reached
 from .readings import Piece, is_text
 
 if TYPE_CHECKING:
+    from .._limits import Limits
     from .._lists import Names
 
 _FIRST = 4096
@@ -34,8 +36,6 @@ as long as all the rest.
 """
 _CLAIM = re.compile(rb"\x80[\x02-\x05]")
 """How pickles of protocol 2 and later begin. Those of 0 and 1 have no PROTO, but fonts have it."""
-_WIDEST = Limits(passed=1 << 40, numbers=UNBOUND, large=True)
-"""Limits on costs alone: where a reader must stop, whatever it has room for, or may never stop."""
 _IMPORTING = (Reason.ImportOffList, Reason.UnknownImport, Reason.ExtensionCode)
 
 
@@ -95,7 +95,7 @@ class Row:
     def _is_next_accepted(self) -> bool:
         """Reads the next pickle. Returns whether another may follow it."""
         self._budget.spend_pickle()
-        data, found = self._next()
+        data, found, is_within = self._next()
         verdict = found.verdict
         if self._goes_on_behind(found):
             self.taken += verdict.at + 1
@@ -104,7 +104,7 @@ class Row:
         names = dict.fromkeys((*found.names, *self._refused(verdict, found)))
         self.is_complete &= found.is_complete
         is_listed = found.is_complete and all(map(self._listed._has, names))
-        if not (verdict and is_listed) and self.refusal is None:
+        if not (verdict and is_within and is_listed) and self.refusal is None:
             self._judge(data, verdict)
         self._look_at_costs(data, found, names)
         self.names.update(names)
@@ -156,19 +156,24 @@ class Row:
             and is_text(self._source.front())
         )
 
-    def _next(self) -> Tuple[bytes, Imports]:
-        """The bytes of the next pickle, perhaps more, and its imports with each permitted."""
-        window = _FIRST
+    def _next(self) -> Tuple[bytes, Imports, bool]:
+        """The bytes of the next pickle, perhaps more, its imports with each permitted, and whether
+        it keeps within the limits.
+        """
+        window, is_within, listed = _FIRST, True, self._listed
         while True:
             data = self._source.read(self.taken, window)
-            found = imports_within(data, self._listed)
-            if found.verdict.reason is not Reason.Truncated or len(data) < window:
-                break
-            window = self._wider(window)
-        if not found.verdict and self._allow is not None:
-            # If only the limits of the list refuse it, report its imports anyway.
-            found = imports_within(data, NOTHING)
-        return data, found
+            found = imports_within(data, listed, self.limits(len(data)) if is_within else WIDEST)
+            if found.verdict.reason is Reason.Truncated and len(data) == window:
+                window = self._wider(window)
+            elif found.verdict or self._allow is None or not is_within:
+                return data, found, is_within
+            else:  # if only the limits refuse it, report its imports anyway
+                is_within, listed = False, NOTHING
+
+    def limits(self, size: int) -> Limits:
+        """The limits that hold for so many bytes, but for those on costs."""
+        return limits_under(self._allow, size)
 
     def _wider(self, window: int) -> int:
         """The next window. For the first pickle of a file, the third one is the whole file, because
@@ -204,7 +209,9 @@ class Row:
     def _judge(self, data: bytes, found: Verdict) -> None:
         """Keeps the first refusal under the list; without one, the one with every import permitted.
         """
-        under = found if self._allow is None else check(data, self._allow, limits=WIDE, build="any")
+        under, limits = found, self.limits(len(data))
+        if self._allow is not None:
+            under = check(data, self._allow, limits=limits, build="any")
         if not under:
             self.number, self.refused = self.pickles, (data, self.taken)
             self.refusal = under._replace(at=self.taken + under.at)
@@ -219,12 +226,13 @@ class Row:
             return False
         data = self._source.read(self.taken, left)
         names = [(module, name) for module, name in self.names if module is not None and name]
-        limits = None if self._allow is None else self._allow.limits
-        allow, asked = AllowList._of(names, limits), LIMITS if self.costly is None else WIDE
-        verdict = check_row(data, allow, limits=asked, build="made" if asked is LIMITS else "any")
-        if verdict.reason in KINDS and self.costly is None:
+        allow = AllowList._of(names, None if self._allow is None else self._allow.limits)
+        limits, costs = self.limits(left), self.costly is None
+        asked = with_costs(limits) if costs else limits
+        verdict = check_row(data, allow, limits=asked, build="made" if costs else "any")
+        if verdict.reason in KINDS and costs:
             self._find_costly_in(data, names, self.taken, self.pickles)
-            verdict = check_row(data, allow, limits=WIDE, build="any")
+            verdict = check_row(data, allow, limits=limits, build="any")
         if not verdict:
             return False
         self.pickles += verdict.pickles
@@ -251,7 +259,7 @@ def row_of(piece: Piece, allow: Optional[AllowList], budget: Budget) -> Optional
 
 
 def _may_be_pickle(piece: Piece, front: bytes) -> bool:
-    verdict = check(front, NOTHING, limits=_WIDEST)
+    verdict = check(front, NOTHING, limits=LIMITS)
     if verdict or verdict.reason in _IMPORTING or verdict.reason in KINDS:
         return True
     is_cut = verdict.reason is Reason.Truncated and len(front) < piece.source.size

@@ -2,11 +2,12 @@
 
 from __future__ import annotations
 
+import bisect
 import io
 import itertools
 import os
 import stat
-from typing import Any, BinaryIO, Tuple
+from typing import Any, BinaryIO, List, Tuple
 
 from .budget import UNPACKED, TooMuch
 
@@ -95,6 +96,39 @@ class _Window(io.RawIOBase):
         room[: len(data)] = data
         self._at += len(data)
         return len(data)
+
+
+class _Joined(io.RawIOBase):
+    """Parts of a source as one file."""
+
+    def __init__(self, source: Source, parts: List[Tuple[int, int]]) -> None:
+        self._source, self._parts, self._at = source, parts, 0
+        self._ends = list(itertools.accumulate(size for _, size in parts))
+
+    def seek(self, offset: int, whence: int = os.SEEK_SET) -> int:
+        self._at = offset
+        return offset
+
+    def readinto(self, room: Any) -> int:
+        done = 0
+        number = bisect.bisect_right(self._ends, self._at)
+        while done < len(room) and number < len(self._parts):
+            (start, size), left = self._parts[number], self._ends[number] - self._at
+            data = self._source.read(start + size - left, min(left, len(room) - done))
+            if not data:
+                break
+            room[done : done + len(data)] = data
+            done, self._at = done + len(data), self._at + len(data)
+            number += self._at == self._ends[number]
+        return done
+
+
+def joined(source: Source, parts: List[Tuple[int, int]]) -> Source:
+    """Parts of a source, each an offset and a size, as one."""
+    if len(parts) == 1:
+        return source.part(*parts[0])
+    whole: Any = _Joined(source, parts)
+    return Source(whole, 0, sum(size for _, size in parts))
 
 
 def in_memory(data: io.BytesIO) -> Source:

@@ -11,14 +11,16 @@ import io
 import itertools
 import re
 import struct
-from typing import TYPE_CHECKING, Deque, Dict, Iterator, List, Sequence, Tuple
+from typing import (
+    TYPE_CHECKING, Callable, Container, Deque, Dict, Iterator, List, Optional, Sequence, Tuple
+)
 
 from .._reasons import Reason
 from .budget import Budget
 from .dangers import is_harmful, is_suspect, suspect_heads
 from .names import NOTHING, Imports, imports_within
-from .reaching import without_frames
-from .readings import Found, Piece, Place, Reading
+from .reaching import LENGTHS, reached, without_frames
+from .readings import Found, Piece, Place, Reading, is_text
 from .source import BLOCK, Source, in_memory
 from .trails import Trail, Trails, texts_in
 
@@ -39,6 +41,7 @@ _BEGINNINGS = tuple(
 """PROTO, the front of a dict or a list of protocol 0, or an import, which may begin anywhere in a
 word. A pattern each, because the search for a first byte is fast.
 """
+_PROTO = _BEGINNINGS[0]
 _NULS = tuple(re.compile(code + rb"(?=([A-Za-z_]\w{0,30})[.\0])") for code in (b"c", b"i"))
 _WITH_NUL, _NAME = re.compile(rb"(%b)\0" % _WORD), re.compile(rb"%b\n" % _WORD)
 """An import whose module Python finds by what stands in front of a NUL: its first word, all of it,
@@ -51,15 +54,9 @@ _NEAR = 64
 _STEP, _FIRST, _MOST, _FOOTER = 1 << 16, 1 << 12, 1 << 20, 1 << 20
 _MAGICS: Dict[str, List[Tuple[int, bytes]]] = {
     "HDF5": [(at, b"\x89HDF\r\n\x1a\n") for at in (0, *(512 << power for power in range(48)))],
-    "SQLite": [(0, b"SQLite format 3\0")],
     "GDBM": [
         (0, struct.pack(f"{order}I", number))
         for number in (0x13579ACD, 0x13579ACE, 0x13579ACF, 0x13579AD0, 0x13579AD1)
-        for order in "<>"
-    ],
-    "Berkeley DB": [
-        (12, struct.pack(f"{order}I", number))
-        for number in (0x53162, 0x61561, 0x42253)
         for order in "<>"
     ],
     "LMDB": [(16, b"\xde\xc0\xef\xbe")],
@@ -83,9 +80,17 @@ def _reading(name: str) -> Reading:
     return reading
 
 
-def searched(place: Place, kind: str, known: Sequence[Tuple[int, int]] = ()) -> Found:
+def searched(
+    place: Place,
+    kind: str,
+    known: Sequence[Tuple[int, int]] = (),
+    told: Container[int] = (),
+    end_of: Optional[Callable[[int], int]] = None,
+) -> Found:
     """The pickles that begin anywhere, but in parts that are known, each from an offset to another,
-    in their order.
+    in their order; of these, what imports something harmful, but for pickles that were told.
+
+    end_of: where the page ends that has a place, if what follows a page is another matter.
     """
     source, end, left = place.source, 0, Deque(known)
     trails = Trails(source, place.budget)
@@ -96,18 +101,22 @@ def searched(place: Place, kind: str, known: Sequence[Tuple[int, int]] = ()) -> 
             yield _piece(place, kind, _start_of(trail, place))
         if is_text and (at >= end or trails.is_at(at)):
             trails.begin(at)
-        elif not is_text and at < end and _is_harm(source, at):
+        elif is_text or at in told:
+            continue
+        elif at < end and _is_harm(source, at):
             yield _piece(place, kind, at)  # (what seems to be in another may be a value of its own)
-        elif not is_text and at >= end and is_pickle(source, at):
-            end = at + ((yield _piece(place, kind, at)) or 0)
+        elif at >= end and is_pickle(source, at):
+            page_end = 0 if end_of is None or _is_harm(source, at) else end_of(at)
+            end = at + ((yield _piece(place, kind, at, page_end)) or 0)
     for trail in trails.followed(source.size):
         yield _piece(place, kind, _start_of(trail, place))
     return True
 
 
-def _piece(place: Place, kind: str, at: int) -> Piece:
-    rest = place.source.part(at, place.source.size)
-    return Piece(f"{place.path}!at {at}", kind, rest, True, 1)
+def _piece(place: Place, kind: str, at: int, end: int = 0) -> Piece:
+    """The pickle at a place, or what is left of it up to another."""
+    rest = place.source.part(at, (end or place.source.size) - at)
+    return Piece(f"{place.path}!at {at}", kind, rest, True, 1, is_remnant=end > 0)
 
 
 def _start_of(trail: Trail, place: Place) -> int:
@@ -184,21 +193,50 @@ def is_pickle(source: Source, at: int) -> bool:
         return True
     is_claimed = source.read(at, 1) == b"\x80"
     if is_claimed and found.verdict.reason is Reason.BrokenFrame and not found.names:
-        found = _imports_at(_unframed(source, at), 0)
+        found = _imports_at(source, at, False)
     return bool(found.names) if is_claimed else any(map(_is_harmful, found.names))
 
 
-def _unframed(source: Source, at: int) -> Source:
-    """A pickle there without its FRAMEs, of which `pickle.loads` wants no more than the bytes."""
-    return in_memory(io.BytesIO(without_frames(source.read(at, _MOST))))
+def is_value(source: Source) -> bool:
+    """Whether a value is a pickle from its first byte on: it has PROTO in front and is accepted, or
+    imports something. A text must do so up to its end, or import what is known to do harm: texts
+    have lines that look like imports.
+    """
+    front = source.read(0, 2)
+    if front[:1] == b"\x80":
+        return _PROTO.match(front) is not None and is_pickle(source, 0)
+    if front[0] not in LENGTHS:
+        return False
+    found = _imports_at(source, 0)
+    if found.verdict.reason is Reason.BrokenFrame and not found.names:
+        found = _imports_at(source, 0, False)
+    verdict, names = found.verdict, list(found.names)
+    is_whole = verdict.taken == source.size
+    if not verdict:
+        beyond = reached(source, verdict.at, verdict.reason)
+        is_stopped = verdict.reason is Reason.Truncated or not beyond
+        is_whole = not is_stopped and source.read(source.size - 1, 1) == b"."
+        names += [(b"", b"")] if beyond.pair else []
+    if is_whole or not _is_in_words(source):
+        return bool(names) or not found.is_complete
+    return any(map(_is_harmful, names))
 
 
-def _imports_at(source: Source, at: int) -> Imports:
-    """What a pickle there imports, or some of it."""
+def _is_in_words(source: Source) -> bool:
+    """Whether a value is a text, whose lines may look like imports."""
+    front = source.front()
+    cut = 3 if len(front) < source.size else 0  # of the last character
+    return is_text(front) and len(front.decode("utf-8", "ignore").encode()) >= len(front) - cut
+
+
+def _imports_at(source: Source, at: int, is_framed: bool = True) -> Imports:
+    """What a pickle there imports, or some of it; perhaps without its FRAMEs, of which
+    `pickle.loads` wants no more than the bytes.
+    """
     size = _FIRST
     while True:
         data = source.read(at, size)
-        found = imports_within(data, NOTHING)
+        found = imports_within(data if is_framed else without_frames(data), NOTHING)
         is_cut = found.verdict.reason is Reason.Truncated and len(data) == size < _MOST
         if found.verdict or not is_cut or found.names:
             return found

@@ -1,0 +1,85 @@
+"""SQLite's databases, their logs and journals: each value as SQLite reads it, and what is left in
+pages between them.
+"""
+
+from __future__ import annotations
+
+import io
+import re
+from typing import Generator, List, Tuple, Union
+
+from .reaching import LENGTHS
+from .readings import Answer, Found, Nothing, Piece, Place, Unread
+from .source import Source, in_memory
+from .sqlite_pages import DATABASE, IMPORTING, JOURNAL, LOGS, Pages, Record, Value
+from .stores import is_value, searched
+
+KIND = "SQLite"
+_LEAST, _LONGEST = 4, 1 << 20
+"""No shorter value imports anything; of a longer text in UTF-16 no more characters are read."""
+
+_SMALL = 1 << 20
+_STOP, _WORDS = ord("."), re.compile(rb"[\t-\r -~]*")
+
+_Parts = List[Tuple[int, int]]
+_Reads = Generator[Union[Piece, Unread, Nothing], Answer, _Parts]
+
+
+def sqlite_reading(place: Place) -> Found:
+    """What a program gets to that loads a value. Other bytes may be values that were deleted, of
+    which the page's end cuts the long ones.
+    """
+    if not place.source.front().startswith((DATABASE, JOURNAL, *LOGS)):
+        return False
+    place.budget.grow(max(0, place.source.size - _SMALL))  # each value is looked at twice
+    pages, known = Pages(place.source, place.budget.spend_time), []  # type: Pages, _Parts
+    for record in pages.records():
+        known += yield from _read(place, record, pages.encoding)
+    known.sort()
+    yield from searched(place, KIND, known, {at for at, _ in known}, pages.end_of)
+    return True
+
+
+def _read(place: Place, record: Record, encoding: str) -> _Reads:
+    """The pickles in a record. Returns which parts of the file they have, from an offset to
+    another.
+    """
+    found: _Parts = []
+    (start, size), *others = record.parts
+    for value in record.values():
+        wide = encoding if value.is_text else ""
+        if not (others or _may_import(record.front, value, wide)):
+            continue
+        place.budget.spend_time()
+        source = _content(record, value, wide)
+        if source.size >= _LEAST and is_value(source):
+            taken = yield Piece(f"{place.path}!at {start + value.at}", KIND, source, True, 1)
+            found.append((value.at, value.at + (taken or 1)))
+    if others:
+        yield from searched(place.inside(f"at {start}", record.source, KIND), KIND, found)
+    parts = [(start + at, start + min(end, size)) for at, end in found if at < size]
+    return parts + [(at, at + more) for at, more in others if found]
+
+
+def _may_import(data: bytes, value: Value, wide: str) -> bool:
+    """Whether a value may be a pickle that imports something. One in printable ASCII that doesn't
+    end with STOP isn't, but for what is harmful, which is looked for anyway, if it isn't in UTF-16.
+    """
+    at, end = value.at, value.at + value.size
+    if value.size < _LEAST or not IMPORTING.search(data, at, end):
+        return False
+    if wide:
+        return True
+    is_in_words = data[end - 1] != _STOP and _WORDS.fullmatch(data, at, end) is not None
+    return data[at] in LENGTHS and not is_in_words
+
+
+def _content(record: Record, value: Value, wide: str) -> Source:
+    """The bytes of a value; of a text in this encoding those of ASCII, as protocol 0 has them."""
+    source, data = record.source, record.front[value.at : value.at + value.size]
+    if wide:
+        text = source.read(value.at, min(value.size, _LONGEST)).decode(wide, "replace")
+        data = text.encode("utf-8", "replace")
+    elif len(record.parts) > 1:
+        return source.part(value.at, value.size)
+    return in_memory(io.BytesIO(data))

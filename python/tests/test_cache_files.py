@@ -1,0 +1,99 @@
+"""`scan` on files of caches, in which a value stands behind the time at which it ends."""
+
+import os
+import pathlib
+import pickle
+import struct
+import tempfile
+import time
+import unittest
+import zlib
+
+from common import needs
+from storklocker import AllowList
+from test_readings import EVIL, RUNS, reports
+
+
+class Asks:
+    """Something whose pickle asks for a name."""
+
+    def __reduce__(self):
+        return (os.getpid, ())
+
+
+HONEST = ({"a": [1, 2.5, "text"]}, None, b"bytes" * 99, "a text")
+UNJUDGED = b"\x8c\x08colorsys\x940\x8c\x0argb_to_hls\x940h\0h\1\x93(K\0K\0K\0tR."
+
+
+class CacheFiles(unittest.TestCase):
+    def check(self, data, is_evil, kind):
+        found = reports(data, AllowList([]))
+        self.assertEqual(any(it.is_finding for it in found), is_evil, found)
+        self.assertIn(kind, {it.kind for it in found})
+        alone = [it.severity for report in reports(data, None) for it in report.findings]
+        self.assertEqual(bool(alone), is_evil, alone)
+
+    def made_by(self, name, save, load):
+        """Checks the files in a folder that a cache has filled, and that its reader loads."""
+        for value in (*HONEST, Asks()):
+            with tempfile.TemporaryDirectory() as folder:
+                is_evil = isinstance(value, Asks)
+                save(folder, value)
+                self.assertEqual(load(folder), os.getpid() if is_evil else value)
+                read = [it.read_bytes() for it in pathlib.Path(folder).rglob("*") if it.is_file()]
+                found = [it for data in read for it in reports(data, AllowList([]))]
+                self.assertEqual(any(it.is_finding for it in found), is_evil, (name, found))
+
+    @needs("module:cachelib")
+    def test_cachelib(self):
+        from cachelib import FileSystemCache
+
+        def save(folder, value):
+            FileSystemCache(folder).set("key", value, timeout=300)
+
+        self.made_by("cachelib", save, lambda folder: FileSystemCache(folder).get("key"))
+
+    @needs("module:django")
+    def test_django(self):
+        from django.conf import settings
+        from django.core.cache.backends.filebased import FileBasedCache
+
+        if not settings.configured:
+            settings.configure()
+
+        def save(folder, value):
+            FileBasedCache(folder, {}).set("key", value, timeout=300)
+
+        self.made_by("Django", save, lambda folder: FileBasedCache(folder, {}).get("key"))
+
+    def test_values_behind_a_time(self):
+        values = [(pickle.dumps(value, 4), False) for value in HONEST]
+        values += [(EVIL, True), (RUNS, True), (UNJUDGED, True), (b"\x80\x04" + UNJUDGED, True)]
+        for value, is_evil in values:
+            for front in (0, int(time.time()), 0x4B80):
+                self.check(struct.pack("I", front) + value, is_evil, "cachelib")
+            for front in (time.time(), None):
+                for protocol in (2, 4):
+                    data = pickle.dumps(front, protocol) + zlib.compress(value)
+                    self.check(data, is_evil, "zlib")
+
+    def test_a_time_that_covers_the_value(self):
+        """From the first byte on it is one pickle without an import."""
+        value = EVIL.ljust(200)
+        data = b"\x80\x04C\xc8" + value + b"."
+        self.assertEqual(pickle.loads(data), value)
+        self.check(data, True, "cachelib")
+
+    def test_what_is_no_cache(self):
+        rows = pickle.dumps(None, 2) + pickle.dumps([1], 4)
+        for data in (
+            b"    import os\nprint(1)\n", b"\x7fELF\x02\x01\x01" + bytes(99), bytes(99), rows,
+            b"abc\ncats\ndogs\n", b"RIFF\x80\x04\x95\0WAVE" + bytes(99), b"\0\0\0\0", b"1234.",
+        ):
+            found = reports(data, AllowList([]))
+            self.assertFalse(any(it.is_finding for it in found), data)
+            self.assertNotIn("cachelib", {it.kind for it in found})
+
+
+if __name__ == "__main__":
+    unittest.main()
